@@ -1,0 +1,10 @@
+pub mod BitLemmas
+pub mod BuildLemmas
+pub mod BuiltH2d
+pub mod BuiltD2h
+pub mod BuiltBits
+pub mod BuiltActivate
+pub mod BuiltSetup
+pub mod BuiltPio
+pub mod MarkLemmas
+pub mod FrameLemmas

@@ -1,0 +1,12 @@
+use Rattle.std.proofs.Common.{rules, arith}
+use Rattle.fis_view.proofs.BuildLemmas.{AreBytes, are_bytes, IsHead}
+use Rattle.fis_view.proofs.BuiltActivate.{list, built}
+use Rattle.fis_view.proofs.build.DmaActivateFields.bytes.Goals as goal
+
+pub returns : goal.returns
+returns c =
+    let v = c.args.self in
+    let head = c.port_and_flags-head.result in
+    let are : AreBytes (list v head) = search rules in
+    let is : IsHead head v.pm_port 0 0 0 = record { is = c.port_and_flags-head.ensures; five_bit = omega arith; six_bit = omega arith; seven_bit = omega arith } in
+    built v head (are_bytes (list v head) are) is
