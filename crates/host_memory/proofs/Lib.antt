@@ -1,0 +1,6 @@
+pub mod MemoryLemmas
+pub mod OverlapLemmas
+pub mod PlaceLemmas
+pub mod PrdLemmas
+pub mod ScatterLemmas
+pub mod WriteLemmas

@@ -1,0 +1,5 @@
+pub mod Lent
+pub mod Memory
+pub mod Place
+pub mod Reading
+pub mod Writing

@@ -1,0 +1,33 @@
+use Rattle.std.specs.Prelude.{◌≡◌, ℕ, ◌+◌, ◌-◌, ◌%◌, ◌≤◌, Bool, ◌&&◌, ◌==◌, nat_le, List, ◌++◌, length, take, drop, replicate}
+
+-- the bytes of the two areas
+pub record Memory : Type 0 where
+  pub structure : List ℕ
+  pub client : List ℕ
+
+-- the address at which the client area begins, after 1 MiB
+abbrev pub client_start : ℕ
+client_start = 1048576
+
+-- a memory has from 2 to 16 MiB, and an even number of bytes
+abbrev pub is_memory_size : ℕ → Bool
+is_memory_size len = nat_le 2097152 len && nat_le len 16777216 && (len % 2 == 0)
+
+-- what every memory keeps: the sizes of its areas
+pub record IsHostMemory (memory : Memory) : Type 0 where
+  pub structure_len : length memory.structure ≡ 1048576
+  pub client_least : 1048576 ≤ length memory.client
+  pub client_most : length memory.client ≤ 15728640
+  pub client_even : length memory.client % 2 ≡ 0
+
+-- so many bytes, each of them 0
+unfoldable pub zeros : ℕ → List ℕ
+zeros count = replicate count 0
+
+-- a memory of so many bytes, each of them 0
+abbrev pub zeroed : ℕ → Memory
+zeroed len = record { structure = zeros client_start; client = zeros (len - client_start) }
+
+-- the list with these bytes in place of as many, from place at on
+abbrev pub overwritten : List ℕ → ℕ → List ℕ → List ℕ
+overwritten old at bytes = take at old ++ bytes ++ drop (at + length bytes) old

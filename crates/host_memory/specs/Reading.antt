@@ -1,0 +1,74 @@
+-- The bytes of a table: AHCI 1.3.1, section 4.2.3.3, Physical Region Descriptor Table.
+use Rattle.std.specs.Prelude.{ℕ, ◌+◌, ◌*◌, ◌%◌, ◌^◌, ◌≤◌, min, max, Bool, false, not, ◌||◌, ◌==◌, nat_lt, if◌then◌else◌, List, [], ◌∷◌, length, drop, Option, Some, None, zero, suc}
+use Rattle.std.specs.List.{list_any}
+use Rattle.std.specs.Option.{option_or}
+use Rattle.byteorder.specs.Endian.{little_number}
+use Rattle.host_memory.specs.declared.table.Prd.{Prd}
+use Rattle.host_memory.specs.declared.table.PrdError.{PrdError}
+use Rattle.host_memory.specs.declared.table.PrdError.TheVariants.{OutsideStructure, BadEntry, OutsideClient, Overlap}
+use Rattle.host_memory.specs.Memory.{client_start}
+use Rattle.host_memory.specs.Place.{AreInside, AreApart}
+
+-- the dword that lies there, least significant byte first
+abbrev pub dword_at : List ℕ → ℕ → ℕ
+dword_at structure at = little_number 4 (drop at structure)
+
+-- the entry that lies there: DW0 is the address, bits 21:0 of DW3 are the byte count less one
+abbrev pub prd_at : List ℕ → ℕ → Prd
+prd_at structure at = record { address = dword_at structure at; bytes = dword_at structure (at + 12) % 2 ^ 22 + 1 }
+
+-- the upper half of its address: DW1
+abbrev pub upper_at : List ℕ → ℕ → ℕ
+upper_at structure at = dword_at structure (at + 4)
+
+-- so many entries, from there on
+abbrev pub prds_at : List ℕ → ℕ → ℕ → List Prd
+prds_at structure at zero = []
+prds_at structure at (suc count) = prd_at structure at ∷ prds_at structure (at + 16) count
+
+-- an odd address, an address above 32 bits, an odd byte count
+abbrev pub is_bad : List ℕ → ℕ → Bool
+is_bad structure at = let prd = prd_at structure at in (prd.address % 2 == 1) || not (upper_at structure at == 0) || (prd.bytes % 2 == 1)
+
+-- a byte of it is not in a client area of client_len bytes
+abbrev pub is_outside : ℕ → Prd → Bool
+is_outside client_len prd = nat_lt prd.address client_start || nat_lt (client_start + client_len) (prd.address + prd.bytes)
+
+-- what is wrong with one entry
+abbrev pub entry_fault : List ℕ → ℕ → ℕ → Option PrdError
+entry_fault structure client_len at = (if is_bad structure at then Some BadEntry else (if is_outside client_len (prd_at structure at) then Some OutsideClient else None))
+
+-- what is wrong with the first entry with which something is wrong
+abbrev pub first_fault : List ℕ → ℕ → ℕ → ℕ → Option PrdError
+first_fault structure client_len at zero = None
+first_fault structure client_len at (suc count) = option_or (entry_fault structure client_len at) (first_fault structure client_len (at + 16) count)
+
+-- whether the two share a byte: the later begin lies before the earlier end
+abbrev pub share_byte : Prd → Prd → Bool
+share_byte p q = nat_lt (max p.address q.address) (min (p.address + p.bytes) (q.address + q.bytes))
+
+-- whether the entry shares a byte with one of these
+abbrev pub shares_with : Prd → List Prd → Bool
+shares_with prd others = list_any (λ other. share_byte prd other) others
+
+-- whether an entry shares a byte with one of the others
+abbrev pub share_with : List Prd → List Prd → Bool
+share_with prds others = list_any (λ prd. shares_with prd others) prds
+
+-- whether two entries share a byte
+abbrev pub have_overlap : List Prd → Bool
+have_overlap [] = false
+have_overlap (prd ∷ rest) = shares_with prd rest || have_overlap rest
+
+-- why a table is not read: the first of these that applies
+abbrev pub read_fault : List ℕ → ℕ → ℕ → ℕ → Option PrdError
+read_fault structure client_len at count =
+    (if nat_lt (length structure) (at + 16 * count) || nat_lt 248 count then Some OutsideStructure else
+    option_or (first_fault structure client_len at count) (if have_overlap (prds_at structure at count) then Some Overlap else None))
+
+-- what every table keeps: it lies in the structure area, its entries in the client area and apart
+pub record IsPrdTable (structure : List ℕ) (client_len at count : ℕ) : Type 0 where
+  pub lies : at + 16 * count ≤ length structure
+  pub few : count ≤ 248
+  pub inside : AreInside client_len (prds_at structure at count)
+  pub apart : AreApart (prds_at structure at count)

@@ -1,0 +1,22 @@
+//! The host's memory, and the tables in it that say where the bytes of a transfer lie.
+#![tactic(auto)]
+
+mod memory;
+mod table;
+mod write;
+
+pub use memory::{HostMemory, MemoryError, Outside};
+pub use table::{Prd, PrdError, PrdTable};
+pub use write::{have_overlap, total_of, write_prds};
+
+/// The address at which the client area begins. The structure area lies below it, from address 0 on.
+pub const CLIENT_START: u32 = 0x10_0000;
+/// The size of the smallest memory, in bytes: an area of 1 MiB for structures and one for clients.
+pub const MIN_MEMORY: u32 = 0x20_0000;
+/// The size of the largest memory, in bytes.
+pub const MAX_MEMORY: u32 = 0x100_0000;
+/// The most entries that a table may have.
+pub const MAX_PRDS: u16 = 248;
+
+#[cfg(test)]
+mod tests;

@@ -1,0 +1,191 @@
+use crate::{HostMemory, MemoryError, Outside, PrdError, PrdTable};
+use byteorder::{ByteOrder, LittleEndian};
+use std::test::Fail;
+
+const MIB: u32 = 0x10_0000;
+
+// Two entries as they lie in a table: an address, its upper half and the field of the byte count.
+fn table(first: [u32; 3], second: [u32; 3]) -> [u8; 32] {
+    let mut bytes = [0; 32];
+    LittleEndian::write_u32(&mut bytes[0..4], first[0]);
+    LittleEndian::write_u32(&mut bytes[4..8], first[1]);
+    LittleEndian::write_u32(&mut bytes[12..16], first[2]);
+    LittleEndian::write_u32(&mut bytes[16..20], second[0]);
+    LittleEndian::write_u32(&mut bytes[20..24], second[1]);
+    LittleEndian::write_u32(&mut bytes[28..32], second[2]);
+    bytes
+}
+
+fn byte_at(memory: &HostMemory, address: usize) -> Option<u8> {
+    let index = address.checked_sub(0x10_0000)?;
+    memory.client().get(index).copied()
+}
+
+#[test]
+fn has_allowed_sizes(rt: HostRuntime) {
+    for len in [0, 1048576, 2097150, 2097153, 16777215, 16777218, u32::MAX] {
+        let refused = HostMemory::new(rt.alloc(), len).err();
+        assert_eq!(rt; refused, Some(MemoryError::BadSize), "at {len}");
+    }
+    for len in [2097152, 16777216] {
+        match HostMemory::new(rt.alloc(), len) {
+            Ok(memory) => {
+                assert_eq!(rt; memory.structure().len(), 1048576);
+                assert_eq!(rt; memory.client().len(), len as usize - 1048576);
+            }
+            // Where an allocation is made to fail.
+            Err(error) => assert_eq!(rt; error, MemoryError::OutOfMemory),
+        }
+    }
+}
+
+#[test]
+fn puts_client_bytes(rt: HostRuntime) -> Result<(), Fail> {
+    let mut memory = HostMemory::new(rt.alloc(), 0x20_0000)?;
+    memory.put_client(0x10_0000, &[1, 2])?;
+    memory.put_client(0x1F_FFFF, &[3])?;
+    memory.put_client(0x20_0000, &[])?;
+    assert_eq!(rt; memory.put_client(0x1F_FFFF, &[4, 5]), Err(Outside));
+    assert_eq!(rt; memory.put_client(0x20_0000, &[4]), Err(Outside));
+    assert_eq!(rt; memory.put_client(0x20_0001, &[]), Err(Outside));
+    assert_eq!(rt; memory.put_client(0x0F_FFFF, &[]), Err(Outside));
+    assert_eq!(rt; memory.put_client(u32::MAX, &[4]), Err(Outside));
+    for (address, byte) in [
+        (0x10_0000, 1),
+        (0x10_0001, 2),
+        (0x10_0002, 0),
+        (0x1F_FFFE, 0),
+        (0x1F_FFFF, 3),
+    ] {
+        assert_eq!(rt; byte_at(&memory, address), Some(byte), "{address:x}");
+    }
+    assert_eq!(rt; byte_at(&memory, 0x20_0000), None);
+    Ok(())
+}
+
+// Writes the bytes to the places of the two entries that lie at 2000h, if they are the whole
+// transfer, and answers how many bytes that has.
+fn deliver(memory: &mut HostMemory, bytes: &[u8]) -> Result<u32, PrdError> {
+    let (structure, client) = memory.split();
+    let table = match PrdTable::read(structure, client.len() as u32, 0x2000, 2) {
+        Ok(table) => table,
+        Err(error) => return Err(error),
+    };
+    table.has_own_places();
+    let total = table.total();
+    if total as usize == bytes.len() {
+        table.scatter(client, 0, bytes);
+    }
+    Ok(total)
+}
+
+#[test]
+fn scatters_a_transfer(rt: HostRuntime) -> Result<(), Fail> {
+    let mut memory = HostMemory::new(rt.alloc(), 0x20_0000)?;
+    let prds = table([0x10_1000, 0, 0x12B], [0x10_2000, 0, 0xD3]);
+    memory.structure_mut()[0x2000..0x2020].copy_from_slice(&prds);
+    memory.put_client(0x10_112C, &[0xEE])?;
+    let mut data = [0u8; 512];
+    for (i, byte) in data.iter_mut().enumerate() {
+        *byte = (i % 256) as u8;
+    }
+    assert_eq!(rt; deliver(&mut memory, &data)?, 512);
+    for (address, byte) in [
+        (0x10_0FFF, 0),
+        (0x10_1000, 0),
+        (0x10_1001, 1),
+        (0x10_112B, 0x2B),
+        (0x10_112C, 0xEE),
+        (0x10_1FFF, 0),
+        (0x10_2000, 0x2C),
+        (0x10_20D3, 0xFF),
+        (0x10_20D4, 0),
+    ] {
+        assert_eq!(rt; byte_at(&memory, address), Some(byte), "{address:x}");
+    }
+    Ok(())
+}
+
+#[test]
+fn refuses_tables(rt: HostRuntime) {
+    let good = [0x10_1000, 0, 511];
+    let beyond = [0x1F_FE02, 0, 511];
+    let bad = [0x10_3001, 0, 511];
+    let outside = Some(PrdError::OutsideClient);
+    let bad_entry = Some(PrdError::BadEntry);
+    let overlap = Some(PrdError::Overlap);
+    for (first, second, want) in [
+        (good, [0x10_1200, 0, 511], None),
+        (good, [0x1F_FE00, 0, 511], None),
+        (good, [0x10_11FE, 0, 511], overlap),
+        ([0x10_11FE, 0, 511], good, overlap),
+        (good, beyond, outside),
+        (good, [0x0F_FFFE, 0, 1], outside),
+        (good, bad, bad_entry),
+        (good, [0x10_3000, 1, 511], bad_entry),
+        (good, [0x10_3000, 0, 510], bad_entry),
+        // entry by entry, and a bad one is not looked at further
+        (beyond, bad, outside),
+        (bad, beyond, bad_entry),
+        (good, [0x1F_FE03, 0, 511], bad_entry),
+        // and the entries against each other last
+        (beyond, beyond, outside),
+        (bad, bad, bad_entry),
+    ] {
+        let bytes = table(first, second);
+        let refused = PrdTable::read(&bytes, MIB, 0, 2).err();
+        assert_eq!(rt; refused, want, "{first:?} {second:?}");
+    }
+    let bytes = table(bad, beyond);
+    assert_eq!(rt;
+        PrdTable::read(&bytes, MIB, 1, 2).err(),
+        Some(PrdError::OutsideStructure)
+    );
+    assert_eq!(rt;
+        PrdTable::read(&bytes, MIB, 33, 0).err(),
+        Some(PrdError::OutsideStructure)
+    );
+    assert_eq!(rt; PrdTable::read(&bytes, MIB, 32, 0).err(), None);
+}
+
+#[test]
+fn allows_248_entries(rt: HostRuntime) -> Result<(), Fail> {
+    let memory = HostMemory::new(rt.alloc(), 0x20_0000)?;
+    let structure = memory.structure();
+    assert_eq!(rt;
+        PrdTable::read(structure, MIB, 0, 248).err(),
+        Some(PrdError::BadEntry)
+    );
+    assert_eq!(rt;
+        PrdTable::read(structure, MIB, 0, 249).err(),
+        Some(PrdError::OutsideStructure)
+    );
+    Ok(())
+}
+
+#[test]
+fn finds_common_places(rt: HostRuntime) -> Result<(), Fail> {
+    let one = table([0x10_1000, 0, 511], [0x10_3000, 0, 511]);
+    let one = PrdTable::read(&one, MIB, 0, 2)?;
+    for (first, want) in [
+        (0x10_11FE, true),
+        (0x10_1200, false),
+        (0x10_2E00, false),
+        (0x10_2E02, true),
+    ] {
+        let other = table([0x10_8000, 0, 1], [first, 0, 511]);
+        let other = PrdTable::read(&other, MIB, 0, 2)?;
+        assert_eq!(rt; one.overlaps(&other), want, "{first:x}");
+        assert_eq!(rt; other.overlaps(&one), want, "{first:x}");
+    }
+    Ok(())
+}
+
+#[test]
+fn says_what_is_wrong(rt: HostRuntime) -> Result<(), Fail> {
+    let text = format!(in rt.alloc(); "{}, {}", Outside, MemoryError::OutOfMemory)?;
+    assert_eq!(rt; text.as_str(), "outside the client area, out of memory");
+    let text = format!(in rt.alloc(); "{}, {}", PrdError::BadEntry, PrdError::Overlap)?;
+    assert_eq!(rt; text.as_str(), "bad entry, entries overlap");
+    Ok(())
+}
