@@ -1,0 +1,17 @@
+pub mod Lists
+pub mod Moves
+pub mod Law
+pub mod Refusals
+pub mod Openings
+pub mod Refused
+pub mod HostLemmas
+pub mod ReadsOnce
+pub mod ReadsFlags
+pub mod ReadsBytes
+pub mod ReadsHeld
+pub mod ReadsAgree
+pub mod ReadsTaken
+pub mod ReadLaws
+pub mod Rows
+pub mod Comings
+pub mod Delivery

@@ -1,0 +1,126 @@
+-- The first refusal of a step is never want of memory, and it is the one that the step gives.
+use Rattle.std.proofs.Common.{◌≡◌, ℕ, ◌+◌, List, Bool, true, false, Option, Some, None, refl, sym, subst, ◌∙◌}
+use Rattle.std.specs.Prelude.{slice_get, Result, Ok, Err, MatchOption, unwrap_or, if◌then◌else◌, not, ◌==◌, ◌||◌, nat_lt, length}
+use Rattle.std.specs.Option.{option_map_or}
+use Rattle.std.proofs.lemmas.Option.{same_Some}
+use Rattle.fis_view.specs.Frames.{is_frame}
+use Rattle.pm_world.specs.Places.{Places, Place, with_device, with_holds}
+use Rattle.pm_world.specs.Rules.{Outcome, Refuses, came_refusal, send_refusal, inject_refusal, no_refusal, port_refusal, refusal, CameRule, DiskSendRule, InjectRule, OnDevice, AtPort, SubmitRule, is_there, Rule, largest}
+use Rattle.host_memory.specs.Memory.{client_start}
+use Rattle.pm_world.specs.Host.{Host, end_of}
+use Rattle.pm_world.specs.Deeds.{put_refusal, in_use}
+use Rattle.pm_world.specs.declared.request.Request.{Request}
+use Rattle.pm_world.specs.declared.step.Step.{Step}
+use Rattle.pm_world.specs.declared.step.Step.TheVariants as step
+use Rattle.pm_world.specs.declared.step.StepError.{StepError}
+use Rattle.pm_world.specs.declared.step.StepError.TheVariants as error
+
+-- a refusal, where there is one, is named: it is not want of memory
+abbrev pub IsNamed : Option StepError → Type 0
+IsNamed None = Unit {0}
+IsNamed (Some error.OutOfMemory) = ⊥
+IsNamed (Some e) = Unit {0}
+
+pub refuses_named : (first : Option StepError) (e : StepError) → IsNamed first → first ≡ Some e → Refuses first e
+refuses_named None e named is = cc
+refuses_named (Some error.OutOfMemory) e named is = absurd named
+refuses_named (Some error.BadBytes) e named is = subst (λ (v : StepError). Refuses (Some error.BadBytes) v) (same_Some error.BadBytes e is) refl
+refuses_named (Some error.NoSuchPort) e named is = subst (λ (v : StepError). Refuses (Some error.NoSuchPort) v) (same_Some error.NoSuchPort e is) refl
+refuses_named (Some error.AlreadyThere) e named is = subst (λ (v : StepError). Refuses (Some error.AlreadyThere) v) (same_Some error.AlreadyThere e is) refl
+refuses_named (Some error.NotThere) e named is = subst (λ (v : StepError). Refuses (Some error.NotThere) v) (same_Some error.NotThere e is) refl
+refuses_named (Some error.Spent) e named is = subst (λ (v : StepError). Refuses (Some error.Spent) v) (same_Some error.Spent e is) refl
+refuses_named (Some error.Outside) e named is = subst (λ (v : StepError). Refuses (Some error.Outside) v) (same_Some error.Outside e is) refl
+refuses_named (Some error.InUse) e named is = subst (λ (v : StepError). Refuses (Some error.InUse) v) (same_Some error.InUse e is) refl
+
+-- want of memory is the error where no refusal applies
+pub refuses_or_wants : (first : Option StepError) → IsNamed first → Refuses first (unwrap_or first error.OutOfMemory)
+refuses_or_wants None named = refl
+refuses_or_wants (Some error.OutOfMemory) named = absurd named
+refuses_or_wants (Some error.BadBytes) named = refl
+refuses_or_wants (Some error.NoSuchPort) named = refl
+refuses_or_wants (Some error.AlreadyThere) named = refl
+refuses_or_wants (Some error.NotThere) named = refl
+refuses_or_wants (Some error.Spent) named = refl
+refuses_or_wants (Some error.Outside) named = refl
+refuses_or_wants (Some error.InUse) named = refl
+
+-- either of two, by a test
+by_test : (b : Bool) (x y : Option StepError) → IsNamed x → IsNamed y → IsNamed (if b then x else y)
+by_test true x y hx hy = hx
+by_test false x y hx hy = hy
+
+came_named : (place : Place) → IsNamed (came_refusal place)
+came_named place = by_test place.plugged (Some error.AlreadyThere) (if place.conn == largest then Some error.Spent else None) tt (by_test (place.conn == largest) (Some error.Spent) None tt tt)
+
+send_named : (place : Place) → IsNamed (send_refusal place)
+send_named place = by_test (place.number == largest) (Some error.Spent) None tt tt
+
+inject_named : (bytes : List ℕ) (place : Place) → IsNamed (inject_refusal bytes place)
+inject_named bytes place =
+    by_test (not place.plugged) (Some error.NotThere) (if not (is_frame bytes) then Some error.BadBytes else send_refusal place) tt
+    (by_test (not (is_frame bytes)) (Some error.BadBytes) (send_refusal place) tt (send_named place))
+
+pub came_refuses : (place : Place) (e : StepError) → came_refusal place ≡ Some e → Refuses (came_refusal place) e
+came_refuses place e is = refuses_named (came_refusal place) e (came_named place) is
+
+pub send_refuses : (place : Place) (e : StepError) → send_refusal place ≡ Some e → Refuses (send_refusal place) e
+send_refuses place e is = refuses_named (send_refusal place) e (send_named place) is
+
+pub inject_refuses : (bytes : List ℕ) (place : Place) (e : StepError) → inject_refusal bytes place ≡ Some e → Refuses (inject_refusal bytes place) e
+inject_refuses bytes place e is = refuses_named (inject_refusal bytes place) e (inject_named bytes place) is
+
+port_named : (o : Option Place) (first : Place → Option StepError) → ((place : Place) → IsNamed (first place)) → IsNamed (option_map_or first o (Some error.NoSuchPort))
+port_named None first named = tt
+port_named (Some place) first named = named place
+
+put_named : (host : Host) (at len : ℕ) → IsNamed (put_refusal host at len)
+put_named host at len =
+    by_test (nat_lt at client_start || nat_lt (end_of host.memory) (at + len)) (Some error.Outside) (if in_use host.slot at len then Some error.InUse else None) tt
+    (by_test (in_use host.slot at len) (Some error.InUse) None tt tt)
+
+pub refusal_named : (now : Places) (s : Step) → IsNamed (refusal now s)
+refusal_named now (step.Came n) = port_named (slice_get now.devices n) came_refusal came_named
+refusal_named now (step.DiskSend n) = port_named (slice_get now.devices n) send_refusal send_named
+refusal_named now (step.Inject n bytes) = port_named (slice_get now.devices n) (inject_refusal bytes) (inject_named bytes)
+refusal_named now (step.PmFromDevice n) = port_named (slice_get now.devices n) no_refusal (λ place. tt)
+refusal_named now step.PmUp = tt
+refusal_named now step.HostTake = tt
+refusal_named now (step.Submit dev request) = tt
+refusal_named now step.Poll = tt
+refusal_named now (step.Put at bytes) = put_named now.host at (length bytes)
+
+-- an error of a step at a port is its first refusal
+on_device_refuses : (old : Places) (n : ℕ) (e : StepError) (new : Places) (R : Place → Outcome → Place → Type 0) (first : Place → Option StepError) → ((place after : Place) → R place (Err e) after → Refuses (first place) e) → OnDevice old n (Err e) new R → Refuses (port_refusal old n first) e
+on_device_refuses old n e new R first refuses h = by_cases (slice_get old.devices n) h
+  where
+    at : StepError → Outcome → Type 0
+    at v (Err w) = Refuses (Some v) w
+    at v (Ok a) = Unit {0}
+
+    by_cases : (o : Option Place) → MatchOption o ((◌≡◌ {A = Outcome} (Err e) (Err error.NoSuchPort)) × (new ≡ old)) (λ place. (after : Place) × R place (Err e) after × (new ≡ with_device old n after)) → Refuses (option_map_or first o (Some error.NoSuchPort)) e
+    by_cases None h = subst (λ (w : Outcome). at error.NoSuchPort w) (sym h.0) refl
+    by_cases (Some place) h = refuses place h.0 h.1
+
+submit_wants : (there : Bool) (request : Request) (e : StepError) (host after : Host) → SubmitRule there request host (Err e) after → Refuses None e
+submit_wants there request error.OutOfMemory host after r = refl
+submit_wants there request _ host after r = absurd r
+
+-- the error that a step gives is its first refusal, or want of memory where none applies
+pub rule_refuses : (old : Places) (s : Step) (e : StepError) (new : Places) → Rule old s (Err e) new → Refuses (refusal old s) e
+rule_refuses old (step.Came n) e new rule = on_device_refuses old n e new (CameRule n) came_refusal (λ place after r. r.0) rule
+rule_refuses old (step.DiskSend n) e new rule = on_device_refuses old n e new (DiskSendRule n) send_refusal (λ place after r. r.0) rule
+rule_refuses old (step.Inject n bytes) e new rule = on_device_refuses old n e new (InjectRule n bytes) (inject_refusal bytes) (λ place after r. r.0) rule
+rule_refuses old (step.PmFromDevice n) e new rule = by_cases (slice_get old.devices n) rule
+  where
+    at : StepError → Outcome → Type 0
+    at v (Err w) = Refuses (Some v) w
+    at v (Ok a) = Unit {0}
+
+    by_cases : (o : Option Place) → MatchOption o ((◌≡◌ {A = Outcome} (Err e) (Err error.NoSuchPort)) × (new ≡ old)) (λ place. (after : Place) × ⊥ × (new ≡ with_holds (with_device old n after) new.holds)) → Refuses (option_map_or no_refusal o (Some error.NoSuchPort)) e
+    by_cases None h = subst (λ (w : Outcome). at error.NoSuchPort w) (sym h.0) refl
+    by_cases (Some place) h = absurd h.1
+rule_refuses old step.PmUp e new rule = absurd rule.0
+rule_refuses old step.HostTake e new rule = absurd rule.0
+rule_refuses old (step.Submit dev request) e new rule = submit_wants (is_there old dev) request e old.host new.host rule.0
+rule_refuses old step.Poll e new rule = absurd rule.0
+rule_refuses old (step.Put at bytes) e new rule = refuses_named (put_refusal old.host at (length bytes)) e (put_named old.host at (length bytes)) rule.0.0

@@ -1,0 +1,11 @@
+pub mod Places
+pub mod Rules
+pub mod Traffic
+pub mod Events
+pub mod History
+pub mod Client
+pub mod Reads
+pub mod Host
+pub mod Deeds
+pub mod Counting
+pub mod Delivery

@@ -1,0 +1,103 @@
+-- Where frames stand in a world, as its callers see it.
+use Rattle.std.specs.Prelude.{ℕ, ◌+◌, ◌≡◌, ◌%◌, ◌==◌, ◌&&◌, nat_le, Bool, false, List, [], ◌∷◌, ◌++◌, length, map, Option, None, slice_set, replicate}
+use Rattle.fis_view.specs.Frames.{Stamped, marked}
+use Rattle.disk_model.specs.declared.unit.Unit.{Unit}
+use Rattle.host_memory.specs.Memory.{zeroed}
+use Rattle.pm_world.specs.Host.{Host}
+use Rattle.pm_world.specs.declared.host.Slot.TheVariants.{Free}
+use Rattle.pm_world.specs.declared.step.Config.{Config}
+
+-- a link: the frames on it, oldest first, and how many it can hold
+pub record Queue : Type 0 where
+  pub frames : List Stamped
+  pub capacity : ℕ
+
+abbrev pub IsFull : Queue → Type 0
+IsFull link = link.capacity ≡ length link.frames
+
+abbrev pub pushed : Queue → Stamped → Queue
+pushed link frame = record { frames = link.frames ++ frame ∷ []; capacity = link.capacity }
+
+-- The place of a device: the unit, whether it is plugged in, its connection (0 before the first), the
+-- number of its next FIS on it, and its link to the multiplier.
+pub record Place : Type 0 where
+  pub unit : Unit
+  pub plugged : Bool
+  pub conn : ℕ
+  pub number : ℕ
+  pub up : Queue
+
+-- a world: the place at each fan-out port, what each port of the multiplier holds, the link to the host, and the host
+pub record Places : Type 0 where
+  pub devices : List Place
+  pub holds : List (Option Stamped)
+  pub upward : Queue
+  pub host : Host
+
+-- a device shows no removals
+abbrev pub nothing_shown : List ℕ
+nothing_shown = replicate 15 0
+
+-- the frame that is sent with these bytes from a place at this port
+abbrev pub frame_of : ℕ → Place → List ℕ → Stamped
+frame_of port place bytes = record { bytes = bytes; stamp = record { port = port; conn = place.conn; number = place.number; shown = nothing_shown } }
+
+-- the frame is the one of which an answer with these parts tells
+pub record IsTold (frame : Stamped) (port conn number : ℕ) (bytes : List ℕ) : Type 0 where
+  pub port_is : frame.stamp.port ≡ port
+  pub conn_is : frame.stamp.conn ≡ conn
+  pub number_is : frame.stamp.number ≡ number
+  pub bytes_are : frame.bytes ≡ bytes
+
+-- the place after these bytes were sent from it, the unit being as given
+abbrev pub after_sending : ℕ → Place → List ℕ → Unit → Place
+after_sending port place bytes unit = record {
+  unit = unit;
+  plugged = place.plugged;
+  conn = place.conn;
+  number = place.number + 1;
+  up = pushed place.up (frame_of port place bytes);
+}
+
+-- the frame as it goes on to the host: its PM Port is the port's, and so is the port of its stamp
+abbrev pub rising : ℕ → Stamped → Stamped
+rising port frame = record {
+  bytes = marked frame.bytes port;
+  stamp = record { port = port; conn = frame.stamp.conn; number = frame.stamp.number; shown = frame.stamp.shown };
+}
+
+abbrev pub with_device : Places → ℕ → Place → Places
+with_device old n place = record { devices = slice_set old.devices n place; holds = old.holds; upward = old.upward; host = old.host }
+
+abbrev pub with_holds : Places → List (Option Stamped) → Places
+with_holds old holds = record { devices = old.devices; holds = holds; upward = old.upward; host = old.host }
+
+abbrev pub with_upward : Places → Queue → Places
+with_upward old upward = record { devices = old.devices; holds = old.holds; upward = upward; host = old.host }
+
+abbrev pub with_host : Places → Host → Places
+with_host old host = record { devices = old.devices; holds = old.holds; upward = old.upward; host = host }
+
+-- the place of a unit in a new world
+abbrev pub opening : ℕ → Unit → Place
+opening capacity unit = record { unit = unit; plugged = false; conn = 0; number = 0; up = record { frames = []; capacity = capacity } }
+
+-- the hold of a unit's port in a new world
+abbrev pub empty_hold : Unit → Option Stamped
+empty_hold unit = None
+
+-- a new world of these units
+abbrev pub new_world : Config → List Unit → Places
+new_world config units = record {
+  devices = map (opening config.capacity) units;
+  holds = map empty_hold units;
+  upward = record { frames = []; capacity = config.capacity };
+  host = record { memory = zeroed config.memory; given = 0; slot = Free };
+}
+
+-- Whether a world may be so large, with so many units: 1 to 15 ports and a unit for each, links of 1 to
+-- 64 frames, and an even number of bytes of memory from 2 MiB to 16 MiB.
+abbrev pub is_config : Config → ℕ → Bool
+is_config config units =
+    nat_le 1 config.ports && nat_le config.ports 15 && nat_le 1 config.capacity && nat_le config.capacity 64
+    && nat_le 2097152 config.memory && nat_le config.memory 16777216 && config.memory % 2 == 0 && units == config.ports

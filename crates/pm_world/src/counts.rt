@@ -1,0 +1,133 @@
+ghost use Rattle.std.specs.Prelude.{◌≡◌, ◌==◌, ◌&&◌, ℕ, if◌then◌else◌, [], ◌∷◌, ◌++◌, List, option_map, None, IfOk, IfErr, OnOk, OnErr};
+ghost use Rattle.std.specs.Option.{option_or};
+ghost use Rattle.pm_world.specs.Counting.{noted, row_of, first_row, sent_more, taken_more, AreSorted, AddsRow, Tell, AreOfARun, IsRowAt, IsGapFor};
+ghost use Rattle.pm_world.specs.declared.step.Answer.{Answer};
+
+use crate::step::Answer;
+use std::alloc::{AllocError, Global};
+use std::marker::Model;
+
+/// How many FISes of one connection of one port were sent and taken. A count stays at its largest value.
+#[derive(Clone, Copy, Debug, PartialEq, Eq)]
+pub struct ConnCount {
+    pub port: u8,
+    pub conn: u32,
+    pub sent: u64,
+    pub taken: u64,
+}
+
+/// Counts what answers tell, in a row for each connection that came, sorted by port and connection.
+#[derive(Drop)]
+pub struct Counts {
+    rows: Vec<ConnCount>,
+}
+
+impl Model for Counts {
+    ghost use Rattle.std.specs.Prelude.{List};
+    ghost use Rattle.pm_world.specs.Counting.{AreSorted};
+    ghost use Rattle.pm_world.specs.declared.counts.ConnCount.{ConnCount};
+
+    ghost Value = { List ConnCount };
+
+    ghost view = { λ c. c.rows.items };
+
+    ghost invariant = { λ c. AreSorted c.rows.items };
+}
+
+impl Counts {
+    /// Counts with no row, whose rows will be kept in memory of this allocator.
+    pub fn new(alloc: Global) -> Self
+        ensures none { result ≡ [] }
+        ensures tell { Tell result [] }
+    {
+        Counts {
+            rows: Vec::new(alloc),
+        }
+    }
+
+    /// Counts one answer of a world.
+    pub fn note(&mut self, answer: &Answer) -> Result<(), AllocError>
+        ensures rows { OnOk result ((n c : ℕ) → row_of n c self.new ≡ noted n c answer.now (row_of n c self.old)) }
+        ensures tell { OnOk result ((answers : List Answer) → AreOfARun (answers ++ answer.now ∷ []) → Tell self.old answers → Tell self.new (answers ++ answer.now ∷ [])) }
+        ensures err { OnErr result (self.new ≡ self.old) }
+        ensures memory { OnErr result (AddsRow self.old answer.now) }
+    {
+        self.count(answer)
+    }
+
+    /// The rows, sorted by port and connection.
+    pub fn rows(&self) -> &[ConnCount]
+        ensures rows { result.now ≡ self.now }
+        ensures sorted { AreSorted self.now }
+    {
+        &self.rows
+    }
+
+    fn count(&mut self, answer: &Answer) -> Result<(), AllocError>
+        ensures rows { OnOk result ((n c : ℕ) → row_of n c self.new ≡ noted n c answer.now (row_of n c self.old)) }
+        ensures err { OnErr result (self.new ≡ self.old) }
+        ensures memory { OnErr result (AddsRow self.old answer.now) }
+    {
+        match answer {
+            Answer::Came { port, conn } => self.came(*port, *conn)?,
+            Answer::Sent { port, conn, .. } => self.sent(*port, *conn),
+            Answer::Took { port, conn, .. } => self.took(*port, *conn),
+            Answer::Idle | Answer::Blocked | Answer::Offered { .. } | Answer::Up(_) => {}
+            Answer::Submitted(_) | Answer::Refused(_) | Answer::Polled(_) | Answer::Put => {}
+        }
+        Ok(())
+    }
+
+    /// Gives the connection a row, unless it has one.
+    fn came(&mut self, port: u8, conn: u32) -> Result<(), AllocError>
+        ensures rows { OnOk result ((n c : ℕ) → row_of n c self.new ≡ (if port == n && conn == c then option_or (row_of n c self.old) (Some (first_row n c)) else row_of n c self.old)) }
+        ensures err { OnErr result (self.new ≡ self.old) }
+        ensures memory { OnErr result (row_of port conn self.old ≡ None) }
+    {
+        let Err(at) = self.search(port, conn) else {
+            return Ok(());
+        };
+        let row = ConnCount {
+            port,
+            conn,
+            sent: 0,
+            taken: 0,
+        };
+        Ok(self.rows.insert(at, row)?)
+    }
+
+    /// Counts one more FIS as sent on the connection, where it has a row.
+    fn sent(&mut self, port: u8, conn: u32)
+        ensures { (n c : ℕ) → row_of n c self.new ≡ (if port == n && conn == c then option_map sent_more (row_of n c self.old) else row_of n c self.old) }
+    {
+        if let Ok(at) = self.search(port, conn) {
+            let row = self.rows[at];
+            self.rows[at] = ConnCount {
+                sent: row.sent.saturating_add(1),
+                ..row
+            };
+        }
+    }
+
+    /// Counts one more FIS as taken on the connection, where it has a row.
+    fn took(&mut self, port: u8, conn: u32)
+        ensures { (n c : ℕ) → row_of n c self.new ≡ (if port == n && conn == c then option_map taken_more (row_of n c self.old) else row_of n c self.old) }
+    {
+        if let Ok(at) = self.search(port, conn) {
+            let row = self.rows[at];
+            self.rows[at] = ConnCount {
+                taken: row.taken.saturating_add(1),
+                ..row
+            };
+        }
+    }
+
+    /// The place of the connection's row, or the place that such a row would have.
+    fn search(&self, port: u8, conn: u32) -> Result<usize, usize>
+        ensures found { IfOk result (IsRowAt self.now port conn) }
+        ensures absent { IfErr result (IsGapFor self.now port conn) }
+    {
+        self.rows
+            .binary_search_by_key(&(port, conn), |row| (row.port, row.conn))
+    }
+}

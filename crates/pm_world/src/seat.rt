@@ -1,0 +1,196 @@
+ghost use Rattle.std.specs.Prelude.{◌≡◌, ◌↔◌, ◌≤◌, ◌∷◌, [], IsTrue, IfOk, MatchOption, false, length, vec_capacity};
+ghost use Rattle.fis_view.specs.Frames.{IsFrame};
+ghost use Rattle.pm_world.specs.Places.{nothing_shown};
+ghost use Rattle.pm_world.specs.Rules.{CameRule, DiskSendRule, InjectRule, no_refusal, came_refusal, send_refusal, inject_refusal};
+
+use crate::link::Link;
+use crate::step::{Answer, StepError};
+use disk_model::{Device, Unit};
+use fis_view::{Bytes, Frame, FrameError, Stamp, is_frame_length};
+use std::alloc::{AllocError, Global};
+use std::marker::Model;
+
+/// The place of a device: the unit, its connection and its link to the multiplier.
+#[derive(Drop)]
+pub struct Seat {
+    unit: Unit,
+    plugged: bool,
+    conn: u32,
+    number: u32,
+    up: Link,
+}
+
+impl Model for Seat {
+    ghost use Rattle.pm_world.specs.Places.{Place};
+
+    ghost Value = { Place };
+
+    ghost view = { λ s. record { unit = s.unit; plugged = s.plugged; conn = s.conn; number = s.number; up = s.up } };
+}
+
+impl Seat {
+    pub fn new(unit: Unit, up: Link) -> Self
+        ensures { result ≡ record { unit = unit; plugged = false; conn = 0; number = 0; up = up } }
+    {
+        Seat {
+            unit,
+            plugged: false,
+            conn: 0,
+            number: 0,
+            up,
+        }
+    }
+
+    pub fn is_plugged(&self) -> bool
+        ensures { result ≡ self.now.plugged }
+    {
+        self.plugged
+    }
+
+    pub fn is_empty(&self) -> bool
+        ensures { IsTrue result ↔ (self.now.up.frames ≡ []) }
+    {
+        self.up.is_empty()
+    }
+
+    pub fn came_refusal(&self) -> Option<StepError>
+        ensures { result ≡ came_refusal self.now }
+    {
+        if self.plugged {
+            return Some(StepError::AlreadyThere);
+        }
+        (self.conn == u32::MAX).then_some(StepError::Spent)
+    }
+
+    pub fn send_refusal(&self) -> Option<StepError>
+        ensures { result ≡ send_refusal self.now }
+    {
+        (self.number == u32::MAX).then_some(StepError::Spent)
+    }
+
+    pub fn inject_refusal(&self, bytes: &[u8]) -> Option<StepError>
+        ensures { result ≡ inject_refusal bytes.now self.now }
+    {
+        if !self.plugged {
+            return Some(StepError::NotThere);
+        }
+        if !is_frame_length(bytes) {
+            return Some(StepError::BadBytes);
+        }
+        self.send_refusal()
+    }
+
+    /// Plugs the unit, under the next connection.
+    #[tactic(auto, using(crate::proofs::Refused::came_refuses))]
+    pub fn came(&mut self, alloc: Global, port: u8) -> Result<Answer, StepError>
+        ensures { CameRule port self.old result self.new }
+    {
+        if let Some(e) = self.came_refusal() {
+            return Err(e);
+        }
+        self.unit.plugged(alloc)?;
+        self.plugged = true;
+        self.conn += 1;
+        self.number = 0;
+        Ok(Answer::Came {
+            port,
+            conn: self.conn,
+        })
+    }
+
+    /// Lets the unit send its next frame.
+    #[tactic(auto, using(crate::proofs::Refused::send_refuses))]
+    pub fn disk_send(&mut self, alloc: Global, port: u8) -> Result<Answer, StepError>
+        ensures { DiskSendRule port self.old result self.new }
+    {
+        if let Some(e) = self.send_refusal() {
+            return Err(e);
+        }
+        if !self.plugged {
+            return Ok(Answer::Idle);
+        }
+        if self.up.is_full() {
+            return Ok(Answer::Blocked);
+        }
+        let mut bytes = Vec::with_capacity(alloc, 8196)?;
+        let stamp = self.stamp(port);
+        match self.unit.next_out(alloc, stamp)? {
+            None => Ok(Answer::Idle),
+            Some(frame) => {
+                copy_into(&mut bytes, frame.bytes());
+                self.number += 1;
+                self.up.push(frame);
+                Ok(Answer::Sent {
+                    port,
+                    conn: stamp.conn,
+                    number: stamp.number,
+                    bytes: Bytes::from_vec(bytes),
+                })
+            }
+        }
+    }
+
+    /// Sends these bytes as the unit.
+    #[tactic(auto, using(crate::proofs::Refused::inject_refuses))]
+    pub fn inject(&mut self, alloc: Global, port: u8, bytes: &[u8]) -> Result<Answer, StepError>
+        ensures { InjectRule port bytes.now self.old result self.new }
+    {
+        if let Some(e) = self.inject_refusal(bytes) {
+            return Err(e);
+        }
+        if self.up.is_full() {
+            return Ok(Answer::Blocked);
+        }
+        let sent = Bytes::from_slice(alloc, bytes)?;
+        let stamp = self.stamp(port);
+        let frame = frame_from(alloc, bytes, stamp)?;
+        self.number += 1;
+        self.up.push(frame);
+        Ok(Answer::Sent {
+            port,
+            conn: stamp.conn,
+            number: stamp.number,
+            bytes: sent,
+        })
+    }
+
+    /// Takes the first frame off the link.
+    pub fn take(&mut self) -> Option<Frame>
+        ensures taken { MatchOption result (self.old.up.frames ≡ []) (λ frame. self.old.up.frames ≡ frame ∷ self.new.up.frames) }
+        ensures others { self.new ≡ record self.old { up = record self.old.up { frames = self.new.up.frames } } }
+    {
+        self.up.take()
+    }
+
+    fn stamp(&self, port: u8) -> Stamp
+        ensures { result ≡ record { port = port; conn = self.now.conn; number = self.now.number; shown = nothing_shown } }
+    {
+        Stamp {
+            port,
+            conn: self.conn,
+            number: self.number,
+            shown: [0; 15],
+        }
+    }
+}
+
+/// Copies a frame's bytes where room was made for them.
+fn copy_into(room: &mut Vec<u8>, bytes: &[u8])
+    requires empty { room.old.items ≡ [] }
+    requires room { length bytes.now ≤ vec_capacity room.old }
+    ensures { room.new.items ≡ bytes.now }
+{
+    let _ = room.extend_from_slice(bytes);
+}
+
+/// The frame of these bytes.
+fn frame_from(alloc: Global, bytes: &[u8], stamp: Stamp) -> Result<Frame, AllocError>
+    requires { IsFrame bytes.now }
+    ensures { IfOk result (λ frame. frame ≡ record { bytes = bytes.now; stamp = stamp }) }
+{
+    match Frame::from_bytes(alloc, bytes, stamp) {
+        Ok(frame) => Ok(frame),
+        Err(FrameError::OutOfMemory) => Err(AllocError),
+        Err(FrameError::BadLength) => unreachable!(),
+    }
+}

@@ -1,0 +1,126 @@
+use crate::request::{Completion, Request, SubmitError, TakeReport, Ticket};
+use fis_view::Bytes;
+use std::alloc::AllocError;
+
+/// How large a world is.
+#[derive(Clone, Copy, Debug, PartialEq, Eq)]
+pub struct Config {
+    /// Fan-out ports, 1 to 15.
+    pub ports: u8,
+    /// Frames that a link can hold, 1 to 64.
+    pub capacity: usize,
+    /// Bytes of the host's memory: even, 2 MiB to 16 MiB.
+    pub memory: u32,
+}
+
+/// Why no world is made.
+#[derive(Clone, Copy, Debug, PartialEq, Eq)]
+pub enum WorldError {
+    /// A number of the configuration is out of its limits, or there are not as many units as ports.
+    BadConfig,
+    OutOfMemory,
+}
+
+/// One action of one actor.
+#[derive(Debug, Drop)]
+pub enum Step {
+    /// The device at this port is plugged in, under the next connection.
+    Came(u8),
+    /// The device at this port sends its next FIS.
+    DiskSend(u8),
+    /// This frame is sent as the device at this port.
+    Inject(u8, Bytes),
+    /// The multiplier's port takes the first frame of its device's link into its hold.
+    PmFromDevice(u8),
+    /// The multiplier puts a held frame on the link to the host.
+    PmUp,
+    /// The host takes the first frame of its link.
+    HostTake,
+    /// A request to read from the device at this port is given to the driver.
+    Submit(u8, Request),
+    /// An ended request is asked for.
+    Poll,
+    /// These bytes are written to client memory, from this address on.
+    Put(u32, Bytes),
+}
+
+/// What a step did.
+#[derive(Debug, Drop)]
+pub enum Answer {
+    /// There was nothing to move.
+    Idle,
+    /// The next place was full.
+    Blocked,
+    Came {
+        port: u8,
+        conn: u32,
+    },
+    Sent {
+        port: u8,
+        conn: u32,
+        number: u32,
+        bytes: Bytes,
+    },
+    Offered {
+        port: u8,
+        /// Whether the frame's connection was gone.
+        dropped: bool,
+    },
+    /// The port whose frame went up.
+    Up(u8),
+    Took {
+        port: u8,
+        conn: u32,
+        number: u32,
+        bytes: Bytes,
+        /// What the host port did with it.
+        report: TakeReport,
+    },
+    Submitted(Ticket),
+    /// The driver refused the request.
+    Refused(SubmitError),
+    Polled(Completion),
+    Put,
+}
+
+/// Why a step is refused. A refused step changes nothing.
+#[derive(Clone, Copy, Debug, PartialEq, Eq)]
+pub enum StepError {
+    /// Memory was refused, and no other refusal applies.
+    OutOfMemory = 1,
+    /// The bytes to inject are no frame.
+    BadBytes = 2,
+    NoSuchPort = 3,
+    /// The device is plugged in already.
+    AlreadyThere = 4,
+    /// No device is plugged in.
+    NotThere = 5,
+    /// The connection or the number is at its largest value.
+    Spent = 6,
+    /// Not all bytes lie in the client area.
+    Outside = 7,
+    /// A byte is of the driver's buffer or of a request that is not polled.
+    InUse = 8,
+}
+
+impl From<AllocError> for StepError {
+    ghost use Rattle.std.specs.Prelude.{◌≡◌};
+    ghost use Rattle.pm_world.specs.declared.step.StepError.TheVariants.{OutOfMemory};
+
+    ghost from_gives = { λ _ e. e ≡ OutOfMemory };
+
+    fn from(_: AllocError) -> Self {
+        StepError::OutOfMemory
+    }
+}
+
+impl From<AllocError> for WorldError {
+    ghost use Rattle.std.specs.Prelude.{◌≡◌};
+    ghost use Rattle.pm_world.specs.declared.step.WorldError.TheVariants.{OutOfMemory};
+
+    ghost from_gives = { λ _ e. e ≡ OutOfMemory };
+
+    fn from(_: AllocError) -> Self {
+        WorldError::OutOfMemory
+    }
+}
