@@ -1,0 +1,41 @@
+//! Reads a list of frames or a scenario from standard input and writes what they mean.
+//!
+//! `pm_trace decode` prints each frame in words, and `pm_trace run` plays a scenario on a world of
+//! devices, a port multiplier and a host. Nothing is ever written to standard error; the exit status
+//! says how a run ended.
+#![tactic(auto)]
+
+mod command_line;
+mod decode;
+mod failure;
+mod fis_text;
+mod hex_text;
+mod input;
+mod scenario;
+mod serve;
+#[cfg(test)]
+mod tests;
+
+use failure::Failure;
+use std::alloc::Global;
+use std::process::ExitCode;
+use std::rt::Env;
+use std::{env, io};
+
+fn main(rt: HostRuntime) -> ExitCode {
+    let status = match words(&rt) {
+        Ok(words) => serve::serve(rt.alloc(), &words, rt.reader(), io::writer(&rt)),
+        Err(failure) => serve::refuse(rt.alloc(), failure, io::writer(&rt)),
+    };
+    ExitCode::from(status)
+}
+
+/// The words of the command line after the program's name. One that is no text is refused like any other
+/// that is not known.
+fn words<R: Env + AllocGlobal>(rt: &R) -> Result<Vec<String>, Failure> {
+    match env::args(rt) {
+        Ok(words) => Ok(words.skip(1).collect(rt.alloc())?),
+        Err(error) if error.kind() == io::ErrorKind::OutOfMemory => Err(Failure::OutOfMemory),
+        Err(_) => Err(Failure::CommandLine),
+    }
+}

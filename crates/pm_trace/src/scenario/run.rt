@@ -1,0 +1,160 @@
+//! A scenario as it goes on.
+
+use crate::failure::{Failure, Refusal};
+use crate::input::is_skipped;
+use crate::scenario::opening::Opening;
+use crate::scenario::parse::{Action, Setting};
+use crate::scenario::text::Reply;
+use crate::scenario::words::Words;
+use host_memory::CLIENT_START;
+use pm_world::{Counts, Step, StepError, World, WorldError};
+use std::alloc::{AllocError, Global};
+use std::io::Write;
+use std::mem;
+
+/// Plays the scenario line by line and writes what each line prints. A refused line ends it; the lines
+/// before have acted and printed.
+pub fn play<W: Write>(alloc: Global, input: &[u8], out: &mut W) -> Result<(), Failure> {
+    let mut scenario = Scenario::new(alloc);
+    let mut number = 0usize;
+    for text in input.split(|byte| *byte == b'\n') {
+        number = number.saturating_add(1);
+        if !is_skipped(text) {
+            scenario.play_line(alloc, Words::of(number, text), out)?;
+        }
+    }
+    scenario.end(alloc, out)
+}
+
+/// A scenario up to some line.
+#[derive(Drop)]
+struct Scenario {
+    opening: Opening,
+    /// The world and its counts, once it is built.
+    scene: Option<Scene>,
+}
+
+impl Scenario {
+    fn new(alloc: Global) -> Scenario {
+        Scenario {
+            opening: Opening::new(alloc),
+            scene: None,
+        }
+    }
+
+    /// Does what one line says. The first line that is no setting builds the world, also where that
+    /// line is refused.
+    fn play_line<W: Write>(
+        &mut self,
+        alloc: Global,
+        mut words: Words<'_>,
+        out: &mut W,
+    ) -> Result<(), Failure> {
+        let name = words.next_word().unwrap_or(&[]);
+        if let Some(scene) = &mut self.scene {
+            return scene.play_line(alloc, name, words, out);
+        }
+        match Setting::read(alloc, name, &mut words, &self.opening)? {
+            Some(setting) => Ok(self.opening.set(alloc, setting)?),
+            None => {
+                let mut scene = Scene::open(alloc, self.close_opening(alloc), out)?;
+                scene.play_line(alloc, name, words, out)?;
+                self.scene = Some(scene);
+                Ok(())
+            }
+        }
+    }
+
+    /// What was said of the world, which is said once.
+    fn close_opening(&mut self, alloc: Global) -> Opening {
+        mem::replace(&mut self.opening, Opening::new(alloc))
+    }
+
+    /// Builds the world if no line did.
+    fn end<W: Write>(&mut self, alloc: Global, out: &mut W) -> Result<(), Failure> {
+        if self.scene.is_none() {
+            self.scene = Some(Scene::open(alloc, self.close_opening(alloc), out)?);
+        }
+        Ok(())
+    }
+}
+
+/// A world that is built, and what its answers have told so far.
+#[derive(Drop)]
+struct Scene {
+    world: World,
+    counts: Counts,
+}
+
+impl Scene {
+    /// Builds the world and writes its sizes.
+    fn open<W: Write>(alloc: Global, opening: Opening, out: &mut W) -> Result<Scene, Failure> {
+        let sizes = opening.sizes();
+        let units = opening.into_units(alloc)?;
+        let world = match World::new(alloc, sizes.config(), units) {
+            Ok(world) => world,
+            Err(WorldError::OutOfMemory) => return Err(Failure::OutOfMemory),
+            Err(WorldError::BadConfig) => unreachable!(),
+        };
+        writeln!(out, "{}", Reply::World(sizes))?;
+        Ok(Scene {
+            world,
+            counts: Counts::new(alloc),
+        })
+    }
+
+    /// Does what one line asks of the world.
+    fn play_line<W: Write>(
+        &mut self,
+        alloc: Global,
+        name: &[u8],
+        mut words: Words<'_>,
+        out: &mut W,
+    ) -> Result<(), Failure> {
+        match Action::read(alloc, name, &mut words)? {
+            Action::Step(step) => {
+                let reply = self.step(alloc, &step)?;
+                writeln!(out, "{reply}")?;
+            }
+            Action::Show(at, len) => match self.shown(alloc, at, len)? {
+                Some(reply) => writeln!(out, "{reply}")?,
+                None => return Err(words.refused(Refusal::Range)),
+            },
+            Action::Counts => {
+                for count in self.counts.rows() {
+                    writeln!(out, "{}", Reply::Count(*count))?;
+                }
+            }
+        }
+        Ok(())
+    }
+
+    /// So many bytes of client memory, from this address on, where they all lie in it.
+    fn shown(&self, alloc: Global, at: u32, len: u32) -> Result<Option<Reply>, AllocError> {
+        let client = self.world.memory().client();
+        let Some(start) = at.checked_sub(CLIENT_START) else {
+            return Ok(None);
+        };
+        let start = start as usize;
+        let Some(bytes) = client
+            .get(start..)
+            .and_then(|rest| rest.get(..len as usize))
+        else {
+            return Ok(None);
+        };
+        let digits = hex::encode(alloc, bytes)?;
+        Ok(Some(Reply::Shown { at, digits }))
+    }
+
+    /// Does one step, counts its answer, and gives what is printed of it.
+    fn step(&mut self, alloc: Global, step: &Step) -> Result<Reply, Failure> {
+        match self.world.step(alloc, step) {
+            Ok(answer) => {
+                self.counts.note(&answer)?;
+                Ok(Reply::of(alloc, &answer)?)
+            }
+            Err(StepError::OutOfMemory) => Err(Failure::OutOfMemory),
+            Err(error) => Ok(Reply::Refused(error)),
+        }
+    }
+}

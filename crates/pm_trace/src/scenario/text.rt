@@ -1,0 +1,147 @@
+//! The lines that a scenario prints.
+
+use crate::scenario::opening::Sizes;
+use pm_world::{Answer, Completion, ConnCount, Outcome, StepError, SubmitError, Ticket};
+use std::alloc::{AllocError, Global};
+use std::fmt;
+
+/// What a line of a scenario prints.
+#[derive(Debug, Drop)]
+pub enum Reply {
+    /// The world is built.
+    World(Sizes),
+    Came { port: u8, conn: u32 },
+    Sent(FrameText),
+    Took(FrameText),
+    /// A step moved a frame.
+    Moved,
+    /// A step found nothing to move.
+    Nothing,
+    /// A step found the next place full.
+    Blocked,
+    Refused(StepError),
+    /// A request was taken under this ticket.
+    Submitted(Ticket),
+    RequestRefused(SubmitError),
+    /// A request ended.
+    Ended(Completion),
+    /// Bytes were written to client memory.
+    Put,
+    /// Bytes of client memory, from this address on.
+    Shown { at: u32, digits: String },
+    /// How many frames of a connection were sent and taken.
+    Count(ConnCount),
+}
+
+/// A frame of a connection, its bytes as digits.
+#[derive(Debug, Drop)]
+pub struct FrameText {
+    port: u8,
+    conn: u32,
+    number: u32,
+    digits: String,
+}
+
+impl Reply {
+    /// What is printed of an answer.
+    pub fn of(alloc: Global, answer: &Answer) -> Result<Reply, AllocError> {
+        let reply = match answer {
+            Answer::Idle => Reply::Nothing,
+            Answer::Blocked => Reply::Blocked,
+            Answer::Came { port, conn } => Reply::Came {
+                port: *port,
+                conn: *conn,
+            },
+            Answer::Sent {
+                port,
+                conn,
+                number,
+                bytes,
+            } => Reply::Sent(FrameText {
+                port: *port,
+                conn: *conn,
+                number: *number,
+                digits: hex::encode(alloc, bytes.as_slice())?,
+            }),
+            Answer::Offered { .. } | Answer::Up(_) => Reply::Moved,
+            Answer::Took {
+                port,
+                conn,
+                number,
+                bytes,
+                report: _,
+            } => Reply::Took(FrameText {
+                port: *port,
+                conn: *conn,
+                number: *number,
+                digits: hex::encode(alloc, bytes.as_slice())?,
+            }),
+            Answer::Submitted(ticket) => Reply::Submitted(*ticket),
+            Answer::Refused(error) => Reply::RequestRefused(*error),
+            Answer::Polled(completion) => Reply::Ended(*completion),
+            Answer::Put => Reply::Put,
+        };
+        Ok(reply)
+    }
+}
+
+impl fmt::Display for Reply {
+    fn fmt<W: fmt::Write>(&self, f: &mut fmt::Formatter<W>) -> fmt::Result {
+        match self {
+            Reply::World(sizes) => write!(f, "{sizes}"),
+            Reply::Came { port, conn } => write!(f, "came {port} conn {conn}"),
+            Reply::Sent(frame) => write!(f, "sent {frame}"),
+            Reply::Took(frame) => write!(f, "took {frame}"),
+            Reply::Moved => write!(f, "moved"),
+            Reply::Nothing => write!(f, "nothing"),
+            Reply::Blocked => write!(f, "blocked"),
+            Reply::Refused(error) => {
+                let number = *error as u8;
+                write!(f, "step refused {number} {error:?}")
+            }
+            Reply::Submitted(ticket) => write!(f, "submitted {}", ticket.0),
+            Reply::RequestRefused(error) => {
+                let number = *error as u8;
+                write!(f, "submit refused {number} {error:?}")
+            }
+            Reply::Ended(completion) => write_ended(completion, f),
+            Reply::Put => write!(f, "put"),
+            Reply::Shown { at, digits } => write!(f, "{at:x} {digits}"),
+            Reply::Count(count) => {
+                write!(f, "port {} conn {}", count.port, count.conn)?;
+                write!(f, " sent {} taken {}", count.sent, count.taken)
+            }
+        }
+    }
+}
+
+fn write_ended<W: fmt::Write>(completion: &Completion, f: &mut fmt::Formatter<W>) -> fmt::Result {
+    let result = match completion.outcome {
+        Outcome::Done => "done",
+    };
+    write!(
+        f,
+        "ticket {} slot {} {result}",
+        completion.ticket.0, completion.slot
+    )
+}
+
+impl fmt::Display for FrameText {
+    fn fmt<W: fmt::Write>(&self, f: &mut fmt::Formatter<W>) -> fmt::Result {
+        write!(
+            f,
+            "{} {} {} {}",
+            self.port, self.conn, self.number, self.digits
+        )
+    }
+}
+
+impl fmt::Display for Sizes {
+    fn fmt<W: fmt::Write>(&self, f: &mut fmt::Formatter<W>) -> fmt::Result {
+        write!(
+            f,
+            "ports {} capacity {} memory {}",
+            self.ports, self.capacity, self.memory
+        )
+    }
+}

@@ -1,0 +1,169 @@
+//! The words of one line.
+
+ghost use Rattle.std.specs.Prelude.{◌≡◌, ◌≤◌, IfOk};
+
+use crate::failure::{Failure, Refusal};
+use crate::hex_text::{HexError, bytes_of};
+use crate::input::is_blank;
+use fis_view::Bytes;
+use host_memory::Prd;
+use std::alloc::Global;
+
+/// The words of a line that are not read yet. Blanks stand between words.
+#[derive(Drop)]
+pub struct Words<'a> {
+    line: usize,
+    rest: &'a [u8],
+}
+
+impl<'a> Words<'a> {
+    /// The words of this text, which is the line of this number.
+    pub fn of(line: usize, text: &'a [u8]) -> Words<'a> {
+        Words { line, rest: text }
+    }
+
+    /// The line as refused for this reason.
+    pub fn refused(&self, refusal: Refusal) -> Failure {
+        Failure::Line {
+            line: self.line,
+            refusal,
+        }
+    }
+
+    /// The next word, if there is one more.
+    pub fn next_word(&mut self) -> Option<&'a [u8]> {
+        let start = self.rest.iter().position(|byte| !is_blank(*byte))?;
+        let text = &self.rest[start..];
+        let end = text.iter().position(|byte| is_blank(*byte));
+        let (word, rest) = text.split_at(end.unwrap_or(text.len()));
+        self.rest = rest;
+        Some(word)
+    }
+
+    /// The next word as a number within these limits. A word that is missing, or that has anything but
+    /// digits, is `number`; one outside the limits is `range`.
+    pub fn number(&mut self, least: u64, most: u64) -> Result<u64, Failure>
+        ensures within { IfOk result (λ n. (least ≤ n) × (n ≤ most)) }
+    {
+        let Some(word) = self.next_word() else {
+            return Err(self.refused(Refusal::Number));
+        };
+        self.value(word, 10, least, most)
+    }
+
+    /// What a word spells in this base, within these limits.
+    fn value(&self, word: &[u8], base: u8, least: u64, most: u64) -> Result<u64, Failure>
+        ensures within { IfOk result (λ n. (least ≤ n) × (n ≤ most)) }
+    {
+        if word.is_empty() || !word.iter().all(|byte| is_digit(*byte, base)) {
+            return Err(self.refused(Refusal::Number));
+        }
+        match value_of(word, base) {
+            Some(value) if least <= value && value <= most => Ok(value),
+            _ => Err(self.refused(Refusal::Range)),
+        }
+    }
+
+    /// The next word as an address, in hexadecimal.
+    pub fn address(&mut self) -> Result<u32, Failure> {
+        let Some(word) = self.next_word() else {
+            return Err(self.refused(Refusal::Number));
+        };
+        Ok(self.value(word, 16, 0, 0xFFFF_FFFF)? as u32)
+    }
+
+    /// The next word as an address and a number of bytes, with a colon between them.
+    pub fn prd(&mut self) -> Result<Prd, Failure> {
+        let Some(word) = self.next_word() else {
+            return Err(self.refused(Refusal::Number));
+        };
+        let Some(colon) = word.iter().position(|byte| *byte == b':') else {
+            return Err(self.refused(Refusal::Number));
+        };
+        let (address, rest) = word.split_at(colon);
+        let address = self.value(address, 16, 0, 0xFFFF_FFFF)? as u32;
+        let bytes = self.value(rest.get(1..).unwrap_or(&[]), 10, 0, 0xFFFF_FFFF)? as u32;
+        Ok(Prd { address, bytes })
+    }
+
+    /// All words that are left as such pairs, one at least.
+    pub fn prds(&mut self, alloc: Global) -> Result<Vec<Prd>, Failure> {
+        let mut prds = Vec::new(alloc);
+        for _ in 0..=self.rest.len() {
+            let prd = self.prd()?;
+            prds.push(prd).map_err(|_| Failure::OutOfMemory)?;
+            if self.is_at_end() {
+                break;
+            }
+        }
+        Ok(prds)
+    }
+
+    /// Whether no word is left.
+    pub fn is_at_end(&self) -> bool {
+        self.rest.iter().all(|byte| is_blank(*byte))
+    }
+
+    /// The next word as a port's number, 0 to 255. Whether the world has such a port is not asked.
+    pub fn port(&mut self) -> Result<u8, Failure> {
+        Ok(self.number(0, 255)? as u8)
+    }
+
+    /// Takes the next word, which must be this one.
+    pub fn keyword(&mut self, keyword: &[u8]) -> Result<(), Failure> {
+        match self.next_word() {
+            Some(word) if word == keyword => Ok(()),
+            _ => Err(self.refused(Refusal::Number)),
+        }
+    }
+
+    /// All words that are left as the digits of bytes. No word at all is `number`.
+    pub fn bytes(&mut self, alloc: Global) -> Result<Bytes, Failure> {
+        if self.is_at_end() {
+            return Err(self.refused(Refusal::Number));
+        }
+        let bytes = match bytes_of(alloc, self.rest) {
+            Ok(bytes) => bytes,
+            Err(HexError::BadHex) => return Err(self.refused(Refusal::Hex)),
+            Err(HexError::OutOfMemory) => return Err(Failure::OutOfMemory),
+        };
+        self.rest = &[];
+        Ok(Bytes::from_vec(bytes))
+    }
+
+    /// Sees that no word is left.
+    pub fn end(&mut self) -> Result<(), Failure> {
+        match self.next_word() {
+            None => Ok(()),
+            Some(_) => Err(self.refused(Refusal::Number)),
+        }
+    }
+}
+
+/// Whether the byte is a digit in this base, 10 or 16.
+fn is_digit(byte: u8, base: u8) -> bool {
+    if base == 10 {
+        byte.is_ascii_digit()
+    } else {
+        byte.is_ascii_hexdigit()
+    }
+}
+
+/// The number that these digits spell in this base, if it is below 2^64.
+fn value_of(digits: &[u8], base: u8) -> Option<u64> {
+    digits.iter().try_fold(0u64, |value, digit| {
+        value
+            .checked_mul(u64::from(base))?
+            .checked_add(digit_value(*digit))
+    })
+}
+
+/// What a digit stands for.
+fn digit_value(digit: u8) -> u64 {
+    let value = match digit {
+        b'a'..=b'f' => digit - b'a' + 10,
+        b'A'..=b'F' => digit - b'A' + 10,
+        _ => digit.wrapping_sub(b'0'),
+    };
+    u64::from(value)
+}
