@@ -1,0 +1,110 @@
+-- How the control port answers, and what an answer leaves.
+use Rattle.std.specs.Prelude.{◌≡◌, ℕ, ◌/◌, ◌%◌, Bool, true, false, if◌then◌else◌, List, Option, Some, None, Result, Ok, Err}
+use Rattle.fis_view.specs.Frames.{Stamped}
+use Rattle.fis_view.specs.Table.{D2h, Bits}
+use Rattle.fis_view.specs.Built.{IsBuilt, d2h_given, set_bits_given}
+use Rattle.fis_view.specs.declared.build.D2hFields.{D2hFields}
+use Rattle.fis_view.specs.declared.build.SetBitsFields.{SetBitsFields}
+use Rattle.fis_view.specs.declared.frame.Stamp.{Stamp}
+use Rattle.pm_registers.specs.RegisterMap.{RegisterMap, read_at, after_write}
+use Rattle.pm_registers.specs.declared.words.RegisterError.{RegisterError}
+use Rattle.pm_registers.specs.declared.words.RegisterError.TheVariants.{NoPort, NoRegister}
+use Rattle.pm_control.specs.declared.request.Request.{Request}
+use Rattle.pm_control.specs.declared.request.Request.TheVariants.{Read, Write, Unknown, Reset, EndReset}
+use Rattle.pm_control.specs.Requests.{request_in}
+
+-- ---- the fields of the answers, which are Register Device to Host FISes from PM Port Fh with I set
+
+abbrev pub done : D2hFields
+done = record { pm_port = 15; i = true; status = 0x50; error = 0; lba = 0; device = 0; count = 0 }
+
+-- the bytes of the value, low to high, in Count 7:0, LBA 7:0, LBA 15:8 and LBA 23:16
+abbrev pub value_answer : ℕ → D2hFields
+value_answer value = record done { lba = value / 256; count = value % 256 }
+
+abbrev pub refused : ℕ → D2hFields
+refused error = record done { status = 0x51; error = error }
+
+-- the Errors of the two refusals
+abbrev pub refused_by : RegisterError → D2hFields
+refused_by NoPort = refused 5
+refused_by NoRegister = refused 6
+
+-- the signature of a port multiplier: 01h, 01h, 69h, 96h in Count 7:0, LBA 7:0, LBA 15:8 and LBA 23:16
+abbrev pub signature : D2hFields
+signature = record done { error = 1; lba = 0x966901; count = 1 }
+
+abbrev pub read_answer : Result ℕ RegisterError → D2hFields
+read_answer (Ok value) = value_answer value
+read_answer (Err error) = refused_by error
+
+abbrev pub write_answer : Result ℕ RegisterError → D2hFields
+write_answer (Ok value) = done
+write_answer (Err error) = refused_by error
+
+-- ---- the answer to a request, where a software reset was begun or not
+
+abbrev pub answer_of : Bool → RegisterMap → Request → Option D2hFields
+answer_of mark m (Read at) = Some (read_answer (read_at m at.port at.register))
+answer_of mark m (Write at value) = Some (write_answer (read_at m at.port at.register))
+answer_of mark m Unknown = Some (refused 4)
+answer_of mark m Reset = None
+answer_of mark m EndReset = (if mark then Some signature else None)
+
+-- the registers after it: only a write changes them
+abbrev pub registers_after : RegisterMap → Request → RegisterMap
+registers_after m (Write at value) = after_write m at.port at.register value
+registers_after m (Read at) = m
+registers_after m Unknown = m
+registers_after m Reset = m
+registers_after m EndReset = m
+
+-- whether a software reset is begun after it: its end uses the beginning up
+abbrev pub mark_after : Bool → Request → Bool
+mark_after mark Reset = true
+mark_after mark EndReset = false
+mark_after mark (Read at) = mark
+mark_after mark (Write at value) = mark
+mark_after mark Unknown = mark
+
+-- ---- the same for a frame
+
+abbrev pub answer_to_request : Bool → RegisterMap → Option Request → Option D2hFields
+answer_to_request mark m None = None
+answer_to_request mark m (Some request) = answer_of mark m request
+
+abbrev pub answer_to : Bool → RegisterMap → List ℕ → Option D2hFields
+answer_to mark m bytes = answer_to_request mark m (request_in bytes)
+
+abbrev pub registers_after_request : RegisterMap → Option Request → RegisterMap
+registers_after_request m None = m
+registers_after_request m (Some request) = registers_after m request
+
+abbrev pub registers_left : RegisterMap → List ℕ → RegisterMap
+registers_left m bytes = registers_after_request m (request_in bytes)
+
+abbrev pub mark_after_request : Bool → Option Request → Bool
+mark_after_request mark None = mark
+mark_after_request mark (Some request) = mark_after mark request
+
+abbrev pub mark_left : Bool → List ℕ → Bool
+mark_left mark bytes = mark_after_request mark (request_in bytes)
+
+-- a frame with these fields and this stamp where there are fields, else none
+abbrev pub IsAnswer : Option D2hFields → Stamp → Option Stamped → Type 0
+IsAnswer None stamp None = Unit {0}
+IsAnswer None stamp (Some frame) = ⊥
+IsAnswer (Some fields) stamp None = ⊥
+IsAnswer (Some fields) stamp (Some frame) = IsBuilt D2h (d2h_given fields) frame.bytes × (frame.stamp ≡ stamp)
+
+-- ---- the notification: a Set Device Bits FIS from PM Port Fh with N and I set, Status 50h, Error 0, SActive 0
+
+abbrev pub notice_fields : SetBitsFields
+notice_fields = record { pm_port = 15; n = true; i = true; status = 0x50; error = 0; sactive = 0 }
+
+-- where it is due one is made, else none
+abbrev pub IsNotice : Bool → Stamp → Option Stamped → Type 0
+IsNotice false stamp None = Unit {0}
+IsNotice false stamp (Some frame) = ⊥
+IsNotice true stamp None = ⊥
+IsNotice true stamp (Some frame) = IsBuilt Bits (set_bits_given notice_fields) frame.bytes × (frame.stamp ≡ stamp)

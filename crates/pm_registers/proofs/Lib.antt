@@ -1,0 +1,3 @@
+pub mod BitLemmas
+pub mod RegisterLemmas
+pub mod LawLemmas

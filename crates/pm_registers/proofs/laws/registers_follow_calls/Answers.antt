@@ -1,0 +1,14 @@
+use Rattle.std.proofs.Common.{arith}
+use Rattle.pm_registers.specs.RegisterMap.{opening}
+use Rattle.pm_registers.specs.Calls.{after}
+use Rattle.pm_registers.proofs.LawLemmas.{ports_after, summary_agrees, due_since, cleared_by_ones}
+use Rattle.pm_registers.proofs.laws.registers_follow_calls.Goals as goal
+
+pub returns-clause-summary : goal.returns-clause-summary
+returns-clause-summary c ports calls most = summary_agrees (after (opening ports) calls) (omega (arith, ports_after (opening ports) calls))
+
+pub returns-clause-due : goal.returns-clause-due
+returns-clause-due c = due_since
+
+pub returns-clause-cleared : goal.returns-clause-cleared
+returns-clause-cleared c ports calls most = cleared_by_ones (after (opening ports) calls) (omega (arith, ports_after (opening ports) calls))

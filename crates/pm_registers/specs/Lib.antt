@@ -1,0 +1,4 @@
+pub mod Bits
+pub mod Port
+pub mod RegisterMap
+pub mod Calls
