@@ -10,7 +10,7 @@ use Rattle.pm_registers.specs.declared.port.PortRegisters.{PortRegisters}
 use Rattle.pm_registers.specs.Bits.{without, shares, rises, bits_where}
 use Rattle.pm_registers.specs.Port.{opening_port, bit_n, bit_x, port_written, controlled, inserted, removed, raised, met, opened, is_open, det}
 use Rattle.pm_registers.specs.RegisterMap.{RegisterMap, opening, port_at, asks, summary, register_at, with_port, notifies, settled, control_written, written}
-use Rattle.pm_registers.specs.Calls.{Call, Writes, Inserts, Removes, Raises, Notices, called, after, value_at, HasBit, SummaryAgrees, Notifies, NotifiedSince, ClearedByOnes}
+use Rattle.pm_registers.specs.Calls.{Call, Writes, Inserts, Removes, Raises, Notices, Restores, called, after, value_at, HasBit, SummaryAgrees, Notifies, MakesDue, NotifiedSince, ClearedByOnes}
 use Rattle.pm_registers.proofs.BitLemmas.{bits_where_fits}
 use Rattle.pm_registers.proofs.RegisterLemmas.{either, register_of_device, write_ports, written_due, control_bank}
 
@@ -123,6 +123,7 @@ called_ports m (Inserts n) = refl
 called_ports m (Removes n) = refl
 called_ports m (Raises n bits) = refl
 called_ports m Notices = refl
+called_ports m Restores = refl
 
 pub ports_after : (m : RegisterMap) (calls : List Call) → (after m calls).ports ≡ m.ports
 unfolding after
@@ -188,14 +189,31 @@ settled_marks m next same = (settled_due m next same, due_settled m next same)
 same_marks : (m : RegisterMap) → Marks m m
 same_marks m = (λ h. inl h, λ e. elim e [ inl h ↦ h | inr n ↦ absurd (no_notice m n) ])
 
-call_marks : (m : RegisterMap) (call : Call) → call ≢ Notices → Marks m (called m call)
+-- the mark after a call that is no notice, by the call
+abbrev MarksBy : RegisterMap → Call → RegisterMap → Type 0
+MarksBy m call next = (next.due ≡ true) ↔ ((m.due ≡ true) ⊎ MakesDue call m next)
+
+no_restore : (m next : RegisterMap) (call : Call) → call ≢ Restores → Marks m next → MarksBy m call next
+no_restore m next call other marks = (forward, backward)
+  where
+    forward : next.due ≡ true → (m.due ≡ true) ⊎ MakesDue call m next
+    forward h = elim (marks.0 h) [ inl was ↦ inl was | inr now ↦ inr (inl now) ]
+
+    backward : (m.due ≡ true) ⊎ MakesDue call m next → next.due ≡ true
+    backward (inl was) = marks.1 (inl was)
+    backward (inr (inl now)) = marks.1 (inr now)
+    backward (inr (inr e)) = absurd (other e)
+
+call_marks : (m : RegisterMap) (call : Call) → call ≢ Notices → MarksBy m call (called m call)
 call_marks m (Writes port register value) h =
-    either (Marks m) (is_some (register_at m port register)) (settled (summary m) (written m port register value)) m
-    (settled_marks m (written m port register value) (written_due m port register value)) (same_marks m)
-call_marks m (Inserts n) h = settled_marks m (with_port m n (inserted (port_at m n))) refl
-call_marks m (Removes n) h = settled_marks m (with_port m n (removed (port_at m n))) refl
-call_marks m (Raises n bits) h = settled_marks m (with_port m n (raised (port_at m n) bits)) refl
+    no_restore m (called m (Writes port register value)) (Writes port register value) (λ e. cc)
+    (either (Marks m) (is_some (register_at m port register)) (settled (summary m) (written m port register value)) m
+    (settled_marks m (written m port register value) (written_due m port register value)) (same_marks m))
+call_marks m (Inserts n) h = no_restore m (called m (Inserts n)) (Inserts n) (λ e. cc) (settled_marks m (with_port m n (inserted (port_at m n))) refl)
+call_marks m (Removes n) h = no_restore m (called m (Removes n)) (Removes n) (λ e. cc) (settled_marks m (with_port m n (removed (port_at m n))) refl)
+call_marks m (Raises n bits) h = no_restore m (called m (Raises n bits)) (Raises n bits) (λ e. cc) (settled_marks m (with_port m n (raised (port_at m n) bits)) refl)
 call_marks m Notices h = absurd (h refl)
+call_marks m Restores h = (λ due. inr (inr refl), λ cause. refl)
 
 is_call : (m : RegisterMap) (call : Call) → (called m call).due ≡ true → call ≢ Notices
 is_call m (Writes port register value) h = λ e. cc
@@ -203,6 +221,7 @@ is_call m (Inserts n) h = λ e. cc
 is_call m (Removes n) h = λ e. cc
 is_call m (Raises n bits) h = λ e. cc
 is_call m Notices h = cc
+is_call m Restores h = λ e. cc
 
 abbrev NoNotice : Call → Type 0
 NoNotice call = call ≢ Notices
@@ -230,14 +249,14 @@ due_backward m (call ∷ calls) (inl (h, none)) =
 due_backward m (call ∷ calls) (inr ([], last, since, split, none, now)) =
     let first : call ≡ last = cc in
     let rest : calls ≡ since = cc in
-    let noted : Notifies m (called m call) = subst (λ (c : Call). Notifies m (called m c)) (sym first) now in
+    let noted : MakesDue call m (called m call) = subst (λ (c : Call). MakesDue c m (called m c)) (sym first) now in
     let other : call ≢ Notices = subst NoNotice (sym first) (All-head NoNotice last since none) in
     due_backward (called m call) calls (inl ((call_marks m call other).1 (inr noted), subst (All NoNotice) (sym rest) (All-tail NoNotice last since none)))
 due_backward m (call ∷ calls) (inr (b ∷ before, last, since, split, none, now)) =
     let first : b ≡ call = cc in
     let rest : calls ≡ before ++ last ∷ since = cc in
-    let noted : Notifies (after (called m call) before) (after (called m call) (before ++ last ∷ [])) =
-    subst (λ (c : Call). Notifies (after (called m c) before) (after (called m c) (before ++ last ∷ []))) first now in
+    let noted : MakesDue last (after (called m call) before) (after (called m call) (before ++ last ∷ [])) =
+    subst (λ (c : Call). MakesDue last (after (called m c) before) (after (called m c) (before ++ last ∷ []))) first now in
     due_backward (called m call) calls (inr (before, last, since, rest, none, noted))
 
 pub due_since : (ports : ℕ) (calls : List Call) → ((after (opening ports) calls).due ≡ true) ↔ NotifiedSince (opening ports) calls
@@ -348,6 +367,7 @@ call_clears m (Inserts i) n k = λ h. inl (port_after m n i (inserted (port_at m
 call_clears m (Removes i) n k = λ h. inl (port_after m n i (removed (port_at m i)) (removed_keeps (port_at m i)) k h)
 call_clears m (Raises i bits) n k = λ h. inl (port_after m n i (raised (port_at m i) bits) (λ j g. or_keeps (port_at m i).error bits j g) k h)
 call_clears m Notices n k = λ h. inl h
+call_clears m Restores n k = λ h. inl h
 
 pub cleared_by_ones : (m : RegisterMap) → m.ports ≤ 15 → ClearedByOnes m
 cleared_by_ones m most call n k within h gone =

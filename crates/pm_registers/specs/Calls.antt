@@ -1,7 +1,7 @@
 -- What is true after any list of calls, by the calls alone.
-use Rattle.std.specs.Prelude.{◌≡◌, ◌≢◌, ℕ, ◌<◌, ◌↔◌, List, [], ◌∷◌, ◌++◌, All, unwrap_or}
+use Rattle.std.specs.Prelude.{◌≡◌, ◌≢◌, ℕ, ◌<◌, ◌↔◌, ◌⊎◌, List, [], ◌∷◌, ◌++◌, All, unwrap_or}
 use Rattle.std.specs.Int.{bit_at}
-use Rattle.pm_registers.specs.RegisterMap.{RegisterMap, register_at, after_write, after_insert, after_remove, after_raise, after_notice}
+use Rattle.pm_registers.specs.RegisterMap.{RegisterMap, register_at, after_write, after_insert, after_remove, after_raise, after_notice, after_restore}
 
 -- a call that changes the registers
 pub data Call : Type 0 where
@@ -15,6 +15,8 @@ pub data Call : Type 0 where
   Raises : ℕ → ℕ → Call
   -- the notification is made
   Notices : Call
+  -- the notification that was made is taken back
+  Restores : Call
 
 abbrev pub called : RegisterMap → Call → RegisterMap
 called m (Writes port register value) = after_write m port register value
@@ -22,6 +24,7 @@ called m (Inserts n) = after_insert m n
 called m (Removes n) = after_remove m n
 called m (Raises n bits) = after_raise m n bits
 called m Notices = after_notice m
+called m Restores = after_restore m
 
 -- the registers after these calls, the first one first
 unfoldable pub after : RegisterMap → List Call → RegisterMap
@@ -44,11 +47,15 @@ SummaryAgrees m = (n : ℕ) → HasBit m 15 32 n ↔ ((n < m.ports) × (k : ℕ)
 abbrev pub Notifies : RegisterMap → RegisterMap → Type 0
 Notifies old new = HasBit new 15 96 3 × (n : ℕ) × (bit_at (value_at old 15 32) n ≡ 0) × HasBit new 15 32 n
 
--- since the last notice, or since the beginning, some call notifies
+-- the call is one that notifies, or takes back a notification that was made
+abbrev pub MakesDue : Call → RegisterMap → RegisterMap → Type 0
+MakesDue call old new = Notifies old new ⊎ (call ≡ Restores)
+
+-- since the last notice, or since the beginning, some call makes one due
 abbrev pub NotifiedSince : RegisterMap → List Call → Type 0
 NotifiedSince m calls =
     (before : List Call) × (call : Call) × (since : List Call) × (calls ≡ before ++ call ∷ since) × All (λ c. c ≢ Notices) (call ∷ since)
-    × Notifies (after m before) (after m (before ++ call ∷ []))
+    × MakesDue call (after m before) (after m (before ++ call ∷ []))
 
 -- a bit of a device port's PSCR[1] goes only where ones are written to it
 abbrev pub ClearedByOnes : RegisterMap → Type 0

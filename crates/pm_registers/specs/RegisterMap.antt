@@ -1,5 +1,5 @@
 -- The registers of a port multiplier (Serial ATA 3.x, 16.4), as a finite map from a port and a number to a value.
-use Rattle.std.specs.Prelude.{ℕ, Bool, false, not, ◌==◌, ◌&&◌, ◌||◌, nat_lt, if◌then◌else◌, bit_and, List, replicate, slice_set, slice_index_or, Option, Some, None, ok_or, is_some, Result, Err}
+use Rattle.std.specs.Prelude.{ℕ, Bool, true, false, not, ◌==◌, ◌&&◌, ◌||◌, nat_lt, if◌then◌else◌, bit_and, List, replicate, slice_set, slice_index_or, Option, Some, None, ok_or, is_some, Result, Err}
 use Rattle.pm_registers.specs.Bits.{without, shares, rises, bits_where}
 use Rattle.pm_registers.specs.declared.port.PortRegisters.{PortRegisters}
 use Rattle.pm_registers.specs.declared.words.RegisterError.{RegisterError}
@@ -126,3 +126,7 @@ after_raise m n bits = settled (summary m) (with_port m n (raised (port_at m n) 
 -- the notification is made
 abbrev pub after_notice : RegisterMap → RegisterMap
 after_notice m = record m { due = false }
+
+-- the notification that was made is taken back: one is due again
+abbrev pub after_restore : RegisterMap → RegisterMap
+after_restore m = record m { due = true }

@@ -5,7 +5,7 @@ ghost use Rattle.pm_registers.specs.Calls.{Call, ClearedByOnes, NotifiedSince, S
 ghost use Rattle.pm_registers.specs.RegisterMap.{opening};
 
 /// Laws of the registers after any list of calls, which does nothing when it runs: GSCR\[32\] agrees with PSCR\[1\]
-/// and GSCR\[33\]; a notification is due exactly where some call since the last one called for it; and a bit of
+/// and GSCR\[33\]; a notification is due exactly where some call since the last one made it due; and a bit of
 /// PSCR\[1\] goes only where ones are written to it.
 pub fn registers_follow_calls()
     ensures summary { (ports : ℕ) (calls : List Call) → ports ≤ 15 → SummaryAgrees (after (opening ports) calls) }

@@ -5,7 +5,7 @@ ghost use Rattle.std.specs.Result.{result_err};
 ghost use Rattle.pm_registers.specs.Bits.{shares, without, rises, bits_where};
 ghost use Rattle.pm_registers.specs.Calls.{Call, after};
 ghost use Rattle.pm_registers.specs.Port.{Forwards};
-ghost use Rattle.pm_registers.specs.RegisterMap.{after_insert, after_notice, after_raise, after_remove, after_rule, after_write, control_written, gscr, may_change, opening, port_at, read_at, register_at, settled, summary, with_port, write_rule};
+ghost use Rattle.pm_registers.specs.RegisterMap.{after_insert, after_notice, after_restore, after_raise, after_remove, after_rule, after_write, control_written, gscr, may_change, opening, port_at, read_at, register_at, settled, summary, with_port, write_rule};
 
 use crate::bits::cleared;
 use crate::port::PortRegisters;
@@ -209,5 +209,12 @@ impl PmRegisters {
         ensures { self.new ≡ after_notice self.old }
     {
         self.due = false;
+    }
+
+    /// The notification that was made is taken back, so one is due again.
+    pub fn restore_notice(&mut self)
+        ensures { self.new ≡ after_restore self.old }
+    {
+        self.due = true;
     }
 }

@@ -1,0 +1,3 @@
+pub mod ArbiterLemmas
+pub mod PutBack
+pub mod Holds

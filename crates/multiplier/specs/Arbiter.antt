@@ -1,0 +1,31 @@
+-- Which place is served next (Serial ATA 3.x, port multiplier: the policy for frames on their way to the host is to
+-- be fair). The places are the device ports 0 to 14 and the control port Fh, 15.
+use Rattle.std.specs.Prelude.{◌≡◌, ◌≢◌, ℕ, ◌+◌, ◌-◌, Bool, IsTrue, List, [], ◌∷◌, ◌++◌, All, Option, Some}
+use Rattle.std.specs.List.{range_with_len, find}
+
+-- the control port's PM Port
+abbrev pub control_port : ℕ
+control_port = 15
+
+-- the places of the circle 0, 1, .., 14, Fh in the order that begins after a place; that place comes last
+abbrev pub circle_after : ℕ → List ℕ
+circle_after last = range_with_len (last + 1) (control_port - last) ++ range_with_len 0 (last + 1)
+
+-- the first ready place after the one that was served last
+abbrev pub next_served : ℕ → (ℕ → Bool) → Option ℕ
+next_served last ready = find ready (circle_after last)
+
+-- These places are served, one after another: at each turn the place that is next among those that are ready then.
+unfoldable pub IsServedInTurn : ℕ → List (ℕ → Bool) → List ℕ → Type 0
+IsServedInTurn last [] [] = Unit {0}
+IsServedInTurn last (ready ∷ later) (place ∷ places) =
+    (next_served last ready ≡ Some place) × IsServedInTurn place later places
+IsServedInTurn last _ _ = ⊥
+
+-- the place is ready at each of these turns
+abbrev pub StaysReady : ℕ → List (ℕ → Bool) → Type 0
+StaysReady place turns = All (λ ready. IsTrue (ready place)) turns
+
+-- none of the frames served is the place's
+abbrev pub IsPassedOver : ℕ → List ℕ → Type 0
+IsPassedOver place served = All (λ other. other ≢ place) served

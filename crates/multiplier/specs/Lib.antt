@@ -1,0 +1,3 @@
+pub mod Arbiter
+pub mod State
+pub mod Rules

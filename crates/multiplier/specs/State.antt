@@ -1,0 +1,107 @@
+-- What a port multiplier holds (Serial ATA 3.x, port multiplier): its registers, its device ports, and what its
+-- control port has to say.
+use Rattle.std.specs.Prelude.{ℕ, ◌+◌, ◌%◌, ◌==◌, ◌&&◌, ◌||◌, nat_lt, min, Bool, false, if◌then◌else◌, bit_and, List, replicate, slice_index, slice_index_or, slice_set, Option, None, is_some}
+use Rattle.fis_view.specs.Frames.{Stamped, marked}
+use Rattle.fis_view.specs.declared.frame.Stamp.{Stamp}
+use Rattle.pm_registers.specs.Port.{det, bit_x}
+use Rattle.pm_registers.specs.RegisterMap as map
+use Rattle.pm_ports.specs.Port as port
+use Rattle.multiplier.specs.Arbiter.{control_port, next_served}
+use Rattle.multiplier.specs.declared.given.Given.{Given}
+
+-- a multiplier, as contracts see it
+pub record PmState : Type 0 where
+  pub registers : map.RegisterMap
+  -- whether a software reset of the control port has begun
+  pub resetting : Bool
+  -- the device ports; those from the number of ports on are not there
+  pub ports : List port.PortState
+  -- the answer of the control port that waits to go up
+  pub answer : Option Stamped
+  -- the place that was served last
+  pub served : ℕ
+  -- the running number of the next frame of the control port
+  pub number : ℕ
+  -- how many frames of the host were dropped
+  pub dropped : ℕ
+  -- how the frame that went up last is put back
+  pub given : Option Given
+
+-- the largest count and the largest running number; one that reached it stays
+abbrev pub largest : ℕ
+largest = 4294967295
+
+abbrev pub counted : ℕ → ℕ
+counted n = min (n + 1) largest
+
+-- a new multiplier: nothing is connected, and port 0 is served first
+abbrev pub opening : ℕ → PmState
+opening ports = record {
+  registers = map.opening ports;
+  resetting = false;
+  ports = replicate 15 port.empty_port;
+  answer = None;
+  served = control_port;
+  number = 0;
+  dropped = 0;
+  given = None;
+}
+
+abbrev pub port_at : PmState → ℕ → port.PortState
+port_at pm n = slice_index_or pm.ports n port.empty_port
+
+abbrev pub with_port : PmState → ℕ → port.PortState → PmState
+with_port pm n p = record pm { ports = slice_set pm.ports n p }
+
+-- whether FISes pass a port, in both directions
+abbrev pub forwards : map.RegisterMap → ℕ → Bool
+forwards m n =
+    nat_lt n m.ports && (det (map.port_at m n).control == 0) && (det (map.port_at m n).status == 3)
+    && (bit_and (map.port_at m n).error bit_x == 0)
+
+-- ---- up
+
+-- the frame of a port that goes up next: the one it holds, where it forwards and the frame is of its connection
+abbrev pub held : PmState → ℕ → Option Stamped
+held pm n = port.next_up (forwards pm.registers n) (port_at pm n)
+
+-- a frame as it goes up from a port: its PM Port is the port's
+abbrev pub rising : ℕ → Stamped → Stamped
+rising n frame = record { bytes = marked frame.bytes n; stamp = frame.stamp }
+
+-- a place is ready where it has a frame for the host: a port that holds one which may go up, and the control port
+-- where a notification is due or an answer waits
+abbrev pub ready : PmState → ℕ → Bool
+ready pm place = if place == control_port then pm.registers.due || is_some pm.answer else is_some (held pm place)
+
+-- the place that is served next
+abbrev pub next_place : PmState → Option ℕ
+next_place pm = next_served pm.served (ready pm)
+
+-- the stamp of a frame of the control port; no removal is recorded yet
+abbrev pub control_stamp : ℕ → Stamp
+control_stamp number = record { port = control_port; conn = 0; number = number; shown = replicate 15 0 }
+
+-- ---- down
+
+-- the PM Port of a frame, bits 3:0 of byte 1
+abbrev pub pm_port : Stamped → ℕ
+pm_port frame = slice_index frame.bytes 1 % 16
+
+-- the connection that a frame for this port goes to: the one that is present, where the port forwards
+abbrev pub passes_to : PmState → ℕ → Option ℕ
+passes_to pm n = if forwards pm.registers n then (port_at pm n).present else None
+
+-- a frame on its way down: its PM Port is 0, and its stamp has the connection that it goes to
+abbrev pub falling : ℕ → Stamped → Stamped
+falling conn frame = record {
+  bytes = marked frame.bytes 0;
+  stamp = record { port = frame.stamp.port; conn = conn; number = frame.stamp.number; shown = frame.stamp.shown };
+}
+
+-- a frame of the device at this port, as it is held
+abbrev pub arriving : ℕ → Stamped → Stamped
+arriving n frame = record {
+  bytes = frame.bytes;
+  stamp = record { port = n; conn = frame.stamp.conn; number = frame.stamp.number; shown = frame.stamp.shown };
+}

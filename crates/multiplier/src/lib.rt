@@ -1,0 +1,22 @@
+//! A Serial ATA port multiplier, as its frames see it: 1 to 15 device ports and the control port Fh.
+//!
+//! A [`Multiplier`] takes frames of the host ([`Multiplier::from_host`]) and of devices
+//! ([`Multiplier::from_device`]), each into a place for one frame, and gives them on
+//! ([`Multiplier::next_down`], [`Multiplier::next_up`]). A frame on its way up has the number of its port as PM Port,
+//! one on its way down has 0. Places are served in a circle, and [`waits_for_at_most_fifteen`] says how long a place
+//! may be passed over. A frame that found no room further on can be put back, and all is as before.
+//!
+//! What a call does stands in `specs/Rules.antt`, over the value of `specs/State.antt`; the circle stands in
+//! `specs/Arbiter.antt`.
+#![tactic(auto)]
+
+mod arbiter;
+mod given;
+mod multiplier;
+
+pub use arbiter::waits_for_at_most_fifteen;
+pub use given::{Given, Source};
+pub use multiplier::{Multiplier, Passed, PmRefusal};
+
+#[cfg(test)]
+mod tests;

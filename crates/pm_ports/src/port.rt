@@ -1,0 +1,186 @@
+//! One fan-out port.
+
+ghost use Rattle.std.specs.Prelude.{◌≡◌, if◌then◌else◌, None, MatchResult, is_some, is_none, option_copied};
+ghost use Rattle.std.specs.Result.{result_err};
+ghost use Rattle.pm_ports.specs.Port.{came_refusal, empty_port, next_up, with_connection, with_down, with_up};
+ghost use Rattle.pm_ports.specs.Offering.{IsOffered, IsPutDown};
+
+use fis_view::Frame;
+use std::marker::Model;
+use thiserror::Error;
+
+/// Why a connection is refused.
+#[derive(Clone, Copy, Debug, PartialEq, Eq, Error)]
+pub enum PortError {
+    /// A device is there.
+    #[error("already there")]
+    AlreadyThere = 1,
+    /// The connection is 0, or not above the last one that came.
+    #[error("old connection")]
+    OldConnection = 2,
+}
+
+/// What a port did with a frame that it took.
+#[derive(Clone, Copy, Debug, PartialEq, Eq)]
+pub enum Offered {
+    /// The frame is held until it goes up.
+    Held,
+    /// The frame was let go, since the removal of its connection was recorded.
+    Dropped,
+}
+
+/// A fan-out port: the connection that is present, and a place for one frame in each direction.
+#[derive(Debug, Drop)]
+pub struct Port {
+    present: Option<u32>,
+    last: u32,
+    up: Option<Frame>,
+    down: Option<Frame>,
+}
+
+impl Model for Port {
+    ghost use Rattle.pm_ports.specs.Port.{PortState};
+
+    ghost Value = { PortState };
+
+    ghost view = { λ p. record { present = p.present; last = p.last; up = p.up; down = p.down } };
+}
+
+impl Default for Port {
+    ghost use Rattle.std.specs.Prelude.{◌≡◌};
+    ghost use Rattle.pm_ports.specs.Port.{empty_port};
+
+    ghost is_default = { λ p. p ≡ empty_port };
+
+    fn default() -> Port {
+        Port::new()
+    }
+}
+
+impl Port {
+    /// A port to which no device came.
+    pub fn new() -> Port
+        ensures { result ≡ empty_port }
+    {
+        Port {
+            present: None,
+            last: 0,
+            up: None,
+            down: None,
+        }
+    }
+
+    /// Records that a device came, under this connection. Frames that wait stay where they are: one of this very
+    /// connection may have arrived before.
+    pub fn came(&mut self, conn: u32) -> Result<(), PortError>
+        ensures refusal { result_err result ≡ came_refusal self.old conn }
+        ensures after { MatchResult result (λ _. self.new ≡ with_connection self.old conn) (λ _. self.new ≡ self.old) }
+    {
+        if self.present.is_some() {
+            return Err(PortError::AlreadyThere);
+        }
+        if conn <= self.last {
+            return Err(PortError::OldConnection);
+        }
+        self.present = Some(conn);
+        self.last = conn;
+        Ok(())
+    }
+
+    /// The connection that is present.
+    pub fn present(&self) -> Option<u32>
+        ensures { result ≡ self.now.present }
+    {
+        self.present
+    }
+
+    /// Whether the upward place is empty, so that a frame of the device would be held.
+    pub fn wants(&self) -> bool
+        ensures { result ≡ is_none self.now.up }
+    {
+        self.up.is_none()
+    }
+
+    /// Whether the downward place is empty.
+    pub fn has_room_down(&self) -> bool
+        ensures { result ≡ is_none self.now.down }
+    {
+        self.down.is_none()
+    }
+
+    /// Takes a frame of the device, or gives it back where another one waits to go up.
+    pub fn offer(&mut self, frame: Frame) -> Result<Offered, Frame>
+        ensures { IsOffered self.old frame result self.new }
+    {
+        if !self.wants() {
+            return Err(frame);
+        }
+        self.up = Some(frame);
+        Ok(Offered::Held)
+    }
+
+    /// Whether `take_held` would give a frame.
+    pub fn is_ready(&self, forwards: bool) -> bool
+        ensures { result ≡ is_some (next_up forwards self.now) }
+    {
+        match (&self.up, self.present) {
+            (Some(frame), Some(conn)) => forwards && frame.stamp().conn == conn,
+            _ => false,
+        }
+    }
+
+    /// Gives the held frame on its way up, where the port forwards and the frame is of the present connection. The
+    /// frame of a later connection waits until that connection came.
+    pub fn take_held(&mut self, forwards: bool) -> Option<Frame>
+        ensures taken { result ≡ next_up forwards self.old }
+        ensures after { self.new ≡ (if is_some result then with_up self.old None else self.old) }
+    {
+        if self.is_ready(forwards) {
+            self.up.take()
+        } else {
+            None
+        }
+    }
+
+    /// Puts a frame that `take_held` gave back into the upward place.
+    pub fn put_back_up(&mut self, frame: Frame)
+        requires { self.old.up ≡ None }
+        ensures { self.new ≡ with_up self.old (Some frame) }
+    {
+        self.up = Some(frame);
+    }
+
+    /// The frame that waits to go up.
+    pub fn hold(&self) -> Option<&Frame>
+        ensures { option_copied result ≡ self.now.up }
+    {
+        self.up.as_ref()
+    }
+
+    /// Keeps a frame on its way down, or gives it back where another one waits.
+    pub fn put_down(&mut self, frame: Frame) -> Result<(), Frame>
+        ensures { IsPutDown self.old frame result self.new }
+    {
+        if !self.has_room_down() {
+            return Err(frame);
+        }
+        self.down = Some(frame);
+        Ok(())
+    }
+
+    /// Gives the frame on its way down.
+    pub fn take_down(&mut self) -> Option<Frame>
+        ensures taken { result ≡ self.old.down }
+        ensures after { self.new ≡ with_down self.old None }
+    {
+        self.down.take()
+    }
+
+    /// Puts a frame that `take_down` gave back into the downward place.
+    pub fn put_back_down(&mut self, frame: Frame)
+        requires { self.old.down ≡ None }
+        ensures { self.new ≡ with_down self.old (Some frame) }
+    {
+        self.down = Some(frame);
+    }
+}
