@@ -10,7 +10,7 @@ more_or_not zero n = inl (omega arith)
 more_or_not (suc m) zero = inr (omega arith)
 more_or_not (suc m) (suc n) = elim (more_or_not m n) [ inl h ↦ inl (omega arith) | inr h ↦ inr (omega arith) ]
 
-different : (m n : ℕ) → m ≤ n → m ≢ n → m < n
+pub different : (m n : ℕ) → m ≤ n → m ≢ n → m < n
 different m n le ne = elim (more_or_not n m) [ inl h ↦ absurd (ne (omega arith)) | inr h ↦ h ]
 
 -- what a search through neighbouring places finds is one of them, and not past a place that passes

@@ -1,3 +1,4 @@
 pub mod ArbiterLemmas
 pub mod PutBack
 pub mod Holds
+pub mod PassingLemmas

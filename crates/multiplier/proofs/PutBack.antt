@@ -26,12 +26,12 @@ frame_back : (was : Stamped) (n : ℕ) → n < 16 → rising (pm_port was) (risi
 frame_back was n small = ap (λ b. let f : Stamped = record { bytes = b; stamp = was.stamp } in f) (mark_back was.bytes n small)
 
 -- a port that has a frame is there
-has_down : (ports : List port.PortState) (n : ℕ) (frame : Stamped) → Some frame ≡ (slice_index_or ports n port.empty_port).down → n < length ports
+pub has_down : (ports : List port.PortState) (n : ℕ) (frame : Stamped) → Some frame ≡ (slice_index_or ports n port.empty_port).down → n < length ports
 has_down [] n frame e = absurd cc
 has_down (p ∷ ports) zero frame e = omega arith
 has_down (p ∷ ports) (suc n) frame e = let k : n < length ports = has_down ports n frame e in omega arith
 
-has_up : (ports : List port.PortState) (n : ℕ) (frame : Stamped) → (slice_index_or ports n port.empty_port).up ≡ Some frame → n < length ports
+pub has_up : (ports : List port.PortState) (n : ℕ) (frame : Stamped) → (slice_index_or ports n port.empty_port).up ≡ Some frame → n < length ports
 has_up [] n frame e = absurd cc
 has_up (p ∷ ports) zero frame e = omega arith
 has_up (p ∷ ports) (suc n) frame e = let k : n < length ports = has_up ports n frame e in omega arith
@@ -52,7 +52,7 @@ gives_only true frame was e = e
 gives_only false frame was e = absurd cc
 
 -- what a port gives is what it holds
-gives_held : (passes : Bool) (present : Option ℕ) (up : Option Stamped) (was : Stamped) → port.rises passes present up ≡ Some was → up ≡ Some was
+pub gives_held : (passes : Bool) (present : Option ℕ) (up : Option Stamped) (was : Stamped) → port.rises passes present up ≡ Some was → up ≡ Some was
 gives_held passes present None was e = absurd cc
 gives_held passes present (Some frame) was e = gives_only (passes && port.is_of_present present frame) frame was e
 

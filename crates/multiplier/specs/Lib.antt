@@ -1,3 +1,4 @@
 pub mod Arbiter
 pub mod State
 pub mod Rules
+pub mod Passing

@@ -13,10 +13,12 @@
 mod arbiter;
 mod given;
 mod multiplier;
+mod passing;
 
 pub use arbiter::waits_for_at_most_fifteen;
 pub use given::{Given, Source};
 pub use multiplier::{Multiplier, Passed, PmRefusal};
+pub use passing::frames_pass_in_order;
 
 #[cfg(test)]
 mod tests;
