@@ -1,23 +1,16 @@
 -- The steps of a world are deeds of its host's part.
-use Rattle.std.proofs.Common.{◌≡◌, ℕ, Bool, true, false, List, [], ◌∷◌, ◌++◌, Option, Some, None, refl, sym, ap, subst, ◌∙◌, append_assoc}
-use Rattle.std.specs.Prelude.{Result, Ok, Err, slice_get, MatchOption, not, if◌then◌else◌}
-use Rattle.host_memory.specs.Memory.{zeroed}
-use Rattle.disk_model.specs.declared.unit.Unit.{Unit}
-use Rattle.pm_world.specs.Host.{Host, submit_refusal}
-use Rattle.pm_world.specs.Reads.{Read}
-use Rattle.pm_world.specs.Deeds.{Deed, Submitted, Polled, Put, Took, Does, DoesAll, Delivers, Polls, completion_of, after_poll}
+use Rattle.std.proofs.Common.{◌≡◌, ℕ, Bool, true, false, List, [], ◌∷◌, ◌++◌, Some, refl, ap, subst, ◌∙◌}
+use Rattle.std.specs.Prelude.{Ok}
+use Rattle.pm_world.specs.Host.{Host}
+use Rattle.pm_world.specs.Deeds.{Deed, Submitted, Polled, Put, Took, Does, DoesAll, Polls, completion_of, after_poll}
 use Rattle.pm_world.specs.Delivery.{deed_of, deeds_of, DeliversReads}
-use Rattle.pm_world.specs.Places.{Places, Place, Queue, new_world, with_device, with_holds, with_upward, with_host}
-use Rattle.pm_world.specs.Rules.{Outcome, Rule, Run, AtPort, OnDevice, CameRule, DiskSendRule, InjectRule, PmFromDeviceRule, PmUpRule, HostTakeRule, SubmitRule, PollRule, PutRule, is_there}
+use Rattle.pm_world.specs.Places.{Places, Place, Queue, new_world, with_device, with_holds, with_known}
+use Rattle.pm_world.specs.Rules.{Outcome, Rule, Run, OnDevice, CameRule, DiskSendRule, InjectRule, PmPresenceRule, PmFromDeviceRule, HostTakeRule, SubmitRule, PollRule, PutRule, is_there}
 use Rattle.pm_world.specs.declared.host.Slot.{Slot}
 use Rattle.pm_world.specs.declared.host.Slot.TheVariants as slot
 use Rattle.pm_world.specs.declared.request.Request.{Request}
-use Rattle.pm_world.specs.declared.request.Completion.{Completion}
-use Rattle.pm_world.specs.declared.step.Config.{Config}
 use Rattle.pm_world.specs.declared.step.Step.{Step}
 use Rattle.pm_world.specs.declared.step.Step.TheVariants as step
-use Rattle.pm_world.specs.declared.step.StepError.{StepError}
-use Rattle.pm_world.specs.declared.step.StepError.TheVariants as error
 use Rattle.pm_world.specs.declared.step.Answer.{Answer}
 use Rattle.pm_world.specs.declared.step.Answer.TheVariants as answer
 use Rattle.pm_world.proofs.Moves.{there}
@@ -78,6 +71,9 @@ pub rule_does : (old : Places) (s : Step) (a : Answer) (new : Places) → Rule o
 rule_does old (step.Came n) a new rule = on_device_host old n a new (CameRule n) rule
 rule_does old (step.DiskSend n) a new rule = on_device_host old n a new (DiskSendRule n) rule
 rule_does old (step.Inject n bytes) a new rule = on_device_host old n a new (InjectRule n bytes) rule
+rule_does old (step.PmPresence n) a new rule =
+    let p = there old n a new (λ place. (after : Place) × PmPresenceRule n place old.known (Ok a) after new.known × (new ≡ with_known (with_device old n after) new.known)) rule in
+    ap (λ (w : Places). w.host) p.2.2
 rule_does old (step.PmFromDevice n) a new rule =
     let p = there old n a new (λ place. (after : Place) × PmFromDeviceRule n place old.holds (Ok a) after new.holds × (new ≡ with_holds (with_device old n after) new.holds)) rule in
     ap (λ (w : Places). w.host) p.2.2

@@ -1,22 +1,21 @@
 -- What a request that is taken is like, and that its table can be read.
-use Rattle.std.proofs.Common.{◌≡◌, ◌≢◌, ℕ, zero, suc, ◌+◌, ◌-◌, ◌*◌, ◌/◌, ◌%◌, ◌<◌, ◌≤◌, Bool, true, false, List, [], ◌∷◌, ◌++◌, Option, Some, None, length, take, drop, get_or, refl, sym, ap, ◌∙◌, arith, All}
-use Rattle.std.specs.Prelude.{nat_lt, nat_le, ◌==◌, ◌||◌, not, if◌then◌else◌, replicate}
+use Rattle.std.proofs.Common.{◌≡◌, ◌≢◌, ℕ, zero, suc, ◌+◌, ◌*◌, ◌%◌, ◌<◌, ◌≤◌, Bool, true, false, List, [], ◌∷◌, ◌++◌, Option, Some, None, length, take, drop, get_or, refl, ap, ◌∙◌, arith, All}
+use Rattle.std.specs.Prelude.{nat_lt, nat_le, ◌==◌, ◌||◌, not, if◌then◌else◌}
 use Rattle.std.specs.List.{list_any}
 use Rattle.std.proofs.Math.Nat.{div-one}
 use Rattle.std.proofs.lemmas.Bool.Decides.{nat_tests}
-use Rattle.std.proofs.lemmas.Bool.{or_parts, cases_lt, cases_Bool, false≢true}
+use Rattle.std.proofs.lemmas.Bool.{or_parts}
 use Rattle.std.proofs.lemmas.List.{length-replicate, take-append-le, take_all}
 use Rattle.host_memory.specs.declared.table.Prd.{Prd}
-use Rattle.host_memory.specs.Memory.{Memory, client_start}
+use Rattle.host_memory.specs.Memory.{Memory}
 use Rattle.host_memory.specs.Place.{total_of}
 use Rattle.host_memory.specs.Reading.{prds_at, read_fault, have_overlap}
 use Rattle.host_memory.specs.Writing.{CanBeWritten, IsUsable}
 use Rattle.pm_world.specs.Events.{has_bit}
-use Rattle.pm_world.specs.Host.{Host, IsHost, HasTable, submit_refusal, is_bad_count, is_mismatch, is_bad_prd, is_free, end_of, table_at, new_read, TransferIsWithin}
+use Rattle.pm_world.specs.Host.{Host, HasTable, submit_refusal, is_bad_count, is_mismatch, is_bad_prd, is_free, end_of, table_at, new_read, TransferIsWithin}
 use Rattle.pm_world.specs.Reads.{Read}
 use Rattle.pm_world.specs.declared.request.Request.{Request}
 use Rattle.pm_world.specs.declared.request.SubmitError.{SubmitError}
-use Rattle.pm_world.specs.declared.request.SubmitError.TheVariants as refusal
 
 -- the lowest bit
 pub has_bit_low : (x : ℕ) → has_bit x 0 ≡ (x % 2 == 1)

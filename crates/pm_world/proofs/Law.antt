@@ -1,18 +1,18 @@
 -- Nothing is lost in one move, and so in a whole run.
-use Rattle.std.proofs.Common.{◌≡◌, ◌≢◌, ℕ, List, [], ◌∷◌, ◌++◌, Bool, true, false, cond, eqb, refl, sym, ap, ◌∙◌, append_assoc, inl, inr}
-use Rattle.std.specs.Prelude.{◌&&◌, ◌==◌, if◌then◌else◌, map, Ok}
+use Rattle.std.proofs.Common.{◌≡◌, ◌≢◌, ℕ, List, [], ◌∷◌, ◌++◌, Bool, true, false, cond, eqb, refl, sym, ◌∙◌, append_assoc, inl, inr}
+use Rattle.std.specs.Prelude.{◌==◌, Ok}
 use Rattle.std.proofs.lemmas.Bool.{cases_eq, eq-eqb, ne_eqb}
 use Rattle.std.proofs.lemmas.List.{append-nil}
 use Rattle.fis_view.specs.Frames.{Stamped, marked}
 use Rattle.pm_world.specs.Places.{Places, IsTold, rising}
 use Rattle.pm_world.specs.Rules.{Rule, Run}
-use Rattle.pm_world.specs.Traffic.{sent_by, taken_by, sent, taken, all_marked, stamped, of_conn, waiting, transit, IsPrefixOf, NothingLost}
+use Rattle.pm_world.specs.Traffic.{sent_by, taken_by, sent, taken, all_marked, stamped, of_conn, waiting, transit, NothingLost}
 use Rattle.pm_world.specs.declared.request.TakeReport.{TakeReport}
 use Rattle.pm_world.specs.declared.step.Step.{Step}
 use Rattle.pm_world.specs.declared.step.Answer.{Answer}
 use Rattle.pm_world.specs.declared.step.Answer.TheVariants as answer
 use Rattle.pm_world.proofs.Lists.{stamped-append, of_conn-append, all_marked-append, stamped-one, of_conn-one}
-use Rattle.pm_world.proofs.Moves.{Stays, Enters, Rises, Leaves, Moves, rule_moves}
+use Rattle.pm_world.proofs.Moves.{Enters, Rises, Leaves, Moves, rule_moves}
 
 -- what is at a port and on the host's link decides what is on its way
 on_its_way : ℕ → ℕ → List Stamped → List Stamped → List (List ℕ)

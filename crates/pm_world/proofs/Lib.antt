@@ -15,3 +15,4 @@ pub mod ReadLaws
 pub mod Rows
 pub mod Comings
 pub mod Delivery
+pub mod Fanouts

@@ -1,13 +1,11 @@
 -- What a step does to the frames on their way, whatever else it does.
-use Rattle.std.proofs.Common.{◌≡◌, ◌≢◌, ℕ, ◌+◌, Bool, List, [], ◌∷◌, ◌++◌, Option, Some, None, refl, sym, ap, ◌∙◌, append_assoc, inl, inr}
-use Rattle.std.specs.Prelude.{slice_get, slice_set, Result, Ok, Err, MatchOption}
+use Rattle.std.proofs.Common.{◌≡◌, ◌≢◌, ℕ, Bool, List, [], ◌∷◌, ◌++◌, Option, Some, None, refl, sym, ap, ◌∙◌, append_assoc, inl, inr}
+use Rattle.std.specs.Prelude.{slice_get, slice_set, Ok, Err, MatchOption}
 use Rattle.pm_world.specs.declared.step.StepError.TheVariants as error
 use Rattle.std.proofs.lemmas.Bool.{cases_eq}
-use Rattle.std.proofs.lemmas.List.{append-nil}
-use Rattle.fis_view.specs.Frames.{Stamped, marked}
-use Rattle.disk_model.specs.declared.unit.Unit.{Unit}
-use Rattle.pm_world.specs.Places.{Places, Place, Queue, pushed, IsTold, frame_of, rising, with_device, with_holds, with_upward, with_host}
-use Rattle.pm_world.specs.Rules.{Outcome, CameActs, DiskSendActs, InjectActs, CameRule, DiskSendRule, InjectRule, PmFromDeviceRule, PmUpRule, HostTakeRule, SubmitRule, PollRule, PutRule, is_there, AtPort, OnDevice, Rule}
+use Rattle.fis_view.specs.Frames.{Stamped}
+use Rattle.pm_world.specs.Places.{Places, Place, Queue, Known, pushed, IsTold, frame_of, rising, with_device, with_holds, with_known, with_served, with_upward, with_host}
+use Rattle.pm_world.specs.Rules.{Outcome, CameActs, DiskSendActs, InjectActs, CameRule, DiskSendRule, InjectRule, PmPresenceRule, PmFromDeviceRule, PmUpRule, HostTakeRule, SubmitRule, PollRule, PutRule, is_there, AtPort, OnDevice, Rule}
 use Rattle.pm_world.specs.Traffic.{held, on_link, waiting}
 use Rattle.pm_world.specs.Host.{Host}
 use Rattle.pm_world.specs.declared.request.Request.{Request}
@@ -89,6 +87,7 @@ same_link : {old new : Place} → new ≡ old → new.up.frames ≡ old.up.frame
 same_link e = ap (λ (p : Place). p.up.frames) e
 
 came_moves : (n : ℕ) (old : Place) (a : Answer) (new : Place) → CameActs n old a new → PlaceMoves n old a new
+came_moves n old answer.Blocked new acts = same_link acts.1
 came_moves n old (answer.Came port conn) new acts = ap (λ (p : Place). p.up.frames) acts.3
 came_moves n old _ new acts = absurd acts
 
@@ -118,6 +117,12 @@ device_moves old n place (answer.Up port) after is moves = absurd moves
 device_moves old n place (answer.Took port conn number bytes report) after is moves = absurd moves
 device_moves old n place _ after is moves = record { upward = refl; waits = device_stays old n place after is moves }
 
+-- a recorded connection moves no frame
+presence_moves : (old : Places) (n : ℕ) (place after : Place) (known : List Known) → slice_get old.devices n ≡ Some place → (a : Answer) → PmPresenceRule n place old.known (Ok a) after known → Moves old a (with_known (with_device old n after) known)
+presence_moves old n place after known is answer.Idle acts = record { upward = refl; waits = device_stays old n place after is (same_link acts.1) }
+presence_moves old n place after known is (answer.Presence port) acts = record { upward = refl; waits = device_stays old n place after is (ap (λ (p : Place). p.up.frames) acts.1) }
+presence_moves old n place after known is _ acts = absurd acts
+
 module _ (old : Places) (n : ℕ) (place after : Place) (holds : List (Option Stamped)) (is : slice_get old.devices n ≡ Some place) where
   from_device_moves : (a : Answer) → PmFromDeviceRule n place old.holds (Ok a) after holds → Moves old a (with_holds (with_device old n after) holds)
   from_device_moves answer.Idle acts = rw acts.2 (record { upward = refl; waits = device_stays old n place after is (same_link acts.1) })
@@ -138,21 +143,21 @@ module _ (old : Places) (n : ℕ) (place after : Place) (holds : List (Option St
       rw acts.4.2 stays
   from_device_moves _ acts = absurd acts
 
-up_moves : (old : Places) (a : Answer) (holds : List (Option Stamped)) (upward : Queue) → PmUpRule old.holds old.upward (Ok a) holds upward → Moves old a (with_upward (with_holds old holds) upward)
-up_moves old answer.Idle holds upward acts = rw (acts.2, acts.3) (unmoved refl)
-up_moves old answer.Blocked holds upward acts = rw (acts.1, acts.2) (unmoved refl)
-up_moves old (answer.Up port) holds upward acts =
-    let frame = acts.1.0 in
-    let then = with_upward (with_holds old (slice_set old.holds port None)) (pushed old.upward (rising port frame)) in
+up_moves : (old : Places) (a : Answer) (holds : List (Option Stamped)) (last : ℕ) (upward : Queue) → PmUpRule old.known old.holds old.served old.upward (Ok a) holds last upward → Moves old a (with_upward (with_served (with_holds old holds) last) upward)
+up_moves old answer.Idle holds last upward acts = rw (acts.2, acts.3, acts.4) (unmoved refl)
+up_moves old answer.Blocked holds last upward acts = rw (acts.1, acts.2, acts.3) (unmoved refl)
+up_moves old (answer.Up port) holds last upward acts =
+    let frame = acts.3.0 in
+    let then = with_upward (with_served (with_holds old (slice_set old.holds port None)) last) (pushed old.upward (rising port frame)) in
     let rises : Rises port frame old then = record {
       upward = refl;
       here =
-          ap (λ o. held o ++ on_link (slice_get old.devices port)) acts.1.1
-          ∙ ap (λ o. frame ∷ (held o ++ on_link (slice_get old.devices port))) (sym (slice_get-set_same old.holds port (Some frame) None acts.1.1));
+          ap (λ o. held o ++ on_link (slice_get old.devices port)) acts.3.1
+          ∙ ap (λ o. frame ∷ (held o ++ on_link (slice_get old.devices port))) (sym (slice_get-set_same old.holds port (Some frame) None acts.3.1));
       elsewhere = λ m other. ap (λ o. held o ++ on_link (slice_get old.devices m)) (slice_get-set_other old.holds port m None other);
     } in
-    (frame, rw (acts.1.2, acts.1.3) rises)
-up_moves old _ holds upward acts = absurd acts
+    (frame, rw (acts.3.2, acts.3.3) rises)
+up_moves old _ holds last upward acts = absurd acts
 
 take_moves : (old : Places) (a : Answer) (upward : Queue) (host : Host) → HostTakeRule old.upward old.host (Ok a) upward host → Moves old a (with_host (with_upward old upward) host)
 take_moves old answer.Idle upward host acts = rw (acts.1, acts.2) (unmoved refl)
@@ -192,10 +197,13 @@ pub rule_moves : (old : Places) (s : Step) (a : Answer) (new : Places) → Rule 
 rule_moves old (step.Came n) a new rule = on_device old n a new (CameRule n) (λ place after r. came_moves n place a after r.1) rule
 rule_moves old (step.DiskSend n) a new rule = on_device old n a new (DiskSendRule n) (λ place after r. sends_moves n place a after r.1) rule
 rule_moves old (step.Inject n bytes) a new rule = on_device old n a new (InjectRule n bytes) (λ place after r. inject_moves n bytes place a after r.1) rule
+rule_moves old (step.PmPresence n) a new rule =
+    let p = there old n a new (λ place. (after : Place) × PmPresenceRule n place old.known (Ok a) after new.known × (new ≡ with_known (with_device old n after) new.known)) rule in
+    rw p.2.2 (presence_moves old n p.0 p.2.0 new.known p.1 a p.2.1)
 rule_moves old (step.PmFromDevice n) a new rule =
     let p = there old n a new (λ place. (after : Place) × PmFromDeviceRule n place old.holds (Ok a) after new.holds × (new ≡ with_holds (with_device old n after) new.holds)) rule in
     rw p.2.2 (from_device_moves old n p.0 p.2.0 new.holds p.1 a p.2.1)
-rule_moves old step.PmUp a new rule = rw rule.1 (up_moves old a new.holds new.upward rule.0)
+rule_moves old step.PmUp a new rule = rw rule.1 (up_moves old a new.holds new.served new.upward rule.0)
 rule_moves old step.HostTake a new rule = rw rule.1 (take_moves old a new.upward new.host rule.0)
 rule_moves old (step.Submit dev request) a new rule = rw rule.1 (submit_moves old (is_there old dev) request a new.host rule.0)
 rule_moves old step.Poll a new rule = rw rule.1 (poll_moves old a new.host rule.0)

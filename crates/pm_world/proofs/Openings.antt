@@ -1,10 +1,9 @@
 -- In a new world nothing is on its way.
-use Rattle.std.proofs.Common.{◌≡◌, ℕ, zero, suc, List, [], ◌∷◌, Option, Some, None, refl, map, replicate}
-use Rattle.std.specs.Prelude.{slice_get, length}
-use Rattle.fis_view.specs.Frames.{Stamped}
+use Rattle.std.proofs.Common.{◌≡◌, ℕ, zero, suc, List, [], ◌∷◌, refl, map}
+use Rattle.std.specs.Prelude.{slice_get}
 use Rattle.disk_model.specs.declared.unit.Unit.{Unit}
 use Rattle.pm_world.specs.declared.step.Config.{Config}
-use Rattle.pm_world.specs.Places.{Places, Place, opening, empty_hold, new_world}
+use Rattle.pm_world.specs.Places.{opening, empty_hold, new_world}
 use Rattle.pm_world.specs.Traffic.{held, on_link, waiting, transit}
 
 on_opening : (capacity : ℕ) (units : List Unit) (n : ℕ) → on_link (slice_get (map (opening capacity) units) n) ≡ []

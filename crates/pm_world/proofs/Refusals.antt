@@ -1,13 +1,12 @@
 -- A refusal changes nothing.
 use Rattle.std.proofs.Common.{◌≡◌, ℕ, Bool, List, Option, Some, None, refl, ap, ◌∙◌}
-use Rattle.std.specs.Prelude.{slice_get, slice_set, Result, Ok, Err, MatchOption, OnErr}
-use Rattle.pm_world.specs.Places.{Places, Place, with_device, with_holds, with_host}
+use Rattle.std.specs.Prelude.{slice_get, Ok, Err, MatchOption, OnErr}
+use Rattle.pm_world.specs.Places.{Places, Place, with_device, with_holds, with_known, with_host}
 use Rattle.pm_world.specs.Rules.{Outcome, CameRule, DiskSendRule, InjectRule, AtPort, OnDevice, SubmitRule, is_there, Rule}
 use Rattle.pm_world.specs.Host.{Host}
 use Rattle.pm_world.specs.declared.request.Request.{Request}
 use Rattle.pm_world.specs.declared.step.Step.{Step}
 use Rattle.pm_world.specs.declared.step.Step.TheVariants as step
-use Rattle.pm_world.specs.declared.step.Answer.{Answer}
 use Rattle.pm_world.specs.declared.step.StepError.{StepError}
 use Rattle.pm_world.specs.declared.step.StepError.TheVariants as error
 use Rattle.pm_world.proofs.Lists.{slice_set-same}
@@ -19,21 +18,26 @@ on_device_same old n e new R same h = by_cases (slice_get old.devices n) refl h
     by_cases None is h = h.1
     by_cases (Some place) is h =
         h.2 ∙ ap (with_device old n) (same place h.0 h.1)
-        ∙ ap (λ (ds : List Place). record { devices = ds; holds = old.holds; upward = old.upward; host = old.host }) (slice_set-same old.devices n place is)
+        ∙ ap (λ (ds : List Place). let w : Places = record old { devices = ds } in w) (slice_set-same old.devices n place is)
+
+-- a step at a port that is refused where there is no such port, and nowhere else
+at_port_same : (old : Places) (n : ℕ) (e : StepError) (new : Places) (Leaves : Place → Place → Type 0) → AtPort old n (Err e) new (λ place. (after : Place) × ⊥ × Leaves place after) → new ≡ old
+at_port_same old n e new Leaves h = by_cases (slice_get old.devices n) h
+  where
+    by_cases : (o : Option Place) → MatchOption o ((◌≡◌ {A = Outcome} (Err e) (Err error.NoSuchPort)) × (new ≡ old)) (λ place. (after : Place) × ⊥ × Leaves place after) → new ≡ old
+    by_cases None h = h.1
+    by_cases (Some place) h = absurd h.1
 
 submit_same : (there : Bool) (request : Request) (e : StepError) (host after : Host) → SubmitRule there request host (Err e) after → after ≡ host
 submit_same there request error.OutOfMemory host after r = r.1
 submit_same there request _ host after r = absurd r
 
 pub refused : (old : Places) (s : Step) (e : StepError) (new : Places) → Rule old s (Err e) new → new ≡ old
-refused old (step.Came n) e new rule = on_device_same old n e new (CameRule n) (λ place after r. r.1) rule
+refused old (step.Came n) e new rule = on_device_same old n e new (CameRule n) (λ place after r. r.2) rule
 refused old (step.DiskSend n) e new rule = on_device_same old n e new (DiskSendRule n) (λ place after r. r.2) rule
 refused old (step.Inject n bytes) e new rule = on_device_same old n e new (InjectRule n bytes) (λ place after r. r.2) rule
-refused old (step.PmFromDevice n) e new rule = by_cases (slice_get old.devices n) rule
-  where
-    by_cases : (o : Option Place) → MatchOption o ((◌≡◌ {A = Outcome} (Err e) (Err error.NoSuchPort)) × (new ≡ old)) (λ place. (after : Place) × ⊥ × (new ≡ with_holds (with_device old n after) new.holds)) → new ≡ old
-    by_cases None h = h.1
-    by_cases (Some place) h = absurd h.1
+refused old (step.PmPresence n) e new rule = at_port_same old n e new (λ place after. new ≡ with_known (with_device old n after) new.known) rule
+refused old (step.PmFromDevice n) e new rule = at_port_same old n e new (λ place after. new ≡ with_holds (with_device old n after) new.holds) rule
 refused old step.PmUp e new rule = absurd rule.0
 refused old step.HostTake e new rule = absurd rule.0
 refused old (step.Submit dev request) e new rule = rule.1 ∙ ap (with_host old) (submit_same (is_there old dev) request e old.host new.host rule.0)

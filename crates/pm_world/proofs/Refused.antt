@@ -1,10 +1,10 @@
 -- The first refusal of a step is never want of memory, and it is the one that the step gives.
-use Rattle.std.proofs.Common.{◌≡◌, ℕ, ◌+◌, List, Bool, true, false, Option, Some, None, refl, sym, subst, ◌∙◌}
-use Rattle.std.specs.Prelude.{slice_get, Result, Ok, Err, MatchOption, unwrap_or, if◌then◌else◌, not, ◌==◌, ◌||◌, nat_lt, length}
+use Rattle.std.proofs.Common.{◌≡◌, ℕ, ◌+◌, List, Bool, true, false, Option, Some, None, refl, sym, subst}
+use Rattle.std.specs.Prelude.{slice_get, Ok, Err, MatchOption, unwrap_or, if◌then◌else◌, not, ◌==◌, ◌||◌, nat_lt, length}
 use Rattle.std.specs.Option.{option_map_or}
 use Rattle.std.proofs.lemmas.Option.{same_Some}
 use Rattle.fis_view.specs.Frames.{is_frame}
-use Rattle.pm_world.specs.Places.{Places, Place, with_device, with_holds}
+use Rattle.pm_world.specs.Places.{Places, Place, with_device, with_holds, with_known}
 use Rattle.pm_world.specs.Rules.{Outcome, Refuses, came_refusal, send_refusal, inject_refusal, no_refusal, port_refusal, refusal, CameRule, DiskSendRule, InjectRule, OnDevice, AtPort, SubmitRule, is_there, Rule, largest}
 use Rattle.host_memory.specs.Memory.{client_start}
 use Rattle.pm_world.specs.Host.{Host, end_of}
@@ -82,6 +82,7 @@ pub refusal_named : (now : Places) (s : Step) → IsNamed (refusal now s)
 refusal_named now (step.Came n) = port_named (slice_get now.devices n) came_refusal came_named
 refusal_named now (step.DiskSend n) = port_named (slice_get now.devices n) send_refusal send_named
 refusal_named now (step.Inject n bytes) = port_named (slice_get now.devices n) (inject_refusal bytes) (inject_named bytes)
+refusal_named now (step.PmPresence n) = port_named (slice_get now.devices n) no_refusal (λ place. tt)
 refusal_named now (step.PmFromDevice n) = port_named (slice_get now.devices n) no_refusal (λ place. tt)
 refusal_named now step.PmUp = tt
 refusal_named now step.HostTake = tt
@@ -105,20 +106,25 @@ submit_wants : (there : Bool) (request : Request) (e : StepError) (host after : 
 submit_wants there request error.OutOfMemory host after r = refl
 submit_wants there request _ host after r = absurd r
 
--- the error that a step gives is its first refusal, or want of memory where none applies
-pub rule_refuses : (old : Places) (s : Step) (e : StepError) (new : Places) → Rule old s (Err e) new → Refuses (refusal old s) e
-rule_refuses old (step.Came n) e new rule = on_device_refuses old n e new (CameRule n) came_refusal (λ place after r. r.0) rule
-rule_refuses old (step.DiskSend n) e new rule = on_device_refuses old n e new (DiskSendRule n) send_refusal (λ place after r. r.0) rule
-rule_refuses old (step.Inject n bytes) e new rule = on_device_refuses old n e new (InjectRule n bytes) (inject_refusal bytes) (λ place after r. r.0) rule
-rule_refuses old (step.PmFromDevice n) e new rule = by_cases (slice_get old.devices n) rule
+-- a step at a port that is refused where there is no such port, and nowhere else
+at_port_refuses : (old : Places) (n : ℕ) (e : StepError) (new : Places) (Leaves : Place → Place → Type 0) → AtPort old n (Err e) new (λ place. (after : Place) × ⊥ × Leaves place after) → Refuses (port_refusal old n no_refusal) e
+at_port_refuses old n e new Leaves h = by_cases (slice_get old.devices n) h
   where
     at : StepError → Outcome → Type 0
     at v (Err w) = Refuses (Some v) w
     at v (Ok a) = Unit {0}
 
-    by_cases : (o : Option Place) → MatchOption o ((◌≡◌ {A = Outcome} (Err e) (Err error.NoSuchPort)) × (new ≡ old)) (λ place. (after : Place) × ⊥ × (new ≡ with_holds (with_device old n after) new.holds)) → Refuses (option_map_or no_refusal o (Some error.NoSuchPort)) e
+    by_cases : (o : Option Place) → MatchOption o ((◌≡◌ {A = Outcome} (Err e) (Err error.NoSuchPort)) × (new ≡ old)) (λ place. (after : Place) × ⊥ × Leaves place after) → Refuses (option_map_or no_refusal o (Some error.NoSuchPort)) e
     by_cases None h = subst (λ (w : Outcome). at error.NoSuchPort w) (sym h.0) refl
     by_cases (Some place) h = absurd h.1
+
+-- the error that a step gives is its first refusal, or want of memory where none applies
+pub rule_refuses : (old : Places) (s : Step) (e : StepError) (new : Places) → Rule old s (Err e) new → Refuses (refusal old s) e
+rule_refuses old (step.Came n) e new rule = on_device_refuses old n e new (CameRule n) came_refusal (λ place after r. r.0) rule
+rule_refuses old (step.DiskSend n) e new rule = on_device_refuses old n e new (DiskSendRule n) send_refusal (λ place after r. r.0) rule
+rule_refuses old (step.Inject n bytes) e new rule = on_device_refuses old n e new (InjectRule n bytes) (inject_refusal bytes) (λ place after r. r.0) rule
+rule_refuses old (step.PmPresence n) e new rule = at_port_refuses old n e new (λ place after. new ≡ with_known (with_device old n after) new.known) rule
+rule_refuses old (step.PmFromDevice n) e new rule = at_port_refuses old n e new (λ place after. new ≡ with_holds (with_device old n after) new.holds) rule
 rule_refuses old step.PmUp e new rule = absurd rule.0
 rule_refuses old step.HostTake e new rule = absurd rule.0
 rule_refuses old (step.Submit dev request) e new rule = submit_wants (is_there old dev) request e old.host new.host rule.0

@@ -1,9 +1,9 @@
 -- What the host's part of a world does, and what its reads come to over a whole run.
-use Rattle.std.specs.Prelude.{ℕ, ◌+◌, ◌-◌, ◌*◌, ◌%◌, ◌≡◌, ◌≤◌, ◌<◌, ◌==◌, ◌&&◌, ◌||◌, nat_lt, nat_le, Bool, true, false, if◌then◌else◌, List, [], ◌∷◌, ◌++◌, length, slice_index, Option, Some, None, AllPairs}
+use Rattle.std.specs.Prelude.{ℕ, ◌+◌, ◌-◌, ◌*◌, ◌%◌, ◌≡◌, ◌<◌, ◌==◌, ◌&&◌, ◌||◌, nat_lt, Bool, true, false, if◌then◌else◌, List, [], ◌∷◌, ◌++◌, length, slice_index, Option, Some, None, AllPairs}
 use Rattle.std.specs.List.{list_any}
 use Rattle.fis_view.specs.Frames.{IsFrame}
 use Rattle.host_memory.specs.declared.table.Prd.{Prd}
-use Rattle.host_memory.specs.Memory.{Memory, client_start, overwritten}
+use Rattle.host_memory.specs.Memory.{client_start, overwritten}
 use Rattle.host_memory.specs.Place.{place, LiesInClient}
 use Rattle.pm_world.specs.Events.{Command, QueuedRead, Event, Issued, SetUp, Carried, Named, Told, SetupFis, DataFis, BitsFis, OtherFis, told, History, has_bit, match_some}
 use Rattle.pm_world.specs.History.{issued, filled, completes, fits_setup, fits_data}

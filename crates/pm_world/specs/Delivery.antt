@@ -1,5 +1,5 @@
 -- The reads of a whole run: what the world's steps come to for the host's part.
-use Rattle.std.specs.Prelude.{ℕ, List, [], ◌∷◌, ◌++◌}
+use Rattle.std.specs.Prelude.{List, [], ◌∷◌, ◌++◌}
 use Rattle.host_memory.specs.Memory.{zeroed}
 use Rattle.disk_model.specs.declared.unit.Unit.{Unit}
 use Rattle.pm_world.specs.Deeds.{Deed, Submitted, Polled, Put, Took, Delivers}

@@ -1,7 +1,7 @@
 -- What is issued, what is filled and what completes, read off a device's history.
-use Rattle.std.specs.Prelude.{ℕ, ◌+◌, ◌*◌, ◌%◌, ◌≤◌, ◌==◌, ◌&&◌, nat_le, not, Bool, false, if◌then◌else◌, List, [], ◌∷◌, length, Option, Some, None, is_some}
+use Rattle.std.specs.Prelude.{ℕ, ◌+◌, ◌%◌, ◌≤◌, ◌==◌, ◌&&◌, nat_le, not, Bool, false, if◌then◌else◌, [], ◌∷◌, length, Option, Some, None, is_some}
 use Rattle.std.specs.List.{range_with_len, list_all, list_any}
-use Rattle.pm_world.specs.Events.{Kind, Command, Event, Issued, SetUp, Carried, Named, History, Setup, has_bit, match_some, unless, none_filled, filled_from}
+use Rattle.pm_world.specs.Events.{Command, Event, Issued, SetUp, Carried, Named, History, Setup, has_bit, match_some, unless, none_filled, filled_from}
 
 -- whether the last setup since the issue of s is for s
 abbrev pub is_set_up : ℕ → History → Bool

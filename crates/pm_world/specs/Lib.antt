@@ -1,4 +1,5 @@
 pub mod Places
+pub mod Fanout
 pub mod Rules
 pub mod Traffic
 pub mod Events

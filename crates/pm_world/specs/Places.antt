@@ -1,6 +1,7 @@
 -- Where frames stand in a world, as its callers see it.
 use Rattle.std.specs.Prelude.{ℕ, ◌+◌, ◌≡◌, ◌%◌, ◌==◌, ◌&&◌, nat_le, Bool, false, List, [], ◌∷◌, ◌++◌, length, map, Option, None, slice_set, replicate}
 use Rattle.fis_view.specs.Frames.{Stamped, marked}
+use Rattle.multiplier.specs.Arbiter.{control_port}
 use Rattle.disk_model.specs.declared.unit.Unit.{Unit}
 use Rattle.host_memory.specs.Memory.{zeroed}
 use Rattle.pm_world.specs.Host.{Host}
@@ -18,19 +19,43 @@ IsFull link = link.capacity ≡ length link.frames
 abbrev pub pushed : Queue → Stamped → Queue
 pushed link frame = record { frames = link.frames ++ frame ∷ []; capacity = link.capacity }
 
+-- a presence link: the connections that came and are not recorded yet, oldest first, and how many it can hold
+pub record Comings : Type 0 where
+  pub conns : List ℕ
+  pub capacity : ℕ
+
+abbrev pub AreFull : Comings → Type 0
+AreFull link = link.capacity ≡ length link.conns
+
+abbrev pub posted : Comings → ℕ → Comings
+posted link conn = record { conns = link.conns ++ conn ∷ []; capacity = link.capacity }
+
 -- The place of a device: the unit, whether it is plugged in, its connection (0 before the first), the
--- number of its next FIS on it, and its link to the multiplier.
+-- number of its next FIS on it, its link to the multiplier, and its presence link.
 pub record Place : Type 0 where
   pub unit : Unit
   pub plugged : Bool
   pub conn : ℕ
   pub number : ℕ
   pub up : Queue
+  pub presence : Comings
 
--- a world: the place at each fan-out port, what each port of the multiplier holds, the link to the host, and the host
+-- what a port of the multiplier knows of its device: the connection that is present, and the highest that came, 0 for none
+pub record Known : Type 0 where
+  pub present : Option ℕ
+  pub last : ℕ
+
+-- of a port to which no device came
+abbrev pub nobody : Known
+nobody = record { present = None; last = 0 }
+
+-- a world: the place at each fan-out port, what each port of the multiplier holds and what it knows, the place that
+-- was served last, the link to the host, and the host
 pub record Places : Type 0 where
   pub devices : List Place
   pub holds : List (Option Stamped)
+  pub known : List Known
+  pub served : ℕ
   pub upward : Queue
   pub host : Host
 
@@ -57,6 +82,7 @@ after_sending port place bytes unit = record {
   conn = place.conn;
   number = place.number + 1;
   up = pushed place.up (frame_of port place bytes);
+  presence = place.presence;
 }
 
 -- the frame as it goes on to the host: its PM Port is the port's, and so is the port of its stamp
@@ -67,30 +93,49 @@ rising port frame = record {
 }
 
 abbrev pub with_device : Places → ℕ → Place → Places
-with_device old n place = record { devices = slice_set old.devices n place; holds = old.holds; upward = old.upward; host = old.host }
+with_device old n place = record old { devices = slice_set old.devices n place }
 
 abbrev pub with_holds : Places → List (Option Stamped) → Places
-with_holds old holds = record { devices = old.devices; holds = holds; upward = old.upward; host = old.host }
+with_holds old holds = record old { holds = holds }
+
+abbrev pub with_known : Places → List Known → Places
+with_known old known = record old { known = known }
+
+abbrev pub with_served : Places → ℕ → Places
+with_served old served = record old { served = served }
 
 abbrev pub with_upward : Places → Queue → Places
-with_upward old upward = record { devices = old.devices; holds = old.holds; upward = upward; host = old.host }
+with_upward old upward = record old { upward = upward }
 
 abbrev pub with_host : Places → Host → Places
-with_host old host = record { devices = old.devices; holds = old.holds; upward = old.upward; host = host }
+with_host old host = record old { host = host }
 
 -- the place of a unit in a new world
 abbrev pub opening : ℕ → Unit → Place
-opening capacity unit = record { unit = unit; plugged = false; conn = 0; number = 0; up = record { frames = []; capacity = capacity } }
+opening capacity unit = record {
+  unit = unit;
+  plugged = false;
+  conn = 0;
+  number = 0;
+  up = record { frames = []; capacity = capacity };
+  presence = record { conns = []; capacity = capacity };
+}
 
 -- the hold of a unit's port in a new world
 abbrev pub empty_hold : Unit → Option Stamped
 empty_hold unit = None
 
--- a new world of these units
+-- and what it knows
+abbrev pub knows_nobody : Unit → Known
+knows_nobody unit = nobody
+
+-- a new world of these units, in which port 0 is served first
 abbrev pub new_world : Config → List Unit → Places
 new_world config units = record {
   devices = map (opening config.capacity) units;
   holds = map empty_hold units;
+  known = map knows_nobody units;
+  served = control_port;
   upward = record { frames = []; capacity = config.capacity };
   host = record { memory = zeroed config.memory; given = 0; slot = Free };
 }

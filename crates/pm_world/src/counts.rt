@@ -72,7 +72,8 @@ impl Counts {
             Answer::Came { port, conn } => self.came(*port, *conn)?,
             Answer::Sent { port, conn, .. } => self.sent(*port, *conn),
             Answer::Took { port, conn, .. } => self.took(*port, *conn),
-            Answer::Idle | Answer::Blocked | Answer::Offered { .. } | Answer::Up(_) => {}
+            Answer::Idle | Answer::Blocked => {}
+            Answer::Presence(_) | Answer::Offered { .. } | Answer::Up(_) => {}
             Answer::Submitted(_) | Answer::Refused(_) | Answer::Polled(_) | Answer::Put => {}
         }
         Ok(())

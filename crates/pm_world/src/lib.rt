@@ -6,9 +6,9 @@
 #![tactic(auto)]
 
 mod counts;
+mod fanout;
 mod host;
 mod link;
-mod multiplier;
 mod request;
 mod seat;
 mod step;

@@ -1,16 +1,17 @@
 ghost use Rattle.std.specs.Prelude.{◌≡◌, ◌↔◌, ◌≤◌, ◌∷◌, [], IsTrue, IfOk, MatchOption, false, length, vec_capacity};
 ghost use Rattle.fis_view.specs.Frames.{IsFrame};
-ghost use Rattle.pm_world.specs.Places.{nothing_shown};
+ghost use Rattle.pm_world.specs.Places.{nothing_shown, opening};
 ghost use Rattle.pm_world.specs.Rules.{CameRule, DiskSendRule, InjectRule, no_refusal, came_refusal, send_refusal, inject_refusal};
 
-use crate::link::Link;
+use crate::link::{Link, PresenceLink};
 use crate::step::{Answer, StepError};
 use disk_model::{Device, Unit};
 use fis_view::{Bytes, Frame, FrameError, Stamp, is_frame_length};
 use std::alloc::{AllocError, Global};
 use std::marker::Model;
 
-/// The place of a device: the unit, its connection and its link to the multiplier.
+/// The place of a device: the unit, its connection, its link to the multiplier, and the presence link, on which
+/// connections that came wait to be recorded.
 #[derive(Drop)]
 pub struct Seat {
     unit: Unit,
@@ -18,6 +19,7 @@ pub struct Seat {
     conn: u32,
     number: u32,
     up: Link,
+    presence: PresenceLink,
 }
 
 impl Model for Seat {
@@ -25,20 +27,22 @@ impl Model for Seat {
 
     ghost Value = { Place };
 
-    ghost view = { λ s. record { unit = s.unit; plugged = s.plugged; conn = s.conn; number = s.number; up = s.up } };
+    ghost view = { λ s. record { unit = s.unit; plugged = s.plugged; conn = s.conn; number = s.number; up = s.up; presence = s.presence } };
 }
 
 impl Seat {
-    pub fn new(unit: Unit, up: Link) -> Self
-        ensures { result ≡ record { unit = unit; plugged = false; conn = 0; number = 0; up = up } }
+    /// The place of a unit that is not plugged in, with links of this capacity.
+    pub fn new(alloc: Global, capacity: usize, unit: Unit) -> Result<Self, AllocError>
+        ensures { IfOk result (λ seat. seat ≡ opening capacity unit) }
     {
-        Seat {
+        Ok(Seat {
             unit,
             plugged: false,
             conn: 0,
             number: 0,
-            up,
-        }
+            up: Link::new(alloc, capacity)?,
+            presence: PresenceLink::new(alloc, capacity)?,
+        })
     }
 
     pub fn is_plugged(&self) -> bool
@@ -88,10 +92,14 @@ impl Seat {
         if let Some(e) = self.came_refusal() {
             return Err(e);
         }
+        if self.presence.is_full() {
+            return Ok(Answer::Blocked);
+        }
         self.unit.plugged(alloc)?;
         self.plugged = true;
         self.conn += 1;
         self.number = 0;
+        self.presence.post(self.conn);
         Ok(Answer::Came {
             port,
             conn: self.conn,
@@ -152,6 +160,15 @@ impl Seat {
             number: stamp.number,
             bytes: sent,
         })
+    }
+
+    /// Takes the first connection off the presence link.
+    pub fn next_coming(&mut self) -> Option<u32>
+        ensures taken { MatchOption result (self.old.presence.conns ≡ []) (λ conn. self.old.presence.conns ≡ conn ∷ self.new.presence.conns) }
+        ensures same { MatchOption result (self.new ≡ self.old) (λ _. self.new.presence.capacity ≡ self.old.presence.capacity) }
+        ensures others { self.new ≡ record self.old { presence = record self.old.presence { conns = self.new.presence.conns } } }
+    {
+        self.presence.take()
     }
 
     /// Takes the first frame off the link.

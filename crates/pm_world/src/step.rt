@@ -30,6 +30,8 @@ pub enum Step {
     DiskSend(u8),
     /// This frame is sent as the device at this port.
     Inject(u8, Bytes),
+    /// The multiplier's port records the first connection on its device's presence link.
+    PmPresence(u8),
     /// The multiplier's port takes the first frame of its device's link into its hold.
     PmFromDevice(u8),
     /// The multiplier puts a held frame on the link to the host.
@@ -61,6 +63,8 @@ pub enum Answer {
         number: u32,
         bytes: Bytes,
     },
+    /// The port that recorded a connection.
+    Presence(u8),
     Offered {
         port: u8,
         /// Whether the frame's connection was gone.

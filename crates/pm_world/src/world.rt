@@ -1,15 +1,15 @@
 ghost use Rattle.std.specs.Prelude.{◌≡◌, ◌≢◌, ◌↔◌, ◌<◌, ℕ, true, false, [], map, IfOk, IfErr, OnOk, OnErr, IsErrOf, Result, Ok, Err, MatchResult, List, length, IsSomeAnd, slice_get, take};
 ghost use Rattle.pm_world.specs.Places.{Places, opening, new_world, is_config};
-ghost use Rattle.pm_world.specs.Rules.{PmFromDeviceRule, Rule, Run, Stops, refusal, is_there};
+ghost use Rattle.pm_world.specs.Rules.{PmFromDeviceRule, PmPresenceRule, Rule, Run, Stops, refusal, is_there};
 ghost use Rattle.host_memory.specs.Memory.{is_memory_size, zeroed};
 ghost use Rattle.pm_world.specs.Traffic.{transit, NothingLost};
 ghost use Rattle.pm_world.specs.Delivery.{DeliversReads};
 ghost use Rattle.pm_world.specs.declared.step.Step.TheVariants as step;
 ghost use Rattle.pm_world.specs.declared.step.Answer.{Answer};
 
+use crate::fanout::Fanout;
 use crate::host::Host;
 use crate::link::Link;
-use crate::multiplier::Multiplier;
 use crate::request::{Request, TakeReport};
 use crate::seat::Seat;
 use crate::step::{Answer, Config, Step, StepError, WorldError};
@@ -23,7 +23,7 @@ use std::marker::Model;
 #[derive(Drop)]
 pub struct World {
     seats: Vec<Seat>,
-    multiplier: Multiplier,
+    fanout: Fanout,
     upward: Link,
     host: Host,
 }
@@ -34,9 +34,9 @@ impl Model for World {
 
     ghost Value = { Places };
 
-    ghost view = { λ w. record { devices = w.seats.items; holds = w.multiplier; upward = w.upward; host = w.host } };
+    ghost view = { λ w. record { devices = w.seats.items; holds = w.fanout.holds; known = w.fanout.known; served = w.fanout.served; upward = w.upward; host = w.host } };
 
-    ghost invariant = { λ w. length w.multiplier ≡ length w.seats.items };
+    ghost invariant = { λ w. (length w.fanout.holds ≡ length w.seats.items) × (length w.fanout.known ≡ length w.seats.items) };
 }
 
 impl World {
@@ -51,11 +51,11 @@ impl World {
         }
         let memory = memory_of(alloc, config.memory)?;
         let upward = Link::new(alloc, config.capacity)?;
-        let multiplier = Multiplier::new(alloc, &units)?;
+        let fanout = Fanout::new(alloc, &units)?;
         let seats = seats_of(alloc, config.capacity, units)?;
         Ok(World {
             seats,
-            multiplier,
+            fanout,
             upward,
             host: Host::new(memory),
         })
@@ -76,6 +76,7 @@ impl World {
             Step::Came(n) => self.came(alloc, *n),
             Step::DiskSend(n) => self.disk_send(alloc, *n),
             Step::Inject(n, bytes) => self.inject(alloc, *n, bytes),
+            Step::PmPresence(n) => self.pm_presence(*n),
             Step::PmFromDevice(n) => self.pm_from_device(*n),
             Step::PmUp => Ok(self.pm_up()),
             Step::HostTake => Ok(self.host_take()),
@@ -125,7 +126,7 @@ impl World {
                 None => Some(StepError::NoSuchPort),
                 Some(seat) => seat.inject_refusal(bytes.as_slice()),
             },
-            Step::PmFromDevice(n) => match self.seats.get(*n as usize) {
+            Step::PmPresence(n) | Step::PmFromDevice(n) => match self.seats.get(*n as usize) {
                 None => Some(StepError::NoSuchPort),
                 Some(_) => None,
             },
@@ -167,6 +168,17 @@ impl World {
         seat.inject(alloc, n, bytes.as_slice())
     }
 
+    fn pm_presence(&mut self, n: u8) -> Result<Answer, StepError>
+        ensures { Rule self.old (step.PmPresence n) result self.new }
+    {
+        let i = n as usize;
+        if i >= self.seats.len() {
+            return Err(StepError::NoSuchPort);
+        }
+        let seat = &mut self.seats[i];
+        Ok(record(n, seat, &mut self.fanout))
+    }
+
     fn pm_from_device(&mut self, n: u8) -> Result<Answer, StepError>
         ensures { Rule self.old (step.PmFromDevice n) result self.new }
     {
@@ -175,7 +187,7 @@ impl World {
             return Err(StepError::NoSuchPort);
         }
         let seat = &mut self.seats[i];
-        Ok(pass_up(n, seat, &mut self.multiplier))
+        Ok(pass_up(n, seat, &mut self.fanout))
     }
 
     fn pm_up(&mut self) -> Answer
@@ -184,7 +196,7 @@ impl World {
         if self.upward.is_full() {
             return Answer::Blocked;
         }
-        match self.multiplier.next_up() {
+        match self.fanout.next_up() {
             None => Answer::Idle,
             Some((port, frame)) => {
                 self.upward.push(frame);
@@ -283,27 +295,42 @@ fn seats_of(alloc: Global, capacity: usize, mut units: Vec<Unit>) -> Result<Vec<
     let mut seats = Vec::with_capacity(alloc, units.len())?;
     'left: while !units.is_empty() {
         let unit = units.remove(0);
-        let up = Link::new(alloc, capacity)?;
-        seats.push(Seat::new(unit, up))?;
+        seats.push(Seat::new(alloc, capacity, unit)?)?;
     }
     Ok(seats)
 }
 
+/// Has port n record the first connection on its presence link.
+fn record(n: u8, seat: &mut Seat, fanout: &mut Fanout) -> Answer
+    requires { n < length fanout.old.known }
+    ensures rule { PmPresenceRule n seat.old fanout.old.known (Ok result) seat.new fanout.new.known }
+    ensures others { fanout.new ≡ record fanout.old { known = fanout.new.known } }
+{
+    match seat.next_coming() {
+        None => Answer::Idle,
+        Some(conn) => {
+            fanout.came(n, conn);
+            Answer::Presence(n)
+        }
+    }
+}
+
 /// Moves the first frame of a device's link into the hold of port n.
-fn pass_up(n: u8, seat: &mut Seat, multiplier: &mut Multiplier) -> Answer
-    requires { n < length multiplier.old }
-    ensures { PmFromDeviceRule n seat.old multiplier.old (Ok result) seat.new multiplier.new }
+fn pass_up(n: u8, seat: &mut Seat, fanout: &mut Fanout) -> Answer
+    requires { n < length fanout.old.holds }
+    ensures rule { PmFromDeviceRule n seat.old fanout.old.holds (Ok result) seat.new fanout.new.holds }
+    ensures others { fanout.new ≡ record fanout.old { holds = fanout.new.holds } }
 {
     if seat.is_empty() {
         return Answer::Idle;
     }
-    if multiplier.holds(n) {
+    if fanout.holds(n) {
         return Answer::Blocked;
     }
     match seat.take() {
         None => Answer::Idle,
         Some(frame) => {
-            multiplier.hold(n, frame);
+            fanout.hold(n, frame);
             Answer::Offered {
                 port: n,
                 dropped: false,

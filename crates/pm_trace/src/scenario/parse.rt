@@ -126,6 +126,7 @@ fn step(words: &mut Words<'_>) -> Result<Step, Failure> {
     };
     match name {
         b"disksend" => Ok(Step::DiskSend(words.port()?)),
+        b"pmpresence" => Ok(Step::PmPresence(words.port()?)),
         b"pmfromdevice" => Ok(Step::PmFromDevice(words.port()?)),
         b"pmup" => Ok(Step::PmUp),
         b"hosttake" => Ok(Step::HostTake),

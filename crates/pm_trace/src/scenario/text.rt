@@ -13,7 +13,7 @@ pub enum Reply {
     Came { port: u8, conn: u32 },
     Sent(FrameText),
     Took(FrameText),
-    /// A step moved a frame.
+    /// A step moved a frame, or recorded a connection.
     Moved,
     /// A step found nothing to move.
     Nothing,
@@ -63,7 +63,7 @@ impl Reply {
                 number: *number,
                 digits: hex::encode(alloc, bytes.as_slice())?,
             }),
-            Answer::Offered { .. } | Answer::Up(_) => Reply::Moved,
+            Answer::Presence(_) | Answer::Offered { .. } | Answer::Up(_) => Reply::Moved,
             Answer::Took {
                 port,
                 conn,

@@ -7,6 +7,7 @@ use std::test::Fail;
 fn one_frame_goes_up(rt: HostRuntime) {
     let input = "ports 2 capacity 1 memory 2
 came 1
+step pmpresence 1
 inject 1 a100500001000000
 step pmup
 step pmfromdevice 1
@@ -15,6 +16,7 @@ step hosttake
 counts";
     let output = "ports 2 capacity 1 memory 2
 came 1 conn 1
+moved
 sent 1 1 0 a100500001000000
 nothing
 moved
@@ -166,7 +168,9 @@ fn data(alloc: Global) -> Result<String, AllocError> {
 /// What a scenario prints in which one sector is read, these lines put the device's FISes on its link, and
 /// each goes up to the host.
 fn read_with(alloc: Global, frames: &[&str]) -> Result<Vec<u8>, AllocError> {
-    let mut input = "came 0\nread 0 256 1 101000:300 102000:212\n".to_string(alloc)?;
+    let mut input = "came 0\nstep pmpresence 0\nread 0 256 1 101000:300 102000:212\n".to_string(
+        alloc,
+    )?;
     for frame in frames {
         input.push_str(frame)?;
         input.push_str("\nstep pmfromdevice 0\nstep pmup\nstep hosttake\n")?;
@@ -188,7 +192,7 @@ fn a_read_lands_in_its_places(rt: HostRuntime) -> Result<(), Fail> {
         b"\nticket 1 slot 0 done\nput\n10112a 2a2b7700\n102000 2c2d\n1020d2 feff00\n200000 \n";
     assert!(rt; whole.ends_with(end.as_slice()));
     let begin =
-        b"ports 1 capacity 4 memory 2\ncame 0 conn 1\nsubmitted 1\nsent 0 1 0 4120000000000000";
+        b"ports 1 capacity 4 memory 2\ncame 0 conn 1\nmoved\nsubmitted 1\nsent 0 1 0 4120000000000000";
     assert!(rt; whole.starts_with(begin.as_slice()));
     let missing = read_with(alloc, &[SETUP, DONE, data.as_str()])?;
     let end = b"\nnothing\nput\n10112a 2a2b7700\n102000 2c2d\n1020d2 feff00\n200000 \n";

@@ -1,9 +1,8 @@
-use Rattle.std.proofs.Common.{◌≡◌, ℕ, ◌+◌, ◌<◌, ◌++◌, List, [], ◌∷◌, Some, None, length, take, get_or, arith, refl, sym, ap, ◌∙◌, rules}
-use Rattle.std.specs.Prelude.{Result, Ok, Err, IsSomeAnd, slice_get, unwrap_or}
+use Rattle.std.proofs.Common.{◌≡◌, ◌+◌, ◌<◌, ◌++◌, [], ◌∷◌, Some, None, length, take, arith, refl, sym, ap, ◌∙◌, rules}
+use Rattle.std.specs.Prelude.{Ok, Err, slice_get, unwrap_or}
 use Rattle.std.proofs.lemmas.List.{take_more, take_all}
 use Rattle.std.proofs.lemmas.Option.{slice_get_read}
-use Rattle.pm_world.specs.Places.{Places}
-use Rattle.pm_world.specs.Rules.{Rule, Run, Stops, refusal}
+use Rattle.pm_world.specs.Rules.{Rule, Run, refusal}
 use Rattle.pm_world.specs.declared.step.Step.{Step}
 use Rattle.pm_world.specs.declared.step.StepError.TheVariants.{OutOfMemory}
 use Rattle.pm_world.proofs.Law.{nothing_lost, run_more}
