@@ -1,4 +1,5 @@
 pub mod ArbiterLemmas
 pub mod PutBack
 pub mod Holds
+pub mod Keeps
 pub mod PassingLemmas

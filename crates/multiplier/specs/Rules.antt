@@ -62,6 +62,10 @@ FromHostRule old frame result new =
     MatchBool (pm_port frame == control_port) (ToControl old frame result new)
     (MatchOption (passes_to old (pm_port frame)) (ToNobody old result new) (λ conn. ToDevice old (pm_port frame) conn frame result new))
 
+-- the number of ports stays, and so does the connection that is present at each
+abbrev pub KeepsPorts : PmState → PmState → Type 0
+KeepsPorts old new = (new.registers.ports ≡ old.registers.ports) × ((n : ℕ) → (port_at new n).present ≡ (port_at old n).present)
+
 -- ---- a frame of a device
 
 abbrev pub FromDeviceRule : PmState → ℕ → Stamped → Result Offered Stamped → PmState → Type 0

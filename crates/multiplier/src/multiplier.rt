@@ -4,7 +4,7 @@ ghost use Rattle.std.specs.Prelude.{if◌then◌else◌, is_some, length, true, 
 ghost use Rattle.std.specs.Result.{result_err};
 ghost use Rattle.pm_ports.specs.Port.{came_refusal, with_down};
 ghost use Rattle.multiplier.specs.Arbiter.{control_port};
-ghost use Rattle.multiplier.specs.Rules.{CanPutBackUp, ControlGives, FromDeviceRule, FromHostRule, NextDownRule, NextUpRule, PortGives, given_from, ToControl, ToDevice, put_back, settled, with_device};
+ghost use Rattle.multiplier.specs.Rules.{CanPutBackUp, ControlGives, FromDeviceRule, FromHostRule, KeepsPorts, NextDownRule, NextUpRule, PortGives, given_from, ToControl, ToDevice, put_back, settled, with_device};
 ghost use Rattle.multiplier.specs.State.{PmState, control_stamp, falling, forwards, held, next_place, opening, passes_to, port_at, ready, rising, with_port};
 
 use crate::given::{Given, Source};
@@ -136,8 +136,10 @@ impl Multiplier {
     /// Takes a frame of the host to the port that its PM Port names: to the control port, which answers it, or into the
     /// downward place of a port that forwards. A frame to a port that is absent or does not forward is dropped and
     /// counted. Where the place is taken, or no memory is left for the answer, the frame is given back.
+    #[tactic(auto, using(crate::proofs::Keeps::control_keeps, crate::proofs::Keeps::device_keeps))]
     pub fn from_host(&mut self, alloc: Global, frame: Frame) -> Result<Passed, (Frame, PmRefusal)>
-        ensures { FromHostRule self.old frame result self.new }
+        ensures rule { FromHostRule self.old frame result self.new }
+        ensures ports { KeepsPorts self.old self.new }
     {
         let port = frame.pm_port();
         if port == CONTROL_PORT {

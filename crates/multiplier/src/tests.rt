@@ -225,5 +225,9 @@ fn a_notification_goes_before_an_answer(rt: HostRuntime) -> Result<(), Fail> {
     assert!(rt; pm.next_up(alloc)?.is_none());
     let text = format!(in alloc; "{}, {}", PmRefusal::HoldFull, PmRefusal::OutOfMemory)?;
     assert_eq!(rt; text.as_str(), "hold full, out of memory");
+    assert_eq!(rt;
+        (PmRefusal::HoldFull as u8, PmRefusal::OutOfMemory as u8),
+        (1, 2)
+    );
     Ok(())
 }

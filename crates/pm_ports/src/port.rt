@@ -143,11 +143,11 @@ impl Port {
     }
 
     /// Puts a frame that `take_held` gave back into the upward place.
-    pub fn put_back_up(&mut self, frame: Frame)
+    pub fn put_back_up(&mut self, taken: Frame)
         requires { self.old.up ≡ None }
-        ensures { self.new ≡ with_up self.old (Some frame) }
+        ensures { self.new ≡ with_up self.old (Some taken) }
     {
-        self.up = Some(frame);
+        self.up = Some(taken);
     }
 
     /// The frame that waits to go up.
@@ -177,10 +177,10 @@ impl Port {
     }
 
     /// Puts a frame that `take_down` gave back into the downward place.
-    pub fn put_back_down(&mut self, frame: Frame)
+    pub fn put_back_down(&mut self, taken: Frame)
         requires { self.old.down ≡ None }
-        ensures { self.new ≡ with_down self.old (Some frame) }
+        ensures { self.new ≡ with_down self.old (Some taken) }
     {
-        self.down = Some(frame);
+        self.down = Some(taken);
     }
 }

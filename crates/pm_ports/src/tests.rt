@@ -34,6 +34,13 @@ fn a_connection_comes_once(rt: HostRuntime) -> Result<(), Fail> {
     assert_eq!(rt; port.present(), Some(7));
     let text = format!(in rt.alloc(); "{}, {}", PortError::AlreadyThere, PortError::OldConnection)?;
     assert_eq!(rt; text.as_str(), "already there, old connection");
+    assert_eq!(rt;
+        (
+            PortError::AlreadyThere as u8,
+            PortError::OldConnection as u8
+        ),
+        (1, 2)
+    );
     Ok(())
 }
 

@@ -152,5 +152,9 @@ fn refuses_ports_before_registers(rt: HostRuntime) -> Result<(), Fail> {
     assert_eq!(rt; registers.read(0, PSCR_STATUS), Ok(4));
     let text = format!(in rt.alloc(); "{}, {}", RegisterError::NoPort, RegisterError::NoRegister)?;
     assert_eq!(rt; text.as_str(), "no such port, no such register");
+    assert_eq!(rt;
+        (RegisterError::NoPort as u8, RegisterError::NoRegister as u8),
+        (1, 2)
+    );
     Ok(())
 }
