@@ -1,7 +1,7 @@
 -- What one more event does to what was sent.
 use Rattle.std.proofs.Common.{◌≡◌, ℕ, List, [], ◌∷◌, ◌++◌, refl, ap, sym, ◌∙◌, ◌+◌, ◌<◌, get_or, drop, length, append_assoc}
 use Rattle.std.proofs.lemmas.List.{append-nil, drop_more}
-use Rattle.disk_model.specs.Histories.{Happening, Received, Sent, Plugged, Plan, Script, sent_in, GoesOn, SendsNext, IsSilent}
+use Rattle.disk_model.specs.Histories.{Happening, Received, Sent, Plugged, Script, sent_in, GoesOn, SendsNext}
 use Rattle.disk_model.specs.Scripts.{Reading, script_of, ScriptStandsFor, ScriptMaySend}
 
 pub sent_in-append : (h e : List Happening) → sent_in (h ++ e) ≡ sent_in h ++ sent_in e

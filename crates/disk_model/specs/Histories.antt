@@ -4,6 +4,7 @@
 -- state may stand for, and what plan and history together allow it to send. No call changes the plan,
 -- and what may be sent does not look at the state: so no call can rewrite what the device may send.
 use Rattle.std.specs.Prelude.{ℕ, ◌≡◌, List, [], ◌∷◌, ◌++◌}
+use Rattle.disk_model.specs.declared.plan.DiskPlan.{DiskPlan}
 
 -- one event of a device
 pub data Happening : Type 0 where
@@ -25,6 +26,8 @@ sent_in (Plugged ∷ later) = sent_in later
 pub data Plan : Type 0 where
   -- a script: the frames to send, in order
   Script : List (List ℕ) → Plan
+  -- a disk's plan, and its size in sectors of 512 bytes
+  DiskOf : DiskPlan → ℕ → Plan
 
 -- The plan stays, and whatever history the old state may stand for, the new one may stand for it with this event at its end.
 pub record GoesOn {S : Type 0} (plan_of : S → Plan) (StandsFor : S → List Happening → Type 0) (old : S) (event : Happening) (new : S) : Type 0 where

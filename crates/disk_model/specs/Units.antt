@@ -1,20 +1,22 @@
 -- What stands at a fan-out port.
-use Rattle.std.specs.Prelude.{ℕ, List, [], ◌≡◌}
-use Rattle.disk_model.specs.Histories.{Happening, Plan, Script, sent_in, GoesOn, SendsNext, IsSilent}
+use Rattle.std.specs.Prelude.{ℕ, ◌≢◌, List, []}
+use Rattle.disk_model.specs.Histories.{Happening, Plan, Script, DiskOf, GoesOn, SendsNext, IsSilent}
+use Rattle.disk_model.specs.Runs.{disk_plan, DiskStandsFor, DiskMaySend}
 use Rattle.disk_model.specs.Scripts.{script_of, ScriptStandsFor, ScriptMaySend}
 use Rattle.disk_model.specs.declared.unit.Unit.{Unit}
-use Rattle.disk_model.specs.declared.unit.Unit.TheVariants.{Scripted, Silent}
+use Rattle.disk_model.specs.declared.unit.Unit.TheVariants.{Disk, Scripted}
 
 abbrev pub plan_of : Unit → Plan
+plan_of (Disk disk) = disk_plan disk
 plan_of (Scripted reading) = script_of reading
-plan_of Silent = Script []
 
 abbrev pub StandsFor : Unit → List Happening → Type 0
+StandsFor (Disk disk) history = DiskStandsFor disk history
 StandsFor (Scripted reading) history = ScriptStandsFor reading history
-StandsFor Silent history = sent_in history ≡ []
 
 abbrev pub MaySend : Plan → List Happening → List ℕ → Type 0
-MaySend plan history bytes = ScriptMaySend plan history bytes
+MaySend (DiskOf plan sectors) history bytes = DiskMaySend (DiskOf plan sectors) history bytes
+MaySend (Script frames) history bytes = ScriptMaySend (Script frames) history bytes
 
 -- the event happens to the unit
 abbrev pub UnitGoesOn : Unit → Happening → Unit → Type 0
@@ -27,3 +29,12 @@ UnitSends old bytes new = SendsNext plan_of StandsFor MaySend old bytes new
 -- the unit has nothing to send
 abbrev pub UnitIsSilent : Unit → Type 0
 UnitIsSilent unit = IsSilent plan_of StandsFor MaySend unit
+
+abbrev pub IsDisk : Unit → Type 0
+IsDisk (Disk disk) = Prim.Unit {0}
+IsDisk (Scripted reading) = ⊥
+
+-- the unit is a disk, or a script with a frame left to send
+abbrev pub HasFrames : Unit → Type 0
+HasFrames (Disk disk) = Prim.Unit {0}
+HasFrames (Scripted reading) = reading.left ≢ []

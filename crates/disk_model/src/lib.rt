@@ -1,16 +1,32 @@
 //! Devices behind the fan-out ports of a port multiplier.
 //!
-//! A device is whatever implements `Device`: it takes FISes of the host, gives FISes to it, and is
+//! A device is whatever implements [`Device`]: it takes FISes of the host, gives FISes to it, and is
 //! told when it is plugged in. Its contract says that every run of it, as a list of what it received,
 //! sent and was told, is one that its plan allows, and that it is silent only where the plan allows
 //! nothing.
+//!
+//! A [`Disk`] keeps sectors in memory and queues reads and writes by tags (native command queuing); a
+//! [`Scripted`] device sends what a script says; a [`Unit`] is one of the two.
+//!
+//! What the FISes of a disk's run alone tell is the ledger of `specs/Ledger.antt`. Three laws over every run tie the disk to
+//! it: [`medium_is_of_ended_writes`], [`reads_are_of_their_start`] and [`answers_each_command_once`].
 #![tactic(auto)]
 
+mod answer;
+mod chunk;
 mod device;
+mod disk;
+mod law;
+mod page;
+mod plan;
+mod request;
 mod scripted;
 mod unit;
 
 pub use device::Device;
+pub use disk::{Disk, DiskError};
+pub use law::{answers_each_command_once, medium_is_of_ended_writes, reads_are_of_their_start};
+pub use plan::{DiskPlan, Order};
 pub use scripted::Scripted;
 pub use unit::Unit;
 

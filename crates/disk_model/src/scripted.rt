@@ -1,6 +1,6 @@
-ghost use Rattle.std.specs.Prelude.{◌≡◌, filter, []};
+ghost use Rattle.std.specs.Prelude.{◌≡◌, ◌≢◌, filter, [], IfNone, IfOk, IfSome, IsOk, OnErr, OnOk};
 ghost use Rattle.fis_view.specs.Frames.{is_frame};
-ghost use Rattle.disk_model.specs.Histories.{Script};
+ghost use Rattle.disk_model.specs.Histories.{GoesOn, IsSilent, Plugged, Received, Script, SendsNext};
 
 use crate::device::Device;
 use fis_view::{Bytes, Frame, FrameError, Stamp, is_frame_length};
@@ -50,11 +50,25 @@ impl Device for Scripted {
 
     ghost may_send = { ScriptMaySend };
 
-    fn on_frame(&mut self, _alloc: Global, _frame: &Frame) -> Result<(), AllocError> {
+    fn on_frame(&mut self, _alloc: Global, _frame: &Frame) -> Result<(), AllocError>
+        ensures ok { OnOk result (GoesOn script_of ScriptStandsFor self.old (Received _frame.now.bytes) self.new) }
+        ensures err { OnErr result (self.new ≡ self.old) }
+        // it takes no memory
+        ensures done { IsOk result }
+    {
+        // What it hears changes nothing.
         Ok(())
     }
 
-    fn next_out(&mut self, alloc: Global, stamp: Stamp) -> Result<Option<Frame>, AllocError> {
+    fn next_out(&mut self, alloc: Global, stamp: Stamp) -> Result<Option<Frame>, AllocError>
+        ensures sent { IfOk result (λ out. IfSome out (λ frame. SendsNext script_of ScriptStandsFor ScriptMaySend self.old frame.bytes self.new)) }
+        ensures stamp { IfOk result (λ out. IfSome out (λ frame. frame.stamp ≡ stamp)) }
+        ensures silent { IfOk result (λ out. IfNone out (IsSilent script_of ScriptStandsFor ScriptMaySend self.old)) }
+        ensures same { IfOk result (λ out. IfNone out (self.new ≡ self.old)) }
+        ensures err { OnErr result (self.new ≡ self.old) }
+        // it takes memory for a frame that is left, and for nothing else
+        ensures no_memory { OnErr result (self.old.left ≢ []) }
+    {
         if self.next == self.frames.len() {
             return Ok(None);
         }
@@ -69,7 +83,13 @@ impl Device for Scripted {
         }
     }
 
-    fn plugged(&mut self, _alloc: Global) -> Result<(), AllocError> {
+    fn plugged(&mut self, _alloc: Global) -> Result<(), AllocError>
+        ensures ok { OnOk result (GoesOn script_of ScriptStandsFor self.old Plugged self.new) }
+        ensures err { OnErr result (self.new ≡ self.old) }
+        // it takes no memory
+        ensures done { IsOk result }
+    {
+        // The script goes on where it was.
         Ok(())
     }
 }

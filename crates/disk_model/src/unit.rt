@@ -1,4 +1,8 @@
+ghost use Rattle.std.specs.Prelude.{◌≡◌, IfNone, IfOk, IfSome, OnErr, OnOk};
+ghost use Rattle.disk_model.specs.Histories.{GoesOn, IsSilent, Plugged, Received, SendsNext};
+
 use crate::device::Device;
+use crate::disk::Disk;
 use crate::scripted::Scripted;
 use fis_view::{Frame, Stamp};
 use std::alloc::{AllocError, Global};
@@ -6,14 +10,14 @@ use std::alloc::{AllocError, Global};
 /// What stands at a fan-out port.
 #[derive(Drop)]
 pub enum Unit {
+    /// A disk with native command queuing.
+    Disk(Disk),
     /// A device that sends what a script says, whatever it receives.
     Scripted(Scripted),
-    /// A device that never sends anything.
-    Silent,
 }
 
 impl Device for Unit {
-    ghost use Rattle.disk_model.specs.Units.{plan_of, StandsFor, MaySend};
+    ghost use Rattle.disk_model.specs.Units.{plan_of, HasFrames, IsDisk, StandsFor, MaySend};
 
     ghost plan_of = { plan_of };
 
@@ -21,24 +25,42 @@ impl Device for Unit {
 
     ghost may_send = { MaySend };
 
-    fn on_frame(&mut self, alloc: Global, frame: &Frame) -> Result<(), AllocError> {
+    fn on_frame(&mut self, alloc: Global, frame: &Frame) -> Result<(), AllocError>
+        ensures ok { OnOk result (GoesOn plan_of StandsFor self.old (Received frame.now.bytes) self.new) }
+        ensures err { OnErr result (self.new ≡ self.old) }
+        // a script takes no memory for it
+        ensures no_memory { OnErr result (IsDisk self.old) }
+    {
         match self {
+            Unit::Disk(disk) => disk.on_frame(alloc, frame),
             Unit::Scripted(script) => script.on_frame(alloc, frame),
-            Unit::Silent => Ok(()),
         }
     }
 
-    fn next_out(&mut self, alloc: Global, stamp: Stamp) -> Result<Option<Frame>, AllocError> {
+    fn next_out(&mut self, alloc: Global, stamp: Stamp) -> Result<Option<Frame>, AllocError>
+        ensures sent { IfOk result (λ out. IfSome out (λ frame. SendsNext plan_of StandsFor MaySend self.old frame.bytes self.new)) }
+        ensures stamp { IfOk result (λ out. IfSome out (λ frame. frame.stamp ≡ stamp)) }
+        ensures silent { IfOk result (λ out. IfNone out (IsSilent plan_of StandsFor MaySend self.old)) }
+        ensures same { IfOk result (λ out. IfNone out (self.new ≡ self.old)) }
+        ensures err { OnErr result (self.new ≡ self.old) }
+        // a script that was sent to its end takes no memory
+        ensures no_memory { OnErr result (HasFrames self.old) }
+    {
         match self {
+            Unit::Disk(disk) => disk.next_out(alloc, stamp),
             Unit::Scripted(script) => script.next_out(alloc, stamp),
-            Unit::Silent => Ok(None),
         }
     }
 
-    fn plugged(&mut self, alloc: Global) -> Result<(), AllocError> {
+    fn plugged(&mut self, alloc: Global) -> Result<(), AllocError>
+        ensures ok { OnOk result (GoesOn plan_of StandsFor self.old Plugged self.new) }
+        ensures err { OnErr result (self.new ≡ self.old) }
+        // a script takes no memory for it
+        ensures no_memory { OnErr result (IsDisk self.old) }
+    {
         match self {
+            Unit::Disk(disk) => disk.plugged(alloc),
             Unit::Scripted(script) => script.plugged(alloc),
-            Unit::Silent => Ok(()),
         }
     }
 }

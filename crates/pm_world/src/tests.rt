@@ -17,8 +17,9 @@ const CONFIG: Config = Config {
 /// Two devices that send nothing by themselves.
 fn units(alloc: Global) -> Result<Vec<Unit>, AllocError> {
     let mut units = Vec::new(alloc);
-    units.push(Unit::Scripted(Scripted::new(Vec::new(alloc))))?;
-    units.push(Unit::Silent)?;
+    for _ in 0..2 {
+        units.push(Unit::Scripted(Scripted::new(Vec::new(alloc))))?;
+    }
     Ok(units)
 }
 

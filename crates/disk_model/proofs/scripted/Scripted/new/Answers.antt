@@ -1,7 +1,7 @@
-use Rattle.std.proofs.Common.{◌≡◌, ℕ, List, length, get_or, filter, arith, rules, subst, sym, All, ap}
+use Rattle.std.proofs.Common.{◌≡◌, filter, arith, rules, ap}
 use Rattle.std.proofs.lemmas.Fn.{filter_same}
 use Rattle.std.proofs.lemmas.List.Elements.{filter_passes}
-use Rattle.fis_view.specs.Frames.{is_frame, IsFrame}
+use Rattle.fis_view.specs.Frames.{is_frame}
 use Rattle.disk_model.specs.Histories.{Script}
 use Rattle.disk_model.proofs.scripted.Scripted.new.Goals as goal
 

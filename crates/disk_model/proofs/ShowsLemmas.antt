@@ -1,0 +1,45 @@
+-- What the FISes that a disk sends tell.
+use Rattle.std.proofs.Common.{◌≡◌, ℕ, ◌%◌, ◌^◌, ◌<◌, Bool, true, false, List, [], ◌∷◌, Ok, refl, ◌∙◌, arith}
+use Rattle.fis_view.specs.Table.{Run, Setup, Bits, BufferId, Offset, Count, Status, SActive, field, places}
+use Rattle.fis_view.specs.Built.{cut}
+use Rattle.fis_view.specs.Seen.{seen}
+use Rattle.fis_view.specs.declared.view.Fis.TheVariants as view
+use Rattle.disk_model.specs.Sendings.{Shows, setup, bits}
+use Rattle.disk_model.specs.Ledger.{has_error}
+
+cut_run : (byte low n x : ℕ) → x % 2 ^ n ≡ x → cut (Run byte low n ∷ []) x ≡ x
+unfolding cut
+cut_run byte low n x small = omega (arith, small)
+
+pub record TellsSetup (tag offset count : ℕ) (b : List ℕ) : Type 0 where
+  pub viewed : seen b ≡ Ok (view.DmaSetup b)
+  pub tag_is : field Setup BufferId b ≡ tag
+  pub offset_is : field Setup Offset b ≡ offset
+  pub count_is : field Setup Count b ≡ count
+
+pub setup_tells : (tag offset count : ℕ) (d : Bool) (b : List ℕ) → tag < 32 → offset < 4294967296 → count < 4294967296 → Shows (setup tag offset count d) b → TellsSetup tag offset count b
+unfolding places
+setup_tells tag offset count d b t o n shows =
+    let small_tag : tag % 2 ^ 64 ≡ tag = omega arith in
+    let small_offset : offset % 2 ^ 32 ≡ offset = omega arith in
+    let small_count : count % 2 ^ 32 ≡ count = omega arith in
+    record {
+      viewed = shows.viewed;
+      tag_is = shows.fields BufferId ∙ cut_run 4 0 64 tag small_tag;
+      offset_is = shows.fields Offset ∙ cut_run 16 0 32 offset small_offset;
+      count_is = shows.fields Count ∙ cut_run 20 0 32 count small_count;
+    }
+
+pub error_tells : (error : ℕ) (b : List ℕ) → Shows (bits 0x41 error 0) b → has_error b ≡ true
+unfolding places cut
+error_tells error b shows = let e : field Bits Status b ≡ 0x41 = shows.fields Status in rw e refl
+
+pub end_tells : (sactive : ℕ) (b : List ℕ) → Shows (bits 0x50 0 sactive) b → has_error b ≡ false
+unfolding places cut
+end_tells sactive b shows = let e : field Bits Status b ≡ 0x50 = shows.fields Status in rw e refl
+
+pub sactive_tells : (sactive : ℕ) (b : List ℕ) → sactive < 4294967296 → Shows (bits 0x50 0 sactive) b → field Bits SActive b ≡ sactive
+unfolding places
+sactive_tells sactive b small shows =
+    let e : sactive % 2 ^ 32 ≡ sactive = omega arith in
+    shows.fields SActive ∙ cut_run 4 0 32 sactive e

@@ -1,0 +1,97 @@
+-- The ledger and the disk go on agreeing while a write takes its Data.
+use Rattle.std.proofs.Common.{◌≡◌, ◌==◌, eqb, ℕ, ◌+◌, ◌*◌, ◌<◌, ◌≤◌, Bool, true, false, List, [], ◌∷◌, ◌++◌, Option, Some, None, length, refl, ap, sym, subst, ◌∙◌, arith, rules, tests}
+use Rattle.std.proofs.lemmas.Bool.{eq-eqb}
+use Rattle.std.proofs.lemmas.Bool.Decides.{nat_tests}
+use Rattle.std.proofs.lemmas.List.Elements.{filter_map-append}
+use Rattle.disk_model.specs.declared.plan.DiskPlan.{DiskPlan}
+use Rattle.disk_model.specs.declared.request.Command.{Command}
+use Rattle.disk_model.specs.declared.answer.Answer.{Answer}
+use Rattle.disk_model.specs.declared.answer.Answer.TheVariants.{Ended}
+use Rattle.disk_model.specs.declared.answer.Fault.{Fault}
+use Rattle.disk_model.specs.Chunks.{chunk_from, chunk_count, put}
+use Rattle.disk_model.specs.Disks.{Writing, stored}
+use Rattle.disk_model.specs.Ledger.{Moving, Written, ReadOut, moves, with_writes}
+use Rattle.disk_model.proofs.PlaceLemmas.{length-put}
+use Rattle.disk_model.proofs.GeometryLemmas.{moved_sectors, chunk_part, ChunkPart}
+use Rattle.disk_model.proofs.QueueLemmas.{tag_of, ended_tags, AreTags, AreTags-append, IsQueue-filter}
+use Rattle.disk_model.proofs.AgreeLemmas.{Agrees, IsMoving, IsHeld, Fresh, shown, at}
+
+-- what is known of the size of a disk
+pub record IsSized (plan : DiskPlan) (sectors : ℕ) : Type 0 where
+  pub low : 512 ≤ plan.chunk
+  pub most : sectors ≤ 65536
+
+pub with_writes-append : (medium : List ℕ) (ws : List Written) (w : Written) → with_writes medium (ws ++ w ∷ []) ≡ put (with_writes medium ws) w.at w.bytes
+unfolding with_writes
+with_writes-append medium [] w = refl
+with_writes-append medium (x ∷ ws) w = with_writes-append (put medium x.at x.bytes) ws w
+
+-- one command more has ended
+pub ended_tags-more : (owed : List Answer) (t : ℕ) → ended_tags (owed ++ Ended t ∷ []) ≡ ended_tags owed ++ t ∷ []
+ended_tags-more owed t = filter_map-append tag_of owed (Ended t ∷ [])
+
+pub tags_more : (owed : List Answer) (t : ℕ) → AreTags (ended_tags owed) → t < 32 → AreTags (ended_tags (owed ++ Ended t ∷ []))
+tags_more owed t tags small = subst AreTags (sym (ended_tags-more owed t)) (AreTags-append (ended_tags owed) t tags small)
+
+-- the write's data, as its last DMA Activate left it
+abbrev pub asked_for : DiskPlan → Writing → List Written → Moving
+asked_for plan w before = record { command = w.command; before = before; bytes = w.staged; moved = 512 * moved_sectors plan w.command w.left; offset = 512 * chunk_from plan w.command w.left; count = 512 * chunk_count plan w.command w.left; active = true }
+
+store_last : (plan : DiskPlan) (sectors : ℕ) (medium : List ℕ) (queued : List Command) (fault : Option Fault) (resetting : Bool) (owed : List Answer) (w : Writing) (ws before : List Written) (rs : List ReadOut) (bytes : List ℕ) → IsSized plan sectors → w.command.write ≡ true → IsMoving plan sectors w.command w.left (asked_for plan w before) → length w.staged ≡ 512 * w.command.count → length bytes ≡ 512 * chunk_count plan w.command w.left → w.left ≡ 1 → Agrees plan sectors (at medium queued fault resetting owed None (Some w)) (shown (at medium queued fault resetting owed None (Some w)) (Some (asked_for plan w before)) ws rs) → Agrees plan sectors (stored plan (at medium queued fault resetting owed None (Some w)) w bytes) (moves (shown (at medium queued fault resetting owed None (Some w)) (Some (asked_for plan w before)) ws rs) (asked_for plan w before) bytes)
+store_last plan sectors medium queued fault resetting owed w ws before rs bytes sized writes mv whole fits one a =
+    let c = w.command in
+    let staged : List ℕ = put w.staged (512 * chunk_from plan c w.left) bytes in
+    let part : ChunkPart plan c w.left = chunk_part plan c w.left sized.low mv.some mv.more mv.among in
+    let is_last : (w.left == 1) ≡ true = eq-eqb w.left 1 one in
+    let total : 512 * moved_sectors plan c w.left + length bytes ≡ 512 * c.count = omega (arith, part.last one) in
+    let is_all : (512 * moved_sectors plan c w.left + length bytes == 512 * c.count) ≡ true = eq-eqb _ _ total in
+    let inside : 512 * chunk_from plan c w.left + length bytes ≤ length w.staged = omega (arith, part.inside) in
+    let size : length staged ≡ length w.staged = length-put w.staged bytes (512 * chunk_from plan c w.left) inside in
+    let room : 512 * c.lba + length staged ≤ length medium = omega (arith, size, mv.inside, a.length_is) in
+    rw (is_last, is_all, writes) (record {
+      outstanding = refl;
+      failed = refl;
+      unanswered = sym (ended_tags-more owed c.tag);
+      medium = ap (λ (xs : List ℕ). put xs (512 * c.lba) staged) a.medium ∙ sym (with_writes-append _ ws (record { at = 512 * c.lba; bytes = staged }));
+      length_is = length-put medium staged (512 * c.lba) room ∙ a.length_is;
+      queue = IsQueue-filter _ queued a.queue;
+      tags = tags_more owed c.tag a.tags mv.tag;
+      reads = a.reads;
+      moving = tt;
+    })
+
+store_more : (plan : DiskPlan) (sectors : ℕ) (medium : List ℕ) (queued : List Command) (fault : Option Fault) (resetting : Bool) (owed : List Answer) (w : Writing) (ws before : List Written) (rs : List ReadOut) (bytes : List ℕ) → IsSized plan sectors → w.command.write ≡ true → IsMoving plan sectors w.command w.left (asked_for plan w before) → length w.staged ≡ 512 * w.command.count → length bytes ≡ 512 * chunk_count plan w.command w.left → (w.left ≡ 1 → ⊥) → IsHeld queued owed w.command.tag → Agrees plan sectors (at medium queued fault resetting owed None (Some w)) (shown (at medium queued fault resetting owed None (Some w)) (Some (asked_for plan w before)) ws rs) → Agrees plan sectors (stored plan (at medium queued fault resetting owed None (Some w)) w bytes) (moves (shown (at medium queued fault resetting owed None (Some w)) (Some (asked_for plan w before)) ws rs) (asked_for plan w before) bytes)
+store_more plan sectors medium queued fault resetting owed w ws before rs bytes sized writes mv whole fits other held a =
+    let c = w.command in
+    let part : ChunkPart plan c w.left = chunk_part plan c w.left sized.low mv.some mv.more mv.among in
+    let less : moved_sectors plan c w.left + chunk_count plan c w.left < c.count = part.more other in
+    let not_last : (w.left == 1) ≡ false = search (rules, tests) in
+    let not_all : (512 * moved_sectors plan c w.left + length bytes == 512 * c.count) ≡ false = grind (arith, nat_tests, less, fits) in
+    let inside : 512 * chunk_from plan c w.left + length bytes ≤ length w.staged = omega (arith, part.inside) in
+    rw (not_last, not_all) (record {
+      outstanding = refl;
+      failed = refl;
+      unanswered = refl;
+      medium = a.medium;
+      length_is = a.length_is;
+      queue = a.queue;
+      tags = a.tags;
+      reads = a.reads;
+      moving = (
+        Fresh,
+        record {
+          moving = record { same = refl; more = omega (arith, mv.more, other); among = omega (arith, mv.among); inside = mv.inside; some = mv.some; tag = mv.tag; moved = omega (arith, part.next) };
+          writes = writes;
+          bytes = refl;
+          whole = length-put w.staged bytes (512 * chunk_from plan c w.left) inside ∙ whole;
+          stage = (refl, refl);
+        },
+        held,
+      );
+    })
+
+pub store_by : (plan : DiskPlan) (sectors : ℕ) (medium : List ℕ) (queued : List Command) (fault : Option Fault) (resetting : Bool) (owed : List Answer) (w : Writing) (ws before : List Written) (rs : List ReadOut) (bytes : List ℕ) (last : Bool) → eqb w.left 1 ≡ last → IsSized plan sectors → w.command.write ≡ true → IsMoving plan sectors w.command w.left (asked_for plan w before) → length w.staged ≡ 512 * w.command.count → length bytes ≡ 512 * chunk_count plan w.command w.left → IsHeld queued owed w.command.tag → Agrees plan sectors (at medium queued fault resetting owed None (Some w)) (shown (at medium queued fault resetting owed None (Some w)) (Some (asked_for plan w before)) ws rs) → Agrees plan sectors (stored plan (at medium queued fault resetting owed None (Some w)) w bytes) (moves (shown (at medium queued fault resetting owed None (Some w)) (Some (asked_for plan w before)) ws rs) (asked_for plan w before) bytes)
+store_by plan sectors medium queued fault resetting owed w ws before rs bytes true e sized writes mv whole fits held a =
+    store_last plan sectors medium queued fault resetting owed w ws before rs bytes sized writes mv whole fits (let h : w.left ≡ 1 = grind (arith, nat_tests, e) in h) a
+store_by plan sectors medium queued fault resetting owed w ws before rs bytes false e sized writes mv whole fits held a =
+    store_more plan sectors medium queued fault resetting owed w ws before rs bytes sized writes mv whole fits (λ is. cc (eq-eqb w.left 1 is, e)) held a

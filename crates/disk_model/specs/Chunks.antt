@@ -1,0 +1,62 @@
+-- The chunks in which a disk moves the data of a queued command, and what keeps it from doing so.
+use Rattle.std.specs.Prelude.{ℕ, zero, suc, ◌+◌, ◌-◌, ◌*◌, ◌/◌, ◌&&◌, min, not, nat_lt, nat_le, List, [], ◌∷◌, ◌++◌, drop, take, length, fold, if◌then◌else◌, Option, Some, None, option_map}
+use Rattle.std.specs.Option.{option_map_or}
+use Rattle.disk_model.specs.declared.request.Command.{Command}
+use Rattle.disk_model.specs.declared.answer.Fault.{Fault}
+use Rattle.disk_model.specs.declared.answer.Fault.TheVariants.{Failed}
+use Rattle.disk_model.specs.declared.plan.DiskPlan.{DiskPlan}
+use Rattle.disk_model.specs.Sendings.{Sending, Activates, Carries, setup, bits}
+
+-- how many chunks a command has
+abbrev pub chunks : DiskPlan → Command → ℕ
+chunks plan c = (c.count + (plan.chunk / 512 - 1)) / (plan.chunk / 512)
+
+-- the chunk that comes when so many are left, by its place upwards
+abbrev pub chunk_at : DiskPlan → Command → (left : ℕ) → ℕ
+chunk_at plan c left = (if plan.last_first then left - 1 else chunks plan c - left)
+
+-- its first sector within the command, and how many sectors it has
+abbrev pub chunk_from : DiskPlan → Command → (left : ℕ) → ℕ
+chunk_from plan c left = chunk_at plan c left * (plan.chunk / 512)
+
+abbrev pub chunk_count : DiskPlan → Command → (left : ℕ) → ℕ
+chunk_count plan c left = min (plan.chunk / 512) (c.count - chunk_from plan c left)
+
+-- count sectors of the medium
+abbrev pub sectors_at : List ℕ → (lba count : ℕ) → List ℕ
+sectors_at medium lba count = take (512 * count) (drop (512 * lba) medium)
+
+-- bytes with others put over them from a place
+abbrev pub put : List ℕ → (at : ℕ) → List ℕ → List ℕ
+put xs at ys = take at xs ++ ys ++ drop (at + length ys) xs
+
+-- the DMA Setup of a chunk; d is its direction, to the host where true
+abbrev pub chunk_setup : DiskPlan → Command → (left : ℕ) → Sending
+chunk_setup plan c left = setup c.tag (512 * chunk_from plan c left) (512 * chunk_count plan c left) (not c.write)
+
+-- What a read sends when so many chunks are left: DMA Setup and Data of each (Serial ATA 3.x, first party DMA).
+unfoldable pub sends_left : DiskPlan → List ℕ → Command → (left : ℕ) → List Sending
+sends_left plan medium c zero = []
+sends_left plan medium c (suc k) =
+    chunk_setup plan c (suc k) ∷ Carries (sectors_at medium (c.lba + chunk_from plan c (suc k)) (chunk_count plan c (suc k))) ∷ sends_left plan medium c k
+
+-- what a write sends before a chunk
+abbrev pub asks_for : DiskPlan → Command → (left : ℕ) → List Sending
+asks_for plan c left = chunk_setup plan c left ∷ Activates ∷ []
+
+-- the lower of the bad sectors found so far and this one, where it is a sector of the command
+abbrev pub lower_bad : Command → Option ℕ → ℕ → Option ℕ
+lower_bad c found bad = (if nat_le c.lba bad && nat_lt (bad - c.lba) c.count then Some (option_map_or (λ lowest. min lowest bad) found bad) else found)
+
+-- Why a command can't be done: it passes the end (IDNF, its own LBA), or it reads a bad sector (UNC, the first one).
+abbrev pub fault_of : DiskPlan → ℕ → Command → Option Fault
+fault_of plan sectors c = (if nat_lt sectors (c.lba + c.count) then Some (Failed c.tag 0x10 c.lba) else (if c.write then None else option_map (λ bad. Failed c.tag 0x40 bad) (fold (lower_bad c) None plan.bad.items)))
+
+-- the error of a fault
+abbrev pub error_of : Fault → ℕ
+error_of (Failed tag error lba) = error
+error_of _ = 0
+
+-- the Set Device Bits FIS that reports a fault: no tag is answered
+abbrev pub report : Fault → Sending
+report fault = bits 0x41 (error_of fault) 0

@@ -1,0 +1,209 @@
+-- What a disk is at one moment, what it sends next, and what it makes of what it receives (Serial ATA 3.x, first party
+-- DMA and native command queuing; ACS-3).
+use Rattle.std.specs.Prelude.{ℕ, ◌+◌, ◌-◌, ◌*◌, ◌/◌, ◌%◌, ◌==◌, ◌&&◌, Bool, true, false, not, List, [], ◌∷◌, ◌++◌, length, replicate, filter, map, slice_get, if◌then◌else◌, Option, Some, None, Result, Ok, drop}
+use Rattle.std.specs.List.{list_any, range_with_len}
+use Rattle.fis_view.specs.declared.view.Fis.{Fis}
+use Rattle.fis_view.specs.declared.view.Fis.TheVariants as view
+use Rattle.fis_view.specs.declared.view.FisFault.{FisFault}
+use Rattle.fis_view.specs.Seen.{seen}
+use Rattle.disk_model.specs.declared.request.Command.{Command}
+use Rattle.disk_model.specs.declared.request.Request.{Request}
+use Rattle.disk_model.specs.declared.request.Request.TheVariants.{Reset, Queue, ReadErrorLog, Identify, Flush, Other}
+use Rattle.disk_model.specs.declared.answer.Answer.{Answer}
+use Rattle.disk_model.specs.declared.answer.Answer.TheVariants.{Signature, Accepted, Finished, Refused, Ended, PageFollows, PageData}
+use Rattle.disk_model.specs.declared.answer.Page.TheVariants.{ErrorLog, Identity}
+use Rattle.disk_model.specs.declared.answer.Fault.{Fault}
+use Rattle.disk_model.specs.declared.answer.Fault.TheVariants.{Mixed}
+use Rattle.disk_model.specs.declared.plan.DiskPlan.{DiskPlan}
+use Rattle.disk_model.specs.declared.plan.Order.{Order}
+use Rattle.disk_model.specs.declared.plan.Order.TheVariants.{Oldest, Newest}
+use Rattle.disk_model.specs.Histories.{Happening, Received, Sent, Plugged}
+use Rattle.disk_model.specs.Requests.{request_of}
+use Rattle.disk_model.specs.Sendings.{Sending, answer_sent}
+use Rattle.disk_model.specs.Chunks.{chunks, chunk_from, chunk_count, sends_left, asks_for, put, fault_of, report}
+
+-- a started read, and what of it is still to be sent
+pub record Started : Type 0 where
+  pub command : Command
+  pub sends : List Sending
+
+-- a started write: what its next chunk still sends, the chunks that have not come, and its bytes as far as they came
+pub record Writing : Type 0 where
+  pub command : Command
+  pub sends : List Sending
+  pub left : ℕ
+  pub staged : List ℕ
+
+-- the disk at one moment; the queue and the answers owed are oldest first
+pub record Moment : Type 0 where
+  pub medium : List ℕ
+  pub queued : List Command
+  pub fault : Option Fault
+  pub resetting : Bool
+  pub owed : List Answer
+  pub started : Option Started
+  pub writing : Option Writing
+
+-- a disk as contracts see it: what it was made with, and what it is now
+pub record DiskValue : Type 0 where
+  pub plan : DiskPlan
+  pub sectors : ℕ
+  pub now : Moment
+
+-- the disk, with another moment
+abbrev pub with_now : DiskValue → Moment → DiskValue
+with_now d m = record { plan = d.plan; sectors = d.sectors; now = m }
+
+-- ## What the disk sends next, and what it is then
+
+-- a FIS, and what the disk is after it
+abbrev pub Turn : Type 0
+Turn = Option (Sending × Moment)
+
+abbrev pub without : List Command → Command → List Command
+without queued c = filter (λ q. not (q.tag == c.tag)) queued
+
+abbrev pub ended : Moment → Command → Moment
+ended m c = record m { queued = without m.queued c; owed = Ended c.tag ∷ []; started = None; writing = None }
+
+-- a FIS of the read went, and these are still to come; with the last the command ends
+abbrev pub went : Moment → Command → List Sending → Moment
+went m c [] = ended m c
+went m c (s ∷ later) = record m { started = Some (record { command = c; sends = s ∷ later }) }
+
+abbrev pub read_turn : Moment → Command → List Sending → Turn
+read_turn m c [] = None
+read_turn m c (s ∷ later) = Some (s, went m c later)
+
+-- a FIS of the write goes; where none is to go, it waits for Data
+abbrev pub write_turn : Moment → Writing → List Sending → Turn
+write_turn m w [] = None
+write_turn m w (s ∷ later) = Some (s, record m { writing = Some (record w { sends = later }) })
+
+-- an error ends all queued commands
+abbrev pub stopped : Moment → Fault → Moment
+stopped m fault = record m { queued = []; fault = Some fault; owed = []; started = None; writing = None }
+
+abbrev pub begun_write : DiskPlan → Command → Writing
+begun_write plan c = record { command = c; sends = asks_for plan c (chunks plan c); left = chunks plan c; staged = replicate (512 * c.count) 0 }
+
+abbrev pub starts : DiskPlan → Moment → Command → Bool → Turn
+starts plan m c false = read_turn m c (sends_left plan m.medium c (chunks plan c))
+starts plan m c true = write_turn m (begun_write plan c) (asks_for plan c (chunks plan c))
+
+abbrev pub begun : DiskPlan → Moment → Command → Option Fault → Turn
+begun plan m c None = starts plan m c c.write
+begun plan m c (Some fault) = Some (report fault, stopped m fault)
+
+-- the command that is started next
+abbrev pub picked : Order → List Command → Option Command
+picked Oldest queued = slice_get queued 0
+picked Newest queued = slice_get queued (length queued - 1)
+
+abbrev pub pick_turn : DiskPlan → ℕ → Moment → Option Command → Turn
+pick_turn plan sectors m None = None
+pick_turn plan sectors m (Some c) = begun plan m c (fault_of plan sectors c)
+
+abbrev pub waiting_turn : DiskPlan → ℕ → Moment → Option Writing → Turn
+waiting_turn plan sectors m None = pick_turn plan sectors m (picked plan.order m.queued)
+waiting_turn plan sectors m (Some w) = write_turn m w w.sends
+
+abbrev pub idle_turn : DiskPlan → ℕ → Moment → Option Started → Turn
+idle_turn plan sectors m None = waiting_turn plan sectors m m.writing
+idle_turn plan sectors m (Some s) = read_turn m s.command s.sends
+
+abbrev pub answer_turn : DiskPlan → ℕ → Moment → List Answer → Turn
+answer_turn plan sectors m [] = idle_turn plan sectors m m.started
+answer_turn plan sectors m (a ∷ later) = Some (answer_sent sectors a, record m { owed = later })
+
+-- the oldest answer, else the next FIS of the started command, else the first of the command that is started now
+abbrev pub turn : DiskPlan → ℕ → Moment → Turn
+turn plan sectors m = answer_turn plan sectors m m.owed
+
+-- ## What the disk receives
+
+abbrev pub owes : Moment → Answer → Moment
+owes m a = record m { owed = m.owed ++ a ∷ [] }
+
+-- all that a reset drops
+abbrev pub cleared : Moment → Moment
+cleared m = record m { queued = []; fault = None; owed = []; started = None; writing = None }
+
+-- where commands are queued, a refusal drops them
+abbrev pub refused : Moment → List Command → Moment
+refused m [] = owes m Refused
+refused m (c ∷ cs) = record m { queued = []; fault = Some Mixed; owed = Refused ∷ []; started = None; writing = None }
+
+-- a command that is not queued is refused where others are queued
+abbrev pub flushed : Moment → List Command → Moment
+flushed m [] = owes m Finished
+flushed m (c ∷ cs) = refused m (c ∷ cs)
+
+abbrev pub identified : Moment → List Command → Moment
+identified m [] = record m { owed = m.owed ++ PageFollows ∷ PageData Identity ∷ [] }
+identified m (c ∷ cs) = refused m (c ∷ cs)
+
+-- the log tells the error, and ends the error mode
+abbrev pub logged : Moment → List Command → Moment
+logged m [] = record m { fault = None; owed = m.owed ++ PageFollows ∷ PageData (ErrorLog m.fault) ∷ [] }
+logged m (c ∷ cs) = refused m (c ∷ cs)
+
+abbrev pub queues : Moment → Command → Moment
+queues m c = (if list_any (λ q. q.tag == c.tag) m.queued then refused m m.queued else record m { queued = m.queued ++ c ∷ []; owed = m.owed ++ Accepted ∷ [] })
+
+abbrev pub restarted : Moment → Bool → Moment
+restarted m true = owes (record m { resetting = false }) Signature
+restarted m false = m
+
+-- In the error mode nothing but a reset and the log is heard.
+abbrev pub received : Moment → Request → Option Fault → Moment
+received m (Reset true) mode = record (cleared m) { resetting = true }
+received m (Reset false) mode = restarted m m.resetting
+received m ReadErrorLog mode = logged m m.queued
+received m (Queue c) None = queues m c
+received m Flush None = flushed m m.queued
+received m Identify None = identified m m.queued
+received m Other None = refused m m.queued
+received m _ (Some fault) = m
+
+-- the bytes of the chunk that a write waits for; at the last the medium changes
+abbrev pub stored : DiskPlan → Moment → Writing → List ℕ → Moment
+stored plan m w bytes =
+    let staged = put w.staged (512 * chunk_from plan w.command w.left) bytes in
+    (if w.left == 1 then record m { medium = put m.medium (512 * w.command.lba) staged; queued = without m.queued w.command; owed = m.owed ++ Ended w.command.tag ∷ []; writing = None } else record m { writing = Some (record { command = w.command; sends = asks_for plan w.command (w.left - 1); left = w.left - 1; staged = staged }) })
+
+-- Data counts where a write waits for a chunk of just its length
+abbrev pub data_taken : DiskPlan → Moment → Option Writing → List ℕ → Moment
+data_taken plan m None bytes = m
+data_taken plan m (Some w) bytes = (if (length w.sends == 0) && (length bytes == 512 * chunk_count plan w.command w.left) then stored plan m w bytes else m)
+
+-- a Register FIS and Data alone are heard
+abbrev pub heard : DiskPlan → Moment → Result Fis FisFault → Moment
+heard plan m (Ok (view.RegH2D f)) = received m (request_of f) m.fault
+heard plan m (Ok (view.Payload f)) = data_taken plan m m.writing (drop 4 f)
+heard plan m _ = m
+
+-- ## Histories
+
+abbrev pub after_turn : Moment → Turn → Moment
+after_turn m None = m
+after_turn m (Some t) = t.1
+
+abbrev pub after : DiskPlan → ℕ → Moment → Happening → Moment
+after plan sectors m (Received bytes) = heard plan m (seen bytes)
+after plan sectors m (Sent bytes) = after_turn m (turn plan sectors m)
+after plan sectors m Plugged = owes (cleared m) Signature
+
+unfoldable pub moment_after : DiskPlan → ℕ → Moment → List Happening → Moment
+moment_after plan sectors m [] = m
+moment_after plan sectors m (e ∷ later) = moment_after plan sectors (after plan sectors m e) later
+
+-- byte i of sector l opens as l + i
+abbrev pub opening_byte : ℕ → ℕ
+opening_byte at = (at / 512 + at % 512) % 256
+
+abbrev pub opening_medium : ℕ → List ℕ
+opening_medium sectors = map opening_byte (range_with_len 0 (512 * sectors))
+
+abbrev pub opening : ℕ → Moment
+opening sectors = record { medium = opening_medium sectors; queued = []; fault = None; resetting = false; owed = []; started = None; writing = None }

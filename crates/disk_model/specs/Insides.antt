@@ -1,0 +1,79 @@
+-- How the fields of a disk are seen.
+use Rattle.std.specs.Prelude.{ℕ, ◌≡◌, ◌+◌, ◌-◌, ◌*◌, ◌<◌, ◌≤◌, Bool, true, false, List, [], ◌∷◌, length, drop, Option, Some, None, All}
+use Rattle.disk_model.specs.declared.disk.Disk.TheInside.{Inside}
+use Rattle.disk_model.specs.declared.disk.Transfer.{Transfer}
+use Rattle.disk_model.specs.declared.disk.Transfer.TheVariants.{Idle, Read, Write}
+use Rattle.disk_model.specs.declared.disk.Reading.{Reading}
+use Rattle.disk_model.specs.declared.plan.DiskPlan.{DiskPlan}
+use Rattle.fis_view.specs.Frames.{Stamped}
+use Rattle.disk_model.specs.Sendings.{Sending, Shows}
+use Rattle.disk_model.specs.Chunks.{sends_left, asks_for, chunks}
+use Rattle.disk_model.specs.Disks.{Started, Writing, DiskValue, turn}
+use Rattle.disk_model.specs.Runs.{Gave}
+
+-- what a read still sends, its bytes read from the medium
+abbrev pub sends_of : DiskPlan → List ℕ → Reading → Bool → List Sending
+sends_of plan medium r false = sends_left plan medium r.command r.left
+sends_of plan medium r true = drop 1 (sends_left plan medium r.command r.left)
+
+abbrev pub started_by : DiskPlan → List ℕ → Transfer → Option Started
+started_by plan medium Idle = None
+started_by plan medium (Write w) = None
+started_by plan medium (Read r) = Some (record { command = r.command; sends = sends_of plan medium r r.set_up })
+
+-- the write, its bytes in the buffer
+abbrev pub writing_by : DiskPlan → List ℕ → Transfer → Option Writing
+writing_by plan staged Idle = None
+writing_by plan staged (Read r) = None
+writing_by plan staged (Write w) = Some (record { command = w.command; sends = drop w.gone (asks_for plan w.command w.left); left = w.left; staged = staged })
+
+abbrev pub seen_as : Inside → DiskValue
+seen_as d = record {
+  plan = d.plan;
+  sectors = d.sectors;
+  now = record { medium = d.medium.items; queued = d.queue.items; fault = d.fault; resetting = d.resetting; owed = d.answers.items; started = started_by d.plan d.medium.items d.transfer; writing = writing_by d.plan d.staged.items d.transfer };
+}
+
+-- a transfer lies within the disk, and has a chunk to move
+abbrev pub IsTransfer : DiskPlan → ℕ → Transfer → Type 0
+IsTransfer plan sectors Idle = Unit {0}
+IsTransfer plan sectors (Write w) = (0 < w.left) × (w.left ≤ chunks plan w.command) × (w.command.lba + w.command.count ≤ sectors)
+IsTransfer plan sectors (Read r) = (0 < r.left) × (r.left ≤ chunks plan r.command) × (r.command.lba + r.command.count ≤ sectors)
+
+-- the buffer has the length of the write
+abbrev pub IsStaged : List ℕ → Transfer → Type 0
+IsStaged staged Idle = Unit {0}
+IsStaged staged (Read r) = Unit {0}
+IsStaged staged (Write w) = length staged ≡ 512 * w.command.count
+
+pub record IsDisk (d : Inside) : Type 0 where
+  pub sectors : d.sectors ≤ 65536
+  pub medium : length d.medium.items ≡ 512 * d.sectors
+  pub low : 512 ≤ d.plan.chunk
+  pub high : d.plan.chunk ≤ 8192
+  pub counts : All (λ c. 0 < c.count) d.queue.items
+  pub staged : IsStaged d.staged.items d.transfer
+  pub transfer : IsTransfer d.plan d.sectors d.transfer
+
+-- what it sends after its next FIS
+abbrev pub sends_after : DiskPlan → List ℕ → Reading → Bool → List Sending
+sends_after plan medium r false = sends_of plan medium r true
+sends_after plan medium r true = sends_left plan medium r.command (r.left - 1)
+
+-- the first FIS of the list is the one that these bytes show, and these are the others
+abbrev pub Leads : List Sending → List ℕ → List Sending → Type 0
+Leads [] bytes later = ⊥
+Leads (s ∷ rest) bytes later = Shows s bytes × (rest ≡ later)
+
+-- a read after its next FIS
+abbrev pub moved_to : Reading → Bool → Reading
+moved_to r false = record { command = r.command; left = r.left; set_up = true }
+moved_to r true = record { command = r.command; left = r.left - 1; set_up = false }
+
+abbrev pub moved : Reading → Reading
+moved r = moved_to r r.set_up
+
+-- what a call that sends gives, and what it leaves
+abbrev pub Gives : DiskValue → Option Stamped → DiskValue → Type 0
+Gives old None new = (turn old.plan old.sectors old.now ≡ None) × (new ≡ old)
+Gives old (Some frame) new = Gave old frame.bytes new

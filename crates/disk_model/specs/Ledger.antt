@@ -1,0 +1,191 @@
+-- What the FISes of a disk tell whoever listens on its link: which queued commands are outstanding, what of their data moved and
+-- where it belongs, which ended and in what order (Serial ATA 3.x, first party DMA and native command queuing). Nothing
+-- here knows how the disk goes about its commands: no plan, no chunk, no answer that waits. Places come from the DMA
+-- Setups, bytes from the Data FISes, lengths from the commands.
+use Rattle.std.specs.Prelude.{ℕ, ◌≡◌, ◌+◌, ◌*◌, ◌%◌, ◌^◌, ◌==◌, ◌&&◌, Bool, true, false, not, List, [], ◌∷◌, ◌++◌, drop, length, replicate, filter, find, if◌then◌else◌, Option, Some, None, Result, Ok}
+use Rattle.std.specs.List.{list_any}
+use Rattle.fis_view.specs.Table.{Bits, Setup, BufferId, Offset, SActive, Status, field}
+use Rattle.fis_view.specs.Table as table
+use Rattle.fis_view.specs.Seen.{seen}
+use Rattle.fis_view.specs.declared.view.Fis.{Fis}
+use Rattle.fis_view.specs.declared.view.Fis.TheVariants as view
+use Rattle.fis_view.specs.declared.view.FisFault.{FisFault}
+use Rattle.disk_model.specs.declared.plan.DiskPlan.{DiskPlan}
+use Rattle.disk_model.specs.declared.request.Command.{Command}
+use Rattle.disk_model.specs.declared.request.Request.{Request}
+use Rattle.disk_model.specs.declared.request.Request.TheVariants.{Reset, Queue, ReadErrorLog, Identify, Flush, Other}
+use Rattle.disk_model.specs.Histories.{Happening, Received, Sent, Plugged}
+use Rattle.disk_model.specs.Requests.{request_of}
+use Rattle.disk_model.specs.Chunks.{put, sectors_at}
+use Rattle.disk_model.specs.Disks.{opening_medium}
+use Rattle.disk_model.specs.Runs.{is_size}
+
+-- a write that ended: where its bytes begin on the medium, and its bytes
+pub record Written : Type 0 where
+  pub at : ℕ
+  pub bytes : List ℕ
+
+-- the data of a command, as far as it moved
+pub record Moving : Type 0 where
+  pub command : Command
+  -- the writes that had ended when it was started
+  pub before : List Written
+  -- its bytes, each at its place; 0 where none came
+  pub bytes : List ℕ
+  -- how many bytes moved
+  pub moved : ℕ
+  -- of the last DMA Setup: where its bytes belong, how many they are, and whether a DMA Activate came after it
+  pub offset : ℕ
+  pub count : ℕ
+  pub active : Bool
+
+-- a read that ended: its command, the writes that had ended when it was started, and the bytes that it sent
+pub record ReadOut : Type 0 where
+  pub command : Command
+  pub before : List Written
+  pub bytes : List ℕ
+
+pub record Ledger : Type 0 where
+  -- the commands that were queued and have not ended
+  pub outstanding : List Command
+  -- whether all of them were given up for an error, and no log and no reset came since
+  pub failed : Bool
+  -- the tags of commands that ended and were not answered, in the order in which they ended
+  pub unanswered : List ℕ
+  pub moving : Option Moving
+  -- the writes and the reads that ended, in order
+  pub writes : List Written
+  pub reads : List ReadOut
+
+abbrev pub empty : Ledger
+empty = record { outstanding = []; failed = false; unanswered = []; moving = None; writes = []; reads = [] }
+
+-- ## What the host sends
+
+-- nothing is outstanding, and nothing is to be answered
+abbrev pub given_up : Ledger → Bool → Ledger
+given_up l failed = record l { outstanding = []; failed = failed; unanswered = []; moving = None }
+
+-- a command that is not queued: all is given up where queued commands are outstanding
+abbrev pub mixes : Ledger → Ledger → List Command → Ledger
+mixes l alone [] = alone
+mixes l alone (c ∷ cs) = given_up l true
+
+abbrev pub opens : Ledger → Command → Ledger
+opens l c = (if list_any (λ q. q.tag == c.tag) l.outstanding then mixes l l l.outstanding else record l { outstanding = l.outstanding ++ c ∷ [] })
+
+-- after an error a command is not heard, but for the log
+abbrev pub asks : Ledger → Request → Bool → Ledger
+asks l (Reset true) failed = given_up l false
+asks l (Reset false) failed = l
+asks l ReadErrorLog failed = mixes l (record l { failed = false }) l.outstanding
+asks l (Queue c) false = opens l c
+asks l Flush false = mixes l l l.outstanding
+asks l Identify false = mixes l l l.outstanding
+asks l Other false = mixes l l l.outstanding
+asks l _ true = l
+
+-- ## How data moves
+
+-- all bytes of the command moved
+abbrev pub ends : Ledger → Moving → Bool → Ledger
+ends l v true = record l { outstanding = filter (λ q. not (q.tag == v.command.tag)) l.outstanding; unanswered = l.unanswered ++ v.command.tag ∷ []; moving = None; writes = l.writes ++ record { at = 512 * v.command.lba; bytes = v.bytes } ∷ [] }
+ends l v false = record l { outstanding = filter (λ q. not (q.tag == v.command.tag)) l.outstanding; unanswered = l.unanswered ++ v.command.tag ∷ []; moving = None; reads = l.reads ++ record { command = v.command; before = v.before; bytes = v.bytes } ∷ [] }
+
+-- a command ends as soon as as many bytes moved as it asks for
+abbrev pub goes_on : Ledger → Moving → Ledger
+goes_on l v = (if v.moved == 512 * v.command.count then ends l v v.command.write else record l { moving = Some v })
+
+-- bytes move to the place that the last DMA Setup gave
+abbrev pub moves : Ledger → Moving → List ℕ → Ledger
+moves l v bytes = goes_on l (record v { bytes = put v.bytes v.offset bytes; moved = v.moved + length bytes; active = false })
+
+-- Data of the host: it is the write's where a DMA Activate asked for it and it has the DMA Setup's length
+abbrev pub takes_data : Ledger → Option Moving → List ℕ → Ledger
+takes_data l None bytes = l
+takes_data l (Some v) bytes = (if v.active && (length bytes == v.count) then moves l v bytes else l)
+
+-- Data of the disk: it is the read's
+abbrev pub sends_data : Ledger → Option Moving → List ℕ → Ledger
+sends_data l None bytes = l
+sends_data l (Some v) bytes = moves l v bytes
+
+-- A DMA Setup: the first one of a command starts it.
+abbrev pub starts_moving : Ledger → (offset count : ℕ) → Option Command → Ledger
+starts_moving l offset count None = l
+starts_moving l offset count (Some c) = record l { moving = Some (record { command = c; before = l.writes; bytes = replicate (512 * c.count) 0; moved = 0; offset = offset; count = count; active = false }) }
+
+abbrev pub sets_up : Ledger → Option Moving → (tag offset count : ℕ) → Ledger
+sets_up l None tag offset count = starts_moving l offset count (find (λ c. c.tag == tag) l.outstanding)
+sets_up l (Some v) tag offset count = record l { moving = Some (record v { offset = offset; count = count; active = false }) }
+
+abbrev pub activates : Ledger → Option Moving → Ledger
+activates l None = l
+activates l (Some v) = record l { moving = Some (record v { active = true }) }
+
+-- ## Set Device Bits
+
+-- whether ERR, bit 0 of Status, is set
+abbrev pub has_error : List ℕ → Bool
+has_error f = field Bits Status f % 2 == 1
+
+-- with ERR all is given up; else the command that ended first is answered
+abbrev pub answers : Ledger → Bool → Ledger
+answers l true = given_up l true
+answers l false = record l { unanswered = drop 1 l.unanswered }
+
+-- ## Histories
+
+abbrev pub listens_down : Ledger → Result Fis FisFault → Ledger
+listens_down l (Ok (view.RegH2D f)) = asks l (request_of f) l.failed
+listens_down l (Ok (view.Payload f)) = takes_data l l.moving (drop 4 f)
+listens_down l _ = l
+
+abbrev pub listens_up : Ledger → Result Fis FisFault → Ledger
+listens_up l (Ok (view.DmaSetup f)) = sets_up l l.moving (field Setup BufferId f) (field Setup Offset f) (field Setup table.Count f)
+listens_up l (Ok (view.DmaActivate f)) = activates l l.moving
+listens_up l (Ok (view.Payload f)) = sends_data l l.moving (drop 4 f)
+listens_up l (Ok (view.SetBits f)) = answers l (has_error f)
+listens_up l _ = l
+
+abbrev pub listens : Ledger → Happening → Ledger
+listens l (Received bytes) = listens_down l (seen bytes)
+listens l (Sent bytes) = listens_up l (seen bytes)
+listens l Plugged = given_up l false
+
+unfoldable pub ledger_after : Ledger → List Happening → Ledger
+ledger_after l [] = l
+ledger_after l (e ∷ later) = ledger_after (listens l e) later
+
+-- what the FISes of a history tell
+abbrev pub ledger : List Happening → Ledger
+ledger history = ledger_after empty history
+
+-- ## The laws
+
+-- a medium, with the bytes of writes put in, in order
+unfoldable pub with_writes : List ℕ → List Written → List ℕ
+with_writes medium [] = medium
+with_writes medium (w ∷ later) = with_writes (put medium w.at w.bytes) later
+
+-- the medium of a new disk, with the bytes of writes put in, in order
+abbrev pub medium_with : ℕ → List Written → List ℕ
+medium_with sectors writes = with_writes (opening_medium sectors) writes
+
+-- the bytes that the read sent, each at its place, are its sectors as they were when it was started
+abbrev pub IsRead : ℕ → ReadOut → Type 0
+IsRead sectors r = r.bytes ≡ sectors_at (medium_with sectors r.before) r.command.lba r.command.count
+
+-- the Set Device Bits FIS names the tag that ended first among those that were not answered, and no other
+abbrev pub Names : List ℕ → ℕ → Type 0
+Names [] sactive = ⊥
+Names (tag ∷ later) sactive = sactive ≡ 2 ^ tag
+
+-- a Set Device Bits FIS without ERR answers a command that ended and was not answered
+abbrev pub AnswersOne : Ledger → Result Fis FisFault → Type 0
+AnswersOne l (Ok (view.SetBits f)) = has_error f ≡ false → Names l.unanswered (field Bits SActive f)
+AnswersOne l _ = Unit {0}
+
+-- a disk's size, which its making tests
+abbrev pub IsSize : DiskPlan → ℕ → Type 0
+IsSize plan sectors = is_size sectors plan.chunk ≡ true

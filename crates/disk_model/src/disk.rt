@@ -1,0 +1,203 @@
+//! A disk with native command queuing (Serial ATA 3.x, first party DMA; ACS-3).
+
+ghost use Rattle.std.specs.Prelude.{◌≡◌, ◌+◌, ◌*◌, ◌<◌, ◌≤◌, ◌==◌, [], All, IfOk, IsErrOf, IsTrue, MatchOption, OnOk, filter, length, map, not, replicate, ◌↔◌};
+ghost use Rattle.std.specs.List.{list_any};
+ghost use Rattle.disk_model.specs.Chunks.{put, sectors_at};
+ghost use Rattle.disk_model.specs.Disks.{opening, opening_medium, without};
+ghost use Rattle.disk_model.specs.Histories.{DiskOf};
+ghost use Rattle.disk_model.specs.Runs.{DiskStandsFor, disk_plan, is_size};
+
+mod receive;
+mod send;
+
+use crate::answer::{Answer, Fault};
+use crate::device::Device;
+use crate::plan::DiskPlan;
+use crate::request::{Command, Request};
+use fis_view::{Fis, Frame, Stamp};
+use std::alloc::{AllocError, Global};
+use std::collections::VecDeque;
+use std::marker::Model;
+use thiserror::Error;
+
+/// A read that was started.
+#[derive(Clone, Copy, Debug)]
+pub struct Reading {
+    command: Command,
+    /// How many chunks have not been sent whole.
+    left: u32,
+    /// Whether the DMA Setup of the first of them went.
+    set_up: bool,
+}
+
+/// A write that was started.
+#[derive(Clone, Copy, Debug)]
+pub struct Waiting {
+    command: Command,
+    /// How many chunks have not come.
+    left: u32,
+    /// How many FISes went that ask for the first of them, of two.
+    gone: u8,
+}
+
+#[derive(Clone, Copy, Debug)]
+enum Transfer {
+    Idle,
+    Read(Reading),
+    Write(Waiting),
+}
+
+/// A disk, its sectors in memory. Byte i of sector L opens as (L + i) mod 256. It queues reads and writes by
+/// tags, moves the data of each in chunks, and answers IDENTIFY DEVICE, FLUSH CACHE EXT and READ LOG EXT of the NCQ
+/// Command Error log. A command that cannot be done ends all queued ones, and the disk hears nothing but that log and
+/// resets from then on.
+#[derive(Drop)]
+pub struct Disk {
+    plan: DiskPlan,
+    sectors: u32,
+    medium: Vec<u8>,
+    queue: Vec<Command>,
+    fault: Option<Fault>,
+    /// Whether SRST was set and not cleared since.
+    resetting: bool,
+    answers: VecDeque<Answer>,
+    transfer: Transfer,
+    /// The bytes of a write, as far as they came.
+    staged: Vec<u8>,
+}
+
+impl Model for Disk {
+    ghost use Rattle.disk_model.specs.Disks.{DiskValue};
+
+    ghost Value = { DiskValue };
+
+    ghost use Rattle.disk_model.specs.Insides.{seen_as, IsDisk};
+
+    ghost view = { seen_as };
+
+    ghost invariant = { IsDisk };
+}
+
+/// Why a disk cannot be made.
+#[derive(Clone, Copy, Debug, PartialEq, Eq, Error)]
+pub enum DiskError {
+    /// The number of sectors is not 1 to 65,536, or the chunk is no multiple of 512 from 512 to 8,192.
+    #[error("bad size")]
+    BadSize,
+    /// The allocator refused memory for the sectors.
+    #[error("out of memory")]
+    OutOfMemory,
+}
+
+impl From<AllocError> for DiskError {
+    ghost use Rattle.std.specs.Prelude.{◌≡◌};
+    ghost use Rattle.disk_model.specs.declared.disk.DiskError.TheVariants.{OutOfMemory};
+
+    ghost from_gives = { λ _ e. e ≡ OutOfMemory };
+
+    fn from(_: AllocError) -> Self {
+        DiskError::OutOfMemory
+    }
+}
+
+/// The sectors of a new disk.
+fn new_medium(alloc: Global, sectors: u32) -> Result<Vec<u8>, AllocError>
+    requires { sectors ≤ 65536 }
+    ensures items { IfOk result (λ v. v.items ≡ opening_medium sectors) }
+    ensures len { IfOk result (λ v. length v.items ≡ 512 * sectors) }
+{
+    let len = 512 * sectors;
+    let mut medium = Vec::with_capacity(alloc, len as usize)?;
+    for at in 0..len {
+        medium.push(((at / 512 + at % 512) % 256) as u8)?;
+    }
+    Ok(medium)
+}
+
+fn put_at(bytes: &mut Vec<u8>, at: usize, part: &[u8])
+    requires { at + length part.now ≤ length bytes.old.items }
+    ensures { bytes.new.items ≡ put bytes.old.items at part.now }
+{
+    bytes[at..at + part.len()].copy_from_slice(part);
+}
+
+fn remove_tag(queue: &mut Vec<Command>, tag: u8)
+    ensures items { queue.new.items ≡ filter (λ q. not (q.tag == tag)) queue.old.items }
+    ensures counts { All (λ c. 0 < c.count) queue.old.items → All (λ c. 0 < c.count) queue.new.items }
+{
+    queue.retain(|queued| queued.tag != tag);
+}
+
+fn is_queued(queue: &[Command], tag: u8) -> bool
+    ensures { result ≡ list_any (λ q. q.tag == tag) queue.now }
+{
+    queue.iter().any(|queued| queued.tag == tag)
+}
+
+impl Disk {
+    /// A disk with so many sectors of 512 bytes, 1 to 65,536. The sizes are tested before memory is asked for.
+    pub fn new(alloc: Global, sectors: u32, plan: DiskPlan) -> Result<Disk, DiskError>
+        ensures ok { IfOk result (λ d. d ≡ record { plan = plan; sectors = sectors; now = opening sectors }) }
+        ensures plan { IfOk result (λ d. disk_plan d ≡ DiskOf plan sectors) }
+        ensures opening { IfOk result (λ d. DiskStandsFor d []) }
+        ensures size { OnOk result (IsTrue (is_size sectors plan.chunk)) }
+        ensures bad_size { IsErrOf result DiskError.BadSize ↔ ¬ IsTrue (is_size sectors plan.chunk) }
+    {
+        let chunk = plan.chunk;
+        if sectors < 1 || 65536 < sectors || chunk < 512 || 8192 < chunk || chunk % 512 != 0 {
+            return Err(DiskError::BadSize);
+        }
+        let medium = new_medium(alloc, sectors)?;
+        Ok(Disk {
+            plan,
+            sectors,
+            medium,
+            queue: Vec::new(alloc),
+            fault: None,
+            resetting: false,
+            answers: VecDeque::new(alloc),
+            transfer: Transfer::Idle,
+            staged: Vec::new(alloc),
+        })
+    }
+
+    /// The 512 bytes of a sector on the medium, None past the end.
+    pub fn sector(&self, lba: u32) -> Option<&[u8]>
+        ensures { MatchOption result (self.now.sectors ≤ lba) (λ bytes. (lba < self.now.sectors) × (bytes.now ≡ sectors_at self.now.now.medium lba 1) × (length bytes.now ≡ 512)) }
+    {
+        if self.sectors <= lba {
+            return None;
+        }
+        let start = lba as usize * 512;
+        Some(&self.medium[start..start + 512])
+    }
+}
+
+impl Device for Disk {
+    ghost use Rattle.disk_model.specs.Runs.{DiskMaySend, DiskStandsFor, disk_plan};
+
+    ghost plan_of = { disk_plan };
+
+    ghost stands_for = { DiskStandsFor };
+
+    ghost may_send = { DiskMaySend };
+
+    fn on_frame(&mut self, _alloc: Global, frame: &Frame) -> Result<(), AllocError> {
+        let Ok(fis) = frame.fis() else {
+            return Ok(());
+        };
+        match fis {
+            Fis::RegH2D(fis) => self.receive(Request::of(&fis)),
+            Fis::Payload(fis) => self.store(fis.payload()),
+            _ => Ok(()),
+        }
+    }
+
+    fn next_out(&mut self, alloc: Global, stamp: Stamp) -> Result<Option<Frame>, AllocError> {
+        self.give_answer(alloc, stamp)
+    }
+
+    fn plugged(&mut self, _alloc: Global) -> Result<(), AllocError> {
+        self.plug()
+    }
+}

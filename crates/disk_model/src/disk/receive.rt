@@ -1,0 +1,203 @@
+//! What a disk makes of what it receives.
+
+ghost use Rattle.std.specs.Prelude.{◌≡◌, ◌<◌, ◌++◌, ◌∷◌, [], None, OnErr, OnOk};
+ghost use Rattle.disk_model.specs.Disks.{cleared, data_taken, flushed, identified, logged, owes, queues, received, refused, with_now};
+ghost use Rattle.disk_model.specs.Requests.{Asks};
+ghost use Rattle.disk_model.specs.declared.answer.Answer.TheVariants.{PageFollows, PageData};
+
+use super::{Disk, Transfer, Waiting, is_queued, put_at, remove_tag};
+use crate::answer::{Answer, Fault, Page};
+use crate::chunk::Chunk;
+use crate::request::{Command, Request};
+use std::alloc::AllocError;
+
+impl Disk {
+    /// Drops all that a reset drops.
+    fn clear(&mut self)
+        ensures { self.new ≡ with_now self.old (cleared self.old.now) }
+    {
+        self.queue.clear();
+        self.answers.clear();
+        self.transfer = Transfer::Idle;
+        self.fault = None;
+    }
+
+    fn owe(&mut self, answer: Answer) -> Result<(), AllocError>
+        ensures ok { OnOk result (self.new ≡ with_now self.old (owes self.old.now answer)) }
+        ensures err { OnErr result (self.new ≡ self.old) }
+    {
+        self.answers.push_back(answer)?;
+        Ok(())
+    }
+
+    /// Drops all but the mark of a reset that has begun, and owes this answer alone.
+    fn owe_alone(&mut self, answer: Answer, fault: Option<Fault>) -> Result<(), AllocError>
+        ensures ok { OnOk result (self.new ≡ with_now self.old (record self.old.now { queued = []; fault = fault; owed = answer ∷ []; started = None; writing = None })) }
+        ensures err { OnErr result (self.new ≡ self.old) }
+    {
+        // The first place is used again where there is one, so that no memory is asked for.
+        if self.answers.is_empty() {
+            self.answers.push_back(answer)?;
+        } else {
+            self.answers.truncate(1);
+            self.answers[0] = answer;
+        }
+        self.queue.clear();
+        self.transfer = Transfer::Idle;
+        self.fault = fault;
+        Ok(())
+    }
+
+    fn refuse(&mut self) -> Result<(), AllocError>
+        ensures ok { OnOk result (self.new ≡ with_now self.old (refused self.old.now self.old.now.queued)) }
+        ensures err { OnErr result (self.new ≡ self.old) }
+    {
+        if self.queue.is_empty() {
+            self.owe(Answer::Refused)
+        } else {
+            self.owe_alone(Answer::Refused, Some(Fault::Mixed))
+        }
+    }
+
+    fn enqueue(&mut self, command: Command) -> Result<(), AllocError>
+        requires { 0 < command.count }
+        ensures ok { OnOk result (self.new ≡ with_now self.old (queues self.old.now command)) }
+        ensures err { OnErr result (self.new ≡ self.old) }
+    {
+        if is_queued(self.queue.as_slice(), command.tag) {
+            return self.refuse();
+        }
+        self.answers.push_back(Answer::Accepted)?;
+        match self.queue.push(command) {
+            Ok(()) => Ok(()),
+            Err(_) => {
+                self.answers.pop_back();
+                Err(AllocError)
+            }
+        }
+    }
+
+    fn flush(&mut self) -> Result<(), AllocError>
+        ensures ok { OnOk result (self.new ≡ with_now self.old (flushed self.old.now self.old.now.queued)) }
+        ensures err { OnErr result (self.new ≡ self.old) }
+    {
+        if self.queue.is_empty() {
+            self.owe(Answer::Finished)
+        } else {
+            self.refuse()
+        }
+    }
+
+    /// Owes the PIO Setup of a page and the page.
+    fn owe_page(&mut self, page: Page) -> Result<(), AllocError>
+        ensures ok { OnOk result (self.new ≡ with_now self.old (record self.old.now { owed = self.old.now.owed ++ PageFollows ∷ PageData page ∷ [] })) }
+        ensures err { OnErr result (self.new ≡ self.old) }
+    {
+        self.answers.push_back(Answer::PageFollows)?;
+        match self.answers.push_back(Answer::PageData(page)) {
+            Ok(()) => Ok(()),
+            Err(_) => {
+                self.answers.pop_back();
+                Err(AllocError)
+            }
+        }
+    }
+
+    fn identify(&mut self) -> Result<(), AllocError>
+        ensures ok { OnOk result (self.new ≡ with_now self.old (identified self.old.now self.old.now.queued)) }
+        ensures err { OnErr result (self.new ≡ self.old) }
+    {
+        if self.queue.is_empty() {
+            self.owe_page(Page::Identity)
+        } else {
+            self.refuse()
+        }
+    }
+
+    fn read_error_log(&mut self) -> Result<(), AllocError>
+        ensures ok { OnOk result (self.new ≡ with_now self.old (logged self.old.now self.old.now.queued)) }
+        ensures err { OnErr result (self.new ≡ self.old) }
+    {
+        if !self.queue.is_empty() {
+            return self.refuse();
+        }
+        self.owe_page(Page::ErrorLog(self.fault))?;
+        self.fault = None;
+        Ok(())
+    }
+
+    /// Hears what a Register FIS asks for. In the error mode a command other than the log is dropped.
+    pub(super) fn receive(&mut self, request: Request) -> Result<(), AllocError>
+        requires { Asks request }
+        ensures ok { OnOk result (self.new ≡ with_now self.old (received self.old.now request self.old.now.fault)) }
+        ensures err { OnErr result (self.new ≡ self.old) }
+    {
+        match request {
+            Request::Reset(true) => {
+                self.clear();
+                self.resetting = true;
+                Ok(())
+            }
+            Request::Reset(false) => {
+                if self.resetting {
+                    self.owe(Answer::Signature)?;
+                    self.resetting = false;
+                }
+                Ok(())
+            }
+            Request::ReadErrorLog => self.read_error_log(),
+            _ if self.fault.is_some() => Ok(()),
+            Request::Queue(command) => self.enqueue(command),
+            Request::Flush => self.flush(),
+            Request::Identify => self.identify(),
+            Request::Other => self.refuse(),
+        }
+    }
+
+    /// Takes the chunk that a write waits for. Other Data is dropped.
+    pub(super) fn store(&mut self, bytes: &[u8]) -> Result<(), AllocError>
+        ensures ok { OnOk result (self.new ≡ with_now self.old (data_taken self.old.plan self.old.now self.old.now.writing bytes.now)) }
+        ensures err { OnErr result (self.new ≡ self.old) }
+    {
+        let Transfer::Write(waiting) = self.transfer else {
+            return Ok(());
+        };
+        let Waiting {
+            command,
+            left,
+            gone,
+        } = waiting;
+        let chunk = Chunk::at(&self.plan, command, left);
+        if gone < 2 || bytes.len() != 512 * chunk.count as usize {
+            return Ok(());
+        }
+        let at = 512 * chunk.from as usize;
+        if left == 1 {
+            self.answers.push_back(Answer::Ended(command.tag))?;
+            put_at(&mut self.staged, at, bytes);
+            put_at(
+                &mut self.medium,
+                512 * command.lba as usize,
+                self.staged.as_slice(),
+            );
+            remove_tag(&mut self.queue, command.tag);
+            self.transfer = Transfer::Idle;
+        } else {
+            put_at(&mut self.staged, at, bytes);
+            self.transfer = Transfer::Write(Waiting {
+                command,
+                left: left - 1,
+                gone: 0,
+            });
+        }
+        Ok(())
+    }
+
+    /// Drops what a reset drops, and owes the signature.
+    pub(super) fn plug(&mut self) -> Result<(), AllocError>
+        ensures ok { OnOk result (self.new ≡ with_now self.old (owes (cleared self.old.now) Answer.Signature)) }
+        ensures err { OnErr result (self.new ≡ self.old) }
+    {
+        self.owe_alone(Answer::Signature, None)
+    }
+}

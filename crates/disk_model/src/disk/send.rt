@@ -1,0 +1,276 @@
+//! What a disk sends next.
+
+ghost use Rattle.std.specs.Prelude.{◌≡◌, ◌+◌, ◌*◌, ◌<◌, ◌≤◌, [], drop, length, replicate, true, None, IfOk, IfSome, OnErr};
+ghost use Rattle.disk_model.specs.Chunks.{asks_for, chunks};
+ghost use Rattle.disk_model.specs.Disks.{picked};
+ghost use Rattle.disk_model.specs.Insides.{Gives, IsTransfer, Leads, moved, sends_after, sends_of};
+ghost use Rattle.disk_model.specs.declared.disk.Transfer.TheVariants.{Read};
+
+use super::{Disk, Reading, Transfer, Waiting, remove_tag};
+use crate::answer::{Answer, activate_frame, data_frame, report_frame, setup_frame};
+use crate::chunk::{Chunk, chunks_of, command_fault};
+use crate::plan::{DiskPlan, Order};
+use crate::request::Command;
+use fis_view::{Frame, Stamp};
+use std::alloc::{AllocError, Global};
+
+/// The FIS that a started read sends next.
+fn reading_frame(
+    alloc: Global,
+    plan: &DiskPlan,
+    sectors: u32,
+    medium: &[u8],
+    reading: Reading,
+    stamp: Stamp,
+) -> Result<Frame, AllocError>
+    requires low { 512 ≤ plan.now.chunk }
+    requires high { plan.now.chunk ≤ 8192 }
+    requires sectors { sectors ≤ 65536 }
+    requires medium { length medium.now ≡ 512 * sectors }
+    requires transfer { IsTransfer plan.now sectors (Read reading) }
+    ensures leads { IfOk result (λ f. Leads (sends_of plan.now medium.now reading reading.set_up) f.bytes (sends_after plan.now medium.now reading reading.set_up)) }
+    ensures stamp { IfOk result (λ f. f.stamp ≡ stamp) }
+{
+    let command = reading.command;
+    let chunk = Chunk::at(plan, command, reading.left);
+    if reading.set_up {
+        let start = (command.lba as usize + chunk.from as usize) * 512;
+        let end = start + chunk.count as usize * 512;
+        data_frame(alloc, &medium[start..end], stamp)
+    } else {
+        setup_frame(
+            alloc,
+            command.tag,
+            512 * chunk.from,
+            512 * chunk.count,
+            !command.write,
+            stamp,
+        )
+    }
+}
+
+/// The FIS that a write sends next to ask for a chunk.
+fn asking_frame(
+    alloc: Global,
+    plan: &DiskPlan,
+    waiting: Waiting,
+    stamp: Stamp,
+) -> Result<Frame, AllocError>
+    requires low { 512 ≤ plan.now.chunk }
+    requires high { plan.now.chunk ≤ 8192 }
+    requires short { waiting.command.count ≤ 65536 }
+    requires some { 0 < waiting.left }
+    requires among { waiting.left ≤ chunks plan.now waiting.command }
+    requires more { waiting.gone < 2 }
+    ensures leads { IfOk result (λ f. Leads (drop waiting.gone (asks_for plan.now waiting.command waiting.left)) f.bytes (drop (waiting.gone + 1) (asks_for plan.now waiting.command waiting.left))) }
+    ensures stamp { IfOk result (λ f. f.stamp ≡ stamp) }
+{
+    let command = waiting.command;
+    if waiting.gone == 0 {
+        let chunk = Chunk::at(plan, command, waiting.left);
+        setup_frame(
+            alloc,
+            command.tag,
+            512 * chunk.from,
+            512 * chunk.count,
+            !command.write,
+            stamp,
+        )
+    } else {
+        activate_frame(alloc, stamp)
+    }
+}
+
+fn zeros(alloc: Global, len: u32) -> Result<Vec<u8>, AllocError>
+    ensures { IfOk result (λ v. v.items ≡ replicate len 0) }
+{
+    vec![in alloc; 0; len as usize]
+}
+
+/// The read after its next FIS, which is not its last.
+fn moved_on(reading: Reading) -> Reading
+    requires some { 0 < reading.left }
+    requires more { reading.set_up ≡ true → 1 < reading.left }
+    ensures { result ≡ moved reading }
+{
+    let Reading {
+        command,
+        left,
+        set_up,
+    } = reading;
+    if set_up {
+        Reading {
+            command,
+            left: left - 1,
+            set_up: false,
+        }
+    } else {
+        Reading {
+            command,
+            left,
+            set_up: true,
+        }
+    }
+}
+
+impl Disk {
+    /// The command that is started next.
+    fn pick(&self) -> Option<Command>
+        ensures { result ≡ picked self.now.plan.order self.now.now.queued }
+    {
+        match self.plan.order {
+            Order::Oldest => self.queue.first().copied(),
+            Order::Newest => self.queue.last().copied(),
+        }
+    }
+
+    /// Gives the oldest answer, else what comes next.
+    pub(super) fn give_answer(
+        &mut self,
+        alloc: Global,
+        stamp: Stamp,
+    ) -> Result<Option<Frame>, AllocError>
+        ensures gives { IfOk result (λ out. Gives self.old out self.new) }
+        ensures stamp { IfOk result (λ out. IfSome out (λ frame. frame.stamp ≡ stamp)) }
+        ensures err { OnErr result (self.new ≡ self.old) }
+    {
+        match self.answers.front() {
+            Some(answer) => {
+                let frame = answer.frame(alloc, self.sectors, stamp)?;
+                self.answers.pop_front();
+                Ok(Some(frame))
+            }
+            None => self.give_transfer(alloc, stamp),
+        }
+    }
+
+    /// Gives the next FIS of a started read, where no answer waits.
+    fn give_transfer(&mut self, alloc: Global, stamp: Stamp) -> Result<Option<Frame>, AllocError>
+        requires { self.old.now.owed ≡ [] }
+        ensures gives { IfOk result (λ out. Gives self.old out self.new) }
+        ensures stamp { IfOk result (λ out. IfSome out (λ frame. frame.stamp ≡ stamp)) }
+        ensures err { OnErr result (self.new ≡ self.old) }
+    {
+        let Transfer::Read(reading) = self.transfer else {
+            return self.give_waiting(alloc, stamp);
+        };
+        let tag = reading.command.tag;
+        if reading.set_up && reading.left == 1 {
+            // Room for the end is made first, so that a FIS that finds no memory leaves nothing behind.
+            self.answers.push_back(Answer::Ended(tag))?;
+            match reading_frame(
+                alloc,
+                &self.plan,
+                self.sectors,
+                self.medium.as_slice(),
+                reading,
+                stamp,
+            ) {
+                Ok(frame) => {
+                    remove_tag(&mut self.queue, tag);
+                    self.transfer = Transfer::Idle;
+                    Ok(Some(frame))
+                }
+                Err(error) => {
+                    self.answers.pop_back();
+                    Err(error)
+                }
+            }
+        } else {
+            let frame = reading_frame(
+                alloc,
+                &self.plan,
+                self.sectors,
+                self.medium.as_slice(),
+                reading,
+                stamp,
+            )?;
+            self.transfer = Transfer::Read(moved_on(reading));
+            Ok(Some(frame))
+        }
+    }
+
+    /// Asks for the next chunk of a started write, where no read runs.
+    fn give_waiting(&mut self, alloc: Global, stamp: Stamp) -> Result<Option<Frame>, AllocError>
+        requires owed { self.old.now.owed ≡ [] }
+        requires started { self.old.now.started ≡ None }
+        ensures gives { IfOk result (λ out. Gives self.old out self.new) }
+        ensures stamp { IfOk result (λ out. IfSome out (λ frame. frame.stamp ≡ stamp)) }
+        ensures err { OnErr result (self.new ≡ self.old) }
+    {
+        let Transfer::Write(waiting) = self.transfer else {
+            return self.give_start(alloc, stamp);
+        };
+        if waiting.gone >= 2 {
+            return Ok(None);
+        }
+        let frame = asking_frame(alloc, &self.plan, waiting, stamp)?;
+        let Waiting {
+            command,
+            left,
+            gone,
+        } = waiting;
+        self.transfer = Transfer::Write(Waiting {
+            command,
+            left,
+            gone: gone + 1,
+        });
+        Ok(Some(frame))
+    }
+
+    /// Starts a queued command, where nothing waits and no transfer runs, and gives its first FIS.
+    fn give_start(&mut self, alloc: Global, stamp: Stamp) -> Result<Option<Frame>, AllocError>
+        requires owed { self.old.now.owed ≡ [] }
+        requires started { self.old.now.started ≡ None }
+        requires writing { self.old.now.writing ≡ None }
+        ensures gives { IfOk result (λ out. Gives self.old out self.new) }
+        ensures stamp { IfOk result (λ out. IfSome out (λ frame. frame.stamp ≡ stamp)) }
+        ensures err { OnErr result (self.new ≡ self.old) }
+    {
+        let Some(command) = self.pick() else {
+            return Ok(None);
+        };
+        match command_fault(&self.plan, self.sectors, command) {
+            Some(fault) => {
+                let frame = report_frame(alloc, fault, stamp)?;
+                self.queue.clear();
+                self.fault = Some(fault);
+                Ok(Some(frame))
+            }
+            None if command.write => {
+                let left = chunks_of(&self.plan, command);
+                let waiting = Waiting {
+                    command,
+                    left,
+                    gone: 0,
+                };
+                let staged = zeros(alloc, 512 * command.count)?;
+                let frame = asking_frame(alloc, &self.plan, waiting, stamp)?;
+                self.staged = staged;
+                self.transfer = Transfer::Write(Waiting {
+                    command,
+                    left,
+                    gone: 1,
+                });
+                Ok(Some(frame))
+            }
+            None => {
+                let reading = Reading {
+                    command,
+                    left: chunks_of(&self.plan, command),
+                    set_up: false,
+                };
+                let frame = reading_frame(
+                    alloc,
+                    &self.plan,
+                    self.sectors,
+                    self.medium.as_slice(),
+                    reading,
+                    stamp,
+                )?;
+                self.transfer = Transfer::Read(moved_on(reading));
+                Ok(Some(frame))
+            }
+        }
+    }
+}

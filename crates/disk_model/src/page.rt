@@ -1,0 +1,109 @@
+//! The pages of 512 bytes that READ LOG EXT and IDENTIFY DEVICE read (ACS-3).
+
+ghost use Rattle.std.specs.Prelude.{◌≡◌, ◌≤◌, ◌<◌, IfOk, OnOk, length, sum, vec_len};
+ghost use Rattle.disk_model.specs.Pages.{checksum, error_head, error_log, filled_to, identify_data, page_bytes};
+ghost use Rattle.disk_model.specs.declared.answer.Fault.TheVariants.{Failed};
+
+use crate::answer::{Fault, Page};
+use std::alloc::{AllocError, Global};
+
+/// The byte that makes the sum of these and itself 0 modulo 256.
+fn checksum_of(bytes: &[u8]) -> u8
+    requires { length bytes.now ≤ 65536 }
+    ensures { result ≡ checksum bytes.now }
+{
+    let mut sum: u32 = 0;
+    for byte in bytes {
+        sum += *byte as u32;
+    }
+    ((256 - sum % 256) % 256) as u8
+}
+
+/// Appends zeros up to this length.
+#[tactic(auto, unfolding(crate::specs::Pages::filled_to))]
+fn fill(page: &mut Vec<u8>, len: usize) -> Result<(), AllocError>
+    requires { vec_len page.old ≤ len }
+    ensures items { OnOk result (page.new.items ≡ filled_to len page.old.items) }
+    ensures len { OnOk result (vec_len page.new ≡ len) }
+{
+    page.resize(len, 0)
+}
+
+/// The NCQ Command Error log after an error of a queued command: its bytes up to Count.
+fn failure(tag: u8, error: u8, lba: u64) -> [u8; 14]
+    ensures { result ≡ error_head (Some (Failed tag error lba)) }
+{
+    [
+        // NQ and the tag, reserved, Status, Error
+        tag,
+        0,
+        0x41,
+        error,
+        // LBA 23:0
+        (lba % 0x100) as u8,
+        (lba / 0x100 % 0x100) as u8,
+        (lba / 0x1_0000 % 0x100) as u8,
+        // Device
+        0x40,
+        // LBA 47:24
+        (lba / 0x100_0000 % 0x100) as u8,
+        (lba / 0x1_0000_0000 % 0x100) as u8,
+        (lba / 0x100_0000_0000 % 0x100) as u8,
+        // reserved, Count
+        0,
+        0,
+        0,
+    ]
+}
+
+/// The NCQ Command Error log (ACS-3).
+#[tactic(auto, unfolding(crate::specs::Pages::error_log))]
+fn error_log_page(alloc: Global, fault: Option<Fault>) -> Result<Vec<u8>, AllocError>
+    ensures items { IfOk result (λ page. page.items ≡ error_log fault) }
+    ensures len { IfOk result (λ page. vec_len page ≡ 512) }
+{
+    let mut page = Vec::with_capacity(alloc, 512)?;
+    match fault {
+        Some(Fault::Failed(tag, error, lba)) => {
+            page.extend_from_slice(&failure(tag, error, lba))?;
+        }
+        // NQ alone: no queued command failed
+        Some(Fault::Mixed) | None => page.extend_from_slice(&[0x80])?,
+    }
+    fill(&mut page, 511)?;
+    let last = checksum_of(&page);
+    page.push(last)?;
+    Ok(page)
+}
+
+/// Words 75 to 79 of the IDENTIFY DEVICE data, little endian: a queue of 32 commands, less one; native command queuing is
+/// supported, bit 8; nothing; DMA Setups with an offset other than 0 are supported, bit 1; and enabled, bit 1.
+const QUEUING: [u8; 10] = [0x1F, 0, 0, 1, 0, 0, 2, 0, 2, 0];
+
+/// The IDENTIFY DEVICE data (ACS-3, 7.12): words 75 to 79 and the number of sectors in words 100 to 103.
+#[tactic(auto, unfolding(crate::specs::Pages::identify_data))]
+fn identify_page(alloc: Global, sectors: u32) -> Result<Vec<u8>, AllocError>
+    ensures items { IfOk result (λ page. page.items ≡ identify_data sectors) }
+    ensures len { IfOk result (λ page. vec_len page ≡ 512) }
+{
+    let mut page = Vec::with_capacity(alloc, 512)?;
+    fill(&mut page, 2 * 75)?;
+    page.extend_from_slice(&QUEUING)?;
+    fill(&mut page, 2 * 100)?;
+    page.extend_from_slice(&(sectors as u64).to_le_bytes())?;
+    fill(&mut page, 512)?;
+    Ok(page)
+}
+
+impl Page {
+    /// The bytes of the page, of a disk with so many sectors.
+    pub fn bytes(self, alloc: Global, sectors: u32) -> Result<Vec<u8>, AllocError>
+        ensures items { IfOk result (λ page. page.items ≡ page_bytes sectors self) }
+        ensures len { IfOk result (λ page. vec_len page ≡ 512) }
+    {
+        match self {
+            Page::ErrorLog(fault) => error_log_page(alloc, fault),
+            Page::Identity => identify_page(alloc, sectors),
+        }
+    }
+}

@@ -1,0 +1,44 @@
+//! How a disk goes about its commands.
+
+ghost use Rattle.std.specs.Prelude.{◌≡◌, false, []};
+
+use arrayvec::ArrayVec;
+
+/// Which queued command a disk starts next.
+#[derive(Clone, Copy, Debug, PartialEq, Eq)]
+pub enum Order {
+    /// The one that came first.
+    Oldest,
+    /// The one that came last.
+    Newest,
+}
+
+/// How a disk goes about its commands.
+#[derive(Drop)]
+pub struct DiskPlan {
+    /// Which queued command is started next.
+    pub order: Order,
+    /// The most bytes that one DMA Setup moves: a multiple of 512, from 512 to 8,192.
+    pub chunk: u16,
+    /// Whether the chunks of a command go downwards, its last sectors first.
+    pub last_first: bool,
+    /// Sectors, by their LBA, that cannot be read.
+    pub bad: ArrayVec<u32, 16>,
+}
+
+impl DiskPlan {
+    /// The oldest command first, 8,192 bytes a chunk, chunks upwards, no bad sectors.
+    pub fn plain() -> Self
+        ensures order { result.order ≡ Order.Oldest }
+        ensures chunk { result.chunk ≡ 8192 }
+        ensures last_first { result.last_first ≡ false }
+        ensures bad { result.bad.items ≡ [] }
+    {
+        DiskPlan {
+            order: Order::Oldest,
+            chunk: 8192,
+            last_first: false,
+            bad: ArrayVec::new(),
+        }
+    }
+}
