@@ -1,5 +1,6 @@
 pub mod MemoryLemmas
 pub mod OverlapLemmas
+pub mod PartsLemmas
 pub mod PlaceLemmas
 pub mod PrdLemmas
 pub mod ScatterLemmas

@@ -1,5 +1,6 @@
 pub mod Lent
 pub mod Memory
+pub mod Parts
 pub mod Place
 pub mod Reading
 pub mod Writing

@@ -2,10 +2,12 @@
 #![tactic(auto)]
 
 mod memory;
+mod parts;
 mod table;
 mod write;
 
 pub use memory::{HostMemory, MemoryError, Outside};
+pub use parts::Parts;
 pub use table::{Prd, PrdError, PrdTable};
 pub use write::{have_overlap, total_of, write_prds};
 

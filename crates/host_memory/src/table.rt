@@ -4,8 +4,10 @@ ghost use Rattle.std.specs.Prelude.{◌≡◌, ℕ, ◌+◌, ◌*◌, ◌<◌, �
 ghost use Rattle.std.specs.Result.{result_err, IsErrOf};
 ghost use Rattle.host_memory.specs.Place.{AreApart, AreInside, HasOwnPlaces, HaveOverlap, Scatters, ShareAPlace, place, total_of};
 ghost use Rattle.host_memory.specs.Memory.{client_start};
+ghost use Rattle.host_memory.specs.Parts.{AreParts};
 ghost use Rattle.host_memory.specs.Reading.{dword_at, prd_at, prds_at, entry_fault, first_fault as first_fault_of, share_byte as share_byte_of, shares_with as shares_with_of, share_with as share_with_of, have_overlap as have_overlap_of, read_fault};
 
+use crate::parts::Parts;
 use crate::{CLIENT_START, MAX_PRDS};
 use byteorder::{ByteOrder, LittleEndian};
 use std::marker::Model;
@@ -68,7 +70,7 @@ fn dword(structure: &[u8], at: usize) -> u32
     LittleEndian::read_u32(&structure[at..])
 }
 
-fn read_prd(structure: &[u8], at: usize) -> Prd
+pub(crate) fn read_prd(structure: &[u8], at: usize) -> Prd
     requires { at + 16 ≤ length structure.now }
     ensures { result ≡ prd_at structure.now at }
 {
@@ -236,6 +238,22 @@ impl<'m> PrdTable<'m> {
         ensures { result ≡ total_of self.now.prds }
     {
         sum_of_counts(self.structure, self.at, self.count)
+    }
+
+    /// The slices of the client area that hold `len` bytes of the transfer, from byte `offset` on.
+    pub fn parts<'c>(&self, client: &'c [u8], offset: u32, len: u32) -> Parts<'m, 'c>
+        requires client { self.now.client_len ≡ length client.now }
+        requires fits { offset + len ≤ total_of self.now.prds }
+        ensures { AreParts self.now.prds offset len client.now result }
+    {
+        Parts::of(
+            self.structure,
+            client,
+            self.at,
+            self.count,
+            offset as usize,
+            len as usize,
+        )
     }
 
     /// Writes `bytes` to the places of the transfer's bytes from `offset` on.

@@ -1,5 +1,6 @@
 use crate::{HostMemory, MemoryError, Outside, PrdError, PrdTable};
 use byteorder::{ByteOrder, LittleEndian};
+use std::alloc::Global;
 use std::test::Fail;
 
 const MIB: u32 = 0x10_0000;
@@ -103,6 +104,59 @@ fn scatters_a_transfer(rt: HostRuntime) -> Result<(), Fail> {
     ] {
         assert_eq!(rt; byte_at(&memory, address), Some(byte), "{address:x}");
     }
+    Ok(())
+}
+
+// How many parts there are of these bytes of the transfer whose table lies at 2000h, and what they are together.
+fn parts_of(
+    alloc: Global,
+    memory: &HostMemory,
+    offset: u32,
+    len: u32,
+) -> Result<(usize, Vec<u8>), Fail> {
+    let client = memory.client();
+    if client.len() != 0x10_0000 {
+        return Err(Fail::from("not 2 MiB"));
+    }
+    let table = PrdTable::read(memory.structure(), 0x10_0000, 0x2000, 2)?;
+    let mut joined = Vec::new(alloc);
+    if u64::from(offset) + u64::from(len) > u64::from(table.total()) {
+        return Ok((0, joined));
+    }
+    let mut sizes = Vec::new(alloc);
+    for part in table.parts(client, offset, len) {
+        sizes.push(part.len())?;
+        joined.extend_from_slice(part)?;
+    }
+    Ok((sizes.len(), joined))
+}
+
+#[test]
+fn gives_parts(rt: HostRuntime) -> Result<(), Fail> {
+    let mut memory = HostMemory::new(rt.alloc(), 0x20_0000)?;
+    let prds = table([0x10_1000, 0, 0x12B], [0x10_2000, 0, 0xD3]);
+    memory.structure_mut()[0x2000..0x2020].copy_from_slice(&prds);
+    memory.put_client(0x10_1000, &[1, 2])?;
+    memory.put_client(0x10_112A, &[3, 4, 0xEE])?;
+    memory.put_client(0x10_2000, &[5, 6])?;
+    memory.put_client(0x10_20D2, &[7, 8, 0xEE])?;
+    for (offset, len, count, first) in [
+        (0, 2, 1, [1, 2].as_slice()),
+        (298, 4, 2, [3, 4, 5, 6].as_slice()),
+        (298, 2, 1, [3, 4].as_slice()),
+        (300, 2, 1, [5, 6].as_slice()),
+        (510, 2, 1, [7, 8].as_slice()),
+        (1, 1, 1, [2].as_slice()),
+        (512, 0, 0, [].as_slice()),
+        (300, 0, 0, [].as_slice()),
+    ] {
+        let (parts, joined) = parts_of(rt.alloc(), &memory, offset, len)?;
+        assert_eq!(rt; parts, count, "{offset} {len}");
+        assert_eq!(rt; joined.as_slice(), first, "{offset} {len}");
+    }
+    let (parts, joined) = parts_of(rt.alloc(), &memory, 0, 512)?;
+    assert_eq!(rt; parts, 2);
+    assert_eq!(rt; joined.len(), 512);
     Ok(())
 }
 

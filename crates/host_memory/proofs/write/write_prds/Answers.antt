@@ -1,5 +1,5 @@
-use Rattle.std.proofs.Common.{◌≡◌, ℕ, drop, ◌+◌, ◌-◌, ◌*◌, ◌<◌, ◌++◌, List, [], ◌∷◌, length, take, get_or, arith, rules, refl, sym, ap, ◌∙◌}
-use Rattle.std.proofs.lemmas.List.{take_more, length-take-le, take_all, append-nil}
+use Rattle.std.proofs.Common.{◌≡◌, ℕ, drop, ◌+◌, ◌-◌, ◌*◌, ◌<◌, ◌++◌, List, [], ◌∷◌, length, take, get_or, arith, ap, ◌∙◌}
+use Rattle.std.proofs.lemmas.List.{take_more, length-take-le, take_all}
 use Rattle.host_memory.specs.declared.table.Prd.{Prd}
 use Rattle.host_memory.specs.Memory.{overwritten}
 use Rattle.host_memory.specs.Writing.{entry_bytes, table_bytes, CanBeWritten, IsUsable}

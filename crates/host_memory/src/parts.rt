@@ -1,0 +1,111 @@
+//! A run of a transfer's bytes, as slices of the client area.
+
+ghost use Rattle.std.specs.Prelude.{◌≡◌, ◌+◌, ◌*◌, ◌≤◌, length};
+ghost use Rattle.host_memory.specs.Parts.{parts_of, stretch_of};
+ghost use Rattle.host_memory.specs.Place.{AreInside, LiesInClient, total_of};
+ghost use Rattle.host_memory.specs.Reading.{prds_at};
+
+use crate::CLIENT_START;
+use crate::table::{Prd, read_prd};
+use std::marker::Model;
+
+/// The slices of the client area that hold a run of a transfer's bytes, in order: one for each entry of the table that
+/// the run touches, none of them empty. [`PrdTable::parts`](crate::PrdTable::parts) makes it.
+#[derive(Debug, Drop)]
+pub struct Parts<'m, 'c> {
+    structure: &'m [u8],
+    client: &'c [u8],
+    // Where the entries that are left lie, and how many they are.
+    at: usize,
+    count: usize,
+    // Where in the first of them the run begins, and how many bytes of it are left.
+    offset: usize,
+    len: usize,
+}
+
+impl<'m, 'c> Model for Parts<'m, 'c> {
+    ghost use Rattle.std.specs.Prelude.{List, ℕ};
+    ghost use Rattle.host_memory.specs.Parts.{HoldParts, parts_of};
+    ghost use Rattle.host_memory.specs.Reading.{prds_at};
+
+    ghost Value = { List (List ℕ) };
+
+    ghost view = { λ p. parts_of p.client.now (prds_at p.structure.now p.at p.count) p.offset p.len };
+
+    ghost invariant = { λ p. HoldParts p.structure.now p.client.now p.at p.count p.offset p.len };
+}
+
+// So many bytes of the client area, from byte `offset` of an entry on.
+fn stretch(client: &[u8], prd: Prd, offset: usize, len: usize) -> &[u8]
+    requires client { LiesInClient (length client.now) prd.address prd.bytes }
+    requires inside { offset + len ≤ prd.bytes }
+    ensures { result.now ≡ stretch_of client.now prd offset len }
+{
+    let start = prd.address as usize - CLIENT_START as usize + offset;
+    &client[start..start + len]
+}
+
+impl<'m, 'c> Parts<'m, 'c> {
+    // The parts of the run of `len` bytes from byte `offset` of these entries on.
+    pub(crate) fn of(
+        structure: &'m [u8],
+        client: &'c [u8],
+        at: usize,
+        count: usize,
+        mut offset: usize,
+        len: usize,
+    ) -> Parts<'m, 'c>
+        requires table { at + 16 * count ≤ length structure.now }
+        requires inside { AreInside (length client.now) (prds_at structure.now at count) }
+        requires fits { offset + len ≤ total_of (prds_at structure.now at count) }
+        ensures { result ≡ parts_of client.now (prds_at structure.now at count) offset len }
+    {
+        for k in 0..count {
+            let prd = read_prd(structure, at + 16 * k);
+            let bytes = prd.bytes as usize;
+            if offset < bytes {
+                return Parts {
+                    structure,
+                    client,
+                    at: at + 16 * k,
+                    count: count - k,
+                    offset,
+                    len,
+                };
+            }
+            offset -= bytes;
+        }
+        Parts {
+            structure,
+            client,
+            at,
+            count: 0,
+            offset: 0,
+            len: 0,
+        }
+    }
+}
+
+impl<'m, 'c> Iterator for Parts<'m, 'c> {
+    ghost use Rattle.std.specs.Iterator.{YieldsFirstRef, item_count};
+
+    type Item = &'c [u8];
+
+    ghost next_gives = { YieldsFirstRef (λ parts. parts) };
+
+    ghost remaining = { item_count (λ parts. parts) };
+
+    fn next(&mut self) -> Option<&'c [u8]> {
+        if self.len == 0 {
+            return None;
+        }
+        let prd = read_prd(self.structure, self.at);
+        let len = self.len.min(prd.bytes as usize - self.offset);
+        let part = stretch(self.client, prd, self.offset, len);
+        self.at += 16;
+        self.count -= 1;
+        self.offset = 0;
+        self.len -= len;
+        Some(part)
+    }
+}

@@ -1,0 +1,73 @@
+-- What went wrong at a host port with FIS-based switching: AHCI 1.3.1, sections 3.3.16, Port x FIS-based Switching
+-- Control, and 9.3.6, Error Handling.
+use Rattle.std.specs.Prelude.{◌≡◌, ◌≢◌, ℕ, ◌<◌, Bool, true, false, is_some, if◌then◌else◌, List, position, slice_index_or, slice_set, length, replicate, unwrap_or, ◌==◌, Option, Some, None}
+use Rattle.std.specs.Option.{option_map_or}
+use Rattle.port_errors.specs.declared.cause.DeviceCause.{DeviceCause}
+use Rattle.port_errors.specs.declared.cause.PortCause.{PortCause}
+use Rattle.port_errors.specs.declared.errors.FbsBits.{FbsBits}
+
+-- the marked devices, each with its first cause, the one that is reported, and what stopped the port
+pub record Errors : Type 0 where
+  -- by PM Port: the first cause of a marked device, None for a device that is not marked
+  pub causes : List (Option DeviceCause)
+  -- the device that PxFBS reports
+  pub reported : Option ℕ
+  -- the first cause that stopped the port
+  pub port : Option PortCause
+
+-- the first cause of a device
+abbrev pub cause_of : Errors → ℕ → Option DeviceCause
+cause_of errors dev = slice_index_or errors.causes dev None
+
+-- nothing went wrong
+abbrev pub no_errors : Errors
+no_errors = record { causes = replicate 16 None; reported = None; port = None }
+
+-- the marked device of the lowest PM Port
+abbrev pub lowest_marked : List (Option DeviceCause) → Option ℕ
+lowest_marked causes = position is_some causes
+
+-- a fault of a device: its first cause stays, and so does a device that is reported
+abbrev pub with_device : Errors → ℕ → DeviceCause → Errors
+with_device errors dev cause = record {
+  causes = slice_set errors.causes dev (Some (unwrap_or (cause_of errors dev) cause));
+  reported = Some (unwrap_or errors.reported dev);
+  port = errors.port;
+}
+
+-- a fault of the port: its first cause stays
+abbrev pub with_port : Errors → PortCause → Errors
+with_port errors cause = record {
+  causes = errors.causes;
+  reported = errors.reported;
+  port = Some (unwrap_or errors.port cause);
+}
+
+-- whether this device is the one that is reported
+abbrev pub is_reported : Errors → ℕ → Bool
+is_reported errors dev = option_map_or (λ other. other == dev) errors.reported false
+
+-- A device is marked no longer. Where it was the reported one, the lowest of the others is reported from then on.
+abbrev pub without : Errors → ℕ → Errors
+without errors dev = let causes = slice_set errors.causes dev None in record {
+  causes = causes;
+  reported = (if is_reported errors dev then lowest_marked causes else errors.reported);
+  port = errors.port;
+}
+
+-- what every value keeps: one place for each PM Port, and a marked device is reported exactly where there is one
+pub record AreErrors (errors : Errors) : Type 0 where
+  pub ports : length errors.causes ≡ 16
+  pub reported_is_marked : (dev : ℕ) → errors.reported ≡ Some dev → (dev < 16) × (is_some (cause_of errors dev) ≡ true)
+  pub none_is_marked : errors.reported ≡ None → (dev : ℕ) → cause_of errors dev ≡ None
+
+-- each other device is as it was, and so is what stopped the port
+pub record LeavesOthers (dev : ℕ) (old new : Errors) : Type 0 where
+  pub causes : (other : ℕ) → other ≢ dev → cause_of new other ≡ cause_of old other
+  pub port : new.port ≡ old.port
+
+-- What PxFBS shows: SDE and, in DWE, the reported device. Both are 0 where none is reported, and while the port is
+-- stopped, since that is no device's error.
+abbrev pub shown : Option ℕ → Option PortCause → FbsBits
+shown (Some dev) None = record { sde = true; dwe = dev }
+shown reported port = record { sde = false; dwe = 0 }

@@ -1,0 +1,170 @@
+//! The errors of a host port.
+
+ghost use Rattle.std.specs.Prelude.{◌≡◌, ◌+◌, ◌*◌, ◌<◌, is_some, length};
+ghost use Rattle.std.specs.Int.{from_bool};
+ghost use Rattle.port_errors.specs.Interrupts.{device_interrupts, interrupt_bits, port_interrupts};
+ghost use Rattle.port_errors.specs.Errors.{AreErrors, LeavesOthers, cause_of, lowest_marked as lowest_marked_of, no_errors, shown, with_device, with_port, without};
+
+use crate::PM_PORTS;
+use crate::cause::{DeviceCause, PortCause};
+use crate::interrupts::Interrupts;
+use std::marker::Model;
+
+/// What PxFBS shows of an error (AHCI 1.3.1, section 3.3.16).
+#[derive(Clone, Copy, Debug, PartialEq, Eq)]
+pub struct FbsBits {
+    /// SDE, Single Device Error: a device is faulty, and the port is not stopped.
+    pub sde: bool,
+    /// DWE, Device With Error: the PM Port of the reported device. 0 where SDE is 0.
+    pub dwe: u8,
+}
+
+impl FbsBits {
+    /// The two fields at their places in PxFBS, SDE at bit 2 and DWE from bit 16 on, and 0 elsewhere.
+    pub fn in_register(self) -> u32
+        ensures { result ≡ 4 * from_bool self.sde + 65536 * self.dwe }
+    {
+        u32::from(self.sde) * 4 + u32::from(self.dwe) * 0x1_0000
+    }
+}
+
+/// The errors of a host port: the faulty devices, each with its first cause, the one of them that the port reports,
+/// and what stopped the port as a whole (AHCI 1.3.1, section 9.3.6). A device is named by its PM Port, 0 to 15.
+#[derive(Debug, Drop)]
+pub struct PortErrors {
+    causes: [Option<DeviceCause>; 16],
+    reported: Option<u8>,
+    port: Option<PortCause>,
+}
+
+impl Model for PortErrors {
+    ghost use Rattle.port_errors.specs.Errors.{AreErrors, Errors};
+
+    ghost Value = { Errors };
+
+    ghost view = { λ e. record { causes = e.causes; reported = e.reported; port = e.port } };
+
+    ghost invariant = { λ e. AreErrors (record { causes = e.causes; reported = e.reported; port = e.port }) };
+}
+
+impl Default for PortErrors {
+    ghost use Rattle.std.specs.Prelude.{◌≡◌};
+    ghost use Rattle.port_errors.specs.Errors.{no_errors};
+
+    ghost is_default = { λ e. e ≡ no_errors };
+
+    fn default() -> PortErrors {
+        PortErrors::new()
+    }
+}
+
+// The faulty device of the lowest PM Port.
+fn lowest_marked(causes: &[Option<DeviceCause>]) -> Option<u8>
+    requires { length causes.now ≡ 16 }
+    ensures { result ≡ lowest_marked_of causes.now }
+{
+    match causes.iter().position(|cause| cause.is_some()) {
+        Some(dev) => Some(dev as u8),
+        None => None,
+    }
+}
+
+impl PortErrors {
+    /// No device is faulty, and the port is not stopped.
+    pub fn new() -> PortErrors
+        ensures { result ≡ no_errors }
+    {
+        PortErrors {
+            causes: [None; 16],
+            reported: None,
+            port: None,
+        }
+    }
+
+    /// Marks a device as faulty, and answers the bits of PxIS that this cause sets. The first cause of a device is
+    /// kept, and the first faulty device is the reported one.
+    pub fn device(&mut self, dev: u8, cause: DeviceCause) -> Interrupts
+        requires { dev < PM_PORTS }
+        ensures interrupts { interrupt_bits result ≡ device_interrupts cause }
+        ensures after { self.new ≡ with_device self.old dev cause }
+        ensures others { LeavesOthers dev self.old self.new }
+    {
+        let at = dev as usize;
+        let first = self.causes[at].unwrap_or(cause);
+        self.causes[at] = Some(first);
+        self.reported = Some(self.reported.unwrap_or(dev));
+        cause.interrupts()
+    }
+
+    /// Stops the port as a whole, and answers the bits of PxIS that this sets. The first cause is kept.
+    pub fn port(&mut self, cause: PortCause) -> Interrupts
+        ensures interrupts { interrupt_bits result ≡ port_interrupts cause }
+        ensures after { self.new ≡ with_port self.old cause }
+    {
+        self.port = Some(self.port.unwrap_or(cause));
+        cause.interrupts()
+    }
+
+    /// Takes the mark from a device. Where it was the reported one, the lowest that is still marked is reported.
+    pub fn forget(&mut self, dev: u8)
+        requires { dev < PM_PORTS }
+        ensures after { self.new ≡ without self.old dev }
+        ensures others { LeavesOthers dev self.old self.new }
+    {
+        self.causes[dev as usize] = None;
+        if self.reported == Some(dev) {
+            self.reported = lowest_marked(&self.causes);
+        }
+    }
+
+    /// Takes every mark, and what stopped the port, as PxCMD.ST does when it falls.
+    pub fn stop(&mut self)
+        ensures { self.new ≡ no_errors }
+    {
+        *self = PortErrors::new();
+    }
+
+    /// Whether a device is faulty.
+    pub fn faulty(&self, dev: u8) -> bool
+        requires { dev < PM_PORTS }
+        ensures { result ≡ is_some (cause_of self.now dev) }
+    {
+        self.causes[dev as usize].is_some()
+    }
+
+    /// The first cause of a faulty device.
+    pub fn cause(&self, dev: u8) -> Option<DeviceCause>
+        requires { dev < PM_PORTS }
+        ensures { result ≡ cause_of self.now dev }
+    {
+        self.causes[dev as usize]
+    }
+
+    /// Whether the port as a whole is stopped by an error.
+    pub fn stopped(&self) -> bool
+        ensures { result ≡ is_some self.now.port }
+    {
+        self.port.is_some()
+    }
+
+    /// The first cause that stopped the port.
+    pub fn port_cause(&self) -> Option<PortCause>
+        ensures { result ≡ self.now.port }
+    {
+        self.port
+    }
+
+    /// What PxFBS shows.
+    pub fn fbs_bits(&self) -> FbsBits
+        ensures bits { result ≡ shown self.now.reported self.now.port }
+        ensures errors { AreErrors self.now }
+    {
+        match (self.reported, self.port) {
+            (Some(dev), None) => FbsBits {
+                sde: true,
+                dwe: dev,
+            },
+            _ => FbsBits { sde: false, dwe: 0 },
+        }
+    }
+}

@@ -1,0 +1,86 @@
+//! What no clause says: values from outside, and that the calls answer them.
+
+use crate::{DeviceCause, FbsBits, Interrupts, PortCause, PortErrors};
+use bitflags::Flags;
+
+/// The interrupt bits of each cause, as PxIS shows them.
+#[test]
+fn causes_set_bits(rt: HostRuntime) {
+    let mut errors = PortErrors::new();
+    for (dev, cause, bits) in [
+        (0, DeviceCause::TaskFile, 0x4000_0000u32),
+        (1, DeviceCause::BadTag, 0x0800_0000),
+        (2, DeviceCause::Overflow, 0x0100_0000),
+        (3, DeviceCause::Stray, 0x0800_0000),
+        (4, DeviceCause::Twice, 0x0800_0000),
+        (5, DeviceCause::Fragments, 0x0800_0000),
+        (6, DeviceCause::Short, 0x0800_0000),
+        (7, DeviceCause::BadFis, 0x0800_0000),
+        (8, DeviceCause::WrongWay, 0x0800_0000),
+    ] {
+        assert_eq!(rt; errors.device(dev, cause).bits(), bits);
+        assert_eq!(rt; errors.cause(dev), Some(cause));
+    }
+    assert_eq!(rt; errors.port(PortCause::BadControl).bits(), 0x2800_0000);
+    assert_eq!(rt; errors.port(PortCause::Bus).bits(), 0x2800_0000);
+    assert_eq!(rt; errors.port_cause(), Some(PortCause::BadControl));
+}
+
+/// Device 5 then device 1: PxFBS shows 5, then 1 once 5 is forgotten.
+#[test]
+fn first_faulty_device_is_reported(rt: HostRuntime) {
+    let mut errors = PortErrors::new();
+    assert_eq!(rt; errors.fbs_bits(), FbsBits { sde: false, dwe: 0 });
+    let _ = errors.device(5, DeviceCause::Stray);
+    let _ = errors.device(1, DeviceCause::TaskFile);
+    let _ = errors.device(5, DeviceCause::Twice);
+    assert_eq!(rt; errors.fbs_bits(), FbsBits { sde: true, dwe: 5 });
+    assert_eq!(rt; errors.fbs_bits().in_register(), 0x0005_0004);
+    assert_eq!(rt; errors.cause(5), Some(DeviceCause::Stray));
+    assert!(rt; errors.faulty(5));
+    assert!(rt; !errors.faulty(2));
+    errors.forget(2);
+    assert_eq!(rt; errors.fbs_bits().in_register(), 0x0005_0004);
+    errors.forget(5);
+    assert_eq!(rt; errors.fbs_bits().in_register(), 0x0001_0004);
+    assert!(rt; !errors.faulty(5));
+    errors.forget(1);
+    assert_eq!(rt; errors.fbs_bits().in_register(), 0);
+}
+
+/// While the port is stopped PxFBS shows no device, though one is marked.
+#[test]
+fn a_stopped_port_shows_no_device(rt: HostRuntime) {
+    let mut errors = PortErrors::default();
+    let _ = errors.device(15, DeviceCause::Short);
+    assert_eq!(rt; errors.fbs_bits().in_register(), 0x000F_0004);
+    assert!(rt; !errors.stopped());
+    let _ = errors.port(PortCause::Bus);
+    assert!(rt; errors.stopped());
+    assert!(rt; errors.faulty(15));
+    assert_eq!(rt; errors.fbs_bits().in_register(), 0);
+    errors.stop();
+    assert!(rt; !errors.stopped());
+    assert!(rt; !errors.faulty(15));
+    assert_eq!(rt; errors.port_cause(), None);
+}
+
+/// The bits by their places in PxIS.
+#[test]
+fn bits_have_their_places(rt: HostRuntime) {
+    for (bit, flag) in [
+        (0u32, Interrupts::DHRS),
+        (1, Interrupts::PSS),
+        (2, Interrupts::DSS),
+        (3, Interrupts::SDBS),
+        (4, Interrupts::UFS),
+        (24, Interrupts::OFS),
+        (27, Interrupts::IFS),
+        (29, Interrupts::HBFS),
+        (30, Interrupts::TFES),
+    ] {
+        assert_eq!(rt; flag.bits().trailing_zeros(), bit);
+        assert_eq!(rt; flag.bits().count_ones(), 1);
+    }
+    assert_eq!(rt; Interrupts::all().bits(), 0x6900_001F);
+}

@@ -1,0 +1,64 @@
+-- The places of a received area: AHCI 1.3.1, section 4.2.1, Received FIS Structure, for each of the 16 PM Ports as
+-- section 9.3.1.1 has it for FIS-based switching.
+use Rattle.std.specs.Prelude.{◌≡◌, ◌≢◌, ℕ, ◌+◌, ◌*◌, nat_le, if◌then◌else◌, List, [], ◌++◌, length, take, drop}
+use Rattle.fis_view.specs.declared.view.Fis.{Fis}
+use Rattle.fis_view.specs.declared.view.Fis.TheVariants as view
+use Rattle.rx_area.specs.declared.area.Posted.{Posted}
+use Rattle.rx_area.specs.declared.area.Posted.TheVariants as posted
+
+-- where a place begins in its row, in bytes: DSFIS, PSFIS, RFIS, SDBFIS and UFIS of the standard
+abbrev pub offset_of : Posted → ℕ
+offset_of posted.Setup = 0x00
+offset_of posted.Pio = 0x20
+offset_of posted.D2h = 0x40
+offset_of posted.Bits = 0x58
+offset_of posted.Unknown = 0x60
+offset_of posted.Nothing = 0
+
+-- how many bytes it has: the length of its FIS, and 64 for one of an unknown type
+abbrev pub size_of : Posted → ℕ
+size_of posted.Setup = 28
+size_of posted.Pio = 20
+size_of posted.D2h = 20
+size_of posted.Bits = 8
+size_of posted.Unknown = 64
+size_of posted.Nothing = 0
+
+-- where a place begins in the area: the row of PM Port dev begins at dev times 100h
+abbrev pub start_of : ℕ → Posted → ℕ
+start_of dev place = 256 * dev + offset_of place
+
+-- the bytes of one place of one device's row
+abbrev pub place_of : List ℕ → ℕ → Posted → List ℕ
+place_of area dev place = take (size_of place) (drop (start_of dev place) area)
+
+-- Which place receives a FIS. A FIS of an unknown type has to fit its place; those that a host sends, DMA Activate and
+-- Data have none.
+abbrev pub posted_at : Fis → Posted
+posted_at (view.DmaSetup fis) = posted.Setup
+posted_at (view.PioSetup fis) = posted.Pio
+posted_at (view.RegD2H fis) = posted.D2h
+posted_at (view.SetBits fis) = posted.Bits
+posted_at (view.Unknown fis) = if nat_le (length fis) 64 then posted.Unknown else posted.Nothing
+posted_at fis = posted.Nothing
+
+-- the bytes that are copied: all of a FIS that has a place
+abbrev pub posted_bytes : Fis → List ℕ
+posted_bytes (view.DmaSetup fis) = fis
+posted_bytes (view.PioSetup fis) = fis
+posted_bytes (view.RegD2H fis) = fis
+posted_bytes (view.SetBits fis) = fis
+posted_bytes (view.Unknown fis) = if nat_le (length fis) 64 then fis else []
+posted_bytes fis = []
+
+-- the row of one PM Port
+abbrev pub row_of : List ℕ → ℕ → List ℕ
+row_of area dev = take 256 (drop (256 * dev) area)
+
+-- the rows of the other PM Ports are as they were
+abbrev pub LeavesOthers : ℕ → List ℕ → List ℕ → Type 0
+LeavesOthers dev old new = (other : ℕ) → other ≢ dev → row_of new other ≡ row_of old other
+
+-- the bytes with these in place of as many, from place at on
+abbrev pub overwritten : List ℕ → ℕ → List ℕ → List ℕ
+overwritten old at bytes = take at old ++ bytes ++ drop (at + length bytes) old

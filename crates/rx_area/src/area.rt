@@ -1,0 +1,164 @@
+//! The area, its rows and their places.
+
+ghost use Rattle.std.specs.Prelude.{◌≡◌, ◌+◌, ◌≤◌, ◌<◌, length};
+ghost use Rattle.rx_area.specs.Area.{LeavesOthers, offset_of, overwritten, place_of, posted_at, posted_bytes, row_of, size_of, start_of};
+
+use crate::{PM_PORTS, RX_AREA};
+use fis_view::Fis;
+
+/// Where a FIS was posted: the places of one row of the area (AHCI 1.3.1, section 4.2.1).
+#[derive(Clone, Copy, Debug, PartialEq, Eq)]
+pub enum Posted {
+    /// DSFIS, at 00h of the row: a DMA Setup FIS.
+    Setup,
+    /// PSFIS, at 20h: a PIO Setup FIS.
+    Pio,
+    /// RFIS, at 40h: a Register Device to Host FIS.
+    D2h,
+    /// SDBFIS, at 58h: a Set Device Bits FIS.
+    Bits,
+    /// UFIS, at 60h: a FIS of an unknown type, of at most 64 bytes.
+    Unknown,
+    /// Nowhere: a FIS that has no place.
+    Nothing,
+}
+
+impl Posted {
+    // Where the place begins in its row.
+    fn offset(self) -> usize
+        ensures { result ≡ offset_of self }
+    {
+        match self {
+            Posted::Setup => 0x00,
+            Posted::Pio => 0x20,
+            Posted::D2h => 0x40,
+            Posted::Bits => 0x58,
+            Posted::Unknown => 0x60,
+            Posted::Nothing => 0,
+        }
+    }
+
+    // How many bytes it has.
+    fn size(self) -> usize
+        ensures { result ≡ size_of self }
+    {
+        match self {
+            Posted::Setup => 28,
+            Posted::Pio | Posted::D2h => 20,
+            Posted::Bits => 8,
+            Posted::Unknown => 64,
+            Posted::Nothing => 0,
+        }
+    }
+
+    // Where it begins in the area, and that it lies in its row.
+    fn start(self, dev: u8) -> usize
+        requires { dev < PM_PORTS }
+        ensures start { result ≡ start_of dev self }
+        ensures inside { offset_of self + size_of self ≤ 256 }
+    {
+        usize::from(dev) * 256 + self.offset()
+    }
+}
+
+// The place of a FIS, and what of it is copied there.
+fn place_for<'f>(fis: &Fis<'f>) -> (Posted, &'f [u8])
+    ensures place { result.0 ≡ posted_at fis.now }
+    ensures bytes { result.1.now ≡ posted_bytes fis.now }
+    ensures fits { length result.1.now ≤ size_of result.0 }
+{
+    match fis {
+        Fis::DmaSetup(fis) => (Posted::Setup, fis.bytes()),
+        Fis::PioSetup(fis) => (Posted::Pio, fis.bytes()),
+        Fis::RegD2H(fis) => (Posted::D2h, fis.bytes()),
+        Fis::SetBits(fis) => (Posted::Bits, fis.bytes()),
+        Fis::Unknown(fis) if fis.bytes().len() <= 64 => (Posted::Unknown, fis.bytes()),
+        _ => (Posted::Nothing, &[]),
+    }
+}
+
+/// A received area: 16 rows of 256 bytes, one for each PM Port (AHCI 1.3.1, section 9.3.1.1). It borrows the bytes.
+#[derive(Debug, Drop)]
+pub struct RxArea<'a> {
+    bytes: &'a mut [u8],
+    ghost sized: { length bytes.now ≡ 4096 },
+}
+
+impl<'a> RxArea<'a> {
+    ghost use Rattle.rx_area.specs.Lent.{IsOver, StaysOver, bytes_of};
+
+    /// The area that these bytes are.
+    pub fn over(bytes: &'a mut [u8]) -> RxArea<'a>
+        requires { length bytes.old ≡ RX_AREA }
+        ensures over { IsOver result bytes.entry }
+        ensures bytes { bytes_of result ≡ bytes.old }
+    {
+        RxArea { bytes }
+    }
+
+    /// Copies a FIS to its place in the row of the device that sent it, from the place's begin on, and changes no
+    /// other byte. A FIS to a device, a DMA Activate, a Data FIS and a FIS of an unknown type of more than 64 bytes
+    /// have no place.
+    pub fn post(&mut self, dev: u8, fis: &Fis<'_>) -> Posted
+        requires { dev < PM_PORTS }
+        ensures over { StaysOver self.old self.new }
+        ensures posted { result ≡ posted_at fis.now }
+        ensures after { bytes_of self.new ≡ overwritten (bytes_of self.old) (start_of dev (posted_at fis.now)) (posted_bytes fis.now) }
+        ensures others { LeavesOthers dev (bytes_of self.old) (bytes_of self.new) }
+    {
+        let (posted, bytes) = place_for(fis);
+        let start = posted.start(dev);
+        self.bytes[start..start + bytes.len()].copy_from_slice(bytes);
+        posted
+    }
+
+    // The bytes of a place.
+    fn place(&self, dev: u8, place: Posted) -> &[u8]
+        requires { dev < PM_PORTS }
+        ensures { result.now ≡ place_of (bytes_of self.now) dev place }
+    {
+        let start = place.start(dev);
+        &self.bytes[start..start + place.size()]
+    }
+
+    /// The 28 bytes of the DMA Setup FIS that was posted last in this row.
+    pub fn setup(&self, dev: u8) -> &[u8]
+        requires { dev < PM_PORTS }
+        ensures { result.now ≡ place_of (bytes_of self.now) dev Posted.Setup }
+    {
+        self.place(dev, Posted::Setup)
+    }
+
+    /// The 20 bytes of the PIO Setup FIS that was posted last in this row.
+    pub fn pio(&self, dev: u8) -> &[u8]
+        requires { dev < PM_PORTS }
+        ensures { result.now ≡ place_of (bytes_of self.now) dev Posted.Pio }
+    {
+        self.place(dev, Posted::Pio)
+    }
+
+    /// The 20 bytes of the Register Device to Host FIS that was posted last in this row.
+    pub fn d2h(&self, dev: u8) -> &[u8]
+        requires { dev < PM_PORTS }
+        ensures { result.now ≡ place_of (bytes_of self.now) dev Posted.D2h }
+    {
+        self.place(dev, Posted::D2h)
+    }
+
+    /// The 8 bytes of the Set Device Bits FIS that was posted last in this row.
+    pub fn bits(&self, dev: u8) -> &[u8]
+        requires { dev < PM_PORTS }
+        ensures { result.now ≡ place_of (bytes_of self.now) dev Posted.Bits }
+    {
+        self.place(dev, Posted::Bits)
+    }
+
+    /// The 64 bytes of the place for FISes of unknown types in this row. A FIS that is shorter leaves the bytes after
+    /// it as they were.
+    pub fn unknown(&self, dev: u8) -> &[u8]
+        requires { dev < PM_PORTS }
+        ensures { result.now ≡ place_of (bytes_of self.now) dev Posted.Unknown }
+    {
+        self.place(dev, Posted::Unknown)
+    }
+}
