@@ -13,6 +13,7 @@ use Rattle.multiplier.specs.declared.multiplier.Passed.{Passed}
 use Rattle.multiplier.specs.declared.multiplier.Passed.TheVariants as passed
 use Rattle.multiplier.specs.declared.multiplier.PmRefusal.{PmRefusal}
 use Rattle.multiplier.specs.Rules.{ToControl, ToDevice, KeepsPorts}
+use Rattle.multiplier.proofs.PassingLemmas.{kept_part}
 
 either : (b : Bool) (x y : map.RegisterMap) (k : ℕ) → x.ports ≡ k → y.ports ≡ k → (if b then x else y).ports ≡ k
 either true x y k e f = e
@@ -36,13 +37,8 @@ request_ports m (Some Unknown) = refl
 request_ports m (Some Reset) = refl
 request_ports m (Some EndReset) = refl
 
-present_set : (ports : List port.PortState) (n k : ℕ) (p : port.PortState) → p.present ≡ (slice_index_or ports n port.empty_port).present
-    → (slice_index_or (slice_set ports n p) k port.empty_port).present ≡ (slice_index_or ports k port.empty_port).present
-present_set [] n k p e = refl
-present_set (q ∷ ports) zero zero p e = e
-present_set (q ∷ ports) zero (suc k) p e = refl
-present_set (q ∷ ports) (suc n) zero p e = refl
-present_set (q ∷ ports) (suc n) (suc k) p e = present_set ports n k p e
+abbrev present_of : port.PortState → Option ℕ
+present_of p = p.present
 
 same : (old new : PmState) → new ≡ old → KeepsPorts old new
 same old new e = rw e (refl, λ n. refl)
@@ -54,7 +50,7 @@ control_keeps old new frame (Ok passed.Dropped) h = absurd h
 control_keeps old new frame (Err given) h = same old new h.2
 
 pub device_keeps : (old new : PmState) (n conn : ℕ) (frame : Stamped) (result : Result Passed (Stamped × PmRefusal)) → ToDevice old n conn frame result new → KeepsPorts old new
-device_keeps old new n conn frame (Ok (passed.Down m)) h = rw h.2 (refl, λ k. present_set old.ports n k _ refl)
+device_keeps old new n conn frame (Ok (passed.Down m)) h = rw h.2 (refl, λ k. kept_part present_of old.ports n _ refl k)
 device_keeps old new n conn frame (Ok passed.Control) h = absurd h
 device_keeps old new n conn frame (Ok passed.Dropped) h = absurd h
 device_keeps old new n conn frame (Err given) h = same old new h.2

@@ -4,7 +4,7 @@ use Rattle.std.specs.Prelude.{slice_set, slice_index_or, Result}
 use Rattle.std.specs.Bool.{MatchBool}
 use Rattle.std.proofs.lemmas.Bool.{cases_eq, eq-eqb, ne_eqb, eqb-false}
 use Rattle.std.proofs.lemmas.Option.{same_Some}
-use Rattle.std.proofs.lemmas.List.{append-nil, get_or-set_same, length-set}
+use Rattle.std.proofs.lemmas.List.{append-nil, get_or-set_other, get_or-set_same, length-set}
 use Rattle.std.specs.declared.alloc.AllocError.{AllocError}
 use Rattle.fis_view.specs.Frames.{Stamped, marked}
 use Rattle.pm_ports.specs.Port as port
@@ -33,17 +33,13 @@ abbrev at : Ports → ℕ → port.PortState
 at ports n = slice_index_or ports n port.empty_port
 
 other_port : (ports : Ports) (m n : ℕ) (p : port.PortState) → n ≢ m → at (slice_set ports m p) n ≡ at ports n
-other_port [] m n p h = refl
-other_port (q ∷ ports) zero zero p h = absurd (h refl)
-other_port (q ∷ ports) zero (suc n) p h = refl
-other_port (q ∷ ports) (suc m) zero p h = refl
-other_port (q ∷ ports) (suc m) (suc n) p h = other_port ports m n p (λ e. h (ap suc e))
+other_port ports m n p h = get_or-set_other ports m n p port.empty_port h
 
 this_port : (ports : Ports) (m : ℕ) (p : port.PortState) → m < length ports → at (slice_set ports m p) m ≡ p
 this_port ports m p lt = get_or-set_same ports m p port.empty_port lt
 
 -- a part of a port that a write leaves is as before at each port
-kept_part : {A : Type 0} (part : port.PortState → A) (ports : Ports) (m : ℕ) (p : port.PortState) → part p ≡ part (at ports m) → (n : ℕ) → part (at (slice_set ports m p) n) ≡ part (at ports n)
+pub kept_part : {A : Type 0} (part : port.PortState → A) (ports : Ports) (m : ℕ) (p : port.PortState) → part p ≡ part (at ports m) → (n : ℕ) → part (at (slice_set ports m p) n) ≡ part (at ports n)
 kept_part part [] m p h n = refl
 kept_part part (q ∷ ports) zero p h zero = h
 kept_part part (q ∷ ports) zero p h (suc n) = refl

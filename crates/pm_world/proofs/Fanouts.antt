@@ -3,7 +3,9 @@ use Rattle.std.proofs.Common.{◌≡◌, ℕ, zero, suc, ◌<◌, ◌≤◌, Boo
 use Rattle.std.specs.Prelude.{slice_get, slice_set, slice_index_or, is_some, is_none, ◌&&◌, if◌then◌else◌, MatchResult}
 use Rattle.std.specs.List.{find}
 use Rattle.std.specs.Result.{result_err}
-use Rattle.std.proofs.lemmas.List.{length-map, take_all}
+use Rattle.std.proofs.lemmas.List.{get_or_default, length-map, map-set, take_all}
+use Rattle.std.proofs.Math.ListN.{get_or-map}
+use Rattle.std.proofs.Math.Seq.{map-set_same}
 use Rattle.disk_model.specs.declared.unit.Unit.{Unit as Device}
 use Rattle.fis_view.specs.Frames.{Stamped}
 use Rattle.multiplier.specs.Arbiter.{control_port, circle_after}
@@ -16,35 +18,22 @@ use Rattle.pm_world.specs.Fanout.{FanoutState, hold_of, known_of, opening_fanout
 use Rattle.pm_world.specs.Places.{nobody, empty_hold, knows_nobody}
 use Rattle.pm_world.specs.Rules.{recorded, is_ready, next_port}
 
--- what a port that is written has as before, all have as before
-kept : {A : Type 0} (part : PortState → A) (ports : List PortState) (n : ℕ) (p : PortState) → part p ≡ part (slice_index_or ports n empty_port) → map part (slice_set ports n p) ≡ map part ports
-kept part [] n p e = refl
-kept part (q ∷ ports) zero p e = ap (λ x. x ∷ map part ports) e
-kept part (q ∷ ports) (suc n) p e = ap (λ xs. part q ∷ xs) (kept part ports n p e)
-
+-- What a port that is written has as before, all have as before; and what is written stands in its place.
 pub holds_kept : (ports : List PortState) (n : ℕ) (p : PortState) → hold_of p ≡ hold_of (slice_index_or ports n empty_port) → map hold_of (slice_set ports n p) ≡ map hold_of ports
-holds_kept ports n p e = kept hold_of ports n p e
+holds_kept ports n p e = map-set_same hold_of ports n p empty_port e
 
 pub known_kept : (ports : List PortState) (n : ℕ) (p : PortState) → known_of p ≡ known_of (slice_index_or ports n empty_port) → map known_of (slice_set ports n p) ≡ map known_of ports
-known_kept ports n p e = kept known_of ports n p e
-
--- and what is written stands in its place
-written : {A : Type 0} (part : PortState → A) (ports : List PortState) (n : ℕ) (p : PortState) → map part (slice_set ports n p) ≡ slice_set (map part ports) n (part p)
-written part [] n p = refl
-written part (q ∷ ports) zero p = refl
-written part (q ∷ ports) (suc n) p = ap (λ xs. part q ∷ xs) (written part ports n p)
+known_kept ports n p e = map-set_same known_of ports n p empty_port e
 
 pub holds_written : (ports : List PortState) (n : ℕ) (p : PortState) → map hold_of (slice_set ports n p) ≡ slice_set (map hold_of ports) n (hold_of p)
-holds_written ports n p = written hold_of ports n p
+holds_written ports n p = map-set hold_of ports n p
 
 pub known_written : (ports : List PortState) (n : ℕ) (p : PortState) → map known_of (slice_set ports n p) ≡ slice_set (map known_of ports) n (known_of p)
-known_written ports n p = written known_of ports n p
+known_written ports n p = map-set known_of ports n p
 
 -- what a port knows and holds
 pub known_at : (ports : List PortState) (n : ℕ) → slice_index_or (map known_of ports) n nobody ≡ known_of (slice_index_or ports n empty_port)
-known_at [] n = refl
-known_at (q ∷ ports) zero = refl
-known_at (q ∷ ports) (suc n) = known_at ports n
+known_at ports n = get_or-map known_of ports n empty_port
 
 pub hold_at : (ports : List PortState) (n : ℕ) → n < length ports → slice_get (map hold_of ports) n ≡ Some (hold_of (slice_index_or ports n empty_port))
 hold_at [] n lt = absurd (omega (arith, lt))
@@ -86,11 +75,6 @@ gives_held present (Some frame) was e = gives_only (true && is_of_present presen
 abbrev view_of : List PortState → ℕ → FanoutState
 view_of ports served = record { holds = map hold_of ports; known = map known_of ports; served = served }
 
-any_default : (ports : List PortState) (n : ℕ) (d e : PortState) → n < length ports → slice_index_or ports n d ≡ slice_index_or ports n e
-any_default [] n d e lt = absurd (omega (arith, lt))
-any_default (q ∷ ports) zero d e lt = refl
-any_default (q ∷ ports) (suc n) d e lt = any_default ports n d e (omega (arith, lt))
-
 -- a port that is ready is there
 pub ready_there : (ports : List PortState) (served n : ℕ) (self : FanoutState) → view_of ports served ≡ self → is_ready self.known self.holds n ≡ true → n < length ports
 ready_there ports served n self view ready = below ports n (rw (← view) at ready)
@@ -109,7 +93,7 @@ module _ (ports : List PortState) (served n : ℕ) (old : PortState) (self : Fan
   holds_there lt = let long : length self.holds ≡ length ports = ap (λ (s : FanoutState). length s.holds) (sym view) ∙ length-map ports hold_of in omega (arith, lt, long)
 
   was_there : n < length ports → old ≡ slice_index_or ports n empty_port
-  was_there lt = was ∙ any_default ports n old empty_port lt
+  was_there lt = was ∙ get_or_default ports n old empty_port lt
 
   -- a connection came
   pub came_view : (new : PortState) (conn : ℕ) (result : Result (Unit {0}) PortError) → n < length self.known → result_err result ≡ came_refusal old conn → MatchResult result (λ _. new ≡ with_connection old conn) (λ _. new ≡ old)

@@ -29,7 +29,7 @@ impl FbsBits {
 }
 
 /// The errors of a host port: the faulty devices, each with its first cause, the one of them that the port reports,
-/// and what stopped the port as a whole (AHCI 1.3.1, section 9.3.6). A device is named by its PM Port, 0 to 15.
+/// and what stopped the port as a whole (AHCI 1.3.1, chapter 9: FIS-based switching, error handling). A device is named by its PM Port, 0 to 15.
 #[derive(Debug, Drop)]
 pub struct PortErrors {
     causes: [Option<DeviceCause>; 16],

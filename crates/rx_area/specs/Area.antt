@@ -1,5 +1,5 @@
 -- The places of a received area: AHCI 1.3.1, section 4.2.1, Received FIS Structure, for each of the 16 PM Ports as
--- section 9.3.1.1 has it for FIS-based switching.
+-- chapter 9 has it for FIS-based switching.
 use Rattle.std.specs.Prelude.{◌≡◌, ◌≢◌, ℕ, ◌+◌, ◌*◌, nat_le, if◌then◌else◌, List, [], ◌++◌, length, take, drop}
 use Rattle.fis_view.specs.declared.view.Fis.{Fis}
 use Rattle.fis_view.specs.declared.view.Fis.TheVariants as view

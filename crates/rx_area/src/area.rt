@@ -77,7 +77,7 @@ fn place_for<'f>(fis: &Fis<'f>) -> (Posted, &'f [u8])
     }
 }
 
-/// A received area: 16 rows of 256 bytes, one for each PM Port (AHCI 1.3.1, section 9.3.1.1). It borrows the bytes.
+/// A received area: 16 rows of 256 bytes, one for each PM Port (AHCI 1.3.1, section 4.2.1, and chapter 9: FIS-based switching). It borrows the bytes.
 #[derive(Debug, Drop)]
 pub struct RxArea<'a> {
     bytes: &'a mut [u8],

@@ -8,7 +8,7 @@ mod area;
 
 pub use area::{Posted, RxArea};
 
-/// The bytes of a received area: 16 rows of 256 bytes (AHCI 1.3.1, section 9.3.1.1).
+/// The bytes of a received area: 16 rows of 256 bytes (AHCI 1.3.1, section 4.2.1, and chapter 9: FIS-based switching).
 pub const RX_AREA: usize = 4096;
 
 /// How many PM Ports there are, and rows: the fan-out ports 0 to 14, and 15 for the control port of the multiplier.

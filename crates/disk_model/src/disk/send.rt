@@ -81,6 +81,17 @@ fn asking_frame(
     }
 }
 
+/// A write of which so many chunks are left, once so many FISes went that ask for the first of them.
+fn asked(command: Command, left: u32, gone: u8) -> Waiting
+    ensures { result ≡ record { command = command; left = left; gone = gone } }
+{
+    Waiting {
+        command,
+        left,
+        gone,
+    }
+}
+
 fn zeros(alloc: Global, len: u32) -> Result<Vec<u8>, AllocError>
     ensures { IfOk result (λ v. v.items ≡ replicate len 0) }
 {
@@ -205,16 +216,7 @@ impl Disk {
             return Ok(None);
         }
         let frame = asking_frame(alloc, &self.plan, waiting, stamp)?;
-        let Waiting {
-            command,
-            left,
-            gone,
-        } = waiting;
-        self.transfer = Transfer::Write(Waiting {
-            command,
-            left,
-            gone: gone + 1,
-        });
+        self.transfer = Transfer::Write(asked(waiting.command, waiting.left, waiting.gone + 1));
         Ok(Some(frame))
     }
 
@@ -239,19 +241,10 @@ impl Disk {
             }
             None if command.write => {
                 let left = chunks_of(&self.plan, command);
-                let waiting = Waiting {
-                    command,
-                    left,
-                    gone: 0,
-                };
                 let staged = zeros(alloc, 512 * command.count)?;
-                let frame = asking_frame(alloc, &self.plan, waiting, stamp)?;
+                let frame = asking_frame(alloc, &self.plan, asked(command, left, 0), stamp)?;
                 self.staged = staged;
-                self.transfer = Transfer::Write(Waiting {
-                    command,
-                    left,
-                    gone: 1,
-                });
+                self.transfer = Transfer::Write(asked(command, left, 1));
                 Ok(Some(frame))
             }
             None => {
