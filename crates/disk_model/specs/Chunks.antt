@@ -1,6 +1,6 @@
 -- The chunks in which a disk moves the data of a queued command, and what keeps it from doing so.
-use Rattle.std.specs.Prelude.{ℕ, zero, suc, ◌+◌, ◌-◌, ◌*◌, ◌/◌, ◌&&◌, min, not, nat_lt, nat_le, List, [], ◌∷◌, ◌++◌, drop, take, length, fold, if◌then◌else◌, Option, Some, None, option_map}
-use Rattle.std.specs.Option.{option_map_or}
+use Rattle.std.specs.Prelude.{ℕ, zero, suc, ◌+◌, ◌-◌, ◌*◌, ◌/◌, ◌==◌, min, not, nat_lt, Bool, List, [], ◌∷◌, ◌++◌, drop, take, length, if◌then◌else◌, Option, Some, None, option_map}
+use Rattle.std.specs.List.{find, list_any, range_with_len}
 use Rattle.disk_model.specs.declared.request.Command.{Command}
 use Rattle.disk_model.specs.declared.answer.Fault.{Fault}
 use Rattle.disk_model.specs.declared.answer.Fault.TheVariants.{Failed}
@@ -44,13 +44,20 @@ sends_left plan medium c (suc k) =
 abbrev pub asks_for : DiskPlan → Command → (left : ℕ) → List Sending
 asks_for plan c left = chunk_setup plan c left ∷ Activates ∷ []
 
--- the lower of the bad sectors found so far and this one, where it is a sector of the command
-abbrev pub lower_bad : Command → Option ℕ → ℕ → Option ℕ
-lower_bad c found bad = (if nat_le c.lba bad && nat_lt (bad - c.lba) c.count then Some (option_map_or (λ lowest. min lowest bad) found bad) else found)
+-- the sector is one of the bad ones
+abbrev pub is_bad : List ℕ → ℕ → Bool
+is_bad bads lba = list_any (λ bad. bad == lba) bads
+
+-- the first sector of the command that is bad
+unfoldable pub first_bad : Command → List ℕ → Option ℕ
+first_bad c bads = find (is_bad bads) (range_with_len c.lba c.count)
 
 -- Why a command can't be done: it passes the end (IDNF, its own LBA), or it reads a bad sector (UNC, the first one).
 abbrev pub fault_of : DiskPlan → ℕ → Command → Option Fault
-fault_of plan sectors c = (if nat_lt sectors (c.lba + c.count) then Some (Failed c.tag 0x10 c.lba) else (if c.write then None else option_map (λ bad. Failed c.tag 0x40 bad) (fold (lower_bad c) None plan.bad.items)))
+fault_of plan sectors c =
+    if nat_lt sectors (c.lba + c.count) then Some (Failed c.tag 0x10 c.lba)
+    else if c.write then None
+    else option_map (λ bad. Failed c.tag 0x40 bad) (first_bad c plan.bad.items)
 
 -- the error of a fault
 abbrev pub error_of : Fault → ℕ

@@ -1,5 +1,7 @@
 -- How the fields of a disk are seen.
-use Rattle.std.specs.Prelude.{ℕ, ◌≡◌, ◌+◌, ◌-◌, ◌*◌, ◌<◌, ◌≤◌, Bool, true, false, List, [], ◌∷◌, length, drop, Option, Some, None, All}
+use Rattle.std.specs.Prelude.{ℕ, ◌≡◌, ◌+◌, ◌-◌, ◌*◌, ◌<◌, ◌≤◌, ◌&&◌, min, nat_le, nat_lt, Bool, true, false, if◌then◌else◌, List, [], ◌∷◌, length, drop, fold, Option, Some, None, All}
+use Rattle.std.specs.Option.{option_map_or}
+use Rattle.disk_model.specs.declared.request.Command.{Command}
 use Rattle.disk_model.specs.declared.disk.Disk.TheInside.{Inside}
 use Rattle.disk_model.specs.declared.disk.Transfer.{Transfer}
 use Rattle.disk_model.specs.declared.disk.Transfer.TheVariants.{Idle, Read, Write}
@@ -77,3 +79,20 @@ moved r = moved_to r r.set_up
 abbrev pub Gives : DiskValue → Option Stamped → DiskValue → Type 0
 Gives old None new = (turn old.plan old.sectors old.now ≡ None) × (new ≡ old)
 Gives old (Some frame) new = Gave old frame.bytes new
+
+-- ---- the search for a bad sector
+
+-- the sector is one of the command's
+abbrev pub is_of : Command → ℕ → Bool
+is_of c lba = nat_le c.lba lba && nat_lt (lba - c.lba) c.count
+
+-- the lower of what was found and this one
+abbrev pub lower_of : Option ℕ → ℕ → ℕ
+lower_of found bad = option_map_or (λ lowest. min lowest bad) found bad
+
+-- the lowest bad sector of the command so far, with one more that is bad
+abbrev pub lower_bad : Command → Option ℕ → ℕ → Option ℕ
+lower_bad c found bad = if is_of c bad then Some (lower_of found bad) else found
+
+abbrev pub lowest_bad : Command → List ℕ → Option ℕ
+lowest_bad c bads = fold (lower_bad c) None bads
