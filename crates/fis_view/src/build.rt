@@ -44,8 +44,8 @@ pub struct H2dFields {
 impl H2dFields {
     ghost use Rattle.fis_view.specs.Built.{IsBuilt, h2d_given};
 
-    /// The bytes of the FIS.
-    fn bytes(self) -> [u8; 20]
+    /// The bytes of the FIS that [`h2d`] builds of these fields.
+    pub fn bytes(self) -> [u8; 20]
         ensures { IsBuilt H2d (h2d_given self) result }
     {
         let head = port_and_flags(self.pm_port, false, false, self.c);

@@ -75,10 +75,17 @@ fn next_down(pm: &mut Multiplier, n: u8) -> Option<Frame> {
     }
 }
 
+/// Gives the multiplier a frame of the host.
+fn pass(alloc: Global, pm: &mut Multiplier, bytes: &[u8]) -> Result<Passed, Fail> {
+    match pm.from_host(alloc, frame(alloc, bytes, 0)?) {
+        Ok(passed) => Ok(passed),
+        Err((_, refusal)) => Err(refusal.into()),
+    }
+}
+
 /// Has the control port do a register command, and gives the answer.
 fn command(alloc: Global, pm: &mut Multiplier, bytes: &[u8]) -> Result<Frame, Fail> {
-    let passed = pm.from_host(alloc, frame(alloc, bytes, 0)?).ok();
-    if passed != Some(Passed::Control) {
+    if pass(alloc, pm, bytes)? != Passed::Control {
         return Err("not passed".into());
     }
     Ok(pm.next_up(alloc)?.ok_or("no answer")?)
@@ -116,8 +123,7 @@ fn serves_in_a_circle(rt: HostRuntime) -> Result<(), Fail> {
         assert!(rt; holds(&mut pm, n, frame(alloc, &BITS, 1)?));
         assert_eq!(rt; held(&pm, n).ok_or("lost")?.stamp().port, n);
     }
-    let asked = frame(alloc, &READ_STATUS, 0)?;
-    assert_eq!(rt; pm.from_host(alloc, asked).ok(), Some(Passed::Control));
+    assert_eq!(rt; pass(alloc, &mut pm, &READ_STATUS)?, Passed::Control);
     for n in [3, 15, 0, 1] {
         let up = pm.next_up(alloc)?.ok_or("silent")?;
         assert_eq!(rt; (up.pm_port(), up.stamp().port), (n, n));
@@ -152,12 +158,10 @@ fn a_frame_that_is_put_back_goes_up_again(rt: HostRuntime) -> Result<(), Fail> {
 fn frames_go_down_with_pm_port_0(rt: HostRuntime) -> Result<(), Fail> {
     let alloc = rt.alloc();
     let mut pm = Multiplier::new(4);
-    let dropped = pm.from_host(alloc, frame(alloc, &READ, 0)?).ok();
-    assert_eq!(rt; dropped, Some(Passed::Dropped));
+    assert_eq!(rt; pass(alloc, &mut pm, &READ)?, Passed::Dropped);
     assert_eq!(rt; pm.dropped(), 1);
     open(alloc, &mut pm, 3)?;
-    let passed = pm.from_host(alloc, frame(alloc, &READ, 0)?).ok();
-    assert_eq!(rt; passed, Some(Passed::Down(3)));
+    assert_eq!(rt; pass(alloc, &mut pm, &READ)?, Passed::Down(3));
     let (back, refusal) = pm
         .from_host(alloc, frame(alloc, &READ, 0)?)
         .err()
@@ -193,8 +197,7 @@ fn a_notification_goes_before_an_answer(rt: HostRuntime) -> Result<(), Fail> {
     open_port_0[3] = 2;
     open_port_0[7] = 0;
     command(alloc, &mut pm, &open_port_0)?;
-    let asked = frame(alloc, &READ_STATUS, 0)?;
-    assert_eq!(rt; pm.from_host(alloc, asked).ok(), Some(Passed::Control));
+    assert_eq!(rt; pass(alloc, &mut pm, &READ_STATUS)?, Passed::Control);
     came(&mut pm, 0, 1)?;
     let full = pm.from_host(alloc, frame(alloc, &READ_STATUS, 0)?).err();
     assert_eq!(rt; full.ok_or("kept")?.1, PmRefusal::HoldFull);
@@ -220,8 +223,7 @@ fn a_notification_goes_before_an_answer(rt: HostRuntime) -> Result<(), Fail> {
     }
     assert!(rt; pm.next_up(alloc)?.is_some());
     assert!(rt; pm.next_up(alloc)?.is_none());
-    let reset = frame(alloc, &SOFTWARE_RESET, 0)?;
-    assert_eq!(rt; pm.from_host(alloc, reset).ok(), Some(Passed::Control));
+    assert_eq!(rt; pass(alloc, &mut pm, &SOFTWARE_RESET)?, Passed::Control);
     assert!(rt; pm.next_up(alloc)?.is_none());
     let text = format!(in alloc; "{}, {}", PmRefusal::HoldFull, PmRefusal::OutOfMemory)?;
     assert_eq!(rt; text.as_str(), "hold full, out of memory");

@@ -73,6 +73,8 @@ fn close<W: Write + Drop>(mut out: BufWriter<W>, done: Result<(), Failure>) -> u
         Err(Failure::ReadOrWrite) => Ok(()),
         Err(failure) => writeln!(out, "{failure}").and_then(|()| out.flush()),
     };
+    // Dropped as a whole, the buffer would try once more to write what could not be written.
+    let (_writer, _unwritten) = out.into_parts();
     match (done, written) {
         (Ok(()), Ok(())) => 0,
         (Err(failure), Ok(())) => failure.status(),

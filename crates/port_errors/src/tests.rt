@@ -26,6 +26,27 @@ fn causes_set_bits(rt: HostRuntime) {
     assert_eq!(rt; errors.port_cause(), Some(PortCause::BadControl));
 }
 
+/// The numbers of the causes.
+#[test]
+fn causes_have_their_numbers(rt: HostRuntime) {
+    for (number, cause) in [
+        (1u8, DeviceCause::TaskFile),
+        (2, DeviceCause::BadTag),
+        (3, DeviceCause::Overflow),
+        (4, DeviceCause::Stray),
+        (5, DeviceCause::Twice),
+        (6, DeviceCause::Fragments),
+        (7, DeviceCause::Short),
+        (8, DeviceCause::BadFis),
+        (9, DeviceCause::WrongWay),
+    ] {
+        assert_eq!(rt; cause as u8, number);
+    }
+    for (number, cause) in [(1u8, PortCause::BadControl), (2, PortCause::Bus)] {
+        assert_eq!(rt; cause as u8, number);
+    }
+}
+
 /// Device 5 then device 1: PxFBS shows 5, then 1 once 5 is forgotten.
 #[test]
 fn first_faulty_device_is_reported(rt: HostRuntime) {

@@ -1,6 +1,6 @@
 //! What a scenario says of its world before the world is built.
 
-ghost use Rattle.std.specs.Prelude.{◌≡◌, ◌≤◌, IfOk, length, true};
+ghost use Rattle.std.specs.Prelude.{◌≡◌, ◌*◌, ◌≤◌, IfOk, length, true};
 ghost use Rattle.pm_world.specs.Places.{is_config};
 
 use crate::scenario::parse::Setting;
@@ -33,7 +33,8 @@ impl Sizes {
 
     /// The same as the world has them, memory in bytes.
     pub fn config(self) -> Config
-        ensures { is_config result self.ports ≡ true }
+        ensures accepted { is_config result self.ports ≡ true }
+        ensures sizes { result ≡ record { ports = self.ports; capacity = self.capacity; memory = 1048576 * self.memory } }
     {
         Config {
             ports: self.ports,

@@ -17,7 +17,14 @@ fn each_kind(rt: HostRuntime) {
 A183FF4001000080
 39 0F 00 00
 46 03 00 00 11 22 33 44
-\tfE020000";
+\tfE020000
+# what the frames above do not show: the other value of a bit, and numbers that begin with 0
+27 80 08 00 00 00 00 00 00 00 00 00 00 00 00 04 00 00 00 00
+34 00 05 04 00 00 00 00 00 00 00 00 00 00 00 00 00 00 00 00
+5F 41 07 00 00 00 00 00 00 00 00 00 00 00 00 08 04 00 00 00
+41 42 00 00 1F 00 00 00 00 00 00 00 00 00 00 00 00 00 00 00 04 00 00 00 00 00 00 00
+A1 42 05 01 00 00 00 00
+0A 00 00 00";
     let output =
         "h2d port 3 c 1 command 60 features 0001 lba 000000000100 device 40 count 0028 icc 00 control 00
 h2d port 5 c 0 command b1 features d3c2 lba 040506010203 device e4 count 7788 icc 66 control 55
@@ -29,6 +36,12 @@ bits port 3 n 1 i 0 status 77 error 40 sactive 80000001
 activate port 15
 data port 3 bytes 4
 unknown type fe port 2 bytes 4
+h2d port 0 c 1 command 08 features 0000 lba 000000000000 device 00 count 0000 icc 00 control 04
+d2h port 0 i 0 status 05 error 04 lba 000000000000 device 00 count 0000
+pio port 1 i 1 d 0 status 07 error 00 lba 000000000000 device 00 count 0000 ends 08 bytes 4
+setup port 2 a 0 i 1 d 0 tag 31 offset 0 count 4
+bits port 2 n 0 i 1 status 05 error 01 sactive 00000000
+unknown type 0a port 0 bytes 4
 ";
     assert_run(&rt, "decode", input.as_bytes(), 0, output);
 }

@@ -40,6 +40,7 @@ fn writes_that_fail(rt: HostRuntime) -> Result<(), Fail> {
         let ended = serve(rt.alloc(), &["decode"], input.as_slice(), &mut full);
         assert_eq!(rt; ended, 4, "after {left} writes");
         assert!(rt; whole.bytes.starts_with(&full.bytes), "after {left} writes");
+        assert_eq!(rt; full.refused, 1, "after {left} writes");
     }
     let mut refused = Full::after(rt.alloc(), 0);
     assert_eq!(rt;
@@ -94,6 +95,8 @@ struct Full {
     bytes: Vec<u8>,
     /// The writes that still go well.
     left: usize,
+    /// The writes that failed.
+    refused: usize,
 }
 
 impl Full {
@@ -101,6 +104,7 @@ impl Full {
         Full {
             bytes: Vec::new(alloc),
             left,
+            refused: 0,
         }
     }
 }
@@ -108,6 +112,7 @@ impl Full {
 impl Write for Full {
     fn write(&mut self, buf: &[u8]) -> io::Result<usize> {
         if self.left == 0 {
+            self.refused = self.refused.saturating_add(1);
             return Err(io::Error::other("full"));
         }
         self.left -= 1;

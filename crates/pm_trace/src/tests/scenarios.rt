@@ -68,12 +68,79 @@ port 1 conn 1 sent 2 taken 0
 }
 
 #[test]
+fn tabs_and_blanks_stand_between_words(rt: HostRuntime) {
+    let input = "\tports \t2 capacity 1\tmemory 2 \n came\t1\nstep\tpmpresence  1\t\n";
+    let output = "ports 2 capacity 1 memory 2\ncame 1 conn 1\nmoved\n";
+    assert_run(&rt, "run", input.as_bytes(), 0, output);
+}
+
+#[test]
+fn the_largest_numbers(rt: HostRuntime) {
+    let input = "ports 15 capacity 64 memory 16
+came 0
+came 14
+came 255
+put FFFffe 5aA5
+show ffFFFd 3
+show 1000000 0
+put ffffff 0000
+read 0 281474976710656 1 101000:512
+read 0 18446744073709551615 65535 101000:512";
+    let output = "ports 15 capacity 64 memory 16
+came 0 conn 1
+came 14 conn 1
+step refused 3 NoSuchPort
+put
+fffffd 005aa5
+1000000 
+step refused 7 Outside
+submit refused 4 BadCount
+submit refused 4 BadCount
+";
+    assert_run(&rt, "run", input.as_bytes(), 0, output);
+}
+
+#[test]
+fn counts_of_two_connections(rt: HostRuntime) {
+    let input = "ports 3 capacity 4 memory 2
+came 2
+came 0
+inject 2 39000000
+inject 2 39000000
+inject 0 39000000
+step pmpresence 2
+step pmfromdevice 2
+step pmup
+step hosttake
+counts";
+    let output = "ports 3 capacity 4 memory 2
+came 2 conn 1
+came 0 conn 1
+sent 2 1 0 39000000
+sent 2 1 1 39000000
+sent 0 1 0 39000000
+moved
+moved
+moved
+took 2 1 0 39020000
+port 0 conn 1 sent 1 taken 0
+port 2 conn 1 sent 2 taken 1
+";
+    assert_run(&rt, "run", input.as_bytes(), 0, output);
+}
+
+#[test]
 fn settings_that_are_refused(rt: HostRuntime) {
     for (input, word) in [
         ("ports 0 capacity 4 memory 2", "line 1: range\n"),
         ("ports 16 capacity 4 memory 2", "line 1: range\n"),
         ("ports 1 capacity 65 memory 2", "line 1: range\n"),
         ("ports 1 capacity 4 memory 17", "line 1: range\n"),
+        ("ports 1 capacity 0 memory 2", "line 1: range\n"),
+        ("ports 1 capacity 4 memory 1", "line 1: range\n"),
+        // the first word that is refused says which refusal it is
+        ("ports 16 capacity", "line 1: range\n"),
+        ("ports 1 capacity 65 memory x", "line 1: range\n"),
         (
             "ports 18446744073709551617 capacity 4 memory 2",
             "line 1: range\n",
@@ -88,6 +155,7 @@ fn settings_that_are_refused(rt: HostRuntime) {
             "line 2: order\n",
         ),
         ("script 1 39000000", "line 1: range\n"),
+        ("script 1 zz", "line 1: range\n"),
         ("script 0", "line 1: number\n"),
         ("script 0 390", "line 1: hex\n"),
     ] {
@@ -145,6 +213,10 @@ fn actions_that_are_refused(rt: HostRuntime) {
             "ports 1 capacity 4 memory 2\nline 1: number\n",
         ),
         ("counts 0", "ports 1 capacity 4 memory 2\nline 1: number\n"),
+        (
+            "came 0\nfly\ncame 0",
+            "ports 1 capacity 4 memory 2\ncame 0 conn 1\nline 2: command\n",
+        ),
     ] {
         assert_run(&rt, "run", input.as_bytes(), 1, output);
     }
@@ -165,16 +237,22 @@ fn data(alloc: Global) -> Result<String, AllocError> {
     Ok(line)
 }
 
+/// Adds these lines, which put FISes of the device on its link, and for each the steps that bring it to the host.
+fn push_frames(input: &mut String, frames: &[&str]) -> Result<(), AllocError> {
+    for frame in frames {
+        input.push_str(frame)?;
+        input.push_str("\nstep pmfromdevice 0\nstep pmup\nstep hosttake\n")?;
+    }
+    Ok(())
+}
+
 /// What a scenario prints in which one sector is read, these lines put the device's FISes on its link, and
 /// each goes up to the host.
 fn read_with(alloc: Global, frames: &[&str]) -> Result<Vec<u8>, AllocError> {
     let mut input = "came 0\nstep pmpresence 0\nread 0 256 1 101000:300 102000:212\n".to_string(
         alloc,
     )?;
-    for frame in frames {
-        input.push_str(frame)?;
-        input.push_str("\nstep pmfromdevice 0\nstep pmup\nstep hosttake\n")?;
-    }
+    push_frames(&mut input, frames)?;
     input.push_str(
         "poll\nput 10112c 77\nshow 10112a 4\nshow 102000 2\nshow 1020d2 3\nshow 200000 0",
     )?;
@@ -197,6 +275,27 @@ fn a_read_lands_in_its_places(rt: HostRuntime) -> Result<(), Fail> {
     let missing = read_with(alloc, &[SETUP, DONE, data.as_str()])?;
     let end = b"\nnothing\nput\n10112a 2a2b7700\n102000 2c2d\n1020d2 feff00\n200000 \n";
     assert!(rt; missing.ends_with(end.as_slice()));
+    Ok(())
+}
+
+#[test]
+fn a_second_read_has_a_ticket_of_its_own(rt: HostRuntime) -> Result<(), Fail> {
+    let alloc = rt.alloc();
+    let data = data(alloc)?;
+    let mut input = "came 0\nstep pmpresence 0\n".to_string(alloc)?;
+    for _ in 0..2 {
+        input.push_str("read 0 0 1 10100A:4 102000:8 103000:500\n")?;
+        push_frames(&mut input, &[SETUP, data.as_str(), DONE])?;
+        input.push_str("poll\n")?;
+    }
+    input.push_str("show 101009 6\nshow 102000 9\nshow 1031f2 3")?;
+    let mut written = Vec::new(alloc);
+    assert_eq!(rt; serve(alloc, &["run"], input.as_bytes(), &mut written), 0);
+    let second = b"\nticket 1 slot 0 done\nsubmitted 2\nsent 0 1 3 4120".as_slice();
+    assert!(rt; written.windows(second.len()).any(|part| part == second));
+    let end =
+        b"\nticket 2 slot 0 done\n101009 000001020300\n102000 0405060708090a0b00\n1031f2 feff00\n";
+    assert!(rt; written.ends_with(end.as_slice()));
     Ok(())
 }
 
@@ -249,6 +348,8 @@ fn lines_of_reads_that_are_refused(rt: HostRuntime) -> Result<(), Fail> {
         ("put", "number"),
         ("put 101000", "number"),
         ("put 101000 123", "hex"),
+        ("put 100101000 00", "range"),
+        ("show 101000 4294967296", "range"),
         ("show 101000", "number"),
         ("show fffff 1", "range"),
         ("show 1fffff 2", "range"),

@@ -1,0 +1,5 @@
+pub mod BackLemmas
+pub mod HeaderLemmas
+pub mod ProperLemmas
+pub mod PutLemmas
+pub mod RequestLemmas

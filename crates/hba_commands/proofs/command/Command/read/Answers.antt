@@ -1,0 +1,20 @@
+use Rattle.std.proofs.Common.{◌≡◌, ◌+◌, ℕ, List, sym, ap, ◌∙◌}
+use Rattle.host_memory.specs.Place.{total_of}
+use Rattle.host_memory.specs.Reading.{prds_at}
+use Rattle.slots.specs.declared.work.Work.{Work}
+use Rattle.hba_commands.specs.Headers.{header_at}
+use Rattle.hba_commands.proofs.ProperLemmas.{proper_work, proper_write, proper_total, sound_total}
+use Rattle.hba_commands.proofs.command.Command.read.Goals as goal
+
+pub returns-clause-work : goal.returns-clause-work
+returns-clause-work c = rw c.work.ensures (proper_work _ _ _ _ _ (sym c.if-not-is_proper.ensures))
+
+pub returns-clause-direction : goal.returns-clause-direction
+returns-clause-direction c =
+    let is : c.read-header.result ≡ header_at c.args.memory.now.structure c.args.clb c.args.slot = c.read-header.ensures ∙ ap (λ (s : List ℕ). header_at s c.args.clb c.args.slot) c.structure-structure.ensures.structure in
+    rw (sym is, c.work.ensures) (proper_write _ _ _ _ _ (sym c.if-not-is_proper.ensures))
+
+pub returns-clause-sized : goal.returns-clause-sized
+returns-clause-sized c =
+    ap (λ (s : List ℕ). total_of (prds_at s (c.read-header.result.ctba + 128) c.read-header.result.prdtl)) (sym c.structure-structure.ensures.structure)
+    ∙ sound_total _ _ _ c.in_ok-total.ensures ∙ proper_total _ _ _ _ _ (sym c.if-not-is_proper.ensures) ∙ ap (λ (w : Work). w.len) (sym c.work.ensures)

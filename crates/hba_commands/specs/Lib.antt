@@ -1,0 +1,4 @@
+pub mod Headers
+pub mod Requests
+pub mod Commands
+pub mod Writing

@@ -1,0 +1,16 @@
+//! The commands of a host port's slots: the header of a slot in the command list and its command table, as one command.
+//!
+//! [`Command::read`] reads what a driver has written for a slot, and [`write_command`] writes it as a driver does.
+#![tactic(auto)]
+
+mod command;
+mod header;
+mod request;
+mod write;
+
+pub use command::Command;
+pub use header::pmp;
+pub use write::write_command;
+
+#[cfg(test)]
+mod tests;

@@ -1,0 +1,88 @@
+//! Writing a command into a slot.
+
+ghost use Rattle.std.specs.Prelude.{◌≡◌, ◌+◌, ◌*◌, ◌<◌, ◌≤◌, All, Bool, length};
+ghost use Rattle.std.specs.Int.{from_bool};
+ghost use Rattle.host_memory.specs.Memory.{overwritten};
+ghost use Rattle.host_memory.specs.Writing.{CanBeWritten};
+ghost use Rattle.hba_commands.specs.Requests.{kind_of};
+ghost use Rattle.hba_commands.specs.Commands.{cfis_at, command_at};
+ghost use Rattle.hba_commands.specs.Writing.{HasRoom, IsWritten, command_of, header_bytes, header_for, is_write};
+
+use crate::request::Request;
+use byteorder::{ByteOrder, LittleEndian};
+use fis_view::H2dFields;
+use host_memory::{HostMemory, Prd, write_prds};
+use slots::Kind;
+
+// DW0 of a header: the PRDTL in bits 31:16, the PMP in bits 15:12, W in bit 6, the CFL in bits 4:0.
+fn first_dword(request: Request, count: u16) -> u32
+    requires { request.pm_port < 16 }
+    ensures { result ≡ 65536 * count + 4096 * request.pm_port + 64 * from_bool (is_write (kind_of request)) + 5 }
+{
+    let write = request.kind() == Kind::QueuedWrite;
+    0x1_0000 * u32::from(count) + 0x1000 * u32::from(request.pm_port) + 0x40 * u32::from(write) + 5
+}
+
+// The 32 bytes of a header.
+#[tactic(auto, unfolding(crate::specs::Writing::header_bytes))]
+fn header(request: Request, table: u32, count: u16) -> [u8; 32]
+    requires { request.pm_port < 16 }
+    ensures { result ≡ header_bytes (header_for request table count) }
+{
+    let mut bytes = [0; 32];
+    LittleEndian::write_u32(&mut bytes[0..4], first_dword(request, count));
+    LittleEndian::write_u32(&mut bytes[8..12], table);
+    bytes
+}
+
+fn put(structure: &mut [u8], at: usize, bytes: &[u8])
+    requires { at + length bytes.now ≤ length structure.old }
+    ensures { structure.new ≡ overwritten structure.old at bytes.now }
+{
+    structure[at..at + bytes.len()].copy_from_slice(bytes);
+}
+
+// Writes header and table into the structure area.
+fn put_command(
+    structure: &mut [u8],
+    clb: u32,
+    slot: u8,
+    table: u32,
+    fields: H2dFields,
+    prds: &[Prd],
+)
+    requires sized { length structure.old ≡ 1048576 }
+    requires slot { slot < 32 }
+    requires room { HasRoom clb table (length prds.now) }
+    requires few { length prds.now ≤ 248 }
+    requires counts { All CanBeWritten prds.now }
+    ensures { IsWritten clb slot table fields prds.now structure.old structure.new }
+{
+    let head = header(Request::of(&fields), table, prds.len() as u16);
+    put(structure, clb as usize + 32 * slot as usize, &head);
+    put(structure, table as usize, &fields.bytes());
+    put(structure, table as usize + 20, &[0; 108]);
+    write_prds(structure, table + 0x80, prds);
+}
+
+/// Writes a command into a slot, as a driver does before it sets the slot's bit in PxCI: the header, of the command list
+/// that begins at `clb`, and the command table at `table`, with the FIS of these fields and these PRDs, each of 1 byte
+/// to 4 MiB. Nothing tests that [`Command::read`](crate::Command::read) will take it.
+pub fn write_command(
+    memory: &mut HostMemory,
+    clb: u32,
+    slot: u8,
+    table: u32,
+    fields: &H2dFields,
+    prds: &[Prd],
+)
+    requires slot { slot < 32 }
+    requires room { HasRoom clb table (length prds.now) }
+    requires few { length prds.now ≤ 248 }
+    requires counts { All CanBeWritten prds.now }
+    ensures written { IsWritten clb slot table fields.now prds.now memory.old.structure memory.new.structure }
+    ensures client { memory.new.client ≡ memory.old.client }
+    ensures command { (armed : Bool) → command_at memory.new clb slot armed ≡ command_of fields.now (cfis_at memory.new.structure table) prds.now table slot armed (length memory.new.client) }
+{
+    put_command(memory.structure_mut(), clb, slot, table, *fields, prds);
+}

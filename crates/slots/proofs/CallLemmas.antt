@@ -1,0 +1,270 @@
+-- What is true of every table stays true in the calls.
+use Rattle.std.proofs.Common.{◌≡◌, ℕ, ◌%◌, ◌<◌, ◌≤◌, Bool, true, false, not, ◌&&◌, ◌||◌, List, get_or, set, length, refl, sym, ◌∙◌, ap, subst, arith, inl, inr, Option, Some, None, get_or-set_same}
+use Rattle.std.specs.Prelude.{MatchOption, IfSome, is_none}
+use Rattle.std.specs.Option.{is_some, option_map}
+use Rattle.std.proofs.lemmas.Bool.{cases_lt, and_parts, or_left, or_right, or_cases, cond-true, cond-false, not-true, false≢true}
+use Rattle.std.proofs.lemmas.List.{get_or_default, get_or_past}
+use Rattle.slots.specs.declared.table.Context.{Context}
+use Rattle.slots.specs.Commands.{MayBeSent, after_sent, answer_for, answer_of, answered_issue, is_slot, may_go, sent_issue}
+use Rattle.slots.specs.declared.slot.Issued.{Issued}
+use Rattle.slots.specs.Issued.{issued_of}
+use Rattle.slots.specs.Slots.{Issue, Slots, DeviceSlots, issue_at, context_of, owned_by, own_issue, slots_of, with_own_issue, freed, has_bit, holds, is_control, is_pio, is_queued_issue, is_sent_pio, is_waiting, match_some, sent_pio, waiting}
+use Rattle.slots.specs.Setup.{after_setup_pio, came, is_outstanding, new_context, pio_fault, pio_issue, with_own_context}
+use Rattle.slots.specs.declared.answer.Answered.{Answered}
+use Rattle.slots.specs.declared.answer.SetupError.{SetupError}
+use Rattle.slots.specs.Data.{gone_over, moved_on, moved_over}
+use Rattle.slots.specs.Table.{IsContextOf, IsTable, waits_for}
+use Rattle.slots.proofs.ByteLemmas.{length_with_bytes}
+use Rattle.slots.proofs.MaskLemmas.{none_below}
+use Rattle.slots.proofs.TableLemmas.{Keeps, own_changed, own_with_context, context_some, table_with_context, with_context, Owns, own_at, owned_own, owned_same, owns_where, table_changed, with_issue}
+
+-- what is issued in a slot, where a test holds of it as the device's
+pub record Found (test : Issue → Bool) (dev s : ℕ) (t : Slots) : Type 0 where
+  pub issue : Issue
+  pub at : issue_at t s ≡ Some issue
+  pub own : issue.dev ≡ dev
+  pub passes : test issue ≡ true
+
+found_in : (test : Issue → Bool) (dev s : ℕ) (t : Slots) (o : Option Issue) → issue_at t s ≡ o → Owns dev o → holds test o ≡ true → Found test dev s t
+found_in test dev s t None at own h = absurd (false≢true h)
+found_in test dev s t (Some issue) at own h = record { issue = issue; at = at; own = own; passes = h }
+
+pub found : (test : Issue → Bool) (dev s : ℕ) (t : Slots) → s < length t.issues → holds test (own_issue (slots_of dev t) s) ≡ true → Found test dev s t
+found test dev s t lt h =
+    let here : holds test (owned_by dev (issue_at t s)) ≡ true = ap (holds test) (sym (own_at dev t s lt)) ∙ h in
+    let owns : Owns dev (issue_at t s) = owns_where test dev (issue_at t s) here in
+    found_in test dev s t (issue_at t s) refl owns (ap (holds test) (sym (owned_same dev (issue_at t s) owns)) ∙ here)
+
+same_found : (test : Issue → Bool) (dev s : ℕ) (t : Slots) (issue : Issue) → issue_at t s ≡ Some issue → s < length t.issues → holds test (own_issue (slots_of dev t) s) ≡ true → test issue ≡ true
+same_found test dev s t issue at lt h =
+    let f = found test dev s t lt h in
+    let e : f.issue ≡ issue = cc (f.at, at) in
+    ap test (sym e) ∙ f.passes
+
+both_false : (b : Bool) → (b && false) ≡ true → ⊥
+both_false true h = false≢true h
+both_false false h = false≢true h
+
+not_waiting : (issue : Issue) → is_waiting (answered_issue issue) ≡ true → ⊥
+not_waiting issue h = both_false issue.sent h
+
+pub table_answered : (dev s : ℕ) (t : Slots) (o d : Option Issue) → IsTable t → s < 32 → holds is_waiting (own_issue (slots_of dev t) s) ≡ true → holds is_queued_issue (own_issue (slots_of dev t) s) ≡ true
+    → o ≡ option_map answered_issue (get_or t.issues s d) → IsTable (with_issue t s o)
+table_answered dev s t o d is below waits queued e =
+    let lt : s < length t.issues = omega (arith, is.slots) in
+    let f = found is_waiting dev s t lt waits in
+    let i = f.issue in
+    let q : is_queued_issue i ≡ true = same_found is_queued_issue dev s t i f.at lt queued in
+    let sent : i.sent ≡ true = (and_parts i.sent (not i.answered) f.passes).0 in
+    let now : o ≡ Some (answered_issue i) = e ∙ ap (option_map answered_issue) (get_or_default t.issues s d None lt ∙ f.at) in
+    let keeps : Keeps answered_issue i = record {
+      owner = refl;
+      rules = λ r. record { dev_below = r.dev_below; work = r.work; room = r.room; answers = λ _. (q, sent); controls = r.controls };
+      context = λ n c r. record { of_dev = r.of_dev; fits = r.fits; next_dwords = r.next_dwords; left_dwords = r.left_dwords; way = r.way; goes = or_left (is_queued_issue i && true) (is_sent_pio i) (ap (λ (b : Bool). b && true) q); activates = r.activates };
+    } in
+    subst (λ (x : Option Issue). IsTable (with_issue t s x)) (sym now) (table_changed t s answered_issue i is below f.at keeps (λ r here. absurd (not_waiting i here)))
+
+-- ---- sent
+
+sent_goes : (i : Issue) → (is_outstanding i || is_sent_pio i) ≡ true → (is_outstanding i || is_pio i.work.kind) ≡ true
+sent_goes i h = elim (or_cases (is_outstanding i) (is_sent_pio i) h) [
+  | inl o ↦ or_left (is_outstanding i) (is_pio i.work.kind) o
+  | inr p ↦ or_right (is_outstanding i) (is_pio i.work.kind) (and_parts i.sent (is_pio i.work.kind) p).1
+]
+
+past_end : (dev : ℕ) (o : Option Issue) → o ≡ None → holds is_waiting (owned_by dev o) ≡ true → ⊥
+past_end dev None e h = false≢true h
+past_end dev (Some issue) e h = cc
+
+-- no slot of the device waits
+pub none_waits : (dev : ℕ) (t : Slots) (r : ℕ) → length t.issues ≡ 32 → waiting (slots_of dev t) ≡ None → waits_for dev t r ≡ true → ⊥
+none_waits dev t r long h waits = elim (cases_lt r 32) [
+  | inl lt ↦ false≢true (sym (ap (holds is_waiting) (sym (own_at dev t r (omega (arith, long)))) ∙ none_below (λ slot. holds is_waiting (own_issue (slots_of dev t) slot)) 32 h r lt) ∙ waits)
+  | inr ge ↦ past_end dev (issue_at t r) (get_or_past t.issues r None (omega (arith, long))) waits
+]
+
+pub table_sent : (s : ℕ) (t : Slots) (i : Issue) (o d : Option Issue) → IsTable t → s < 32 → issue_at t s ≡ Some i → is_control i.work.kind ≡ false → waiting (slots_of i.dev t) ≡ None
+    → o ≡ option_map sent_issue (get_or t.issues s d) → IsTable (with_issue t s o)
+table_sent s t i o d is below at kind alone e =
+    let lt : s < length t.issues = omega (arith, is.slots) in
+    let now : o ≡ Some (sent_issue i) = e ∙ ap (option_map sent_issue) (get_or_default t.issues s d None lt ∙ at) in
+    let keeps : Keeps sent_issue i = record {
+      owner = refl;
+      rules = λ r. record { dev_below = r.dev_below; work = r.work; room = r.room; answers = λ h. ((r.answers h).0, refl); controls = λ _. kind };
+      context = λ n c r. record { of_dev = r.of_dev; fits = r.fits; next_dwords = r.next_dwords; left_dwords = r.left_dwords; way = r.way; goes = sent_goes i r.goes; activates = r.activates };
+    } in
+    subst (λ (x : Option Issue). IsTable (with_issue t s x)) (sym now) (table_changed t s sent_issue i is below at keeps (λ r here there. absurd (none_waits i.dev t r is.slots alone there)))
+
+-- ---- bytes go over
+
+-- what is issued in the slot of a context
+pub record InContext (dev : ℕ) (c : Context) (t : Slots) : Type 0 where
+  pub issue : Issue
+  pub at : issue_at t c.slot ≡ Some issue
+  pub is : IsContextOf dev c issue
+
+in_context_at : (dev : ℕ) (c : Context) (t : Slots) (o : Option Issue) → issue_at t c.slot ≡ o → MatchOption o ⊥ (IsContextOf dev c) → InContext dev c t
+in_context_at dev c t None at h = absurd h
+in_context_at dev c t (Some issue) at h = record { issue = issue; at = at; is = h }
+
+pub in_context : (dev : ℕ) (c : Context) (t : Slots) → IsTable t → context_of t dev ≡ Some c → InContext dev c t
+in_context dev c t is e = in_context_at dev c t (issue_at t c.slot) refl (context_some t dev c is e).1
+
+pub slot_of_context : (dev : ℕ) (c : Context) (t : Slots) → IsTable t → context_of t dev ≡ Some c → c.slot < 32
+slot_of_context dev c t is e = (context_some t dev c is e).0
+
+pub owns_context : (dev : ℕ) (c : Context) (t : Slots) → IsTable t → context_of t dev ≡ Some c → Owns dev (issue_at t c.slot)
+owns_context dev c t is e =
+    let f = in_context dev c t is e in
+    subst (λ (o : Option Issue). Owns dev o) (sym f.at) f.is.of_dev
+
+pub table_moved : (dev n : ℕ) (c : Context) (t : Slots) (o d : Option Issue) → IsTable t → dev < 16 → context_of t dev ≡ Some c → n ≤ c.left → n % 4 ≡ 0
+    → o ≡ option_map (moved_over c.next n) (get_or t.issues c.slot d) → IsTable (with_context (with_issue t c.slot o) dev (Some (moved_on n c)))
+table_moved dev n c t o d is below at within dwords e =
+    let s = c.slot in
+    let slot : s < 32 = slot_of_context dev c t is at in
+    let lt : s < length t.issues = omega (arith, is.slots) in
+    let f = in_context dev c t is at in
+    let i = f.issue in
+    let after : Issue → Issue = moved_over c.next n in
+    let now : o ≡ Some (after i) = e ∙ ap (option_map after) (get_or_default t.issues s d None lt ∙ f.at) in
+    let keeps : Keeps after i = record {
+      owner = refl;
+      rules = λ r. record { dev_below = r.dev_below; work = r.work; room = length_with_bytes i.over c.next n ∙ r.room; answers = r.answers; controls = r.controls };
+      context = λ m b r. record { of_dev = r.of_dev; fits = r.fits; next_dwords = r.next_dwords; left_dwords = r.left_dwords; way = r.way; goes = r.goes; activates = r.activates };
+    } in
+    let here : is_waiting i ≡ true → waits_for i.dev t s ≡ true = λ h. ap (λ (x : Option Issue). holds is_waiting (owned_by i.dev x)) f.at ∙ ap (holds is_waiting) (owned_own i.dev i refl) ∙ h in
+    let first : IsTable (with_issue t s (Some (after i))) = table_changed t s after i is slot f.at keeps (λ r h there. is.one_waits i.dev r s there (here h)) in
+    let second : IsTable (with_issue t s o) = subst (λ (x : Option Issue). IsTable (with_issue t s x)) (sym now) first in
+    let g = f.is in
+    let inside : IsContextOf dev (moved_on n c) (after i) = record {
+      of_dev = g.of_dev;
+      fits = omega (arith, g.fits);
+      next_dwords = omega (arith, g.next_dwords);
+      left_dwords = omega (arith, g.left_dwords);
+      way = g.way;
+      goes = g.goes;
+      activates = λ h. absurd (false≢true h);
+    } in
+    let held : MatchOption (get_or (set t.issues s o) s None) ⊥ (IsContextOf dev (moved_on n c)) =
+    subst (λ (x : Option Issue). MatchOption x ⊥ (IsContextOf dev (moved_on n c))) (sym (get_or-set_same t.issues s o None lt ∙ now)) inside in
+    table_with_context (with_issue t s o) dev (Some (moved_on n c)) second below (slot, held)
+
+pub own_moved : (dev n : ℕ) (c : Context) (t : Slots) (o d : Option Issue) → IsTable t → dev < 16 → context_of t dev ≡ Some c → o ≡ option_map (moved_over c.next n) (get_or t.issues c.slot d)
+    → slots_of dev (with_context (with_issue t c.slot o) dev (Some (moved_on n c))) ≡ gone_over n c (slots_of dev t)
+own_moved dev n c t o d is below at e =
+    let slot : c.slot < length t.issues = omega (arith, slot_of_context dev c t is at, is.slots) in
+    let first = own_changed dev c.slot t (moved_over c.next n) (λ i. refl) o d slot e in
+    own_with_context dev (with_issue t c.slot o) (Some (moved_on n c)) (omega (arith, is.devices)) ∙ ap (λ (own : DeviceSlots). record { issues = own.issues; context = Some (moved_on n c) }) first
+
+pub table_sent_at : (dev s : ℕ) (t : Slots) (at o d : Option Issue) → IsTable t → s < 32 → issue_at t s ≡ at → MatchOption at ⊥ (λ issue. (issue.dev ≡ dev) × (is_control issue.work.kind ≡ false)) → waiting (slots_of dev t) ≡ None
+    → o ≡ option_map sent_issue (get_or t.issues s d) → IsTable (with_issue t s o)
+table_sent_at dev s t None o d is below e h alone ends = absurd h
+table_sent_at dev s t (Some i) o d is below e h alone ends = table_sent s t i o d is below e h.1 (ap (λ (n : ℕ). waiting (slots_of n t)) h.0 ∙ alone) ends
+
+pub owns_sent : (dev : ℕ) (o : Option Issue) → MatchOption o ⊥ (λ issue. (issue.dev ≡ dev) × (is_control issue.work.kind ≡ false)) → Owns dev o
+owns_sent dev None h = h
+owns_sent dev (Some i) h = h.0
+
+-- ---- a slot that goes out
+
+own_is : (s : ℕ) (t : Slots) (i : Issue) → s < length t.issues → issue_at t s ≡ Some i → own_issue (slots_of i.dev t) s ≡ Some i
+own_is s t i lt at = own_at i.dev t s lt ∙ ap (owned_by i.dev) at ∙ owned_own i.dev i refl
+
+control_of : (s : ℕ) (t : Slots) (i : Issue) (b : Bool) → s < length t.issues → issue_at t s ≡ Some i → is_control i.work.kind ≡ b → holds (λ issue. is_control issue.work.kind) (own_issue (slots_of i.dev t) s) ≡ b
+control_of s t i b lt at h = ap (holds (λ issue. is_control issue.work.kind)) (own_is s t i lt at) ∙ h
+
+control_by : (s : ℕ) (t u : Slots) (i : Issue) (h : Issued) → s < length t.issues → issue_at t s ≡ Some i → issued_of i ≡ h → is_control h.work.kind ≡ true
+    → slots_of h.dev u ≡ freed (is_slot s) (slots_of h.dev t) → slots_of i.dev u ≡ after_sent (slots_of i.dev t) s
+control_by s t u i h lt at is kind own =
+    let d : h.dev ≡ i.dev = ap (λ (x : Issued). x.dev) (sym is) in
+    let k : is_control i.work.kind ≡ true = ap (λ (x : Issued). is_control x.work.kind) is ∙ kind in
+    subst (λ (n : ℕ). slots_of n u ≡ freed (is_slot s) (slots_of n t)) d own ∙ sym (cond-true (holds (λ issue. is_control issue.work.kind) (own_issue (slots_of i.dev t) s)) _ _ (control_of s t i true lt at k))
+
+other_by : (s : ℕ) (t u : Slots) (i : Issue) (h : Issued) → s < length t.issues → issue_at t s ≡ Some i → issued_of i ≡ h → is_control h.work.kind ≡ false
+    → slots_of h.dev u ≡ with_own_issue (slots_of h.dev t) s (option_map sent_issue (own_issue (slots_of h.dev t) s)) → slots_of i.dev u ≡ after_sent (slots_of i.dev t) s
+other_by s t u i h lt at is kind own =
+    let d : h.dev ≡ i.dev = ap (λ (x : Issued). x.dev) (sym is) in
+    let k : is_control i.work.kind ≡ false = ap (λ (x : Issued). is_control x.work.kind) is ∙ kind in
+    subst (λ (n : ℕ). slots_of n u ≡ with_own_issue (slots_of n t) s (option_map sent_issue (own_issue (slots_of n t) s))) d own ∙ sym (cond-false (holds (λ issue. is_control issue.work.kind) (own_issue (slots_of i.dev t) s)) _ _ (control_of s t i false lt at k))
+
+head_is : (i : Issue) (h : Issued) → option_map issued_of (Some i) ≡ Some h → issued_of i ≡ h
+head_is i h e = cc
+
+pub sent_control : (s : ℕ) (t u : Slots) (o : Option Issue) (h : Issued) → s < length t.issues → issue_at t s ≡ o → option_map issued_of o ≡ Some h → is_control h.work.kind ≡ true
+    → slots_of h.dev u ≡ freed (is_slot s) (slots_of h.dev t) → IfSome o (λ issue. slots_of issue.dev u ≡ after_sent (slots_of issue.dev t) s)
+sent_control s t u None h lt at is kind own = tt
+sent_control s t u (Some i) h lt at is kind own = control_by s t u i h lt at (head_is i h is) kind own
+
+pub sent_other : (s : ℕ) (t u : Slots) (o : Option Issue) (h : Issued) → s < length t.issues → issue_at t s ≡ o → option_map issued_of o ≡ Some h → is_control h.work.kind ≡ false
+    → slots_of h.dev u ≡ with_own_issue (slots_of h.dev t) s (option_map sent_issue (own_issue (slots_of h.dev t) s)) → IfSome o (λ issue. slots_of issue.dev u ≡ after_sent (slots_of issue.dev t) s)
+sent_other s t u None h lt at is kind own = tt
+sent_other s t u (Some i) h lt at is kind own = other_by s t u i h lt at (head_is i h is) kind own
+
+-- ---- the next slot
+
+is_none_is : (o : Option ℕ) → is_none o ≡ true → o ≡ None
+is_none_is None h = refl
+is_none_is (Some n) h = absurd (false≢true h)
+
+may_be_sent_at : (ready faulty : ℕ) (t : Slots) (o : Option Issue) → holds (may_go ready faulty t) o ≡ true → MatchOption o ⊥ (λ issue. (issue.sent ≡ false) × (is_control issue.work.kind ≡ false → waiting (slots_of issue.dev t) ≡ None))
+may_be_sent_at ready faulty t None h = absurd (false≢true h)
+may_be_sent_at ready faulty t (Some i) h =
+    let both = and_parts (not i.sent && not (has_bit faulty i.dev)) (is_control i.work.kind || has_bit ready i.dev && is_none (waiting (slots_of i.dev t))) h in
+    let first = and_parts (not i.sent) (not (has_bit faulty i.dev)) both.0 in (
+      not-true i.sent first.0,
+      λ kind. elim (or_cases (is_control i.work.kind) (has_bit ready i.dev && is_none (waiting (slots_of i.dev t))) both.1) [
+        | inl control ↦ absurd (false≢true (sym kind ∙ control))
+        | inr idle ↦ is_none_is (waiting (slots_of i.dev t)) (and_parts (has_bit ready i.dev) (is_none (waiting (slots_of i.dev t))) idle).1
+      ],
+    )
+
+pub may_be_sent : (ready faulty s : ℕ) (t : Slots) → holds (may_go ready faulty t) (issue_at t s) ≡ true → MayBeSent t s
+may_be_sent ready faulty s t h = may_be_sent_at ready faulty t (issue_at t s) h
+
+-- ---- a free slot
+
+none_from : (o : Option Issue) → is_some (option_map issued_of o) ≡ false → o ≡ None
+none_from None h = refl
+none_from (Some issue) h = cc
+
+pub free_slot : (issues : List (Option Issue)) (slot : ℕ) (d : Option Issue) → slot < length issues → is_some (option_map issued_of (get_or issues slot d)) ≡ false → get_or issues slot None ≡ None
+free_slot issues slot d within free = get_or_default issues slot None d within ∙ none_from (get_or issues slot d) free
+
+-- ---- the slot that was found
+
+-- what a test found is the issue of the slot
+own_found : (test : Issue → Bool) (dev s : ℕ) (t : Slots) (d : Option Issue) → s < length t.issues → holds test (own_issue (slots_of dev t) s) ≡ true → own_issue (slots_of dev t) s ≡ get_or t.issues s d
+own_found test dev s t d lt h =
+    let owns : Owns dev (issue_at t s) = owns_where test dev (issue_at t s) (ap (holds test) (sym (own_at dev t s lt)) ∙ h) in
+    own_at dev t s lt ∙ owned_same dev (issue_at t s) owns ∙ get_or_default t.issues s None d lt
+
+pub answer_is : (dev s : ℕ) (t : Slots) (d : Option Issue) → s < length t.issues → waiting (slots_of dev t) ≡ Some s → holds is_waiting (own_issue (slots_of dev t) s) ≡ true
+    → answer_of (slots_of dev t) ≡ match_some (get_or t.issues s d) Answered.Nobody (answer_for s)
+answer_is dev s t d lt first waits =
+    let own : DeviceSlots = slots_of dev t in
+    ap (λ (m : Option ℕ). match_some m Answered.Nobody (λ slot. match_some (own_issue own slot) Answered.Nobody (answer_for slot))) first
+    ∙ ap (λ (o : Option Issue). match_some o Answered.Nobody (answer_for s)) (own_found is_waiting dev s t d lt waits)
+
+pub pio_issue_is : (dev s : ℕ) (t : Slots) (d : Option Issue) → s < length t.issues → sent_pio (slots_of dev t) ≡ Some s → holds is_sent_pio (own_issue (slots_of dev t) s) ≡ true → pio_issue (slots_of dev t) ≡ get_or t.issues s d
+pio_issue_is dev s t d lt first h =
+    let own : DeviceSlots = slots_of dev t in
+    let none : Option Issue = None in
+    ap (λ (m : Option ℕ). match_some m none (own_issue own)) first ∙ own_found is_sent_pio dev s t d lt h
+
+pub pio_set_up : (dev s count : ℕ) (to_host : Bool) (t : Slots) (d : Option Issue) → s < length t.issues → sent_pio (slots_of dev t) ≡ Some s → holds is_sent_pio (own_issue (slots_of dev t) s) ≡ true
+    → pio_fault (pio_issue (slots_of dev t)) count to_host ≡ None → after_setup_pio (slots_of dev t) count to_host ≡ with_own_context (slots_of dev t) (new_context s (match_some (get_or t.issues s d) 0 came) count to_host)
+pio_set_up dev s count to_host t d lt first h fault =
+    let own : DeviceSlots = slots_of dev t in
+    let f = found is_sent_pio dev s t lt h in
+    let own_is_it : own_issue own s ≡ Some f.issue = own_at dev t s lt ∙ ap (owned_by dev) f.at ∙ owned_own dev f.issue f.own in
+    let at : Some f.issue ≡ get_or t.issues s d = sym f.at ∙ get_or_default t.issues s None d lt in
+    let set : ℕ → Issue → DeviceSlots = λ slot issue. with_own_context own (new_context slot (came issue) count to_host) in
+    let ok : DeviceSlots = match_some (sent_pio own) own (λ slot. match_some (own_issue own slot) own (set slot)) in
+    cond-false (is_some (pio_fault (pio_issue own) count to_host)) own ok (ap is_some fault)
+    ∙ ap (λ (m : Option ℕ). match_some m own (λ slot. match_some (own_issue own slot) own (set slot))) first
+    ∙ ap (λ (o : Option Issue). match_some o own (set s)) own_is_it
+    ∙ ap (λ (o : Option Issue). with_own_context own (new_context s (match_some o 0 came) count to_host)) at
+
+pub pio_refused : (dev count : ℕ) (to_host : Bool) (t : Slots) (fault : SetupError) → pio_fault (pio_issue (slots_of dev t)) count to_host ≡ Some fault → slots_of dev t ≡ after_setup_pio (slots_of dev t) count to_host
+pio_refused dev count to_host t fault h = sym (cond-true (is_some (pio_fault (pio_issue (slots_of dev t)) count to_host)) (slots_of dev t) _ (ap is_some h))

@@ -1,0 +1,30 @@
+use Rattle.std.proofs.Common.{◌≡◌, None, false, arith, refl}
+use Rattle.std.specs.Prelude.{MatchOption}
+use Rattle.slots.specs.Commands.{sent_issue}
+use Rattle.slots.specs.Slots.{Slots, issue_at, is_control, slots_of, waiting}
+use Rattle.slots.proofs.TableLemmas.{Owns, own_changed, others_changed}
+use Rattle.slots.proofs.CallLemmas.{table_sent_at, owns_sent}
+use Rattle.slots.proofs.table.SlotTable.send.Goals as goal
+
+pub invariant_of-self : goal.invariant_of-self
+invariant_of-self c =
+    let t : Slots = record { issues = c.self.inside.slots; contexts = c.self.inside.contexts } in
+    let dev = c.args.dev in
+    let s = c.args.slot in
+    let issue : MatchOption (issue_at t s) ⊥ (λ issue. (issue.dev ≡ dev) × (is_control issue.work.kind ≡ false)) = rw (← c.self.view_is) at c.requires.issue in
+    let alone : waiting (slots_of dev t) ≡ None = rw (← c.self.view_is) at c.requires.alone in
+    table_sent_at dev s t (issue_at t s) _ _ c.self.invariant c.requires.slot refl issue alone c.mark_sent.ensures
+
+pub returns-clause-own : goal.returns-clause-own
+returns-clause-own c =
+    let t : Slots = record { issues = c.self.inside.slots; contexts = c.self.inside.contexts } in
+    rw (← c.self.view_is) (own_changed c.args.dev c.args.slot t sent_issue (λ i. refl) _ _ (omega (arith, c.self.invariant.slots, c.requires.slot)) c.mark_sent.ensures)
+
+pub returns-clause-others : goal.returns-clause-others
+returns-clause-others c other ne =
+    let t : Slots = record { issues = c.self.inside.slots; contexts = c.self.inside.contexts } in
+    let dev = c.args.dev in
+    let s = c.args.slot in
+    let issue : MatchOption (issue_at t s) ⊥ (λ issue. (issue.dev ≡ dev) × (is_control issue.work.kind ≡ false)) = rw (← c.self.view_is) at c.requires.issue in
+    let owns : Owns dev (issue_at t s) = owns_sent dev (issue_at t s) issue in
+    rw (← c.self.view_is) (others_changed dev s t sent_issue (λ i. refl) _ _ (omega (arith, c.self.invariant.slots, c.requires.slot)) c.mark_sent.ensures owns other ne)

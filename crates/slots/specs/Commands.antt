@@ -1,0 +1,109 @@
+-- Commands: when they go out, what an answer of their device does, and when they are done.
+use Rattle.std.specs.Prelude.{◌≡◌, ℕ, Bool, true, false, not, ◌&&◌, ◌||◌, ◌==◌, if◌then◌else◌, Option, Some, None, is_none, MatchOption}
+use Rattle.std.specs.Option.{option_map}
+use Rattle.slots.specs.declared.answer.Answered.{Answered}
+use Rattle.slots.specs.declared.answer.Answered.TheVariants.{Nobody, Queued, Done, Short}
+use Rattle.slots.specs.declared.answer.Completed.{Completed}
+use Rattle.slots.specs.declared.work.Work.{Work}
+use Rattle.slots.specs.Slots.{Issue, Slots, DeviceSlots, issue_at, slots_of, own_issue, with_own_issue, match_some, holds, is_control, is_pio, is_queued_issue, is_whole_issue, waiting, sent_pio, freed, has_bit, mask_of, lowest, new_issue}
+
+-- this slot alone
+abbrev pub is_slot : ℕ → ℕ → Bool
+is_slot slot k = k == slot
+
+-- ---- a command is issued
+
+-- the device's own part after some work was issued in a free slot
+abbrev pub after_issue : DeviceSlots → ℕ → ℕ → Work → DeviceSlots
+after_issue own slot dev work = with_own_issue own slot (Some (new_issue dev work))
+
+-- ---- a command goes out
+
+-- Something is issued in the slot that was not sent. Where it is not a Control, no slot of its device waits for its answer.
+abbrev pub MayBeSent : Slots → ℕ → Type 0
+MayBeSent t slot = MatchOption (issue_at t slot) ⊥ (λ issue. (issue.sent ≡ false) × (is_control issue.work.kind ≡ false → waiting (slots_of issue.dev t) ≡ None))
+
+abbrev pub sent_issue : Issue → Issue
+sent_issue issue = record issue { sent = true }
+
+-- a Control has no answer of its own, so its slot becomes free
+abbrev pub after_sent : DeviceSlots → ℕ → DeviceSlots
+after_sent own slot = if holds (λ issue. is_control issue.work.kind) (own_issue own slot) then freed (is_slot slot) own else with_own_issue own slot (option_map sent_issue (own_issue own slot))
+
+-- the slot may go out next: its command was not sent, its device is not faulty, and it is a Control, or the device is ready and no slot of it waits
+abbrev pub may_go : ℕ → ℕ → Slots → Issue → Bool
+may_go ready faulty t issue =
+    not issue.sent && not (has_bit faulty issue.dev)
+    && (is_control issue.work.kind || has_bit ready issue.dev && is_none (waiting (slots_of issue.dev t)))
+
+-- the lowest slot that may go out next
+abbrev pub next_slot : ℕ → ℕ → Slots → Option ℕ
+next_slot ready faulty t = lowest (λ slot. holds (may_go ready faulty t) (issue_at t slot))
+
+-- ---- the device answers the command that waits
+
+abbrev pub answered_issue : Issue → Issue
+answered_issue issue = record issue { answered = true }
+
+-- what its answer is for a slot with this issue: a queued command goes on, any other is done, but for a PIO data-in of which bytes are missing
+abbrev pub answer_for : ℕ → Issue → Answered
+answer_for slot issue =
+    if is_queued_issue issue then Queued slot
+    else if is_pio issue.work.kind && not (is_whole_issue issue) then Short slot
+    else Done slot
+
+-- the answer is for the slot that waits
+abbrev pub answer_of : DeviceSlots → Answered
+answer_of own = match_some (waiting own) Nobody (λ slot. match_some (own_issue own slot) Nobody (answer_for slot))
+
+-- the device's own part after an answer: a command that goes on is answered, one that is done becomes free
+abbrev pub answered_as : Answered → DeviceSlots → DeviceSlots
+answered_as Nobody own = own
+answered_as (Queued slot) own = with_own_issue own slot (option_map answered_issue (own_issue own slot))
+answered_as (Done slot) own = freed (is_slot slot) own
+answered_as (Short slot) own = own
+
+abbrev pub after_answer : DeviceSlots → DeviceSlots
+after_answer own = answered_as (answer_of own) own
+
+-- ---- the device says that commands are done
+
+-- the slot is named, and is a queued one of which all bytes went over, or not all
+abbrev pub is_done : ℕ → DeviceSlots → ℕ → Bool
+is_done mask own slot = has_bit mask slot && holds (λ issue. is_queued_issue issue && is_whole_issue issue) (own_issue own slot)
+
+abbrev pub is_short : ℕ → DeviceSlots → ℕ → Bool
+is_short mask own slot = has_bit mask slot && holds (λ issue. is_queued_issue issue && not (is_whole_issue issue)) (own_issue own slot)
+
+-- the named slots of which all bytes went over, and those of which not all
+abbrev pub completed : ℕ → DeviceSlots → Completed
+completed mask own = record { done = mask_of (is_done mask own); short = mask_of (is_short mask own) }
+
+-- those of which all bytes went over become free
+abbrev pub after_complete : ℕ → DeviceSlots → DeviceSlots
+after_complete mask own = freed (is_done mask own) own
+
+-- the slot of the PIO data-in that was sent, where all its bytes went over
+abbrev pub whole_pio : DeviceSlots → Option ℕ
+whole_pio own = match_some (sent_pio own) None (λ slot. if holds is_whole_issue (own_issue own slot) then Some slot else None)
+
+-- it becomes free
+abbrev pub after_pio_done : DeviceSlots → DeviceSlots
+after_pio_done own = match_some (whole_pio own) own (λ slot. freed (is_slot slot) own)
+
+-- ---- sets of slots, as numbers
+
+abbrev pub is_any : Issue → Bool
+is_any issue = true
+
+-- the slots in which something is issued of which the test holds
+abbrev pub slots_where : (Issue → Bool) → Slots → ℕ
+slots_where test t = mask_of (λ slot. holds test (issue_at t slot))
+
+-- the device's slots
+abbrev pub own_slots : DeviceSlots → ℕ
+own_slots own = mask_of (λ slot. holds is_any (own_issue own slot))
+
+-- the device has not answered it, or it was not sent
+abbrev pub is_unanswered : Issue → Bool
+is_unanswered issue = not issue.answered

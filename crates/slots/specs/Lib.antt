@@ -1,0 +1,10 @@
+pub mod Bytes
+pub mod Commands
+pub mod Data
+pub mod Issued
+pub mod Laws
+pub mod Setup
+pub mod Slots
+pub mod Table
+pub mod Words
+pub mod Work

@@ -1,0 +1,60 @@
+-- Setups (Serial ATA 3.x: DMA Setup and PIO Setup FISes): which are accepted, and what they leave.
+use Rattle.std.specs.Prelude.{ℕ, ◌+◌, ◌%◌, Bool, false, not, ◌&&◌, ◌||◌, ◌==◌, nat_lt, nat_le, if◌then◌else◌, Option, Some, None, is_some}
+use Rattle.std.specs.Bool.{beq}
+use Rattle.slots.specs.declared.answer.SetupError.{SetupError}
+use Rattle.slots.specs.declared.answer.SetupError.TheVariants.{NotOutstanding, WrongWay, Overflow, Twice, Fragments, BadCount}
+use Rattle.slots.specs.declared.table.Context.{Context}
+use Rattle.slots.specs.Work.{is_read}
+use Rattle.slots.specs.Bytes.{any_over, ends_at, stretches_of, came_of}
+use Rattle.slots.specs.Slots.{Issue, DeviceSlots, own_issue, match_some, is_queued_issue, sent_pio}
+
+-- why count bytes of an issue, from byte offset on, are not set up: the first of these that applies
+abbrev pub transfer_fault : Issue → ℕ → ℕ → Bool → Option SetupError
+transfer_fault issue offset count to_host =
+    if not (beq (is_read issue.work.kind) to_host) then Some WrongWay
+    else if nat_lt issue.work.len (offset + count) then Some Overflow
+    else if any_over issue.over offset count then Some Twice
+    else if nat_le 64 (stretches_of issue.over issue.work.len) && not (ends_at issue.over offset) then Some Fragments
+    else if count == 0 || not (offset % 4 == 0) || not (count % 4 == 0) then Some BadCount
+    else None
+
+-- a queued issue that the device answered
+abbrev pub is_outstanding : Issue → Bool
+is_outstanding issue = is_queued_issue issue && issue.answered
+
+-- why a DMA Setup is refused that names a slot with this issue of the device, or with none
+abbrev pub setup_fault : Option Issue → ℕ → ℕ → Bool → Option SetupError
+setup_fault None offset count to_host = Some NotOutstanding
+setup_fault (Some issue) offset count to_host = if is_outstanding issue then transfer_fault issue offset count to_host else Some NotOutstanding
+
+-- how many bytes of an issue went over
+abbrev pub came : Issue → ℕ
+came issue = came_of issue.over issue.work.len
+
+-- why a PIO Setup is refused, where the device has this PIO data-in sent, or none: it goes on where the bytes that came end
+abbrev pub pio_fault : Option Issue → ℕ → Bool → Option SetupError
+pio_fault None count to_host = Some NotOutstanding
+pio_fault (Some issue) count to_host = transfer_fault issue (came issue) count to_host
+
+-- the context of a setup that is accepted
+abbrev pub new_context : ℕ → ℕ → ℕ → Bool → Context
+new_context slot offset count to_host = record { slot = slot; next = offset; left = count; to_host = to_host; activated = false }
+
+-- a setup that is accepted replaces the device's context
+abbrev pub with_own_context : DeviceSlots → Context → DeviceSlots
+with_own_context own c = record own { context = Some c }
+
+-- the device's own part after a DMA Setup
+abbrev pub after_setup : DeviceSlots → ℕ → ℕ → ℕ → Bool → DeviceSlots
+after_setup own tag offset count to_host =
+    if is_some (setup_fault (own_issue own tag) offset count to_host) then own else with_own_context own (new_context tag offset count to_host)
+
+-- the issue of the PIO data-in that was sent
+abbrev pub pio_issue : DeviceSlots → Option Issue
+pio_issue own = match_some (sent_pio own) None (own_issue own)
+
+-- the device's own part after a PIO Setup
+abbrev pub after_setup_pio : DeviceSlots → ℕ → Bool → DeviceSlots
+after_setup_pio own count to_host =
+    if is_some (pio_fault (pio_issue own) count to_host) then own
+    else match_some (sent_pio own) own (λ slot. match_some (own_issue own slot) own (λ issue. with_own_context own (new_context slot (came issue) count to_host)))

@@ -1,0 +1,40 @@
+-- What is true of every table.
+use Rattle.std.specs.Prelude.{◌≡◌, ℕ, ◌+◌, ◌/◌, ◌%◌, ◌<◌, ◌≤◌, Bool, true, false, ◌||◌, length, MatchOption}
+use Rattle.slots.specs.declared.table.Context.{Context}
+use Rattle.slots.specs.Work.{IsWork, is_read}
+use Rattle.slots.specs.Setup.{is_outstanding}
+use Rattle.slots.specs.Slots.{Issue, Slots, issue_at, context_of, owned_by, holds, is_control, is_queued_issue, is_sent_pio, is_waiting}
+
+-- what is issued: for one of 16 devices, with a flag for each dword, and answered only where it is queued and was sent; no Control is still there once it was sent
+pub record IsIssue (issue : Issue) : Type 0 where
+  pub dev_below : issue.dev < 16
+  pub work : IsWork issue.work
+  pub room : length issue.over ≡ issue.work.len / 4
+  pub answers : issue.answered ≡ true → (is_queued_issue issue ≡ true) × (issue.sent ≡ true)
+  pub controls : issue.sent ≡ true → is_control issue.work.kind ≡ false
+
+-- a context of a device within an issue: whole dwords inside it, towards the host where it is a read; and it is activated only towards the device, with bytes left
+pub record IsContextOf (dev : ℕ) (c : Context) (issue : Issue) : Type 0 where
+  pub of_dev : issue.dev ≡ dev
+  pub fits : c.next + c.left ≤ issue.work.len
+  pub next_dwords : c.next % 4 ≡ 0
+  pub left_dwords : c.left % 4 ≡ 0
+  pub way : is_read issue.work.kind ≡ c.to_host
+  pub goes : (is_outstanding issue || is_sent_pio issue) ≡ true
+  pub activates : c.activated ≡ true → (c.to_host ≡ false) × (0 < c.left)
+
+-- a context of a device is within the issue of its slot
+abbrev pub IsContext : ℕ → Slots → Context → Type 0
+IsContext dev t c = (c.slot < 32) × MatchOption (issue_at t c.slot) ⊥ (IsContextOf dev c)
+
+-- the slot is one of the device that is sent and not answered
+abbrev pub waits_for : ℕ → Slots → ℕ → Bool
+waits_for dev t slot = holds is_waiting (owned_by dev (issue_at t slot))
+
+pub record IsTable (t : Slots) : Type 0 where
+  pub slots : length t.issues ≡ 32
+  pub devices : length t.contexts ≡ 16
+  pub issues : (slot : ℕ) → MatchOption (issue_at t slot) (Unit {0}) IsIssue
+  pub contexts : (dev : ℕ) → MatchOption (context_of t dev) (Unit {0}) (IsContext dev t)
+  -- a device has one slot at most that waits
+  pub one_waits : (dev r s : ℕ) → waits_for dev t r ≡ true → waits_for dev t s ≡ true → r ≡ s

@@ -1,0 +1,33 @@
+-- The kinds of commands (ACS-3: NCQ, PIO data-in and non-data commands; Serial ATA: a frame with C 0), and how many bytes each may move.
+use Rattle.std.specs.Prelude.{◌≡◌, ℕ, ◌%◌, ◌≤◌, ◌<◌, Bool, true, false}
+use Rattle.slots.specs.declared.work.Work.{Work}
+use Rattle.slots.specs.declared.work.Kind.{Kind}
+use Rattle.slots.specs.declared.work.Kind.TheVariants.{QueuedRead, QueuedWrite, PioIn, NoData, Control}
+
+-- a command that is queued by its tag
+abbrev pub is_queued : Kind → Bool
+is_queued QueuedRead = true
+is_queued QueuedWrite = true
+is_queued PioIn = false
+is_queued NoData = false
+is_queued Control = false
+
+-- its data comes to the host
+abbrev pub is_read : Kind → Bool
+is_read QueuedRead = true
+is_read QueuedWrite = false
+is_read PioIn = true
+is_read NoData = false
+is_read Control = false
+
+-- data is moved by these kinds and by no others
+abbrev pub HasDataExactly : Kind → ℕ → Type 0
+HasDataExactly QueuedRead len = 0 < len
+HasDataExactly QueuedWrite len = 0 < len
+HasDataExactly PioIn len = 0 < len
+HasDataExactly NoData len = len ≡ 0
+HasDataExactly Control len = len ≡ 0
+
+-- what a command may ask for: whole dwords, 128 KiB at most, and bytes just where its kind moves some
+abbrev pub IsWork : Work → Type 0
+IsWork work = (work.len % 4 ≡ 0) × (work.len ≤ 131072) × HasDataExactly work.kind work.len

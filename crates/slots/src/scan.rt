@@ -1,0 +1,130 @@
+//! Loops over all slots.
+
+ghost use Rattle.std.specs.Prelude.{◌≡◌, ◌<◌, true, None, IfSome, slice_index_or};
+ghost use Rattle.slots.specs.Commands.{is_any, is_done as is_done_in, is_short as is_short_in, is_unanswered, own_slots};
+ghost use Rattle.slots.specs.Slots.{has_bit as has_bit_of, holds, is_queued_issue, is_sent_pio, is_waiting, issues_unless, mask_of, own_issue, own_of, sent_pio, waiting};
+
+use crate::slot::Slot;
+
+/// Whether a mask has the bit of a slot or of a device.
+pub(crate) fn has_bit(mask: u32, k: u8) -> bool
+    requires { k < 32 }
+    ensures { result ≡ has_bit_of mask k }
+{
+    mask >> k & 1 == 1
+}
+
+/// The lowest slot of the device that is sent and not answered.
+pub(crate) fn waiting_slot(slots: &[Slot; 32], dev: u8) -> Option<u8>
+    ensures value { result ≡ waiting (own_of dev slots.now) }
+    ensures there { IfSome result (λ slot. (slot < 32) × (holds is_waiting (own_issue (own_of dev slots.now) slot) ≡ true)) }
+{
+    for slot in 0..32_u8 {
+        if slots[slot as usize].is_waiting(dev) {
+            return Some(slot);
+        }
+    }
+    None
+}
+
+/// The lowest slot of the device whose PIO data-in was sent.
+pub(crate) fn pio_slot(slots: &[Slot; 32], dev: u8) -> Option<u8>
+    ensures value { result ≡ sent_pio (own_of dev slots.now) }
+    ensures there { IfSome result (λ slot. (slot < 32) × (holds is_sent_pio (own_issue (own_of dev slots.now) slot) ≡ true)) }
+{
+    for slot in 0..32_u8 {
+        if slots[slot as usize].is_sent_pio(dev) {
+            return Some(slot);
+        }
+    }
+    None
+}
+
+/// The queued slots of the device that are named and all of whose bytes went over.
+pub(crate) fn done_slots(slots: &[Slot; 32], dev: u8, mask: u32) -> u32
+    ensures { result ≡ mask_of (is_done_in mask (own_of dev slots.now)) }
+{
+    let mut found = 0;
+    for slot in 0..32_u8 {
+        if has_bit(mask, slot) && slots[slot as usize].is_done(dev) {
+            found |= 1 << slot;
+        }
+    }
+    found
+}
+
+/// The queued slots of the device that are named and of which bytes are missing.
+pub(crate) fn short_slots(slots: &[Slot; 32], dev: u8, mask: u32) -> u32
+    ensures { result ≡ mask_of (is_short_in mask (own_of dev slots.now)) }
+{
+    let mut found = 0;
+    for slot in 0..32_u8 {
+        if has_bit(mask, slot) && slots[slot as usize].is_short(dev) {
+            found |= 1 << slot;
+        }
+    }
+    found
+}
+
+/// The slots of the device.
+pub(crate) fn device_slots(slots: &[Slot; 32], dev: u8) -> u32
+    ensures { result ≡ own_slots (own_of dev slots.now) }
+{
+    let mut found = 0;
+    for slot in 0..32_u8 {
+        if slots[slot as usize].issued_by(dev).is_some() {
+            found |= 1 << slot;
+        }
+    }
+    found
+}
+
+/// The slots in which something is issued.
+pub(crate) fn issued_slots(slots: &[Slot; 32]) -> u32
+    ensures { result ≡ mask_of (λ slot. holds is_any (slice_index_or slots.now slot None)) }
+{
+    let mut found = 0;
+    for slot in 0..32_u8 {
+        if slots[slot as usize].issued().is_some() {
+            found |= 1 << slot;
+        }
+    }
+    found
+}
+
+/// The slots in which something is issued that is not answered.
+pub(crate) fn unanswered_slots(slots: &[Slot; 32]) -> u32
+    ensures { result ≡ mask_of (λ slot. holds is_unanswered (slice_index_or slots.now slot None)) }
+{
+    let mut found = 0;
+    for slot in 0..32_u8 {
+        if slots[slot as usize].is_unanswered() {
+            found |= 1 << slot;
+        }
+    }
+    found
+}
+
+/// The slots in which a queued command is issued.
+pub(crate) fn queued_slots(slots: &[Slot; 32]) -> u32
+    ensures { result ≡ mask_of (λ slot. holds is_queued_issue (slice_index_or slots.now slot None)) }
+{
+    let mut found = 0;
+    for slot in 0..32_u8 {
+        if slots[slot as usize].is_queued() {
+            found |= 1 << slot;
+        }
+    }
+    found
+}
+
+/// These slots become free.
+pub(crate) fn free_slots(slots: &mut [Slot; 32], mask: u32)
+    ensures { slots.new ≡ issues_unless (has_bit_of mask) slots.old }
+{
+    for slot in 0..32_u8 {
+        if has_bit(mask, slot) {
+            slots[slot as usize].clear();
+        }
+    }
+}

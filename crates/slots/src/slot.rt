@@ -1,0 +1,285 @@
+//! One command slot.
+
+ghost use Rattle.std.specs.Prelude.{◌≡◌, ◌+◌, ◌/◌, ◌%◌, ◌≤◌, ◌<◌, Some, None, not, ◌&&◌, length, IfSome, IsSome, MatchOption};
+ghost use Rattle.std.specs.Option.{ForSome, option_map};
+ghost use Rattle.slots.specs.Work.{IsWork};
+ghost use Rattle.slots.specs.Commands.{answer_for as answer_for_issue, answered_issue, is_unanswered as is_unanswered_issue, sent_issue};
+ghost use Rattle.slots.specs.Data.{moved_over};
+ghost use Rattle.slots.specs.Issued.{issued_of, with_flags};
+ghost use Rattle.slots.specs.Setup.{came as came_in, pio_fault as pio_fault_of, setup_fault as setup_fault_of, transfer_fault as transfer_fault_of};
+ghost use Rattle.slots.specs.Slots.{holds, is_queued_issue, is_sent_pio as is_sent_pio_issue, is_waiting as is_waiting_issue, is_whole_issue, match_some, new_issue, owned_by};
+
+use crate::answer::{Answered, SetupError};
+use crate::moved::Moved;
+use crate::work::Work;
+use std::marker::Model;
+
+/// The head of what was issued in a slot.
+#[derive(Clone, Copy)]
+pub(crate) struct Issued {
+    pub(crate) dev: u8,
+    pub(crate) work: Work,
+    pub(crate) sent: bool,
+    pub(crate) answered: bool,
+}
+
+/// What was issued in a slot, and which of its bytes went over.
+#[derive(Drop)]
+pub(crate) struct Slot {
+    issued: Option<Issued>,
+    moved: Moved,
+}
+
+impl Model for Slot {
+    ghost use Rattle.std.specs.Prelude.{Option};
+    ghost use Rattle.slots.specs.Slots.{Issue};
+
+    ghost Value = { Option Issue };
+
+    ghost use Rattle.slots.specs.Issued.{issue_in, HasRoom};
+
+    ghost view = { λ s. issue_in s.issued s.moved };
+
+    ghost invariant = { λ s. HasRoom s.issued s.moved };
+}
+
+impl Default for Slot {
+    ghost use Rattle.std.specs.Prelude.{None, ◌≡◌};
+
+    ghost is_default = { λ s. s ≡ None };
+
+    fn default() -> Self {
+        Slot::new()
+    }
+}
+
+impl Slot {
+    /// With nothing issued.
+    pub(crate) fn new() -> Self
+        ensures { result ≡ None }
+    {
+        Slot {
+            issued: None,
+            moved: Moved::new(0),
+        }
+    }
+
+    pub(crate) fn issued(&self) -> Option<Issued>
+        ensures { result ≡ option_map issued_of self.now }
+    {
+        self.issued
+    }
+
+    /// What is issued, where it is the device's.
+    pub(crate) fn issued_by(&self, dev: u8) -> Option<Issued>
+        ensures { result ≡ option_map issued_of (owned_by dev self.now) }
+    {
+        self.issued.filter(|issued| issued.dev == dev)
+    }
+
+    pub(crate) fn start(&mut self, dev: u8, work: Work)
+        requires { IsWork work }
+        ensures { self.new ≡ Some (new_issue dev work) }
+    {
+        *self = Slot {
+            issued: Some(Issued {
+                dev,
+                work,
+                sent: false,
+                answered: false,
+            }),
+            moved: Moved::new(work.len),
+        };
+    }
+
+    pub(crate) fn clear(&mut self)
+        ensures { self.new ≡ None }
+    {
+        self.issued = None;
+    }
+
+    pub(crate) fn mark_sent(&mut self)
+        ensures { self.new ≡ option_map sent_issue self.old }
+    {
+        if let Some(issued) = self.issued {
+            self.issued = Some(Issued {
+                sent: true,
+                ..issued
+            });
+        }
+    }
+
+    pub(crate) fn mark_answered(&mut self)
+        ensures { self.new ≡ option_map answered_issue self.old }
+    {
+        if let Some(issued) = self.issued {
+            self.issued = Some(Issued {
+                answered: true,
+                ..issued
+            });
+        }
+    }
+
+    /// These bytes go over.
+    #[tactic(auto, using(crate::proofs::ByteLemmas::length_with_bytes))]
+    pub(crate) fn add(&mut self, offset: u32, count: u32)
+        requires within { ForSome self.old (λ issue. offset + count ≤ issue.work.len) }
+        requires some { IsSome self.old }
+        requires offset { offset % 4 ≡ 0 }
+        requires count { count % 4 ≡ 0 }
+        ensures { self.new ≡ option_map (moved_over offset count) self.old }
+    {
+        self.moved.add(offset, count);
+    }
+
+    /// Whether it is one of the device that is sent and not answered.
+    pub(crate) fn is_waiting(&self, dev: u8) -> bool
+        ensures { result ≡ holds is_waiting_issue (owned_by dev self.now) }
+    {
+        match self.issued_by(dev) {
+            Some(issued) => issued.sent && !issued.answered,
+            None => false,
+        }
+    }
+
+    /// Whether it is PIO data-in of the device that was sent.
+    pub(crate) fn is_sent_pio(&self, dev: u8) -> bool
+        ensures { result ≡ holds is_sent_pio_issue (owned_by dev self.now) }
+    {
+        match self.issued_by(dev) {
+            Some(issued) => issued.sent && issued.work.kind.is_pio(),
+            None => false,
+        }
+    }
+
+    /// Whether it is a queued command of the device.
+    fn is_queued_of(&self, dev: u8) -> bool
+        ensures { result ≡ holds is_queued_issue (owned_by dev self.now) }
+    {
+        match self.issued_by(dev) {
+            Some(issued) => issued.work.kind.is_queued(),
+            None => false,
+        }
+    }
+
+    /// Whether it is a queued command.
+    pub(crate) fn is_queued(&self) -> bool
+        ensures { result ≡ holds is_queued_issue self.now }
+    {
+        match self.issued {
+            Some(issued) => issued.work.kind.is_queued(),
+            None => false,
+        }
+    }
+
+    /// Whether something is issued that is not answered.
+    pub(crate) fn is_unanswered(&self) -> bool
+        ensures { result ≡ holds is_unanswered_issue self.now }
+    {
+        match self.issued {
+            Some(issued) => !issued.answered,
+            None => false,
+        }
+    }
+
+    /// Whether something is issued all of whose bytes went over.
+    pub(crate) fn is_whole(&self) -> bool
+        ensures { result ≡ holds is_whole_issue self.now }
+    {
+        self.issued.is_some() && self.moved.is_whole()
+    }
+
+    /// Whether it is a queued command of the device all of whose bytes went over.
+    pub(crate) fn is_done(&self, dev: u8) -> bool
+        ensures { result ≡ holds (λ issue. is_queued_issue issue && is_whole_issue issue) (owned_by dev self.now) }
+    {
+        self.is_queued_of(dev) && self.is_whole()
+    }
+
+    /// Whether it is a queued command of the device of which bytes are missing.
+    pub(crate) fn is_short(&self, dev: u8) -> bool
+        ensures { result ≡ holds (λ issue. is_queued_issue issue && not (is_whole_issue issue)) (owned_by dev self.now) }
+    {
+        self.is_queued_of(dev) && !self.is_whole()
+    }
+
+    /// What an answer of its device is for, where it waits for one. It is in slot `slot`.
+    pub(crate) fn answer_for(&self, slot: u8) -> Answered
+        ensures { result ≡ match_some self.now Answered.Nobody (answer_for_issue slot) }
+    {
+        match self.issued {
+            None => Answered::Nobody,
+            Some(issued) if issued.work.kind.is_queued() => Answered::Queued(slot),
+            Some(issued) if issued.work.kind.is_pio() && !self.is_whole() => Answered::Short(slot),
+            Some(_) => Answered::Done(slot),
+        }
+    }
+
+    /// How many bytes went over.
+    pub(crate) fn came(&self) -> u32
+        ensures { result ≡ match_some self.now 0 came_in }
+    {
+        match self.issued {
+            Some(_) => self.moved.came(),
+            None => 0,
+        }
+    }
+
+    /// Why a DMA Setup of the device for this slot is refused.
+    pub(crate) fn setup_fault(
+        &self,
+        dev: u8,
+        offset: u32,
+        count: u32,
+        to_host: bool,
+    ) -> Option<SetupError>
+        ensures { result ≡ setup_fault_of (owned_by dev self.now) offset count to_host }
+    {
+        match self.issued_by(dev) {
+            Some(issued) if issued.work.kind.is_queued() && issued.answered => {
+                transfer_fault(issued, &self.moved, offset, count, to_host)
+            }
+            _ => Some(SetupError::NotOutstanding),
+        }
+    }
+
+    /// Why a PIO Setup for this slot is refused.
+    pub(crate) fn pio_fault(&self, count: u32, to_host: bool) -> Option<SetupError>
+        ensures { result ≡ pio_fault_of self.now count to_host }
+    {
+        match self.issued {
+            Some(issued) => transfer_fault(issued, &self.moved, self.moved.came(), count, to_host),
+            None => Some(SetupError::NotOutstanding),
+        }
+    }
+}
+
+// Why bytes of what is issued are not set up.
+fn transfer_fault(
+    issued: Issued,
+    moved: &Moved,
+    offset: u32,
+    count: u32,
+    to_host: bool,
+) -> Option<SetupError>
+    requires room { length moved.now ≡ issued.work.len / 4 }
+    requires dwords { issued.work.len % 4 ≡ 0 }
+    ensures { result ≡ transfer_fault_of (with_flags issued moved.now) offset count to_host }
+{
+    if issued.work.kind.is_read() != to_host {
+        return Some(SetupError::WrongWay);
+    }
+    if u64::from(issued.work.len) < u64::from(offset) + u64::from(count) {
+        return Some(SetupError::Overflow);
+    }
+    if moved.any_over(offset, count) {
+        return Some(SetupError::Twice);
+    }
+    if moved.stretches() >= 64 && !moved.ends_at(offset) {
+        return Some(SetupError::Fragments);
+    }
+    if count == 0 || offset % 4 != 0 || count % 4 != 0 {
+        return Some(SetupError::BadCount);
+    }
+    None
+}

@@ -1,0 +1,481 @@
+//! The table of all slots.
+
+ghost use Rattle.std.specs.Prelude.{◌≡◌, ℕ, [], ◌+◌, ◌%◌, ◌<◌, ◌≤◌, ◌↔◌, Some, None, IsSome, IsErr, IfSome, OnOk, OnErr, MatchOption, false, true, is_ok, is_none};
+ghost use Rattle.std.specs.Option.{option_map};
+ghost use Rattle.std.specs.Result.{result_err};
+ghost use Rattle.slots.specs.Commands.{MayBeSent, after_answer, after_complete, after_issue, after_pio_done, after_sent, answer_of, answered_issue, completed, is_any, is_slot, is_unanswered, may_go as may_go_of, next_slot, own_slots, sent_issue, slots_where, whole_pio};
+ghost use Rattle.slots.specs.Data.{activated as activated_context, after_activate, after_arrive, after_payload, arrive_answer, gone_over, may_activate, payload, payload_len as payload_len_of, receiving_slot};
+ghost use Rattle.slots.specs.Issued.{with_flags};
+ghost use Rattle.slots.specs.Setup.{after_setup, after_setup_pio, new_context, pio_fault, pio_issue, setup_fault, with_own_context};
+ghost use Rattle.slots.specs.Slots.{LeavesOthers, context_of, context_unless, freed, has_bit as has_bit_of, holds, is_control, is_queued_issue, is_waiting, issue_at, no_own_slots, no_slots, own_issue, owned_by, slots_of, waiting, with_own_issue};
+ghost use Rattle.slots.specs.Table.{IsContext, IsTable};
+ghost use Rattle.slots.specs.Work.{IsWork};
+
+use crate::answer::{Answered, ArriveError, Busy, Completed, SetupError, Stray};
+use crate::scan::{
+    device_slots, done_slots, free_slots, has_bit, issued_slots, pio_slot, queued_slots,
+    short_slots, unanswered_slots, waiting_slot,
+};
+use crate::slot::{Issued, Slot};
+use crate::work::Work;
+use std::marker::Model;
+
+/// The most bytes of a Data FIS.
+const MAX_PAYLOAD: u32 = 8192;
+
+/// What is left of a device's last setup.
+#[derive(Clone, Copy, Debug, PartialEq, Eq)]
+pub struct Context {
+    /// The slot whose bytes go over.
+    pub slot: u8,
+    /// The number of the next byte.
+    pub next: u32,
+    /// How many bytes are left.
+    pub left: u32,
+    /// Whether they go to the host.
+    pub to_host: bool,
+    /// Whether the device asked for the next Data.
+    pub activated: bool,
+}
+
+impl Context {
+    fn new(slot: u8, offset: u32, count: u32, to_host: bool) -> Context
+        ensures { result ≡ new_context slot offset count to_host }
+    {
+        Context {
+            slot,
+            next: offset,
+            left: count,
+            to_host,
+            activated: false,
+        }
+    }
+
+    /// How many bytes go to the device next.
+    fn payload_len(self) -> u32
+        ensures { result ≡ payload_len_of self }
+    {
+        self.left.min(MAX_PAYLOAD)
+    }
+
+    fn may_be_activated(self) -> bool
+        ensures { result ≡ may_activate (Some self) }
+    {
+        !self.to_host && self.left > 0 && !self.activated
+    }
+}
+
+/// What was issued in each slot, which of its bytes went over, and each device's last setup.
+#[derive(Drop)]
+pub struct SlotTable {
+    slots: [Slot; 32],
+    contexts: [Option<Context>; 16],
+}
+
+impl Model for SlotTable {
+    ghost use Rattle.slots.specs.Slots.{Slots};
+    ghost use Rattle.slots.specs.Table.{IsTable};
+
+    ghost Value = { Slots };
+
+    ghost view = { λ t. record { issues = t.slots; contexts = t.contexts } };
+
+    ghost invariant = { λ t. IsTable (record { issues = t.slots; contexts = t.contexts }) };
+}
+
+impl SlotTable {
+    /// With nothing issued.
+    pub fn new() -> Self
+        ensures { result ≡ no_slots }
+    {
+        SlotTable {
+            slots: Default::default(),
+            contexts: [None; 16],
+        }
+    }
+
+    /// What is true of every table. It does nothing when it runs.
+    pub fn keeps_rules(&self)
+        ensures { IsTable self.now }
+    {
+        let _ = &self.slots;
+    }
+
+    /// Issues some work of a device in a free slot.
+    pub fn issue(&mut self, slot: u8, dev: u8, work: Work) -> Result<(), Busy>
+        requires slot { slot < 32 }
+        requires dev { dev < 16 }
+        requires work { IsWork work }
+        ensures busy { IsErr result ↔ IsSome (issue_at self.old slot) }
+        ensures own { OnOk result (slots_of dev self.new ≡ after_issue (slots_of dev self.old) slot dev work) }
+        ensures err { OnErr result (self.new ≡ self.old) }
+        ensures others { LeavesOthers dev self.old self.new }
+    {
+        if self.slots[slot as usize].issued().is_some() {
+            return Err(Busy);
+        }
+        self.slots[slot as usize].start(dev, work);
+        Ok(())
+    }
+
+    /// The command of a slot is sent. A Control has no answer, so its slot becomes free at once; any other waits for the
+    /// answer of its device.
+    pub fn sent(&mut self, slot: u8)
+        requires slot { slot < 32 }
+        requires alone { MayBeSent self.old slot }
+        ensures own { IfSome (issue_at self.old slot) (λ issue. slots_of issue.dev self.new ≡ after_sent (slots_of issue.dev self.old) slot) }
+        ensures others { IfSome (issue_at self.old slot) (λ issue. LeavesOthers issue.dev self.old self.new) }
+    {
+        let Some(issued) = self.slots[slot as usize].issued() else {
+            return;
+        };
+        if issued.work.kind.is_control() {
+            self.free(issued.dev, slot);
+        } else {
+            self.send(issued.dev, slot);
+        }
+    }
+
+    /// The command of a slot of a device is sent, and waits for its answer.
+    fn send(&mut self, dev: u8, slot: u8)
+        requires slot { slot < 32 }
+        requires issue { MatchOption (issue_at self.old slot) ⊥ (λ issue. (issue.dev ≡ dev) × (is_control issue.work.kind ≡ false)) }
+        requires alone { waiting (slots_of dev self.old) ≡ None }
+        ensures own { slots_of dev self.new ≡ with_own_issue (slots_of dev self.old) slot (option_map sent_issue (own_issue (slots_of dev self.old) slot)) }
+        ensures others { LeavesOthers dev self.old self.new }
+    {
+        self.slots[slot as usize].mark_sent();
+    }
+
+    /// A slot of a device becomes free.
+    fn free(&mut self, dev: u8, slot: u8)
+        requires slot { slot < 32 }
+        requires dev { dev < 16 }
+        requires owner { IsSome (owned_by dev (issue_at self.old slot)) }
+        ensures own { slots_of dev self.new ≡ freed (is_slot slot) (slots_of dev self.old) }
+        ensures others { LeavesOthers dev self.old self.new }
+    {
+        self.slots[slot as usize].clear();
+        self.contexts[dev as usize] = context_without(self.contexts[dev as usize], slot);
+    }
+
+    /// A slot of a device that waits is answered.
+    fn answer(&mut self, dev: u8, slot: u8)
+        requires slot { slot < 32 }
+        requires dev { dev < 16 }
+        requires waits { holds is_waiting (own_issue (slots_of dev self.old) slot) ≡ true }
+        requires queued { holds is_queued_issue (own_issue (slots_of dev self.old) slot) ≡ true }
+        ensures own { slots_of dev self.new ≡ with_own_issue (slots_of dev self.old) slot (option_map answered_issue (own_issue (slots_of dev self.old) slot)) }
+        ensures others { LeavesOthers dev self.old self.new }
+    {
+        self.slots[slot as usize].mark_answered();
+    }
+
+    /// A device answers the command that waits, by a Register Device to Host FIS with neither BSY nor ERR.
+    pub fn answered(&mut self, dev: u8) -> Answered
+        requires { dev < 16 }
+        ensures answer { result ≡ answer_of (slots_of dev self.old) }
+        ensures own { slots_of dev self.new ≡ after_answer (slots_of dev self.old) }
+        ensures others { LeavesOthers dev self.old self.new }
+    {
+        let Some(slot) = waiting_slot(&self.slots, dev) else {
+            return Answered::Nobody;
+        };
+        let answer = self.slots[slot as usize].answer_for(slot);
+        match answer {
+            Answered::Nobody | Answered::Short(_) => {}
+            Answered::Queued(slot) => self.answer(dev, slot),
+            Answered::Done(slot) => self.free(dev, slot),
+        }
+        answer
+    }
+
+    /// A setup of a device is accepted.
+    fn set_context(&mut self, dev: u8, context: Context)
+        requires dev { dev < 16 }
+        requires inside { IsContext dev self.old context }
+        ensures own { slots_of dev self.new ≡ with_own_context (slots_of dev self.old) context }
+        ensures others { LeavesOthers dev self.old self.new }
+    {
+        self.contexts[dev as usize] = Some(context);
+    }
+
+    /// A DMA Setup FIS of a device for one of its queued slots: `count` bytes from byte `offset` on. Where it is accepted it
+    /// replaces the device's last setup, and holds until its slot becomes free.
+    pub fn setup(
+        &mut self,
+        dev: u8,
+        tag: u8,
+        offset: u32,
+        count: u32,
+        to_host: bool,
+    ) -> Result<(), SetupError>
+        requires dev { dev < 16 }
+        requires tag { tag < 32 }
+        ensures refusal { result_err result ≡ setup_fault (own_issue (slots_of dev self.old) tag) offset count to_host }
+        ensures own { slots_of dev self.new ≡ after_setup (slots_of dev self.old) tag offset count to_host }
+        ensures others { LeavesOthers dev self.old self.new }
+    {
+        if let Some(fault) = self.slots[tag as usize].setup_fault(dev, offset, count, to_host) {
+            return Err(fault);
+        }
+        self.set_context(dev, Context::new(tag, offset, count, to_host));
+        Ok(())
+    }
+
+    /// A PIO Setup FIS of a device for its PIO data-in: the next `count` bytes.
+    pub fn setup_pio(&mut self, dev: u8, count: u32, to_host: bool) -> Result<(), SetupError>
+        requires dev { dev < 16 }
+        ensures refusal { result_err result ≡ pio_fault (pio_issue (slots_of dev self.old)) count to_host }
+        ensures own { slots_of dev self.new ≡ after_setup_pio (slots_of dev self.old) count to_host }
+        ensures others { LeavesOthers dev self.old self.new }
+    {
+        let Some(slot) = pio_slot(&self.slots, dev) else {
+            return Err(SetupError::NotOutstanding);
+        };
+        if let Some(fault) = self.slots[slot as usize].pio_fault(count, to_host) {
+            return Err(fault);
+        }
+        let offset = self.slots[slot as usize].came();
+        self.set_context(dev, Context::new(slot, offset, count, to_host));
+        Ok(())
+    }
+
+    /// The next bytes of a device's context go over.
+    fn go_over(&mut self, dev: u8, context: Context, count: u32)
+        requires dev { dev < 16 }
+        requires context { context_of self.old dev ≡ Some context }
+        requires within { count ≤ context.left }
+        requires dwords { count % 4 ≡ 0 }
+        ensures own { slots_of dev self.new ≡ gone_over count context (slots_of dev self.old) }
+        ensures others { LeavesOthers dev self.old self.new }
+    {
+        let at = context.slot as usize;
+        self.slots[at].add(context.next, count);
+        self.contexts[dev as usize] = Some(Context {
+            next: context.next + count,
+            left: context.left - count,
+            activated: false,
+            ..context
+        });
+    }
+
+    /// `count` bytes of data of a device arrive: the slot to which they belong, and the number of the first of them.
+    pub fn arrive(&mut self, dev: u8, count: u32) -> Result<(u8, u32), ArriveError>
+        requires dev { dev < 16 }
+        requires dwords { count % 4 ≡ 0 }
+        ensures answer { result ≡ arrive_answer (context_of self.old dev) count }
+        ensures own { slots_of dev self.new ≡ after_arrive (slots_of dev self.old) count }
+        ensures others { LeavesOthers dev self.old self.new }
+    {
+        let Some(context) = self.contexts[dev as usize] else {
+            return Err(ArriveError::Stray);
+        };
+        if !context.to_host {
+            return Err(ArriveError::Stray);
+        }
+        if context.left < count {
+            return Err(ArriveError::Overflow);
+        }
+        self.go_over(dev, context, count);
+        Ok((context.slot, context.next))
+    }
+
+    /// A DMA Activate FIS of a device: it is ready for the next data of its transfer.
+    pub fn activate(&mut self, dev: u8) -> Result<(), Stray>
+        requires { dev < 16 }
+        ensures answer { is_ok result ≡ may_activate (context_of self.old dev) }
+        ensures own { slots_of dev self.new ≡ after_activate (slots_of dev self.old) }
+        ensures others { LeavesOthers dev self.old self.new }
+    {
+        let Some(context) = self.contexts[dev as usize] else {
+            return Err(Stray);
+        };
+        if !context.may_be_activated() {
+            return Err(Stray);
+        }
+        self.contexts[dev as usize] = Some(Context {
+            activated: true,
+            ..context
+        });
+        Ok(())
+    }
+
+    /// The data that goes to a device next, where it is ready for it: its slot, the number of its first byte, and how many
+    /// bytes it has, at most 8,192.
+    pub fn next_payload(&self, dev: u8) -> Option<(u8, u32, u32)>
+        requires { dev < 16 }
+        ensures value { result ≡ payload (context_of self.now dev) }
+        ensures some { IfSome result (λ next. 0 < next.2) }
+    {
+        let context = self.contexts[dev as usize]?;
+        context
+            .activated
+            .then_some((context.slot, context.next, context.payload_len()))
+    }
+
+    /// The data of [`next_payload`](Self::next_payload) went to the device.
+    pub fn payload_gone(&mut self, dev: u8)
+        requires dev { dev < 16 }
+        requires some { IsSome (payload (context_of self.old dev)) }
+        ensures own { slots_of dev self.new ≡ after_payload (slots_of dev self.old) }
+        ensures others { LeavesOthers dev self.old self.new }
+    {
+        if let Some(context) = self.contexts[dev as usize] {
+            self.go_over(dev, context, context.payload_len());
+        }
+    }
+
+    /// A device says by a Set Device Bits FIS that these of its queued slots are done. Slots that are no queued ones of it
+    /// are ignored.
+    pub fn complete(&mut self, dev: u8, mask: u32) -> Completed
+        requires { dev < 16 }
+        ensures answer { result ≡ completed mask (slots_of dev self.old) }
+        ensures own { slots_of dev self.new ≡ after_complete mask (slots_of dev self.old) }
+        ensures others { LeavesOthers dev self.old self.new }
+    {
+        let done = done_slots(&self.slots, dev, mask);
+        let short = short_slots(&self.slots, dev, mask);
+        free_slots(&mut self.slots, done);
+        self.contexts[dev as usize] = context_left(self.contexts[dev as usize], done);
+        Completed { done, short }
+    }
+
+    /// A block of PIO data ended as the last one does. Where all bytes of the device's PIO data-in came its slot, which is
+    /// the answer, becomes free.
+    pub fn pio_done(&mut self, dev: u8) -> Option<u8>
+        requires { dev < 16 }
+        ensures answer { result ≡ whole_pio (slots_of dev self.old) }
+        ensures own { slots_of dev self.new ≡ after_pio_done (slots_of dev self.old) }
+        ensures others { LeavesOthers dev self.old self.new }
+    {
+        let slot = pio_slot(&self.slots, dev)?;
+        if !self.slots[slot as usize].is_whole() {
+            return None;
+        }
+        self.free(dev, slot);
+        Some(slot)
+    }
+
+    /// Frees each slot of a device, and answers their mask.
+    pub fn flush(&mut self, dev: u8) -> u32
+        requires { dev < 16 }
+        ensures answer { result ≡ own_slots (slots_of dev self.old) }
+        ensures own { slots_of dev self.new ≡ no_own_slots }
+        ensures others { LeavesOthers dev self.old self.new }
+    {
+        let flushed = device_slots(&self.slots, dev);
+        free_slots(&mut self.slots, flushed);
+        self.contexts[dev as usize] = None;
+        flushed
+    }
+
+    /// Frees each slot, and answers the mask of those in which something was issued.
+    pub fn flush_all(&mut self) -> u32
+        ensures answer { result ≡ slots_where is_any self.old }
+        ensures after { self.new ≡ no_slots }
+    {
+        let flushed = issued_slots(&self.slots);
+        *self = SlotTable::new();
+        flushed
+    }
+
+    /// The mask of the slots in which something is issued that is not answered, as PxCI shows it (AHCI 1.3.1, 3.3.14).
+    pub fn ci(&self) -> u32
+        ensures { result ≡ slots_where is_unanswered self.now }
+    {
+        unanswered_slots(&self.slots)
+    }
+
+    /// The mask of the slots in which a queued command is issued, as PxSACT shows it (AHCI 1.3.1, 3.3.13).
+    pub fn queued(&self) -> u32
+        ensures { result ≡ slots_where is_queued_issue self.now }
+    {
+        queued_slots(&self.slots)
+    }
+
+    /// The device of the command that is issued in a slot.
+    pub fn owner(&self, slot: u8) -> Option<u8>
+        requires { slot < 32 }
+        ensures { result ≡ option_map (λ issue. issue.dev) (issue_at self.now slot) }
+    {
+        let issued = self.slots[slot as usize].issued()?;
+        Some(issued.dev)
+    }
+
+    /// What the command that is issued in a slot asks for.
+    pub fn work(&self, slot: u8) -> Option<Work>
+        requires { slot < 32 }
+        ensures { result ≡ option_map (λ issue. issue.work) (issue_at self.now slot) }
+    {
+        let issued = self.slots[slot as usize].issued()?;
+        Some(issued.work)
+    }
+
+    /// The slot for which data of a device may arrive.
+    pub fn receiving(&self, dev: u8) -> Option<u8>
+        requires { dev < 16 }
+        ensures { result ≡ receiving_slot (context_of self.now dev) }
+    {
+        let context = self.contexts[dev as usize]?;
+        context.to_host.then_some(context.slot)
+    }
+
+    /// Whether what is issued in a slot may go out next.
+    fn may_go(&self, issued: Issued, ready: u16, faulty: u16) -> bool
+        requires { issued.dev < 16 }
+        ensures { result ≡ may_go_of ready faulty self.now (with_flags issued []) }
+    {
+        !issued.sent
+            && !has_bit(u32::from(faulty), issued.dev)
+            && (issued.work.kind.is_control()
+                || has_bit(u32::from(ready), issued.dev)
+                    && waiting_slot(&self.slots, issued.dev).is_none())
+    }
+
+    /// Whether the command of a slot may go out next.
+    fn is_next(&self, slot: u8, ready: u16, faulty: u16) -> bool
+        requires { slot < 32 }
+        ensures { result ≡ holds (may_go_of ready faulty self.now) (issue_at self.now slot) }
+    {
+        match self.slots[slot as usize].issued() {
+            Some(issued) => self.may_go(issued, ready, faulty),
+            None => false,
+        }
+    }
+
+    /// The lowest slot whose command may go out: it was not sent, its device is not in `faulty`, and it is a Control, or
+    /// the device is in `ready` and no slot of it waits for an answer. Both are masks of devices.
+    pub fn next_command(&self, ready: u16, faulty: u16) -> Option<u8>
+        ensures value { result ≡ next_slot ready faulty self.now }
+        ensures may_be_sent { IfSome result (λ slot. (slot < 32) × MayBeSent self.now slot) }
+    {
+        for slot in 0..32_u8 {
+            if self.is_next(slot, ready, faulty) {
+                return Some(slot);
+            }
+        }
+        None
+    }
+}
+
+// The context, unless its slot is one of these.
+fn context_left(context: Option<Context>, mask: u32) -> Option<Context>
+    requires { MatchOption context (Unit {0}) (λ c. c.slot < 32) }
+    ensures { result ≡ context_unless (has_bit_of mask) context }
+{
+    match context {
+        Some(context) if has_bit(mask, context.slot) => None,
+        other => other,
+    }
+}
+
+// The context, unless its slot is this one.
+fn context_without(context: Option<Context>, slot: u8) -> Option<Context>
+    ensures { result ≡ context_unless (is_slot slot) context }
+{
+    match context {
+        Some(context) if context.slot == slot => None,
+        other => other,
+    }
+}

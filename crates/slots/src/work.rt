@@ -1,0 +1,70 @@
+//! What a command asks for.
+
+ghost use Rattle.std.specs.Prelude.{◌≡◌};
+ghost use Rattle.slots.specs.Work.{is_queued as is_queued_kind, is_read as is_read_kind};
+ghost use Rattle.slots.specs.Slots.{is_control as is_control_kind, is_pio as is_pio_kind};
+
+/// What a command does with data.
+#[derive(Clone, Copy, Debug, PartialEq, Eq)]
+pub enum Kind {
+    /// READ FPDMA QUEUED: data comes to the host by DMA, and a Set Device Bits FIS ends it (Serial ATA, native command
+    /// queueing).
+    QueuedRead,
+    /// WRITE FPDMA QUEUED: data goes to the device by DMA, and a Set Device Bits FIS ends it.
+    QueuedWrite,
+    /// PIO data-in: data comes in blocks, each announced by a PIO Setup FIS.
+    PioIn,
+    /// A command without data, ended by a Register Device to Host FIS.
+    NoData,
+    /// A frame with C 0, which only writes the device's control register and has no answer of its own.
+    Control,
+}
+
+/// What a command asks for: what it does with data, and how many bytes it moves.
+#[derive(Clone, Copy, Debug, PartialEq, Eq)]
+pub struct Work {
+    /// What it does with data.
+    pub kind: Kind,
+    /// How many bytes it moves: a multiple of 4 up to 131,072, and 0 exactly for NoData and Control.
+    pub len: u32,
+}
+
+impl Kind {
+    /// Whether it is READ or WRITE FPDMA QUEUED.
+    pub fn is_queued(self) -> bool
+        ensures { result ≡ is_queued_kind self }
+    {
+        match self {
+            Kind::QueuedRead | Kind::QueuedWrite => true,
+            Kind::PioIn | Kind::NoData | Kind::Control => false,
+        }
+    }
+
+    /// Whether its data comes to the host.
+    pub fn is_read(self) -> bool
+        ensures { result ≡ is_read_kind self }
+    {
+        match self {
+            Kind::QueuedRead | Kind::PioIn => true,
+            Kind::QueuedWrite | Kind::NoData | Kind::Control => false,
+        }
+    }
+
+    pub(crate) fn is_pio(self) -> bool
+        ensures { result ≡ is_pio_kind self }
+    {
+        match self {
+            Kind::PioIn => true,
+            Kind::QueuedRead | Kind::QueuedWrite | Kind::NoData | Kind::Control => false,
+        }
+    }
+
+    pub(crate) fn is_control(self) -> bool
+        ensures { result ≡ is_control_kind self }
+    {
+        match self {
+            Kind::Control => true,
+            Kind::QueuedRead | Kind::QueuedWrite | Kind::PioIn | Kind::NoData => false,
+        }
+    }
+}
