@@ -1,7 +1,7 @@
 use super::{
     CONFIG, inject, is_came, is_offered, is_sent, is_took, is_up, new_world, refusal, run, units,
 };
-use crate::{Answer, Config, Step, StepError, World, WorldError};
+use crate::{Answer, Config, Step, StepError, SubmitError, World, WorldError};
 use fis_view::Bytes;
 use std::alloc::{AllocError, Global};
 use std::test::Fail;
@@ -134,4 +134,32 @@ fn sizes_are_tested(rt: HostRuntime) -> Result<(), Fail> {
     }
     assert_eq!(rt; new_world(alloc)?.memory().client().len(), 1_048_576);
     Ok(())
+}
+
+/// The numbers of the refusals.
+#[test]
+fn refusals_have_their_numbers(rt: HostRuntime) {
+    for (number, error) in [
+        (1u8, StepError::OutOfMemory),
+        (2, StepError::BadBytes),
+        (3, StepError::NoSuchPort),
+        (4, StepError::AlreadyThere),
+        (5, StepError::NotThere),
+        (6, StepError::Spent),
+        (7, StepError::Outside),
+        (8, StepError::InUse),
+    ] {
+        assert_eq!(rt; error as u8, number);
+    }
+    for (number, error) in [
+        (1u8, SubmitError::NoDevice),
+        (4, SubmitError::BadCount),
+        (5, SubmitError::LengthMismatch),
+        (6, SubmitError::BadPrd),
+        (7, SubmitError::Overlap),
+        (8, SubmitError::NoSlot),
+        (9, SubmitError::TicketsSpent),
+    ] {
+        assert_eq!(rt; error as u8, number);
+    }
 }
