@@ -2,6 +2,7 @@
 use Rattle.std.proofs.Common.{◌≡◌, ℕ, zero, suc, ◌+◌, ◌-◌, ◌≤◌, ◌<◌, ◌==◌, ◌&&◌, ◌||◌, ◌⊎◌, min, Bool, true, false, cond, List, [], ◌∷◌, Option, Some, None, refl, sym, ap, ◌∙◌, arith, inl, inr}
 use Rattle.std.specs.Prelude.{fold, nat_le, nat_lt}
 use Rattle.std.specs.List.{find, range_with_len}
+use Rattle.std.proofs.Math.Bool.{or-false, or_assoc}
 use Rattle.std.proofs.Math.Nat.{min-le_left, min-le_right, min-eq_left, min-eq_right}
 use Rattle.std.proofs.lemmas.Bool.{cases_Bool, cases_eq, eq-eqb, eqb-true, le-leb, leb-false, leb-true, lt-ltb, ltb-true, or_cases, or_from}
 use Rattle.disk_model.specs.declared.request.Command.{Command}
@@ -158,16 +159,8 @@ one_more test c bad found f = by_place (is_of c bad) refl
     by_place true e = one_more_in test c bad found e f
     by_place false e = left_out test c bad found e f
 
-or_assoc : (x y z : Bool) → ((x || y) || z) ≡ (x || (y || z))
-or_assoc true y z = refl
-or_assoc false y z = refl
-
-or_none : (x : Bool) → x ≡ (x || false)
-or_none true = refl
-or_none false = refl
-
 folds : (test : ℕ → Bool) (c : Command) (found : Option ℕ) (bads : List ℕ) → IsLowest test c.lba c.count found → IsLowest (λ q. test q || is_bad bads q) c.lba c.count (fold (lower_bad c) found bads)
-folds test c found [] f = same_test test (λ q. test q || is_bad [] q) c.lba c.count found (λ q. or_none (test q)) f
+folds test c found [] f = same_test test (λ q. test q || is_bad [] q) c.lba c.count found (λ q. sym (or-false (test q))) f
 folds test c found (bad ∷ bads) f =
     same_test (λ q. or_this test bad q || is_bad bads q) (λ q. test q || is_bad (bad ∷ bads) q) c.lba c.count _ (λ q. or_assoc (test q) (bad == q) (is_bad bads q))
     (folds (or_this test bad) c (lower_bad c found bad) bads (one_more test c bad found f))
