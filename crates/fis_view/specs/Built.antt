@@ -1,4 +1,5 @@
--- What a built frame is: each field reads back what was given for it, and no other bit is set.
+-- What a built frame is: each field reads back what was given for it, and no other bit is set (Serial ATA 3.x, 10.5:
+-- reserved bits are cleared to zero).
 use Rattle.std.specs.Prelude.{◌≡◌, ℕ, ◌+◌, ◌*◌, ◌/◌, ◌%◌, ◌^◌, ◌<◌, ◌≤◌, ◌⊎◌, List, [], ◌∷◌, Ok}
 use Rattle.std.specs.Int.{from_bool}
 use Rattle.fis_view.specs.Bits.{bit}

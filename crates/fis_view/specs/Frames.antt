@@ -1,4 +1,6 @@
--- What a frame is: the bytes of one FIS, with a stamp beside them, and its PM Port mark.
+-- What a frame is: the bytes of one FIS, with a stamp beside them, and its PM Port mark (Serial ATA 3.x, chapter 10 and
+-- 10.5; PM Port is bits 3:0 of byte 1 of every FIS). The stamp is our own, and no actor that the standard describes reads
+-- the number and the removals in it.
 use Rattle.std.specs.Prelude.{ℕ, ◌+◌, ◌*◌, ◌/◌, ◌%◌, ◌==◌, ◌&&◌, Bool, IsTrue, nat_le, List, length, slice_index, slice_set}
 use Rattle.fis_view.specs.declared.frame.Stamp.{Stamp}
 

@@ -1,4 +1,4 @@
--- What a PM Port mark leaves.
+-- What a PM Port mark leaves (Serial ATA 3.x, 10.5 and chapter 16: a port multiplier changes PM Port alone).
 use Rattle.std.specs.Prelude.{◌≡◌, ◌≢◌, ℕ, List, length, drop, Ok, Err, if◌then◌else◌}
 use Rattle.fis_view.specs.Frames.{marked}
 use Rattle.fis_view.specs.Table.{Kind, Name, PmPort, field}

@@ -13,7 +13,8 @@ use std::alloc::{AllocError, Global};
 
 /// Byte 1 of a frame: the low four bits of the PM Port, and flags in bits 5, 6 and 7.
 fn port_and_flags(pm_port: u8, bit_5: bool, bit_6: bool, bit_7: bool) -> u8
-    ensures { result ≡ pm_port % 16 + 32 * from_bool bit_5 + 64 * from_bool bit_6 + 128 * from_bool bit_7 }
+    ensures { result
+        ≡ pm_port % 16 + 32 * from_bool bit_5 + 64 * from_bool bit_6 + 128 * from_bool bit_7 }
 {
     pm_port % 16 + 32 * u8::from(bit_5) + 64 * u8::from(bit_6) + 128 * u8::from(bit_7)
 }

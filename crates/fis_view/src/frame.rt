@@ -77,7 +77,8 @@ impl Frame {
 
     /// Copies these bytes into a frame. The length is tested before memory is asked for.
     pub fn from_bytes(alloc: Global, bytes: &[u8], stamp: Stamp) -> Result<Frame, FrameError>
-        ensures ok { IfOk result (λ frame. (frame ≡ record { bytes = bytes.now; stamp = stamp }) × IsFrame bytes.now) }
+        ensures ok { IfOk result (λ frame.
+            (frame ≡ record { bytes = bytes.now; stamp = stamp }) × IsFrame bytes.now) }
         ensures bad_length { (result ≡ Err FrameError.BadLength) ↔ (is_frame bytes.now ≡ false) }
     {
         if !is_frame_length(bytes) {

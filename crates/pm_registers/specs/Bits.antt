@@ -1,4 +1,4 @@
--- Numbers as sets of bits.
+-- Numbers as sets of bits, as the registers of Serial ATA 3.x, 14.1 and 16.4 are.
 use Rattle.std.specs.Prelude.{ℕ, zero, suc, ◌+◌, ◌^◌, ◌==◌, Bool, not, bit_and, bit_xor, if◌then◌else◌}
 
 -- the bits of x that are not in y

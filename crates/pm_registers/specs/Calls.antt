@@ -1,4 +1,5 @@
--- What is true after any list of calls, by the calls alone.
+-- What is true after any list of calls, by the calls alone (Serial ATA 3.x, 16.4.1: GSCR[32] shows the ports with an
+-- error that the mask GSCR[33] lets through; 16.3.4: asynchronous notification).
 use Rattle.std.specs.Prelude.{◌≡◌, ◌≢◌, ℕ, ◌<◌, ◌↔◌, ◌⊎◌, List, [], ◌∷◌, ◌++◌, All, unwrap_or}
 use Rattle.std.specs.Int.{bit_at}
 use Rattle.pm_registers.specs.RegisterMap.{RegisterMap, register_at, after_write, after_insert, after_remove, after_raise, after_notice, after_restore}

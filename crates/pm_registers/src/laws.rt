@@ -9,6 +9,7 @@ ghost use Rattle.pm_registers.specs.RegisterMap.{opening};
 /// PSCR\[1\] goes only where ones are written to it.
 pub fn registers_follow_calls()
     ensures summary { (ports : ℕ) (calls : List Call) → ports ≤ 15 → SummaryAgrees (after (opening ports) calls) }
-    ensures due { (ports : ℕ) (calls : List Call) → ((after (opening ports) calls).due ≡ true) ↔ NotifiedSince (opening ports) calls }
+    ensures due { (ports : ℕ) (calls : List Call) →
+        ((after (opening ports) calls).due ≡ true) ↔ NotifiedSince (opening ports) calls }
     ensures cleared { (ports : ℕ) (calls : List Call) → ports ≤ 15 → ClearedByOnes (after (opening ports) calls) }
 {}

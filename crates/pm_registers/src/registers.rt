@@ -101,7 +101,8 @@ impl PmRegisters {
     pub fn read(&self, port: u8, register: u16) -> Result<u32, RegisterError>
         ensures value { result ≡ read_at self.now port register }
         // so it gives the value after the calls that were made since the start
-        ensures after_calls { (ports : ℕ) (calls : List Call) → self.now ≡ after (opening ports) calls → result ≡ read_at (after (opening ports) calls) port register }
+        ensures after_calls { (ports : ℕ) (calls : List Call) → self.now ≡ after (opening ports) calls →
+            result ≡ read_at (after (opening ports) calls) port register }
     {
         let value = if port == CONTROL_PORT {
             self.read_control(register)
@@ -139,10 +140,13 @@ impl PmRegisters {
         ensures refusal { result_err result ≡ result_err (read_at self.old port register) }
         ensures after { self.new ≡ after_write self.old port register value }
         // the next read gives the value, through the mask of the register
-        ensures seen { (was : ℕ) → register_at self.old port register ≡ Some was → register_at self.new port register ≡ Some (after_rule (write_rule port register) was value) }
+        ensures seen { (was : ℕ) → register_at self.old port register ≡ Some was →
+            register_at self.new port register
+            ≡ Some (after_rule (write_rule port register) was value) }
         ensures ports { self.new.ports ≡ self.old.ports }
         // each other register stays, but for what a write to SControl acts on and for GSCR[32]
-        ensures others { (p r : ℕ) → may_change port register p r ≡ false → register_at self.new p r ≡ register_at self.old p r }
+        ensures others { (p r : ℕ) → may_change port register p r ≡ false →
+            register_at self.new p r ≡ register_at self.old p r }
     {
         self.read(port, register)?;
         let before = self.summary();

@@ -34,7 +34,9 @@ impl Sizes {
     /// The same as the world has them, memory in bytes.
     pub fn config(self) -> Config
         ensures accepted { is_config result self.ports ≡ true }
-        ensures sizes { result ≡ record { ports = self.ports; capacity = self.capacity; memory = 1048576 * self.memory } }
+        ensures sizes { result
+            ≡ record
+            { ports = self.ports; capacity = self.capacity; memory = 1048576 * self.memory } }
     {
         Config {
             ports: self.ports,
