@@ -1,5 +1,5 @@
 -- Commands: when they go out, what an answer of their device does, and when they are done.
-use Rattle.std.specs.Prelude.{◌≡◌, ℕ, Bool, true, false, not, ◌&&◌, ◌||◌, ◌==◌, if◌then◌else◌, Option, Some, None, is_none, MatchOption}
+use Rattle.std.specs.Prelude.{◌≡◌, ◌<◌, ℕ, Bool, true, false, not, ◌&&◌, ◌||◌, ◌==◌, if◌then◌else◌, Option, Some, None, is_none, MatchOption}
 use Rattle.std.specs.Option.{option_map}
 use Rattle.slots.specs.declared.answer.Answered.{Answered}
 use Rattle.slots.specs.declared.answer.Answered.TheVariants.{Nobody, Queued, Done, Short}
@@ -51,6 +51,13 @@ answer_for slot issue =
     if is_queued_issue issue then Queued slot
     else if is_pio issue.work.kind && not (is_whole_issue issue) then Short slot
     else Done slot
+
+-- an answer for a slot names one of the 32
+abbrev pub IsSlotAnswer : Answered → Type 0
+IsSlotAnswer Nobody = Unit {0}
+IsSlotAnswer (Queued slot) = slot < 32
+IsSlotAnswer (Done slot) = slot < 32
+IsSlotAnswer (Short slot) = slot < 32
 
 -- the answer is for the slot that waits
 abbrev pub answer_of : DeviceSlots → Answered

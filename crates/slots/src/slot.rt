@@ -3,7 +3,7 @@
 ghost use Rattle.std.specs.Prelude.{◌≡◌, ◌+◌, ◌/◌, ◌%◌, ◌≤◌, ◌<◌, Some, None, not, ◌&&◌, length, IfSome, IsSome, MatchOption};
 ghost use Rattle.std.specs.Option.{ForSome, option_map};
 ghost use Rattle.slots.specs.Work.{IsWork};
-ghost use Rattle.slots.specs.Commands.{answer_for as answer_for_issue, answered_issue, is_unanswered as is_unanswered_issue, sent_issue};
+ghost use Rattle.slots.specs.Commands.{IsSlotAnswer, answer_for as answer_for_issue, answered_issue, is_unanswered as is_unanswered_issue, sent_issue};
 ghost use Rattle.slots.specs.Data.{moved_over};
 ghost use Rattle.slots.specs.Issued.{issued_of, with_flags};
 ghost use Rattle.slots.specs.Setup.{came as came_in, pio_fault as pio_fault_of, setup_fault as setup_fault_of, transfer_fault as transfer_fault_of};
@@ -205,7 +205,9 @@ impl Slot {
 
     /// What an answer of its device is for, where it waits for one. It is in slot `slot`.
     pub(crate) fn answer_for(&self, slot: u8) -> Answered
-        ensures { result ≡ match_some self.now Answered.Nobody (answer_for_issue slot) }
+        requires { slot < 32 }
+        ensures value { result ≡ match_some self.now Answered.Nobody (answer_for_issue slot) }
+        ensures below { IsSlotAnswer result }
     {
         match self.issued {
             None => Answered::Nobody,

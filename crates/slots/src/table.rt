@@ -3,7 +3,7 @@
 ghost use Rattle.std.specs.Prelude.{◌≡◌, ℕ, [], ◌+◌, ◌%◌, ◌<◌, ◌≤◌, ◌↔◌, Some, None, IsSome, IsErr, IfSome, OnOk, OnErr, MatchOption, false, true, is_ok, is_none};
 ghost use Rattle.std.specs.Option.{option_map};
 ghost use Rattle.std.specs.Result.{result_err};
-ghost use Rattle.slots.specs.Commands.{MayBeSent, after_answer, after_complete, after_issue, after_pio_done, after_sent, answer_of, answered_issue, completed, is_any, is_slot, is_unanswered, may_go as may_go_of, next_slot, own_slots, sent_issue, slots_where, whole_pio};
+ghost use Rattle.slots.specs.Commands.{IsSlotAnswer, MayBeSent, after_answer, after_complete, after_issue, after_pio_done, after_sent, answer_of, answered_issue, completed, is_any, is_slot, is_unanswered, may_go as may_go_of, next_slot, own_slots, sent_issue, slots_where, whole_pio};
 ghost use Rattle.slots.specs.Data.{activated as activated_context, after_activate, after_arrive, after_payload, arrive_answer, gone_over, may_activate, payload, payload_len as payload_len_of, receiving_slot};
 ghost use Rattle.slots.specs.Issued.{with_flags};
 ghost use Rattle.slots.specs.Setup.{after_setup, after_setup_pio, new_context, pio_fault, pio_issue, setup_fault, with_own_context};
@@ -175,6 +175,7 @@ impl SlotTable {
     pub fn answered(&mut self, dev: u8) -> Answered
         requires { dev < 16 }
         ensures answer { result ≡ answer_of (slots_of dev self.old) }
+        ensures below { IsSlotAnswer result }
         ensures own { slots_of dev self.new ≡ after_answer (slots_of dev self.old) }
         ensures others { LeavesOthers dev self.old self.new }
     {
@@ -346,6 +347,7 @@ impl SlotTable {
     pub fn pio_done(&mut self, dev: u8) -> Option<u8>
         requires { dev < 16 }
         ensures answer { result ≡ whole_pio (slots_of dev self.old) }
+        ensures below { IfSome result (λ slot. slot < 32) }
         ensures own { slots_of dev self.new ≡ after_pio_done (slots_of dev self.old) }
         ensures others { LeavesOthers dev self.old self.new }
     {
@@ -412,10 +414,19 @@ impl SlotTable {
         Some(issued.work)
     }
 
+    /// The device's last setup, with what is left of it.
+    pub fn context(&self, dev: u8) -> Option<Context>
+        requires { dev < 16 }
+        ensures { result ≡ context_of self.now dev }
+    {
+        self.contexts[dev as usize]
+    }
+
     /// The slot for which data of a device may arrive.
     pub fn receiving(&self, dev: u8) -> Option<u8>
         requires { dev < 16 }
-        ensures { result ≡ receiving_slot (context_of self.now dev) }
+        ensures value { result ≡ receiving_slot (context_of self.now dev) }
+        ensures below { IfSome result (λ slot. slot < 32) }
     {
         let context = self.contexts[dev as usize]?;
         context.to_host.then_some(context.slot)
