@@ -32,7 +32,7 @@ unfolding any_over
 any_of_none over offset = refl
 
 -- a byte that went over
-any_at : (over : List Bool) (offset count k : ℕ) → k < count → is_over over (offset + k) ≡ true → any_over over offset count ≡ true
+pub any_at : (over : List Bool) (offset count k : ℕ) → k < count → is_over over (offset + k) ≡ true → any_over over offset count ≡ true
 unfolding any_over
 any_at over offset count k below h =
     list_any_at (is_over over) (range_with_len offset count) k 0 (rw (length-range_with_len offset count) below) (ap (is_over over) (get_or-range_with_len offset count k 0 below) ∙ h)
@@ -76,7 +76,7 @@ all_whole over h =
     let below : k < n = omega (arith, lr) in
     ap (is_over over) (get_or-range_with_len 0 n k d below) ∙ ap (λ (i : ℕ). get_or over i false) e ∙ h (k / 4) (omega arith))
 
-count_more : (p : ℕ → Bool) (n : ℕ) → count_by p (range_with_len 0 (suc n)) ≡ count_by p (range_with_len 0 n) + cond (p n) 1 0
+pub count_more : (p : ℕ → Bool) (n : ℕ) → count_by p (range_with_len 0 (suc n)) ≡ count_by p (range_with_len 0 n) + cond (p n) 1 0
 count_more p n =
     ap (count_by p) (range_more 0 n) ∙ sum_by_push (λ (x : ℕ). cond (p x) 1 0) (range_with_len 0 n) (0 + n) ∙ (let e : 0 + n ≡ n = omega arith in ap (λ (m : ℕ). count_by p (range_with_len 0 n) + cond (p m) 1 0) e)
 

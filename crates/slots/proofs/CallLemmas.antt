@@ -1,22 +1,24 @@
 -- What is true of every table stays true in the calls.
-use Rattle.std.proofs.Common.{◌≡◌, ℕ, ◌%◌, ◌<◌, ◌≤◌, Bool, true, false, not, ◌&&◌, ◌||◌, List, get_or, set, length, refl, sym, ◌∙◌, ap, subst, arith, inl, inr, Option, Some, None, get_or-set_same}
+use Rattle.std.proofs.Common.{◌≡◌, ℕ, ◌/◌, ◌%◌, ◌<◌, ◌≤◌, Bool, true, false, not, ◌&&◌, ◌||◌, List, get_or, set, length, refl, sym, ◌∙◌, ap, subst, arith, inl, inr, Option, Some, None, get_or-set_same}
 use Rattle.std.specs.Prelude.{MatchOption, IfSome, is_none}
 use Rattle.std.specs.Option.{is_some, option_map}
 use Rattle.std.proofs.lemmas.Bool.{cases_lt, and_parts, or_left, or_right, or_cases, cond-true, cond-false, not-true, false≢true}
-use Rattle.std.proofs.lemmas.List.{get_or_default, get_or_past}
+use Rattle.std.proofs.lemmas.List.{get_or_default, get_or_past, length-replicate}
 use Rattle.slots.specs.declared.table.Context.{Context}
 use Rattle.slots.specs.Commands.{MayBeSent, after_sent, answer_for, answer_of, answered_issue, is_slot, may_go, sent_issue}
 use Rattle.slots.specs.declared.slot.Issued.{Issued}
+use Rattle.slots.specs.declared.work.Work.{Work}
+use Rattle.slots.specs.Work.{IsWork}
 use Rattle.slots.specs.Issued.{issued_of}
-use Rattle.slots.specs.Slots.{Issue, Slots, DeviceSlots, issue_at, context_of, owned_by, own_issue, slots_of, with_own_issue, freed, has_bit, holds, is_control, is_pio, is_queued_issue, is_sent_pio, is_waiting, match_some, sent_pio, waiting}
+use Rattle.slots.specs.Slots.{Issue, Slots, DeviceSlots, issue_at, context_of, owned_by, own_issue, slots_of, with_own_issue, freed, has_bit, holds, is_control, is_pio, is_queued_issue, is_sent_pio, is_waiting, match_some, new_issue, sent_pio, waiting}
 use Rattle.slots.specs.Setup.{after_setup_pio, came, is_outstanding, new_context, pio_fault, pio_issue, with_own_context}
 use Rattle.slots.specs.declared.answer.Answered.{Answered}
 use Rattle.slots.specs.declared.answer.SetupError.{SetupError}
 use Rattle.slots.specs.Data.{gone_over, moved_on, moved_over}
-use Rattle.slots.specs.Table.{IsContextOf, IsTable, waits_for}
-use Rattle.slots.proofs.ByteLemmas.{length_with_bytes}
+use Rattle.slots.specs.Table.{IsIssue, IsContextOf, IsTable, waits_for}
+use Rattle.slots.proofs.StretchLemmas.{few_first}
 use Rattle.slots.proofs.MaskLemmas.{none_below}
-use Rattle.slots.proofs.TableLemmas.{Keeps, own_changed, own_with_context, context_some, table_with_context, with_context, Owns, own_at, owned_own, owned_same, owns_where, table_changed, with_issue}
+use Rattle.slots.proofs.TableLemmas.{Keeps, own_changed, own_with_context, context_some, table_with_context, with_context, Owns, own_at, owned_own, owned_same, owns_where, table_changed, table_with_issue, with_issue}
 
 -- what is issued in a slot, where a test holds of it as the device's
 pub record Found (test : Issue → Bool) (dev s : ℕ) (t : Slots) : Type 0 where
@@ -59,10 +61,37 @@ table_answered dev s t o d is below waits queued e =
     let now : o ≡ Some (answered_issue i) = e ∙ ap (option_map answered_issue) (get_or_default t.issues s d None lt ∙ f.at) in
     let keeps : Keeps answered_issue i = record {
       owner = refl;
-      rules = λ r. record { dev_below = r.dev_below; work = r.work; room = r.room; answers = λ _. (q, sent); controls = r.controls };
-      context = λ n c r. record { of_dev = r.of_dev; fits = r.fits; next_dwords = r.next_dwords; left_dwords = r.left_dwords; way = r.way; goes = or_left (is_queued_issue i && true) (is_sent_pio i) (ap (λ (b : Bool). b && true) q); activates = r.activates };
+      rules = λ r. record { dev_below = r.dev_below; work = r.work; room = r.room; answers = λ _. (q, sent); few = r.few; controls = r.controls };
+      context = λ n c r. record { of_dev = r.of_dev; fits = r.fits; next_dwords = r.next_dwords; left_dwords = r.left_dwords; fresh = r.fresh; room = r.room; way = r.way; goes = or_left (is_queued_issue i && true) (is_sent_pio i) (ap (λ (b : Bool). b && true) q); activates = r.activates };
     } in
     subst (λ (x : Option Issue). IsTable (with_issue t s x)) (sym now) (table_changed t s answered_issue i is below f.at keeps (λ r here. absurd (not_waiting i here)))
+
+-- ---- issued
+
+none_in : (dev : ℕ) (c : Context) (o : Option Issue) → o ≡ None → MatchOption o ⊥ (IsContextOf dev c) → ⊥
+none_in dev c None e h = h
+none_in dev c (Some i) e h = cc
+
+never_waits : (d dev : ℕ) (work : Work) → holds is_waiting (owned_by d (Some (new_issue dev work))) ≡ true → ⊥
+never_waits d dev work h =
+    let own : dev ≡ d = owns_where is_waiting d (Some (new_issue dev work)) h in
+    false≢true (ap (holds is_waiting) (sym (owned_own d (new_issue dev work) own)) ∙ h)
+
+-- some work is issued in a free slot
+pub table_issued : (s dev : ℕ) (work : Work) (t : Slots) (o : Option Issue) → IsTable t → s < 32 → dev < 16 → IsWork work → issue_at t s ≡ None → o ≡ Some (new_issue dev work) → IsTable (with_issue t s o)
+table_issued s dev work t o is below low fits free e =
+    let i : IsIssue (new_issue dev work) = record {
+      dev_below = low;
+      work = fits;
+      room = length-replicate (work.len / 4) false;
+      answers = λ h. absurd (false≢true h);
+      few = few_first work.len;
+      controls = λ h. absurd (false≢true h);
+    } in
+    let first : IsTable (with_issue t s (Some (new_issue dev work))) = table_with_issue t s (Some (new_issue dev work)) is below i
+        (λ d c at same. absurd (none_in d c (issue_at t s) free (subst (λ (k : ℕ). MatchOption (issue_at t k) ⊥ (IsContextOf d c)) same (context_some t d c is at).1)))
+        (λ d r here there. absurd (never_waits d dev work here)) in
+    subst (λ (x : Option Issue). IsTable (with_issue t s x)) (sym e) first
 
 -- ---- sent
 
@@ -90,72 +119,10 @@ table_sent s t i o d is below at kind alone e =
     let now : o ≡ Some (sent_issue i) = e ∙ ap (option_map sent_issue) (get_or_default t.issues s d None lt ∙ at) in
     let keeps : Keeps sent_issue i = record {
       owner = refl;
-      rules = λ r. record { dev_below = r.dev_below; work = r.work; room = r.room; answers = λ h. ((r.answers h).0, refl); controls = λ _. kind };
-      context = λ n c r. record { of_dev = r.of_dev; fits = r.fits; next_dwords = r.next_dwords; left_dwords = r.left_dwords; way = r.way; goes = sent_goes i r.goes; activates = r.activates };
+      rules = λ r. record { dev_below = r.dev_below; work = r.work; room = r.room; answers = λ h. ((r.answers h).0, refl); few = r.few; controls = λ _. kind };
+      context = λ n c r. record { of_dev = r.of_dev; fits = r.fits; next_dwords = r.next_dwords; left_dwords = r.left_dwords; fresh = r.fresh; room = r.room; way = r.way; goes = sent_goes i r.goes; activates = r.activates };
     } in
     subst (λ (x : Option Issue). IsTable (with_issue t s x)) (sym now) (table_changed t s sent_issue i is below at keeps (λ r here there. absurd (none_waits i.dev t r is.slots alone there)))
-
--- ---- bytes go over
-
--- what is issued in the slot of a context
-pub record InContext (dev : ℕ) (c : Context) (t : Slots) : Type 0 where
-  pub issue : Issue
-  pub at : issue_at t c.slot ≡ Some issue
-  pub is : IsContextOf dev c issue
-
-in_context_at : (dev : ℕ) (c : Context) (t : Slots) (o : Option Issue) → issue_at t c.slot ≡ o → MatchOption o ⊥ (IsContextOf dev c) → InContext dev c t
-in_context_at dev c t None at h = absurd h
-in_context_at dev c t (Some issue) at h = record { issue = issue; at = at; is = h }
-
-pub in_context : (dev : ℕ) (c : Context) (t : Slots) → IsTable t → context_of t dev ≡ Some c → InContext dev c t
-in_context dev c t is e = in_context_at dev c t (issue_at t c.slot) refl (context_some t dev c is e).1
-
-pub slot_of_context : (dev : ℕ) (c : Context) (t : Slots) → IsTable t → context_of t dev ≡ Some c → c.slot < 32
-slot_of_context dev c t is e = (context_some t dev c is e).0
-
-pub owns_context : (dev : ℕ) (c : Context) (t : Slots) → IsTable t → context_of t dev ≡ Some c → Owns dev (issue_at t c.slot)
-owns_context dev c t is e =
-    let f = in_context dev c t is e in
-    subst (λ (o : Option Issue). Owns dev o) (sym f.at) f.is.of_dev
-
-pub table_moved : (dev n : ℕ) (c : Context) (t : Slots) (o d : Option Issue) → IsTable t → dev < 16 → context_of t dev ≡ Some c → n ≤ c.left → n % 4 ≡ 0
-    → o ≡ option_map (moved_over c.next n) (get_or t.issues c.slot d) → IsTable (with_context (with_issue t c.slot o) dev (Some (moved_on n c)))
-table_moved dev n c t o d is below at within dwords e =
-    let s = c.slot in
-    let slot : s < 32 = slot_of_context dev c t is at in
-    let lt : s < length t.issues = omega (arith, is.slots) in
-    let f = in_context dev c t is at in
-    let i = f.issue in
-    let after : Issue → Issue = moved_over c.next n in
-    let now : o ≡ Some (after i) = e ∙ ap (option_map after) (get_or_default t.issues s d None lt ∙ f.at) in
-    let keeps : Keeps after i = record {
-      owner = refl;
-      rules = λ r. record { dev_below = r.dev_below; work = r.work; room = length_with_bytes i.over c.next n ∙ r.room; answers = r.answers; controls = r.controls };
-      context = λ m b r. record { of_dev = r.of_dev; fits = r.fits; next_dwords = r.next_dwords; left_dwords = r.left_dwords; way = r.way; goes = r.goes; activates = r.activates };
-    } in
-    let here : is_waiting i ≡ true → waits_for i.dev t s ≡ true = λ h. ap (λ (x : Option Issue). holds is_waiting (owned_by i.dev x)) f.at ∙ ap (holds is_waiting) (owned_own i.dev i refl) ∙ h in
-    let first : IsTable (with_issue t s (Some (after i))) = table_changed t s after i is slot f.at keeps (λ r h there. is.one_waits i.dev r s there (here h)) in
-    let second : IsTable (with_issue t s o) = subst (λ (x : Option Issue). IsTable (with_issue t s x)) (sym now) first in
-    let g = f.is in
-    let inside : IsContextOf dev (moved_on n c) (after i) = record {
-      of_dev = g.of_dev;
-      fits = omega (arith, g.fits);
-      next_dwords = omega (arith, g.next_dwords);
-      left_dwords = omega (arith, g.left_dwords);
-      way = g.way;
-      goes = g.goes;
-      activates = λ h. absurd (false≢true h);
-    } in
-    let held : MatchOption (get_or (set t.issues s o) s None) ⊥ (IsContextOf dev (moved_on n c)) =
-    subst (λ (x : Option Issue). MatchOption x ⊥ (IsContextOf dev (moved_on n c))) (sym (get_or-set_same t.issues s o None lt ∙ now)) inside in
-    table_with_context (with_issue t s o) dev (Some (moved_on n c)) second below (slot, held)
-
-pub own_moved : (dev n : ℕ) (c : Context) (t : Slots) (o d : Option Issue) → IsTable t → dev < 16 → context_of t dev ≡ Some c → o ≡ option_map (moved_over c.next n) (get_or t.issues c.slot d)
-    → slots_of dev (with_context (with_issue t c.slot o) dev (Some (moved_on n c))) ≡ gone_over n c (slots_of dev t)
-own_moved dev n c t o d is below at e =
-    let slot : c.slot < length t.issues = omega (arith, slot_of_context dev c t is at, is.slots) in
-    let first = own_changed dev c.slot t (moved_over c.next n) (λ i. refl) o d slot e in
-    own_with_context dev (with_issue t c.slot o) (Some (moved_on n c)) (omega (arith, is.devices)) ∙ ap (λ (own : DeviceSlots). record { issues = own.issues; context = Some (moved_on n c) }) first
 
 pub table_sent_at : (dev s : ℕ) (t : Slots) (at o d : Option Issue) → IsTable t → s < 32 → issue_at t s ≡ at → MatchOption at ⊥ (λ issue. (issue.dev ≡ dev) × (is_control issue.work.kind ≡ false)) → waiting (slots_of dev t) ≡ None
     → o ≡ option_map sent_issue (get_or t.issues s d) → IsTable (with_issue t s o)

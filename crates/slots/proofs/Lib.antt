@@ -1,8 +1,10 @@
 pub mod FlagLemmas
 pub mod ByteLemmas
+pub mod StretchLemmas
 pub mod MaskLemmas
 pub mod TableLemmas
 pub mod FreeLemmas
 pub mod CallLemmas
+pub mod MoveLemmas
 pub mod NewLemmas
 pub mod SetLemmas

@@ -8,13 +8,17 @@ use Rattle.slots.specs.Work.{is_read}
 use Rattle.slots.specs.Bytes.{any_over, ends_at, stretches_of, came_of}
 use Rattle.slots.specs.Slots.{Issue, DeviceSlots, own_issue, match_some, is_queued_issue, sent_pio}
 
+-- the bytes that went over are 64 stretches, none of which ends where byte offset begins
+abbrev pub is_full_at : Issue → ℕ → Bool
+is_full_at issue offset = nat_le 64 (stretches_of issue.over issue.work.len) && not (ends_at issue.over offset)
+
 -- why count bytes of an issue, from byte offset on, are not set up: the first of these that applies
 abbrev pub transfer_fault : Issue → ℕ → ℕ → Bool → Option SetupError
 transfer_fault issue offset count to_host =
     if not (beq (is_read issue.work.kind) to_host) then Some WrongWay
     else if nat_lt issue.work.len (offset + count) then Some Overflow
     else if any_over issue.over offset count then Some Twice
-    else if nat_le 64 (stretches_of issue.over issue.work.len) && not (ends_at issue.over offset) then Some Fragments
+    else if is_full_at issue offset then Some Fragments
     else if count == 0 || not (offset % 4 == 0) || not (count % 4 == 0) then Some BadCount
     else None
 

@@ -2,7 +2,7 @@ use Rattle.std.proofs.Common.{◌≡◌, Some, arith, refl}
 use Rattle.slots.specs.Data.{moved_on, moved_over}
 use Rattle.slots.specs.Slots.{Slots, context_of}
 use Rattle.slots.proofs.TableLemmas.{with_issue, others_changed, others_with_context, others_both}
-use Rattle.slots.proofs.CallLemmas.{table_moved, slot_of_context, owns_context, own_moved}
+use Rattle.slots.proofs.MoveLemmas.{table_moved, slot_of_context, owns_context, own_moved}
 use Rattle.slots.proofs.table.SlotTable.go_over.Goals as goal
 
 pub invariant_of-self : goal.invariant_of-self

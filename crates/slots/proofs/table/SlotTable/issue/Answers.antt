@@ -2,8 +2,15 @@ use Rattle.std.proofs.Common.{◌≡◌, Some, None, arith, refl, sym, ap, ◌�
 use Rattle.std.specs.Option.{is_some}
 use Rattle.slots.specs.Slots.{Slots, issue_at, new_issue, owned_by}
 use Rattle.slots.proofs.TableLemmas.{own_with_issue, others_with_issue, owned_own, owned_other}
-use Rattle.slots.proofs.CallLemmas.{free_slot}
+use Rattle.slots.proofs.CallLemmas.{free_slot, table_issued}
 use Rattle.slots.proofs.table.SlotTable.issue.Goals as goal
+
+pub invariant_of-self : goal.invariant_of-self
+invariant_of-self c =
+    let t : Slots = record { issues = c.self.inside.slots; contexts = c.self.inside.contexts } in
+    let s = c.args.slot in
+    let free : issue_at t s ≡ None = free_slot t.issues s c.index-self-slot.result (omega (arith, c.self.invariant.slots, c.requires.slot)) (ap is_some (sym c.issued.ensures) ∙ sym c.is_some.ensures ∙ c.if-is_some.false) in
+    table_issued s c.args.dev c.args.work t _ c.self.invariant c.requires.slot c.requires.dev c.requires.work free c.start.ensures
 
 pub returns-clause-own : goal.returns-clause-own
 returns-clause-own c =
