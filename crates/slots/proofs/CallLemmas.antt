@@ -89,8 +89,8 @@ table_issued s dev work t o is below low fits free e =
       controls = λ h. absurd (false≢true h);
     } in
     let first : IsTable (with_issue t s (Some (new_issue dev work))) = table_with_issue t s (Some (new_issue dev work)) is below i
-        (λ d c at same. absurd (none_in d c (issue_at t s) free (subst (λ (k : ℕ). MatchOption (issue_at t k) ⊥ (IsContextOf d c)) same (context_some t d c is at).1)))
-        (λ d r here there. absurd (never_waits d dev work here)) in
+    (λ d c at same. absurd (none_in d c (issue_at t s) free (subst (λ (k : ℕ). MatchOption (issue_at t k) ⊥ (IsContextOf d c)) same (context_some t d c is at).1)))
+    (λ d r here there. absurd (never_waits d dev work here)) in
     subst (λ (x : Option Issue). IsTable (with_issue t s x)) (sym e) first
 
 -- ---- sent

@@ -5,7 +5,7 @@ use Rattle.std.proofs.lemmas.Bool.{cases_eq, cases_lt, cases_Bool, ne_eqb, eq-eq
 use Rattle.std.proofs.lemmas.List.{get_or_past, get_or_default, get_or-map, length-map, same_lists}
 use Rattle.slots.specs.declared.table.Context.{Context}
 use Rattle.slots.specs.Commands.{is_slot}
-use Rattle.slots.specs.Slots.{Issue, Slots, issue_at, context_of, owned_by, slots_of, LeavesOthers, holds, is_waiting, issues_unless, context_unless, freed}
+use Rattle.slots.specs.Slots.{Issue, Slots, issue_at, context_of, owned_by, slots_of, KeepsFree, LeavesOthers, holds, is_waiting, issues_unless, context_unless, freed}
 use Rattle.slots.specs.Table.{IsIssue, IsContextOf, IsContext, IsTable, waits_for}
 use Rattle.slots.proofs.MaskLemmas.{length-unless, get-unless}
 use Rattle.slots.proofs.TableLemmas.{Owns, owned_none}
@@ -173,3 +173,15 @@ pub freed_many : (dev : ℕ) (f : ℕ → Bool) (t : Slots) (issues : List (Opti
     → record { issues = issues; contexts = set t.contexts dev m } ≡ freed_table dev f t
 freed_many dev f t issues m a b =
     ap (λ (x : List (Option Issue)). record { issues = x; contexts = set t.contexts dev m }) a ∙ ap (λ (x : Option Context). record { issues = issues_unless f t.issues; contexts = set t.contexts dev x }) b
+
+-- ---- no free slot is filled
+
+none_unless : (b : Bool) → cond b no_issue None ≡ None
+none_unless true = refl
+none_unless false = refl
+
+pub frees_freed : (dev : ℕ) (f : ℕ → Bool) (t : Slots) → KeepsFree t (freed_table dev f t)
+frees_freed dev f t k free = elim (cases_lt k (length t.issues)) [
+  | inl lt ↦ get-unless f t.issues k None lt ∙ ap (λ (o : Option Issue). cond (f k) None o) free ∙ none_unless (f k)
+  | inr ge ↦ get_or_past (issues_unless f t.issues) k None (rw (length-unless f t.issues) ge)
+]

@@ -1,17 +1,20 @@
 -- The next bytes of a device's context go over.
-use Rattle.std.proofs.Common.{◌≡◌, ℕ, ◌+◌, ◌*◌, ◌%◌, ◌<◌, ◌≤◌, Bool, true, false, List, get_or, set, length, refl, sym, ◌∙◌, ap, subst, arith, inl, inr, Option, Some, None, get_or-set_same, get_or-set_other}
+use Rattle.std.proofs.Common.{◌≡◌, ℕ, ◌+◌, ◌*◌, ◌%◌, ◌<◌, ◌≤◌, Bool, true, false, ◌&&◌, ◌||◌, List, get_or, set, length, refl, sym, ◌∙◌, ap, subst, arith, inl, inr, Option, Some, None, get_or-set_same, get_or-set_other}
 use Rattle.std.specs.Prelude.{MatchOption}
 use Rattle.std.specs.Option.{option_map}
 use Rattle.std.proofs.lemmas.Bool.{cases_eq, cases_lt, false≢true}
 use Rattle.std.proofs.lemmas.List.{get_or_default, set-set}
 use Rattle.slots.specs.declared.table.Context.{Context}
+use Rattle.slots.specs.declared.work.Kind.{Kind}
+use Rattle.slots.specs.declared.work.Kind.TheVariants.{QueuedRead, QueuedWrite, PioIn, NoData, Control}
+use Rattle.slots.specs.Work.{is_queued, is_read}
 use Rattle.slots.specs.Bytes.{stretches_of, with_bytes}
-use Rattle.slots.specs.Data.{gone_over, moved_on, moved_over}
-use Rattle.slots.specs.Slots.{Issue, Slots, DeviceSlots, issue_at, context_of, owned_by, slots_of, holds, is_waiting}
+use Rattle.slots.specs.Data.{IsWriteOf, gone_over, moved_on, moved_over}
+use Rattle.slots.specs.Slots.{Issue, Slots, DeviceSlots, issue_at, context_of, owned_by, own_issue, slots_of, holds, is_pio, is_waiting}
 use Rattle.slots.specs.Table.{IsIssue, IsContextOf, IsTable, waits_for}
 use Rattle.slots.proofs.ByteLemmas.{length_with_bytes}
 use Rattle.slots.proofs.StretchLemmas.{few_then, fresh_then, room_then, with_none}
-use Rattle.slots.proofs.TableLemmas.{Owns, context_in, context_some, own_changed, own_with_context, owned_own, owns_where, table_with_context, table_with_issue, with_context, with_issue}
+use Rattle.slots.proofs.TableLemmas.{Owns, own_at, owned_same, context_in, context_some, own_changed, own_with_context, owned_own, owns_where, table_with_context, table_with_issue, with_context, with_issue}
 
 -- what is issued in the slot of a context
 pub record InContext (dev : ℕ) (c : Context) (t : Slots) : Type 0 where
@@ -96,14 +99,14 @@ table_moved dev n c t o d is below at within dwords e =
     let ended : Slots = with_context t dev None in
     let first : IsTable ended = table_with_context t dev None is below tt in
     let second : IsTable (with_issue ended s after) = table_with_issue ended s after first slot (moved_issue dev n c i r f.is within dwords)
-        (λ other b h same. absurd (only_context dev other s b t i is below f.at f.is.of_dev h same))
-        (λ q p here there. is.one_waits q p s there (waits_still q s n c t i f.at here)) in
+    (λ other b h same. absurd (only_context dev other s b t i is below f.at f.is.of_dev h same))
+    (λ q p here there. is.one_waits q p s there (waits_still q s n c t i f.at here)) in
     let held : MatchOption (get_or (set t.issues s after) s None) ⊥ (IsContextOf dev (moved_on n c)) =
-        subst (λ (x : Option Issue). MatchOption x ⊥ (IsContextOf dev (moved_on n c))) (sym (get_or-set_same t.issues s after None lt)) (moved_context dev n c i r f.is within dwords) in
+    subst (λ (x : Option Issue). MatchOption x ⊥ (IsContextOf dev (moved_on n c))) (sym (get_or-set_same t.issues s after None lt)) (moved_context dev n c i r f.is within dwords) in
     let third : IsTable (with_context (with_issue ended s after) dev (Some (moved_on n c))) = table_with_context (with_issue ended s after) dev (Some (moved_on n c)) second below (slot, held) in
     let same : with_context (with_issue ended s after) dev (Some (moved_on n c)) ≡ with_context (with_issue t s o) dev (Some (moved_on n c)) =
-        ap (λ (x : List (Option Context)). record { issues = set t.issues s after; contexts = x }) (set-set t.contexts dev None (Some (moved_on n c)))
-        ∙ ap (λ (x : Option Issue). with_context (with_issue t s x) dev (Some (moved_on n c))) (sym now) in
+    ap (λ (x : List (Option Context)). record { issues = set t.issues s after; contexts = x }) (set-set t.contexts dev None (Some (moved_on n c)))
+    ∙ ap (λ (x : Option Issue). with_context (with_issue t s x) dev (Some (moved_on n c))) (sym now) in
     subst IsTable same third
 
 pub own_moved : (dev n : ℕ) (c : Context) (t : Slots) (o d : Option Issue) → IsTable t → dev < 16 → context_of t dev ≡ Some c → o ≡ option_map (moved_over c.next n) (get_or t.issues c.slot d)

@@ -12,7 +12,7 @@ no_issue = None
 abbrev pub no_context : Option Context
 no_context = None
 
-get-free : (n i : ℕ) → get_or (replicate n no_issue) i None ≡ None
+pub get-free : (n i : ℕ) → get_or (replicate n no_issue) i None ≡ None
 get-free n i = elim (cases_lt i n) [
   | inl lt ↦ get_or-replicate n i None None lt
   | inr ge ↦ get_or_past (replicate n None) i None (rw (length-replicate n no_issue) ge)

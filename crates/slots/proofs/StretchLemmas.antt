@@ -90,11 +90,11 @@ begins_before over o n b o4 n4 lt other h =
     let both = and_parts (is_over new b) (nat_eq b 0 || not (is_over new (b - 1))) h in
     let fresh : 0 < b → is_over new (b - 1) ≡ false = λ some. not-true (is_over new (b - 1)) (first_or b (not (is_over new (b - 1))) both.1 some) in
     let parts : 0 < b → (is_over over (b - 1) ≡ false) × (is_within o n (b - 1) ≡ false) = λ some.
-        or_false (is_over over (b - 1)) (is_within o n (b - 1)) (sym (over_with_bytes over o n (b - 1) o4 n4 (omega arith)) ∙ fresh some) in
+    or_false (is_over over (b - 1)) (is_within o n (b - 1)) (sym (over_with_bytes over o n (b - 1) o4 n4 (omega arith)) ∙ fresh some) in
     let out : is_within o n b ≡ true → ⊥ = λ within.
-        let at = within_is o n b within in
-        let some : 0 < b = omega (arith, at.0) in
-        false≢true (sym (parts some).1 ∙ within_yes o n (b - 1) (omega (arith, at.0)) (omega (arith, at.1))) in
+    let at = within_is o n b within in
+    let some : 0 < b = omega (arith, at.0) in
+    false≢true (sym (parts some).1 ∙ within_yes o n (b - 1) (omega (arith, at.0)) (omega (arith, at.1))) in
     begins_from over b (over_outside over o n b o4 n4 lt both.0 out) (λ some. (parts some).0)
 
 -- they go on where a stretch ends

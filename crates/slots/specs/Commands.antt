@@ -1,5 +1,5 @@
 -- Commands: when they go out, what an answer of their device does, and when they are done.
-use Rattle.std.specs.Prelude.{◌≡◌, ◌<◌, ℕ, Bool, true, false, not, ◌&&◌, ◌||◌, ◌==◌, if◌then◌else◌, Option, Some, None, is_none, MatchOption}
+use Rattle.std.specs.Prelude.{◌≡◌, ◌<◌, ℕ, Bool, true, false, not, ◌&&◌, ◌||◌, ◌==◌, if◌then◌else◌, Option, Some, None, is_none, slice_set, MatchOption}
 use Rattle.std.specs.Option.{option_map}
 use Rattle.slots.specs.declared.answer.Answered.{Answered}
 use Rattle.slots.specs.declared.answer.Answered.TheVariants.{Nobody, Queued, Done, Short}
@@ -16,6 +16,10 @@ is_slot slot k = k == slot
 -- the device's own part after some work was issued in a free slot
 abbrev pub after_issue : DeviceSlots → ℕ → ℕ → Work → DeviceSlots
 after_issue own slot dev work = with_own_issue own slot (Some (new_issue dev work))
+
+-- the table after that: nothing else changes
+abbrev pub table_after_issue : Slots → ℕ → ℕ → Work → Slots
+table_after_issue t slot dev work = record t { issues = slice_set t.issues slot (Some (new_issue dev work)) }
 
 -- ---- a command goes out
 
@@ -58,6 +62,13 @@ IsSlotAnswer Nobody = Unit {0}
 IsSlotAnswer (Queued slot) = slot < 32
 IsSlotAnswer (Done slot) = slot < 32
 IsSlotAnswer (Short slot) = slot < 32
+
+-- an answer that nobody waits for, or that comes while bytes are missing, leaves the table as it was
+abbrev pub StaysWithout : Answered → Slots → Slots → Type 0
+StaysWithout Nobody old new = new ≡ old
+StaysWithout (Queued slot) old new = Unit {0}
+StaysWithout (Done slot) old new = Unit {0}
+StaysWithout (Short slot) old new = new ≡ old
 
 -- the answer is for the slot that waits
 abbrev pub answer_of : DeviceSlots → Answered

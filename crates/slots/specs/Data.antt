@@ -1,9 +1,10 @@
 -- Data of a transfer (Serial ATA 3.x: Data and DMA Activate FISes): what may come or go, and what it leaves.
-use Rattle.std.specs.Prelude.{ℕ, ◌+◌, ◌-◌, min, Bool, true, false, not, ◌&&◌, nat_lt, if◌then◌else◌, slice_set, Option, Some, None, Result, Ok, Err, is_ok}
+use Rattle.std.specs.Prelude.{◌≡◌, ◌≤◌, ℕ, ◌+◌, ◌-◌, min, Bool, true, false, not, ◌&&◌, nat_lt, if◌then◌else◌, slice_set, Option, Some, None, Result, Ok, Err, is_ok}
 use Rattle.std.specs.Option.{option_map}
 use Rattle.slots.specs.declared.answer.ArriveError.{ArriveError}
 use Rattle.slots.specs.declared.answer.ArriveError.TheVariants.{Stray, Overflow}
 use Rattle.slots.specs.declared.table.Context.{Context}
+use Rattle.slots.specs.declared.work.Kind.TheVariants.{QueuedWrite}
 use Rattle.slots.specs.Bytes.{with_bytes}
 use Rattle.slots.specs.Slots.{Issue, DeviceSlots, own_issue, match_some}
 
@@ -55,6 +56,12 @@ payload_len c = min c.left max_payload
 abbrev pub payload : Option Context → Option (ℕ × ℕ × ℕ)
 payload None = None
 payload (Some c) = if c.activated then Some (c.slot, c.next, payload_len c) else None
+
+-- a queued write of the device, which has these bytes
+pub record IsWriteOf (dev offset len : ℕ) (issue : Issue) : Type 0 where
+  pub of_dev : issue.dev ≡ dev
+  pub write : issue.work.kind ≡ QueuedWrite
+  pub inside : offset + len ≤ issue.work.len
 
 -- the device's own part after that data went
 abbrev pub after_payload : DeviceSlots → DeviceSlots

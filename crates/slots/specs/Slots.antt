@@ -67,6 +67,10 @@ no_own_slots = record { issues = replicate 32 None; context = None }
 abbrev pub LeavesOthers : ℕ → Slots → Slots → Type 0
 LeavesOthers dev old new = (other : ℕ) → other ≢ dev → slots_of other new ≡ slots_of other old
 
+-- no slot that is free becomes filled
+abbrev pub KeepsFree : Slots → Slots → Type 0
+KeepsFree old new = (slot : ℕ) → issue_at old slot ≡ None → issue_at new slot ≡ None
+
 -- ---- sets of slots
 
 -- the lowest number below n that passes the test

@@ -3,11 +3,11 @@
 ghost use Rattle.std.specs.Prelude.{◌≡◌, ℕ, [], ◌+◌, ◌%◌, ◌<◌, ◌≤◌, ◌↔◌, Some, None, IsSome, IsErr, IfSome, OnOk, OnErr, MatchOption, false, true, is_ok, is_none};
 ghost use Rattle.std.specs.Option.{option_map};
 ghost use Rattle.std.specs.Result.{result_err};
-ghost use Rattle.slots.specs.Commands.{IsSlotAnswer, MayBeSent, after_answer, after_complete, after_issue, after_pio_done, after_sent, answer_of, answered_issue, completed, is_any, is_slot, is_unanswered, may_go as may_go_of, next_slot, own_slots, sent_issue, slots_where, whole_pio};
-ghost use Rattle.slots.specs.Data.{activated as activated_context, after_activate, after_arrive, after_payload, arrive_answer, gone_over, may_activate, payload, payload_len as payload_len_of, receiving_slot};
+ghost use Rattle.slots.specs.Commands.{IsSlotAnswer, MayBeSent, StaysWithout, after_answer, after_complete, after_issue, after_pio_done, after_sent, answer_of, answered_issue, completed, is_any, is_slot, is_unanswered, may_go as may_go_of, next_slot, own_slots, sent_issue, slots_where, table_after_issue, whole_pio};
+ghost use Rattle.slots.specs.Data.{IsWriteOf, activated as activated_context, after_activate, after_arrive, after_payload, arrive_answer, gone_over, may_activate, payload, payload_len as payload_len_of, receiving_slot};
 ghost use Rattle.slots.specs.Issued.{with_flags};
 ghost use Rattle.slots.specs.Setup.{after_setup, after_setup_pio, new_context, pio_fault, pio_issue, setup_fault, with_own_context};
-ghost use Rattle.slots.specs.Slots.{LeavesOthers, context_of, context_unless, freed, has_bit as has_bit_of, holds, is_control, is_queued_issue, is_waiting, issue_at, no_own_slots, no_slots, own_issue, owned_by, slots_of, waiting, with_own_issue};
+ghost use Rattle.slots.specs.Slots.{KeepsFree, LeavesOthers, context_of, context_unless, freed, has_bit as has_bit_of, holds, is_control, is_queued_issue, is_waiting, issue_at, no_own_slots, no_slots, own_issue, owned_by, slots_of, waiting, with_own_issue};
 ghost use Rattle.slots.specs.Table.{IsContext, IsTable};
 ghost use Rattle.slots.specs.Work.{IsWork};
 
@@ -108,6 +108,7 @@ impl SlotTable {
         requires work { IsWork work }
         ensures busy { IsErr result ↔ IsSome (issue_at self.old slot) }
         ensures own { OnOk result (slots_of dev self.new ≡ after_issue (slots_of dev self.old) slot dev work) }
+        ensures after { OnOk result (self.new ≡ table_after_issue self.old slot dev work) }
         ensures err { OnErr result (self.new ≡ self.old) }
         ensures others { LeavesOthers dev self.old self.new }
     {
@@ -125,6 +126,7 @@ impl SlotTable {
         requires alone { MayBeSent self.old slot }
         ensures own { IfSome (issue_at self.old slot) (λ issue. slots_of issue.dev self.new ≡ after_sent (slots_of issue.dev self.old) slot) }
         ensures others { IfSome (issue_at self.old slot) (λ issue. LeavesOthers issue.dev self.old self.new) }
+        ensures frees { KeepsFree self.old self.new }
     {
         let Some(issued) = self.slots[slot as usize].issued() else {
             return;
@@ -143,6 +145,7 @@ impl SlotTable {
         requires alone { waiting (slots_of dev self.old) ≡ None }
         ensures own { slots_of dev self.new ≡ with_own_issue (slots_of dev self.old) slot (option_map sent_issue (own_issue (slots_of dev self.old) slot)) }
         ensures others { LeavesOthers dev self.old self.new }
+        ensures frees { KeepsFree self.old self.new }
     {
         self.slots[slot as usize].mark_sent();
     }
@@ -154,6 +157,7 @@ impl SlotTable {
         requires owner { IsSome (owned_by dev (issue_at self.old slot)) }
         ensures own { slots_of dev self.new ≡ freed (is_slot slot) (slots_of dev self.old) }
         ensures others { LeavesOthers dev self.old self.new }
+        ensures frees { KeepsFree self.old self.new }
     {
         self.slots[slot as usize].clear();
         self.contexts[dev as usize] = context_without(self.contexts[dev as usize], slot);
@@ -167,6 +171,7 @@ impl SlotTable {
         requires queued { holds is_queued_issue (own_issue (slots_of dev self.old) slot) ≡ true }
         ensures own { slots_of dev self.new ≡ with_own_issue (slots_of dev self.old) slot (option_map answered_issue (own_issue (slots_of dev self.old) slot)) }
         ensures others { LeavesOthers dev self.old self.new }
+        ensures frees { KeepsFree self.old self.new }
     {
         self.slots[slot as usize].mark_answered();
     }
@@ -178,6 +183,8 @@ impl SlotTable {
         ensures below { IsSlotAnswer result }
         ensures own { slots_of dev self.new ≡ after_answer (slots_of dev self.old) }
         ensures others { LeavesOthers dev self.old self.new }
+        ensures frees { KeepsFree self.old self.new }
+        ensures stays { StaysWithout result self.old self.new }
     {
         let Some(slot) = waiting_slot(&self.slots, dev) else {
             return Answered::Nobody;
@@ -197,6 +204,7 @@ impl SlotTable {
         requires inside { IsContext dev self.old context }
         ensures own { slots_of dev self.new ≡ with_own_context (slots_of dev self.old) context }
         ensures others { LeavesOthers dev self.old self.new }
+        ensures frees { KeepsFree self.old self.new }
     {
         self.contexts[dev as usize] = Some(context);
     }
@@ -216,6 +224,8 @@ impl SlotTable {
         ensures refusal { result_err result ≡ setup_fault (own_issue (slots_of dev self.old) tag) offset count to_host }
         ensures own { slots_of dev self.new ≡ after_setup (slots_of dev self.old) tag offset count to_host }
         ensures others { LeavesOthers dev self.old self.new }
+        ensures frees { KeepsFree self.old self.new }
+        ensures err { OnErr result (self.new ≡ self.old) }
     {
         if let Some(fault) = self.slots[tag as usize].setup_fault(dev, offset, count, to_host) {
             return Err(fault);
@@ -230,6 +240,8 @@ impl SlotTable {
         ensures refusal { result_err result ≡ pio_fault (pio_issue (slots_of dev self.old)) count to_host }
         ensures own { slots_of dev self.new ≡ after_setup_pio (slots_of dev self.old) count to_host }
         ensures others { LeavesOthers dev self.old self.new }
+        ensures frees { KeepsFree self.old self.new }
+        ensures err { OnErr result (self.new ≡ self.old) }
     {
         let Some(slot) = pio_slot(&self.slots, dev) else {
             return Err(SetupError::NotOutstanding);
@@ -250,6 +262,7 @@ impl SlotTable {
         requires dwords { count % 4 ≡ 0 }
         ensures own { slots_of dev self.new ≡ gone_over count context (slots_of dev self.old) }
         ensures others { LeavesOthers dev self.old self.new }
+        ensures frees { KeepsFree self.old self.new }
     {
         let at = context.slot as usize;
         self.slots[at].add(context.next, count);
@@ -268,6 +281,8 @@ impl SlotTable {
         ensures answer { result ≡ arrive_answer (context_of self.old dev) count }
         ensures own { slots_of dev self.new ≡ after_arrive (slots_of dev self.old) count }
         ensures others { LeavesOthers dev self.old self.new }
+        ensures frees { KeepsFree self.old self.new }
+        ensures err { OnErr result (self.new ≡ self.old) }
     {
         let Some(context) = self.contexts[dev as usize] else {
             return Err(ArriveError::Stray);
@@ -288,6 +303,8 @@ impl SlotTable {
         ensures answer { is_ok result ≡ may_activate (context_of self.old dev) }
         ensures own { slots_of dev self.new ≡ after_activate (slots_of dev self.old) }
         ensures others { LeavesOthers dev self.old self.new }
+        ensures frees { KeepsFree self.old self.new }
+        ensures err { OnErr result (self.new ≡ self.old) }
     {
         let Some(context) = self.contexts[dev as usize] else {
             return Err(Stray);
@@ -307,7 +324,10 @@ impl SlotTable {
     pub fn next_payload(&self, dev: u8) -> Option<(u8, u32, u32)>
         requires { dev < 16 }
         ensures value { result ≡ payload (context_of self.now dev) }
+        ensures below { IfSome result (λ next. next.0 < 32) }
         ensures some { IfSome result (λ next. 0 < next.2) }
+        ensures own { IfSome result (λ next. own_issue (slots_of dev self.now) next.0 ≡ issue_at self.now next.0) }
+        ensures inside { IfSome result (λ next. MatchOption (issue_at self.now next.0) ⊥ (IsWriteOf dev next.1 next.2)) }
     {
         let context = self.contexts[dev as usize]?;
         context
@@ -321,6 +341,7 @@ impl SlotTable {
         requires some { IsSome (payload (context_of self.old dev)) }
         ensures own { slots_of dev self.new ≡ after_payload (slots_of dev self.old) }
         ensures others { LeavesOthers dev self.old self.new }
+        ensures frees { KeepsFree self.old self.new }
     {
         if let Some(context) = self.contexts[dev as usize] {
             self.go_over(dev, context, context.payload_len());
@@ -334,6 +355,7 @@ impl SlotTable {
         ensures answer { result ≡ completed mask (slots_of dev self.old) }
         ensures own { slots_of dev self.new ≡ after_complete mask (slots_of dev self.old) }
         ensures others { LeavesOthers dev self.old self.new }
+        ensures frees { KeepsFree self.old self.new }
     {
         let done = done_slots(&self.slots, dev, mask);
         let short = short_slots(&self.slots, dev, mask);
@@ -350,6 +372,8 @@ impl SlotTable {
         ensures below { IfSome result (λ slot. slot < 32) }
         ensures own { slots_of dev self.new ≡ after_pio_done (slots_of dev self.old) }
         ensures others { LeavesOthers dev self.old self.new }
+        ensures frees { KeepsFree self.old self.new }
+        ensures stays { MatchOption result (self.new ≡ self.old) (λ slot. Unit {0}) }
     {
         let slot = pio_slot(&self.slots, dev)?;
         if !self.slots[slot as usize].is_whole() {
@@ -365,6 +389,7 @@ impl SlotTable {
         ensures answer { result ≡ own_slots (slots_of dev self.old) }
         ensures own { slots_of dev self.new ≡ no_own_slots }
         ensures others { LeavesOthers dev self.old self.new }
+        ensures frees { KeepsFree self.old self.new }
     {
         let flushed = device_slots(&self.slots, dev);
         free_slots(&mut self.slots, flushed);
@@ -376,6 +401,7 @@ impl SlotTable {
     pub fn flush_all(&mut self) -> u32
         ensures answer { result ≡ slots_where is_any self.old }
         ensures after { self.new ≡ no_slots }
+        ensures frees { KeepsFree self.old self.new }
     {
         let flushed = issued_slots(&self.slots);
         *self = SlotTable::new();

@@ -1,9 +1,9 @@
 use Rattle.std.proofs.Common.{◌≡◌, ℕ, Bool, sym, ap, subst, ◌∙◌}
 use Rattle.slots.specs.declared.answer.Completed.{Completed}
 use Rattle.slots.specs.Commands.{is_done, is_short}
-use Rattle.slots.specs.Slots.{Slots, LeavesOthers, freed, has_bit, mask_of, own_of, slots_of}
+use Rattle.slots.specs.Slots.{Slots, KeepsFree, LeavesOthers, freed, has_bit, mask_of, own_of, slots_of}
 use Rattle.slots.specs.Table.{IsTable}
-use Rattle.slots.proofs.FreeLemmas.{freed_many, own_freed, others_freed, table_freed}
+use Rattle.slots.proofs.FreeLemmas.{frees_freed, freed_many, own_freed, others_freed, table_freed}
 use Rattle.slots.proofs.SetLemmas.{mask_is, done_own}
 use Rattle.slots.proofs.table.SlotTable.complete.Goals as goal
 
@@ -44,3 +44,11 @@ returns-clause-others c =
     let same = mask_is (is_done c.args.mask (own_of dev t.issues)) c.done_slots-done.result c.done_slots-done.ensures in
     let e = freed_many dev f t _ _ c.free_slots.ensures c.context_left.ensures in
     rw (← c.self.view_is) (subst (λ (u : Slots). LeavesOthers dev t u) (sym e) (others_freed dev f t (done_own dev c.args.mask f t c.self.invariant same)))
+
+pub returns-clause-frees : goal.returns-clause-frees
+returns-clause-frees c =
+    let t : Slots = record { issues = c.self.inside.slots; contexts = c.self.inside.contexts } in
+    let dev = c.args.dev in
+    let f : ℕ → Bool = has_bit c.done_slots-done.result in
+    let e = freed_many dev f t _ _ c.free_slots.ensures c.context_left.ensures in
+    rw (← c.self.view_is) (subst (λ (u : Slots). KeepsFree t u) (sym e) (frees_freed dev f t))

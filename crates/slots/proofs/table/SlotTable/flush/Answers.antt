@@ -1,8 +1,8 @@
 use Rattle.std.proofs.Common.{◌≡◌, ℕ, Bool, refl, sym, subst, ◌∙◌}
 use Rattle.slots.specs.Commands.{is_any}
-use Rattle.slots.specs.Slots.{Slots, LeavesOthers, has_bit, holds, no_own_slots, own_issue, own_of, slots_of}
+use Rattle.slots.specs.Slots.{Slots, KeepsFree, LeavesOthers, has_bit, holds, no_own_slots, own_issue, own_of, slots_of}
 use Rattle.slots.specs.Table.{IsTable}
-use Rattle.slots.proofs.FreeLemmas.{freed_many, own_freed, others_freed, table_freed}
+use Rattle.slots.proofs.FreeLemmas.{frees_freed, freed_many, own_freed, others_freed, table_freed}
 use Rattle.slots.proofs.SetLemmas.{mask_is, any_own, flushed_context, flushed_own}
 use Rattle.slots.proofs.table.SlotTable.flush.Goals as goal
 
@@ -32,3 +32,12 @@ returns-clause-others c =
     let same = mask_is (λ k. holds is_any (own_issue (own_of dev t.issues) k)) c.device_slots-flushed.result c.device_slots-flushed.ensures in
     let e = freed_many dev f t _ _ c.free_slots.ensures (flushed_context dev f t c.self.invariant same) in
     rw (← c.self.view_is) (subst (λ (u : Slots). LeavesOthers dev t u) (sym e) (others_freed dev f t (any_own dev f t c.self.invariant same)))
+
+pub returns-clause-frees : goal.returns-clause-frees
+returns-clause-frees c =
+    let t : Slots = record { issues = c.self.inside.slots; contexts = c.self.inside.contexts } in
+    let dev = c.args.dev in
+    let f : ℕ → Bool = has_bit c.device_slots-flushed.result in
+    let same = mask_is (λ k. holds is_any (own_issue (own_of dev t.issues) k)) c.device_slots-flushed.result c.device_slots-flushed.ensures in
+    let e = freed_many dev f t _ _ c.free_slots.ensures (flushed_context dev f t c.self.invariant same) in
+    rw (← c.self.view_is) (subst (λ (u : Slots). KeepsFree t u) (sym e) (frees_freed dev f t))
