@@ -1,5 +1,5 @@
 -- What went wrong at a host port with FIS-based switching: AHCI 1.3.1, section 3.3.16, Port x FIS-based Switching
--- Control, and chapter 9 on the handling of errors.
+-- Control, and section 9.3, FIS-based Switching, on the handling of errors. Devices have the PM Ports 0 to 15.
 use Rattle.std.specs.Prelude.{◌≡◌, ◌≢◌, ℕ, ◌<◌, Bool, true, false, is_some, if◌then◌else◌, List, position, slice_index_or, slice_set, length, replicate, unwrap_or, ◌==◌, Option, Some, None}
 use Rattle.std.specs.Option.{option_map_or}
 use Rattle.port_errors.specs.declared.cause.DeviceCause.{DeviceCause}

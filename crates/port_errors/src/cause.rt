@@ -6,8 +6,8 @@ ghost use Rattle.port_errors.specs.Interrupts.{device_interrupts, interrupt_bits
 use crate::interrupts::Interrupts;
 use bitflags::Flags;
 
-/// Why a device is faulty. Such an error ends the device's own commands alone (AHCI 1.3.1, chapter 9: FIS-based
-/// switching, device specific errors).
+/// Why a device is faulty. Such an error ends the device's own commands alone (AHCI 1.3.1, 9.3, FIS-based
+/// switching: device specific errors).
 #[derive(Clone, Copy, Debug, PartialEq, Eq)]
 pub enum DeviceCause {
     /// A FIS of the device carried ERR in its Status.
@@ -43,7 +43,7 @@ impl DeviceCause {
     }
 }
 
-/// Why the port as a whole is stopped (AHCI 1.3.1, chapter 9: FIS-based switching, non-device specific errors).
+/// Why the port as a whole is stopped (AHCI 1.3.1, 9.3, FIS-based switching: non-device specific errors).
 #[derive(Clone, Copy, Debug, PartialEq, Eq)]
 pub enum PortCause {
     /// The control port of the multiplier sent a FIS that it may not send.

@@ -1,11 +1,10 @@
 //! The errors of a host port.
 
-ghost use Rattle.std.specs.Prelude.{◌≡◌, ◌+◌, ◌*◌, ◌<◌, is_some, length};
+ghost use Rattle.std.specs.Prelude.{◌≡◌, ◌+◌, ◌*◌, ◌<◌, Some, None, is_some, length, unwrap_or};
 ghost use Rattle.std.specs.Int.{from_bool};
 ghost use Rattle.port_errors.specs.Interrupts.{device_interrupts, interrupt_bits, port_interrupts};
 ghost use Rattle.port_errors.specs.Errors.{AreErrors, LeavesOthers, cause_of, lowest_marked as lowest_marked_of, no_errors, shown, with_device, with_port, without};
 
-use crate::PM_PORTS;
 use crate::cause::{DeviceCause, PortCause};
 use crate::interrupts::Interrupts;
 use std::marker::Model;
@@ -29,7 +28,7 @@ impl FbsBits {
 }
 
 /// The errors of a host port: the faulty devices, each with its first cause, the one of them that the port reports,
-/// and what stopped the port as a whole (AHCI 1.3.1, chapter 9: FIS-based switching, error handling). A device is named by its PM Port, 0 to 15.
+/// and what stopped the port as a whole (AHCI 1.3.1, 9.3, FIS-based switching: error handling). A device is named by its PM Port, 0 to 15.
 #[derive(Debug, Drop)]
 pub struct PortErrors {
     causes: [Option<DeviceCause>; 16],
@@ -81,12 +80,20 @@ impl PortErrors {
         }
     }
 
+    /// What is true of every value. It does nothing when it runs.
+    pub fn keeps_rules(&self)
+        ensures { AreErrors self.now }
+    {
+        let _ = &self.causes;
+    }
+
     /// Marks a device as faulty, and answers the bits of PxIS that this cause sets. The first cause of a device is
     /// kept, and the first faulty device is the reported one.
     pub fn device(&mut self, dev: u8, cause: DeviceCause) -> Interrupts
-        requires { dev < PM_PORTS }
+        requires { dev < 16 }
         ensures interrupts { interrupt_bits result ≡ device_interrupts cause }
         ensures after { self.new ≡ with_device self.old dev cause }
+        ensures own { cause_of self.new dev ≡ Some (unwrap_or (cause_of self.old dev) cause) }
         ensures others { LeavesOthers dev self.old self.new }
     {
         let at = dev as usize;
@@ -107,8 +114,9 @@ impl PortErrors {
 
     /// Takes the mark from a device. Where it was the reported one, the lowest that is still marked is reported.
     pub fn forget(&mut self, dev: u8)
-        requires { dev < PM_PORTS }
+        requires { dev < 16 }
         ensures after { self.new ≡ without self.old dev }
+        ensures own { cause_of self.new dev ≡ None }
         ensures others { LeavesOthers dev self.old self.new }
     {
         self.causes[dev as usize] = None;
@@ -126,7 +134,7 @@ impl PortErrors {
 
     /// Whether a device is faulty.
     pub fn faulty(&self, dev: u8) -> bool
-        requires { dev < PM_PORTS }
+        requires { dev < 16 }
         ensures { result ≡ is_some (cause_of self.now dev) }
     {
         self.causes[dev as usize].is_some()
@@ -134,7 +142,7 @@ impl PortErrors {
 
     /// The first cause of a faulty device.
     pub fn cause(&self, dev: u8) -> Option<DeviceCause>
-        requires { dev < PM_PORTS }
+        requires { dev < 16 }
         ensures { result ≡ cause_of self.now dev }
     {
         self.causes[dev as usize]

@@ -13,8 +13,5 @@ pub use cause::{DeviceCause, PortCause};
 pub use errors::{FbsBits, PortErrors};
 pub use interrupts::Interrupts;
 
-/// How many PM Ports there are: the fan-out ports 0 to 14, and 15 for the control port of the multiplier.
-pub const PM_PORTS: u8 = 16;
-
 #[cfg(test)]
 mod tests;

@@ -1,10 +1,11 @@
--- What a write into one row leaves of the others.
-use Rattle.std.proofs.Common.{◌≡◌, ℕ, ◌+◌, ◌*◌, ◌≤◌, List, length, take, drop, sym, ap, ◌∙◌, arith, inl, inr}
-use Rattle.std.proofs.lemmas.List.{drop-take}
+-- What a write into one row leaves of the others, and what that row is then.
+use Rattle.std.proofs.Common.{◌≡◌, ℕ, ◌+◌, ◌-◌, ◌*◌, ◌≤◌, List, ◌++◌, length, take, drop, sym, ap, ◌∙◌, arith, inl, inr}
+use Rattle.std.proofs.Math.Seq.{take-append-add}
+use Rattle.std.proofs.lemmas.List.{append_assoc, length-append, length-drop, length-take, drop-append-le, drop-drop, drop-take, take-take}
 use Rattle.std.proofs.lemmas.Slice.{take-put_mid_below, drop-put_mid}
 use Rattle.std.proofs.lemmas.Bool.{cases_lt}
 use borrow.Rule.Slice.PartMut.{put_mid}
-use Rattle.rx_area.specs.Area.{LeavesOthers, row_of}
+use Rattle.rx_area.specs.Area.{LeavesOthers, overwritten, row_of}
 
 -- a row that ends before the write begins
 row_below : (start count other : ℕ) (old part : List ℕ) → 256 * other + 256 ≤ start → start ≤ length old → row_of (put_mid start count old part) other ≡ row_of old other
@@ -23,3 +24,34 @@ rows_stay dev start count old part low high inside long = λ other apart.
       | inl below ↦ row_below start count other old part (omega arith) inside
       | inr above ↦ row_above start count other old part (omega (arith, above, apart)) inside long
     ]
+
+-- the row itself
+row_written : (dev at : ℕ) (old bytes : List ℕ) → at + length bytes ≤ 256 → 256 * dev + at ≤ length old → row_of (overwritten old (256 * dev + at) bytes) dev ≡ overwritten (row_of old dev) at bytes
+row_written dev at old bytes fits inside =
+    let b : ℕ = 256 * dev in
+    let n : ℕ = length bytes in
+    let m : ℕ = 256 - (at + n) in
+    let row : List ℕ = drop b old in
+    let rest : List ℕ = drop (b + at + n) old in
+    let front : List ℕ = take at row ++ bytes in
+    let within : b ≤ length (take (b + at) old) = omega (arith, length-take (b + at) old) in
+    let first : drop b (overwritten old (b + at) bytes) ≡ front ++ rest =
+    ap (drop b) (append_assoc (take (b + at) old) bytes rest) ∙ drop-append-le b (take (b + at) old) (bytes ++ rest) within
+    ∙ ap (λ (x : List ℕ). x ++ (bytes ++ rest)) (drop-take b at old) ∙ sym (append_assoc (take at row) bytes rest) in
+    let long : 256 ≡ length front + m = omega (arith, length-append (take at row) bytes, length-take at row, length-drop b old) in
+    let ends : take m rest ≡ drop (at + n) (take 256 row) =
+    (let e : b + at + n ≡ b + (at + n) = omega arith in ap (λ (k : ℕ). take m (drop k old)) e)
+    ∙ ap (take m) (sym (drop-drop (at + n) b old)) ∙ sym (drop-take (at + n) m row)
+    ∙ (let e : at + n + m ≡ 256 = omega arith in ap (λ (k : ℕ). drop (at + n) (take k row)) e) in
+    ap (take 256) first ∙ ap (λ (k : ℕ). take k (front ++ rest)) long ∙ take-append-add front rest m
+    ∙ ap (λ (x : List ℕ). x ++ bytes ++ take m rest) (sym (take-take at 256 row (omega arith))) ∙ ap (λ (x : List ℕ). take at (take 256 row) ++ bytes ++ x) ends
+
+put_is : (start k : ℕ) (old part : List ℕ) → k ≡ length part → put_mid start k old part ≡ overwritten old start part
+put_is start k old part is =
+    ap (λ (x : List ℕ). take start old ++ (part ++ x)) (drop-drop k start old) ∙ sym (append_assoc (take start old) part (drop (start + k) old)) ∙ ap (λ (i : ℕ). take start old ++ part ++ drop (start + i) old) is
+
+-- a write from its place at on
+pub row_then : (dev start k at : ℕ) (old part bytes : List ℕ) → start ≡ 256 * dev + at → k ≡ length bytes → part ≡ bytes → at + length bytes ≤ 256 → start ≤ length old → row_of (put_mid start k old part) dev ≡ overwritten (row_of old dev) at bytes
+row_then dev start k at old part bytes begin long is fits inside =
+    ap (λ (x : List ℕ). row_of (put_mid start k old x) dev) is ∙ ap (λ (x : List ℕ). row_of x dev) (put_is start k old bytes long)
+    ∙ ap (λ (s : ℕ). row_of (overwritten old s bytes) dev) begin ∙ row_written dev at old bytes fits (omega arith)

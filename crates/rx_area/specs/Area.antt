@@ -1,5 +1,5 @@
--- The places of a received area: AHCI 1.3.1, section 4.2.1, Received FIS Structure, for each of the 16 PM Ports as
--- chapter 9 has it for FIS-based switching.
+-- The places of a received area: AHCI 1.3.1, section 4.2.1, Received FIS Structure, with a row for each of the 16 PM Ports
+-- as section 9.3, FIS-based Switching, has it. The types of the FISes and their lengths: Serial ATA 3.x, 10.5, FIS types.
 use Rattle.std.specs.Prelude.{◌≡◌, ◌≢◌, ℕ, ◌+◌, ◌*◌, nat_le, if◌then◌else◌, List, [], ◌++◌, length, take, drop}
 use Rattle.fis_view.specs.declared.view.Fis.{Fis}
 use Rattle.fis_view.specs.declared.view.Fis.TheVariants as view
@@ -62,3 +62,11 @@ LeavesOthers dev old new = (other : ℕ) → other ≢ dev → row_of new other 
 -- the bytes with these in place of as many, from place at on
 abbrev pub overwritten : List ℕ → ℕ → List ℕ → List ℕ
 overwritten old at bytes = take at old ++ bytes ++ drop (at + length bytes) old
+
+-- the area after a FIS of PM Port dev was posted
+abbrev pub after_post : List ℕ → ℕ → Fis → List ℕ
+after_post old dev fis = overwritten old (start_of dev (posted_at fis)) (posted_bytes fis)
+
+-- the row of the PM Port after that
+abbrev pub row_after : List ℕ → Fis → List ℕ
+row_after row fis = overwritten row (offset_of (posted_at fis)) (posted_bytes fis)

@@ -1,4 +1,4 @@
--- What an area is lent over, and what of it a call leaves.
+-- What an area is lent over: the bytes at PxFB (AHCI 1.3.1, 3.3.3), and what of it a call leaves.
 use Rattle.std.specs.Prelude.{◌≡◌, ℕ, List}
 use Rattle.std.specs.Borrow.{MutBor}
 use Rattle.rx_area.specs.declared.area.RxArea.{RxArea}

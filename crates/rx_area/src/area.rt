@@ -1,9 +1,8 @@
 //! The area, its rows and their places.
 
 ghost use Rattle.std.specs.Prelude.{◌≡◌, ◌+◌, ◌≤◌, ◌<◌, length};
-ghost use Rattle.rx_area.specs.Area.{LeavesOthers, offset_of, overwritten, place_of, posted_at, posted_bytes, row_of, size_of, start_of};
+ghost use Rattle.rx_area.specs.Area.{LeavesOthers, after_post, offset_of, place_of, posted_at, posted_bytes, row_after, row_of, size_of, start_of};
 
-use crate::{PM_PORTS, RX_AREA};
 use fis_view::Fis;
 
 /// Where a FIS was posted: the places of one row of the area (AHCI 1.3.1, section 4.2.1).
@@ -53,7 +52,7 @@ impl Posted {
 
     // Where it begins in the area, and that it lies in its row.
     fn start(self, dev: u8) -> usize
-        requires { dev < PM_PORTS }
+        requires { dev < 16 }
         ensures start { result ≡ start_of dev self }
         ensures inside { offset_of self + size_of self ≤ 256 }
     {
@@ -77,7 +76,7 @@ fn place_for<'f>(fis: &Fis<'f>) -> (Posted, &'f [u8])
     }
 }
 
-/// A received area: 16 rows of 256 bytes, one for each PM Port (AHCI 1.3.1, section 4.2.1, and chapter 9: FIS-based switching). It borrows the bytes.
+/// A received area: 16 rows of 256 bytes, one for each PM Port (AHCI 1.3.1, 4.2.1 and 9.3). It borrows the bytes.
 #[derive(Debug, Drop)]
 pub struct RxArea<'a> {
     bytes: &'a mut [u8],
@@ -89,7 +88,7 @@ impl<'a> RxArea<'a> {
 
     /// The area that these bytes are.
     pub fn over(bytes: &'a mut [u8]) -> RxArea<'a>
-        requires { length bytes.old ≡ RX_AREA }
+        requires { length bytes.old ≡ 4096 }
         ensures over { IsOver result bytes.entry }
         ensures bytes { bytes_of result ≡ bytes.old }
     {
@@ -97,13 +96,14 @@ impl<'a> RxArea<'a> {
     }
 
     /// Copies a FIS to its place in the row of the device that sent it, from the place's begin on, and changes no
-    /// other byte. A FIS to a device, a DMA Activate, a Data FIS and a FIS of an unknown type of more than 64 bytes
-    /// have no place.
+    /// other byte, so that the row is then a function of what it was and of the FIS. A FIS to a device, a DMA Activate,
+    /// a Data FIS and a FIS of an unknown type of more than 64 bytes have no place.
     pub fn post(&mut self, dev: u8, fis: &Fis<'_>) -> Posted
-        requires { dev < PM_PORTS }
+        requires { dev < 16 }
         ensures over { StaysOver self.old self.new }
         ensures posted { result ≡ posted_at fis.now }
-        ensures after { bytes_of self.new ≡ overwritten (bytes_of self.old) (start_of dev (posted_at fis.now)) (posted_bytes fis.now) }
+        ensures after { bytes_of self.new ≡ after_post (bytes_of self.old) dev fis.now }
+        ensures own { row_of (bytes_of self.new) dev ≡ row_after (row_of (bytes_of self.old) dev) fis.now }
         ensures others { LeavesOthers dev (bytes_of self.old) (bytes_of self.new) }
     {
         let (posted, bytes) = place_for(fis);
@@ -114,7 +114,7 @@ impl<'a> RxArea<'a> {
 
     // The bytes of a place.
     fn place(&self, dev: u8, place: Posted) -> &[u8]
-        requires { dev < PM_PORTS }
+        requires { dev < 16 }
         ensures { result.now ≡ place_of (bytes_of self.now) dev place }
     {
         let start = place.start(dev);
@@ -123,7 +123,7 @@ impl<'a> RxArea<'a> {
 
     /// The 28 bytes of the DMA Setup FIS that was posted last in this row.
     pub fn setup(&self, dev: u8) -> &[u8]
-        requires { dev < PM_PORTS }
+        requires { dev < 16 }
         ensures { result.now ≡ place_of (bytes_of self.now) dev Posted.Setup }
     {
         self.place(dev, Posted::Setup)
@@ -131,7 +131,7 @@ impl<'a> RxArea<'a> {
 
     /// The 20 bytes of the PIO Setup FIS that was posted last in this row.
     pub fn pio(&self, dev: u8) -> &[u8]
-        requires { dev < PM_PORTS }
+        requires { dev < 16 }
         ensures { result.now ≡ place_of (bytes_of self.now) dev Posted.Pio }
     {
         self.place(dev, Posted::Pio)
@@ -139,7 +139,7 @@ impl<'a> RxArea<'a> {
 
     /// The 20 bytes of the Register Device to Host FIS that was posted last in this row.
     pub fn d2h(&self, dev: u8) -> &[u8]
-        requires { dev < PM_PORTS }
+        requires { dev < 16 }
         ensures { result.now ≡ place_of (bytes_of self.now) dev Posted.D2h }
     {
         self.place(dev, Posted::D2h)
@@ -147,7 +147,7 @@ impl<'a> RxArea<'a> {
 
     /// The 8 bytes of the Set Device Bits FIS that was posted last in this row.
     pub fn bits(&self, dev: u8) -> &[u8]
-        requires { dev < PM_PORTS }
+        requires { dev < 16 }
         ensures { result.now ≡ place_of (bytes_of self.now) dev Posted.Bits }
     {
         self.place(dev, Posted::Bits)
@@ -156,7 +156,7 @@ impl<'a> RxArea<'a> {
     /// The 64 bytes of the place for FISes of unknown types in this row. A FIS that is shorter leaves the bytes after
     /// it as they were.
     pub fn unknown(&self, dev: u8) -> &[u8]
-        requires { dev < PM_PORTS }
+        requires { dev < 16 }
         ensures { result.now ≡ place_of (bytes_of self.now) dev Posted.Unknown }
     {
         self.place(dev, Posted::Unknown)

@@ -8,11 +8,8 @@ mod area;
 
 pub use area::{Posted, RxArea};
 
-/// The bytes of a received area: 16 rows of 256 bytes (AHCI 1.3.1, section 4.2.1, and chapter 9: FIS-based switching).
+/// The bytes of a received area: 16 rows of 256 bytes (AHCI 1.3.1, 4.2.1 and 9.3, FIS-based switching).
 pub const RX_AREA: usize = 4096;
-
-/// How many PM Ports there are, and rows: the fan-out ports 0 to 14, and 15 for the control port of the multiplier.
-pub const PM_PORTS: u8 = 16;
 
 #[cfg(test)]
 mod tests;

@@ -1,7 +1,7 @@
 //! What no clause says: values from outside, and that the calls answer them.
 
 ghost use Rattle.std.specs.Prelude.{◌≡◌, ◌<◌, length};
-ghost use Rattle.rx_area.specs.Area.{overwritten, posted_at, posted_bytes, start_of};
+ghost use Rattle.rx_area.specs.Area.{after_post};
 
 use crate::{Posted, RX_AREA, RxArea};
 use fis_view::Fis;
@@ -9,9 +9,9 @@ use std::test::Fail;
 
 /// The bytes that were lent end as the area leaves them.
 fn post_into(bytes: &mut [u8], dev: u8, fis: &Fis<'_>) -> Posted
-    requires area { length bytes.old ≡ RX_AREA }
+    requires area { length bytes.old ≡ 4096 }
     requires dev { dev < 16 }
-    ensures { bytes.new ≡ overwritten bytes.old (start_of dev (posted_at fis.now)) (posted_bytes fis.now) }
+    ensures { bytes.new ≡ after_post bytes.old dev fis.now }
 {
     let mut area = RxArea::over(bytes);
     area.post(dev, fis)
