@@ -1,4 +1,4 @@
--- Data of a transfer (Serial ATA 3.x: Data and DMA Activate FISes): what may come or go, and what it leaves.
+-- Data of a transfer (Serial ATA 3.x, 10.5: Data and DMA Activate FISes): what may come or go, and what it leaves.
 use Rattle.std.specs.Prelude.{◌≡◌, ◌≤◌, ℕ, ◌+◌, ◌-◌, min, Bool, true, false, not, ◌&&◌, nat_lt, if◌then◌else◌, slice_set, Option, Some, None, Result, Ok, Err, is_ok}
 use Rattle.std.specs.Option.{option_map}
 use Rattle.slots.specs.declared.answer.ArriveError.{ArriveError}
@@ -44,7 +44,7 @@ activated c = record c { activated = true }
 abbrev pub after_activate : DeviceSlots → DeviceSlots
 after_activate own = if may_activate own.context then record own { context = option_map activated own.context } else own
 
--- the most bytes of a Data FIS
+-- the most bytes of a Data FIS: 2,048 dwords
 abbrev pub max_payload : ℕ
 max_payload = 8192
 

@@ -1,4 +1,4 @@
--- A slot as it is stored: the head of its issue, and the flags of its bytes.
+-- A command slot (AHCI 1.3.1, 4.2.2) as it is stored: the head of its issue, and the flags of its bytes.
 use Rattle.std.specs.Prelude.{◌≡◌, ◌/◌, Bool, List, length, Option, Some, None, MatchOption}
 use Rattle.slots.specs.declared.slot.Issued.{Issued}
 use Rattle.slots.specs.Slots.{Issue}

@@ -5,7 +5,8 @@ use Rattle.slots.specs.Slots.{has_bit, lowest, mask_of}
 
 -- Bytes that go over are added to those that did, and nothing else is: offset and count are multiples of 4. At first none did.
 pub record BytesGoOver : Type 0 where
-  pub added : (over : List Bool) (offset count b : ℕ) → offset % 4 ≡ 0 → count % 4 ≡ 0 → b < 4 * length over → is_over (with_bytes over offset count) b ≡ (is_over over b || is_within offset count b)
+  pub added : (over : List Bool) (offset count b : ℕ) → offset % 4 ≡ 0 → count % 4 ≡ 0 → b < 4 * length over
+      → is_over (with_bytes over offset count) b ≡ (is_over over b || is_within offset count b)
   pub at_first : (len b : ℕ) → is_over (none_over len) b ≡ false
 
 -- a mask is below 2 ^ 32 and its bits are the slots of the set

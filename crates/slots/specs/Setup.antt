@@ -1,4 +1,5 @@
--- Setups (Serial ATA 3.x: DMA Setup and PIO Setup FISes): which are accepted, and what they leave.
+-- Setups (Serial ATA 3.x, 10.5: DMA Setup and PIO Setup FISes; first-party DMA as native command queueing has it, ACS-3): which are
+-- accepted, and what they leave.
 use Rattle.std.specs.Prelude.{ℕ, ◌+◌, ◌%◌, Bool, false, not, ◌&&◌, ◌||◌, ◌==◌, nat_lt, nat_le, if◌then◌else◌, Option, Some, None, is_some}
 use Rattle.std.specs.Bool.{beq}
 use Rattle.slots.specs.declared.answer.SetupError.{SetupError}
@@ -29,7 +30,8 @@ is_outstanding issue = is_queued_issue issue && issue.answered
 -- why a DMA Setup is refused that names a slot with this issue of the device, or with none
 abbrev pub setup_fault : Option Issue → ℕ → ℕ → Bool → Option SetupError
 setup_fault None offset count to_host = Some NotOutstanding
-setup_fault (Some issue) offset count to_host = if is_outstanding issue then transfer_fault issue offset count to_host else Some NotOutstanding
+setup_fault (Some issue) offset count to_host =
+    if is_outstanding issue then transfer_fault issue offset count to_host else Some NotOutstanding
 
 -- how many bytes of an issue went over
 abbrev pub came : Issue → ℕ
@@ -51,7 +53,8 @@ with_own_context own c = record own { context = Some c }
 -- the device's own part after a DMA Setup
 abbrev pub after_setup : DeviceSlots → ℕ → ℕ → ℕ → Bool → DeviceSlots
 after_setup own tag offset count to_host =
-    if is_some (setup_fault (own_issue own tag) offset count to_host) then own else with_own_context own (new_context tag offset count to_host)
+    if is_some (setup_fault (own_issue own tag) offset count to_host) then own
+    else with_own_context own (new_context tag offset count to_host)
 
 -- the issue of the PIO data-in that was sent
 abbrev pub pio_issue : DeviceSlots → Option Issue
@@ -61,4 +64,5 @@ pio_issue own = match_some (sent_pio own) None (own_issue own)
 abbrev pub after_setup_pio : DeviceSlots → ℕ → Bool → DeviceSlots
 after_setup_pio own count to_host =
     if is_some (pio_fault (pio_issue own) count to_host) then own
-    else match_some (sent_pio own) own (λ slot. match_some (own_issue own slot) own (λ issue. with_own_context own (new_context slot (came issue) count to_host)))
+    else match_some (sent_pio own) own (λ slot.
+    match_some (own_issue own slot) own (λ issue. with_own_context own (new_context slot (came issue) count to_host)))

@@ -1,6 +1,6 @@
--- The command slots of a port (AHCI 1.3.1, the command list) and the transfer contexts of its devices, and what of them is one
--- device's. Slots have the numbers 0 to 31, devices 0 to 15.
-use Rattle.std.specs.Prelude.{◌≡◌, ◌≢◌, ℕ, ◌^◌, Bool, true, false, not, ◌&&◌, ◌==◌, if◌then◌else◌, List, length, map, replicate, slice_index_or, slice_set, sum_by, Option, Some, None}
+-- The command slots of a port (AHCI 1.3.1, 4.2.2, Command List Structure) and the transfer contexts of its devices, one for each
+-- as FIS-based switching wants it (9.3), and what of them is one device's. Slots have the numbers 0 to 31, devices 0 to 15.
+use Rattle.std.specs.Prelude.{◌≡◌, ◌≢◌, ◌<◌, ℕ, ◌^◌, Bool, true, false, not, ◌&&◌, ◌==◌, if◌then◌else◌, List, length, map, replicate, slice_index_or, slice_set, sum_by, Option, Some, None}
 use Rattle.std.specs.List.{range_with_len, position}
 use Rattle.std.specs.Int.{bit_at}
 use Rattle.slots.specs.declared.work.Work.{Work}
@@ -134,6 +134,17 @@ is_sent_pio issue = issue.sent && is_pio issue.work.kind
 abbrev pub is_whole_issue : Issue → Bool
 is_whole_issue issue = is_whole issue.over issue.work.len
 
+-- it is queued, and each of its bytes went over, or not each
+abbrev pub is_done_issue : Issue → Bool
+is_done_issue issue = is_queued_issue issue && is_whole_issue issue
+
+abbrev pub is_short_issue : Issue → Bool
+is_short_issue issue = is_queued_issue issue && not (is_whole_issue issue)
+
+-- one of the 32 slots, of whose issue the test holds
+abbrev pub IsSlotWhere : (Issue → Bool) → DeviceSlots → ℕ → Type 0
+IsSlotWhere test own slot = (slot < 32) × (holds test (own_issue own slot) ≡ true)
+
 -- the device's slot that is sent and not answered
 abbrev pub waiting : DeviceSlots → Option ℕ
 waiting own = lowest (λ slot. holds is_waiting (own_issue own slot))
@@ -159,7 +170,8 @@ context_unless is_free (Some c) = if is_free c.slot then None else Some c
 
 -- the issues, but for the slots of which the test holds
 unfoldable pub issues_unless : (ℕ → Bool) → List (Option Issue) → List (Option Issue)
-issues_unless is_free issues = map (λ slot. if is_free slot then None else slice_index_or issues slot None) (range_with_len 0 (length issues))
+issues_unless is_free issues =
+    map (λ slot. if is_free slot then None else slice_index_or issues slot None) (range_with_len 0 (length issues))
 
 -- these slots become free, and the context ends where its slot is one of them
 abbrev pub freed : (ℕ → Bool) → DeviceSlots → DeviceSlots

@@ -1,4 +1,4 @@
--- What is true of every table.
+-- What is true of every table of the command slots (AHCI 1.3.1, 4.2.2) and of the contexts of the devices (9.3).
 use Rattle.std.specs.Prelude.{◌≡◌, ℕ, ◌+◌, ◌/◌, ◌%◌, ◌<◌, ◌≤◌, Bool, true, false, ◌||◌, length, MatchOption}
 use Rattle.slots.specs.declared.table.Context.{Context}
 use Rattle.slots.specs.Work.{IsWork, is_read}

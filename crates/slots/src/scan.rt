@@ -2,7 +2,7 @@
 
 ghost use Rattle.std.specs.Prelude.{◌≡◌, ◌<◌, true, None, IfSome, slice_index_or};
 ghost use Rattle.slots.specs.Commands.{is_any, is_done as is_done_in, is_short as is_short_in, is_unanswered, own_slots};
-ghost use Rattle.slots.specs.Slots.{has_bit as has_bit_of, holds, is_queued_issue, is_sent_pio, is_waiting, issues_unless, mask_of, own_issue, own_of, sent_pio, waiting};
+ghost use Rattle.slots.specs.Slots.{IsSlotWhere, has_bit as has_bit_of, holds, is_queued_issue, is_sent_pio, is_waiting, issues_unless, mask_of, own_issue, own_of, sent_pio, waiting};
 
 use crate::slot::Slot;
 
@@ -17,7 +17,7 @@ pub(crate) fn has_bit(mask: u32, k: u8) -> bool
 /// The lowest slot of the device that is sent and not answered.
 pub(crate) fn waiting_slot(slots: &[Slot; 32], dev: u8) -> Option<u8>
     ensures value { result ≡ waiting (own_of dev slots.now) }
-    ensures there { IfSome result (λ slot. (slot < 32) × (holds is_waiting (own_issue (own_of dev slots.now) slot) ≡ true)) }
+    ensures there { IfSome result (IsSlotWhere is_waiting (own_of dev slots.now)) }
 {
     for slot in 0..32_u8 {
         if slots[slot as usize].is_waiting(dev) {
@@ -30,7 +30,7 @@ pub(crate) fn waiting_slot(slots: &[Slot; 32], dev: u8) -> Option<u8>
 /// The lowest slot of the device whose PIO data-in was sent.
 pub(crate) fn pio_slot(slots: &[Slot; 32], dev: u8) -> Option<u8>
     ensures value { result ≡ sent_pio (own_of dev slots.now) }
-    ensures there { IfSome result (λ slot. (slot < 32) × (holds is_sent_pio (own_issue (own_of dev slots.now) slot) ≡ true)) }
+    ensures there { IfSome result (IsSlotWhere is_sent_pio (own_of dev slots.now)) }
 {
     for slot in 0..32_u8 {
         if slots[slot as usize].is_sent_pio(dev) {
@@ -107,7 +107,8 @@ pub(crate) fn unanswered_slots(slots: &[Slot; 32]) -> u32
 
 /// The slots in which a queued command is issued.
 pub(crate) fn queued_slots(slots: &[Slot; 32]) -> u32
-    ensures { result ≡ mask_of (λ slot. holds is_queued_issue (slice_index_or slots.now slot None)) }
+    ensures { result
+        ≡ mask_of (λ slot. holds is_queued_issue (slice_index_or slots.now slot None)) }
 {
     let mut found = 0;
     for slot in 0..32_u8 {

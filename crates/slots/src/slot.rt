@@ -7,7 +7,7 @@ ghost use Rattle.slots.specs.Commands.{IsSlotAnswer, answer_for as answer_for_is
 ghost use Rattle.slots.specs.Data.{moved_over};
 ghost use Rattle.slots.specs.Issued.{issued_of, with_flags};
 ghost use Rattle.slots.specs.Setup.{came as came_in, pio_fault as pio_fault_of, setup_fault as setup_fault_of, transfer_fault as transfer_fault_of};
-ghost use Rattle.slots.specs.Slots.{holds, is_queued_issue, is_sent_pio as is_sent_pio_issue, is_waiting as is_waiting_issue, is_whole_issue, match_some, new_issue, owned_by};
+ghost use Rattle.slots.specs.Slots.{holds, is_done_issue, is_queued_issue, is_short_issue, is_sent_pio as is_sent_pio_issue, is_waiting as is_waiting_issue, is_whole_issue, match_some, new_issue, owned_by};
 
 use crate::answer::{Answered, SetupError};
 use crate::moved::Moved;
@@ -191,14 +191,14 @@ impl Slot {
 
     /// Whether it is a queued command of the device all of whose bytes went over.
     pub(crate) fn is_done(&self, dev: u8) -> bool
-        ensures { result ≡ holds (λ issue. is_queued_issue issue && is_whole_issue issue) (owned_by dev self.now) }
+        ensures { result ≡ holds is_done_issue (owned_by dev self.now) }
     {
         self.is_queued_of(dev) && self.is_whole()
     }
 
     /// Whether it is a queued command of the device of which bytes are missing.
     pub(crate) fn is_short(&self, dev: u8) -> bool
-        ensures { result ≡ holds (λ issue. is_queued_issue issue && not (is_whole_issue issue)) (owned_by dev self.now) }
+        ensures { result ≡ holds is_short_issue (owned_by dev self.now) }
     {
         self.is_queued_of(dev) && !self.is_whole()
     }

@@ -3,11 +3,11 @@
 ghost use Rattle.std.specs.Prelude.{◌≡◌, ℕ, [], ◌+◌, ◌%◌, ◌<◌, ◌≤◌, ◌↔◌, Some, None, IsSome, IsErr, IfSome, OnOk, OnErr, MatchOption, false, true, is_ok, is_none};
 ghost use Rattle.std.specs.Option.{option_map};
 ghost use Rattle.std.specs.Result.{result_err};
-ghost use Rattle.slots.specs.Commands.{IsSlotAnswer, MayBeSent, StaysWithout, after_answer, after_complete, after_issue, after_pio_done, after_sent, answer_of, answered_issue, completed, is_any, is_slot, is_unanswered, may_go as may_go_of, next_slot, own_slots, sent_issue, slots_where, table_after_issue, whole_pio};
+ghost use Rattle.slots.specs.Commands.{IsSlotAnswer, MayBeSent, StaysWithout, after_answer, after_complete, after_issue, after_pio_done, after_sent, answer_of, completed, is_any, is_slot, is_unanswered, may_go as may_go_of, next_slot, own_slots, slots_where, table_after_issue, whole_pio, with_answered, with_sent};
 ghost use Rattle.slots.specs.Data.{IsWriteOf, activated as activated_context, after_activate, after_arrive, after_payload, arrive_answer, gone_over, may_activate, payload, payload_len as payload_len_of, receiving_slot};
 ghost use Rattle.slots.specs.Issued.{with_flags};
 ghost use Rattle.slots.specs.Setup.{after_setup, after_setup_pio, new_context, pio_fault, pio_issue, setup_fault, with_own_context};
-ghost use Rattle.slots.specs.Slots.{KeepsFree, LeavesOthers, context_of, context_unless, freed, has_bit as has_bit_of, holds, is_control, is_queued_issue, is_waiting, issue_at, no_own_slots, no_slots, own_issue, owned_by, slots_of, waiting, with_own_issue};
+ghost use Rattle.slots.specs.Slots.{KeepsFree, LeavesOthers, context_of, context_unless, freed, has_bit as has_bit_of, holds, is_control, is_queued_issue, is_waiting, issue_at, no_own_slots, no_slots, own_issue, owned_by, slots_of, waiting};
 ghost use Rattle.slots.specs.Table.{IsContext, IsTable};
 ghost use Rattle.slots.specs.Work.{IsWork};
 
@@ -107,7 +107,8 @@ impl SlotTable {
         requires dev { dev < 16 }
         requires work { IsWork work }
         ensures busy { IsErr result ↔ IsSome (issue_at self.old slot) }
-        ensures own { OnOk result (slots_of dev self.new ≡ after_issue (slots_of dev self.old) slot dev work) }
+        ensures own { OnOk result
+            (slots_of dev self.new ≡ after_issue (slots_of dev self.old) slot dev work) }
         ensures after { OnOk result (self.new ≡ table_after_issue self.old slot dev work) }
         ensures err { OnErr result (self.new ≡ self.old) }
         ensures others { LeavesOthers dev self.old self.new }
@@ -124,8 +125,10 @@ impl SlotTable {
     pub fn sent(&mut self, slot: u8)
         requires slot { slot < 32 }
         requires alone { MayBeSent self.old slot }
-        ensures own { IfSome (issue_at self.old slot) (λ issue. slots_of issue.dev self.new ≡ after_sent (slots_of issue.dev self.old) slot) }
-        ensures others { IfSome (issue_at self.old slot) (λ issue. LeavesOthers issue.dev self.old self.new) }
+        ensures own { IfSome (issue_at self.old slot)
+            (λ issue. slots_of issue.dev self.new ≡ after_sent (slots_of issue.dev self.old) slot) }
+        ensures others { IfSome (issue_at self.old slot)
+            (λ issue. LeavesOthers issue.dev self.old self.new) }
         ensures frees { KeepsFree self.old self.new }
     {
         let Some(issued) = self.slots[slot as usize].issued() else {
@@ -141,9 +144,10 @@ impl SlotTable {
     /// The command of a slot of a device is sent, and waits for its answer.
     fn send(&mut self, dev: u8, slot: u8)
         requires slot { slot < 32 }
-        requires issue { MatchOption (issue_at self.old slot) ⊥ (λ issue. (issue.dev ≡ dev) × (is_control issue.work.kind ≡ false)) }
+        requires issue { MatchOption (issue_at self.old slot) ⊥
+            (λ issue. (issue.dev ≡ dev) × (is_control issue.work.kind ≡ false)) }
         requires alone { waiting (slots_of dev self.old) ≡ None }
-        ensures own { slots_of dev self.new ≡ with_own_issue (slots_of dev self.old) slot (option_map sent_issue (own_issue (slots_of dev self.old) slot)) }
+        ensures own { slots_of dev self.new ≡ with_sent (slots_of dev self.old) slot }
         ensures others { LeavesOthers dev self.old self.new }
         ensures frees { KeepsFree self.old self.new }
     {
@@ -169,7 +173,7 @@ impl SlotTable {
         requires dev { dev < 16 }
         requires waits { holds is_waiting (own_issue (slots_of dev self.old) slot) ≡ true }
         requires queued { holds is_queued_issue (own_issue (slots_of dev self.old) slot) ≡ true }
-        ensures own { slots_of dev self.new ≡ with_own_issue (slots_of dev self.old) slot (option_map answered_issue (own_issue (slots_of dev self.old) slot)) }
+        ensures own { slots_of dev self.new ≡ with_answered (slots_of dev self.old) slot }
         ensures others { LeavesOthers dev self.old self.new }
         ensures frees { KeepsFree self.old self.new }
     {
@@ -221,8 +225,10 @@ impl SlotTable {
     ) -> Result<(), SetupError>
         requires dev { dev < 16 }
         requires tag { tag < 32 }
-        ensures refusal { result_err result ≡ setup_fault (own_issue (slots_of dev self.old) tag) offset count to_host }
-        ensures own { slots_of dev self.new ≡ after_setup (slots_of dev self.old) tag offset count to_host }
+        ensures refusal { result_err result
+            ≡ setup_fault (own_issue (slots_of dev self.old) tag) offset count to_host }
+        ensures own { slots_of dev self.new
+            ≡ after_setup (slots_of dev self.old) tag offset count to_host }
         ensures others { LeavesOthers dev self.old self.new }
         ensures frees { KeepsFree self.old self.new }
         ensures err { OnErr result (self.new ≡ self.old) }
@@ -237,8 +243,10 @@ impl SlotTable {
     /// A PIO Setup FIS of a device for its PIO data-in: the next `count` bytes.
     pub fn setup_pio(&mut self, dev: u8, count: u32, to_host: bool) -> Result<(), SetupError>
         requires dev { dev < 16 }
-        ensures refusal { result_err result ≡ pio_fault (pio_issue (slots_of dev self.old)) count to_host }
-        ensures own { slots_of dev self.new ≡ after_setup_pio (slots_of dev self.old) count to_host }
+        ensures refusal { result_err result
+            ≡ pio_fault (pio_issue (slots_of dev self.old)) count to_host }
+        ensures own { slots_of dev self.new
+            ≡ after_setup_pio (slots_of dev self.old) count to_host }
         ensures others { LeavesOthers dev self.old self.new }
         ensures frees { KeepsFree self.old self.new }
         ensures err { OnErr result (self.new ≡ self.old) }
@@ -326,8 +334,10 @@ impl SlotTable {
         ensures value { result ≡ payload (context_of self.now dev) }
         ensures below { IfSome result (λ next. next.0 < 32) }
         ensures some { IfSome result (λ next. 0 < next.2) }
-        ensures own { IfSome result (λ next. own_issue (slots_of dev self.now) next.0 ≡ issue_at self.now next.0) }
-        ensures inside { IfSome result (λ next. MatchOption (issue_at self.now next.0) ⊥ (IsWriteOf dev next.1 next.2)) }
+        ensures own { IfSome result
+            (λ next. own_issue (slots_of dev self.now) next.0 ≡ issue_at self.now next.0) }
+        ensures inside { IfSome result
+            (λ next. MatchOption (issue_at self.now next.0) ⊥ (IsWriteOf dev next.1 next.2)) }
     {
         let context = self.contexts[dev as usize]?;
         context
