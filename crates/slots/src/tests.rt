@@ -3,7 +3,11 @@
 ghost use Rattle.std.specs.Prelude.{◌<◌, ◌≡◌, ◌%◌};
 ghost use Rattle.slots.specs.Work.{IsWork};
 
-use crate::{Answered, ArriveError, Completed, Kind, SetupError, SlotTable, Work, words_mean_sets};
+use crate::{
+    Answered, ArriveError, Busy, Completed, Kind, SetupError, SlotTable, Stray, Work,
+    words_mean_sets,
+};
+use std::test::Fail;
 
 // Issues some work, and answers whether the slot was free.
 fn issue(table: &mut SlotTable, slot: u8, dev: u8, work: Work) -> bool
@@ -146,6 +150,14 @@ fn receiving(table: &SlotTable, dev: u8) -> Option<u8>
     table.receiving(dev)
 }
 
+// What the device's last setup has left.
+fn left(table: &SlotTable, dev: u8) -> Option<u32>
+    requires { dev < 16 }
+{
+    let context = table.context(dev)?;
+    Some(context.left)
+}
+
 fn next(table: &SlotTable, ready: u16, faulty: u16) -> Option<u8> {
     table.next_command(ready, faulty)
 }
@@ -162,72 +174,27 @@ fn open(table: &mut SlotTable, slot: u8, dev: u8, sectors: u32) -> bool
         && answer(table, dev) == Answered::Queued(slot)
 }
 
-// The same, with all its bytes set up and come.
-fn open_whole(table: &mut SlotTable, slot: u8, dev: u8, sectors: u32) -> bool
-    requires slot { slot < 32 }
-    requires dev { dev < 16 }
-    requires some { 0 < sectors }
-    requires few { sectors < 256 }
-{
-    open(table, slot, dev, sectors)
-        && setup(table, dev, slot, 0, sectors * 512).is_none()
-        && arrive(table, dev, sectors * 128) == Some((slot, 0))
-}
-
 #[test]
-fn completes_for_one_device(rt: HostRuntime) {
+fn reads_of_two_devices_interleave(rt: HostRuntime) {
     words_mean_sets();
     let mut table = SlotTable::new();
     table.keeps_rules();
-    assert!(rt; open_whole(&mut table, 0, 0, 1));
-    assert!(rt; open_whole(&mut table, 1, 1, 1));
-    assert!(rt; open_whole(&mut table, 2, 1, 2));
-    assert_eq!(rt; queued(&table), 7);
-    assert_eq!(rt; ci(&table), 0);
-    assert_eq!(rt; complete(&mut table, 1, 0xFFFF_FFFF), (6, 0));
-    assert_eq!(rt; queued(&table), 1);
-    assert_eq!(rt; owner(&table, 0), Some(0));
-    assert_eq!(rt; owner(&table, 1), None);
-    assert_eq!(rt; complete(&mut table, 0, 1), (1, 0));
-    assert_eq!(rt; queued(&table), 0);
-}
-
-#[test]
-fn data_of_two_devices_interleaves(rt: HostRuntime) {
-    let mut table = SlotTable::new();
     assert!(rt; open(&mut table, 0, 0, 2));
-    assert!(rt; open(&mut table, 1, 4, 2));
-    assert_eq!(rt; setup(&mut table, 0, 0, 0, 1024), None);
-    assert_eq!(rt; setup(&mut table, 4, 1, 0, 1024), None);
-    assert_eq!(rt; receiving(&table, 4), Some(1));
-    assert_eq!(rt; arrive(&mut table, 0, 128), Some((0, 0)));
-    assert_eq!(rt; arrive(&mut table, 4, 128), Some((1, 0)));
-    assert_eq!(rt; arrive(&mut table, 0, 128), Some((0, 512)));
-    assert_eq!(rt; complete(&mut table, 4, 3), (0, 2));
-    assert_eq!(rt; arrive(&mut table, 4, 128), Some((1, 512)));
-    assert_eq!(rt;
-        arrival_error(&mut table, 4, 1),
-        Some(ArriveError::Overflow)
-    );
-    assert_eq!(rt; complete(&mut table, 4, 3), (2, 0));
-    assert_eq!(rt; receiving(&table, 4), None);
-    assert_eq!(rt; arrival_error(&mut table, 4, 1), Some(ArriveError::Stray));
-    assert_eq!(rt; complete(&mut table, 0, 3), (1, 0));
-}
-
-#[test]
-fn a_second_half_may_come_first(rt: HostRuntime) {
-    let mut table = SlotTable::new();
-    assert!(rt; open(&mut table, 0, 0, 2));
+    assert!(rt; open(&mut table, 1, 4, 1));
     assert_eq!(rt; setup(&mut table, 0, 0, 512, 512), None);
+    assert_eq!(rt; setup(&mut table, 4, 1, 0, 512), None);
+    assert_eq!(rt; receiving(&table, 4), Some(1));
     assert_eq!(rt; arrive(&mut table, 0, 128), Some((0, 512)));
-    assert_eq!(rt; setup(&mut table, 0, 0, 512, 512), Some(SetupError::Twice));
-    assert_eq!(rt; setup(&mut table, 0, 0, 508, 8), Some(SetupError::Twice));
-    assert_eq!(rt; complete(&mut table, 0, 1), (0, 1));
+    assert_eq!(rt; left(&table, 0), Some(0));
+    assert_eq!(rt; left(&table, 4), Some(512));
+    assert_eq!(rt; arrive(&mut table, 4, 128), Some((1, 0)));
+    assert_eq!(rt; complete(&mut table, 0, 3), (0, 1));
+    assert_eq!(rt; complete(&mut table, 4, 3), (2, 0));
+    assert_eq!(rt; queued(&table), 1);
     assert_eq!(rt; setup(&mut table, 0, 0, 0, 512), None);
     assert_eq!(rt; arrive(&mut table, 0, 128), Some((0, 0)));
-    assert_eq!(rt; setup(&mut table, 0, 0, 512, 512), Some(SetupError::Twice));
     assert_eq!(rt; complete(&mut table, 0, 1), (1, 0));
+    assert_eq!(rt; owner(&table, 0), None);
 }
 
 #[test]
@@ -242,79 +209,38 @@ fn sixty_four_stretches_at_most(rt: HostRuntime) {
         setup(&mut table, 3, 5, 512, 4),
         Some(SetupError::Fragments)
     );
-    assert_eq!(rt;
-        setup(&mut table, 3, 5, 512, 0),
-        Some(SetupError::Fragments)
-    );
-    assert_eq!(rt;
-        setup(&mut table, 3, 5, 502, 2),
-        Some(SetupError::Fragments)
-    );
-    assert_eq!(rt; setup(&mut table, 3, 5, 502, 4), Some(SetupError::Twice));
     assert_eq!(rt; setup(&mut table, 3, 5, 508, 4), None);
-    assert_eq!(rt; arrive(&mut table, 3, 1), Some((5, 508)));
-    assert_eq!(rt; setup(&mut table, 3, 5, 512, 4), None);
-    assert_eq!(rt; arrive(&mut table, 3, 1), Some((5, 512)));
-    assert_eq!(rt;
-        setup(&mut table, 3, 5, 520, 4),
-        Some(SetupError::Fragments)
-    );
     assert_eq!(rt; setup(&mut table, 3, 5, 4, 4), None);
     assert_eq!(rt; arrive(&mut table, 3, 1), Some((5, 4)));
-    assert_eq!(rt; setup(&mut table, 3, 5, 520, 4), None);
+    assert_eq!(rt; setup(&mut table, 3, 5, 512, 4), None);
 }
 
 #[test]
 fn setups_are_refused_in_order(rt: HostRuntime) {
     let mut table = SlotTable::new();
+    assert!(rt; issue_read(&mut table, 0, 0, 2));
     assert_eq!(rt;
         setup_out(&mut table, 0, 0, 2, 4096),
         Some(SetupError::NotOutstanding)
     );
-    assert!(rt; issue_read(&mut table, 0, 0, 2));
-    assert_eq!(rt;
-        setup(&mut table, 0, 0, 0, 4),
-        Some(SetupError::NotOutstanding)
-    );
     assert_eq!(rt; send(&mut table, 1), Some(0));
-    assert_eq!(rt;
-        setup(&mut table, 0, 0, 0, 4),
-        Some(SetupError::NotOutstanding)
-    );
     assert_eq!(rt; answer(&mut table, 0), Answered::Queued(0));
-    assert_eq!(rt;
-        setup(&mut table, 1, 0, 0, 4),
-        Some(SetupError::NotOutstanding)
-    );
-    assert_eq!(rt;
-        setup(&mut table, 0, 1, 0, 4),
-        Some(SetupError::NotOutstanding)
-    );
     assert_eq!(rt;
         setup_out(&mut table, 0, 0, 2, 4096),
         Some(SetupError::WrongWay)
     );
     assert_eq!(rt; setup(&mut table, 0, 0, 0, 12), None);
-    assert_eq!(rt; arrive(&mut table, 0, 3), Some((0, 0)));
     assert_eq!(rt;
-        setup(&mut table, 0, 0, 2, 1023),
-        Some(SetupError::Overflow)
+        arrival_error(&mut table, 0, 4),
+        Some(ArriveError::Overflow)
     );
+    assert_eq!(rt; arrive(&mut table, 0, 3), Some((0, 0)));
     assert_eq!(rt;
         setup(&mut table, 0, 0, 0xFFFF_FFFC, 8),
         Some(SetupError::Overflow)
     );
-    assert_eq!(rt;
-        setup(&mut table, 0, 0, 0xFFFF_FFFF, 0xFFFF_FFFF),
-        Some(SetupError::Overflow)
-    );
-    assert_eq!(rt; setup(&mut table, 0, 0, 2, 1), Some(SetupError::Twice));
     assert_eq!(rt; setup(&mut table, 0, 0, 11, 1013), Some(SetupError::Twice));
-    assert_eq!(rt; setup(&mut table, 0, 0, 12, 0), Some(SetupError::BadCount));
-    assert_eq!(rt; setup(&mut table, 0, 0, 13, 4), Some(SetupError::BadCount));
     assert_eq!(rt; setup(&mut table, 0, 0, 12, 6), Some(SetupError::BadCount));
-    assert_eq!(rt; setup(&mut table, 0, 0, 2, 0), Some(SetupError::BadCount));
-    assert_eq!(rt; setup(&mut table, 0, 0, 12, 1012), None);
 }
 
 #[test]
@@ -327,21 +253,13 @@ fn data_goes_to_the_device(rt: HostRuntime) {
     assert!(rt; issue(&mut table, 9, 2, write));
     assert!(rt; !issue(&mut table, 9, 3, write));
     assert_eq!(rt; work(&table, 9), Some(write));
-    assert_eq!(rt; work(&table, 8), None);
     assert_eq!(rt; send(&mut table, 4), Some(9));
     assert_eq!(rt; answer(&mut table, 2), Answered::Queued(9));
-    assert!(rt; !activate(&mut table, 2));
     assert_eq!(rt; setup_out(&mut table, 2, 9, 0, 12288), None);
-    assert_eq!(rt; receiving(&table, 2), None);
-    assert_eq!(rt;
-        arrival_error(&mut table, 2, 4096),
-        Some(ArriveError::Stray)
-    );
     assert_eq!(rt; take_payload(&mut table, 2), None);
     assert!(rt; activate(&mut table, 2));
     assert!(rt; !activate(&mut table, 2));
     assert_eq!(rt; take_payload(&mut table, 2), Some((9, 0, 8192)));
-    assert_eq!(rt; take_payload(&mut table, 2), None);
     assert!(rt; activate(&mut table, 2));
     assert_eq!(rt; take_payload(&mut table, 2), Some((9, 8192, 4096)));
     assert!(rt; !activate(&mut table, 2));
@@ -349,39 +267,15 @@ fn data_goes_to_the_device(rt: HostRuntime) {
 }
 
 #[test]
-fn answers_are_for_the_slot_that_waits(rt: HostRuntime) {
+fn pio_data_comes_in_blocks(rt: HostRuntime) {
     let mut table = SlotTable::new();
     let pio = Work {
         kind: Kind::PioIn,
         len: 1024,
     };
-    let no_data = Work {
-        kind: Kind::NoData,
-        len: 0,
-    };
-    assert_eq!(rt; answer(&mut table, 6), Answered::Nobody);
     assert!(rt; issue(&mut table, 3, 6, pio));
-    assert!(rt; issue(&mut table, 4, 6, no_data));
     assert_eq!(rt; answer(&mut table, 6), Answered::Nobody);
-    assert_eq!(rt;
-        setup_pio(&mut table, 6, 512, true),
-        Some(SetupError::NotOutstanding)
-    );
     assert_eq!(rt; send(&mut table, 0x40), Some(3));
-    assert_eq!(rt; send(&mut table, 0x40), None);
-    assert_eq!(rt; ci(&table), 0x18);
-    assert_eq!(rt;
-        setup_pio(&mut table, 6, 512, false),
-        Some(SetupError::WrongWay)
-    );
-    assert_eq!(rt;
-        setup_pio(&mut table, 6, 2048, true),
-        Some(SetupError::Overflow)
-    );
-    assert_eq!(rt;
-        setup_pio(&mut table, 6, 6, true),
-        Some(SetupError::BadCount)
-    );
     assert_eq!(rt; setup_pio(&mut table, 6, 512, true), None);
     assert_eq!(rt; arrive(&mut table, 6, 128), Some((3, 0)));
     assert_eq!(rt; answer(&mut table, 6), Answered::Short(3));
@@ -389,17 +283,6 @@ fn answers_are_for_the_slot_that_waits(rt: HostRuntime) {
     assert_eq!(rt; setup_pio(&mut table, 6, 512, true), None);
     assert_eq!(rt; arrive(&mut table, 6, 128), Some((3, 512)));
     assert_eq!(rt; pio_done(&mut table, 6), Some(3));
-    assert_eq!(rt; pio_done(&mut table, 6), None);
-    assert_eq!(rt; arrival_error(&mut table, 6, 1), Some(ArriveError::Stray));
-    assert_eq!(rt; send(&mut table, 0x40), Some(4));
-    assert_eq!(rt; answer(&mut table, 6), Answered::Done(4));
-    assert_eq!(rt; owner(&table, 4), None);
-    assert!(rt; issue(&mut table, 8, 6, pio));
-    assert_eq!(rt; send(&mut table, 0x40), Some(8));
-    assert_eq!(rt; setup_pio(&mut table, 6, 1024, true), None);
-    assert_eq!(rt; arrive(&mut table, 6, 256), Some((8, 0)));
-    assert_eq!(rt; answer(&mut table, 6), Answered::Done(8));
-    assert_eq!(rt; ci(&table), 0);
 }
 
 #[test]
@@ -409,37 +292,42 @@ fn the_lowest_command_that_may_go_goes(rt: HostRuntime) {
         kind: Kind::Control,
         len: 0,
     };
-    assert_eq!(rt; next(&table, 0xFFFF, 0), None);
     assert!(rt; issue_read(&mut table, 2, 1, 1));
     assert!(rt; issue_read(&mut table, 5, 1, 1));
     assert!(rt; issue_read(&mut table, 7, 0, 1));
     assert!(rt; issue(&mut table, 9, 15, control));
-    assert_eq!(rt; next(&table, 0xFFFF, 0), Some(2));
     assert_eq!(rt; next(&table, 0xFFFF, 2), Some(7));
-    assert_eq!(rt; next(&table, 1, 0), Some(7));
     assert_eq!(rt; next(&table, 0, 0), Some(9));
-    assert_eq!(rt; next(&table, 0xFFFF, 0x8003), None);
     assert_eq!(rt; send(&mut table, 0xFFFF), Some(2));
     assert_eq!(rt; next(&table, 0xFFFF, 0), Some(7));
-    assert_eq!(rt; answer(&mut table, 1), Answered::Queued(2));
-    assert_eq!(rt; next(&table, 0xFFFF, 0), Some(5));
-    assert_eq!(rt; send(&mut table, 0), Some(9));
-    assert_eq!(rt; owner(&table, 9), None);
+    assert_eq!(rt; ci(&table), 0x2A4);
+    assert_eq!(rt; flush(&mut table, 1), 0x24);
+    assert_eq!(rt; flush_all(&mut table), 0x280);
+    assert_eq!(rt; ci(&table), 0);
 }
 
 #[test]
-fn a_flush_is_of_one_device(rt: HostRuntime) {
-    let mut table = SlotTable::new();
-    assert!(rt; open(&mut table, 31, 3, 1));
-    assert!(rt; open(&mut table, 0, 2, 1));
-    assert!(rt; issue_read(&mut table, 4, 3, 1));
-    assert_eq!(rt; setup(&mut table, 3, 31, 0, 512), None);
-    assert_eq!(rt; setup(&mut table, 2, 0, 0, 512), None);
-    assert_eq!(rt; flush(&mut table, 3), 0x8000_0010);
-    assert_eq!(rt; flush(&mut table, 3), 0);
-    assert_eq!(rt; receiving(&table, 3), None);
-    assert_eq!(rt; arrive(&mut table, 2, 64), Some((0, 0)));
-    assert_eq!(rt; flush_all(&mut table), 1);
-    assert_eq!(rt; receiving(&table, 2), None);
-    assert_eq!(rt; queued(&table), 0);
+fn errors_have_texts(rt: HostRuntime) -> Result<(), Fail> {
+    for (error, want) in [
+        (SetupError::NotOutstanding, "no such command is outstanding"),
+        (SetupError::WrongWay, "wrong direction"),
+        (SetupError::Overflow, "more bytes than the command has"),
+        (SetupError::Twice, "a byte is set up twice"),
+        (SetupError::Fragments, "too many stretches"),
+        (SetupError::BadCount, "bad offset or count"),
+    ] {
+        let text = format!(in rt.alloc(); "{error}")?;
+        assert_eq!(rt; text.as_str(), want);
+    }
+    let text = format!(in rt.alloc(); "{}, {}", ArriveError::Stray, ArriveError::Overflow)?;
+    assert_eq!(rt;
+        text.as_str(),
+        "no transfer to the host, more data than was set up"
+    );
+    let text = format!(in rt.alloc(); "{Busy}, {Stray}")?;
+    assert_eq!(rt;
+        text.as_str(),
+        "slot is in use, no transfer to be activated"
+    );
+    Ok(())
 }
