@@ -1,5 +1,5 @@
 -- What is true of every table stays true in the calls.
-use Rattle.std.proofs.Common.{◌≡◌, ℕ, ◌/◌, ◌%◌, ◌<◌, ◌≤◌, Bool, true, false, not, ◌&&◌, ◌||◌, List, get_or, set, length, refl, sym, ◌∙◌, ap, subst, arith, inl, inr, Option, Some, None, get_or-set_same}
+use Rattle.std.proofs.Common.{◌≡◌, ℕ, ◌/◌, ◌<◌, Bool, true, false, not, ◌&&◌, ◌||◌, List, get_or, length, refl, sym, ◌∙◌, ap, subst, arith, inl, inr, Option, Some, None}
 use Rattle.std.specs.Prelude.{MatchOption, IfSome, is_none}
 use Rattle.std.specs.Option.{is_some, option_map}
 use Rattle.std.proofs.lemmas.Bool.{cases_lt, and_parts, or_left, or_right, or_cases, cond-true, cond-false, not-true, false≢true}
@@ -10,15 +10,14 @@ use Rattle.slots.specs.declared.slot.Issued.{Issued}
 use Rattle.slots.specs.declared.work.Work.{Work}
 use Rattle.slots.specs.Work.{IsWork}
 use Rattle.slots.specs.Issued.{issued_of}
-use Rattle.slots.specs.Slots.{Issue, Slots, DeviceSlots, issue_at, context_of, owned_by, own_issue, slots_of, with_own_issue, freed, has_bit, holds, is_control, is_pio, is_queued_issue, is_sent_pio, is_waiting, match_some, new_issue, sent_pio, waiting}
+use Rattle.slots.specs.Slots.{Issue, Slots, DeviceSlots, issue_at, owned_by, own_issue, slots_of, with_own_issue, freed, has_bit, holds, is_control, is_pio, is_queued_issue, is_sent_pio, is_waiting, match_some, new_issue, sent_pio, waiting}
 use Rattle.slots.specs.Setup.{after_setup_pio, came, is_outstanding, new_context, pio_fault, pio_issue, with_own_context}
 use Rattle.slots.specs.declared.answer.Answered.{Answered}
 use Rattle.slots.specs.declared.answer.SetupError.{SetupError}
-use Rattle.slots.specs.Data.{gone_over, moved_on, moved_over}
 use Rattle.slots.specs.Table.{IsIssue, IsContextOf, IsTable, waits_for}
 use Rattle.slots.proofs.StretchLemmas.{few_first}
 use Rattle.slots.proofs.MaskLemmas.{none_below}
-use Rattle.slots.proofs.TableLemmas.{Keeps, own_changed, own_with_context, context_some, table_with_context, with_context, Owns, own_at, owned_own, owned_same, owns_where, table_changed, table_with_issue, with_issue}
+use Rattle.slots.proofs.TableLemmas.{Keeps, context_some, Owns, own_at, owned_own, owned_same, owns_where, table_changed, table_with_issue, with_issue}
 
 -- what is issued in a slot, where a test holds of it as the device's
 pub record Found (test : Issue → Bool) (dev s : ℕ) (t : Slots) : Type 0 where

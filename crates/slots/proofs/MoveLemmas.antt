@@ -1,20 +1,17 @@
 -- The next bytes of a device's context go over.
-use Rattle.std.proofs.Common.{◌≡◌, ℕ, ◌+◌, ◌*◌, ◌%◌, ◌<◌, ◌≤◌, Bool, true, false, ◌&&◌, ◌||◌, List, get_or, set, length, refl, sym, ◌∙◌, ap, subst, arith, inl, inr, Option, Some, None, get_or-set_same, get_or-set_other}
+use Rattle.std.proofs.Common.{◌≡◌, ℕ, ◌+◌, ◌*◌, ◌%◌, ◌<◌, ◌≤◌, Bool, true, List, get_or, set, length, refl, sym, ◌∙◌, ap, subst, arith, inl, inr, Option, Some, None, get_or-set_same, get_or-set_other}
 use Rattle.std.specs.Prelude.{MatchOption}
 use Rattle.std.specs.Option.{option_map}
 use Rattle.std.proofs.lemmas.Bool.{cases_eq, cases_lt, false≢true}
 use Rattle.std.proofs.lemmas.List.{get_or_default, set-set}
 use Rattle.slots.specs.declared.table.Context.{Context}
-use Rattle.slots.specs.declared.work.Kind.{Kind}
-use Rattle.slots.specs.declared.work.Kind.TheVariants.{QueuedRead, QueuedWrite, PioIn, NoData, Control}
-use Rattle.slots.specs.Work.{is_queued, is_read}
 use Rattle.slots.specs.Bytes.{stretches_of, with_bytes}
-use Rattle.slots.specs.Data.{IsWriteOf, gone_over, moved_on, moved_over}
-use Rattle.slots.specs.Slots.{Issue, Slots, DeviceSlots, issue_at, context_of, owned_by, own_issue, slots_of, holds, is_pio, is_waiting}
+use Rattle.slots.specs.Data.{gone_over, moved_on, moved_over}
+use Rattle.slots.specs.Slots.{Issue, Slots, DeviceSlots, issue_at, context_of, owned_by, slots_of, holds, is_waiting}
 use Rattle.slots.specs.Table.{IsIssue, IsContextOf, IsTable, waits_for}
 use Rattle.slots.proofs.ByteLemmas.{length_with_bytes}
 use Rattle.slots.proofs.StretchLemmas.{few_then, fresh_then, room_then, with_none}
-use Rattle.slots.proofs.TableLemmas.{Owns, own_at, owned_same, context_in, context_some, own_changed, own_with_context, owned_own, owns_where, table_with_context, table_with_issue, with_context, with_issue}
+use Rattle.slots.proofs.TableLemmas.{Owns, context_in, context_some, own_changed, own_with_context, owned_own, owns_where, table_with_context, table_with_issue, with_context, with_issue}
 
 -- what is issued in the slot of a context
 pub record InContext (dev : ℕ) (c : Context) (t : Slots) : Type 0 where

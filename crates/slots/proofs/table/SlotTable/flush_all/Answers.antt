@@ -1,5 +1,5 @@
-use Rattle.std.proofs.Common.{◌≡◌, None, sym, ap, ◌∙◌, subst}
-use Rattle.slots.specs.Slots.{Slots, issue_at, no_slots}
+use Rattle.std.proofs.Common.{◌≡◌, None, sym, ◌∙◌, subst}
+use Rattle.slots.specs.Slots.{Slots, issue_at}
 use Rattle.slots.proofs.NewLemmas.{get-free}
 use Rattle.slots.proofs.table.SlotTable.flush_all.Goals as goal
 
