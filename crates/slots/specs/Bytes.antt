@@ -1,5 +1,5 @@
--- Which bytes of a transfer went over, by the Data FISes and their DMA Setup offsets (Serial ATA 3.x, 10.5). A list of flags stands for a set of bytes, whole dwords each: flag k for the bytes 4 k to 4 k + 3.
--- All that follows is said of the bytes.
+-- Which bytes of a transfer went over, by the Data FISes and the offsets of their DMA Setups (Serial ATA 3.x, 10.5). A list of
+-- flags stands for a set of bytes, whole dwords each: flag k for the bytes 4 k to 4 k + 3. All that follows is said of the bytes.
 use Rattle.std.specs.Prelude.{ℕ, ◌+◌, ◌-◌, ◌*◌, ◌/◌, Bool, false, not, ◌&&◌, ◌||◌, ◌==◌, nat_lt, nat_le, List, map, length, replicate, slice_index_or, count_by}
 use Rattle.std.specs.List.{range_with_len, list_any, list_all}
 

@@ -1,6 +1,6 @@
 //! The table of all slots.
 
-ghost use Rattle.std.specs.Prelude.{◌≡◌, ℕ, [], ◌+◌, ◌%◌, ◌<◌, ◌≤◌, ◌↔◌, Some, None, IsSome, IsErr, IfSome, OnOk, OnErr, MatchOption, false, true, is_ok, is_none};
+ghost use Rattle.std.specs.Prelude.{◌≡◌, ℕ, [], ◌+◌, ◌%◌, ◌<◌, ◌≤◌, ◌↔◌, Some, None, IsSome, IsErr, IfNone, IfSome, OnOk, OnErr, MatchOption, false, true, is_ok, is_none};
 ghost use Rattle.std.specs.Option.{option_map};
 ghost use Rattle.std.specs.Result.{result_err};
 ghost use Rattle.slots.specs.Commands.{IsSlotAnswer, MayBeSent, StaysWithout, after_answer, after_complete, after_issue, after_pio_done, after_sent, answer_of, completed, is_any, is_slot, is_unanswered, may_go as may_go_of, next_slot, own_slots, slots_where, table_after_issue, whole_pio, with_answered, with_sent};
@@ -383,7 +383,7 @@ impl SlotTable {
         ensures own { slots_of dev self.new ≡ after_pio_done (slots_of dev self.old) }
         ensures others { LeavesOthers dev self.old self.new }
         ensures frees { KeepsFree self.old self.new }
-        ensures stays { MatchOption result (self.new ≡ self.old) (λ slot. Unit {0}) }
+        ensures stays { IfNone result (self.new ≡ self.old) }
     {
         let slot = pio_slot(&self.slots, dev)?;
         if !self.slots[slot as usize].is_whole() {
