@@ -1,13 +1,13 @@
 -- Facts on the parts of a run of a transfer's bytes.
-use Rattle.std.proofs.Common.{◌≡◌, ℕ, zero, suc, ◌+◌, ◌-◌, ◌*◌, ◌<◌, ◌≤◌, min, nat_lt, List, [], ◌∷◌, Some, length, drop, get_or, slice_get, refl, sym, ap, ◌∙◌, arith, inl, inr, length-append, length-drop}
-use Rattle.std.specs.List.{concat}
+use Rattle.std.proofs.Common.{◌≡◌, ℕ, zero, suc, ◌+◌, ◌-◌, ◌*◌, ◌<◌, ◌≤◌, min, max, Bool, true, false, nat_lt, List, [], ◌∷◌, length, drop, map, get_or, refl, sym, ap, ◌∙◌, arith, inl, inr, length-append, length-drop}
+use Rattle.std.specs.List.{concat, filter, range_with_len}
 use Rattle.std.proofs.lemmas.List.{length-take-le, get_or-take, get_or-drop, get_or_append_left, get_or-append_right}
-use Rattle.std.proofs.lemmas.Bool.{cond-true, cond-false, lt-ltb, le-ltb, cases_lt}
+use Rattle.std.proofs.lemmas.Bool.{cond-true, cond-false, lt-ltb, le-ltb, ltb-true, cases_lt, cases_Bool}
 use Rattle.host_memory.specs.declared.table.Prd.{Prd}
 use Rattle.host_memory.specs.Memory.{client_start}
 use Rattle.host_memory.specs.Place.{total_of, place, AreInside, LiesInClient}
 use Rattle.host_memory.specs.Reading.{prd_at, prds_at}
-use Rattle.host_memory.specs.Parts.{AreParts, HoldParts, IsStretch, parts_of, stretch_of}
+use Rattle.host_memory.specs.Parts.{AreParts, HoldParts, begin_of, touches, part_in, one_for_each, parts_of, stretch_of}
 use Rattle.host_memory.proofs.PlaceLemmas.{place_here, place_later}
 use Rattle.host_memory.proofs.PrdLemmas.{prds_next}
 
@@ -34,23 +34,22 @@ parts_later client p ps offset (suc n) later = cond-false (nat_lt offset p.bytes
 
 -- ---- what they are
 
-no_parts : (ps : List Prd) (offset : ℕ) (client : List ℕ) → AreParts ps offset 0 client []
-no_parts ps offset client = record { as_long = refl; at_places = λ k h. absurd (omega arith); stretches = λ i part e. cc; few = omega arith }
+-- joined they are the run's bytes
+record AreIn (prds : List Prd) (offset len : ℕ) (client : List ℕ) (parts : List (List ℕ)) : Type 0 where
+  as_long : length (concat parts) ≡ len
+  at_places : (k : ℕ) → k < len → get_or (concat parts) k 0 ≡ get_or client (place prds (offset + k) - client_start) 0
 
--- a stretch of an entry is one of the table with an entry before it
-stretch_later : (client : List ℕ) (p : Prd) (ps : List Prd) (part : List ℕ) → IsStretch client ps part → IsStretch client (p ∷ ps) part
-stretch_later client p ps part s = record { index = suc s.index; prd = s.prd; from = s.from; entry = s.entry; bytes = s.bytes; some = s.some; inside = s.inside }
+none_in : (ps : List Prd) (offset : ℕ) (client : List ℕ) → AreIn ps offset 0 client []
+none_in ps offset client = record { as_long = refl; at_places = λ k h. absurd (omega arith) }
 
 -- a run that begins after the first entry
-are_later : (client : List ℕ) (p : Prd) (ps : List Prd) (offset len : ℕ) (parts : List (List ℕ)) → p.bytes ≤ offset → AreParts ps (offset - p.bytes) len client parts → AreParts (p ∷ ps) offset len client parts
+are_later : (client : List ℕ) (p : Prd) (ps : List Prd) (offset len : ℕ) (parts : List (List ℕ)) → p.bytes ≤ offset → AreIn ps (offset - p.bytes) len client parts → AreIn (p ∷ ps) offset len client parts
 are_later client p ps offset len parts later are = record {
   as_long = are.as_long;
   at_places = λ k h.
       let is : place (p ∷ ps) (offset + k) ≡ place ps (offset - p.bytes + k) =
       (let same : offset + k - p.bytes ≡ offset - p.bytes + k = omega arith in place_later p ps (offset + k) (omega arith) ∙ ap (place ps) same) in
       are.at_places k h ∙ ap (λ n. get_or client (n - client_start) 0) (sym is);
-  stretches = λ i part e. stretch_later client p ps part (are.stretches i part e);
-  few = omega (arith, are.few);
 }
 
 -- how long a stretch is
@@ -63,19 +62,9 @@ get_or-stretch_of : (client : List ℕ) (p : Prd) (from count k : ℕ) → k < c
 get_or-stretch_of client p from count k below =
     get_or-take count (drop (p.address - client_start + from) client) k 0 below ∙ get_or-drop (p.address - client_start + from) client k 0
 
--- the first part is a stretch of the first entry, and each later one of a later entry
-first_or_later : (client : List ℕ) (p : Prd) (ps : List Prd) (offset count : ℕ) (parts : List (List ℕ)) → length (stretch_of client p offset count) ≡ count → 0 < count → offset + count ≤ p.bytes
-    → ((i : ℕ) (q : List ℕ) → slice_get parts i ≡ Some q → IsStretch client ps q)
-    → (i : ℕ) (q : List ℕ) → slice_get (stretch_of client p offset count ∷ parts) i ≡ Some q → IsStretch client (p ∷ ps) q
-first_or_later client p ps offset count parts long some fits later zero q e =
-    let same : stretch_of client p offset count ≡ q = cc in
-    let size : length q ≡ count = sym (ap length same) ∙ long in
-    record { index = 0; prd = p; from = offset; entry = refl; bytes = sym same ∙ ap (stretch_of client p offset) (sym size); some = omega (arith, size); inside = omega (arith, size) }
-first_or_later client p ps offset count parts long some fits later (suc i) q e = stretch_later client p ps q (later i q e)
-
 -- the first part, and those of the entries after the first
 are_here : (client : List ℕ) (p : Prd) (ps : List Prd) (offset len count : ℕ) (parts : List (List ℕ)) → LiesInClient (length client) p.address p.bytes → offset < p.bytes → 0 < len
-    → count ≡ min len (p.bytes - offset) → AreParts ps 0 (len - (p.bytes - offset)) client parts → AreParts (p ∷ ps) offset len client (stretch_of client p offset count ∷ parts)
+    → count ≡ min len (p.bytes - offset) → AreIn ps 0 (len - (p.bytes - offset)) client parts → AreIn (p ∷ ps) offset len client (stretch_of client p offset count ∷ parts)
 are_here client p ps offset len count parts lies here some is are =
     let part = stretch_of client p offset count in
     let long : length part ≡ count = length-stretch_of client p offset count lies (omega arith) in
@@ -93,23 +82,114 @@ are_here client p ps offset len count parts lies here some is are =
                 (let same : offset + k - p.bytes ≡ 0 + (k - count) = omega arith in sym (place_later p ps (offset + k) (omega arith) ∙ ap (place ps) same)) in
                 get_or-append_right part (concat parts) count k 0 long high ∙ are.at_places (k - count) (omega arith) ∙ ap (λ n. get_or client (n - client_start) 0) there
           ];
-      stretches = λ i q e. first_or_later client p ps offset count parts long (omega arith) (omega arith) are.stretches i q e;
-      few = omega (arith, are.few);
     }
 
-pub parts_are : (client : List ℕ) (ps : List Prd) (offset len : ℕ) → AreInside (length client) ps → offset + len ≤ total_of ps → AreParts ps offset len client (parts_of client ps offset len)
-parts_are client [] offset len inside fits =
+parts_in : (client : List ℕ) (ps : List Prd) (offset len : ℕ) → AreInside (length client) ps → offset + len ≤ total_of ps → AreIn ps offset len client (parts_of client ps offset len)
+parts_in client [] offset len inside fits =
     let none : len ≡ 0 = omega arith in
-    rw (none, parts_none client [] offset) (no_parts [] offset client)
-parts_are client (p ∷ ps) offset zero inside fits = rw (parts_none client (p ∷ ps) offset) (no_parts (p ∷ ps) offset client)
-parts_are client (p ∷ ps) offset (suc n) inside fits =
+    rw (none, parts_none client [] offset) (none_in [] offset client)
+parts_in client (p ∷ ps) offset zero inside fits = rw (parts_none client (p ∷ ps) offset) (none_in (p ∷ ps) offset client)
+parts_in client (p ∷ ps) offset (suc n) inside fits =
     elim (cases_lt offset p.bytes) [
       | inl here ↦ rw (parts_here client p ps offset (suc n) (omega arith) here)
           (are_here client p ps offset (suc n) (min (suc n) (p.bytes - offset)) (parts_of client ps 0 (suc n - (p.bytes - offset))) inside.0 here (omega arith) refl
-          (parts_are client ps 0 (suc n - (p.bytes - offset)) inside.1 (omega arith)))
+          (parts_in client ps 0 (suc n - (p.bytes - offset)) inside.1 (omega arith)))
       | inr later ↦ rw (parts_later client p ps offset (suc n) later)
-          (are_later client p ps offset (suc n) (parts_of client ps (offset - p.bytes) (suc n)) later (parts_are client ps (offset - p.bytes) (suc n) inside.1 (omega arith)))
+          (are_later client p ps offset (suc n) (parts_of client ps (offset - p.bytes) (suc n)) later (parts_in client ps (offset - p.bytes) (suc n) inside.1 (omega arith)))
     ]
+
+-- ---- one for each entry
+
+-- what the tests and the values give at two runs of numbers
+shifted : (test other : ℕ → Bool) (value at : ℕ → List ℕ) (a b n : ℕ) → ((k : ℕ) → test (a + k) ≡ other (b + k)) → ((k : ℕ) → other (b + k) ≡ true → value (a + k) ≡ at (b + k))
+    → map value (filter test (range_with_len a n)) ≡ map at (filter other (range_with_len b n))
+shifted test other value at a b zero tests values = refl
+shifted test other value at a b (suc n) tests values =
+    let za : a + 0 ≡ a = omega arith in
+    let zb : b + 0 ≡ b = omega arith in
+    let here : test a ≡ other b = ap test (sym za) ∙ tests 0 ∙ ap other zb in
+    let later = shifted test other value at (a + 1) (b + 1) n
+    (λ k. let ea : a + 1 + k ≡ a + (k + 1) = omega arith in let eb : b + 1 + k ≡ b + (k + 1) = omega arith in ap test ea ∙ tests (k + 1) ∙ sym (ap other eb))
+    (λ k h. let ea : a + 1 + k ≡ a + (k + 1) = omega arith in let eb : b + 1 + k ≡ b + (k + 1) = omega arith in ap value ea ∙ values (k + 1) (sym (ap other eb) ∙ h) ∙ sym (ap at eb)) in
+    elim (cases_Bool (other b)) [
+      | inl on ↦
+          let same : value a ≡ at b = ap value (sym za) ∙ values 0 (ap other zb ∙ on) ∙ ap at zb in
+          rw (here, on, same, later) refl
+      | inr off ↦ rw (here, off) later
+    ]
+
+-- the bytes of an entry in a run, seen from the end of the first entry on
+module _ (b offset len : ℕ) where
+  same_test : (from to : ℕ) → nat_lt (max offset (b + from)) (min (offset + len) (b + to)) ≡ nat_lt (max (offset - b) from) (min (offset - b + (len - (b - offset))) to)
+  same_test from to =
+      elim (cases_lt (max (offset - b) from) (min (offset - b + (len - (b - offset))) to)) [
+        | inl lt ↦ lt-ltb (max offset (b + from)) (min (offset + len) (b + to)) (omega arith) ∙ sym (lt-ltb (max (offset - b) from) (min (offset - b + (len - (b - offset))) to) lt)
+        | inr ge ↦ le-ltb (max offset (b + from)) (min (offset + len) (b + to)) (omega arith) ∙ sym (le-ltb (max (offset - b) from) (min (offset - b + (len - (b - offset))) to) ge)
+      ]
+
+-- the parts in the entries after the first
+parts_after : (client : List ℕ) (p : Prd) (ps : List Prd) (offset len : ℕ)
+    → map (part_in client (p ∷ ps) offset len) (filter (touches (p ∷ ps) offset len) (range_with_len 1 (length ps))) ≡ one_for_each client ps (offset - p.bytes) (len - (p.bytes - offset))
+parts_after client p ps offset len =
+    let o = offset - p.bytes in
+    let l = len - (p.bytes - offset) in
+    shifted (touches (p ∷ ps) offset len) (touches ps o l) (part_in client (p ∷ ps) offset len) (part_in client ps o l) 1 0 (length ps)
+    (λ k. let s : 1 + k ≡ suc k = omega arith in let z : 0 + k ≡ k = omega arith in rw (s, z) (same_test p.bytes offset len (begin_of ps k) (begin_of ps (suc k))))
+    (λ k on. let s : 1 + k ≡ suc k = omega arith in let z : 0 + k ≡ k = omega arith in rw (s, z) (same_part k (rw z at on)))
+  where
+    same_part : (k : ℕ) → touches ps (offset - p.bytes) (len - (p.bytes - offset)) k ≡ true → part_in client (p ∷ ps) offset len (suc k) ≡ part_in client ps (offset - p.bytes) (len - (p.bytes - offset)) k
+    same_part k on =
+        let o = offset - p.bytes in
+        let l = len - (p.bytes - offset) in
+        let from = begin_of ps k in
+        let to = begin_of ps (suc k) in
+        let some : max o from < min (o + l) to = ltb-true (max o from) (min (o + l) to) on in
+        let many : min (offset + len) (p.bytes + to) - max offset (p.bytes + from) ≡ min (o + l) to - max o from = omega arith in
+        let back : max offset (p.bytes + from) - p.bytes ≡ max o from = omega arith in
+        let there : place (p ∷ ps) (max offset (p.bytes + from)) ≡ place ps (max o from) = place_later p ps (max offset (p.bytes + from)) (omega arith) ∙ ap (place ps) back in
+        rw (many, there) refl
+
+-- the part in the first entry
+first_part : (client : List ℕ) (p : Prd) (ps : List Prd) (offset len : ℕ) → client_start ≤ p.address → offset < p.bytes
+    → part_in client (p ∷ ps) offset len 0 ≡ stretch_of client p offset (min len (p.bytes - offset))
+first_part client p ps offset len inside here =
+    let from : max offset 0 ≡ offset = omega arith in
+    let many : min (offset + len) (p.bytes + 0) - offset ≡ min len (p.bytes - offset) = omega arith in
+    let there : place (p ∷ ps) offset - client_start ≡ p.address - client_start + offset = omega (arith, place_here p ps offset here) in
+    rw (from, many, there) refl
+
+only : (client : List ℕ) (ps : List Prd) (offset len : ℕ) → AreInside (length client) ps → parts_of client ps offset len ≡ one_for_each client ps offset len
+unfolding parts_of
+only client [] offset len inside = refl
+only client (p ∷ ps) offset len inside =
+    let later = only client ps (offset - p.bytes) (len - (p.bytes - offset)) inside.1 ∙ sym (parts_after client p ps offset len) in
+    elim (cases_lt (max offset 0) (min (offset + len) (p.bytes + 0))) [
+      | inl some ↦
+          let on : nat_lt (max offset 0) (min (offset + len) (p.bytes + 0)) ≡ true = lt-ltb (max offset 0) (min (offset + len) (p.bytes + 0)) some in
+          let first = first_part client p ps offset len inside.0.0 (omega arith) in
+          let none : offset - p.bytes ≡ 0 = omega arith in
+          parts_here client p ps offset len (omega arith) (omega arith) ∙ rw (on, first) (ap (λ (xs : List (List ℕ)). stretch_of client p offset (min len (p.bytes - offset)) ∷ xs) (rw none at later))
+      | inr none ↦
+          let off : nat_lt (max offset 0) (min (offset + len) (p.bytes + 0)) ≡ false = le-ltb (max offset 0) (min (offset + len) (p.bytes + 0)) none in
+          skipped none ∙ rw off later
+    ]
+  where
+    skipped : min (offset + len) (p.bytes + 0) ≤ max offset 0 → parts_of client (p ∷ ps) offset len ≡ parts_of client ps (offset - p.bytes) (len - (p.bytes - offset))
+    skipped none =
+        elim (cases_lt offset p.bytes) [
+          | inl here ↦
+              let zero_len : len ≡ 0 = omega arith in
+              let zero_rest : len - (p.bytes - offset) ≡ 0 = omega arith in
+              rw (zero_rest, zero_len) (parts_none client (p ∷ ps) offset ∙ sym (parts_none client ps (offset - p.bytes)))
+          | inr later ↦
+              let all : len - (p.bytes - offset) ≡ len = omega arith in
+              rw all (parts_later client p ps offset len later)
+        ]
+
+pub parts_are : (client : List ℕ) (ps : List Prd) (offset len : ℕ) → AreInside (length client) ps → offset + len ≤ total_of ps → AreParts ps offset len client (parts_of client ps offset len)
+parts_are client ps offset len inside fits =
+    let are = parts_in client ps offset len inside fits in
+    record { as_long = are.as_long; at_places = are.at_places; one_each = only client ps offset len inside }
 
 -- ---- the state of the iterator
 

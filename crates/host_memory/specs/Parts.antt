@@ -1,7 +1,7 @@
 -- A run of a transfer's bytes as the stretches of memory that hold it, one for each entry of the table that it touches
 -- (AHCI 1.3.1, section 4.2.3.3, Physical Region Descriptor Table).
-use Rattle.std.specs.Prelude.{◌≡◌, ℕ, ◌+◌, ◌-◌, ◌*◌, ◌<◌, ◌≤◌, min, nat_lt, if◌then◌else◌, List, [], ◌∷◌, slice_get, slice_index, length, take, drop, Some, zero, suc}
-use Rattle.std.specs.List.{concat}
+use Rattle.std.specs.Prelude.{◌≡◌, ℕ, ◌+◌, ◌-◌, ◌*◌, ◌<◌, ◌≤◌, min, max, Bool, nat_lt, if◌then◌else◌, List, [], ◌∷◌, slice_index, length, take, drop, map, zero, suc}
+use Rattle.std.specs.List.{concat, filter, range_with_len}
 use Rattle.host_memory.specs.declared.table.Prd.{Prd}
 use Rattle.host_memory.specs.Memory.{client_start}
 use Rattle.host_memory.specs.Place.{total_of, place, AreInside}
@@ -11,23 +11,35 @@ use Rattle.host_memory.specs.Reading.{prd_at, prds_at}
 abbrev pub stretch_of : List ℕ → Prd → ℕ → ℕ → List ℕ
 stretch_of client prd from count = take count (drop (prd.address - client_start + from) client)
 
--- a part is a stretch of one entry of the table, of at least one byte
-pub record IsStretch (client : List ℕ) (prds : List Prd) (part : List ℕ) : Type 0 where
-  pub index : ℕ
-  pub prd : Prd
-  pub from : ℕ
-  pub entry : slice_get prds index ≡ Some prd
-  pub bytes : part ≡ stretch_of client prd from (length part)
-  pub some : 0 < length part
-  pub inside : from + length part ≤ prd.bytes
+-- where in a transfer the bytes of entry k begin: after those of the entries before it
+abbrev pub begin_of : List Prd → ℕ → ℕ
+begin_of prds k = total_of (take k prds)
+
+-- the bytes of a run of len bytes from byte offset on that entry k has: from the later begin to the earlier end
+abbrev pub first_in : List Prd → ℕ → ℕ → ℕ
+first_in prds offset k = max offset (begin_of prds k)
+
+abbrev pub end_in : List Prd → ℕ → ℕ → ℕ → ℕ
+end_in prds offset len k = min (offset + len) (begin_of prds (suc k))
+
+-- the run touches entry k: it has a byte of it
+abbrev pub touches : List Prd → ℕ → ℕ → ℕ → Bool
+touches prds offset len k = nat_lt (first_in prds offset k) (end_in prds offset len k)
+
+-- these bytes, as they stand from the place of the first of them on
+abbrev pub part_in : List ℕ → List Prd → ℕ → ℕ → ℕ → List ℕ
+part_in client prds offset len k = take (end_in prds offset len k - first_in prds offset k) (drop (place prds (first_in prds offset k) - client_start) client)
+
+-- one part for each entry that the run touches, in the order of the table
+abbrev pub one_for_each : List ℕ → List Prd → ℕ → ℕ → List (List ℕ)
+one_for_each client prds offset len = map (part_in client prds offset len) (filter (touches prds offset len) (range_with_len 0 (length prds)))
 
 -- The parts are the bytes offset to offset + len of a transfer: joined they are so many, each is the byte at its place,
--- each part is a stretch of one entry, and no entry has two.
+-- and there is one part for each entry that has some of them, and no other.
 pub record AreParts (prds : List Prd) (offset len : ℕ) (client : List ℕ) (parts : List (List ℕ)) : Type 0 where
   pub as_long : length (concat parts) ≡ len
   pub at_places : (k : ℕ) → k < len → slice_index (concat parts) k ≡ slice_index client (place prds (offset + k) - client_start)
-  pub stretches : (i : ℕ) (part : List ℕ) → slice_get parts i ≡ Some part → IsStretch client prds part
-  pub few : length parts ≤ length prds
+  pub one_each : parts ≡ one_for_each client prds offset len
 
 -- The parts that are left, of a run of len bytes that begins at byte offset of these entries: the rest of the entry in
 -- which it begins, as far as it goes, then those of the entries after it.
