@@ -1,3 +1,4 @@
+pub mod AgreeLemmas
 pub mod MemoryLemmas
 pub mod OverlapLemmas
 pub mod PartsLemmas

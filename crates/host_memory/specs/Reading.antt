@@ -1,12 +1,12 @@
 -- The bytes of a table: AHCI 1.3.1, section 4.2.3.3, Physical Region Descriptor Table.
-use Rattle.std.specs.Prelude.{ℕ, ◌+◌, ◌*◌, ◌%◌, ◌^◌, ◌≤◌, min, max, Bool, false, not, ◌||◌, ◌==◌, nat_lt, if◌then◌else◌, List, [], ◌∷◌, length, drop, Option, Some, None, zero, suc}
+use Rattle.std.specs.Prelude.{◌≡◌, ℕ, ◌+◌, ◌*◌, ◌%◌, ◌^◌, ◌<◌, ◌≤◌, ◌⊎◌, ◌↔◌, min, max, Bool, false, not, ◌||◌, ◌==◌, nat_lt, if◌then◌else◌, List, [], ◌∷◌, length, drop, slice_index, Option, Some, None, zero, suc}
 use Rattle.std.specs.List.{list_any}
 use Rattle.std.specs.Option.{option_or}
 use Rattle.byteorder.specs.Endian.{little_number}
 use Rattle.host_memory.specs.declared.table.Prd.{Prd}
 use Rattle.host_memory.specs.declared.table.PrdError.{PrdError}
 use Rattle.host_memory.specs.declared.table.PrdError.TheVariants.{OutsideStructure, BadEntry, OutsideClient, Overlap}
-use Rattle.host_memory.specs.Memory.{client_start}
+use Rattle.host_memory.specs.Memory.{client_start, overwritten}
 use Rattle.host_memory.specs.Place.{AreInside, AreApart}
 
 -- the dword that lies there, least significant byte first
@@ -72,3 +72,28 @@ pub record IsPrdTable (structure : List ℕ) (client_len at count : ℕ) : Type 
   pub few : count ≤ 248
   pub inside : AreInside client_len (prds_at structure at count)
   pub apart : AreApart (prds_at structure at count)
+
+-- the two areas have the same bytes at these so many addresses, from at on
+abbrev pub AgreeFrom : ℕ → ℕ → List ℕ → List ℕ → Type 0
+AgreeFrom at count s t = (i : ℕ) → i < count → slice_index s (at + i) ≡ slice_index t (at + i)
+
+-- what so many bytes from one address on and so many from another have in common is nothing
+abbrev pub LieApart : ℕ → ℕ → ℕ → ℕ → Type 0
+LieApart at count other others = (at + count ≤ other) ⊎ (other + others ≤ at)
+
+-- a table that lies in both areas is refused alike, and has the same entries
+pub record SaysTheSame (client_len at count : ℕ) (s t : List ℕ) : Type 0 where
+  pub refusal : read_fault s client_len at count ≡ read_fault t client_len at count
+  pub entries : prds_at s at count ≡ prds_at t at count
+
+-- What a table says is said by its own 16 bytes an entry, whatever stands elsewhere: of the area's length only counts
+-- whether the table lies in it.
+abbrev pub TablesAreOfTheirBytes : Type 0
+TablesAreOfTheirBytes =
+    (client_len at count : ℕ) (s t : List ℕ) → AgreeFrom at (16 * count) s t → ((at + 16 * count ≤ length s) ↔ (at + 16 * count ≤ length t)) → SaysTheSame client_len at count s t
+
+-- so bytes that are written apart from it change nothing of what it says
+abbrev pub TablesStay : Type 0
+TablesStay =
+    (client_len at count place : ℕ) (bytes s : List ℕ) → place + length bytes ≤ length s → LieApart at (16 * count) place (length bytes)
+    → SaysTheSame client_len at count s (overwritten s place bytes)

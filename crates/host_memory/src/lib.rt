@@ -1,11 +1,13 @@
 //! The host's memory, and the tables in it that say where the bytes of a transfer lie.
 #![tactic(auto)]
 
+mod laws;
 mod memory;
 mod parts;
 mod table;
 mod write;
 
+pub use laws::tables_are_of_their_bytes;
 pub use memory::{HostMemory, MemoryError, Outside};
 pub use parts::Parts;
 pub use table::{Prd, PrdError, PrdTable};

@@ -1,0 +1,11 @@
+//! What is true of tables.
+
+ghost use Rattle.host_memory.specs.Reading.{TablesAreOfTheirBytes, TablesStay};
+
+/// A law of tables, which does nothing when it runs: what a table in the structure area says, its refusal and its
+/// entries, depends on the 16 bytes of each entry and on the length of the client area alone. What is written elsewhere
+/// in the structure area changes neither.
+pub fn tables_are_of_their_bytes()
+    ensures bytes_tell { TablesAreOfTheirBytes }
+    ensures others_do_not { TablesStay }
+{}
