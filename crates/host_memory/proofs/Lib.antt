@@ -6,3 +6,4 @@ pub mod PlaceLemmas
 pub mod PrdLemmas
 pub mod ScatterLemmas
 pub mod WriteLemmas
+pub mod WrittenLemmas

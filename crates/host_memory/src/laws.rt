@@ -1,5 +1,6 @@
 //! What is true of tables.
 
+ghost use Rattle.host_memory.specs.Place.{ScattersAtPlaces, ScattersOneByOne};
 ghost use Rattle.host_memory.specs.Reading.{TablesAreOfTheirBytes, TablesStay};
 
 /// A law of tables, which does nothing when it runs: what a table in the structure area says, its refusal and its
@@ -8,4 +9,11 @@ ghost use Rattle.host_memory.specs.Reading.{TablesAreOfTheirBytes, TablesStay};
 pub fn tables_are_of_their_bytes()
     ensures bytes_tell { TablesAreOfTheirBytes }
     ensures others_do_not { TablesStay }
+{}
+
+/// A law of [`PrdTable::scatter`](crate::PrdTable::scatter), which does nothing when it runs: for a sound table and a run
+/// that fits, it leaves what is left where the bytes are written one after another, each at its own place.
+pub fn scatters_are_single_writes()
+    ensures one_by_one { ScattersOneByOne }
+    ensures at_places { ScattersAtPlaces }
 {}

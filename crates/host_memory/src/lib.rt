@@ -7,7 +7,7 @@ mod parts;
 mod table;
 mod write;
 
-pub use laws::tables_are_of_their_bytes;
+pub use laws::{scatters_are_single_writes, tables_are_of_their_bytes};
 pub use memory::{HostMemory, MemoryError, Outside};
 pub use parts::Parts;
 pub use table::{Prd, PrdError, PrdTable};
