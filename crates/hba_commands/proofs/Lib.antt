@@ -1,3 +1,4 @@
+pub mod AgreeLemmas
 pub mod BackLemmas
 pub mod HeaderLemmas
 pub mod ProperLemmas

@@ -1,5 +1,5 @@
 -- What a proper command may ask for.
-use Rattle.std.proofs.Common.{◌≡◌, ℕ, ◌≤◌, ◌<◌, Bool, true, Option, Some, None, arith, inl, inr, refl}
+use Rattle.std.proofs.Common.{◌≡◌, ℕ, ◌+◌, ◌*◌, ◌%◌, ◌≤◌, ◌<◌, Bool, true, false, List, slice_index, Option, Some, None, arith, inl, inr, refl, sym, ◌∙◌}
 use Rattle.std.specs.Prelude.{not, ◌&&◌, ◌==◌, nat_le}
 use Rattle.std.proofs.lemmas.Bool.{and_parts, not-true, leb-true, eqb-true, eqb-false, cases_Bool, cases_lt}
 use Rattle.slots.specs.Work.{IsWork, is_queued}
@@ -7,8 +7,8 @@ use Rattle.slots.specs.declared.work.Kind.{Kind}
 use Rattle.slots.specs.declared.work.Kind.TheVariants.{QueuedRead, QueuedWrite, PioIn, NoData, Control}
 use Rattle.hba_commands.specs.declared.header.Header.{Header}
 use Rattle.hba_commands.specs.declared.request.Request.{Request}
-use Rattle.hba_commands.specs.Requests.{kind_of, length_of, sectors, tag_of, work_of}
-use Rattle.hba_commands.specs.Commands.{is_proper, may_queue, suits, total_if_sound}
+use Rattle.hba_commands.specs.Requests.{kind_of, length_of, request_at, request_in, sectors, tag_of, work_of}
+use Rattle.hba_commands.specs.Commands.{has_table, is_proper, may_queue, suits, total_if_sound}
 use Rattle.hba_commands.specs.Writing.{is_write}
 use Rattle.host_memory.specs.declared.table.PrdError.{PrdError}
 
@@ -72,3 +72,61 @@ proper_total header request total slot armed h =
 pub sound_total : (fault : Option PrdError) (total found : ℕ) → Some found ≡ total_if_sound fault total → total ≡ found
 sound_total None total found h = cc
 sound_total (Some x) total found h = cc
+
+-- the PM Ports of a proper command are one
+pub proper_port : (header : Header) (request : Request) (total slot : ℕ) (armed : Bool) → is_proper header request total slot armed ≡ true → request.pm_port ≡ header.pmp
+unfolding is_proper
+proper_port header request total slot armed h =
+    let most = (and_parts ((header.cfl == 5) && (header.pmp == request.pm_port) && suits (kind_of request) header request slot armed) (total == (work_of request).len) h).0 in
+    let first = (and_parts ((header.cfl == 5) && (header.pmp == request.pm_port)) (suits (kind_of request) header request slot armed) most).0 in
+    sym (eqb-true header.pmp request.pm_port (and_parts (header.cfl == 5) (header.pmp == request.pm_port) first).1)
+
+queued_armed : (header : Header) (request : Request) (slot : ℕ) (armed : Bool) → may_queue header request slot armed ≡ true → true ≡ armed
+queued_armed header request slot true h = refl
+queued_armed header request slot false h = cc
+
+suited_armed : (k : Kind) (header : Header) (request : Request) (slot : ℕ) (armed : Bool) → suits k header request slot armed ≡ true → is_queued k ≡ armed
+suited_armed QueuedRead header request slot armed h = queued_armed header request slot armed (and_parts (not header.write) (may_queue header request slot armed) h).1
+suited_armed QueuedWrite header request slot armed h = queued_armed header request slot armed (and_parts header.write (may_queue header request slot armed) h).1
+suited_armed PioIn header request slot armed h = sym (not-true armed (and_parts (not header.write) (not armed) (and_parts (not header.write && not armed) (not header.clear) h).0).1)
+suited_armed NoData header request slot armed h =
+    sym (not-true armed (and_parts (not header.write) (not armed) (and_parts (not header.write && not armed) (not header.clear) (and_parts (not header.write && not armed && not header.clear) (header.prdtl == 0) h).0).0).1)
+suited_armed Control header request slot armed h = sym (not-true armed (and_parts (not header.write) (not armed) (and_parts (not header.write && not armed) (header.prdtl == 0) h).0).1)
+
+-- it is queued where the slot's bit in PxSACT is set, and nowhere else
+pub proper_armed : (header : Header) (request : Request) (total slot : ℕ) (armed : Bool) → is_proper header request total slot armed ≡ true → is_queued (work_of request).kind ≡ armed
+unfolding work_of
+proper_armed header request total slot armed h = suited_armed (kind_of request) header request slot armed (proper_suits header request total slot armed h)
+
+queued_tag : (header : Header) (request : Request) (slot : ℕ) (armed : Bool) → may_queue header request slot armed ≡ true → tag_of request ≡ slot
+queued_tag header request slot armed h =
+    let few = (and_parts (armed && (tag_of request == slot) && not (header.pmp == 15) && not header.clear) (nat_le (work_of request).len 131072) h).0 in
+    let three = (and_parts (armed && (tag_of request == slot) && not (header.pmp == 15)) (not header.clear) few).0 in
+    let two = (and_parts (armed && (tag_of request == slot)) (not (header.pmp == 15)) three).0 in
+    eqb-true (tag_of request) slot (and_parts armed (tag_of request == slot) two).1
+
+suited_tag : (k : Kind) (header : Header) (request : Request) (slot : ℕ) (armed : Bool) → suits k header request slot armed ≡ true → is_queued k ≡ true → tag_of request ≡ slot
+suited_tag QueuedRead header request slot armed h q = queued_tag header request slot armed (and_parts (not header.write) (may_queue header request slot armed) h).1
+suited_tag QueuedWrite header request slot armed h q = queued_tag header request slot armed (and_parts header.write (may_queue header request slot armed) h).1
+suited_tag PioIn header request slot armed h q = cc
+suited_tag NoData header request slot armed h q = cc
+suited_tag Control header request slot armed h q = cc
+
+-- and there its tag is the slot
+pub proper_tag : (header : Header) (request : Request) (total slot : ℕ) (armed : Bool) → is_proper header request total slot armed ≡ true → armed ≡ true → tag_of request ≡ slot
+unfolding work_of
+proper_tag header request total slot armed h on =
+    suited_tag (kind_of request) header request slot armed (proper_suits header request total slot armed h) (proper_armed header request total slot armed h ∙ on)
+
+-- a table that has a place lies in the structure area
+pub table_inside : (header : Header) → has_table header ≡ true → header.ctba + 128 + 16 * header.prdtl ≤ 1048576
+table_inside header h =
+    leb-true (header.ctba + 128 + 16 * header.prdtl) 1048576 (and_parts ((header.ctbau == 0) && (header.ctba % 128 == 0)) (nat_le (header.ctba + 128 + 16 * header.prdtl) 1048576) h).1
+
+-- the request of a command FIS
+pub request_is : (cfis : List ℕ) (request : Request) → Some request ≡ request_at cfis → request_in cfis ≡ request
+request_is cfis request h =
+    elim (cases_Bool (slice_index cfis 0 == 0x27)) [
+      | inl type ↦ let is : Some request ≡ Some (request_in cfis) = h ∙ rw type refl in cc
+      | inr other ↦ let none : Some request ≡ None = h ∙ rw other refl in cc
+    ]

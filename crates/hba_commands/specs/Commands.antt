@@ -1,15 +1,16 @@
 -- The command of a slot: what its header (AHCI 1.3.1, section 4.2.2) and its command table (section 4.2.3) say together.
-use Rattle.std.specs.Prelude.{ℕ, ◌+◌, ◌*◌, ◌%◌, ◌==◌, ◌&&◌, Bool, not, nat_le, if◌then◌else◌, List, length, take, drop, Option, Some, None}
-use Rattle.host_memory.specs.Memory.{Memory}
+use Rattle.std.specs.Prelude.{◌≡◌, ℕ, ◌+◌, ◌*◌, ◌%◌, ◌≤◌, ◌==◌, ◌&&◌, Bool, true, not, nat_le, if◌then◌else◌, List, length, take, drop, Option, Some, None}
+use Rattle.host_memory.specs.Memory.{Memory, overwritten}
 use Rattle.host_memory.specs.Place.{total_of}
-use Rattle.host_memory.specs.Reading.{prds_at, read_fault}
+use Rattle.host_memory.specs.Reading.{AgreeFrom, LieApart, prds_at, read_fault}
+use Rattle.host_memory.specs.declared.table.Prd.{Prd}
 use Rattle.host_memory.specs.declared.table.PrdError.{PrdError}
 use Rattle.slots.specs.declared.work.Kind.{Kind}
 use Rattle.slots.specs.declared.work.Kind.TheVariants.{QueuedRead, QueuedWrite, PioIn, NoData, Control}
 use Rattle.hba_commands.specs.declared.header.Header.{Header}
 use Rattle.hba_commands.specs.declared.request.Request.{Request}
 use Rattle.hba_commands.specs.declared.command.Command.{Command}
-use Rattle.hba_commands.specs.Headers.{header_at}
+use Rattle.hba_commands.specs.Headers.{header_at, header_place}
 use Rattle.hba_commands.specs.Requests.{request_at, kind_of, work_of, tag_of}
 
 -- the table has a place: its address is below 4 GiB and a multiple of 128, and it lies in the structure area, its 80h bytes
@@ -20,6 +21,13 @@ has_table header = (header.ctbau == 0) && (header.ctba % 128 == 0) && nat_le (he
 -- the command FIS: the first 20 bytes of the table
 abbrev pub cfis_at : List ℕ → ℕ → List ℕ
 cfis_at structure table = take 20 (drop table structure)
+
+-- the PRDs of a command table, which begin at its byte 80h, and why they are not read, if they are not
+abbrev pub entries_of : Memory → ℕ → ℕ → List Prd
+entries_of memory table count = prds_at memory.structure (table + 128) count
+
+abbrev pub fault_of : Memory → ℕ → ℕ → Option PrdError
+fault_of memory table count = read_fault memory.structure (length memory.client) (table + 128) count
 
 -- how many bytes a table of PRDs has, where nothing is wrong with it
 abbrev pub total_if_sound : Option PrdError → ℕ → Option ℕ
@@ -72,3 +80,26 @@ command_under memory header slot armed =
 -- table is bad.
 abbrev pub command_at : Memory → ℕ → ℕ → Bool → Option Command
 command_at memory clb slot armed = command_under memory (header_at memory.structure clb slot) slot armed
+
+-- how many bytes the command table of a header has: 80h, and 16 for each PRD
+abbrev pub table_length : Header → ℕ
+table_length header = 128 + 16 * header.prdtl
+
+-- the bytes that say what the command of a slot is: its header's 32 and, where it names a table that has a place, the
+-- table's. Two memories have the same ones, and areas of the same lengths.
+pub record AgreeOnCommand (clb slot : ℕ) (m n : Memory) : Type 0 where
+  pub header : AgreeFrom (header_place clb slot) 32 m.structure n.structure
+  pub table : has_table (header_at m.structure clb slot) ≡ true → AgreeFrom (header_at m.structure clb slot).ctba (table_length (header_at m.structure clb slot)) m.structure n.structure
+  pub structure_len : length m.structure ≡ length n.structure
+  pub client_len : length m.client ≡ length n.client
+
+-- these alone say it
+abbrev pub CommandsAreOfTheirBytes : Type 0
+CommandsAreOfTheirBytes = (clb slot : ℕ) (armed : Bool) (m n : Memory) → AgreeOnCommand clb slot m n → command_at m clb slot armed ≡ command_at n clb slot armed
+
+-- so bytes that are written into the structure area apart from them change no command
+abbrev pub CommandsStay : Type 0
+CommandsStay =
+    (clb slot place : ℕ) (armed : Bool) (bytes : List ℕ) (m : Memory) → place + length bytes ≤ length m.structure → LieApart (header_place clb slot) 32 place (length bytes)
+    → (has_table (header_at m.structure clb slot) ≡ true → LieApart (header_at m.structure clb slot).ctba (table_length (header_at m.structure clb slot)) place (length bytes))
+    → command_at m clb slot armed ≡ command_at (record m { structure = overwritten m.structure place bytes }) clb slot armed

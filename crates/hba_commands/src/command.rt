@@ -1,10 +1,12 @@
 //! Reading the command of a slot.
 
-ghost use Rattle.std.specs.Prelude.{◌≡◌, ◌+◌, ◌*◌, ◌<◌, ◌≤◌, length, None, IfSome};
+ghost use Rattle.std.specs.Prelude.{◌≡◌, ◌+◌, ◌*◌, ◌<◌, ◌≤◌, length, None, IfSome, true};
 ghost use Rattle.host_memory.specs.Place.{total_of};
-ghost use Rattle.host_memory.specs.Reading.{prds_at, read_fault};
+ghost use Rattle.fis_view.specs.Table.{H2d, PmPort, field};
+ghost use Rattle.slots.specs.Work.{is_queued};
 ghost use Rattle.hba_commands.specs.Headers.{header_at};
-ghost use Rattle.hba_commands.specs.Commands.{cfis_at, command_at, has_table as has_table_of, is_proper as is_proper_of, may_queue as may_queue_of, suits as suits_of, total_at};
+ghost use Rattle.hba_commands.specs.Commands.{cfis_at, command_at, entries_of, fault_of, has_table as has_table_of, is_proper as is_proper_of, may_queue as may_queue_of, suits as suits_of, total_at};
+ghost use Rattle.hba_commands.specs.Requests.{request_in, tag_of};
 ghost use Rattle.hba_commands.specs.Writing.{is_write};
 
 use crate::header::Header;
@@ -98,10 +100,21 @@ impl Command {
         requires slot { slot < 32 }
         requires list { clb + 1024 ≤ CLIENT_START }
         ensures command { result ≡ command_at memory.now clb slot armed }
+        // what every command that is read has
         ensures work { IfSome result (λ command. IsWork command.work) }
-        ensures direction { IfSome result (λ command. (header_at memory.now.structure clb slot).write ≡ is_write command.work.kind) }
-        ensures sized { IfSome result (λ command. total_of (prds_at memory.now.structure (command.table + 128) command.count) ≡ command.work.len) }
-        ensures readable { IfSome result (λ command. read_fault memory.now.structure (length memory.now.client) (command.table + 128) command.count ≡ None) }
+        ensures armed { IfSome result (λ command. is_queued command.work.kind ≡ armed) }
+        ensures port { IfSome result
+            (λ command. field H2d PmPort command.cfis ≡ (header_at memory.now.structure clb slot).pmp) }
+        ensures tag { IfSome result
+            (λ command. armed ≡ true → tag_of (request_in command.cfis) ≡ slot) }
+        ensures direction { IfSome result
+            (λ command. (header_at memory.now.structure clb slot).write ≡ is_write command.work.kind) }
+        // its table lies in the structure area, can be read, and has just the bytes that it moves
+        ensures place { IfSome result (λ command. command.table + 128 + 16 * command.count ≤ 1048576) }
+        ensures readable { IfSome result
+            (λ command. fault_of memory.now command.table command.count ≡ None) }
+        ensures sized { IfSome result
+            (λ command. total_of (entries_of memory.now command.table command.count) ≡ command.work.len) }
     {
         let structure = memory.structure();
         let header = Header::read(structure, clb, slot);

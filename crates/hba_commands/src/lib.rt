@@ -5,11 +5,13 @@
 
 mod command;
 mod header;
+mod laws;
 mod request;
 mod write;
 
 pub use command::Command;
 pub use header::pmp;
+pub use laws::commands_are_of_their_bytes;
 pub use write::write_command;
 
 #[cfg(test)]

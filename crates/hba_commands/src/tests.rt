@@ -5,7 +5,7 @@ mod vectors;
 ghost use Rattle.std.specs.Prelude.{◌↔◌, All, IsTrue};
 ghost use Rattle.host_memory.specs.Writing.{CanBeWritten};
 
-use crate::{Command, pmp, write_command};
+use crate::{Command, commands_are_of_their_bytes, pmp, write_command};
 use fis_view::H2dFields;
 use host_memory::{HostMemory, Prd};
 use slots::{Kind, Work};
@@ -56,6 +56,7 @@ fn fields(pm_port: u8, c: bool, command: u8, features: u16, count: u16) -> H2dFi
 
 #[test]
 fn has_what_a_caller_needs(rt: HostRuntime) -> Result<(), Fail> {
+    commands_are_of_their_bytes();
     let mut memory = HostMemory::new(rt.alloc(), 0x20_0000)?;
     let given = fields(2, true, 0xE4, 0, 0);
     write_command(&mut memory, LIST, 0, 0x2000, &given, &[]);

@@ -17,7 +17,8 @@ use slots::Kind;
 // DW0 of a header: the PRDTL in bits 31:16, the PMP in bits 15:12, W in bit 6, the CFL in bits 4:0.
 fn first_dword(request: Request, count: u16) -> u32
     requires { request.pm_port < 16 }
-    ensures { result ≡ 65536 * count + 4096 * request.pm_port + 64 * from_bool (is_write (kind_of request)) + 5 }
+    ensures { result
+        ≡ 65536 * count + 4096 * request.pm_port + 64 * from_bool (is_write (kind_of request)) + 5 }
 {
     let write = request.kind() == Kind::QueuedWrite;
     0x1_0000 * u32::from(count) + 0x1000 * u32::from(request.pm_port) + 0x40 * u32::from(write) + 5
@@ -80,9 +81,12 @@ pub fn write_command(
     requires room { HasRoom clb table (length prds.now) }
     requires few { length prds.now ≤ 248 }
     requires counts { All CanBeWritten prds.now }
-    ensures written { IsWritten clb slot table fields.now prds.now memory.old.structure memory.new.structure }
+    ensures written { IsWritten clb slot table fields.now prds.now
+        memory.old.structure memory.new.structure }
     ensures client { memory.new.client ≡ memory.old.client }
-    ensures command { (armed : Bool) → command_at memory.new clb slot armed ≡ command_of fields.now (cfis_at memory.new.structure table) prds.now table slot armed (length memory.new.client) }
+    ensures command { (armed : Bool) → command_at memory.new clb slot armed
+        ≡ command_of fields.now (cfis_at memory.new.structure table) prds.now table slot armed
+        (length memory.new.client) }
 {
     put_command(memory.structure_mut(), clb, slot, table, *fields, prds);
 }

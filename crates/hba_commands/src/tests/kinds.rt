@@ -92,64 +92,6 @@ fn reads_each_kind(rt: HostRuntime) -> Result<(), Fail> {
     Ok(())
 }
 
-#[test]
-fn gives_what_was_written(rt: HostRuntime) -> Result<(), Fail> {
-    let mut memory = HostMemory::new(rt.alloc(), 0x20_0000)?;
-    let given = fields(2, true, 0x60, 3, 8 * 31);
-    let prds = [
-        prd(512),
-        Prd {
-            address: 0x1F_FC00,
-            bytes: 1024,
-        },
-    ];
-    write(&rt, &mut memory, 31, 0xF_FF00, &given, &prds);
-    let want = Command {
-        work: work(Kind::QueuedRead, 1536),
-        cfis: given.bytes(),
-        table: 0xF_FF00,
-        count: 2,
-    };
-    assert_eq!(rt; Command::read(&memory, LIST, 31, true), Some(want));
-    Ok(())
-}
-
-#[test]
-fn refuses_bad_requests(rt: HostRuntime) -> Result<(), Fail> {
-    let mut memory = HostMemory::new(rt.alloc(), 0x20_0000)?;
-    for (given, prds, armed) in [
-        // another tag
-        (fields(2, true, 0x60, 16, 32), [prd(8192)].as_slice(), true),
-        // to the control port
-        (fields(15, true, 0x60, 16, 24), [prd(8192)].as_slice(), true),
-        // more than 128 KiB, and 0 for 65,536 sectors
-        (
-            fields(2, true, 0x60, 257, 24),
-            [prd(0x2_0200)].as_slice(),
-            true,
-        ),
-        (fields(2, true, 0x60, 0, 24), [].as_slice(), true),
-        // not the bytes of the entries
-        (fields(2, true, 0x60, 15, 24), [prd(8192)].as_slice(), true),
-        (fields(2, true, 0xEC, 0, 0), [prd(510)].as_slice(), false),
-        (fields(2, true, 0xE4, 0, 0), [prd(2)].as_slice(), false),
-        (fields(2, false, 0, 0, 0), [prd(2)].as_slice(), false),
-        // entries that cannot be read
-        (
-            fields(2, true, 0xEC, 0, 0),
-            [prd(512), prd(512)].as_slice(),
-            false,
-        ),
-    ] {
-        assert_eq!(rt;
-            written(&rt, &mut memory, &given, prds, armed),
-            None,
-            "{given:?}"
-        );
-    }
-    Ok(())
-}
-
 fn set(rt: &impl Abort, memory: &mut HostMemory, at: usize, value: u8) {
     assert!(rt; at < 0x10_0000);
     memory.structure_mut()[at] = value;
@@ -191,17 +133,5 @@ fn refuses_bad_bytes(rt: HostRuntime) -> Result<(), Fail> {
         let command = Command::read(&memory, LIST, 3, armed);
         assert_eq!(rt; command.is_some(), is_some, "{at:x} {value:x}");
     }
-    Ok(())
-}
-
-#[test]
-fn refuses_odd_tables(rt: HostRuntime) -> Result<(), Fail> {
-    let mut memory = HostMemory::new(rt.alloc(), 0x20_0000)?;
-    let given = fields(2, true, 0xE4, 0, 0);
-    write(&rt, &mut memory, 3, 0x2040, &given, &[]);
-    assert_eq!(rt; Command::read(&memory, LIST, 3, false), None);
-    write(&rt, &mut memory, 3, 0xF_FF80, &given, &[]);
-    let command = Command::read(&memory, LIST, 3, false).ok_or("no command")?;
-    assert_eq!(rt; command.table, 0xF_FF80);
     Ok(())
 }
