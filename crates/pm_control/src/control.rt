@@ -1,9 +1,10 @@
 //! The answers of the control port, and its notification.
 
-ghost use Rattle.std.specs.Prelude.{IfOk, IsSome, OnErr, OnOk, false, true, ◌≡◌};
+ghost use Rattle.std.specs.Prelude.{IfOk, IfSome, IsSome, OnErr, OnOk, false, true, ◌≡◌};
+ghost use Rattle.fis_view.specs.Table.{D2h, Status, field};
 ghost use Rattle.pm_registers.specs.RegisterMap.{after_notice};
 ghost use Rattle.pm_control.specs.Requests.{request_in};
-ghost use Rattle.pm_control.specs.Answers.{IsAnswer, IsNotice, answer_of, answer_to, done, mark_after, mark_left, refused, refused_by, registers_after, registers_left, signature, value_answer};
+ghost use Rattle.pm_control.specs.Answers.{IsAnswer, IsNotice, IsSeenNext, ReadsBack, answer_of, answer_to, done, mark_after, mark_left, refused, refused_by, registers_after, registers_left, signature, value_answer};
 
 use crate::request::{Request, request_of};
 use fis_view::{D2hFields, Frame, SetBitsFields, Stamp, d2h, set_bits};
@@ -119,6 +120,7 @@ impl PmControl {
     /// Does what a request asks for.
     fn act(&mut self, registers: &mut PmRegisters, request: Request)
         ensures registers { registers.new ≡ registers_after registers.old request }
+        ensures reads_back { ReadsBack registers.old request registers.new }
         ensures mark { self.new ≡ mark_after self.old request }
     {
         match request {
@@ -142,11 +144,17 @@ impl PmControl {
         stamp: Stamp,
     ) -> Result<Option<Frame>, AllocError>
         // the answer that the frame has, and none where it has none
-        ensures answer { IfOk result (λ answer. IsAnswer (answer_to self.old registers.old frame.now.bytes) stamp answer) }
-        ensures registers { OnOk result (registers.new ≡ registers_left registers.old frame.now.bytes) }
+        ensures answer { IfOk result
+            (λ answer. IsAnswer (answer_to self.old registers.old frame.now.bytes) stamp answer) }
+        ensures registers { OnOk result
+            (registers.new ≡ registers_left registers.old frame.now.bytes) }
+        // a write whose answer has Status 50h is seen by the next read, through the mask of its register
+        ensures seen { IfOk result (λ answer. IfSome answer
+            (λ reply. IsSeenNext registers.old frame.now.bytes (field D2h Status reply.bytes) registers.new)) }
         ensures mark { OnOk result (self.new ≡ mark_left self.old frame.now.bytes) }
         // memory is asked for only where there is an answer, and where it is refused nothing changes
-        ensures no_memory { OnErr result (IsSome (answer_to self.old registers.old frame.now.bytes)) }
+        ensures no_memory { OnErr result
+            (IsSome (answer_to self.old registers.old frame.now.bytes)) }
         ensures registers_stay { OnErr result (registers.new ≡ registers.old) }
         ensures mark_stays { OnErr result (self.new ≡ self.old) }
     {
