@@ -201,3 +201,72 @@ fn two_removals_make_one_notification(rt: HostRuntime) -> Result<(), Fail> {
     assert_eq!(rt; registers.read(CONTROL_PORT, GSCR_SUMMARY), Ok(6));
     Ok(())
 }
+
+/// The bytes of a FIS for the control port, which differ from number to number: a read, a write, another command, and
+/// the Device Control register in turn.
+fn varied(i: u32) -> [u8; 20] {
+    let [a, b, c, d] = i.wrapping_mul(0x9E37_79B1).to_le_bytes();
+    let (head, command) = match i % 4 {
+        0 => (0x8F, 0xE4),
+        1 => (0x8F, 0xE8),
+        2 => (0x8F, a),
+        _ => (0x0F, a),
+    };
+    [
+        0x27,
+        head,
+        command,
+        b & 0x63,
+        c,
+        d,
+        a,
+        d,
+        0,
+        0,
+        0,
+        a & 1,
+        b,
+        0,
+        0,
+        c,
+        0,
+        0,
+        0,
+        0,
+    ]
+}
+
+/// A due notification of a port, of any bits that GSCR\[33\] lets through.
+fn raised(n: u8, bits: u32) -> Result<PmRegisters, RegisterError>
+    requires { n < 15 }
+{
+    let mut registers = PmRegisters::new(15);
+    registers.write(CONTROL_PORT, GSCR_ENABLED, 8)?;
+    registers.write(CONTROL_PORT, GSCR_MASK, bits)?;
+    registers.raise(n, bits);
+    Ok(registers)
+}
+
+/// Memory that is there is found: 10,000 varied requests and notifications are answered with no refusal of it.
+#[test]
+fn finds_memory_that_is_there(rt: HostRuntime) -> Result<(), Fail> {
+    let alloc = rt.alloc();
+    let mut control = PmControl::new();
+    let mut made = 0u32;
+    for i in 0..10_000u32 {
+        let bits = i.wrapping_mul(0x85EB_CA6B) | 1;
+        let mut registers = raised((i % 15) as u8, bits)?;
+        let stamp = Stamp {
+            conn: bits,
+            number: i,
+            ..STAMP
+        };
+        if PmControl::notice(alloc, &mut registers, stamp)?.is_some() {
+            made = made.saturating_add(1);
+        }
+        let frame = Frame::from_bytes(alloc, &varied(i), HOST)?;
+        control.answer(alloc, &mut registers, &frame, stamp)?;
+    }
+    assert_eq!(rt; made, 10_000);
+    Ok(())
+}
