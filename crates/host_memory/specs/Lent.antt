@@ -1,3 +1,4 @@
+-- What is left in memory by whoever borrowed one of its areas to write it.
 use Rattle.std.specs.Prelude.{ℕ, List, ◌++◌, take, drop, length}
 use Rattle.std.specs.Borrow.{Lends, MutBor, Fml, Array, u8}
 use Rattle.host_memory.specs.Memory.{Memory}

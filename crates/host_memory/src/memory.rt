@@ -53,7 +53,8 @@ impl Model for HostMemory {
 
     ghost view = { λ m. record { structure = m.structure.items; client = m.client.items } };
 
-    ghost invariant = { λ m. IsHostMemory (record { structure = m.structure.items; client = m.client.items }) };
+    ghost invariant = { λ m.
+        IsHostMemory (record { structure = m.structure.items; client = m.client.items }) };
 }
 
 // So many bytes, each of them 0.
@@ -108,8 +109,11 @@ impl HostMemory {
     /// Writes the bytes to the client area, from the address `at` on, or none of them where they do
     /// not all lie in it.
     pub fn put_client(&mut self, at: u32, bytes: &[u8]) -> Result<(), Outside>
-        ensures inside { IsOk result ↔ LiesInClient (length self.old.client) at (length bytes.now) }
-        ensures ok { OnOk result (self.new ≡ record self.old { client = overwritten self.old.client (at - client_start) bytes.now }) }
+        ensures inside { IsOk result
+            ↔ LiesInClient (length self.old.client) at (length bytes.now) }
+        ensures ok { OnOk result (self.new ≡ record self.old {
+          client = overwritten self.old.client (at - client_start) bytes.now;
+        }) }
         ensures err { OnErr result (self.new ≡ self.old) }
     {
         if at < CLIENT_START {

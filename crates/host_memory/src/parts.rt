@@ -30,7 +30,8 @@ impl<'m, 'c> Model for Parts<'m, 'c> {
 
     ghost Value = { List (List ℕ) };
 
-    ghost view = { λ p. parts_of p.client.now (prds_at p.structure.now p.at p.count) p.offset p.len };
+    ghost view = { λ p.
+        parts_of p.client.now (prds_at p.structure.now p.at p.count) p.offset p.len };
 
     ghost invariant = { λ p. HoldParts p.structure.now p.client.now p.at p.count p.offset p.len };
 }

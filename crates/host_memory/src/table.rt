@@ -58,7 +58,10 @@ impl<'m> Model for PrdTable<'m> {
 
     ghost use Rattle.host_memory.specs.Reading.{IsPrdTable, prds_at};
 
-    ghost view = { λ t. record { prds = prds_at t.structure.now t.at t.count; client_len = t.client_len } };
+    ghost view = { λ t. record {
+      prds = prds_at t.structure.now t.at t.count;
+      client_len = t.client_len;
+    } };
 
     ghost invariant = { λ t. IsPrdTable t.structure.now t.client_len t.at t.count };
 }
@@ -207,7 +210,8 @@ impl<'m> PrdTable<'m> {
     ) -> Result<PrdTable<'m>, PrdError>
         // Which refusal it is, and that there is none: one fact for all of them and their order.
         ensures refusal { result_err result ≡ read_fault structure.now client_len at count }
-        ensures overlap { IsErrOf result PrdError.Overlap → HaveOverlap (prds_at structure.now at count) }
+        ensures overlap { IsErrOf result PrdError.Overlap
+            → HaveOverlap (prds_at structure.now at count) }
 
         ensures prds { IfOk result (λ table. table.prds ≡ prds_at structure.now at count) }
         ensures client_len { IfOk result (λ table. table.client_len ≡ client_len) }

@@ -29,7 +29,10 @@ pub fn write_prds(structure: &mut [u8], at: u32, prds: &[Prd])
     requires counts { All CanBeWritten prds.now }
     ensures written { structure.new ≡ overwritten structure.old at (table_bytes prds.now) }
     ensures reads { prds_at structure.new at (length prds.now) ≡ prds.now }
-    ensures readable { (client_len : ℕ) → All (IsUsable client_len) prds.now → have_overlap_of prds.now ≡ false → length prds.now ≤ 248 → read_fault structure.new client_len at (length prds.now) ≡ None }
+    // so a table of entries that may be there, apart from each other, is not refused
+    ensures readable { (client_len : ℕ) → All (IsUsable client_len) prds.now
+        → have_overlap_of prds.now ≡ false → length prds.now ≤ 248
+        → read_fault structure.new client_len at (length prds.now) ≡ None }
 {
     let at = at as usize;
     for (i, prd) in prds.iter().enumerate() {
