@@ -104,17 +104,21 @@ impl Command {
         ensures work { IfSome result (λ command. IsWork command.work) }
         ensures armed { IfSome result (λ command. is_queued command.work.kind ≡ armed) }
         ensures port { IfSome result
-            (λ command. field H2d PmPort command.cfis ≡ (header_at memory.now.structure clb slot).pmp) }
+            (λ command. field H2d PmPort command.cfis
+            ≡ (header_at memory.now.structure clb slot).pmp) }
         ensures tag { IfSome result
             (λ command. armed ≡ true → tag_of (request_in command.cfis) ≡ slot) }
         ensures direction { IfSome result
-            (λ command. (header_at memory.now.structure clb slot).write ≡ is_write command.work.kind) }
+            (λ command. (header_at memory.now.structure clb slot).write
+            ≡ is_write command.work.kind) }
         // its table lies in the structure area, can be read, and has just the bytes that it moves
-        ensures place { IfSome result (λ command. command.table + 128 + 16 * command.count ≤ 1048576) }
+        ensures place { IfSome result
+            (λ command. command.table + 128 + 16 * command.count ≤ 1048576) }
         ensures readable { IfSome result
             (λ command. fault_of memory.now command.table command.count ≡ None) }
         ensures sized { IfSome result
-            (λ command. total_of (entries_of memory.now command.table command.count) ≡ command.work.len) }
+            (λ command. total_of (entries_of memory.now command.table command.count)
+            ≡ command.work.len) }
     {
         let structure = memory.structure();
         let header = Header::read(structure, clb, slot);

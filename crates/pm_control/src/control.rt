@@ -150,7 +150,8 @@ impl PmControl {
             (registers.new ≡ registers_left registers.old frame.now.bytes) }
         // a write whose answer has Status 50h is seen by the next read, through the mask of its register
         ensures seen { IfOk result (λ answer. IfSome answer
-            (λ reply. IsSeenNext registers.old frame.now.bytes (field D2h Status reply.bytes) registers.new)) }
+            (λ reply. IsSeenNext registers.old frame.now.bytes
+            (field D2h Status reply.bytes) registers.new)) }
         ensures mark { OnOk result (self.new ≡ mark_left self.old frame.now.bytes) }
         // memory is asked for only where there is an answer, and where it is refused nothing changes
         ensures no_memory { OnErr result
