@@ -220,7 +220,8 @@ pub fn dma_activate(
     fields: &DmaActivateFields,
     stamp: Stamp,
 ) -> Result<Frame, AllocError>
-    ensures built { IfOk result (λ frame. IsBuilt Activate (dma_activate_given fields.now) frame.bytes) }
+    ensures built { IfOk result
+        (λ frame. IsBuilt Activate (dma_activate_given fields.now) frame.bytes) }
     ensures stamp { IfOk result (λ frame. frame.stamp ≡ stamp) }
 {
     Frame::made_of(alloc, &fields.bytes(), stamp)
@@ -378,7 +379,8 @@ fn is_payload_length(bytes: &[u8]) -> bool
 /// is tested before memory is asked for.
 #[tactic(auto, using(crate::proofs::FrameLemmas::payload_seen))]
 pub fn payload(alloc: Global, pm_port: u8, bytes: &[u8], stamp: Stamp) -> Result<Frame, FrameError>
-    ensures built { IfOk result (λ frame. frame.bytes ≡ 0x46 ∷ pm_port % 16 ∷ 0 ∷ 0 ∷ bytes.now) }
+    ensures built { IfOk result
+        (λ frame. frame.bytes ≡ 0x46 ∷ pm_port % 16 ∷ 0 ∷ 0 ∷ bytes.now) }
     ensures stamp { IfOk result (λ frame. frame.stamp ≡ stamp) }
     ensures viewed { IfOk result (λ frame. seen frame.bytes ≡ Ok (view.Payload frame.bytes)) }
     ensures is_payload { OnOk result (IsPayload bytes.now) }

@@ -4,4 +4,5 @@ mod builders;
 mod device_rows;
 mod frames;
 mod host_rows;
+mod memory;
 mod vectors;
