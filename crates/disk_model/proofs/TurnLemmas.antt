@@ -1,6 +1,7 @@
 -- What a disk's turn is, from the facts that its code has at hand.
 use Rattle.std.proofs.lemmas.Bool.Decides.{nat_tests}
-use Rattle.std.proofs.Common.{◌≡◌, ◌==◌, ◌≤◌, length-drop, rules, tests, ℕ, ◌-◌, ◌*◌, ◌<◌, Bool, true, false, List, [], ◌∷◌, Some, None, length, get_or, drop, refl, ap, sym, ◌∙◌, arith}
+use Rattle.std.proofs.Common.{◌≡◌, ◌≢◌, ◌==◌, ◌≤◌, length-drop, rules, tests, ℕ, ◌-◌, ◌*◌, ◌<◌, Bool, true, false, List, [], ◌∷◌, Some, None, length, get_or, drop, refl, ap, sym, ◌∙◌, arith}
+use Rattle.std.specs.Prelude.{Result, Ok, Err, OnErr}
 use Rattle.disk_model.specs.declared.request.Command.{Command}
 use Rattle.disk_model.specs.declared.answer.Answer.{Answer}
 use Rattle.disk_model.specs.declared.answer.Fault.{Fault}
@@ -11,7 +12,7 @@ use Rattle.disk_model.specs.Sendings.{Sending, Shows, answer_sent}
 use Rattle.disk_model.specs.Chunks.{sends_left, asks_for, chunks, chunk_from, chunk_count, fault_of, report, put}
 use Rattle.disk_model.specs.Disks.{Moment, Turn, turn, went, ended, stopped, picked, starts, read_turn, write_turn, begun_write, data_taken}
 use Rattle.disk_model.specs.Runs.{Takes}
-use Rattle.disk_model.specs.Insides.{sends_after, moved, started_by, Leads}
+use Rattle.disk_model.specs.Insides.{sends_of, sends_after, moved, started_by, Leads}
 use Rattle.disk_model.proofs.SendLemmas.{sends_left_next}
 
 -- ## A turn that is known
@@ -51,6 +52,32 @@ takes_start_write plan sectors m n c staged later bytes write owed started writi
 pub takes_fault : (plan : DiskPlan) (sectors : ℕ) (m n : Moment) (c : Command) (f : Fault) (bytes : List ℕ) → m.owed ≡ [] → m.started ≡ None → m.writing ≡ None → picked plan.order m.queued ≡ Some c → fault_of plan sectors c ≡ Some f → Shows (report f) bytes → n ≡ stopped m f → Takes (turn plan sectors m) bytes n
 takes_fault plan sectors m n c f bytes owed started writing pick bad shows same =
     takes _ (report f) bytes (stopped m f) n (rw (owed, started, writing, pick, bad) refl) shows same
+
+-- ## It is the disk's turn
+
+-- what holds, holds where there is an error
+pub on_err_so : {T E P : Type 0} (r : Result T E) → P → OnErr r P
+on_err_so (Ok x) p = tt
+on_err_so (Err e) p = p
+
+none_left : (m : Moment) (c : Command) (sends later : List Sending) (s : Sending) → sends ≡ s ∷ later → read_turn m c sends ≢ None
+none_left m c sends later s is = λ none. let e = rw is at none in cc e
+
+read_left : (plan : DiskPlan) (m : Moment) (medium : List ℕ) (r : Reading) (up : Bool) → 0 < r.left → read_turn m r.command (sends_of plan medium r up) ≢ None
+read_left plan m medium r false some = none_left m r.command _ _ _ (sends_left_next plan medium r.command r.left some)
+read_left plan m medium r true some = none_left m r.command _ _ _ (ap (drop 1) (sends_left_next plan medium r.command r.left some))
+
+-- a read goes on
+pub has_read : (plan : DiskPlan) (sectors : ℕ) (m : Moment) (medium : List ℕ) (r : Reading) → m.owed ≡ [] → m.started ≡ Some (record { command = r.command; sends = sends_of plan medium r r.set_up }) → 0 < r.left → turn plan sectors m ≢ None
+has_read plan sectors m medium r owed started some =
+    let a : turn plan sectors m ≡ read_turn m r.command (sends_of plan medium r r.set_up) = rw (owed, started) refl in
+    λ none. read_left plan m medium r r.set_up some (sym a ∙ none)
+
+-- a read is started
+pub has_start : (plan : DiskPlan) (sectors : ℕ) (m : Moment) (c : Command) → c.write ≡ false → m.owed ≡ [] → m.started ≡ None → m.writing ≡ None → picked plan.order m.queued ≡ Some c → fault_of plan sectors c ≡ None → 0 < chunks plan c → turn plan sectors m ≢ None
+has_start plan sectors m c read owed started writing pick good some =
+    let a : turn plan sectors m ≡ starts plan m c c.write = rw (owed, started, writing, pick, good) refl in
+    λ none. none_left m c _ _ _ (sends_left_next plan m.medium c (chunks plan c) some) (ap (starts plan m c) (sym read) ∙ sym a ∙ none)
 
 -- ## What a read's FIS leaves
 

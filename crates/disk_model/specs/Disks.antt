@@ -11,6 +11,7 @@ use Rattle.disk_model.specs.declared.request.Request.{Request}
 use Rattle.disk_model.specs.declared.request.Request.TheVariants.{Reset, Queue, ReadErrorLog, Identify, Flush, Other}
 use Rattle.disk_model.specs.declared.answer.Answer.{Answer}
 use Rattle.disk_model.specs.declared.answer.Answer.TheVariants.{Signature, Accepted, Finished, Refused, Ended, PageFollows, PageData}
+use Rattle.disk_model.specs.declared.answer.Page.{Page}
 use Rattle.disk_model.specs.declared.answer.Page.TheVariants.{ErrorLog, Identity}
 use Rattle.disk_model.specs.declared.answer.Fault.{Fault}
 use Rattle.disk_model.specs.declared.answer.Fault.TheVariants.{Mixed}
@@ -125,6 +126,13 @@ turn plan sectors m = answer_turn plan sectors m m.owed
 abbrev pub owes : Moment → Answer → Moment
 owes m a = record m { owed = m.owed ++ a ∷ [] }
 
+abbrev pub owes_page : Moment → Page → Moment
+owes_page m page = record m { owed = m.owed ++ PageFollows ∷ PageData page ∷ [] }
+
+-- nothing but this answer is owed, and nothing is queued
+abbrev pub owes_alone : Moment → Answer → Option Fault → Moment
+owes_alone m a fault = record m { queued = []; fault = fault; owed = a ∷ []; started = None; writing = None }
+
 -- all that a reset drops
 abbrev pub cleared : Moment → Moment
 cleared m = record m { queued = []; fault = None; owed = []; started = None; writing = None }
@@ -132,7 +140,7 @@ cleared m = record m { queued = []; fault = None; owed = []; started = None; wri
 -- where commands are queued, a refusal drops them
 abbrev pub refused : Moment → List Command → Moment
 refused m [] = owes m Refused
-refused m (c ∷ cs) = record m { queued = []; fault = Some Mixed; owed = Refused ∷ []; started = None; writing = None }
+refused m (c ∷ cs) = owes_alone m Refused (Some Mixed)
 
 -- a command that is not queued is refused where others are queued
 abbrev pub flushed : Moment → List Command → Moment
@@ -140,12 +148,12 @@ flushed m [] = owes m Finished
 flushed m (c ∷ cs) = refused m (c ∷ cs)
 
 abbrev pub identified : Moment → List Command → Moment
-identified m [] = record m { owed = m.owed ++ PageFollows ∷ PageData Identity ∷ [] }
+identified m [] = owes_page m Identity
 identified m (c ∷ cs) = refused m (c ∷ cs)
 
 -- the log tells the error, and ends the error mode
 abbrev pub logged : Moment → List Command → Moment
-logged m [] = record m { fault = None; owed = m.owed ++ PageFollows ∷ PageData (ErrorLog m.fault) ∷ [] }
+logged m [] = owes_page (record m { fault = None }) (ErrorLog m.fault)
 logged m (c ∷ cs) = refused m (c ∷ cs)
 
 abbrev pub queues : Moment → Command → Moment

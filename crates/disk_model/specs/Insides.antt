@@ -1,5 +1,5 @@
 -- How the fields of a disk are seen.
-use Rattle.std.specs.Prelude.{ℕ, ◌≡◌, ◌+◌, ◌-◌, ◌*◌, ◌<◌, ◌≤◌, ◌&&◌, min, nat_le, nat_lt, Bool, true, false, if◌then◌else◌, List, [], ◌∷◌, length, drop, fold, Option, Some, None, All}
+use Rattle.std.specs.Prelude.{ℕ, ◌≡◌, ◌≢◌, ◌+◌, ◌-◌, ◌*◌, ◌<◌, ◌≤◌, ◌&&◌, min, nat_le, nat_lt, Bool, true, false, if◌then◌else◌, List, [], ◌∷◌, length, drop, fold, Option, Some, None, All, vec_capacity, ◌⊎◌}
 use Rattle.std.specs.Option.{option_map_or}
 use Rattle.disk_model.specs.declared.request.Command.{Command}
 use Rattle.disk_model.specs.declared.disk.Disk.TheInside.{Inside}
@@ -10,7 +10,7 @@ use Rattle.disk_model.specs.declared.plan.DiskPlan.{DiskPlan}
 use Rattle.fis_view.specs.Frames.{Stamped}
 use Rattle.disk_model.specs.Sendings.{Sending, Shows}
 use Rattle.disk_model.specs.Chunks.{sends_left, asks_for, chunks}
-use Rattle.disk_model.specs.Disks.{Started, Writing, DiskValue, turn}
+use Rattle.disk_model.specs.Disks.{Moment, Started, Writing, DiskValue, turn}
 use Rattle.disk_model.specs.Runs.{Gave}
 
 -- what a read still sends, its bytes read from the medium
@@ -56,6 +56,13 @@ pub record IsDisk (d : Inside) : Type 0 where
   pub counts : All (λ c. 0 < c.count) d.queue.items
   pub staged : IsStaged d.staged.items d.transfer
   pub transfer : IsTransfer d.plan d.sectors d.transfer
+  -- there are places for 64 answers, and for 32 commands, one for each tag
+  pub answers : 64 ≤ d.answers.cap
+  pub queue : 32 ≤ vec_capacity d.queue
+
+-- So many answers wait, or so many commands are queued, that more may want memory: of 64 places a page takes two.
+abbrev pub IsFull : Moment → Type 0
+IsFull m = (63 ≤ length m.owed) ⊎ (32 ≤ length m.queued)
 
 -- what it sends after its next FIS
 abbrev pub sends_after : DiskPlan → List ℕ → Reading → Bool → List Sending
@@ -74,6 +81,10 @@ moved_to r true = record { command = r.command; left = r.left - 1; set_up = fals
 
 abbrev pub moved : Reading → Reading
 moved r = moved_to r r.set_up
+
+-- it is the disk's turn to send
+abbrev pub HasTurn : DiskValue → Type 0
+HasTurn d = turn d.plan d.sectors d.now ≢ None
 
 -- what a call that sends gives, and what it leaves
 abbrev pub Gives : DiskValue → Option Stamped → DiskValue → Type 0

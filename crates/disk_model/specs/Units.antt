@@ -2,6 +2,7 @@
 use Rattle.std.specs.Prelude.{ℕ, ◌≢◌, List, []}
 use Rattle.disk_model.specs.Histories.{Happening, Plan, Script, DiskOf, GoesOn, SendsNext, IsSilent}
 use Rattle.disk_model.specs.Runs.{disk_plan, DiskStandsFor, DiskMaySend}
+use Rattle.disk_model.specs.Insides.{HasTurn, IsFull}
 use Rattle.disk_model.specs.Scripts.{script_of, ScriptStandsFor, ScriptMaySend}
 use Rattle.disk_model.specs.declared.unit.Unit.{Unit}
 use Rattle.disk_model.specs.declared.unit.Unit.TheVariants.{Disk, Scripted}
@@ -30,11 +31,12 @@ UnitSends old bytes new = SendsNext plan_of StandsFor MaySend old bytes new
 abbrev pub UnitIsSilent : Unit → Type 0
 UnitIsSilent unit = IsSilent plan_of StandsFor MaySend unit
 
-abbrev pub IsDisk : Unit → Type 0
-IsDisk (Disk disk) = Prim.Unit {0}
-IsDisk (Scripted reading) = ⊥
+-- a disk where so much waits that one answer more may want memory
+abbrev pub IsFullDisk : Unit → Type 0
+IsFullDisk (Disk disk) = IsFull disk.now
+IsFullDisk (Scripted reading) = ⊥
 
--- the unit is a disk, or a script with a frame left to send
+-- a disk whose turn it is to send, or a script with a frame left to send
 abbrev pub HasFrames : Unit → Type 0
-HasFrames (Disk disk) = Prim.Unit {0}
+HasFrames (Disk disk) = HasTurn disk
 HasFrames (Scripted reading) = reading.left ≢ []

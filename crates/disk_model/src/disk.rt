@@ -1,6 +1,6 @@
 //! A disk with native command queuing (Serial ATA 3.x, first party DMA; ACS-3).
 
-ghost use Rattle.std.specs.Prelude.{◌≡◌, ◌+◌, ◌*◌, ◌<◌, ◌≤◌, ◌==◌, [], All, IfOk, IsErrOf, IsTrue, MatchOption, OnOk, filter, length, map, not, replicate, ◌↔◌};
+ghost use Rattle.std.specs.Prelude.{◌≡◌, ◌+◌, ◌*◌, ◌<◌, ◌≤◌, ◌==◌, [], All, IfOk, IsErrOf, IsTrue, MatchOption, OnOk, filter, length, map, not, replicate, vec_capacity, ◌↔◌};
 ghost use Rattle.std.specs.List.{list_any};
 ghost use Rattle.disk_model.specs.Chunks.{put, sectors_at};
 ghost use Rattle.disk_model.specs.Disks.{opening, opening_medium, without};
@@ -124,6 +124,7 @@ fn put_at(bytes: &mut Vec<u8>, at: usize, part: &[u8])
 fn remove_tag(queue: &mut Vec<Command>, tag: u8)
     ensures items { queue.new.items ≡ filter (λ q. not (q.tag == tag)) queue.old.items }
     ensures counts { All (λ c. 0 < c.count) queue.old.items → All (λ c. 0 < c.count) queue.new.items }
+    ensures capacity { vec_capacity queue.new ≡ vec_capacity queue.old }
 {
     queue.retain(|queued| queued.tag != tag);
 }
@@ -148,14 +149,16 @@ impl Disk {
             return Err(DiskError::BadSize);
         }
         let medium = new_medium(alloc, sectors)?;
+        let queue = Vec::with_capacity(alloc, 32)?;
+        let answers = VecDeque::with_capacity(alloc, 64)?;
         Ok(Disk {
             plan,
             sectors,
             medium,
-            queue: Vec::new(alloc),
+            queue,
             fault: None,
             resetting: false,
-            answers: VecDeque::new(alloc),
+            answers,
             transfer: Transfer::Idle,
             staged: Vec::new(alloc),
         })
@@ -174,7 +177,10 @@ impl Disk {
 }
 
 impl Device for Disk {
+    ghost use Rattle.disk_model.specs.Histories.{GoesOn, IsSilent, Plugged, Received, SendsNext};
+    ghost use Rattle.disk_model.specs.Insides.{HasTurn, IsFull};
     ghost use Rattle.disk_model.specs.Runs.{DiskMaySend, DiskStandsFor, disk_plan};
+    ghost use Rattle.std.specs.Prelude.{IfNone, IfSome, IsOk, OnErr};
 
     ghost plan_of = { disk_plan };
 
@@ -182,7 +188,12 @@ impl Device for Disk {
 
     ghost may_send = { DiskMaySend };
 
-    fn on_frame(&mut self, _alloc: Global, frame: &Frame) -> Result<(), AllocError> {
+    fn on_frame(&mut self, _alloc: Global, frame: &Frame) -> Result<(), AllocError>
+        ensures ok { OnOk result (GoesOn disk_plan DiskStandsFor self.old (Received frame.now.bytes) self.new) }
+        ensures err { OnErr result (self.new ≡ self.old) }
+        // it takes memory only where 63 answers wait or 32 commands are queued
+        ensures no_memory { OnErr result (IsFull self.old.now) }
+    {
         let Ok(fis) = frame.fis() else {
             return Ok(());
         };
@@ -193,11 +204,25 @@ impl Device for Disk {
         }
     }
 
-    fn next_out(&mut self, alloc: Global, stamp: Stamp) -> Result<Option<Frame>, AllocError> {
+    fn next_out(&mut self, alloc: Global, stamp: Stamp) -> Result<Option<Frame>, AllocError>
+        ensures sent { IfOk result (λ out. IfSome out (λ frame. SendsNext disk_plan DiskStandsFor DiskMaySend self.old frame.bytes self.new)) }
+        ensures stamp { IfOk result (λ out. IfSome out (λ frame. frame.stamp ≡ stamp)) }
+        ensures silent { IfOk result (λ out. IfNone out (IsSilent disk_plan DiskStandsFor DiskMaySend self.old)) }
+        ensures same { IfOk result (λ out. IfNone out (self.new ≡ self.old)) }
+        ensures err { OnErr result (self.new ≡ self.old) }
+        // it takes memory for a frame that is to be sent, and for nothing else
+        ensures no_memory { OnErr result (HasTurn self.old) }
+    {
         self.give_answer(alloc, stamp)
     }
 
-    fn plugged(&mut self, _alloc: Global) -> Result<(), AllocError> {
-        self.plug()
+    fn plugged(&mut self, _alloc: Global) -> Result<(), AllocError>
+        ensures ok { OnOk result (GoesOn disk_plan DiskStandsFor self.old Plugged self.new) }
+        ensures err { OnErr result (self.new ≡ self.old) }
+        // it takes no memory
+        ensures done { IsOk result }
+    {
+        self.plug();
+        Ok(())
     }
 }

@@ -1,4 +1,4 @@
-ghost use Rattle.std.specs.Prelude.{◌≡◌, IfNone, IfOk, IfSome, OnErr, OnOk};
+ghost use Rattle.std.specs.Prelude.{◌≡◌, IfNone, IfOk, IfSome, IsOk, OnErr, OnOk};
 ghost use Rattle.disk_model.specs.Histories.{GoesOn, IsSilent, Plugged, Received, SendsNext};
 
 use crate::device::Device;
@@ -17,7 +17,7 @@ pub enum Unit {
 }
 
 impl Device for Unit {
-    ghost use Rattle.disk_model.specs.Units.{plan_of, HasFrames, IsDisk, StandsFor, MaySend};
+    ghost use Rattle.disk_model.specs.Units.{plan_of, HasFrames, IsFullDisk, StandsFor, MaySend};
 
     ghost plan_of = { plan_of };
 
@@ -28,8 +28,8 @@ impl Device for Unit {
     fn on_frame(&mut self, alloc: Global, frame: &Frame) -> Result<(), AllocError>
         ensures ok { OnOk result (GoesOn plan_of StandsFor self.old (Received frame.now.bytes) self.new) }
         ensures err { OnErr result (self.new ≡ self.old) }
-        // a script takes no memory for it
-        ensures no_memory { OnErr result (IsDisk self.old) }
+        // a script takes no memory for it, nor does a disk that is not full
+        ensures no_memory { OnErr result (IsFullDisk self.old) }
     {
         match self {
             Unit::Disk(disk) => disk.on_frame(alloc, frame),
@@ -43,7 +43,7 @@ impl Device for Unit {
         ensures silent { IfOk result (λ out. IfNone out (IsSilent plan_of StandsFor MaySend self.old)) }
         ensures same { IfOk result (λ out. IfNone out (self.new ≡ self.old)) }
         ensures err { OnErr result (self.new ≡ self.old) }
-        // a script that was sent to its end takes no memory
+        // neither a script that was sent to its end takes memory, nor a disk that has nothing to send
         ensures no_memory { OnErr result (HasFrames self.old) }
     {
         match self {
@@ -55,8 +55,8 @@ impl Device for Unit {
     fn plugged(&mut self, alloc: Global) -> Result<(), AllocError>
         ensures ok { OnOk result (GoesOn plan_of StandsFor self.old Plugged self.new) }
         ensures err { OnErr result (self.new ≡ self.old) }
-        // a script takes no memory for it
-        ensures no_memory { OnErr result (IsDisk self.old) }
+        // it takes no memory
+        ensures done { IsOk result }
     {
         match self {
             Unit::Disk(disk) => disk.plugged(alloc),

@@ -1,9 +1,9 @@
 //! What a disk makes of what it receives.
 
 ghost use Rattle.std.specs.Prelude.{◌≡◌, ◌<◌, ◌++◌, ◌∷◌, [], None, OnErr, OnOk};
-ghost use Rattle.disk_model.specs.Disks.{cleared, data_taken, flushed, identified, logged, owes, queues, received, refused, with_now};
+ghost use Rattle.disk_model.specs.Disks.{cleared, data_taken, flushed, identified, logged, owes, owes_alone, owes_page, queues, received, refused, with_now};
+ghost use Rattle.disk_model.specs.Insides.{IsFull};
 ghost use Rattle.disk_model.specs.Requests.{Asks};
-ghost use Rattle.disk_model.specs.declared.answer.Answer.TheVariants.{PageFollows, PageData};
 
 use super::{Disk, Transfer, Waiting, is_queued, put_at, remove_tag};
 use crate::answer::{Answer, Fault, Page};
@@ -25,37 +25,33 @@ impl Disk {
     fn owe(&mut self, answer: Answer) -> Result<(), AllocError>
         ensures ok { OnOk result (self.new ≡ with_now self.old (owes self.old.now answer)) }
         ensures err { OnErr result (self.new ≡ self.old) }
+        ensures no_memory { OnErr result (IsFull self.old.now) }
     {
         self.answers.push_back(answer)?;
         Ok(())
     }
 
     /// Drops all but the mark of a reset that has begun, and owes this answer alone.
-    fn owe_alone(&mut self, answer: Answer, fault: Option<Fault>) -> Result<(), AllocError>
-        ensures ok { OnOk result (self.new ≡ with_now self.old (record self.old.now { queued = []; fault = fault; owed = answer ∷ []; started = None; writing = None })) }
-        ensures err { OnErr result (self.new ≡ self.old) }
+    fn owe_alone(&mut self, answer: Answer, fault: Option<Fault>)
+        ensures { self.new ≡ with_now self.old (owes_alone self.old.now answer fault) }
     {
-        // The first place is used again where there is one, so that no memory is asked for.
-        if self.answers.is_empty() {
-            self.answers.push_back(answer)?;
-        } else {
-            self.answers.truncate(1);
-            self.answers[0] = answer;
-        }
+        self.answers.clear();
+        self.answers.push_back_reserved(answer);
         self.queue.clear();
         self.transfer = Transfer::Idle;
         self.fault = fault;
-        Ok(())
     }
 
     fn refuse(&mut self) -> Result<(), AllocError>
         ensures ok { OnOk result (self.new ≡ with_now self.old (refused self.old.now self.old.now.queued)) }
         ensures err { OnErr result (self.new ≡ self.old) }
+        ensures no_memory { OnErr result (IsFull self.old.now) }
     {
         if self.queue.is_empty() {
             self.owe(Answer::Refused)
         } else {
-            self.owe_alone(Answer::Refused, Some(Fault::Mixed))
+            self.owe_alone(Answer::Refused, Some(Fault::Mixed));
+            Ok(())
         }
     }
 
@@ -63,6 +59,7 @@ impl Disk {
         requires { 0 < command.count }
         ensures ok { OnOk result (self.new ≡ with_now self.old (queues self.old.now command)) }
         ensures err { OnErr result (self.new ≡ self.old) }
+        ensures no_memory { OnErr result (IsFull self.old.now) }
     {
         if is_queued(self.queue.as_slice(), command.tag) {
             return self.refuse();
@@ -80,6 +77,7 @@ impl Disk {
     fn flush(&mut self) -> Result<(), AllocError>
         ensures ok { OnOk result (self.new ≡ with_now self.old (flushed self.old.now self.old.now.queued)) }
         ensures err { OnErr result (self.new ≡ self.old) }
+        ensures no_memory { OnErr result (IsFull self.old.now) }
     {
         if self.queue.is_empty() {
             self.owe(Answer::Finished)
@@ -90,8 +88,9 @@ impl Disk {
 
     /// Owes the PIO Setup of a page and the page.
     fn owe_page(&mut self, page: Page) -> Result<(), AllocError>
-        ensures ok { OnOk result (self.new ≡ with_now self.old (record self.old.now { owed = self.old.now.owed ++ PageFollows ∷ PageData page ∷ [] })) }
+        ensures ok { OnOk result (self.new ≡ with_now self.old (owes_page self.old.now page)) }
         ensures err { OnErr result (self.new ≡ self.old) }
+        ensures no_memory { OnErr result (IsFull self.old.now) }
     {
         self.answers.push_back(Answer::PageFollows)?;
         match self.answers.push_back(Answer::PageData(page)) {
@@ -106,6 +105,7 @@ impl Disk {
     fn identify(&mut self) -> Result<(), AllocError>
         ensures ok { OnOk result (self.new ≡ with_now self.old (identified self.old.now self.old.now.queued)) }
         ensures err { OnErr result (self.new ≡ self.old) }
+        ensures no_memory { OnErr result (IsFull self.old.now) }
     {
         if self.queue.is_empty() {
             self.owe_page(Page::Identity)
@@ -117,6 +117,7 @@ impl Disk {
     fn read_error_log(&mut self) -> Result<(), AllocError>
         ensures ok { OnOk result (self.new ≡ with_now self.old (logged self.old.now self.old.now.queued)) }
         ensures err { OnErr result (self.new ≡ self.old) }
+        ensures no_memory { OnErr result (IsFull self.old.now) }
     {
         if !self.queue.is_empty() {
             return self.refuse();
@@ -131,6 +132,7 @@ impl Disk {
         requires { Asks request }
         ensures ok { OnOk result (self.new ≡ with_now self.old (received self.old.now request self.old.now.fault)) }
         ensures err { OnErr result (self.new ≡ self.old) }
+        ensures no_memory { OnErr result (IsFull self.old.now) }
     {
         match request {
             Request::Reset(true) => {
@@ -158,6 +160,7 @@ impl Disk {
     pub(super) fn store(&mut self, bytes: &[u8]) -> Result<(), AllocError>
         ensures ok { OnOk result (self.new ≡ with_now self.old (data_taken self.old.plan self.old.now self.old.now.writing bytes.now)) }
         ensures err { OnErr result (self.new ≡ self.old) }
+        ensures no_memory { OnErr result (IsFull self.old.now) }
     {
         let Transfer::Write(waiting) = self.transfer else {
             return Ok(());
@@ -194,10 +197,9 @@ impl Disk {
     }
 
     /// Drops what a reset drops, and owes the signature.
-    pub(super) fn plug(&mut self) -> Result<(), AllocError>
-        ensures ok { OnOk result (self.new ≡ with_now self.old (owes (cleared self.old.now) Answer.Signature)) }
-        ensures err { OnErr result (self.new ≡ self.old) }
+    pub(super) fn plug(&mut self)
+        ensures { self.new ≡ with_now self.old (owes (cleared self.old.now) Answer.Signature) }
     {
-        self.owe_alone(Answer::Signature, None)
+        self.owe_alone(Answer::Signature, None);
     }
 }

@@ -3,7 +3,7 @@
 ghost use Rattle.std.specs.Prelude.{◌≡◌, ◌+◌, ◌*◌, ◌<◌, ◌≤◌, [], drop, length, replicate, true, None, IfOk, IfSome, OnErr};
 ghost use Rattle.disk_model.specs.Chunks.{asks_for, chunks};
 ghost use Rattle.disk_model.specs.Disks.{picked};
-ghost use Rattle.disk_model.specs.Insides.{Gives, IsTransfer, Leads, moved, sends_after, sends_of};
+ghost use Rattle.disk_model.specs.Insides.{Gives, HasTurn, IsTransfer, Leads, moved, sends_after, sends_of};
 ghost use Rattle.disk_model.specs.declared.disk.Transfer.TheVariants.{Read};
 
 use super::{Disk, Reading, Transfer, Waiting, remove_tag};
@@ -144,6 +144,7 @@ impl Disk {
         ensures gives { IfOk result (λ out. Gives self.old out self.new) }
         ensures stamp { IfOk result (λ out. IfSome out (λ frame. frame.stamp ≡ stamp)) }
         ensures err { OnErr result (self.new ≡ self.old) }
+        ensures no_memory { OnErr result (HasTurn self.old) }
     {
         match self.answers.front() {
             Some(answer) => {
@@ -161,41 +162,26 @@ impl Disk {
         ensures gives { IfOk result (λ out. Gives self.old out self.new) }
         ensures stamp { IfOk result (λ out. IfSome out (λ frame. frame.stamp ≡ stamp)) }
         ensures err { OnErr result (self.new ≡ self.old) }
+        ensures no_memory { OnErr result (HasTurn self.old) }
     {
         let Transfer::Read(reading) = self.transfer else {
             return self.give_waiting(alloc, stamp);
         };
         let tag = reading.command.tag;
+        let frame = reading_frame(
+            alloc,
+            &self.plan,
+            self.sectors,
+            self.medium.as_slice(),
+            reading,
+            stamp,
+        )?;
         if reading.set_up && reading.left == 1 {
-            // Room for the end is made first, so that a FIS that finds no memory leaves nothing behind.
-            self.answers.push_back(Answer::Ended(tag))?;
-            match reading_frame(
-                alloc,
-                &self.plan,
-                self.sectors,
-                self.medium.as_slice(),
-                reading,
-                stamp,
-            ) {
-                Ok(frame) => {
-                    remove_tag(&mut self.queue, tag);
-                    self.transfer = Transfer::Idle;
-                    Ok(Some(frame))
-                }
-                Err(error) => {
-                    self.answers.pop_back();
-                    Err(error)
-                }
-            }
+            self.answers.push_back_reserved(Answer::Ended(tag));
+            remove_tag(&mut self.queue, tag);
+            self.transfer = Transfer::Idle;
+            Ok(Some(frame))
         } else {
-            let frame = reading_frame(
-                alloc,
-                &self.plan,
-                self.sectors,
-                self.medium.as_slice(),
-                reading,
-                stamp,
-            )?;
             self.transfer = Transfer::Read(moved_on(reading));
             Ok(Some(frame))
         }
@@ -208,6 +194,7 @@ impl Disk {
         ensures gives { IfOk result (λ out. Gives self.old out self.new) }
         ensures stamp { IfOk result (λ out. IfSome out (λ frame. frame.stamp ≡ stamp)) }
         ensures err { OnErr result (self.new ≡ self.old) }
+        ensures no_memory { OnErr result (HasTurn self.old) }
     {
         let Transfer::Write(waiting) = self.transfer else {
             return self.give_start(alloc, stamp);
@@ -228,6 +215,7 @@ impl Disk {
         ensures gives { IfOk result (λ out. Gives self.old out self.new) }
         ensures stamp { IfOk result (λ out. IfSome out (λ frame. frame.stamp ≡ stamp)) }
         ensures err { OnErr result (self.new ≡ self.old) }
+        ensures no_memory { OnErr result (HasTurn self.old) }
     {
         let Some(command) = self.pick() else {
             return Ok(None);

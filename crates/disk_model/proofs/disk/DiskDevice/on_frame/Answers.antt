@@ -32,4 +32,5 @@ returns-in_default-fis c =
     record {
       ok = disk_goes_on v v (Received c.args.frame.now.bytes) tt (ap (with_now v) (nothing ∙ ap (heard v.plan v.now) c.in-Ok.ensures.view));
       err = tt;
+      no_memory = tt;
     }
