@@ -64,6 +64,11 @@ pub record IsDisk (d : Inside) : Type 0 where
 abbrev pub IsFull : Moment → Type 0
 IsFull m = (63 ≤ length m.owed) ⊎ (32 ≤ length m.queued)
 
+-- the disk is full, and is to owe more than it did
+pub record WantsRoom (old new : Moment) : Type 0 where
+  pub full : IsFull old
+  pub more : length old.owed < length new.owed
+
 -- what it sends after its next FIS
 abbrev pub sends_after : DiskPlan → List ℕ → Reading → Bool → List Sending
 sends_after plan medium r false = sends_of plan medium r true

@@ -2,7 +2,8 @@
 use Rattle.std.specs.Prelude.{ℕ, ◌≢◌, List, []}
 use Rattle.disk_model.specs.Histories.{Happening, Plan, Script, DiskOf, GoesOn, SendsNext, IsSilent}
 use Rattle.disk_model.specs.Runs.{disk_plan, DiskStandsFor, DiskMaySend}
-use Rattle.disk_model.specs.Insides.{HasTurn, IsFull}
+use Rattle.disk_model.specs.Disks.{after}
+use Rattle.disk_model.specs.Insides.{HasTurn, WantsRoom}
 use Rattle.disk_model.specs.Scripts.{script_of, ScriptStandsFor, ScriptMaySend}
 use Rattle.disk_model.specs.declared.unit.Unit.{Unit}
 use Rattle.disk_model.specs.declared.unit.Unit.TheVariants.{Disk, Scripted}
@@ -31,10 +32,10 @@ UnitSends old bytes new = SendsNext plan_of StandsFor MaySend old bytes new
 abbrev pub UnitIsSilent : Unit → Type 0
 UnitIsSilent unit = IsSilent plan_of StandsFor MaySend unit
 
--- a disk where so much waits that one answer more may want memory
-abbrev pub IsFullDisk : Unit → Type 0
-IsFullDisk (Disk disk) = IsFull disk.now
-IsFullDisk (Scripted reading) = ⊥
+-- a disk that is full, and is to owe more than it did when this happens
+abbrev pub UnitWantsRoom : Unit → Happening → Type 0
+UnitWantsRoom (Disk disk) e = WantsRoom disk.now (after disk.plan disk.sectors disk.now e)
+UnitWantsRoom (Scripted reading) e = ⊥
 
 -- a disk whose turn it is to send, or a script with a frame left to send
 abbrev pub HasFrames : Unit → Type 0

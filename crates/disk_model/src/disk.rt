@@ -177,8 +177,9 @@ impl Disk {
 }
 
 impl Device for Disk {
+    ghost use Rattle.disk_model.specs.Disks.{after};
     ghost use Rattle.disk_model.specs.Histories.{GoesOn, IsSilent, Plugged, Received, SendsNext};
-    ghost use Rattle.disk_model.specs.Insides.{HasTurn, IsFull};
+    ghost use Rattle.disk_model.specs.Insides.{HasTurn, WantsRoom};
     ghost use Rattle.disk_model.specs.Runs.{DiskMaySend, DiskStandsFor, disk_plan};
     ghost use Rattle.std.specs.Prelude.{IfNone, IfSome, IsOk, OnErr};
 
@@ -191,8 +192,8 @@ impl Device for Disk {
     fn on_frame(&mut self, _alloc: Global, frame: &Frame) -> Result<(), AllocError>
         ensures ok { OnOk result (GoesOn disk_plan DiskStandsFor self.old (Received frame.now.bytes) self.new) }
         ensures err { OnErr result (self.new ≡ self.old) }
-        // it takes memory only where 63 answers wait or 32 commands are queued
-        ensures no_memory { OnErr result (IsFull self.old.now) }
+        // it takes memory only for an answer, where 63 answers wait or 32 commands are queued
+        ensures no_memory { OnErr result (WantsRoom self.old.now (after self.old.plan self.old.sectors self.old.now (Received frame.now.bytes))) }
     {
         let Ok(fis) = frame.fis() else {
             return Ok(());

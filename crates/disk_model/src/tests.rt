@@ -2,6 +2,7 @@
 
 mod disk;
 mod errors;
+mod memory;
 mod pages;
 mod scripted;
 mod writes;

@@ -17,7 +17,7 @@ pub enum Unit {
 }
 
 impl Device for Unit {
-    ghost use Rattle.disk_model.specs.Units.{plan_of, HasFrames, IsFullDisk, StandsFor, MaySend};
+    ghost use Rattle.disk_model.specs.Units.{plan_of, HasFrames, UnitWantsRoom, StandsFor, MaySend};
 
     ghost plan_of = { plan_of };
 
@@ -28,8 +28,8 @@ impl Device for Unit {
     fn on_frame(&mut self, alloc: Global, frame: &Frame) -> Result<(), AllocError>
         ensures ok { OnOk result (GoesOn plan_of StandsFor self.old (Received frame.now.bytes) self.new) }
         ensures err { OnErr result (self.new ≡ self.old) }
-        // a script takes no memory for it, nor does a disk that is not full
-        ensures no_memory { OnErr result (IsFullDisk self.old) }
+        // a script takes no memory for it, nor does a disk that is not full or has no more to answer
+        ensures no_memory { OnErr result (UnitWantsRoom self.old (Received frame.now.bytes)) }
     {
         match self {
             Unit::Disk(disk) => disk.on_frame(alloc, frame),

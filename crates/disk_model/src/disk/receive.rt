@@ -2,7 +2,7 @@
 
 ghost use Rattle.std.specs.Prelude.{◌≡◌, ◌<◌, ◌++◌, ◌∷◌, [], None, OnErr, OnOk};
 ghost use Rattle.disk_model.specs.Disks.{cleared, data_taken, flushed, identified, logged, owes, owes_alone, owes_page, queues, received, refused, with_now};
-ghost use Rattle.disk_model.specs.Insides.{IsFull};
+ghost use Rattle.disk_model.specs.Insides.{WantsRoom};
 ghost use Rattle.disk_model.specs.Requests.{Asks};
 
 use super::{Disk, Transfer, Waiting, is_queued, put_at, remove_tag};
@@ -25,7 +25,7 @@ impl Disk {
     fn owe(&mut self, answer: Answer) -> Result<(), AllocError>
         ensures ok { OnOk result (self.new ≡ with_now self.old (owes self.old.now answer)) }
         ensures err { OnErr result (self.new ≡ self.old) }
-        ensures no_memory { OnErr result (IsFull self.old.now) }
+        ensures no_memory { OnErr result (WantsRoom self.old.now (owes self.old.now answer)) }
     {
         self.answers.push_back(answer)?;
         Ok(())
@@ -45,7 +45,7 @@ impl Disk {
     fn refuse(&mut self) -> Result<(), AllocError>
         ensures ok { OnOk result (self.new ≡ with_now self.old (refused self.old.now self.old.now.queued)) }
         ensures err { OnErr result (self.new ≡ self.old) }
-        ensures no_memory { OnErr result (IsFull self.old.now) }
+        ensures no_memory { OnErr result (WantsRoom self.old.now (refused self.old.now self.old.now.queued)) }
     {
         if self.queue.is_empty() {
             self.owe(Answer::Refused)
@@ -59,7 +59,7 @@ impl Disk {
         requires { 0 < command.count }
         ensures ok { OnOk result (self.new ≡ with_now self.old (queues self.old.now command)) }
         ensures err { OnErr result (self.new ≡ self.old) }
-        ensures no_memory { OnErr result (IsFull self.old.now) }
+        ensures no_memory { OnErr result (WantsRoom self.old.now (queues self.old.now command)) }
     {
         if is_queued(self.queue.as_slice(), command.tag) {
             return self.refuse();
@@ -77,7 +77,7 @@ impl Disk {
     fn flush(&mut self) -> Result<(), AllocError>
         ensures ok { OnOk result (self.new ≡ with_now self.old (flushed self.old.now self.old.now.queued)) }
         ensures err { OnErr result (self.new ≡ self.old) }
-        ensures no_memory { OnErr result (IsFull self.old.now) }
+        ensures no_memory { OnErr result (WantsRoom self.old.now (flushed self.old.now self.old.now.queued)) }
     {
         if self.queue.is_empty() {
             self.owe(Answer::Finished)
@@ -90,7 +90,7 @@ impl Disk {
     fn owe_page(&mut self, page: Page) -> Result<(), AllocError>
         ensures ok { OnOk result (self.new ≡ with_now self.old (owes_page self.old.now page)) }
         ensures err { OnErr result (self.new ≡ self.old) }
-        ensures no_memory { OnErr result (IsFull self.old.now) }
+        ensures no_memory { OnErr result (WantsRoom self.old.now (owes_page self.old.now page)) }
     {
         self.answers.push_back(Answer::PageFollows)?;
         match self.answers.push_back(Answer::PageData(page)) {
@@ -105,7 +105,7 @@ impl Disk {
     fn identify(&mut self) -> Result<(), AllocError>
         ensures ok { OnOk result (self.new ≡ with_now self.old (identified self.old.now self.old.now.queued)) }
         ensures err { OnErr result (self.new ≡ self.old) }
-        ensures no_memory { OnErr result (IsFull self.old.now) }
+        ensures no_memory { OnErr result (WantsRoom self.old.now (identified self.old.now self.old.now.queued)) }
     {
         if self.queue.is_empty() {
             self.owe_page(Page::Identity)
@@ -117,7 +117,7 @@ impl Disk {
     fn read_error_log(&mut self) -> Result<(), AllocError>
         ensures ok { OnOk result (self.new ≡ with_now self.old (logged self.old.now self.old.now.queued)) }
         ensures err { OnErr result (self.new ≡ self.old) }
-        ensures no_memory { OnErr result (IsFull self.old.now) }
+        ensures no_memory { OnErr result (WantsRoom self.old.now (logged self.old.now self.old.now.queued)) }
     {
         if !self.queue.is_empty() {
             return self.refuse();
@@ -132,7 +132,7 @@ impl Disk {
         requires { Asks request }
         ensures ok { OnOk result (self.new ≡ with_now self.old (received self.old.now request self.old.now.fault)) }
         ensures err { OnErr result (self.new ≡ self.old) }
-        ensures no_memory { OnErr result (IsFull self.old.now) }
+        ensures no_memory { OnErr result (WantsRoom self.old.now (received self.old.now request self.old.now.fault)) }
     {
         match request {
             Request::Reset(true) => {
@@ -160,7 +160,7 @@ impl Disk {
     pub(super) fn store(&mut self, bytes: &[u8]) -> Result<(), AllocError>
         ensures ok { OnOk result (self.new ≡ with_now self.old (data_taken self.old.plan self.old.now self.old.now.writing bytes.now)) }
         ensures err { OnErr result (self.new ≡ self.old) }
-        ensures no_memory { OnErr result (IsFull self.old.now) }
+        ensures no_memory { OnErr result (WantsRoom self.old.now (data_taken self.old.plan self.old.now self.old.now.writing bytes.now)) }
     {
         let Transfer::Write(waiting) = self.transfer else {
             return Ok(());

@@ -20,6 +20,18 @@ returns-in-Payload-clause-ok c =
     let is = ap Ok (sym c.in-Payload.is) ∙ c.in-Ok.ensures.view in
     on_ok_weaker c.store.result (λ e. disk_goes_on v _ (Received c.args.frame.now.bytes) tt (e ∙ ap (with_now v) (hears_data v.plan v.now _ _ _ is c.payload.ensures.payload))) c.store.ensures.ok
 
+pub returns-in-RegH2D-clause-no_memory : goal.returns-in-RegH2D-clause-no_memory
+returns-in-RegH2D-clause-no_memory c =
+    let m = c.args.self.now.now in
+    let is = ap Ok (sym c.in-RegH2D.is) ∙ c.in-Ok.ensures.view in
+    rw (← hears_register c.args.self.now.plan m _ _ _ is c.of.ensures.request) c.receive.ensures.no_memory
+
+pub returns-in-Payload-clause-no_memory : goal.returns-in-Payload-clause-no_memory
+returns-in-Payload-clause-no_memory c =
+    let v = c.args.self.now in
+    let is = ap Ok (sym c.in-Payload.is) ∙ c.in-Ok.ensures.view in
+    rw (← hears_data v.plan v.now _ _ _ is c.payload.ensures.payload) c.store.ensures.no_memory
+
 pub returns-in_default-clause-ok : goal.returns-in_default-clause-ok
 returns-in_default-clause-ok c =
     let v = c.args.self.now in
