@@ -1,5 +1,5 @@
 -- What the ledger of a run says of the disk: how both agree, and how they go on agreeing while the host sends.
-use Rattle.std.proofs.Common.{◌≡◌, ◌==◌, ◌||◌, ℕ, ◌+◌, ◌*◌, ◌<◌, ◌≤◌, Bool, true, false, List, [], ◌∷◌, ◌++◌, Option, Some, None, length, drop, refl, ap, sym, subst, ◌∙◌}
+use Rattle.std.proofs.Common.{◌≡◌, ◌==◌, ◌||◌, ℕ, ◌+◌, ◌-◌, ◌*◌, ◌<◌, ◌≤◌, Bool, true, false, List, [], ◌∷◌, ◌++◌, Option, Some, None, length, drop, refl, ap, sym, subst, ◌∙◌}
 use Rattle.std.specs.Prelude.{is_some, All, if◌then◌else◌}
 use Rattle.std.proofs.lemmas.Bool.{or_from}
 use Rattle.std.proofs.lemmas.List.{append-nil}
@@ -21,6 +21,7 @@ use Rattle.disk_model.specs.Disks.{Moment, Started, Writing, received, refused}
 use Rattle.disk_model.specs.Ledger.{Ledger, Moving, Written, ReadOut, IsRead, asks, given_up, mixes, medium_with}
 use Rattle.disk_model.proofs.PlaceLemmas.{from_front, from_back}
 use Rattle.disk_model.proofs.GeometryLemmas.{moved_sectors}
+use Rattle.disk_model.proofs.SetupLemmas.{AreSetUp}
 use Rattle.disk_model.proofs.QueueLemmas.{has_tag, IsQueue, IsQueue-append, tag_of, ended_tags, is_page, has_page, AreTags}
 
 -- ## How both agree
@@ -43,7 +44,12 @@ pub record IsMoving (plan : DiskPlan) (sectors : ℕ) (c : Command) (left : ℕ)
 -- where a read stands in its next chunk: before its DMA Setup, or before its Data
 abbrev pub ReadStage : DiskPlan → List ℕ → Command → ℕ → Moving → List Sending → Bool → Type 0
 ReadStage plan medium c left v sends false = sends ≡ sends_left plan medium c left
-ReadStage plan medium c left v sends true = (sends ≡ drop 1 (sends_left plan medium c left)) × (v.offset ≡ 512 * chunk_from plan c left)
+ReadStage plan medium c left v sends true = (sends ≡ drop 1 (sends_left plan medium c left)) × (v.offset ≡ 512 * chunk_from plan c left) × (v.count ≡ 512 * chunk_count plan c left)
+
+-- how many chunks were not set up
+abbrev pub left_after : Bool → ℕ → ℕ
+left_after true left = left - 1
+left_after false left = left
 
 pub record IsReading (plan : DiskPlan) (sectors : ℕ) (medium : List ℕ) (s : Started) (v : Moving) (left : ℕ) (up : Bool) : Type 0 where
   pub moving : IsMoving plan sectors s.command left v
@@ -52,6 +58,7 @@ pub record IsReading (plan : DiskPlan) (sectors : ℕ) (medium : List ℕ) (s : 
   pub bytes : v.bytes ≡ moved_bytes plan.last_first (sectors_at medium s.command.lba s.command.count) (512 * s.command.count) (512 * moved_sectors plan s.command left)
   pub idle : v.active ≡ false
   pub stage : ReadStage plan medium s.command left v s.sends up
+  pub setups : AreSetUp plan s.command (left_after up left) v.setups
 
 -- where a write stands in its next chunk
 pub data Stage : Type 0 where
@@ -68,12 +75,19 @@ WriteStage plan c left v sends Fresh = (sends ≡ asks_for plan c left) × (v.ac
 WriteStage plan c left v sends SetUp = (sends ≡ Activates ∷ []) × (v.active ≡ false) × IsSetUp plan c left v
 WriteStage plan c left v sends Asked = (sends ≡ []) × (v.active ≡ true) × IsSetUp plan c left v
 
+-- whether the next chunk was set up
+abbrev pub is_set_up : Stage → Bool
+is_set_up Fresh = false
+is_set_up SetUp = true
+is_set_up Asked = true
+
 pub record IsWriting (plan : DiskPlan) (sectors : ℕ) (w : Writing) (v : Moving) (at : Stage) : Type 0 where
   pub moving : IsMoving plan sectors w.command w.left v
   pub writes : w.command.write ≡ true
   pub bytes : v.bytes ≡ w.staged
   pub whole : length w.staged ≡ 512 * w.command.count
   pub stage : WriteStage plan w.command w.left v w.sends at
+  pub setups : AreSetUp plan w.command (left_after (is_set_up at) w.left) v.setups
 
 -- the command of the tag is in the queue, and no page waits
 pub record IsHeld (queued : List Command) (owed : List Answer) (tag : ℕ) : Type 0 where

@@ -101,7 +101,7 @@ opens_agreeing plan sectors = record {
   moving = tt;
 }
 
-sized_by : (plan : DiskPlan) (sectors : ℕ) → IsSize plan sectors → IsSized plan sectors
+pub sized_by : (plan : DiskPlan) (sectors : ℕ) → IsSize plan sectors → IsSized plan sectors
 sized_by plan sectors size =
     let some : Bool = nat_le 1 sectors in
     let few : Bool = nat_le sectors 65536 in
@@ -152,7 +152,7 @@ answers_by l sectors (Ended t) later b is tags shows =
     rw shows.viewed (λ fine. subst (λ (xs : List ℕ). Names xs (field Bits SActive b)) (sym is) sactive)
 
 -- the turn that starts a command
-abbrev begun_by : DiskPlan → Moment → Command → Option Fault → Bool → Turn
+abbrev pub begun_by : DiskPlan → Moment → Command → Option Fault → Bool → Turn
 begun_by plan m c None write = starts plan m c write
 begun_by plan m c (Some f) write = begun plan m c (Some f)
 
@@ -163,7 +163,7 @@ begins_answering plan sectors m l c None false b sized some may =
     let next = sends_left_next plan m.medium c (chunks plan c) (some_chunks plan c sized.low some) in
     answers_nothing l (chunk_setup plan c (chunks plan c)) b tt (subst (λ (xs : List Sending). IsTurn (read_turn m c xs) b) next may)
 
-same_turn : (plan : DiskPlan) (m : Moment) (c : Command) (bad : Option Fault) (b : List ℕ) → IsTurn (begun plan m c bad) b → IsTurn (begun_by plan m c bad c.write) b
+pub same_turn : (plan : DiskPlan) (m : Moment) (c : Command) (bad : Option Fault) (b : List ℕ) → IsTurn (begun plan m c bad) b → IsTurn (begun_by plan m c bad c.write) b
 same_turn plan m c None b may = may
 same_turn plan m c (Some f) b may = may
 
@@ -194,7 +194,7 @@ turn_answers plan sectors medium queued fault resetting [] None (Some w) (Some v
 turn_answers plan sectors medium queued fault resetting [] (Some s) (Some w) v l b sized queue is tags m may = absurd m
 
 -- the last event of a run
-last_may : (plan : DiskPlan) (sectors : ℕ) (m : Moment) (h : List Happening) (e : Happening) → Runs plan sectors m (h ++ e ∷ []) → Runs plan sectors m h × MayHappen plan sectors (moment_after plan sectors m h) e
+pub last_may : (plan : DiskPlan) (sectors : ℕ) (m : Moment) (h : List Happening) (e : Happening) → Runs plan sectors m (h ++ e ∷ []) → Runs plan sectors m h × MayHappen plan sectors (moment_after plan sectors m h) e
 unfolding Runs moment_after
 last_may plan sectors m [] e run = (tt, run.0)
 last_may plan sectors m (x ∷ h) e run =

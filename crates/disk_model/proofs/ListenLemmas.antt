@@ -50,7 +50,7 @@ answer_left plan sectors medium queued fault resetting a later s w v ws rs g = r
   moving = moves_left plan sectors medium queued a later s w v g.moving;
 }
 
-page_goes : (plan : DiskPlan) (sectors : ℕ) (medium : List ℕ) (queued : List Command) (fault : Option Fault) (resetting : Bool) (a : Answer) (later : List Answer) (s : Option Started) (w : Option Writing) (v : Option Moving) (ws : List Written) (rs : List ReadOut) → is_page a ≡ true → Moves plan sectors medium queued (a ∷ later) s w v → v ≡ None
+pub page_goes : (plan : DiskPlan) (sectors : ℕ) (medium : List ℕ) (queued : List Command) (fault : Option Fault) (resetting : Bool) (a : Answer) (later : List Answer) (s : Option Started) (w : Option Writing) (v : Option Moving) (ws : List Written) (rs : List ReadOut) → is_page a ≡ true → Moves plan sectors medium queued (a ∷ later) s w v → v ≡ None
 page_goes plan sectors medium queued fault resetting a later None None None ws rs page m = refl
 page_goes plan sectors medium queued fault resetting a later None None (Some v) ws rs page m = absurd m
 page_goes plan sectors medium queued fault resetting a later (Some s) None None ws rs page m = absurd m

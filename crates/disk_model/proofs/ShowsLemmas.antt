@@ -1,6 +1,7 @@
 -- What the FISes that a disk sends tell.
 use Rattle.std.proofs.Common.{◌≡◌, ℕ, ◌%◌, ◌^◌, ◌<◌, Bool, true, false, List, [], ◌∷◌, Ok, refl, ◌∙◌, arith}
-use Rattle.fis_view.specs.Table.{Run, Setup, Bits, BufferId, Offset, Count, Status, SActive, field, places}
+use Rattle.fis_view.specs.Table.{Run, Setup, Bits, BufferId, Offset, D, Count, Status, SActive, field, places}
+use Rattle.std.specs.Int.{from_bool}
 use Rattle.fis_view.specs.Built.{cut}
 use Rattle.fis_view.specs.Seen.{seen}
 use Rattle.fis_view.specs.declared.view.Fis.TheVariants as view
@@ -11,13 +12,18 @@ cut_run : (byte low n x : ℕ) → x % 2 ^ n ≡ x → cut (Run byte low n ∷ [
 unfolding cut
 cut_run byte low n x small = omega (arith, small)
 
-pub record TellsSetup (tag offset count : ℕ) (b : List ℕ) : Type 0 where
+small_bool : (d : Bool) → from_bool d % 2 ^ 1 ≡ from_bool d
+small_bool true = refl
+small_bool false = refl
+
+pub record TellsSetup (tag offset count : ℕ) (d : Bool) (b : List ℕ) : Type 0 where
   pub viewed : seen b ≡ Ok (view.DmaSetup b)
   pub tag_is : field Setup BufferId b ≡ tag
   pub offset_is : field Setup Offset b ≡ offset
   pub count_is : field Setup Count b ≡ count
+  pub direction_is : field Setup D b ≡ from_bool d
 
-pub setup_tells : (tag offset count : ℕ) (d : Bool) (b : List ℕ) → tag < 32 → offset < 4294967296 → count < 4294967296 → Shows (setup tag offset count d) b → TellsSetup tag offset count b
+pub setup_tells : (tag offset count : ℕ) (d : Bool) (b : List ℕ) → tag < 32 → offset < 4294967296 → count < 4294967296 → Shows (setup tag offset count d) b → TellsSetup tag offset count d b
 unfolding places
 setup_tells tag offset count d b t o n shows =
     let small_tag : tag % 2 ^ 64 ≡ tag = omega arith in
@@ -28,6 +34,7 @@ setup_tells tag offset count d b t o n shows =
       tag_is = shows.fields BufferId ∙ cut_run 4 0 64 tag small_tag;
       offset_is = shows.fields Offset ∙ cut_run 16 0 32 offset small_offset;
       count_is = shows.fields Count ∙ cut_run 20 0 32 count small_count;
+      direction_is = shows.fields D ∙ cut_run 1 5 1 (from_bool d) (small_bool d);
     }
 
 pub error_tells : (error : ℕ) (b : List ℕ) → Shows (bits 0x41 error 0) b → has_error b ≡ true

@@ -1,6 +1,6 @@
 -- The ledger and the disk go on agreeing at each FIS that the disk sends.
 use Rattle.std.proofs.Common.{◌≡◌, eqb, ℕ, ◌+◌, ◌-◌, ◌*◌, ◌<◌, ◌≤◌, Bool, true, false, List, [], ◌∷◌, Option, Some, None, length, drop, refl, ap, sym, subst, ◌∙◌, arith}
-use Rattle.std.specs.Prelude.{replicate, nat_lt}
+use Rattle.std.specs.Prelude.{replicate, nat_lt, not}
 use Rattle.std.proofs.lemmas.Bool.{eq-eqb, ltb-false}
 use Rattle.std.proofs.lemmas.Bool.Decides.{nat_tests}
 use Rattle.std.proofs.lemmas.List.{length-replicate}
@@ -15,10 +15,11 @@ use Rattle.disk_model.specs.Sendings.{Sending, Carries}
 use Rattle.disk_model.specs.Chunks.{chunks, chunk_from, chunk_count, sends_left, sectors_at, fault_of, error_of}
 use Rattle.disk_model.specs.Disks.{Moment, Started, Writing, turn, read_turn, write_turn, begun, starts, pick_turn, picked, went, after_turn}
 use Rattle.disk_model.specs.Runs.{IsTurn}
-use Rattle.disk_model.specs.Ledger.{Ledger, Moving, Written, ReadOut, moves, listens_up, medium_with}
+use Rattle.disk_model.specs.Ledger.{Ledger, Moving, Stretch, Written, ReadOut, moves, listens_up, medium_with}
 use Rattle.disk_model.proofs.SendLemmas.{sends_left_next}
 use Rattle.disk_model.proofs.ShowsLemmas.{TellsSetup, error_tells}
-use Rattle.disk_model.proofs.GeometryLemmas.{moved_sectors, moved_none, chunk_part, some_chunks}
+use Rattle.disk_model.proofs.GeometryLemmas.{moved_sectors, moved_none, chunk_part, some_chunks, ChunkPart}
+use Rattle.disk_model.proofs.SetupLemmas.{AreSetUp, chunk_stretch, set_up_none, set_up_next}
 use Rattle.disk_model.proofs.QueueLemmas.{IsQueue, IsIn, is_in}
 use Rattle.disk_model.proofs.AgreeLemmas.{Agrees, Moves, IsMoving, IsReading, IsWriting, IsHeld, Stage, Fresh, SetUp, Asked, moved_bytes, shown, at, gives_up}
 use Rattle.disk_model.proofs.StoreLemmas.{IsSized}
@@ -27,17 +28,17 @@ use Rattle.disk_model.proofs.ListenLemmas.{step_answer}
 
 -- ## A read's Data
 
-read_carries_by : (plan : DiskPlan) (sectors : ℕ) (medium : List ℕ) (queued : List Command) (fault : Option Fault) (resetting : Bool) (s : Started) (ws before : List Written) (rs : List ReadOut) (left count : ℕ) (last : Bool) → eqb left 1 ≡ last → IsSized plan sectors → s.command.write ≡ false → medium_with sectors before ≡ medium → IsMoving plan sectors s.command left (read_so_far plan medium s.command left before (512 * chunk_from plan s.command left) count) → IsHeld queued [] s.command.tag → Agrees plan sectors (at medium queued fault resetting [] (Some s) None) (shown (at medium queued fault resetting [] (Some s) None) (Some (read_so_far plan medium s.command left before (512 * chunk_from plan s.command left) count)) ws rs) → Agrees plan sectors (went (at medium queued fault resetting [] (Some s) None) s.command (sends_left plan medium s.command (left - 1))) (moves (shown (at medium queued fault resetting [] (Some s) None) (Some (read_so_far plan medium s.command left before (512 * chunk_from plan s.command left) count)) ws rs) (read_so_far plan medium s.command left before (512 * chunk_from plan s.command left) count) (sectors_at medium (s.command.lba + chunk_from plan s.command left) (chunk_count plan s.command left)))
+read_carries_by : (plan : DiskPlan) (sectors : ℕ) (medium : List ℕ) (queued : List Command) (fault : Option Fault) (resetting : Bool) (s : Started) (ws before : List Written) (setups : List Stretch) (rs : List ReadOut) (left count : ℕ) (last : Bool) → eqb left 1 ≡ last → IsSized plan sectors → s.command.write ≡ false → medium_with sectors before ≡ medium → IsMoving plan sectors s.command left (read_so_far plan medium s.command left before setups (512 * chunk_from plan s.command left) count) → IsHeld queued [] s.command.tag → AreSetUp plan s.command (left - 1) setups → Agrees plan sectors (at medium queued fault resetting [] (Some s) None) (shown (at medium queued fault resetting [] (Some s) None) (Some (read_so_far plan medium s.command left before setups (512 * chunk_from plan s.command left) count)) ws rs) → Agrees plan sectors (went (at medium queued fault resetting [] (Some s) None) s.command (sends_left plan medium s.command (left - 1))) (moves (shown (at medium queued fault resetting [] (Some s) None) (Some (read_so_far plan medium s.command left before setups (512 * chunk_from plan s.command left) count)) ws rs) (read_so_far plan medium s.command left before setups (512 * chunk_from plan s.command left) count) (sectors_at medium (s.command.lba + chunk_from plan s.command left) (chunk_count plan s.command left)))
 unfolding sends_left
-read_carries_by plan sectors medium queued fault resetting s ws before rs left count true e sized reads was mv held a =
+read_carries_by plan sectors medium queued fault resetting s ws before setups rs left count true e sized reads was mv held named a =
     let one : left ≡ 1 = grind (arith, nat_tests, e) in
     let none : sends_left plan medium s.command (left - 1) ≡ [] = ap (λ n. sends_left plan medium s.command (n - 1)) one in
-    read_ends plan sectors medium queued fault resetting s ws before rs left count _ sized reads was mv one none a
-read_carries_by plan sectors medium queued fault resetting s ws before rs left count false e sized reads was mv held a =
+    read_ends plan sectors medium queued fault resetting s ws before setups rs left count _ sized reads was mv one none a
+read_carries_by plan sectors medium queued fault resetting s ws before setups rs left count false e sized reads was mv held named a =
     let other : left ≡ 1 → ⊥ = λ is. cc (eq-eqb left 1 is, e) in
     let some : 0 < left - 1 = omega (arith, mv.more, other) in
     let next = sends_left_next plan medium s.command (left - 1) some in
-    rw next (read_goes_on plan sectors medium queued fault resetting s ws before rs left count _ _ sized reads was mv other next held a)
+    rw next (read_goes_on plan sectors medium queued fault resetting s ws before setups rs left count _ _ sized reads was mv other next held named a)
 
 read_carries : (plan : DiskPlan) (sectors : ℕ) (medium : List ℕ) (queued : List Command) (fault : Option Fault) (resetting : Bool) (s : Started) (v : Moving) (ws : List Written) (rs : List ReadOut) (left : ℕ) (b : List ℕ) → IsSized plan sectors → IsReading plan sectors medium s v left true → IsHeld queued [] s.command.tag → Agrees plan sectors (at medium queued fault resetting [] (Some s) None) (shown (at medium queued fault resetting [] (Some s) None) (Some v) ws rs) → IsTurn (read_turn (at medium queued fault resetting [] (Some s) None) s.command s.sends) b → Agrees plan sectors (after_turn (at medium queued fault resetting [] (Some s) None) (read_turn (at medium queued fault resetting [] (Some s) None) s.command s.sends)) (listens_up (shown (at medium queued fault resetting [] (Some s) None) (Some v) ws rs) (seen b))
 read_carries plan sectors medium queued fault resetting s v ws rs left b sized r held a may =
@@ -48,11 +49,11 @@ read_carries plan sectors medium queued fault resetting s v ws rs left b sized r
     let next = sends_left_next plan medium c left mv.more in
     let sends : s.sends ≡ Carries d ∷ sends_left plan medium c (left - 1) = r.stage.0 ∙ ap (drop 1) next in
     let shows = subst (λ (xs : List Sending). IsTurn (read_turn m c xs) b) sends may in
-    let v0 : Moving = read_so_far plan medium c left v.before (512 * chunk_from plan c left) v.count in
+    let v0 : Moving = read_so_far plan medium c left v.before v.setups (512 * chunk_from plan c left) v.count in
     let is : v ≡ v0 = same_moving v c (moved_bytes plan.last_first (sectors_at medium c.lba c.count) (512 * c.count) (512 * moved_sectors plan c left)) (512 * moved_sectors plan c left) (512 * chunk_from plan c left) v.count false mv.same r.bytes mv.moved r.stage.1 refl r.idle in
     let a0 = subst (λ (x : Moving). Agrees plan sectors m (shown m (Some x) ws rs)) is a in
     let mv0 : IsMoving plan sectors c left v0 = record { same = refl; more = mv.more; among = mv.among; inside = mv.inside; some = mv.some; tag = mv.tag; moved = refl } in
-    let goes = read_carries_by plan sectors medium queued fault resetting s ws v.before rs left v.count _ refl sized r.reads r.before mv0 held a0 in
+    let goes = read_carries_by plan sectors medium queued fault resetting s ws v.before v.setups rs left v.count _ refl sized r.reads r.before mv0 held r.setups a0 in
     let told : listens_up (shown m (Some v0) ws rs) (seen b) ≡ moves (shown m (Some v0) ws rs) v0 d = ap (listens_up (shown m (Some v0) ws rs)) shows.1 ∙ ap (λ (xs : List ℕ). moves (shown m (Some v0) ws rs) v0 (drop 4 xs)) shows.0 in
     let done = subst (λ (l : Ledger). Agrees plan sectors (went m c (sends_left plan medium c (left - 1))) l) (sym told) goes in
     let back = subst (λ (x : Moving). Agrees plan sectors (went m c (sends_left plan medium c (left - 1))) (listens_up (shown m (Some x) ws rs) (seen b))) (sym is) done in
@@ -66,7 +67,8 @@ write_asks plan sectors medium queued fault resetting w v ws rs Fresh b sized r 
     let c = w.command in
     let mv = r.moving in
     let shows = subst (λ (xs : List Sending). IsTurn (write_turn m w xs) b) r.stage.0 may in
-    let told : TellsSetup c.tag (512 * chunk_from plan c w.left) (512 * chunk_count plan c w.left) b = setup_of_chunk plan sectors c w.left b sized (chunk_part plan c w.left sized.low mv.some mv.more mv.among) mv.inside mv.tag shows in
+    let part : ChunkPart plan c w.left = chunk_part plan c w.left sized.low mv.some mv.more mv.among in
+    let told : TellsSetup c.tag (512 * chunk_from plan c w.left) (512 * chunk_count plan c w.left) (not c.write) b = setup_of_chunk plan sectors c w.left b sized part mv.inside mv.tag shows in
     subst (λ (xs : List Sending). Agrees plan sectors (after_turn m (write_turn m w xs)) (listens_up (shown m (Some v) ws rs) (seen b))) (sym r.stage.0) (rw told.viewed (record {
       outstanding = refl;
       failed = refl;
@@ -84,6 +86,7 @@ write_asks plan sectors medium queued fault resetting w v ws rs Fresh b sized r 
           bytes = r.bytes;
           whole = r.whole;
           stage = (refl, refl, (told.offset_is, told.count_is));
+          setups = rw (told.offset_is, told.count_is) (set_up_next plan c w.left v.setups part r.setups);
         },
         held,
       );
@@ -109,6 +112,7 @@ write_asks plan sectors medium queued fault resetting w v ws rs SetUp b sized r 
           bytes = r.bytes;
           whole = r.whole;
           stage = (refl, refl, r.stage.2);
+          setups = r.setups;
         },
         held,
       );
@@ -119,7 +123,7 @@ write_asks plan sectors medium queued fault resetting w v ws rs Asked b sized r 
 
 -- ## A command is started
 
-in_end_by : (plan : DiskPlan) (sectors : ℕ) (c : Command) (past : Bool) → nat_lt sectors (c.lba + c.count) ≡ past → fault_of plan sectors c ≡ None → c.lba + c.count ≤ sectors
+pub in_end_by : (plan : DiskPlan) (sectors : ℕ) (c : Command) (past : Bool) → nat_lt sectors (c.lba + c.count) ≡ past → fault_of plan sectors c ≡ None → c.lba + c.count ≤ sectors
 in_end_by plan sectors c true e good = let no = rw e at good in cc no
 in_end_by plan sectors c false e good = ltb-false sectors (c.lba + c.count) e
 
@@ -128,7 +132,7 @@ picked_in Oldest queued c queue is = is_in queued 0 c queue is
 picked_in Newest queued c queue is = is_in queued (length queued - 1) c queue is
 
 -- the first DMA Setup, as it is heard
-starts_told : (plan : DiskPlan) (sectors : ℕ) (medium : List ℕ) (queued : List Command) (fault : Option Fault) (resetting : Bool) (ws : List Written) (rs : List ReadOut) (c : Command) (b : List ℕ) → IsIn queued c → TellsSetup c.tag (512 * chunk_from plan c (chunks plan c)) (512 * chunk_count plan c (chunks plan c)) b → listens_up (shown (at medium queued fault resetting [] None None) None ws rs) (seen b) ≡ shown (at medium queued fault resetting [] None None) (Some (record { command = c; before = ws; bytes = replicate (512 * c.count) 0; moved = 0; offset = 512 * chunk_from plan c (chunks plan c); count = 512 * chunk_count plan c (chunks plan c); active = false })) ws rs
+starts_told : (plan : DiskPlan) (sectors : ℕ) (medium : List ℕ) (queued : List Command) (fault : Option Fault) (resetting : Bool) (ws : List Written) (rs : List ReadOut) (c : Command) (b : List ℕ) → IsIn queued c → TellsSetup c.tag (512 * chunk_from plan c (chunks plan c)) (512 * chunk_count plan c (chunks plan c)) (not c.write) b → listens_up (shown (at medium queued fault resetting [] None None) None ws rs) (seen b) ≡ shown (at medium queued fault resetting [] None None) (Some (record { command = c; before = ws; bytes = replicate (512 * c.count) 0; moved = 0; setups = chunk_stretch plan c (chunks plan c) ∷ []; offset = 512 * chunk_from plan c (chunks plan c); count = 512 * chunk_count plan c (chunks plan c); active = false })) ws rs
 starts_told plan sectors medium queued fault resetting ws rs c b here told =
     let found = here.found in
     let tag = told.tag_is in
@@ -144,7 +148,8 @@ start_of plan sectors medium queued fault resetting ws rs c false b sized is her
     let more : 0 < chunks plan c = some_chunks plan c sized.low here.some in
     let next = sends_left_next plan medium c (chunks plan c) more in
     let shows = subst (λ (xs : List Sending). IsTurn (read_turn m c xs) b) next may in
-    let told : TellsSetup c.tag (512 * chunk_from plan c all) (512 * chunk_count plan c all) b = setup_of_chunk plan sectors c all b sized (chunk_part plan c all sized.low here.some more (omega arith)) inside here.tag shows in
+    let part : ChunkPart plan c all = chunk_part plan c all sized.low here.some more (omega arith) in
+    let told : TellsSetup c.tag (512 * chunk_from plan c all) (512 * chunk_count plan c all) (not c.write) b = setup_of_chunk plan sectors c all b sized part inside here.tag shows in
     let room : 512 * (c.lba + c.count) ≤ length medium = omega (arith, a.length_is) in
     let nothing : moved_sectors plan c all ≡ 0 = moved_none plan c sized.low here.some in
     let zeros = sym (none_moved plan.last_first (sectors_at medium c.lba c.count) (512 * c.count) (length-sectors_at medium c.lba c.count room)) ∙ ap (λ k. moved_bytes plan.last_first (sectors_at medium c.lba c.count) (512 * c.count) (512 * k)) (sym nothing) in
@@ -166,7 +171,8 @@ start_of plan sectors medium queued fault resetting ws rs c false b sized is her
           before = sym a.medium;
           bytes = zeros;
           idle = refl;
-          stage = (sym (ap (drop 1) next), refl);
+          stage = (sym (ap (drop 1) next), refl, refl);
+          setups = set_up_next plan c all [] part (set_up_none plan c sized.low here.some);
         },
         record { has = here.has; quiet = refl },
       );
@@ -175,7 +181,8 @@ start_of plan sectors medium queued fault resetting ws rs c true b sized is here
     let m : Moment = at medium queued fault resetting [] None None in
     let all = chunks plan c in
     let more : 0 < chunks plan c = some_chunks plan c sized.low here.some in
-    let told : TellsSetup c.tag (512 * chunk_from plan c all) (512 * chunk_count plan c all) b = setup_of_chunk plan sectors c all b sized (chunk_part plan c all sized.low here.some more (omega arith)) inside here.tag may in
+    let part : ChunkPart plan c all = chunk_part plan c all sized.low here.some more (omega arith) in
+    let told : TellsSetup c.tag (512 * chunk_from plan c all) (512 * chunk_count plan c all) (not c.write) b = setup_of_chunk plan sectors c all b sized part inside here.tag may in
     let nothing : moved_sectors plan c all ≡ 0 = moved_none plan c sized.low here.some in
     rw (starts_told plan sectors medium queued fault resetting ws rs c b here told) (record {
       outstanding = refl;
@@ -194,6 +201,7 @@ start_of plan sectors medium queued fault resetting ws rs c true b sized is here
           bytes = refl;
           whole = length-replicate (512 * c.count) 0;
           stage = (refl, refl, (refl, refl));
+          setups = set_up_next plan c all [] part (set_up_none plan c sized.low here.some);
         },
         record { has = here.has; quiet = refl },
       );

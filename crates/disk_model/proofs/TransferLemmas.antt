@@ -15,11 +15,12 @@ use Rattle.disk_model.specs.Sendings.{Sending, Shows}
 use Rattle.disk_model.specs.Chunks.{chunk_from, chunk_count, chunk_setup, sends_left, sectors_at, put}
 use Rattle.disk_model.specs.Disks.{Moment, Started, Writing, data_taken, stored, read_turn, went, after_turn}
 use Rattle.disk_model.specs.Runs.{IsTurn}
-use Rattle.disk_model.specs.Ledger.{Ledger, Moving, Written, ReadOut, IsRead, moves, takes_data, listens_up, medium_with}
+use Rattle.disk_model.specs.Ledger.{Ledger, Moving, Stretch, Written, ReadOut, IsRead, moves, takes_data, listens_up, medium_with}
 use Rattle.disk_model.proofs.SendLemmas.{sends_left_next}
 use Rattle.disk_model.proofs.ShowsLemmas.{setup_tells, TellsSetup}
 use Rattle.disk_model.proofs.PlaceLemmas.{from_front, from_back, put_front, put_back, chunk_of_sectors}
 use Rattle.disk_model.proofs.GeometryLemmas.{moved_sectors, chunk_part, ChunkPart}
+use Rattle.disk_model.proofs.SetupLemmas.{AreSetUp, set_up_next}
 use Rattle.disk_model.proofs.QueueLemmas.{IsQueue-filter}
 use Rattle.disk_model.proofs.AgreeLemmas.{Agrees, Moves, IsMoving, IsReading, IsHeld, Fresh, SetUp, Asked, moved_bytes, shown, at}
 use Rattle.disk_model.proofs.StoreLemmas.{IsSized, asked_for, store_by}
@@ -58,15 +59,15 @@ length-sectors_at medium lba count inside = length-take-le (512 * count) (drop (
 
 -- ## Data of the host
 
-pub same_moving : (v : Moving) (command : Command) (bytes : List ℕ) (moved offset count : ℕ) (active : Bool) → v.command ≡ command → v.bytes ≡ bytes → v.moved ≡ moved → v.offset ≡ offset → v.count ≡ count → v.active ≡ active → v ≡ record { command = command; before = v.before; bytes = bytes; moved = moved; offset = offset; count = count; active = active }
-same_moving v command bytes moved offset count active a b c d e f = λ i. record { command = a i; before = v.before; bytes = b i; moved = c i; offset = d i; count = e i; active = f i }
+pub same_moving : (v : Moving) (command : Command) (bytes : List ℕ) (moved offset count : ℕ) (active : Bool) → v.command ≡ command → v.bytes ≡ bytes → v.moved ≡ moved → v.offset ≡ offset → v.count ≡ count → v.active ≡ active → v ≡ record { command = command; before = v.before; bytes = bytes; moved = moved; setups = v.setups; offset = offset; count = count; active = active }
+same_moving v command bytes moved offset count active a b c d e f = λ i. record { command = a i; before = v.before; bytes = b i; moved = c i; setups = v.setups; offset = d i; count = e i; active = f i }
 
-write_takes : (plan : DiskPlan) (sectors : ℕ) (medium : List ℕ) (queued : List Command) (fault : Option Fault) (resetting : Bool) (owed : List Answer) (w : Writing) (ws before : List Written) (rs : List ReadOut) (bytes : List ℕ) (fits : Bool) → eqb (length bytes) (512 * chunk_count plan w.command w.left) ≡ fits → w.sends ≡ [] → IsSized plan sectors → w.command.write ≡ true → IsMoving plan sectors w.command w.left (asked_for plan w before) → length w.staged ≡ 512 * w.command.count → IsHeld queued owed w.command.tag → Agrees plan sectors (at medium queued fault resetting owed None (Some w)) (shown (at medium queued fault resetting owed None (Some w)) (Some (asked_for plan w before)) ws rs) → Agrees plan sectors (data_taken plan (at medium queued fault resetting owed None (Some w)) (Some w) bytes) (takes_data (shown (at medium queued fault resetting owed None (Some w)) (Some (asked_for plan w before)) ws rs) (Some (asked_for plan w before)) bytes)
-write_takes plan sectors medium queued fault resetting owed w ws before rs bytes true e sends sized writes mv whole held a =
+write_takes : (plan : DiskPlan) (sectors : ℕ) (medium : List ℕ) (queued : List Command) (fault : Option Fault) (resetting : Bool) (owed : List Answer) (w : Writing) (ws before : List Written) (setups : List Stretch) (rs : List ReadOut) (bytes : List ℕ) (fits : Bool) → eqb (length bytes) (512 * chunk_count plan w.command w.left) ≡ fits → w.sends ≡ [] → IsSized plan sectors → w.command.write ≡ true → IsMoving plan sectors w.command w.left (asked_for plan w before setups) → length w.staged ≡ 512 * w.command.count → IsHeld queued owed w.command.tag → AreSetUp plan w.command (w.left - 1) setups → Agrees plan sectors (at medium queued fault resetting owed None (Some w)) (shown (at medium queued fault resetting owed None (Some w)) (Some (asked_for plan w before setups)) ws rs) → Agrees plan sectors (data_taken plan (at medium queued fault resetting owed None (Some w)) (Some w) bytes) (takes_data (shown (at medium queued fault resetting owed None (Some w)) (Some (asked_for plan w before setups)) ws rs) (Some (asked_for plan w before setups)) bytes)
+write_takes plan sectors medium queued fault resetting owed w ws before setups rs bytes true e sends sized writes mv whole held named a =
     let none : (length w.sends == 0) ≡ true = rw sends refl in
     let fits : length bytes ≡ 512 * chunk_count plan w.command w.left = grind (arith, nat_tests, e) in
-    rw (none, e) (store_by plan sectors medium queued fault resetting owed w ws before rs bytes _ refl sized writes mv whole fits held a)
-write_takes plan sectors medium queued fault resetting owed w ws before rs bytes false e sends sized writes mv whole held a =
+    rw (none, e) (store_by plan sectors medium queued fault resetting owed w ws before setups rs bytes _ refl sized writes mv whole fits held named a)
+write_takes plan sectors medium queued fault resetting owed w ws before setups rs bytes false e sends sized writes mv whole held named a =
     let none : (length w.sends == 0) ≡ true = rw sends refl in
     rw (none, e) a
 
@@ -91,20 +92,20 @@ step_data plan sectors medium queued fault resetting owed None (Some w) (Some v)
 step_data plan sectors medium queued fault resetting owed None (Some w) (Some v) ws rs bytes sized (Asked, writing, held) a =
     let mv = writing.moving in
     let m : Moment = at medium queued fault resetting owed None (Some w) in
-    let is : v ≡ asked_for plan w v.before = same_moving v w.command w.staged (512 * moved_sectors plan w.command w.left) (512 * chunk_from plan w.command w.left) (512 * chunk_count plan w.command w.left) true mv.same writing.bytes mv.moved writing.stage.2.0 writing.stage.2.1 writing.stage.1 in
+    let is : v ≡ asked_for plan w v.before v.setups = same_moving v w.command w.staged (512 * moved_sectors plan w.command w.left) (512 * chunk_from plan w.command w.left) (512 * chunk_count plan w.command w.left) true mv.same writing.bytes mv.moved writing.stage.2.0 writing.stage.2.1 writing.stage.1 in
     let a' = subst (λ (x : Moving). Agrees plan sectors m (shown m (Some x) ws rs)) is a in
-    let mv' : IsMoving plan sectors w.command w.left (asked_for plan w v.before) = record { same = refl; more = mv.more; among = mv.among; inside = mv.inside; some = mv.some; tag = mv.tag; moved = refl } in
-    subst (λ (x : Moving). Agrees plan sectors (data_taken plan m (Some w) bytes) (takes_data (shown m (Some x) ws rs) (Some x) bytes)) (sym is) (write_takes plan sectors medium queued fault resetting owed w ws v.before rs bytes _ refl writing.stage.0 sized writing.writes mv' writing.whole held a')
+    let mv' : IsMoving plan sectors w.command w.left (asked_for plan w v.before v.setups) = record { same = refl; more = mv.more; among = mv.among; inside = mv.inside; some = mv.some; tag = mv.tag; moved = refl } in
+    subst (λ (x : Moving). Agrees plan sectors (data_taken plan m (Some w) bytes) (takes_data (shown m (Some x) ws rs) (Some x) bytes)) (sym is) (write_takes plan sectors medium queued fault resetting owed w ws v.before v.setups rs bytes _ refl writing.stage.0 sized writing.writes mv' writing.whole held writing.setups a')
 step_data plan sectors medium queued fault resetting owed (Some s) (Some w) v ws rs bytes sized m a = absurd m
 
 -- ## Reads send
 
 -- the read's data, as its last FIS left it
-abbrev pub read_so_far : DiskPlan → List ℕ → Command → ℕ → List Written → (offset count : ℕ) → Moving
-read_so_far plan medium c left before offset count = record { command = c; before = before; bytes = moved_bytes plan.last_first (sectors_at medium c.lba c.count) (512 * c.count) (512 * moved_sectors plan c left); moved = 512 * moved_sectors plan c left; offset = offset; count = count; active = false }
+abbrev pub read_so_far : DiskPlan → List ℕ → Command → ℕ → List Written → List Stretch → (offset count : ℕ) → Moving
+read_so_far plan medium c left before setups offset count = record { command = c; before = before; bytes = moved_bytes plan.last_first (sectors_at medium c.lba c.count) (512 * c.count) (512 * moved_sectors plan c left); moved = 512 * moved_sectors plan c left; setups = setups; offset = offset; count = count; active = false }
 
 -- a chunk's place and length fit their fields
-pub setup_of_chunk : (plan : DiskPlan) (sectors : ℕ) (c : Command) (left : ℕ) (b : List ℕ) → IsSized plan sectors → ChunkPart plan c left → c.lba + c.count ≤ sectors → c.tag < 32 → Shows (chunk_setup plan c left) b → TellsSetup c.tag (512 * chunk_from plan c left) (512 * chunk_count plan c left) b
+pub setup_of_chunk : (plan : DiskPlan) (sectors : ℕ) (c : Command) (left : ℕ) (b : List ℕ) → IsSized plan sectors → ChunkPart plan c left → c.lba + c.count ≤ sectors → c.tag < 32 → Shows (chunk_setup plan c left) b → TellsSetup c.tag (512 * chunk_from plan c left) (512 * chunk_count plan c left) (not c.write) b
 setup_of_chunk plan sectors c left b sized part inside tag shows =
     setup_tells c.tag (512 * chunk_from plan c left) (512 * chunk_count plan c left) (not c.write) b tag (omega (arith, part.inside, sized.most)) (omega (arith, part.inside, sized.most)) shows
 
@@ -114,7 +115,8 @@ read_sets_up plan sectors medium queued fault resetting c sends v ws rs left b s
     let next = sends_left_next plan medium c left mv.more in
     let is = r.stage ∙ next in
     let shows = rw is at may in
-    let told : TellsSetup c.tag (512 * chunk_from plan c left) (512 * chunk_count plan c left) b = setup_of_chunk plan sectors c left b sized (chunk_part plan c left sized.low mv.some mv.more mv.among) mv.inside mv.tag shows in
+    let part : ChunkPart plan c left = chunk_part plan c left sized.low mv.some mv.more mv.among in
+    let told : TellsSetup c.tag (512 * chunk_from plan c left) (512 * chunk_count plan c left) (not c.write) b = setup_of_chunk plan sectors c left b sized part mv.inside mv.tag shows in
     rw (is, told.viewed) (record {
       outstanding = refl;
       failed = refl;
@@ -133,7 +135,8 @@ read_sets_up plan sectors medium queued fault resetting c sends v ws rs left b s
           before = r.before;
           bytes = r.bytes;
           idle = refl;
-          stage = (sym (ap (drop 1) next), told.offset_is);
+          stage = (sym (ap (drop 1) next), told.offset_is, told.count_is);
+          setups = rw (told.offset_is, told.count_is) (set_up_next plan c left v.setups part r.setups);
         },
         held,
       );
@@ -151,8 +154,8 @@ data_placed plan sectors medium c left sized part size inside =
     ap (λ (xs : List ℕ). put (moved_bytes plan.last_first s (512 * c.count) (512 * moved_sectors plan c left)) (512 * chunk_from plan c left) xs) (chunk_of_sectors medium c.lba c.count (chunk_from plan c left) (chunk_count plan c left) part.inside room)
     ∙ more_moved plan.last_first s c.count (chunk_from plan c left) (chunk_count plan c left) (moved_sectors plan c left) (length-sectors_at medium c.lba c.count room) part.within part.upwards part.downwards_is
 
-pub read_ends : (plan : DiskPlan) (sectors : ℕ) (medium : List ℕ) (queued : List Command) (fault : Option Fault) (resetting : Bool) (s : Started) (ws before : List Written) (rs : List ReadOut) (left count : ℕ) (later : List Sending) → IsSized plan sectors → s.command.write ≡ false → medium_with sectors before ≡ medium → IsMoving plan sectors s.command left (read_so_far plan medium s.command left before (512 * chunk_from plan s.command left) count) → left ≡ 1 → later ≡ [] → Agrees plan sectors (at medium queued fault resetting [] (Some s) None) (shown (at medium queued fault resetting [] (Some s) None) (Some (read_so_far plan medium s.command left before (512 * chunk_from plan s.command left) count)) ws rs) → Agrees plan sectors (went (at medium queued fault resetting [] (Some s) None) s.command later) (moves (shown (at medium queued fault resetting [] (Some s) None) (Some (read_so_far plan medium s.command left before (512 * chunk_from plan s.command left) count)) ws rs) (read_so_far plan medium s.command left before (512 * chunk_from plan s.command left) count) (sectors_at medium (s.command.lba + chunk_from plan s.command left) (chunk_count plan s.command left)))
-read_ends plan sectors medium queued fault resetting s ws before rs left count later sized reads was mv one none a =
+pub read_ends : (plan : DiskPlan) (sectors : ℕ) (medium : List ℕ) (queued : List Command) (fault : Option Fault) (resetting : Bool) (s : Started) (ws before : List Written) (setups : List Stretch) (rs : List ReadOut) (left count : ℕ) (later : List Sending) → IsSized plan sectors → s.command.write ≡ false → medium_with sectors before ≡ medium → IsMoving plan sectors s.command left (read_so_far plan medium s.command left before setups (512 * chunk_from plan s.command left) count) → left ≡ 1 → later ≡ [] → Agrees plan sectors (at medium queued fault resetting [] (Some s) None) (shown (at medium queued fault resetting [] (Some s) None) (Some (read_so_far plan medium s.command left before setups (512 * chunk_from plan s.command left) count)) ws rs) → Agrees plan sectors (went (at medium queued fault resetting [] (Some s) None) s.command later) (moves (shown (at medium queued fault resetting [] (Some s) None) (Some (read_so_far plan medium s.command left before setups (512 * chunk_from plan s.command left) count)) ws rs) (read_so_far plan medium s.command left before setups (512 * chunk_from plan s.command left) count) (sectors_at medium (s.command.lba + chunk_from plan s.command left) (chunk_count plan s.command left)))
+read_ends plan sectors medium queued fault resetting s ws before setups rs left count later sized reads was mv one none a =
     let c = s.command in
     let part : ChunkPart plan c left = chunk_part plan c left sized.low mv.some mv.more mv.among in
     let d : List ℕ = sectors_at medium (c.lba + chunk_from plan c left) (chunk_count plan c left) in
@@ -175,8 +178,8 @@ read_ends plan sectors medium queued fault resetting s ws before rs left count l
       moving = tt;
     })
 
-pub read_goes_on : (plan : DiskPlan) (sectors : ℕ) (medium : List ℕ) (queued : List Command) (fault : Option Fault) (resetting : Bool) (s : Started) (ws before : List Written) (rs : List ReadOut) (left count : ℕ) (x : Sending) (later : List Sending) → IsSized plan sectors → s.command.write ≡ false → medium_with sectors before ≡ medium → IsMoving plan sectors s.command left (read_so_far plan medium s.command left before (512 * chunk_from plan s.command left) count) → (left ≡ 1 → ⊥) → sends_left plan medium s.command (left - 1) ≡ x ∷ later → IsHeld queued [] s.command.tag → Agrees plan sectors (at medium queued fault resetting [] (Some s) None) (shown (at medium queued fault resetting [] (Some s) None) (Some (read_so_far plan medium s.command left before (512 * chunk_from plan s.command left) count)) ws rs) → Agrees plan sectors (went (at medium queued fault resetting [] (Some s) None) s.command (x ∷ later)) (moves (shown (at medium queued fault resetting [] (Some s) None) (Some (read_so_far plan medium s.command left before (512 * chunk_from plan s.command left) count)) ws rs) (read_so_far plan medium s.command left before (512 * chunk_from plan s.command left) count) (sectors_at medium (s.command.lba + chunk_from plan s.command left) (chunk_count plan s.command left)))
-read_goes_on plan sectors medium queued fault resetting s ws before rs left count x later sized reads was mv other next held a =
+pub read_goes_on : (plan : DiskPlan) (sectors : ℕ) (medium : List ℕ) (queued : List Command) (fault : Option Fault) (resetting : Bool) (s : Started) (ws before : List Written) (setups : List Stretch) (rs : List ReadOut) (left count : ℕ) (x : Sending) (later : List Sending) → IsSized plan sectors → s.command.write ≡ false → medium_with sectors before ≡ medium → IsMoving plan sectors s.command left (read_so_far plan medium s.command left before setups (512 * chunk_from plan s.command left) count) → (left ≡ 1 → ⊥) → sends_left plan medium s.command (left - 1) ≡ x ∷ later → IsHeld queued [] s.command.tag → AreSetUp plan s.command (left - 1) setups → Agrees plan sectors (at medium queued fault resetting [] (Some s) None) (shown (at medium queued fault resetting [] (Some s) None) (Some (read_so_far plan medium s.command left before setups (512 * chunk_from plan s.command left) count)) ws rs) → Agrees plan sectors (went (at medium queued fault resetting [] (Some s) None) s.command (x ∷ later)) (moves (shown (at medium queued fault resetting [] (Some s) None) (Some (read_so_far plan medium s.command left before setups (512 * chunk_from plan s.command left) count)) ws rs) (read_so_far plan medium s.command left before setups (512 * chunk_from plan s.command left) count) (sectors_at medium (s.command.lba + chunk_from plan s.command left) (chunk_count plan s.command left)))
+read_goes_on plan sectors medium queued fault resetting s ws before setups rs left count x later sized reads was mv other next held named a =
     let c = s.command in
     let part : ChunkPart plan c left = chunk_part plan c left sized.low mv.some mv.more mv.among in
     let d : List ℕ = sectors_at medium (c.lba + chunk_from plan c left) (chunk_count plan c left) in
@@ -204,6 +207,7 @@ read_goes_on plan sectors medium queued fault resetting s ws before rs left coun
           bytes = placed;
           idle = refl;
           stage = sym next;
+          setups = named;
         },
         held,
       );

@@ -25,6 +25,11 @@ pub record Written : Type 0 where
   pub at : ℕ
   pub bytes : List ℕ
 
+-- the bytes of a command's data that a DMA Setup names: its offset and its count
+pub record Stretch : Type 0 where
+  pub at : ℕ
+  pub count : ℕ
+
 -- the data of a command, as far as it moved
 pub record Moving : Type 0 where
   pub command : Command
@@ -34,7 +39,9 @@ pub record Moving : Type 0 where
   pub bytes : List ℕ
   -- how many bytes moved
   pub moved : ℕ
-  -- of the last DMA Setup: where its bytes belong, how many they are, and whether a DMA Activate came after it
+  -- what its DMA Setups named, in order
+  pub setups : List Stretch
+  -- of the last of them: where its bytes belong, how many they are, and whether a DMA Activate came after it
   pub offset : ℕ
   pub count : ℕ
   pub active : Bool
@@ -113,11 +120,11 @@ sends_data l (Some v) bytes = moves l v bytes
 -- A DMA Setup: the first one of a command starts it.
 abbrev pub starts_moving : Ledger → (offset count : ℕ) → Option Command → Ledger
 starts_moving l offset count None = l
-starts_moving l offset count (Some c) = record l { moving = Some (record { command = c; before = l.writes; bytes = replicate (512 * c.count) 0; moved = 0; offset = offset; count = count; active = false }) }
+starts_moving l offset count (Some c) = record l { moving = Some (record { command = c; before = l.writes; bytes = replicate (512 * c.count) 0; moved = 0; setups = record { at = offset; count = count } ∷ []; offset = offset; count = count; active = false }) }
 
 abbrev pub sets_up : Ledger → Option Moving → (tag offset count : ℕ) → Ledger
 sets_up l None tag offset count = starts_moving l offset count (find (λ c. c.tag == tag) l.outstanding)
-sets_up l (Some v) tag offset count = record l { moving = Some (record v { offset = offset; count = count; active = false }) }
+sets_up l (Some v) tag offset count = record l { moving = Some (record v { setups = v.setups ++ record { at = offset; count = count } ∷ []; offset = offset; count = count; active = false }) }
 
 abbrev pub activates : Ledger → Option Moving → Ledger
 activates l None = l

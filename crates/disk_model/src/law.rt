@@ -1,27 +1,33 @@
 //! Laws of every run of a disk, above the definitions by which its code is proved: what the FISes alone tell whoever
 //! listens on its link is what the disk does. The functions do nothing when they run.
 
-ghost use Rattle.std.specs.Prelude.{◌≡◌, ◌++◌, ◌∷◌, [], ℕ, All, List};
-ghost use Rattle.fis_view.specs.Seen.{seen};
-ghost use Rattle.disk_model.specs.Histories.{Happening, Sent};
-ghost use Rattle.disk_model.specs.Ledger.{AnswersOne, IsRead, IsSize, ledger, medium_with};
-ghost use Rattle.disk_model.specs.Runs.{IsDiskRun, moment};
-ghost use Rattle.disk_model.specs.declared.plan.DiskPlan.{DiskPlan};
+ghost use Rattle.std.specs.Prelude.{◌≡◌, All};
+ghost use Rattle.disk_model.specs.Laws.{AfterEachRun, AtEachSending, MovesRight};
+ghost use Rattle.disk_model.specs.Ledger.{AnswersOne, IsRead, ledger, medium_with};
+ghost use Rattle.disk_model.specs.Runs.{moment};
 
 /// After every run of a disk its medium is the opening medium with the bytes of each ended write put in, in the order in
 /// which the writes ended.
 pub fn medium_is_of_ended_writes()
-    ensures { (plan : DiskPlan) (sectors : ℕ) (history : List Happening) → IsSize plan sectors → IsDiskRun plan sectors history → (moment plan sectors history).medium ≡ medium_with sectors (ledger history).writes }
+    ensures { AfterEachRun (λ plan sectors history.
+        (moment plan sectors history).medium ≡ medium_with sectors (ledger history).writes) }
 {}
 
 /// In every run of a disk the Data of each read that ended, placed by the offsets of its DMA Setups, is its sectors as
 /// they were when it was started.
 pub fn reads_are_of_their_start()
-    ensures { (plan : DiskPlan) (sectors : ℕ) (history : List Happening) → IsSize plan sectors → IsDiskRun plan sectors history → All (IsRead sectors) (ledger history).reads }
+    ensures { AfterEachRun (λ plan sectors history. All (IsRead sectors) (ledger history).reads) }
 {}
 
 /// In every run of a disk a Set Device Bits FIS without ERR names just the tag of the command that ended first among
 /// those that were not answered yet, so that a command is answered at most once.
 pub fn answers_each_command_once()
-    ensures { (plan : DiskPlan) (sectors : ℕ) (history : List Happening) (bytes : List ℕ) → IsSize plan sectors → IsDiskRun plan sectors (history ++ Sent bytes ∷ []) → AnswersOne (ledger history) (seen bytes) }
+    ensures { AtEachSending (λ plan sectors before fis. AnswersOne before fis) }
+{}
+
+/// In every run of a disk each DMA Setup is of the command whose data moves, or of an outstanding one that starts: it has its
+/// tag and its direction, and names bytes of it that no DMA Setup named before, once those that were named have moved.
+/// The Data of a read that follows is just as long, and a DMA Activate follows only the DMA Setup of a write, once.
+pub fn setups_name_what_moves()
+    ensures { AtEachSending (λ plan sectors before fis. MovesRight before fis) }
 {}

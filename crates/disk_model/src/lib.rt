@@ -8,8 +8,9 @@
 //! A [`Disk`] keeps sectors in memory and queues reads and writes by tags (native command queuing); a
 //! [`Scripted`] device sends what a script says; a [`Unit`] is one of the two.
 //!
-//! What the FISes of a disk's run alone tell is the ledger of `specs/Ledger.antt`. Three laws over every run tie the disk to
-//! it: [`medium_is_of_ended_writes`], [`reads_are_of_their_start`] and [`answers_each_command_once`].
+//! What the FISes of a disk's run alone tell is the ledger of `specs/Ledger.antt`. Laws over every run tie the disk to it:
+//! [`medium_is_of_ended_writes`], [`reads_are_of_their_start`], [`answers_each_command_once`] and
+//! [`setups_name_what_moves`].
 #![tactic(auto)]
 
 mod answer;
@@ -25,7 +26,10 @@ mod unit;
 
 pub use device::Device;
 pub use disk::{Disk, DiskError};
-pub use law::{answers_each_command_once, medium_is_of_ended_writes, reads_are_of_their_start};
+pub use law::{
+    answers_each_command_once, medium_is_of_ended_writes, reads_are_of_their_start,
+    setups_name_what_moves,
+};
 pub use plan::{DiskPlan, Order};
 pub use scripted::Scripted;
 pub use unit::Unit;
