@@ -11,6 +11,7 @@ use Rattle.disk_model.specs.declared.request.Request.{Request}
 use Rattle.disk_model.specs.declared.request.Request.TheVariants.{Reset, Queue, ReadErrorLog, Identify, Flush, Other}
 use Rattle.disk_model.specs.declared.answer.Answer.{Answer}
 use Rattle.disk_model.specs.declared.answer.Answer.TheVariants.{Signature, Accepted, Finished, Refused, PageFollows, PageData}
+use Rattle.disk_model.specs.declared.answer.Page.{Page}
 use Rattle.disk_model.specs.declared.answer.Page.TheVariants.{ErrorLog, Identity}
 use Rattle.disk_model.specs.declared.answer.Fault.{Fault}
 use Rattle.disk_model.specs.declared.answer.Fault.TheVariants.{Mixed}
@@ -18,11 +19,12 @@ use Rattle.disk_model.specs.Requests.{Asks}
 use Rattle.disk_model.specs.Sendings.{Sending, Activates}
 use Rattle.disk_model.specs.Chunks.{chunks, chunk_from, chunk_count, sends_left, asks_for, sectors_at}
 use Rattle.disk_model.specs.Disks.{Moment, Started, Writing, received, refused}
-use Rattle.disk_model.specs.Ledger.{Ledger, Moving, Written, ReadOut, IsRead, asks, given_up, mixes, medium_with}
+use Rattle.disk_model.specs.Ledger.{Ledger, Moving, Written, ReadOut, IsRead, Failure, Wanted, LogOf, IdentifyData, Reply, Signs, Accepts, Finishes, Refuses, ShowsPage, asks, given_up, refuses, awaits, medium_with}
 use Rattle.disk_model.proofs.PlaceLemmas.{from_front, from_back}
 use Rattle.disk_model.proofs.GeometryLemmas.{moved_sectors}
 use Rattle.disk_model.proofs.SetupLemmas.{AreSetUp}
-use Rattle.disk_model.proofs.QueueLemmas.{has_tag, IsQueue, IsQueue-append, tag_of, ended_tags, is_page, has_page, AreTags}
+use Rattle.disk_model.proofs.FaultLemmas.{IsNoted, IsWanted, AreWanted, AreWanted-append}
+use Rattle.disk_model.proofs.QueueLemmas.{replies, replies_more, pages_of, page_of, pages_same, has_tag, IsQueue, IsQueue-append, tag_of, ended_tags, is_page, has_page, AreTags}
 
 -- ## How both agree
 
@@ -110,21 +112,25 @@ pub record Agrees (plan : DiskPlan) (sectors : ℕ) (m : Moment) (l : Ledger) : 
   pub tags : AreTags (ended_tags m.owed)
   pub reads : All (IsRead sectors) l.reads
   pub moving : Moves plan sectors m.medium m.queued m.owed m.started m.writing l.moving
+  pub failure : IsNoted plan sectors m.fault l.failure
+  pub resetting : l.resetting ≡ m.resetting
+  pub awaited : l.awaited ≡ replies m.owed
+  pub pages : AreWanted plan sectors (pages_of m.owed) l.pages
 
 -- the ledger that agrees with the disk, but for what the disk does not know
-abbrev pub shown : Moment → Option Moving → List Written → List ReadOut → Ledger
-shown m v ws rs = record { outstanding = m.queued; failed = is_some m.fault; unanswered = ended_tags m.owed; moving = v; writes = ws; reads = rs }
+abbrev pub shown : Moment → Option Moving → List Written → List ReadOut → Option Failure → List Wanted → Ledger
+shown m v ws rs fl ps = record { outstanding = m.queued; failed = is_some m.fault; failure = fl; resetting = m.resetting; awaited = replies m.owed; pages = ps; unanswered = ended_tags m.owed; moving = v; writes = ws; reads = rs }
 
-pub ledger_is : (plan : DiskPlan) (sectors : ℕ) (m : Moment) (l : Ledger) → Agrees plan sectors m l → l ≡ shown m l.moving l.writes l.reads
-ledger_is plan sectors m l a = λ i. record { outstanding = a.outstanding i; failed = a.failed i; unanswered = a.unanswered i; moving = l.moving; writes = l.writes; reads = l.reads }
+pub ledger_is : (plan : DiskPlan) (sectors : ℕ) (m : Moment) (l : Ledger) → Agrees plan sectors m l → l ≡ shown m l.moving l.writes l.reads l.failure l.pages
+ledger_is plan sectors m l a = λ i. record { outstanding = a.outstanding i; failed = a.failed i; failure = l.failure; resetting = a.resetting i; awaited = a.awaited i; pages = l.pages; unanswered = a.unanswered i; moving = l.moving; writes = l.writes; reads = l.reads }
 
 abbrev pub at : List ℕ → List Command → Option Fault → Bool → List Answer → Option Started → Option Writing → Moment
 at medium queued fault resetting owed started writing = record { medium = medium; queued = queued; fault = fault; resetting = resetting; owed = owed; started = started; writing = writing }
 
 -- ## All is given up
 
-pub gives_up : (plan : DiskPlan) (sectors : ℕ) (m : Moment) (l : Ledger) → Agrees plan sectors m l → (fault : Option Fault) (resetting : Bool) (owed : List Answer) → ended_tags owed ≡ [] → Agrees plan sectors (at m.medium [] fault resetting owed None None) (given_up l (is_some fault))
-gives_up plan sectors m l a fault resetting owed none = record {
+pub gives_up : (plan : DiskPlan) (sectors : ℕ) (m : Moment) (l : Ledger) → Agrees plan sectors m l → (fault : Option Fault) (fl : Option Failure) (resetting : Bool) (owed : List Answer) → IsNoted plan sectors fault fl → ended_tags owed ≡ [] → pages_of owed ≡ [] → Agrees plan sectors (at m.medium [] fault resetting owed None None) (record (given_up l (is_some fault)) { failure = fl; resetting = resetting; awaited = replies owed })
+gives_up plan sectors m l a fault fl resetting owed is none no_page = record {
   outstanding = refl;
   failed = refl;
   unanswered = sym none;
@@ -134,6 +140,10 @@ gives_up plan sectors m l a fault resetting owed none = record {
   tags = rw none tt;
   reads = a.reads;
   moving = tt;
+  failure = is;
+  resetting = refl;
+  awaited = refl;
+  pages = rw no_page tt;
 }
 
 -- ## An answer more
@@ -158,8 +168,8 @@ moves_on plan sectors medium queued more_queued owed more None (Some w) (Some v)
 moves_on plan sectors medium queued more_queued owed more (Some s) (Some w) v m quiet = absurd m
 
 -- commands are queued and answers are owed, none of which ends a command
-pub owes_more : (plan : DiskPlan) (sectors : ℕ) (m : Moment) (l : Ledger) → Agrees plan sectors m l → (fault : Option Fault) (resetting : Bool) (cs : List Command) (more : List Answer) → IsQueue (m.queued ++ cs) → ended_tags more ≡ [] → ((tag : ℕ) → has_tag tag m.queued ≡ true → has_page more ≡ false) → Agrees plan sectors (at m.medium (m.queued ++ cs) fault resetting (m.owed ++ more) m.started m.writing) (record { outstanding = m.queued ++ cs; failed = is_some fault; unanswered = l.unanswered; moving = l.moving; writes = l.writes; reads = l.reads })
-owes_more plan sectors m l a fault resetting cs more queue none quiet =
+pub owes_more : (plan : DiskPlan) (sectors : ℕ) (m : Moment) (l : Ledger) → Agrees plan sectors m l → (fault : Option Fault) (fl : Option Failure) (resetting : Bool) (cs : List Command) (more : List Answer) (reply : Reply) (ps : List Wanted) → IsNoted plan sectors fault fl → IsQueue (m.queued ++ cs) → ended_tags more ≡ [] → replies more ≡ reply ∷ [] → AreWanted plan sectors (pages_of (m.owed ++ more)) ps → ((tag : ℕ) → has_tag tag m.queued ≡ true → has_page more ≡ false) → Agrees plan sectors (at m.medium (m.queued ++ cs) fault resetting (m.owed ++ more) m.started m.writing) (record { outstanding = m.queued ++ cs; failed = is_some fault; failure = fl; resetting = resetting; awaited = l.awaited ++ reply ∷ []; pages = ps; unanswered = l.unanswered; moving = l.moving; writes = l.writes; reads = l.reads })
+owes_more plan sectors m l a fault fl resetting cs more reply ps is queue none one pages quiet =
     let same : ended_tags (m.owed ++ more) ≡ ended_tags m.owed = filter_map-append tag_of m.owed more ∙ ap (λ (xs : List ℕ). ended_tags m.owed ++ xs) none ∙ append-nil (ended_tags m.owed) in
     record {
       outstanding = refl;
@@ -171,37 +181,49 @@ owes_more plan sectors m l a fault resetting cs more queue none quiet =
       tags = rw same a.tags;
       reads = a.reads;
       moving = moves_on plan sectors m.medium m.queued cs m.owed more m.started m.writing l.moving a.moving quiet;
+      failure = is;
+      resetting = refl;
+      awaited = ap (λ (xs : List Reply). xs ++ reply ∷ []) a.awaited ∙ sym (replies_more m.owed more reply one);
+      pages = pages;
     }
 
 -- the same with no command
-pub owes_answers : (plan : DiskPlan) (sectors : ℕ) (m : Moment) (l : Ledger) → Agrees plan sectors m l → (fault : Option Fault) (resetting : Bool) (more : List Answer) → ended_tags more ≡ [] → ((tag : ℕ) → has_tag tag m.queued ≡ true → has_page more ≡ false) → Agrees plan sectors (at m.medium m.queued fault resetting (m.owed ++ more) m.started m.writing) (record l { outstanding = m.queued; failed = is_some fault })
-owes_answers plan sectors m l a fault resetting more none quiet =
-    subst (λ (xs : List Command). Agrees plan sectors (at m.medium xs fault resetting (m.owed ++ more) m.started m.writing) (record l { outstanding = xs; failed = is_some fault })) (append-nil m.queued) (owes_more plan sectors m l a fault resetting [] more (rw append-nil a.queue) none quiet)
+pub owes_answers : (plan : DiskPlan) (sectors : ℕ) (m : Moment) (l : Ledger) → Agrees plan sectors m l → (fault : Option Fault) (fl : Option Failure) (resetting : Bool) (more : List Answer) (reply : Reply) (ps : List Wanted) → IsNoted plan sectors fault fl → ended_tags more ≡ [] → replies more ≡ reply ∷ [] → AreWanted plan sectors (pages_of (m.owed ++ more)) ps → ((tag : ℕ) → has_tag tag m.queued ≡ true → has_page more ≡ false) → Agrees plan sectors (at m.medium m.queued fault resetting (m.owed ++ more) m.started m.writing) (record l { outstanding = m.queued; failed = is_some fault; failure = fl; resetting = resetting; awaited = l.awaited ++ reply ∷ []; pages = ps })
+owes_answers plan sectors m l a fault fl resetting more reply ps is none one pages quiet =
+    subst (λ (xs : List Command). Agrees plan sectors (at m.medium xs fault resetting (m.owed ++ more) m.started m.writing) (record l { outstanding = xs; failed = is_some fault; failure = fl; resetting = resetting; awaited = l.awaited ++ reply ∷ []; pages = ps })) (append-nil m.queued) (owes_more plan sectors m l a fault fl resetting [] more reply ps is (rw append-nil a.queue) none one pages quiet)
+
+-- no page more is owed
+no_page : (plan : DiskPlan) (sectors : ℕ) (m : Moment) (l : Ledger) → Agrees plan sectors m l → (more : List Answer) → pages_of more ≡ [] → AreWanted plan sectors (pages_of (m.owed ++ more)) l.pages
+no_page plan sectors m l a more none = rw (pages_same m.owed more none) a.pages
+
+-- one page more is
+one_page : (plan : DiskPlan) (sectors : ℕ) (m : Moment) (l : Ledger) → Agrees plan sectors m l → (page : Page) (w : Wanted) → IsWanted plan sectors page w → AreWanted plan sectors (pages_of (m.owed ++ PageFollows ∷ PageData page ∷ [])) (l.pages ++ w ∷ [])
+one_page plan sectors m l a page w is = rw (filter_map-append page_of m.owed (PageFollows ∷ PageData page ∷ [])) (AreWanted-append plan sectors (pages_of m.owed) l.pages page w a.pages is)
 
 -- ## What the host asks
 
 not_queued : (tag : ℕ) (more : List Answer) → has_tag tag [] ≡ true → has_page more ≡ false
 not_queued tag more e = cc e
 
-step_queue : (plan : DiskPlan) (sectors : ℕ) (medium : List ℕ) (queued : List Command) (resetting : Bool) (owed : List Answer) (started : Option Started) (writing : Option Writing) (v : Option Moving) (ws : List Written) (rs : List ReadOut) (c : Command) (twice : Bool) → has_tag c.tag queued ≡ twice → 0 < c.count → c.tag < 32 → Agrees plan sectors (at medium queued None resetting owed started writing) (shown (at medium queued None resetting owed started writing) v ws rs) → Agrees plan sectors (if twice then refused (at medium queued None resetting owed started writing) queued else at medium (queued ++ c ∷ []) None resetting (owed ++ Accepted ∷ []) started writing) (let l = shown (at medium queued None resetting owed started writing) v ws rs in if twice then mixes l l queued else record l { outstanding = queued ++ c ∷ [] })
-step_queue plan sectors medium [] resetting owed started writing v ws rs c true e some tag a = cc e
-step_queue plan sectors medium (q ∷ qs) resetting owed started writing v ws rs c true e some tag a = gives_up plan sectors _ _ a (Some Mixed) resetting (Refused ∷ []) refl
-step_queue plan sectors medium queued resetting owed started writing v ws rs c false e some tag a = owes_more plan sectors _ _ a None resetting (c ∷ []) (Accepted ∷ []) (IsQueue-append queued c a.queue e some tag) refl (λ t h. refl)
+step_queue : (plan : DiskPlan) (sectors : ℕ) (medium : List ℕ) (queued : List Command) (resetting : Bool) (owed : List Answer) (started : Option Started) (writing : Option Writing) (v : Option Moving) (ws : List Written) (rs : List ReadOut) (fl : Option Failure) (ps : List Wanted) (c : Command) (twice : Bool) → has_tag c.tag queued ≡ twice → 0 < c.count → c.tag < 32 → Agrees plan sectors (at medium queued None resetting owed started writing) (shown (at medium queued None resetting owed started writing) v ws rs fl ps) → Agrees plan sectors (if twice then refused (at medium queued None resetting owed started writing) queued else at medium (queued ++ c ∷ []) None resetting (owed ++ Accepted ∷ []) started writing) (let l = shown (at medium queued None resetting owed started writing) v ws rs fl ps in if twice then refuses l else awaits (record l { outstanding = queued ++ c ∷ [] }) Accepts)
+step_queue plan sectors medium [] resetting owed started writing v ws rs fl ps c true e some tag a = cc e
+step_queue plan sectors medium (q ∷ qs) resetting owed started writing v ws rs fl ps c true e some tag a = gives_up plan sectors _ _ a (Some Mixed) None resetting (Refused ∷ []) tt refl refl
+step_queue plan sectors medium queued resetting owed started writing v ws rs fl ps c false e some tag a = owes_more plan sectors _ _ a None fl resetting (c ∷ []) (Accepted ∷ []) Accepts ps a.failure (IsQueue-append queued c a.queue e some tag) refl refl (no_page plan sectors _ _ a (Accepted ∷ []) refl) (λ t h. refl)
 
-pub step_request : (plan : DiskPlan) (sectors : ℕ) (medium : List ℕ) (queued : List Command) (fault : Option Fault) (resetting : Bool) (owed : List Answer) (started : Option Started) (writing : Option Writing) (v : Option Moving) (ws : List Written) (rs : List ReadOut) (r : Request) → Asks r → Agrees plan sectors (at medium queued fault resetting owed started writing) (shown (at medium queued fault resetting owed started writing) v ws rs) → Agrees plan sectors (received (at medium queued fault resetting owed started writing) r fault) (asks (shown (at medium queued fault resetting owed started writing) v ws rs) r (is_some fault))
-step_request plan sectors medium queued fault resetting owed started writing v ws rs (Reset true) good a = gives_up plan sectors _ _ a None true [] refl
-step_request plan sectors medium queued fault true owed started writing v ws rs (Reset false) good a = owes_answers plan sectors _ _ a fault false (Signature ∷ []) refl (λ t h. refl)
-step_request plan sectors medium queued fault false owed started writing v ws rs (Reset false) good a = a
-step_request plan sectors medium [] fault resetting owed started writing v ws rs ReadErrorLog good a = owes_answers plan sectors _ _ a None resetting (PageFollows ∷ PageData (ErrorLog fault) ∷ []) refl (λ t h. not_queued t (PageFollows ∷ PageData (ErrorLog fault) ∷ []) h)
-step_request plan sectors medium (q ∷ qs) fault resetting owed started writing v ws rs ReadErrorLog good a = gives_up plan sectors _ _ a (Some Mixed) resetting (Refused ∷ []) refl
-step_request plan sectors medium queued None resetting owed started writing v ws rs (Queue c) good a = step_queue plan sectors medium queued resetting owed started writing v ws rs c _ refl good.0 good.1 a
-step_request plan sectors medium queued (Some f) resetting owed started writing v ws rs (Queue c) good a = a
-step_request plan sectors medium [] None resetting owed started writing v ws rs Flush good a = owes_answers plan sectors _ _ a None resetting (Finished ∷ []) refl (λ t h. refl)
-step_request plan sectors medium (q ∷ qs) None resetting owed started writing v ws rs Flush good a = gives_up plan sectors _ _ a (Some Mixed) resetting (Refused ∷ []) refl
-step_request plan sectors medium queued (Some f) resetting owed started writing v ws rs Flush good a = a
-step_request plan sectors medium [] None resetting owed started writing v ws rs Identify good a = owes_answers plan sectors _ _ a None resetting (PageFollows ∷ PageData Identity ∷ []) refl (λ t h. not_queued t (PageFollows ∷ PageData Identity ∷ []) h)
-step_request plan sectors medium (q ∷ qs) None resetting owed started writing v ws rs Identify good a = gives_up plan sectors _ _ a (Some Mixed) resetting (Refused ∷ []) refl
-step_request plan sectors medium queued (Some f) resetting owed started writing v ws rs Identify good a = a
-step_request plan sectors medium [] None resetting owed started writing v ws rs Other good a = owes_answers plan sectors _ _ a None resetting (Refused ∷ []) refl (λ t h. refl)
-step_request plan sectors medium (q ∷ qs) None resetting owed started writing v ws rs Other good a = gives_up plan sectors _ _ a (Some Mixed) resetting (Refused ∷ []) refl
-step_request plan sectors medium queued (Some f) resetting owed started writing v ws rs Other good a = a
+pub step_request : (plan : DiskPlan) (sectors : ℕ) (medium : List ℕ) (queued : List Command) (fault : Option Fault) (resetting : Bool) (owed : List Answer) (started : Option Started) (writing : Option Writing) (v : Option Moving) (ws : List Written) (rs : List ReadOut) (fl : Option Failure) (ps : List Wanted) (r : Request) → Asks r → Agrees plan sectors (at medium queued fault resetting owed started writing) (shown (at medium queued fault resetting owed started writing) v ws rs fl ps) → Agrees plan sectors (received (at medium queued fault resetting owed started writing) r fault) (asks (shown (at medium queued fault resetting owed started writing) v ws rs fl ps) r (is_some fault))
+step_request plan sectors medium queued fault resetting owed started writing v ws rs fl ps (Reset true) good a = gives_up plan sectors _ _ a None None true [] tt refl refl
+step_request plan sectors medium queued fault true owed started writing v ws rs fl ps (Reset false) good a = owes_answers plan sectors _ _ a fault fl false (Signature ∷ []) Signs ps a.failure refl refl (no_page plan sectors _ _ a (Signature ∷ []) refl) (λ t h. refl)
+step_request plan sectors medium queued fault false owed started writing v ws rs fl ps (Reset false) good a = a
+step_request plan sectors medium [] fault resetting owed started writing v ws rs fl ps ReadErrorLog good a = owes_answers plan sectors _ _ a None None resetting (PageFollows ∷ PageData (ErrorLog fault) ∷ []) ShowsPage (ps ++ LogOf fl ∷ []) tt refl refl (one_page plan sectors _ _ a (ErrorLog fault) (LogOf fl) a.failure) (λ t h. not_queued t (PageFollows ∷ PageData (ErrorLog fault) ∷ []) h)
+step_request plan sectors medium (q ∷ qs) fault resetting owed started writing v ws rs fl ps ReadErrorLog good a = gives_up plan sectors _ _ a (Some Mixed) None resetting (Refused ∷ []) tt refl refl
+step_request plan sectors medium queued None resetting owed started writing v ws rs fl ps (Queue c) good a = step_queue plan sectors medium queued resetting owed started writing v ws rs fl ps c _ refl good.0 good.1 a
+step_request plan sectors medium queued (Some f) resetting owed started writing v ws rs fl ps (Queue c) good a = a
+step_request plan sectors medium [] None resetting owed started writing v ws rs fl ps Flush good a = owes_answers plan sectors _ _ a None fl resetting (Finished ∷ []) Finishes ps a.failure refl refl (no_page plan sectors _ _ a (Finished ∷ []) refl) (λ t h. refl)
+step_request plan sectors medium (q ∷ qs) None resetting owed started writing v ws rs fl ps Flush good a = gives_up plan sectors _ _ a (Some Mixed) None resetting (Refused ∷ []) tt refl refl
+step_request plan sectors medium queued (Some f) resetting owed started writing v ws rs fl ps Flush good a = a
+step_request plan sectors medium [] None resetting owed started writing v ws rs fl ps Identify good a = owes_answers plan sectors _ _ a None fl resetting (PageFollows ∷ PageData Identity ∷ []) ShowsPage (ps ++ IdentifyData ∷ []) a.failure refl refl (one_page plan sectors _ _ a Identity IdentifyData tt) (λ t h. not_queued t (PageFollows ∷ PageData Identity ∷ []) h)
+step_request plan sectors medium (q ∷ qs) None resetting owed started writing v ws rs fl ps Identify good a = gives_up plan sectors _ _ a (Some Mixed) None resetting (Refused ∷ []) tt refl refl
+step_request plan sectors medium queued (Some f) resetting owed started writing v ws rs fl ps Identify good a = a
+step_request plan sectors medium [] None resetting owed started writing v ws rs fl ps Other good a = owes_answers plan sectors _ _ a None fl resetting (Refused ∷ []) Refuses ps a.failure refl refl (no_page plan sectors _ _ a (Refused ∷ []) refl) (λ t h. refl)
+step_request plan sectors medium (q ∷ qs) None resetting owed started writing v ws rs fl ps Other good a = gives_up plan sectors _ _ a (Some Mixed) None resetting (Refused ∷ []) tt refl refl
+step_request plan sectors medium queued (Some f) resetting owed started writing v ws rs fl ps Other good a = a

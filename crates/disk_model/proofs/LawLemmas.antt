@@ -23,7 +23,7 @@ use Rattle.disk_model.specs.Sendings.{Sending, Register, SetsBits, SetsUp, Activ
 use Rattle.disk_model.specs.Chunks.{chunks, chunk_setup, fault_of, report, error_of}
 use Rattle.disk_model.specs.Disks.{Moment, Started, Writing, Turn, turn, read_turn, write_turn, pick_turn, begun, starts, picked, heard, after, moment_after, opening, opening_byte}
 use Rattle.disk_model.specs.Runs.{IsTurn, MayHappen, Runs, IsDiskRun, moment}
-use Rattle.disk_model.specs.Ledger.{Ledger, Moving, Written, ReadOut, empty, listens, listens_down, ledger_after, ledger, with_writes, Names, AnswersOne, IsSize}
+use Rattle.disk_model.specs.Ledger.{Failure, Wanted, Ledger, Moving, Written, ReadOut, empty, listens, listens_down, ledger_after, ledger, with_writes, Names, AnswersOne, IsSize}
 use Rattle.disk_model.proofs.SendLemmas.{sends_left_next}
 use Rattle.disk_model.proofs.ShowsLemmas.{error_tells, sactive_tells}
 use Rattle.disk_model.proofs.GeometryLemmas.{some_chunks}
@@ -59,26 +59,26 @@ asks_of f =
 
 -- ## One event
 
-step_heard : (plan : DiskPlan) (sectors : ℕ) (m : Moment) (v : Option Moving) (ws : List Written) (rs : List ReadOut) (s : Result Fis FisFault) → IsSized plan sectors → Agrees plan sectors m (shown m v ws rs) → Agrees plan sectors (heard plan m s) (listens_down (shown m v ws rs) s)
-step_heard plan sectors m v ws rs (Ok (view.RegH2D f)) sized a = step_request plan sectors m.medium m.queued m.fault m.resetting m.owed m.started m.writing v ws rs (request_of f) (asks_of f) a
-step_heard plan sectors m v ws rs (Ok (view.Payload f)) sized a = step_data plan sectors m.medium m.queued m.fault m.resetting m.owed m.started m.writing v ws rs (drop 4 f) sized a.moving a
-step_heard plan sectors m v ws rs (Ok (view.RegD2H f)) sized a = a
-step_heard plan sectors m v ws rs (Ok (view.SetBits f)) sized a = a
-step_heard plan sectors m v ws rs (Ok (view.DmaActivate f)) sized a = a
-step_heard plan sectors m v ws rs (Ok (view.DmaSetup f)) sized a = a
-step_heard plan sectors m v ws rs (Ok (view.PioSetup f)) sized a = a
-step_heard plan sectors m v ws rs (Ok (view.Unknown f)) sized a = a
-step_heard plan sectors m v ws rs (Err e) sized a = a
+step_heard : (plan : DiskPlan) (sectors : ℕ) (m : Moment) (v : Option Moving) (ws : List Written) (rs : List ReadOut) (fl : Option Failure) (ps : List Wanted) (s : Result Fis FisFault) → IsSized plan sectors → Agrees plan sectors m (shown m v ws rs fl ps) → Agrees plan sectors (heard plan m s) (listens_down (shown m v ws rs fl ps) s)
+step_heard plan sectors m v ws rs fl ps (Ok (view.RegH2D f)) sized a = step_request plan sectors m.medium m.queued m.fault m.resetting m.owed m.started m.writing v ws rs fl ps (request_of f) (asks_of f) a
+step_heard plan sectors m v ws rs fl ps (Ok (view.Payload f)) sized a = step_data plan sectors m.medium m.queued m.fault m.resetting m.owed m.started m.writing v ws rs fl ps (drop 4 f) sized a.moving a
+step_heard plan sectors m v ws rs fl ps (Ok (view.RegD2H f)) sized a = a
+step_heard plan sectors m v ws rs fl ps (Ok (view.SetBits f)) sized a = a
+step_heard plan sectors m v ws rs fl ps (Ok (view.DmaActivate f)) sized a = a
+step_heard plan sectors m v ws rs fl ps (Ok (view.DmaSetup f)) sized a = a
+step_heard plan sectors m v ws rs fl ps (Ok (view.PioSetup f)) sized a = a
+step_heard plan sectors m v ws rs fl ps (Ok (view.Unknown f)) sized a = a
+step_heard plan sectors m v ws rs fl ps (Err e) sized a = a
 
-step_shown : (plan : DiskPlan) (sectors : ℕ) (m : Moment) (v : Option Moving) (ws : List Written) (rs : List ReadOut) (e : Happening) → IsSized plan sectors → Agrees plan sectors m (shown m v ws rs) → MayHappen plan sectors m e → Agrees plan sectors (after plan sectors m e) (listens (shown m v ws rs) e)
-step_shown plan sectors m v ws rs (Received bytes) sized a may = step_heard plan sectors m v ws rs (seen bytes) sized a
-step_shown plan sectors m v ws rs (Sent bytes) sized a may = step_sent plan sectors m.medium m.queued m.fault m.resetting m.owed m.started m.writing v ws rs bytes sized a.moving a may
-step_shown plan sectors m v ws rs Plugged sized a may = gives_up plan sectors m (shown m v ws rs) a None m.resetting (Signature ∷ []) refl
+step_shown : (plan : DiskPlan) (sectors : ℕ) (m : Moment) (v : Option Moving) (ws : List Written) (rs : List ReadOut) (fl : Option Failure) (ps : List Wanted) (e : Happening) → IsSized plan sectors → Agrees plan sectors m (shown m v ws rs fl ps) → MayHappen plan sectors m e → Agrees plan sectors (after plan sectors m e) (listens (shown m v ws rs fl ps) e)
+step_shown plan sectors m v ws rs fl ps (Received bytes) sized a may = step_heard plan sectors m v ws rs fl ps (seen bytes) sized a
+step_shown plan sectors m v ws rs fl ps (Sent bytes) sized a may = step_sent plan sectors m.medium m.queued m.fault m.resetting m.owed m.started m.writing v ws rs fl ps bytes sized a.moving a may
+step_shown plan sectors m v ws rs fl ps Plugged sized a may = gives_up plan sectors m (shown m v ws rs fl ps) a None None m.resetting (Signature ∷ []) tt refl refl
 
 step : (plan : DiskPlan) (sectors : ℕ) (m : Moment) (l : Ledger) (e : Happening) → IsSized plan sectors → Agrees plan sectors m l → MayHappen plan sectors m e → Agrees plan sectors (after plan sectors m e) (listens l e)
 step plan sectors m l e sized a may =
     let is = ledger_is plan sectors m l a in
-    subst (λ (x : Ledger). Agrees plan sectors (after plan sectors m e) (listens x e)) (sym is) (step_shown plan sectors m l.moving l.writes l.reads e sized (subst (Agrees plan sectors m) is a) may)
+    subst (λ (x : Ledger). Agrees plan sectors (after plan sectors m e) (listens x e)) (sym is) (step_shown plan sectors m l.moving l.writes l.reads l.failure l.pages e sized (subst (Agrees plan sectors m) is a) may)
 
 -- ## Whole runs
 
@@ -99,6 +99,10 @@ opens_agreeing plan sectors = record {
   tags = tt;
   reads = λ k d below. absurd (omega arith);
   moving = tt;
+  failure = tt;
+  resetting = refl;
+  awaited = refl;
+  pages = tt;
 }
 
 pub sized_by : (plan : DiskPlan) (sectors : ℕ) → IsSize plan sectors → IsSized plan sectors

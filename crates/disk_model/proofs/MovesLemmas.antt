@@ -23,7 +23,8 @@ use Rattle.disk_model.proofs.AgreeLemmas.{Agrees, Moves, IsReading, IsWriting, S
 use Rattle.disk_model.proofs.StoreLemmas.{IsSized}
 use Rattle.disk_model.proofs.ListenLemmas.{page_goes}
 use Rattle.disk_model.proofs.TransferLemmas.{length-sectors_at, setup_of_chunk}
-use Rattle.disk_model.proofs.StartLemmas.{picked_in, in_end_by}
+use Rattle.disk_model.proofs.StartLemmas.{picked_in}
+use Rattle.disk_model.proofs.FaultLemmas.{can_be_done}
 use Rattle.disk_model.proofs.LawLemmas.{agrees, sized_by, last_may, same_turn, begun_by}
 
 -- an answer moves no command's data
@@ -63,10 +64,10 @@ start_moves plan sectors l queued c b sized none out here inside shows =
 
 begins_moving : (plan : DiskPlan) (sectors : ℕ) (m : Moment) (l : Ledger) (c : Command) (bad : Option Fault) (write : Bool) (b : List ℕ) → fault_of plan sectors c ≡ bad → IsSized plan sectors → l.moving ≡ None → l.outstanding ≡ m.queued → IsIn m.queued c → IsTurn (begun_by plan m c bad write) b → MovesRight l (seen b)
 begins_moving plan sectors m l c (Some f) write b is sized none out here may = rw may.viewed tt
-begins_moving plan sectors m l c None true b is sized none out here may = start_moves plan sectors l m.queued c b sized none out here (in_end_by plan sectors c _ refl is) may
+begins_moving plan sectors m l c None true b is sized none out here may = start_moves plan sectors l m.queued c b sized none out here (can_be_done plan sectors c is).inside may
 begins_moving plan sectors m l c None false b is sized none out here may =
     let next = sends_left_next plan m.medium c (chunks plan c) (some_chunks plan c sized.low here.some) in
-    start_moves plan sectors l m.queued c b sized none out here (in_end_by plan sectors c _ refl is) (subst (λ (xs : List Sending). IsTurn (read_turn m c xs) b) next may)
+    start_moves plan sectors l m.queued c b sized none out here (can_be_done plan sectors c is).inside (subst (λ (xs : List Sending). IsTurn (read_turn m c xs) b) next may)
 
 picks_moving : (plan : DiskPlan) (sectors : ℕ) (m : Moment) (l : Ledger) (o : Option Command) (b : List ℕ) → IsSized plan sectors → IsQueue m.queued → l.moving ≡ None → l.outstanding ≡ m.queued → picked plan.order m.queued ≡ o → IsTurn (pick_turn plan sectors m o) b → MovesRight l (seen b)
 picks_moving plan sectors m l None b sized queue none out is may = absurd may
@@ -123,7 +124,7 @@ writes_moving plan sectors m l w v SetUp b sized is r may =
 writes_moving plan sectors m l w v Asked b sized is r may = absurd (subst (λ (xs : List Sending). IsTurn (write_turn m w xs) b) r.stage.0 may)
 
 turn_moves : (plan : DiskPlan) (sectors : ℕ) (medium : List ℕ) (queued : List Command) (fault : Option Fault) (resetting : Bool) (owed : List Answer) (s : Option Started) (w : Option Writing) (v : Option Moving) (l : Ledger) (b : List ℕ) → IsSized plan sectors → IsQueue queued → length medium ≡ 512 * sectors → l.outstanding ≡ queued → l.moving ≡ v → Moves plan sectors medium queued owed s w v → IsTurn (turn plan sectors (at medium queued fault resetting owed s w)) b → MovesRight l (seen b)
-turn_moves plan sectors medium queued fault resetting (x ∷ later) s w v l b sized queue size out is m may = answer_moves l sectors x b (λ page. is ∙ page_goes plan sectors medium queued fault resetting x later s w v l.writes l.reads page m) may
+turn_moves plan sectors medium queued fault resetting (x ∷ later) s w v l b sized queue size out is m may = answer_moves l sectors x b (λ page. is ∙ page_goes plan sectors medium queued fault resetting x later s w v l.writes l.reads l.failure l.pages page m) may
 turn_moves plan sectors medium queued fault resetting [] None None None l b sized queue size out is m may = picks_moving plan sectors (at medium queued fault resetting [] None None) l _ b sized queue is out refl may
 turn_moves plan sectors medium queued fault resetting [] None None (Some v) l b sized queue size out is m may = absurd m
 turn_moves plan sectors medium queued fault resetting [] (Some s) None None l b sized queue size out is m may = absurd m

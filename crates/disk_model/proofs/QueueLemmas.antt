@@ -7,7 +7,11 @@ use Rattle.std.proofs.lemmas.Bool.Decides.{nat_tests}
 use Rattle.std.proofs.lemmas.List.Folds.{list_any-append}
 use Rattle.disk_model.specs.declared.request.Command.{Command}
 use Rattle.disk_model.specs.declared.answer.Answer.{Answer}
-use Rattle.disk_model.specs.declared.answer.Answer.TheVariants.{Ended, PageData}
+use Rattle.disk_model.specs.declared.answer.Answer.TheVariants.{Signature, Accepted, Finished, Refused, Ended, PageFollows, PageData}
+use Rattle.disk_model.specs.declared.answer.Page.{Page}
+use Rattle.disk_model.specs.Ledger.{Reply, Signs, Accepts, Finishes, Refuses, ShowsPage}
+use Rattle.std.proofs.lemmas.List.{append-nil}
+use Rattle.std.proofs.lemmas.List.Elements.{filter_map-append}
 
 -- whether a command of the tag is in the queue
 abbrev pub has_tag : ℕ → List Command → Bool
@@ -103,6 +107,38 @@ tag_of _ = None
 -- the tags of the commands that ended
 abbrev pub ended_tags : List Answer → List ℕ
 ended_tags owed = filter_map tag_of owed
+
+-- what of them answers a command or a reset
+abbrev pub reply_of : Answer → Option Reply
+reply_of Signature = Some Signs
+reply_of Accepted = Some Accepts
+reply_of Finished = Some Finishes
+reply_of Refused = Some Refuses
+reply_of (Ended tag) = None
+reply_of PageFollows = Some ShowsPage
+reply_of (PageData page) = None
+
+abbrev pub replies : List Answer → List Reply
+replies owed = filter_map reply_of owed
+
+abbrev pub page_of : Answer → Option Page
+page_of (PageData page) = Some page
+page_of _ = None
+
+abbrev pub pages_of : List Answer → List Page
+pages_of owed = filter_map page_of owed
+
+-- no page more
+pub pages_same : (owed more : List Answer) → pages_of more ≡ [] → pages_of (owed ++ more) ≡ pages_of owed
+pages_same owed more none = filter_map-append page_of owed more ∙ ap (λ (xs : List Page). pages_of owed ++ xs) none ∙ append-nil (pages_of owed)
+
+-- one reply more
+pub replies_more : (owed more : List Answer) (r : Reply) → replies more ≡ r ∷ [] → replies (owed ++ more) ≡ replies owed ++ r ∷ []
+replies_more owed more r one = filter_map-append reply_of owed more ∙ ap (λ (xs : List Reply). replies owed ++ xs) one
+
+-- no reply more
+pub replies_same : (owed more : List Answer) → replies more ≡ [] → replies (owed ++ more) ≡ replies owed
+replies_same owed more none = filter_map-append reply_of owed more ∙ ap (λ (xs : List Reply). replies owed ++ xs) none ∙ append-nil (replies owed)
 
 abbrev pub is_page : Answer → Bool
 is_page (PageData page) = true

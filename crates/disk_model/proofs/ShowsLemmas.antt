@@ -1,6 +1,6 @@
 -- What the FISes that a disk sends tell.
 use Rattle.std.proofs.Common.{◌≡◌, ℕ, ◌%◌, ◌^◌, ◌<◌, Bool, true, false, List, [], ◌∷◌, Ok, refl, ◌∙◌, arith}
-use Rattle.fis_view.specs.Table.{Run, Setup, Bits, BufferId, Offset, D, Count, Status, SActive, field, places}
+use Rattle.fis_view.specs.Table.{Run, Setup, Bits, BufferId, Offset, D, Count, Status, Error, SActive, field, places}
 use Rattle.std.specs.Int.{from_bool}
 use Rattle.fis_view.specs.Built.{cut}
 use Rattle.fis_view.specs.Seen.{seen}
@@ -40,6 +40,12 @@ setup_tells tag offset count d b t o n shows =
 pub error_tells : (error : ℕ) (b : List ℕ) → Shows (bits 0x41 error 0) b → has_error b ≡ true
 unfolding places cut
 error_tells error b shows = let e : field Bits Status b ≡ 0x41 = shows.fields Status in rw e refl
+
+pub error_field_tells : (error : ℕ) (b : List ℕ) → error < 256 → Shows (bits 0x41 error 0) b → field Bits Error b ≡ error
+unfolding places
+error_field_tells error b small shows =
+    let e : error % 2 ^ 8 ≡ error = omega arith in
+    shows.fields Error ∙ cut_run 3 0 8 error e
 
 pub end_tells : (sactive : ℕ) (b : List ℕ) → Shows (bits 0x50 0 sactive) b → has_error b ≡ false
 unfolding places cut

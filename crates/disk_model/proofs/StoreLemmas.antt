@@ -10,11 +10,11 @@ use Rattle.disk_model.specs.declared.answer.Answer.TheVariants.{Ended}
 use Rattle.disk_model.specs.declared.answer.Fault.{Fault}
 use Rattle.disk_model.specs.Chunks.{chunk_from, chunk_count, put}
 use Rattle.disk_model.specs.Disks.{Writing, stored}
-use Rattle.disk_model.specs.Ledger.{Moving, Stretch, Written, ReadOut, moves, with_writes}
+use Rattle.disk_model.specs.Ledger.{Failure, Wanted, Moving, Stretch, Written, ReadOut, moves, with_writes}
 use Rattle.disk_model.proofs.PlaceLemmas.{length-put}
 use Rattle.disk_model.proofs.GeometryLemmas.{moved_sectors, chunk_part, ChunkPart}
 use Rattle.disk_model.proofs.SetupLemmas.{AreSetUp}
-use Rattle.disk_model.proofs.QueueLemmas.{tag_of, ended_tags, AreTags, AreTags-append, IsQueue-filter}
+use Rattle.disk_model.proofs.QueueLemmas.{replies_same, pages_same, tag_of, ended_tags, AreTags, AreTags-append, IsQueue-filter}
 use Rattle.disk_model.proofs.AgreeLemmas.{Agrees, IsMoving, IsHeld, Fresh, shown, at}
 
 -- what is known of the size of a disk
@@ -38,8 +38,8 @@ tags_more owed t tags small = subst AreTags (sym (ended_tags-more owed t)) (AreT
 abbrev pub asked_for : DiskPlan → Writing → List Written → List Stretch → Moving
 asked_for plan w before setups = record { command = w.command; before = before; bytes = w.staged; moved = 512 * moved_sectors plan w.command w.left; setups = setups; offset = 512 * chunk_from plan w.command w.left; count = 512 * chunk_count plan w.command w.left; active = true }
 
-store_last : (plan : DiskPlan) (sectors : ℕ) (medium : List ℕ) (queued : List Command) (fault : Option Fault) (resetting : Bool) (owed : List Answer) (w : Writing) (ws before : List Written) (setups : List Stretch) (rs : List ReadOut) (bytes : List ℕ) → IsSized plan sectors → w.command.write ≡ true → IsMoving plan sectors w.command w.left (asked_for plan w before setups) → length w.staged ≡ 512 * w.command.count → length bytes ≡ 512 * chunk_count plan w.command w.left → w.left ≡ 1 → Agrees plan sectors (at medium queued fault resetting owed None (Some w)) (shown (at medium queued fault resetting owed None (Some w)) (Some (asked_for plan w before setups)) ws rs) → Agrees plan sectors (stored plan (at medium queued fault resetting owed None (Some w)) w bytes) (moves (shown (at medium queued fault resetting owed None (Some w)) (Some (asked_for plan w before setups)) ws rs) (asked_for plan w before setups) bytes)
-store_last plan sectors medium queued fault resetting owed w ws before setups rs bytes sized writes mv whole fits one a =
+store_last : (plan : DiskPlan) (sectors : ℕ) (medium : List ℕ) (queued : List Command) (fault : Option Fault) (resetting : Bool) (owed : List Answer) (w : Writing) (ws before : List Written) (setups : List Stretch) (rs : List ReadOut) (fl : Option Failure) (ps : List Wanted) (bytes : List ℕ) → IsSized plan sectors → w.command.write ≡ true → IsMoving plan sectors w.command w.left (asked_for plan w before setups) → length w.staged ≡ 512 * w.command.count → length bytes ≡ 512 * chunk_count plan w.command w.left → w.left ≡ 1 → Agrees plan sectors (at medium queued fault resetting owed None (Some w)) (shown (at medium queued fault resetting owed None (Some w)) (Some (asked_for plan w before setups)) ws rs fl ps) → Agrees plan sectors (stored plan (at medium queued fault resetting owed None (Some w)) w bytes) (moves (shown (at medium queued fault resetting owed None (Some w)) (Some (asked_for plan w before setups)) ws rs fl ps) (asked_for plan w before setups) bytes)
+store_last plan sectors medium queued fault resetting owed w ws before setups rs fl ps bytes sized writes mv whole fits one a =
     let c = w.command in
     let staged : List ℕ = put w.staged (512 * chunk_from plan c w.left) bytes in
     let part : ChunkPart plan c w.left = chunk_part plan c w.left sized.low mv.some mv.more mv.among in
@@ -59,10 +59,14 @@ store_last plan sectors medium queued fault resetting owed w ws before setups rs
       tags = tags_more owed c.tag a.tags mv.tag;
       reads = a.reads;
       moving = tt;
+      failure = a.failure;
+      resetting = refl;
+      awaited = sym (replies_same owed (Ended c.tag ∷ []) refl);
+      pages = rw (pages_same owed (Ended c.tag ∷ []) refl) a.pages;
     })
 
-store_more : (plan : DiskPlan) (sectors : ℕ) (medium : List ℕ) (queued : List Command) (fault : Option Fault) (resetting : Bool) (owed : List Answer) (w : Writing) (ws before : List Written) (setups : List Stretch) (rs : List ReadOut) (bytes : List ℕ) → IsSized plan sectors → w.command.write ≡ true → IsMoving plan sectors w.command w.left (asked_for plan w before setups) → length w.staged ≡ 512 * w.command.count → length bytes ≡ 512 * chunk_count plan w.command w.left → (w.left ≡ 1 → ⊥) → IsHeld queued owed w.command.tag → AreSetUp plan w.command (w.left - 1) setups → Agrees plan sectors (at medium queued fault resetting owed None (Some w)) (shown (at medium queued fault resetting owed None (Some w)) (Some (asked_for plan w before setups)) ws rs) → Agrees plan sectors (stored plan (at medium queued fault resetting owed None (Some w)) w bytes) (moves (shown (at medium queued fault resetting owed None (Some w)) (Some (asked_for plan w before setups)) ws rs) (asked_for plan w before setups) bytes)
-store_more plan sectors medium queued fault resetting owed w ws before setups rs bytes sized writes mv whole fits other held named a =
+store_more : (plan : DiskPlan) (sectors : ℕ) (medium : List ℕ) (queued : List Command) (fault : Option Fault) (resetting : Bool) (owed : List Answer) (w : Writing) (ws before : List Written) (setups : List Stretch) (rs : List ReadOut) (fl : Option Failure) (ps : List Wanted) (bytes : List ℕ) → IsSized plan sectors → w.command.write ≡ true → IsMoving plan sectors w.command w.left (asked_for plan w before setups) → length w.staged ≡ 512 * w.command.count → length bytes ≡ 512 * chunk_count plan w.command w.left → (w.left ≡ 1 → ⊥) → IsHeld queued owed w.command.tag → AreSetUp plan w.command (w.left - 1) setups → Agrees plan sectors (at medium queued fault resetting owed None (Some w)) (shown (at medium queued fault resetting owed None (Some w)) (Some (asked_for plan w before setups)) ws rs fl ps) → Agrees plan sectors (stored plan (at medium queued fault resetting owed None (Some w)) w bytes) (moves (shown (at medium queued fault resetting owed None (Some w)) (Some (asked_for plan w before setups)) ws rs fl ps) (asked_for plan w before setups) bytes)
+store_more plan sectors medium queued fault resetting owed w ws before setups rs fl ps bytes sized writes mv whole fits other held named a =
     let c = w.command in
     let part : ChunkPart plan c w.left = chunk_part plan c w.left sized.low mv.some mv.more mv.among in
     let less : moved_sectors plan c w.left + chunk_count plan c w.left < c.count = part.more other in
@@ -90,10 +94,14 @@ store_more plan sectors medium queued fault resetting owed w ws before setups rs
         },
         held,
       );
+      failure = a.failure;
+      resetting = refl;
+      awaited = refl;
+      pages = a.pages;
     })
 
-pub store_by : (plan : DiskPlan) (sectors : ℕ) (medium : List ℕ) (queued : List Command) (fault : Option Fault) (resetting : Bool) (owed : List Answer) (w : Writing) (ws before : List Written) (setups : List Stretch) (rs : List ReadOut) (bytes : List ℕ) (last : Bool) → eqb w.left 1 ≡ last → IsSized plan sectors → w.command.write ≡ true → IsMoving plan sectors w.command w.left (asked_for plan w before setups) → length w.staged ≡ 512 * w.command.count → length bytes ≡ 512 * chunk_count plan w.command w.left → IsHeld queued owed w.command.tag → AreSetUp plan w.command (w.left - 1) setups → Agrees plan sectors (at medium queued fault resetting owed None (Some w)) (shown (at medium queued fault resetting owed None (Some w)) (Some (asked_for plan w before setups)) ws rs) → Agrees plan sectors (stored plan (at medium queued fault resetting owed None (Some w)) w bytes) (moves (shown (at medium queued fault resetting owed None (Some w)) (Some (asked_for plan w before setups)) ws rs) (asked_for plan w before setups) bytes)
-store_by plan sectors medium queued fault resetting owed w ws before setups rs bytes true e sized writes mv whole fits held named a =
-    store_last plan sectors medium queued fault resetting owed w ws before setups rs bytes sized writes mv whole fits (let h : w.left ≡ 1 = grind (arith, nat_tests, e) in h) a
-store_by plan sectors medium queued fault resetting owed w ws before setups rs bytes false e sized writes mv whole fits held named a =
-    store_more plan sectors medium queued fault resetting owed w ws before setups rs bytes sized writes mv whole fits (λ is. cc (eq-eqb w.left 1 is, e)) held named a
+pub store_by : (plan : DiskPlan) (sectors : ℕ) (medium : List ℕ) (queued : List Command) (fault : Option Fault) (resetting : Bool) (owed : List Answer) (w : Writing) (ws before : List Written) (setups : List Stretch) (rs : List ReadOut) (fl : Option Failure) (ps : List Wanted) (bytes : List ℕ) (last : Bool) → eqb w.left 1 ≡ last → IsSized plan sectors → w.command.write ≡ true → IsMoving plan sectors w.command w.left (asked_for plan w before setups) → length w.staged ≡ 512 * w.command.count → length bytes ≡ 512 * chunk_count plan w.command w.left → IsHeld queued owed w.command.tag → AreSetUp plan w.command (w.left - 1) setups → Agrees plan sectors (at medium queued fault resetting owed None (Some w)) (shown (at medium queued fault resetting owed None (Some w)) (Some (asked_for plan w before setups)) ws rs fl ps) → Agrees plan sectors (stored plan (at medium queued fault resetting owed None (Some w)) w bytes) (moves (shown (at medium queued fault resetting owed None (Some w)) (Some (asked_for plan w before setups)) ws rs fl ps) (asked_for plan w before setups) bytes)
+store_by plan sectors medium queued fault resetting owed w ws before setups rs fl ps bytes true e sized writes mv whole fits held named a =
+    store_last plan sectors medium queued fault resetting owed w ws before setups rs fl ps bytes sized writes mv whole fits (let h : w.left ≡ 1 = grind (arith, nat_tests, e) in h) a
+store_by plan sectors medium queued fault resetting owed w ws before setups rs fl ps bytes false e sized writes mv whole fits held named a =
+    store_more plan sectors medium queued fault resetting owed w ws before setups rs fl ps bytes sized writes mv whole fits (λ is. cc (eq-eqb w.left 1 is, e)) held named a

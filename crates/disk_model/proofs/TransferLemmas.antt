@@ -15,7 +15,7 @@ use Rattle.disk_model.specs.Sendings.{Sending, Shows}
 use Rattle.disk_model.specs.Chunks.{chunk_from, chunk_count, chunk_setup, sends_left, sectors_at, put}
 use Rattle.disk_model.specs.Disks.{Moment, Started, Writing, data_taken, stored, read_turn, went, after_turn}
 use Rattle.disk_model.specs.Runs.{IsTurn}
-use Rattle.disk_model.specs.Ledger.{Ledger, Moving, Stretch, Written, ReadOut, IsRead, moves, takes_data, listens_up, medium_with}
+use Rattle.disk_model.specs.Ledger.{Failure, Wanted, Ledger, Moving, Stretch, Written, ReadOut, IsRead, moves, takes_data, listens_up, medium_with}
 use Rattle.disk_model.proofs.SendLemmas.{sends_left_next}
 use Rattle.disk_model.proofs.ShowsLemmas.{setup_tells, TellsSetup}
 use Rattle.disk_model.proofs.PlaceLemmas.{from_front, from_back, put_front, put_back, chunk_of_sectors}
@@ -62,12 +62,12 @@ length-sectors_at medium lba count inside = length-take-le (512 * count) (drop (
 pub same_moving : (v : Moving) (command : Command) (bytes : List ℕ) (moved offset count : ℕ) (active : Bool) → v.command ≡ command → v.bytes ≡ bytes → v.moved ≡ moved → v.offset ≡ offset → v.count ≡ count → v.active ≡ active → v ≡ record { command = command; before = v.before; bytes = bytes; moved = moved; setups = v.setups; offset = offset; count = count; active = active }
 same_moving v command bytes moved offset count active a b c d e f = λ i. record { command = a i; before = v.before; bytes = b i; moved = c i; setups = v.setups; offset = d i; count = e i; active = f i }
 
-write_takes : (plan : DiskPlan) (sectors : ℕ) (medium : List ℕ) (queued : List Command) (fault : Option Fault) (resetting : Bool) (owed : List Answer) (w : Writing) (ws before : List Written) (setups : List Stretch) (rs : List ReadOut) (bytes : List ℕ) (fits : Bool) → eqb (length bytes) (512 * chunk_count plan w.command w.left) ≡ fits → w.sends ≡ [] → IsSized plan sectors → w.command.write ≡ true → IsMoving plan sectors w.command w.left (asked_for plan w before setups) → length w.staged ≡ 512 * w.command.count → IsHeld queued owed w.command.tag → AreSetUp plan w.command (w.left - 1) setups → Agrees plan sectors (at medium queued fault resetting owed None (Some w)) (shown (at medium queued fault resetting owed None (Some w)) (Some (asked_for plan w before setups)) ws rs) → Agrees plan sectors (data_taken plan (at medium queued fault resetting owed None (Some w)) (Some w) bytes) (takes_data (shown (at medium queued fault resetting owed None (Some w)) (Some (asked_for plan w before setups)) ws rs) (Some (asked_for plan w before setups)) bytes)
-write_takes plan sectors medium queued fault resetting owed w ws before setups rs bytes true e sends sized writes mv whole held named a =
+write_takes : (plan : DiskPlan) (sectors : ℕ) (medium : List ℕ) (queued : List Command) (fault : Option Fault) (resetting : Bool) (owed : List Answer) (w : Writing) (ws before : List Written) (setups : List Stretch) (rs : List ReadOut) (fl : Option Failure) (ps : List Wanted) (bytes : List ℕ) (fits : Bool) → eqb (length bytes) (512 * chunk_count plan w.command w.left) ≡ fits → w.sends ≡ [] → IsSized plan sectors → w.command.write ≡ true → IsMoving plan sectors w.command w.left (asked_for plan w before setups) → length w.staged ≡ 512 * w.command.count → IsHeld queued owed w.command.tag → AreSetUp plan w.command (w.left - 1) setups → Agrees plan sectors (at medium queued fault resetting owed None (Some w)) (shown (at medium queued fault resetting owed None (Some w)) (Some (asked_for plan w before setups)) ws rs fl ps) → Agrees plan sectors (data_taken plan (at medium queued fault resetting owed None (Some w)) (Some w) bytes) (takes_data (shown (at medium queued fault resetting owed None (Some w)) (Some (asked_for plan w before setups)) ws rs fl ps) (Some (asked_for plan w before setups)) bytes)
+write_takes plan sectors medium queued fault resetting owed w ws before setups rs fl ps bytes true e sends sized writes mv whole held named a =
     let none : (length w.sends == 0) ≡ true = rw sends refl in
     let fits : length bytes ≡ 512 * chunk_count plan w.command w.left = grind (arith, nat_tests, e) in
-    rw (none, e) (store_by plan sectors medium queued fault resetting owed w ws before setups rs bytes _ refl sized writes mv whole fits held named a)
-write_takes plan sectors medium queued fault resetting owed w ws before setups rs bytes false e sends sized writes mv whole held named a =
+    rw (none, e) (store_by plan sectors medium queued fault resetting owed w ws before setups rs fl ps bytes _ refl sized writes mv whole fits held named a)
+write_takes plan sectors medium queued fault resetting owed w ws before setups rs fl ps bytes false e sends sized writes mv whole held named a =
     let none : (length w.sends == 0) ≡ true = rw sends refl in
     rw (none, e) a
 
@@ -77,26 +77,26 @@ nothing_taken l v bytes e = ap (λ (b : Bool). if b && (length bytes == v.count)
 nothing_stored : (plan : DiskPlan) (m : Moment) (w : Writing) (bytes : List ℕ) → (length w.sends == 0) ≡ false → data_taken plan m (Some w) bytes ≡ m
 nothing_stored plan m w bytes e = ap (λ (b : Bool). if b && (length bytes == 512 * chunk_count plan w.command w.left) then stored plan m w bytes else m) e
 
-pub step_data : (plan : DiskPlan) (sectors : ℕ) (medium : List ℕ) (queued : List Command) (fault : Option Fault) (resetting : Bool) (owed : List Answer) (s : Option Started) (w : Option Writing) (v : Option Moving) (ws : List Written) (rs : List ReadOut) (bytes : List ℕ) → IsSized plan sectors → Moves plan sectors medium queued owed s w v → Agrees plan sectors (at medium queued fault resetting owed s w) (shown (at medium queued fault resetting owed s w) v ws rs) → Agrees plan sectors (data_taken plan (at medium queued fault resetting owed s w) w bytes) (takes_data (shown (at medium queued fault resetting owed s w) v ws rs) v bytes)
-step_data plan sectors medium queued fault resetting owed None None None ws rs bytes sized m a = a
-step_data plan sectors medium queued fault resetting owed None None (Some v) ws rs bytes sized m a = absurd m
-step_data plan sectors medium queued fault resetting owed (Some s) None None ws rs bytes sized m a = absurd m
-step_data plan sectors medium queued fault resetting owed (Some s) None (Some v) ws rs bytes sized m a = let idle : v.active ≡ false = m.2.idle in rw (nothing_taken (shown (at medium queued fault resetting owed (Some s) None) (Some v) ws rs) v bytes idle) a
-step_data plan sectors medium queued fault resetting owed None (Some w) None ws rs bytes sized m a = absurd m
-step_data plan sectors medium queued fault resetting owed None (Some w) (Some v) ws rs bytes sized (Fresh, writing, held) a =
+pub step_data : (plan : DiskPlan) (sectors : ℕ) (medium : List ℕ) (queued : List Command) (fault : Option Fault) (resetting : Bool) (owed : List Answer) (s : Option Started) (w : Option Writing) (v : Option Moving) (ws : List Written) (rs : List ReadOut) (fl : Option Failure) (ps : List Wanted) (bytes : List ℕ) → IsSized plan sectors → Moves plan sectors medium queued owed s w v → Agrees plan sectors (at medium queued fault resetting owed s w) (shown (at medium queued fault resetting owed s w) v ws rs fl ps) → Agrees plan sectors (data_taken plan (at medium queued fault resetting owed s w) w bytes) (takes_data (shown (at medium queued fault resetting owed s w) v ws rs fl ps) v bytes)
+step_data plan sectors medium queued fault resetting owed None None None ws rs fl ps bytes sized m a = a
+step_data plan sectors medium queued fault resetting owed None None (Some v) ws rs fl ps bytes sized m a = absurd m
+step_data plan sectors medium queued fault resetting owed (Some s) None None ws rs fl ps bytes sized m a = absurd m
+step_data plan sectors medium queued fault resetting owed (Some s) None (Some v) ws rs fl ps bytes sized m a = let idle : v.active ≡ false = m.2.idle in rw (nothing_taken (shown (at medium queued fault resetting owed (Some s) None) (Some v) ws rs fl ps) v bytes idle) a
+step_data plan sectors medium queued fault resetting owed None (Some w) None ws rs fl ps bytes sized m a = absurd m
+step_data plan sectors medium queued fault resetting owed None (Some w) (Some v) ws rs fl ps bytes sized (Fresh, writing, held) a =
     let more : (length w.sends == 0) ≡ false = rw writing.stage.0 refl in
-    rw (nothing_stored plan (at medium queued fault resetting owed None (Some w)) w bytes more, nothing_taken (shown (at medium queued fault resetting owed None (Some w)) (Some v) ws rs) v bytes writing.stage.1) a
-step_data plan sectors medium queued fault resetting owed None (Some w) (Some v) ws rs bytes sized (SetUp, writing, held) a =
+    rw (nothing_stored plan (at medium queued fault resetting owed None (Some w)) w bytes more, nothing_taken (shown (at medium queued fault resetting owed None (Some w)) (Some v) ws rs fl ps) v bytes writing.stage.1) a
+step_data plan sectors medium queued fault resetting owed None (Some w) (Some v) ws rs fl ps bytes sized (SetUp, writing, held) a =
     let more : (length w.sends == 0) ≡ false = rw writing.stage.0 refl in
-    rw (nothing_stored plan (at medium queued fault resetting owed None (Some w)) w bytes more, nothing_taken (shown (at medium queued fault resetting owed None (Some w)) (Some v) ws rs) v bytes writing.stage.1) a
-step_data plan sectors medium queued fault resetting owed None (Some w) (Some v) ws rs bytes sized (Asked, writing, held) a =
+    rw (nothing_stored plan (at medium queued fault resetting owed None (Some w)) w bytes more, nothing_taken (shown (at medium queued fault resetting owed None (Some w)) (Some v) ws rs fl ps) v bytes writing.stage.1) a
+step_data plan sectors medium queued fault resetting owed None (Some w) (Some v) ws rs fl ps bytes sized (Asked, writing, held) a =
     let mv = writing.moving in
     let m : Moment = at medium queued fault resetting owed None (Some w) in
     let is : v ≡ asked_for plan w v.before v.setups = same_moving v w.command w.staged (512 * moved_sectors plan w.command w.left) (512 * chunk_from plan w.command w.left) (512 * chunk_count plan w.command w.left) true mv.same writing.bytes mv.moved writing.stage.2.0 writing.stage.2.1 writing.stage.1 in
-    let a' = subst (λ (x : Moving). Agrees plan sectors m (shown m (Some x) ws rs)) is a in
+    let a' = subst (λ (x : Moving). Agrees plan sectors m (shown m (Some x) ws rs fl ps)) is a in
     let mv' : IsMoving plan sectors w.command w.left (asked_for plan w v.before v.setups) = record { same = refl; more = mv.more; among = mv.among; inside = mv.inside; some = mv.some; tag = mv.tag; moved = refl } in
-    subst (λ (x : Moving). Agrees plan sectors (data_taken plan m (Some w) bytes) (takes_data (shown m (Some x) ws rs) (Some x) bytes)) (sym is) (write_takes plan sectors medium queued fault resetting owed w ws v.before v.setups rs bytes _ refl writing.stage.0 sized writing.writes mv' writing.whole held writing.setups a')
-step_data plan sectors medium queued fault resetting owed (Some s) (Some w) v ws rs bytes sized m a = absurd m
+    subst (λ (x : Moving). Agrees plan sectors (data_taken plan m (Some w) bytes) (takes_data (shown m (Some x) ws rs fl ps) (Some x) bytes)) (sym is) (write_takes plan sectors medium queued fault resetting owed w ws v.before v.setups rs fl ps bytes _ refl writing.stage.0 sized writing.writes mv' writing.whole held writing.setups a')
+step_data plan sectors medium queued fault resetting owed (Some s) (Some w) v ws rs fl ps bytes sized m a = absurd m
 
 -- ## Reads send
 
@@ -109,8 +109,8 @@ pub setup_of_chunk : (plan : DiskPlan) (sectors : ℕ) (c : Command) (left : ℕ
 setup_of_chunk plan sectors c left b sized part inside tag shows =
     setup_tells c.tag (512 * chunk_from plan c left) (512 * chunk_count plan c left) (not c.write) b tag (omega (arith, part.inside, sized.most)) (omega (arith, part.inside, sized.most)) shows
 
-pub read_sets_up : (plan : DiskPlan) (sectors : ℕ) (medium : List ℕ) (queued : List Command) (fault : Option Fault) (resetting : Bool) (c : Command) (sends : List Sending) (v : Moving) (ws : List Written) (rs : List ReadOut) (left : ℕ) (b : List ℕ) → IsSized plan sectors → IsReading plan sectors medium (record { command = c; sends = sends }) v left false → IsHeld queued [] c.tag → Agrees plan sectors (at medium queued fault resetting [] (Some (record { command = c; sends = sends })) None) (shown (at medium queued fault resetting [] (Some (record { command = c; sends = sends })) None) (Some v) ws rs) → IsTurn (read_turn (at medium queued fault resetting [] (Some (record { command = c; sends = sends })) None) c sends) b → Agrees plan sectors (after_turn (at medium queued fault resetting [] (Some (record { command = c; sends = sends })) None) (read_turn (at medium queued fault resetting [] (Some (record { command = c; sends = sends })) None) c sends)) (listens_up (shown (at medium queued fault resetting [] (Some (record { command = c; sends = sends })) None) (Some v) ws rs) (seen b))
-read_sets_up plan sectors medium queued fault resetting c sends v ws rs left b sized r held a may =
+pub read_sets_up : (plan : DiskPlan) (sectors : ℕ) (medium : List ℕ) (queued : List Command) (fault : Option Fault) (resetting : Bool) (c : Command) (sends : List Sending) (v : Moving) (ws : List Written) (rs : List ReadOut) (fl : Option Failure) (ps : List Wanted) (left : ℕ) (b : List ℕ) → IsSized plan sectors → IsReading plan sectors medium (record { command = c; sends = sends }) v left false → IsHeld queued [] c.tag → Agrees plan sectors (at medium queued fault resetting [] (Some (record { command = c; sends = sends })) None) (shown (at medium queued fault resetting [] (Some (record { command = c; sends = sends })) None) (Some v) ws rs fl ps) → IsTurn (read_turn (at medium queued fault resetting [] (Some (record { command = c; sends = sends })) None) c sends) b → Agrees plan sectors (after_turn (at medium queued fault resetting [] (Some (record { command = c; sends = sends })) None) (read_turn (at medium queued fault resetting [] (Some (record { command = c; sends = sends })) None) c sends)) (listens_up (shown (at medium queued fault resetting [] (Some (record { command = c; sends = sends })) None) (Some v) ws rs fl ps) (seen b))
+read_sets_up plan sectors medium queued fault resetting c sends v ws rs fl ps left b sized r held a may =
     let mv = r.moving in
     let next = sends_left_next plan medium c left mv.more in
     let is = r.stage ∙ next in
@@ -140,6 +140,10 @@ read_sets_up plan sectors medium queued fault resetting c sends v ws rs left b s
         },
         held,
       );
+      failure = a.failure;
+      resetting = refl;
+      awaited = refl;
+      pages = a.pages;
     })
 
 all_one : (sectors : ℕ) (x : ReadOut) → IsRead sectors x → All (IsRead sectors) (x ∷ [])
@@ -154,8 +158,8 @@ data_placed plan sectors medium c left sized part size inside =
     ap (λ (xs : List ℕ). put (moved_bytes plan.last_first s (512 * c.count) (512 * moved_sectors plan c left)) (512 * chunk_from plan c left) xs) (chunk_of_sectors medium c.lba c.count (chunk_from plan c left) (chunk_count plan c left) part.inside room)
     ∙ more_moved plan.last_first s c.count (chunk_from plan c left) (chunk_count plan c left) (moved_sectors plan c left) (length-sectors_at medium c.lba c.count room) part.within part.upwards part.downwards_is
 
-pub read_ends : (plan : DiskPlan) (sectors : ℕ) (medium : List ℕ) (queued : List Command) (fault : Option Fault) (resetting : Bool) (s : Started) (ws before : List Written) (setups : List Stretch) (rs : List ReadOut) (left count : ℕ) (later : List Sending) → IsSized plan sectors → s.command.write ≡ false → medium_with sectors before ≡ medium → IsMoving plan sectors s.command left (read_so_far plan medium s.command left before setups (512 * chunk_from plan s.command left) count) → left ≡ 1 → later ≡ [] → Agrees plan sectors (at medium queued fault resetting [] (Some s) None) (shown (at medium queued fault resetting [] (Some s) None) (Some (read_so_far plan medium s.command left before setups (512 * chunk_from plan s.command left) count)) ws rs) → Agrees plan sectors (went (at medium queued fault resetting [] (Some s) None) s.command later) (moves (shown (at medium queued fault resetting [] (Some s) None) (Some (read_so_far plan medium s.command left before setups (512 * chunk_from plan s.command left) count)) ws rs) (read_so_far plan medium s.command left before setups (512 * chunk_from plan s.command left) count) (sectors_at medium (s.command.lba + chunk_from plan s.command left) (chunk_count plan s.command left)))
-read_ends plan sectors medium queued fault resetting s ws before setups rs left count later sized reads was mv one none a =
+pub read_ends : (plan : DiskPlan) (sectors : ℕ) (medium : List ℕ) (queued : List Command) (fault : Option Fault) (resetting : Bool) (s : Started) (ws before : List Written) (setups : List Stretch) (rs : List ReadOut) (fl : Option Failure) (ps : List Wanted) (left count : ℕ) (later : List Sending) → IsSized plan sectors → s.command.write ≡ false → medium_with sectors before ≡ medium → IsMoving plan sectors s.command left (read_so_far plan medium s.command left before setups (512 * chunk_from plan s.command left) count) → left ≡ 1 → later ≡ [] → Agrees plan sectors (at medium queued fault resetting [] (Some s) None) (shown (at medium queued fault resetting [] (Some s) None) (Some (read_so_far plan medium s.command left before setups (512 * chunk_from plan s.command left) count)) ws rs fl ps) → Agrees plan sectors (went (at medium queued fault resetting [] (Some s) None) s.command later) (moves (shown (at medium queued fault resetting [] (Some s) None) (Some (read_so_far plan medium s.command left before setups (512 * chunk_from plan s.command left) count)) ws rs fl ps) (read_so_far plan medium s.command left before setups (512 * chunk_from plan s.command left) count) (sectors_at medium (s.command.lba + chunk_from plan s.command left) (chunk_count plan s.command left)))
+read_ends plan sectors medium queued fault resetting s ws before setups rs fl ps left count later sized reads was mv one none a =
     let c = s.command in
     let part : ChunkPart plan c left = chunk_part plan c left sized.low mv.some mv.more mv.among in
     let d : List ℕ = sectors_at medium (c.lba + chunk_from plan c left) (chunk_count plan c left) in
@@ -176,10 +180,14 @@ read_ends plan sectors medium queued fault resetting s ws before setups rs left 
       tags = (mv.tag, tt);
       reads = All-append (IsRead sectors) rs _ a.reads (all_one sectors _ read);
       moving = tt;
+      failure = a.failure;
+      resetting = refl;
+      awaited = refl;
+      pages = a.pages;
     })
 
-pub read_goes_on : (plan : DiskPlan) (sectors : ℕ) (medium : List ℕ) (queued : List Command) (fault : Option Fault) (resetting : Bool) (s : Started) (ws before : List Written) (setups : List Stretch) (rs : List ReadOut) (left count : ℕ) (x : Sending) (later : List Sending) → IsSized plan sectors → s.command.write ≡ false → medium_with sectors before ≡ medium → IsMoving plan sectors s.command left (read_so_far plan medium s.command left before setups (512 * chunk_from plan s.command left) count) → (left ≡ 1 → ⊥) → sends_left plan medium s.command (left - 1) ≡ x ∷ later → IsHeld queued [] s.command.tag → AreSetUp plan s.command (left - 1) setups → Agrees plan sectors (at medium queued fault resetting [] (Some s) None) (shown (at medium queued fault resetting [] (Some s) None) (Some (read_so_far plan medium s.command left before setups (512 * chunk_from plan s.command left) count)) ws rs) → Agrees plan sectors (went (at medium queued fault resetting [] (Some s) None) s.command (x ∷ later)) (moves (shown (at medium queued fault resetting [] (Some s) None) (Some (read_so_far plan medium s.command left before setups (512 * chunk_from plan s.command left) count)) ws rs) (read_so_far plan medium s.command left before setups (512 * chunk_from plan s.command left) count) (sectors_at medium (s.command.lba + chunk_from plan s.command left) (chunk_count plan s.command left)))
-read_goes_on plan sectors medium queued fault resetting s ws before setups rs left count x later sized reads was mv other next held named a =
+pub read_goes_on : (plan : DiskPlan) (sectors : ℕ) (medium : List ℕ) (queued : List Command) (fault : Option Fault) (resetting : Bool) (s : Started) (ws before : List Written) (setups : List Stretch) (rs : List ReadOut) (fl : Option Failure) (ps : List Wanted) (left count : ℕ) (x : Sending) (later : List Sending) → IsSized plan sectors → s.command.write ≡ false → medium_with sectors before ≡ medium → IsMoving plan sectors s.command left (read_so_far plan medium s.command left before setups (512 * chunk_from plan s.command left) count) → (left ≡ 1 → ⊥) → sends_left plan medium s.command (left - 1) ≡ x ∷ later → IsHeld queued [] s.command.tag → AreSetUp plan s.command (left - 1) setups → Agrees plan sectors (at medium queued fault resetting [] (Some s) None) (shown (at medium queued fault resetting [] (Some s) None) (Some (read_so_far plan medium s.command left before setups (512 * chunk_from plan s.command left) count)) ws rs fl ps) → Agrees plan sectors (went (at medium queued fault resetting [] (Some s) None) s.command (x ∷ later)) (moves (shown (at medium queued fault resetting [] (Some s) None) (Some (read_so_far plan medium s.command left before setups (512 * chunk_from plan s.command left) count)) ws rs fl ps) (read_so_far plan medium s.command left before setups (512 * chunk_from plan s.command left) count) (sectors_at medium (s.command.lba + chunk_from plan s.command left) (chunk_count plan s.command left)))
+read_goes_on plan sectors medium queued fault resetting s ws before setups rs fl ps left count x later sized reads was mv other next held named a =
     let c = s.command in
     let part : ChunkPart plan c left = chunk_part plan c left sized.low mv.some mv.more mv.among in
     let d : List ℕ = sectors_at medium (c.lba + chunk_from plan c left) (chunk_count plan c left) in
@@ -211,4 +219,8 @@ read_goes_on plan sectors medium queued fault resetting s ws before setups rs le
         },
         held,
       );
+      failure = a.failure;
+      resetting = refl;
+      awaited = refl;
+      pages = a.pages;
     })

@@ -1,8 +1,9 @@
--- What each FIS that a disk sends has to be, by the ledger of the FISes before it (Serial ATA 3.x, 10.5.9, DMA Setup FIS,
--- and 13.6, native command queuing).
-use Rattle.std.specs.Prelude.{ℕ, ◌≡◌, ◌+◌, ◌*◌, ◌≤◌, ◌==◌, ◌⊎◌, true, false, not, List, [], ◌∷◌, ◌++◌, drop, length, sum_by, find, All, Option, Some, None, Result, Ok}
+-- What each FIS that a disk sends has to be, by the ledger of the FISes before it (Serial ATA 3.x, 10.5, FIS types, and
+-- 13.6, native command queuing; ACS-3, READ and WRITE FPDMA QUEUED, NCQ Command Error log). Of the disk's plan only what
+-- no FIS tells is named: which sectors are bad, how many there are, and whose turn it is.
+use Rattle.std.specs.Prelude.{ℕ, ◌≡◌, ◌+◌, ◌*◌, ◌<◌, ◌≤◌, ◌==◌, ◌⊎◌, true, false, not, List, [], ◌∷◌, ◌++◌, drop, length, sum_by, find, All, Option, Some, None, Result, Ok}
 use Rattle.std.specs.Int.{from_bool}
-use Rattle.fis_view.specs.Table.{Setup, BufferId, Offset, D, field}
+use Rattle.fis_view.specs.Table.{Kind, D2h, Bits, Setup, Pio, BufferId, Offset, D, I, Status, Lba, Transfer, field}
 use Rattle.fis_view.specs.Table as table
 use Rattle.fis_view.specs.declared.view.Fis.{Fis}
 use Rattle.fis_view.specs.declared.view.Fis.TheVariants as view
@@ -11,7 +12,11 @@ use Rattle.disk_model.specs.declared.request.Command.{Command}
 use Rattle.disk_model.specs.declared.plan.DiskPlan.{DiskPlan}
 use Rattle.disk_model.specs.Histories.{Happening, Sent}
 use Rattle.disk_model.specs.Runs.{IsDiskRun}
-use Rattle.disk_model.specs.Ledger.{Ledger, Moving, Stretch, IsSize, ledger}
+use Rattle.disk_model.specs.declared.answer.Fault.TheVariants.{Failed}
+use Rattle.disk_model.specs.Pages.{error_log, identify_data}
+use Rattle.disk_model.specs.Chunks.{first_bad}
+use Rattle.disk_model.specs.Disks.{picked}
+use Rattle.disk_model.specs.Ledger.{Ledger, Moving, Stretch, Reply, Signs, Accepts, Finishes, Refuses, ShowsPage, Wanted, LogOf, IdentifyData, has_error, IsSize, ledger}
 use Rattle.fis_view.specs.Seen.{seen}
 
 -- ## How data moves
@@ -73,6 +78,102 @@ MovesRight l (Ok (view.DmaSetup f)) = SetsUpRight l l.moving f
 MovesRight l (Ok (view.DmaActivate f)) = ActivatesRight l.moving
 MovesRight l (Ok (view.Payload f)) = CarriesRight l.moving (drop 4 f)
 MovesRight l _ = Unit {0}
+
+-- ## Errors
+
+-- The command passes the end of the disk: ID Not Found, at its own LBA.
+pub record PassesEnd (sectors : ℕ) (c : Command) (error lba : ℕ) : Type 0 where
+  pub past : sectors < c.lba + c.count
+  pub error_is : error ≡ 0x10
+  pub lba_is : lba ≡ c.lba
+
+-- It is a read within the disk, and this is the first of its sectors that is bad: Uncorrectable.
+pub record ReadsBad (plan : DiskPlan) (sectors : ℕ) (c : Command) (error lba : ℕ) : Type 0 where
+  pub inside : c.lba + c.count ≤ sectors
+  pub reads : c.write ≡ false
+  pub error_is : error ≡ 0x40
+  pub first : first_bad c plan.bad.items ≡ Some lba
+
+-- why a command fails, and where
+abbrev pub Fails : DiskPlan → ℕ → Command → (error lba : ℕ) → Type 0
+Fails plan sectors c error lba = PassesEnd sectors c error lba ⊎ ReadsBad plan sectors c error lba
+
+-- the command can be done
+pub record CanBeDone (plan : DiskPlan) (sectors : ℕ) (c : Command) : Type 0 where
+  pub inside : c.lba + c.count ≤ sectors
+  pub good : c.write ≡ false → first_bad c plan.bad.items ≡ None
+
+-- the first DMA Setup of a command: it is the one whose turn it is, and it can be done
+abbrev pub StartsNext : DiskPlan → ℕ → Option Command → (tag : ℕ) → Type 0
+StartsNext plan sectors None tag = ⊥
+StartsNext plan sectors (Some c) tag = (tag ≡ c.tag) × CanBeDone plan sectors c
+
+-- the command whose turn it is fails with this error
+abbrev pub FailsNext : DiskPlan → ℕ → Option Command → (error : ℕ) → Type 0
+FailsNext plan sectors None error = ⊥
+FailsNext plan sectors (Some c) error = (lba : ℕ) × Fails plan sectors c error lba
+
+-- the log names the command that failed, its error, and where
+abbrev pub LogsNext : DiskPlan → ℕ → Option Command → (error : ℕ) → List ℕ → Type 0
+LogsNext plan sectors None error bytes = ⊥
+LogsNext plan sectors (Some c) error bytes = (lba : ℕ) × Fails plan sectors c error lba × (bytes ≡ error_log (Some (Failed c.tag error lba)))
+
+-- the page that was asked for first
+abbrev pub IsPage : DiskPlan → ℕ → List Wanted → List ℕ → Type 0
+IsPage plan sectors [] bytes = ⊥
+IsPage plan sectors (IdentifyData ∷ later) bytes = bytes ≡ identify_data sectors
+IsPage plan sectors (LogOf None ∷ later) bytes = bytes ≡ error_log None
+IsPage plan sectors (LogOf (Some f) ∷ later) bytes = LogsNext plan sectors (picked plan.order f.among) f.error bytes
+
+-- the first DMA Setup of a command
+abbrev pub FirstRight : DiskPlan → ℕ → Ledger → Option Moving → (tag : ℕ) → Type 0
+FirstRight plan sectors l None tag = StartsNext plan sectors (picked plan.order l.outstanding) tag
+FirstRight plan sectors l (Some v) tag = Unit {0}
+
+-- Data where no command's data moves
+abbrev pub PageRight : DiskPlan → ℕ → Ledger → Option Moving → List ℕ → Type 0
+PageRight plan sectors l None bytes = IsPage plan sectors l.pages bytes
+PageRight plan sectors l (Some v) bytes = Unit {0}
+
+-- A command starts where it can be done, an error is that of the command whose turn it is, and the log tells it.
+abbrev pub ErrsRight : DiskPlan → ℕ → Ledger → Result Fis FisFault → Type 0
+ErrsRight plan sectors l (Ok (view.SetBits f)) = has_error f ≡ true → (l.moving ≡ None) × FailsNext plan sectors (picked plan.order l.outstanding) (field Bits table.Error f)
+ErrsRight plan sectors l (Ok (view.DmaSetup f)) = FirstRight plan sectors l l.moving (field Setup BufferId f)
+ErrsRight plan sectors l (Ok (view.Payload f)) = PageRight plan sectors l l.moving (drop 4 f)
+ErrsRight plan sectors l _ = Unit {0}
+
+-- ## Answers to commands
+
+-- a Register FIS or a PIO Setup FIS with these fields; first is LBA and Count
+pub record IsRegister (kind : Kind) (i status error first : ℕ) (f : List ℕ) : Type 0 where
+  pub interrupt : field kind I f ≡ i
+  pub status_is : field kind Status f ≡ status
+  pub error_is : field kind table.Error f ≡ error
+  pub lba : field kind Lba f ≡ first
+  pub count : field kind table.Count f ≡ first
+
+-- ERR, bit 0 of Status, is set just where the command is refused.
+abbrev pub Answers : Reply → List ℕ → Type 0
+Answers Signs f = IsRegister D2h 0 0x50 1 1 f
+Answers Accepts f = IsRegister D2h 0 0x50 0 0 f
+Answers Finishes f = IsRegister D2h 1 0x50 0 0 f
+Answers Refuses f = IsRegister D2h 1 0x51 4 0 f
+Answers ShowsPage f = ⊥
+
+abbrev pub AnswersFirst : List Reply → List ℕ → Type 0
+AnswersFirst [] f = ⊥
+AnswersFirst (reply ∷ later) f = Answers reply f
+
+-- a PIO Setup says that a page of 512 bytes follows
+abbrev pub ShowsFirst : List Reply → List ℕ → Type 0
+ShowsFirst (ShowsPage ∷ later) f = IsRegister Pio 1 0x58 0 0 f × (field Pio D f ≡ 1) × (field Pio Transfer f ≡ 512)
+ShowsFirst _ f = ⊥
+
+-- a Register FIS, and a PIO Setup, answers what came first and was not answered
+abbrev pub AnswersRight : Ledger → Result Fis FisFault → Type 0
+AnswersRight l (Ok (view.RegD2H f)) = AnswersFirst l.awaited f
+AnswersRight l (Ok (view.PioSetup f)) = ShowsFirst l.awaited f
+AnswersRight l _ = Unit {0}
 
 -- ## Every run
 

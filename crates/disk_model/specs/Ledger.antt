@@ -1,10 +1,11 @@
--- What the FISes of a disk tell whoever listens on its link: which queued commands are outstanding, what of their data moved and
--- where it belongs, which ended and in what order (Serial ATA 3.x, first party DMA and native command queuing). Nothing
--- here knows how the disk goes about its commands: no plan, no chunk, no answer that waits. Places come from the DMA
--- Setups, bytes from the Data FISes, lengths from the commands.
+-- What the FISes of a disk tell whoever listens on its link: which queued commands are outstanding, what of their data
+-- moved and where it belongs, which ended and in what order, and what the host is still to hear (Serial ATA 3.x, 10.5,
+-- FIS types, and 13.6, native command queuing; ACS-3, READ and WRITE FPDMA QUEUED). Nothing here knows how the disk goes
+-- about its commands: no plan, no chunk. Places come from the DMA Setups, bytes from the Data FISes, lengths from the
+-- commands.
 use Rattle.std.specs.Prelude.{ℕ, ◌≡◌, ◌+◌, ◌*◌, ◌%◌, ◌^◌, ◌==◌, ◌&&◌, Bool, true, false, not, List, [], ◌∷◌, ◌++◌, drop, length, replicate, filter, find, if◌then◌else◌, Option, Some, None, Result, Ok}
 use Rattle.std.specs.List.{list_any}
-use Rattle.fis_view.specs.Table.{Bits, Setup, BufferId, Offset, SActive, Status, field}
+use Rattle.fis_view.specs.Table.{Bits, Setup, BufferId, Offset, SActive, Status, Error, field}
 use Rattle.fis_view.specs.Table as table
 use Rattle.fis_view.specs.Seen.{seen}
 use Rattle.fis_view.specs.declared.view.Fis.{Fis}
@@ -52,11 +53,43 @@ pub record ReadOut : Type 0 where
   pub before : List Written
   pub bytes : List ℕ
 
+-- What a command, or a reset, is answered with by a Register Device to Host FIS or a PIO Setup FIS.
+pub data Reply : Type 0 where
+  -- the signature of an ATA device, after a reset
+  Signs : Reply
+  -- a queued command was accepted
+  Accepts : Reply
+  -- a command that moves no data was done
+  Finishes : Reply
+  -- a command was refused
+  Refuses : Reply
+  -- a page follows
+  ShowsPage : Reply
+
+-- an error that was reported by a Set Device Bits FIS: its Error, and the commands that were outstanding
+pub record Failure : Type 0 where
+  pub error : ℕ
+  pub among : List Command
+
+-- a page that was asked for
+pub data Wanted : Type 0 where
+  -- the NCQ Command Error log, as it was then
+  LogOf : Option Failure → Wanted
+  IdentifyData : Wanted
+
 pub record Ledger : Type 0 where
   -- the commands that were queued and have not ended
   pub outstanding : List Command
   -- whether all of them were given up for an error, and no log and no reset came since
   pub failed : Bool
+  -- the error for which they were, where a Set Device Bits FIS reported it
+  pub failure : Option Failure
+  -- whether SRST is set
+  pub resetting : Bool
+  -- what the commands and resets that came are still to be answered with, in their order
+  pub awaited : List Reply
+  -- the pages that were asked for and did not come, in order
+  pub pages : List Wanted
   -- the tags of commands that ended and were not answered, in the order in which they ended
   pub unanswered : List ℕ
   pub moving : Option Moving
@@ -65,31 +98,47 @@ pub record Ledger : Type 0 where
   pub reads : List ReadOut
 
 abbrev pub empty : Ledger
-empty = record { outstanding = []; failed = false; unanswered = []; moving = None; writes = []; reads = [] }
+empty = record { outstanding = []; failed = false; failure = None; resetting = false; awaited = []; pages = []; unanswered = []; moving = None; writes = []; reads = [] }
 
 -- ## What the host sends
 
 -- nothing is outstanding, and nothing is to be answered
 abbrev pub given_up : Ledger → Bool → Ledger
-given_up l failed = record l { outstanding = []; failed = failed; unanswered = []; moving = None }
+given_up l failed = record l { outstanding = []; failed = failed; failure = None; awaited = []; pages = []; unanswered = []; moving = None }
 
--- a command that is not queued: all is given up where queued commands are outstanding
+-- one more answer is awaited
+abbrev pub awaits : Ledger → Reply → Ledger
+awaits l reply = record l { awaited = l.awaited ++ reply ∷ [] }
+
+abbrev pub awaits_page : Ledger → Wanted → Ledger
+awaits_page l page = record l { awaited = l.awaited ++ ShowsPage ∷ []; pages = l.pages ++ page ∷ [] }
+
+-- a command that is not queued: where queued commands are outstanding it is refused, and all is given up
 abbrev pub mixes : Ledger → Ledger → List Command → Ledger
 mixes l alone [] = alone
-mixes l alone (c ∷ cs) = given_up l true
+mixes l alone (c ∷ cs) = record (given_up l true) { awaited = Refuses ∷ [] }
 
+abbrev pub refuses : Ledger → Ledger
+refuses l = mixes l (awaits l Refuses) l.outstanding
+
+-- a tag that is outstanding is refused
 abbrev pub opens : Ledger → Command → Ledger
-opens l c = (if list_any (λ q. q.tag == c.tag) l.outstanding then mixes l l l.outstanding else record l { outstanding = l.outstanding ++ c ∷ [] })
+opens l c = (if list_any (λ q. q.tag == c.tag) l.outstanding then refuses l else awaits (record l { outstanding = l.outstanding ++ c ∷ [] }) Accepts)
+
+-- SRST is cleared
+abbrev pub restarts : Ledger → Bool → Ledger
+restarts l true = awaits (record l { resetting = false }) Signs
+restarts l false = l
 
 -- after an error a command is not heard, but for the log
 abbrev pub asks : Ledger → Request → Bool → Ledger
-asks l (Reset true) failed = given_up l false
-asks l (Reset false) failed = l
-asks l ReadErrorLog failed = mixes l (record l { failed = false }) l.outstanding
+asks l (Reset true) failed = record (given_up l false) { resetting = true }
+asks l (Reset false) failed = restarts l l.resetting
+asks l ReadErrorLog failed = mixes l (record (awaits_page l (LogOf l.failure)) { failed = false; failure = None }) l.outstanding
 asks l (Queue c) false = opens l c
-asks l Flush false = mixes l l l.outstanding
-asks l Identify false = mixes l l l.outstanding
-asks l Other false = mixes l l l.outstanding
+asks l Flush false = mixes l (awaits l Finishes) l.outstanding
+asks l Identify false = mixes l (awaits_page l IdentifyData) l.outstanding
+asks l Other false = refuses l
 asks l _ true = l
 
 -- ## How data moves
@@ -112,9 +161,9 @@ abbrev pub takes_data : Ledger → Option Moving → List ℕ → Ledger
 takes_data l None bytes = l
 takes_data l (Some v) bytes = (if v.active && (length bytes == v.count) then moves l v bytes else l)
 
--- Data of the disk: it is the read's
+-- Data of the disk: it is the read's; where no data moves it is the page that was asked for first
 abbrev pub sends_data : Ledger → Option Moving → List ℕ → Ledger
-sends_data l None bytes = l
+sends_data l None bytes = record l { pages = drop 1 l.pages }
 sends_data l (Some v) bytes = moves l v bytes
 
 -- A DMA Setup: the first one of a command starts it.
@@ -137,9 +186,13 @@ abbrev pub has_error : List ℕ → Bool
 has_error f = field Bits Status f % 2 == 1
 
 -- with ERR all is given up; else the command that ended first is answered
-abbrev pub answers : Ledger → Bool → Ledger
-answers l true = given_up l true
-answers l false = record l { unanswered = drop 1 l.unanswered }
+abbrev pub answers : Ledger → (error : ℕ) → Bool → Ledger
+answers l error true = record (given_up l true) { failure = Some (record { error = error; among = l.outstanding }) }
+answers l error false = record l { unanswered = drop 1 l.unanswered }
+
+-- the answer that was awaited first came
+abbrev pub answered : Ledger → Ledger
+answered l = record l { awaited = drop 1 l.awaited }
 
 -- ## Histories
 
@@ -152,13 +205,15 @@ abbrev pub listens_up : Ledger → Result Fis FisFault → Ledger
 listens_up l (Ok (view.DmaSetup f)) = sets_up l l.moving (field Setup BufferId f) (field Setup Offset f) (field Setup table.Count f)
 listens_up l (Ok (view.DmaActivate f)) = activates l l.moving
 listens_up l (Ok (view.Payload f)) = sends_data l l.moving (drop 4 f)
-listens_up l (Ok (view.SetBits f)) = answers l (has_error f)
+listens_up l (Ok (view.SetBits f)) = answers l (field Bits Error f) (has_error f)
+listens_up l (Ok (view.RegD2H f)) = answered l
+listens_up l (Ok (view.PioSetup f)) = answered l
 listens_up l _ = l
 
 abbrev pub listens : Ledger → Happening → Ledger
 listens l (Received bytes) = listens_down l (seen bytes)
 listens l (Sent bytes) = listens_up l (seen bytes)
-listens l Plugged = given_up l false
+listens l Plugged = awaits (given_up l false) Signs
 
 unfoldable pub ledger_after : Ledger → List Happening → Ledger
 ledger_after l [] = l

@@ -2,7 +2,7 @@
 //! listens on its link is what the disk does. The functions do nothing when they run.
 
 ghost use Rattle.std.specs.Prelude.{◌≡◌, All};
-ghost use Rattle.disk_model.specs.Laws.{AfterEachRun, AtEachSending, MovesRight};
+ghost use Rattle.disk_model.specs.Laws.{AfterEachRun, AnswersRight, AtEachSending, ErrsRight, MovesRight};
 ghost use Rattle.disk_model.specs.Ledger.{AnswersOne, IsRead, ledger, medium_with};
 ghost use Rattle.disk_model.specs.Runs.{moment};
 
@@ -30,4 +30,18 @@ pub fn answers_each_command_once()
 /// The Data of a read that follows is just as long, and a DMA Activate follows only the DMA Setup of a write, once.
 pub fn setups_name_what_moves()
     ensures { AtEachSending (λ plan sectors before fis. MovesRight before fis) }
+{}
+
+/// In every run of a disk each Register Device to Host FIS, and each PIO Setup FIS, answers the command or the reset that came
+/// first among those that were not answered, with ERR set just where the command is refused. A refusal of queued commands
+/// and a reset end what is owed; while the disk is in its error mode no command but the log is answered.
+pub fn answers_commands_in_order()
+    ensures { AtEachSending (λ plan sectors before fis. AnswersRight before fis) }
+{}
+
+/// In every run of a disk a Set Device Bits FIS has ERR only where no data moves and the command whose turn it is passes the end
+/// of the disk or reads a bad sector, and the log tells its tag, its error and its LBA, at the first bad sector; a command
+/// whose data moves can be done.
+pub fn errors_are_of_their_command()
+    ensures { AtEachSending ErrsRight }
 {}

@@ -9,8 +9,8 @@
 //! [`Scripted`] device sends what a script says; a [`Unit`] is one of the two.
 //!
 //! What the FISes of a disk's run alone tell is the ledger of `specs/Ledger.antt`. Laws over every run tie the disk to it:
-//! [`medium_is_of_ended_writes`], [`reads_are_of_their_start`], [`answers_each_command_once`] and
-//! [`setups_name_what_moves`].
+//! [`medium_is_of_ended_writes`], [`reads_are_of_their_start`], [`setups_name_what_moves`],
+//! [`answers_each_command_once`], [`answers_commands_in_order`] and [`errors_are_of_their_command`].
 #![tactic(auto)]
 
 mod answer;
@@ -27,8 +27,8 @@ mod unit;
 pub use device::Device;
 pub use disk::{Disk, DiskError};
 pub use law::{
-    answers_each_command_once, medium_is_of_ended_writes, reads_are_of_their_start,
-    setups_name_what_moves,
+    answers_commands_in_order, answers_each_command_once, errors_are_of_their_command,
+    medium_is_of_ended_writes, reads_are_of_their_start, setups_name_what_moves,
 };
 pub use plan::{DiskPlan, Order};
 pub use scripted::Scripted;

@@ -8,9 +8,9 @@ use std::alloc::Global;
 use std::test::Fail;
 
 /// One of many frames of the host.
-fn nth(n: u32, sectors: u32) -> H2dFields {
+fn nth(n: u16) -> H2dFields {
     let tag = (n % 32) as u8;
-    let lba = (n % sectors) as u64;
+    let lba = if n % 2 == 0 { n % 16 } else { n } as u64;
     match n % 19 {
         5 => reset(true),
         6 => reset(false),
@@ -19,7 +19,7 @@ fn nth(n: u32, sectors: u32) -> H2dFields {
         13 => command(0x2F, 0, 0x10, 1),
         14 => command(0x25, 0, 0, 0),
         0..=3 => write(tag, lba, 1),
-        _ => read(tag, lba, (n % 40) as u16),
+        _ => read(tag, lba, n % 40),
     }
 }
 
@@ -32,7 +32,7 @@ fn calls(alloc: Global, sectors: u32, chunk: u16) -> Result<(), Fail> {
     let mut disk = Disk::new(alloc, sectors, plan)?;
     let block = payload(alloc, 0, &[7; 512], STAMP)?;
     for n in 0..1000 {
-        disk.on_frame(alloc, &h2d(alloc, &nth(n, sectors), STAMP)?)?;
+        disk.on_frame(alloc, &h2d(alloc, &nth(n), STAMP)?)?;
         for _ in 0..6 {
             if disk.next_out(alloc, STAMP)?.is_none() {
                 disk.on_frame(alloc, &block)?;
