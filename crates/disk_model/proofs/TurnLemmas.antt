@@ -60,7 +60,7 @@ pub on_err_so : {T E P : Type 0} (r : Result T E) → P → OnErr r P
 on_err_so (Ok x) p = tt
 on_err_so (Err e) p = p
 
-none_left : (m : Moment) (c : Command) (sends later : List Sending) (s : Sending) → sends ≡ s ∷ later → read_turn m c sends ≢ None
+pub none_left : (m : Moment) (c : Command) (sends later : List Sending) (s : Sending) → sends ≡ s ∷ later → read_turn m c sends ≢ None
 none_left m c sends later s is = λ none. let e = rw is at none in cc e
 
 read_left : (plan : DiskPlan) (m : Moment) (medium : List ℕ) (r : Reading) (up : Bool) → 0 < r.left → read_turn m r.command (sends_of plan medium r up) ≢ None

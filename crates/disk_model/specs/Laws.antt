@@ -11,11 +11,11 @@ use Rattle.fis_view.specs.declared.view.FisFault.{FisFault}
 use Rattle.disk_model.specs.declared.request.Command.{Command}
 use Rattle.disk_model.specs.declared.plan.DiskPlan.{DiskPlan}
 use Rattle.disk_model.specs.Histories.{Happening, Sent}
-use Rattle.disk_model.specs.Runs.{IsDiskRun}
+use Rattle.disk_model.specs.Runs.{IsDiskRun, moment}
 use Rattle.disk_model.specs.declared.answer.Fault.TheVariants.{Failed}
 use Rattle.disk_model.specs.Pages.{error_log, identify_data}
 use Rattle.disk_model.specs.Chunks.{first_bad}
-use Rattle.disk_model.specs.Disks.{picked}
+use Rattle.disk_model.specs.Disks.{picked, turn}
 use Rattle.disk_model.specs.Ledger.{Ledger, Moving, Stretch, Reply, Signs, Accepts, Finishes, Refuses, ShowsPage, Wanted, LogOf, IdentifyData, has_error, IsSize, ledger}
 use Rattle.fis_view.specs.Seen.{seen}
 
@@ -174,6 +174,24 @@ abbrev pub AnswersRight : Ledger → Result Fis FisFault → Type 0
 AnswersRight l (Ok (view.RegD2H f)) = AnswersFirst l.awaited f
 AnswersRight l (Ok (view.PioSetup f)) = ShowsFirst l.awaited f
 AnswersRight l _ = Unit {0}
+
+-- ## Silence
+
+-- a write waits for the Data that a DMA Activate asked for, or no command is outstanding
+abbrev pub WaitsWell : Ledger → Option Moving → Type 0
+WaitsWell l None = l.outstanding ≡ []
+WaitsWell l (Some v) = (v.command.write ≡ true) × (v.active ≡ true)
+
+-- whatever is to be answered was answered
+pub record OwesNothing (l : Ledger) : Type 0 where
+  pub awaited : l.awaited ≡ []
+  pub unanswered : l.unanswered ≡ []
+  pub pages : l.pages ≡ []
+  pub waits : WaitsWell l l.moving
+
+-- a disk that has nothing to send after the history owes nothing
+abbrev pub SilentRight : DiskPlan → ℕ → List Happening → Type 0
+SilentRight plan sectors history = turn plan sectors (moment plan sectors history) ≡ None → OwesNothing (ledger history)
 
 -- ## Every run
 

@@ -2,7 +2,7 @@
 //! listens on its link is what the disk does. The functions do nothing when they run.
 
 ghost use Rattle.std.specs.Prelude.{◌≡◌, All};
-ghost use Rattle.disk_model.specs.Laws.{AfterEachRun, AnswersRight, AtEachSending, ErrsRight, MovesRight};
+ghost use Rattle.disk_model.specs.Laws.{AfterEachRun, AnswersRight, AtEachSending, ErrsRight, MovesRight, SilentRight};
 ghost use Rattle.disk_model.specs.Ledger.{AnswersOne, IsRead, ledger, medium_with};
 ghost use Rattle.disk_model.specs.Runs.{moment};
 
@@ -44,4 +44,10 @@ pub fn answers_commands_in_order()
 /// whose data moves can be done.
 pub fn errors_are_of_their_command()
     ensures { AtEachSending ErrsRight }
+{}
+
+/// In every run of a disk it has nothing to send only where each command and reset was answered, each page came, and no command
+/// is outstanding, or where a write waits for Data that a DMA Activate asked for.
+pub fn is_silent_where_nothing_is_owed()
+    ensures { AfterEachRun SilentRight }
 {}

@@ -10,7 +10,8 @@
 //!
 //! What the FISes of a disk's run alone tell is the ledger of `specs/Ledger.antt`. Laws over every run tie the disk to it:
 //! [`medium_is_of_ended_writes`], [`reads_are_of_their_start`], [`setups_name_what_moves`],
-//! [`answers_each_command_once`], [`answers_commands_in_order`] and [`errors_are_of_their_command`].
+//! [`answers_each_command_once`], [`answers_commands_in_order`], [`errors_are_of_their_command`] and
+//! [`is_silent_where_nothing_is_owed`].
 #![tactic(auto)]
 
 mod answer;
@@ -28,7 +29,8 @@ pub use device::Device;
 pub use disk::{Disk, DiskError};
 pub use law::{
     answers_commands_in_order, answers_each_command_once, errors_are_of_their_command,
-    medium_is_of_ended_writes, reads_are_of_their_start, setups_name_what_moves,
+    is_silent_where_nothing_is_owed, medium_is_of_ended_writes, reads_are_of_their_start,
+    setups_name_what_moves,
 };
 pub use plan::{DiskPlan, Order};
 pub use scripted::Scripted;

@@ -1,8 +1,7 @@
-//! Sizes, signature, reads and the order of commands.
+//! Signature and reads.
 
 use super::scripted::STAMP;
-use crate::{Device, Disk, DiskError, DiskPlan, Order, Unit};
-use arrayvec::ArrayVec;
+use crate::{Device, Disk, DiskPlan, Unit};
 use fis_view::{Frame, H2dFields, h2d};
 use std::alloc::{AllocError, Global};
 use std::process::Abort;
@@ -111,39 +110,6 @@ pub const ACCEPTED: &str = "3400500000000000000000000000000000000000";
 pub const SIGNATURE: &str = "3400500101000000000000000100000000000000";
 
 #[test]
-fn sizes(rt: HostRuntime) -> Result<(), Fail> {
-    let alloc = rt.alloc();
-    for sectors in [0, 65_537, u32::MAX] {
-        let made = Disk::new(alloc, sectors, DiskPlan::plain());
-        assert_eq!(rt; made.err(), Some(DiskError::BadSize));
-    }
-    for chunk in [0, 511, 513, 1000, 8704, 65_024] {
-        let plan = DiskPlan {
-            chunk,
-            ..DiskPlan::plain()
-        };
-        assert_eq!(rt; Disk::new(alloc, 16, plan).err(), Some(DiskError::BadSize));
-    }
-    for sectors in [1, 65_536] {
-        let disk = Disk::new(alloc, sectors, DiskPlan::plain())?;
-        assert!(rt; disk.sector(sectors - 1).is_some());
-        assert!(rt; disk.sector(sectors).is_none());
-    }
-    let disk = Disk::new(
-        alloc,
-        300,
-        DiskPlan {
-            chunk: 512,
-            ..DiskPlan::plain()
-        },
-    )?;
-    for (at, byte) in disk.sector(257).ok_or("no sector")?.iter().enumerate() {
-        assert_eq!(rt; *byte as usize, (257 + at % 256) % 256);
-    }
-    Ok(())
-}
-
-#[test]
 fn signature_when_plugged_and_after_a_reset(rt: HostRuntime) -> Result<(), Fail> {
     let alloc = rt.alloc();
     let mut unit = Unit::Disk(Disk::new(alloc, 16, DiskPlan::plain())?);
@@ -194,57 +160,4 @@ fn read_with_its_last_sector_first(rt: HostRuntime) -> Result<(), Fail> {
     sends_sectors(&rt, alloc, &mut disk, 4, 1)?;
     sends(&rt, alloc, &mut disk, "a140500008000000")?;
     is_silent(&rt, alloc, &mut disk)
-}
-
-#[test]
-fn last_chunk_is_shorter(rt: HostRuntime) -> Result<(), Fail> {
-    let alloc = rt.alloc();
-    let mut disk = Disk::new(
-        alloc,
-        64,
-        DiskPlan {
-            chunk: 1024,
-            ..DiskPlan::plain()
-        },
-    )?;
-    give(alloc, &mut disk, &read(0, 10, 3))?;
-    sends(&rt, alloc, &mut disk, ACCEPTED)?;
-    let first = "41200000000000000000000000000000000000000004000000000000";
-    sends(&rt, alloc, &mut disk, first)?;
-    sends_sectors(&rt, alloc, &mut disk, 10, 2)?;
-    let second = "41200000000000000000000000000000000400000002000000000000";
-    sends(&rt, alloc, &mut disk, second)?;
-    sends_sectors(&rt, alloc, &mut disk, 12, 1)?;
-    sends(&rt, alloc, &mut disk, "a140500001000000")
-}
-
-/// The tags in the order in which a disk serves three reads of one sector.
-fn order_of(rt: &impl Abort, alloc: Global, order: Order, wanted: &[&str]) -> Result<(), Fail> {
-    let plan = DiskPlan {
-        order,
-        chunk: 8192,
-        last_first: false,
-        bad: ArrayVec::new(),
-    };
-    let mut disk = Disk::new(alloc, 16, plan)?;
-    for tag in 0..3 {
-        give(alloc, &mut disk, &read(tag, tag as u64, 1))?;
-    }
-    for _ in 0..3 {
-        sends(rt, alloc, &mut disk, ACCEPTED)?;
-    }
-    for bits in wanted {
-        next(alloc, &mut disk)?.ok_or("no setup")?;
-        next(alloc, &mut disk)?.ok_or("no data")?;
-        sends(rt, alloc, &mut disk, bits)?;
-    }
-    is_silent(rt, alloc, &mut disk)
-}
-
-#[test]
-fn order_of_commands(rt: HostRuntime) -> Result<(), Fail> {
-    let alloc = rt.alloc();
-    let (first, second, third) = ("a140500001000000", "a140500002000000", "a140500004000000");
-    order_of(&rt, alloc, Order::Oldest, &[first, second, third])?;
-    order_of(&rt, alloc, Order::Newest, &[third, second, first])
 }

@@ -1,8 +1,8 @@
 //! Writes.
 
-use super::disk::{ACCEPTED, command, give, give_frame, is_silent, read, reset, sends, write};
+use super::disk::{ACCEPTED, give_frame, is_silent, sends};
 use super::scripted::STAMP;
-use crate::{Device, Disk, DiskPlan};
+use crate::{Disk, DiskPlan};
 use fis_view::{Frame, payload};
 use std::alloc::Global;
 use std::process::Abort;
@@ -43,75 +43,4 @@ fn write_of_one_sector(rt: HostRuntime) -> Result<(), Fail> {
     assert_eq!(rt; disk.sector(7).ok_or("no sector")?[0], 7);
     assert_eq!(rt; disk.sector(9).ok_or("no sector")?[0], 9);
     Ok(())
-}
-
-#[test]
-fn medium_changes_at_the_end(rt: HostRuntime) -> Result<(), Fail> {
-    let alloc = rt.alloc();
-    let plan = DiskPlan {
-        chunk: 512,
-        last_first: true,
-        ..DiskPlan::plain()
-    };
-    let mut disk = Disk::new(alloc, 16, plan)?;
-    give(alloc, &mut disk, &write(31, 2, 2))?;
-    sends(&rt, alloc, &mut disk, ACCEPTED)?;
-    let second = "410000001f0000000000000000000000000200000002000000000000";
-    sends(&rt, alloc, &mut disk, second)?;
-    sends(&rt, alloc, &mut disk, "39000000")?;
-    give_frame(alloc, &mut disk, &data(alloc, 0x33, 512)?)?;
-    assert_eq!(rt; disk.sector(3).ok_or("no sector")?[0], 3);
-    let first = "410000001f0000000000000000000000000000000002000000000000";
-    sends(&rt, alloc, &mut disk, first)?;
-    sends(&rt, alloc, &mut disk, "39000000")?;
-    give_frame(alloc, &mut disk, &data(alloc, 0x22, 512)?)?;
-    holds(&rt, &disk, 2, 0x22)?;
-    holds(&rt, &disk, 3, 0x33)?;
-    sends(&rt, alloc, &mut disk, "a140500000000080")?;
-    disk.plugged(alloc)?;
-    holds(&rt, &disk, 3, 0x33)
-}
-
-#[test]
-fn reset_drops_a_write(rt: HostRuntime) -> Result<(), Fail> {
-    let alloc = rt.alloc();
-    let mut disk = Disk::new(alloc, 16, DiskPlan::plain())?;
-    give(alloc, &mut disk, &write(1, 2, 1))?;
-    sends(&rt, alloc, &mut disk, ACCEPTED)?;
-    let setup = "41000000010000000000000000000000000000000002000000000000";
-    sends(&rt, alloc, &mut disk, setup)?;
-    sends(&rt, alloc, &mut disk, "39000000")?;
-    give(alloc, &mut disk, &reset(true))?;
-    give_frame(alloc, &mut disk, &data(alloc, 0x44, 512)?)?;
-    is_silent(&rt, alloc, &mut disk)?;
-    assert_eq!(rt; disk.sector(2).ok_or("no sector")?[0], 2);
-    Ok(())
-}
-
-#[test]
-fn reads_what_was_written(rt: HostRuntime) -> Result<(), Fail> {
-    let alloc = rt.alloc();
-    let mut disk = Disk::new(alloc, 16, DiskPlan::plain())?;
-    give(alloc, &mut disk, &write(0, 8, 1))?;
-    for _ in 0..3 {
-        super::disk::next(alloc, &mut disk)?.ok_or("silent")?;
-    }
-    give_frame(alloc, &mut disk, &data(alloc, 0x5A, 512)?)?;
-    sends(&rt, alloc, &mut disk, "a140500001000000")?;
-    give(alloc, &mut disk, &read(0, 8, 1))?;
-    for _ in 0..2 {
-        super::disk::next(alloc, &mut disk)?.ok_or("silent")?;
-    }
-    let frame = super::disk::next(alloc, &mut disk)?.ok_or("silent")?;
-    for byte in &frame.bytes()[4..] {
-        assert_eq!(rt; *byte, 0x5A);
-    }
-    sends(&rt, alloc, &mut disk, "a140500001000000")?;
-    give(alloc, &mut disk, &command(0xEA, 0, 0, 0))?;
-    sends(
-        &rt,
-        alloc,
-        &mut disk,
-        "3440500000000000000000000000000000000000",
-    )
 }
