@@ -7,7 +7,7 @@ use Rattle.std.proofs.Math.Nat.{min-le_left, min-le_right, min-eq_left, min-eq_r
 use Rattle.std.proofs.lemmas.Bool.{cases_Bool, cases_eq, eq-eqb, eqb-true, le-leb, leb-false, leb-true, lt-ltb, ltb-true, or_cases, or_from}
 use Rattle.disk_model.specs.declared.request.Command.{Command}
 use Rattle.disk_model.specs.Chunks.{is_bad, first_bad}
-use Rattle.disk_model.specs.Insides.{is_of, lower_bad, lower_of, lowest_bad}
+use Rattle.disk_model.specs.Insides.{is_of, lower_bad, lower_of}
 
 -- what was found is the lowest number of which the test holds, among count numbers from one on
 record IsLowest (test : ℕ → Bool) (from count : ℕ) (found : Option ℕ) : Type 0 where
@@ -175,6 +175,6 @@ starts c = record {
   none = λ q e le lt. refl;
 }
 
-pub lowest_is_first : (c : Command) (bads : List ℕ) → lowest_bad c bads ≡ first_bad c bads
+pub lowest_is_first : (c : Command) (bads : List ℕ) → fold (lower_bad c) None bads ≡ first_bad c bads
 unfolding first_bad
 lowest_is_first c bads = one_lowest (is_bad bads) c.lba c.count _ _ (folds no_test c None bads (starts c)) (search_finds (is_bad bads) c.lba c.count)

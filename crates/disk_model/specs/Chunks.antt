@@ -1,4 +1,5 @@
--- The chunks in which a disk moves the data of a queued command, and what keeps it from doing so.
+-- The chunks in which a disk moves the data of a queued command (Serial ATA 3.x, 10.5.9, DMA Setup FIS, and 13.6, native
+-- command queuing), and what keeps it from doing so (ACS-3, READ and WRITE FPDMA QUEUED, errors).
 use Rattle.std.specs.Prelude.{ℕ, zero, suc, ◌+◌, ◌-◌, ◌*◌, ◌/◌, ◌==◌, min, not, nat_lt, Bool, List, [], ◌∷◌, ◌++◌, drop, take, length, if◌then◌else◌, Option, Some, None, option_map}
 use Rattle.std.specs.List.{find, list_any, range_with_len}
 use Rattle.disk_model.specs.declared.request.Command.{Command}

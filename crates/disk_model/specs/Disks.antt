@@ -1,5 +1,5 @@
--- What a disk is at one moment, what it sends next, and what it makes of what it receives (Serial ATA 3.x, first party
--- DMA and native command queuing; ACS-3).
+-- What a disk is at one moment, what it sends next, and what it makes of what it receives (Serial ATA 3.x, 10.5, FIS types,
+-- and 13.6, native command queuing; ACS-3, READ and WRITE FPDMA QUEUED, NCQ Command Error log).
 use Rattle.std.specs.Prelude.{ℕ, ◌+◌, ◌-◌, ◌*◌, ◌/◌, ◌%◌, ◌==◌, ◌&&◌, Bool, true, false, not, List, [], ◌∷◌, ◌++◌, length, replicate, filter, map, slice_get, if◌then◌else◌, Option, Some, None, Result, Ok, drop}
 use Rattle.std.specs.List.{list_any, range_with_len}
 use Rattle.fis_view.specs.declared.view.Fis.{Fis}

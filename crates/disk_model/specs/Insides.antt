@@ -1,5 +1,5 @@
 -- How the fields of a disk are seen.
-use Rattle.std.specs.Prelude.{ℕ, ◌≡◌, ◌≢◌, ◌+◌, ◌-◌, ◌*◌, ◌<◌, ◌≤◌, ◌&&◌, min, nat_le, nat_lt, Bool, true, false, if◌then◌else◌, List, [], ◌∷◌, length, drop, fold, Option, Some, None, All, vec_capacity, ◌⊎◌}
+use Rattle.std.specs.Prelude.{ℕ, ◌≡◌, ◌≢◌, ◌+◌, ◌-◌, ◌*◌, ◌<◌, ◌≤◌, ◌&&◌, min, nat_le, nat_lt, Bool, true, false, if◌then◌else◌, List, [], ◌∷◌, length, drop, Option, Some, None, All, vec_capacity, ◌⊎◌}
 use Rattle.std.specs.Option.{option_map_or}
 use Rattle.disk_model.specs.declared.request.Command.{Command}
 use Rattle.disk_model.specs.declared.disk.Disk.TheInside.{Inside}
@@ -106,9 +106,6 @@ is_of c lba = nat_le c.lba lba && nat_lt (lba - c.lba) c.count
 abbrev pub lower_of : Option ℕ → ℕ → ℕ
 lower_of found bad = option_map_or (λ lowest. min lowest bad) found bad
 
--- the lowest bad sector of the command so far, with one more that is bad
+-- the lowest bad sector of the command that was found, with one more that is bad
 abbrev pub lower_bad : Command → Option ℕ → ℕ → Option ℕ
 lower_bad c found bad = if is_of c bad then Some (lower_of found bad) else found
-
-abbrev pub lowest_bad : Command → List ℕ → Option ℕ
-lowest_bad c bads = fold (lower_bad c) None bads

@@ -1,4 +1,4 @@
--- The 512 bytes that READ LOG EXT and IDENTIFY DEVICE read (ACS-3).
+-- The 512 bytes that READ LOG EXT and IDENTIFY DEVICE read (ACS-3, NCQ Command Error log and 7.12).
 use Rattle.std.specs.Prelude.{ℕ, ◌-◌, ◌/◌, ◌%◌, List, [], ◌∷◌, ◌++◌, length, replicate, sum, Option, Some, None}
 use Rattle.std.specs.Int.{to_le_bytes, w64}
 use Rattle.disk_model.specs.declared.answer.Fault.{Fault}

@@ -114,8 +114,8 @@ fn page_follows_frame(alloc: Global, stamp: Stamp) -> Result<Frame, AllocError>
     pio_setup(alloc, &fields, stamp)
 }
 
-/// The DMA Setup of a chunk: its tag, where it lies in the command and how long it is, in bytes, and whether it goes
-/// to the host.
+/// The DMA Setup of a chunk: its tag, where it lies in the command and how long it is, in bytes,
+/// and whether it goes to the host.
 pub fn setup_frame(
     alloc: Global,
     tag: u8,

@@ -1,8 +1,8 @@
 //! The chunks in which a disk moves the data of a command, and what keeps it from doing so.
 
-ghost use Rattle.std.specs.Prelude.{◌≡◌, ◌+◌, ◌-◌, ◌*◌, ◌/◌, ◌<◌, ◌≤◌};
+ghost use Rattle.std.specs.Prelude.{◌≡◌, ◌+◌, ◌-◌, ◌*◌, ◌/◌, ◌<◌, ◌≤◌, fold, None};
 ghost use Rattle.disk_model.specs.Chunks.{chunk_count, chunk_from, chunks, fault_of};
-ghost use Rattle.disk_model.specs.Insides.{lower_bad, lowest_bad as lowest_bad_of};
+ghost use Rattle.disk_model.specs.Insides.{lower_bad};
 
 use crate::answer::Fault;
 use crate::plan::DiskPlan;
@@ -30,7 +30,7 @@ fn lower(command: Command, found: Option<u32>, bad: u32) -> Option<u32>
 }
 
 fn lowest_bad(bad: &[u32], command: Command) -> Option<u32>
-    ensures { result ≡ lowest_bad_of command bad.now }
+    ensures { result ≡ fold (lower_bad command) None bad.now }
 {
     bad.iter()
         .fold(None, |found, at| lower(command, found, *at))

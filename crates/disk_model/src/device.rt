@@ -19,14 +19,17 @@ pub trait Device {
 
     /// Takes a FIS of the host.
     fn on_frame(&mut self, alloc: Global, frame: &Frame) -> Result<(), AllocError>
-        ensures ok { OnOk result (GoesOn plan_of stands_for self.old (Received frame.now.bytes) self.new) }
+        ensures ok { OnOk result (
+            GoesOn plan_of stands_for self.old (Received frame.now.bytes) self.new) }
         ensures err { OnErr result (self.new ≡ self.old) };
 
     /// Gives the next FIS under the stamp, or None where the device has none to send.
     fn next_out(&mut self, alloc: Global, stamp: Stamp) -> Result<Option<Frame>, AllocError>
-        ensures sent { IfOk result (λ out. IfSome out (λ frame. SendsNext plan_of stands_for may_send self.old frame.bytes self.new)) }
+        ensures sent { IfOk result (λ out. IfSome out (λ frame.
+            SendsNext plan_of stands_for may_send self.old frame.bytes self.new)) }
         ensures stamp { IfOk result (λ out. IfSome out (λ frame. frame.stamp ≡ stamp)) }
-        ensures silent { IfOk result (λ out. IfNone out (IsSilent plan_of stands_for may_send self.old)) }
+        ensures silent { IfOk result (λ out. IfNone out (
+            IsSilent plan_of stands_for may_send self.old)) }
         ensures same { IfOk result (λ out. IfNone out (self.new ≡ self.old)) }
         ensures err { OnErr result (self.new ≡ self.old) };
 

@@ -47,10 +47,10 @@ enum Transfer {
     Write(Waiting),
 }
 
-/// A disk, its sectors in memory. Byte i of sector L opens as (L + i) mod 256. It queues reads and writes by
-/// tags, moves the data of each in chunks, and answers IDENTIFY DEVICE, FLUSH CACHE EXT and READ LOG EXT of the NCQ
-/// Command Error log. A command that cannot be done ends all queued ones, and the disk hears nothing but that log and
-/// resets from then on.
+/// A disk, its sectors in memory. Byte i of sector L opens as (L + i) mod 256. It queues reads and
+/// writes by tags, moves the data of each in chunks, and answers IDENTIFY DEVICE, FLUSH CACHE EXT
+/// and READ LOG EXT of the NCQ Command Error log. A command that cannot be done ends all queued
+/// ones, and the disk hears nothing but that log and resets from then on.
 #[derive(Drop)]
 pub struct Disk {
     plan: DiskPlan,
@@ -81,7 +81,8 @@ impl Model for Disk {
 /// Why a disk cannot be made.
 #[derive(Clone, Copy, Debug, PartialEq, Eq, Error)]
 pub enum DiskError {
-    /// The number of sectors is not 1 to 65,536, or the chunk is no multiple of 512 from 512 to 8,192.
+    /// The number of sectors is not 1 to 65,536, or the chunk is no multiple of 512 from 512 to
+    /// 8,192.
     #[error("bad size")]
     BadSize,
     /// The allocator refused memory for the sectors.
@@ -136,9 +137,11 @@ fn is_queued(queue: &[Command], tag: u8) -> bool
 }
 
 impl Disk {
-    /// A disk with so many sectors of 512 bytes, 1 to 65,536. The sizes are tested before memory is asked for.
+    /// A disk with so many sectors of 512 bytes, 1 to 65,536. The sizes are tested before memory is
+    /// asked for.
     pub fn new(alloc: Global, sectors: u32, plan: DiskPlan) -> Result<Disk, DiskError>
-        ensures ok { IfOk result (λ d. d ≡ record { plan = plan; sectors = sectors; now = opening sectors }) }
+        ensures ok { IfOk result (λ d.
+            d ≡ record { plan = plan; sectors = sectors; now = opening sectors }) }
         ensures plan { IfOk result (λ d. disk_plan d ≡ DiskOf plan sectors) }
         ensures opening { IfOk result (λ d. DiskStandsFor d []) }
         ensures size { OnOk result (IsTrue (is_size sectors plan.chunk)) }
@@ -166,7 +169,9 @@ impl Disk {
 
     /// The 512 bytes of a sector on the medium, None past the end.
     pub fn sector(&self, lba: u32) -> Option<&[u8]>
-        ensures { MatchOption result (self.now.sectors ≤ lba) (λ bytes. (lba < self.now.sectors) × (bytes.now ≡ sectors_at self.now.now.medium lba 1) × (length bytes.now ≡ 512)) }
+        ensures { MatchOption result (self.now.sectors ≤ lba) (λ bytes.
+            (lba < self.now.sectors) × (bytes.now ≡ sectors_at self.now.now.medium lba 1)
+            × (length bytes.now ≡ 512)) }
     {
         if self.sectors <= lba {
             return None;
@@ -190,10 +195,13 @@ impl Device for Disk {
     ghost may_send = { DiskMaySend };
 
     fn on_frame(&mut self, _alloc: Global, frame: &Frame) -> Result<(), AllocError>
-        ensures ok { OnOk result (GoesOn disk_plan DiskStandsFor self.old (Received frame.now.bytes) self.new) }
+        ensures ok { OnOk result (
+            GoesOn disk_plan DiskStandsFor self.old (Received frame.now.bytes) self.new) }
         ensures err { OnErr result (self.new ≡ self.old) }
         // it takes memory only for an answer, where 63 answers wait or 32 commands are queued
-        ensures no_memory { OnErr result (WantsRoom self.old.now (after self.old.plan self.old.sectors self.old.now (Received frame.now.bytes))) }
+        ensures no_memory { OnErr result (
+            WantsRoom self.old.now
+            (after self.old.plan self.old.sectors self.old.now (Received frame.now.bytes))) }
     {
         let Ok(fis) = frame.fis() else {
             return Ok(());
@@ -206,9 +214,11 @@ impl Device for Disk {
     }
 
     fn next_out(&mut self, alloc: Global, stamp: Stamp) -> Result<Option<Frame>, AllocError>
-        ensures sent { IfOk result (λ out. IfSome out (λ frame. SendsNext disk_plan DiskStandsFor DiskMaySend self.old frame.bytes self.new)) }
+        ensures sent { IfOk result (λ out. IfSome out (λ frame.
+            SendsNext disk_plan DiskStandsFor DiskMaySend self.old frame.bytes self.new)) }
         ensures stamp { IfOk result (λ out. IfSome out (λ frame. frame.stamp ≡ stamp)) }
-        ensures silent { IfOk result (λ out. IfNone out (IsSilent disk_plan DiskStandsFor DiskMaySend self.old)) }
+        ensures silent { IfOk result (λ out. IfNone out (
+            IsSilent disk_plan DiskStandsFor DiskMaySend self.old)) }
         ensures same { IfOk result (λ out. IfNone out (self.new ≡ self.old)) }
         ensures err { OnErr result (self.new ≡ self.old) }
         // it takes memory for a frame that is to be sent, and for nothing else

@@ -1,53 +1,57 @@
-//! Laws of every run of a disk, above the definitions by which its code is proved: what the FISes alone tell whoever
-//! listens on its link is what the disk does. The functions do nothing when they run.
+//! Laws of every run of a disk, above the definitions by which its code is proved: what the FISes
+//! alone tell whoever listens on its link is what the disk does. The functions do nothing when they
+//! run.
 
 ghost use Rattle.std.specs.Prelude.{◌≡◌, All};
 ghost use Rattle.disk_model.specs.Laws.{AfterEachRun, AnswersRight, AtEachSending, ErrsRight, MovesRight, SilentRight};
 ghost use Rattle.disk_model.specs.Ledger.{AnswersOne, IsRead, ledger, medium_with};
 ghost use Rattle.disk_model.specs.Runs.{moment};
 
-/// After every run of a disk its medium is the opening medium with the bytes of each ended write put in, in the order in
-/// which the writes ended.
+/// After every run of a disk its medium is the opening medium with the bytes of each ended write
+/// put in, in the order in which the writes ended.
 pub fn medium_is_of_ended_writes()
     ensures { AfterEachRun (λ plan sectors history.
         (moment plan sectors history).medium ≡ medium_with sectors (ledger history).writes) }
 {}
 
-/// In every run of a disk the Data of each read that ended, placed by the offsets of its DMA Setups, is its sectors as
-/// they were when it was started.
+/// In every run of a disk the Data of each read that ended, placed by the offsets of its DMA
+/// Setups, is its sectors as they were when it was started.
 pub fn reads_are_of_their_start()
     ensures { AfterEachRun (λ plan sectors history. All (IsRead sectors) (ledger history).reads) }
 {}
 
-/// In every run of a disk a Set Device Bits FIS without ERR names just the tag of the command that ended first among
-/// those that were not answered yet, so that a command is answered at most once.
+/// In every run of a disk a Set Device Bits FIS without ERR names just the tag of the command that
+/// ended first among those that were not answered yet, so that a command is answered at most once.
 pub fn answers_each_command_once()
     ensures { AtEachSending (λ plan sectors before fis. AnswersOne before fis) }
 {}
 
-/// In every run of a disk each DMA Setup is of the command whose data moves, or of an outstanding one that starts: it has its
-/// tag and its direction, and names bytes of it that no DMA Setup named before, once those that were named have moved.
-/// The Data of a read that follows is just as long, and a DMA Activate follows only the DMA Setup of a write, once.
+/// In every run of a disk each DMA Setup is of the command whose data moves, or of an outstanding
+/// one that starts: it has its tag and its direction, and names bytes of it that no DMA Setup named
+/// before, once those that were named have moved. The Data of a read that follows is just as long,
+/// and a DMA Activate follows only the DMA Setup of a write, once.
 pub fn setups_name_what_moves()
     ensures { AtEachSending (λ plan sectors before fis. MovesRight before fis) }
 {}
 
-/// In every run of a disk each Register Device to Host FIS, and each PIO Setup FIS, answers the command or the reset that came
-/// first among those that were not answered, with ERR set just where the command is refused. A refusal of queued commands
-/// and a reset end what is owed; while the disk is in its error mode no command but the log is answered.
+/// In every run of a disk each Register Device to Host FIS, and each PIO Setup FIS, answers the
+/// command or the reset that came first among those that were not answered, with ERR set just where
+/// the command is refused. A refusal of queued commands and a reset end what is owed; while the
+/// disk is in its error mode no command but the log is answered.
 pub fn answers_commands_in_order()
     ensures { AtEachSending (λ plan sectors before fis. AnswersRight before fis) }
 {}
 
-/// In every run of a disk a Set Device Bits FIS has ERR only where no data moves and the command whose turn it is passes the end
-/// of the disk or reads a bad sector, and the log tells its tag, its error and its LBA, at the first bad sector; a command
-/// whose data moves can be done.
+/// In every run of a disk a Set Device Bits FIS has ERR only where no data moves and the command
+/// whose turn it is passes the end of the disk or reads a bad sector, and the log tells its tag,
+/// its error and its LBA, at the first bad sector; a command whose data moves can be done.
 pub fn errors_are_of_their_command()
     ensures { AtEachSending ErrsRight }
 {}
 
-/// In every run of a disk it has nothing to send only where each command and reset was answered, each page came, and no command
-/// is outstanding, or where a write waits for Data that a DMA Activate asked for.
+/// In every run of a disk it has nothing to send only where each command and reset was answered,
+/// each page came, and no command is outstanding, or where a write waits for Data that a DMA
+/// Activate asked for.
 pub fn is_silent_where_nothing_is_owed()
     ensures { AfterEachRun SilentRight }
 {}

@@ -1,17 +1,17 @@
 //! Devices behind the fan-out ports of a port multiplier.
 //!
-//! A device is whatever implements [`Device`]: it takes FISes of the host, gives FISes to it, and is
-//! told when it is plugged in. Its contract says that every run of it, as a list of what it received,
-//! sent and was told, is one that its plan allows, and that it is silent only where the plan allows
-//! nothing.
+//! A device is whatever implements [`Device`]: it takes FISes of the host, gives FISes to it, and
+//! is told when it is plugged in. Its contract says that every run of it, as a list of what it
+//! received, sent and was told, is one that its plan allows, and that it is silent only where the
+//! plan allows nothing.
 //!
-//! A [`Disk`] keeps sectors in memory and queues reads and writes by tags (native command queuing); a
-//! [`Scripted`] device sends what a script says; a [`Unit`] is one of the two.
+//! A [`Disk`] keeps sectors in memory and queues reads and writes by tags (native command queuing);
+//! a [`Scripted`] device sends what a script says; a [`Unit`] is one of the two.
 //!
-//! What the FISes of a disk's run alone tell is the ledger of `specs/Ledger.antt`. Laws over every run tie the disk to it:
-//! [`medium_is_of_ended_writes`], [`reads_are_of_their_start`], [`setups_name_what_moves`],
-//! [`answers_each_command_once`], [`answers_commands_in_order`], [`errors_are_of_their_command`] and
-//! [`is_silent_where_nothing_is_owed`].
+//! What the FISes of a disk's run alone tell is the ledger of `specs/Ledger.antt`. Laws over every
+//! run tie the disk to it: [`medium_is_of_ended_writes`], [`reads_are_of_their_start`],
+//! [`setups_name_what_moves`], [`answers_each_command_once`], [`answers_commands_in_order`],
+//! [`errors_are_of_their_command`] and [`is_silent_where_nothing_is_owed`].
 #![tactic(auto)]
 
 mod answer;

@@ -76,11 +76,13 @@ fn error_log_page(alloc: Global, fault: Option<Fault>) -> Result<Vec<u8>, AllocE
     Ok(page)
 }
 
-/// Words 75 to 79 of the IDENTIFY DEVICE data, little endian: a queue of 32 commands, less one; native command queuing is
-/// supported, bit 8; nothing; DMA Setups with an offset other than 0 are supported, bit 1; and enabled, bit 1.
+/// Words 75 to 79 of the IDENTIFY DEVICE data, little endian: a queue of 32 commands, less one;
+/// native command queuing is supported, bit 8; nothing; DMA Setups with an offset other than 0 are
+/// supported, bit 1; and enabled, bit 1.
 const QUEUING: [u8; 10] = [0x1F, 0, 0, 1, 0, 0, 2, 0, 2, 0];
 
-/// The IDENTIFY DEVICE data (ACS-3, 7.12): words 75 to 79 and the number of sectors in words 100 to 103.
+/// The IDENTIFY DEVICE data (ACS-3, 7.12): words 75 to 79 and the number of sectors in words 100 to
+/// 103.
 #[tactic(auto, unfolding(crate::specs::Pages::identify_data))]
 fn identify_page(alloc: Global, sectors: u32) -> Result<Vec<u8>, AllocError>
     ensures items { IfOk result (λ page. page.items ≡ identify_data sectors) }

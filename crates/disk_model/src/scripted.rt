@@ -30,7 +30,8 @@ impl Model for Scripted {
 impl Scripted {
     ghost use Rattle.disk_model.specs.Scripts.{script_of, ScriptStandsFor};
 
-    /// A device with this script. Bytes that are no frame (4 to 8,196 bytes, a multiple of 4) are left out.
+    /// A device with this script. Bytes that are no frame (4 to 8,196 bytes, a multiple of 4) are
+    /// left out.
     pub fn new(mut frames: Vec<Bytes>) -> Self
         ensures plan { script_of result ≡ Script (filter is_frame frames.items) }
         ensures opening { ScriptStandsFor result [] }
@@ -51,7 +52,8 @@ impl Device for Scripted {
     ghost may_send = { ScriptMaySend };
 
     fn on_frame(&mut self, _alloc: Global, _frame: &Frame) -> Result<(), AllocError>
-        ensures ok { OnOk result (GoesOn script_of ScriptStandsFor self.old (Received _frame.now.bytes) self.new) }
+        ensures ok { OnOk result (
+            GoesOn script_of ScriptStandsFor self.old (Received _frame.now.bytes) self.new) }
         ensures err { OnErr result (self.new ≡ self.old) }
         // it takes no memory
         ensures done { IsOk result }
@@ -61,9 +63,11 @@ impl Device for Scripted {
     }
 
     fn next_out(&mut self, alloc: Global, stamp: Stamp) -> Result<Option<Frame>, AllocError>
-        ensures sent { IfOk result (λ out. IfSome out (λ frame. SendsNext script_of ScriptStandsFor ScriptMaySend self.old frame.bytes self.new)) }
+        ensures sent { IfOk result (λ out. IfSome out (λ frame.
+            SendsNext script_of ScriptStandsFor ScriptMaySend self.old frame.bytes self.new)) }
         ensures stamp { IfOk result (λ out. IfSome out (λ frame. frame.stamp ≡ stamp)) }
-        ensures silent { IfOk result (λ out. IfNone out (IsSilent script_of ScriptStandsFor ScriptMaySend self.old)) }
+        ensures silent { IfOk result (λ out. IfNone out (
+            IsSilent script_of ScriptStandsFor ScriptMaySend self.old)) }
         ensures same { IfOk result (λ out. IfNone out (self.new ≡ self.old)) }
         ensures err { OnErr result (self.new ≡ self.old) }
         // it takes memory for a frame that is left, and for nothing else

@@ -26,9 +26,10 @@ impl Device for Unit {
     ghost may_send = { MaySend };
 
     fn on_frame(&mut self, alloc: Global, frame: &Frame) -> Result<(), AllocError>
-        ensures ok { OnOk result (GoesOn plan_of StandsFor self.old (Received frame.now.bytes) self.new) }
+        ensures ok { OnOk result (
+            GoesOn plan_of StandsFor self.old (Received frame.now.bytes) self.new) }
         ensures err { OnErr result (self.new ≡ self.old) }
-        // a script takes no memory for it, nor does a disk that is not full or has no more to answer
+        // a script takes no memory for it, nor a disk that is not full or has no more to answer
         ensures no_memory { OnErr result (UnitWantsRoom self.old (Received frame.now.bytes)) }
     {
         match self {
@@ -38,12 +39,14 @@ impl Device for Unit {
     }
 
     fn next_out(&mut self, alloc: Global, stamp: Stamp) -> Result<Option<Frame>, AllocError>
-        ensures sent { IfOk result (λ out. IfSome out (λ frame. SendsNext plan_of StandsFor MaySend self.old frame.bytes self.new)) }
+        ensures sent { IfOk result (λ out. IfSome out (λ frame.
+            SendsNext plan_of StandsFor MaySend self.old frame.bytes self.new)) }
         ensures stamp { IfOk result (λ out. IfSome out (λ frame. frame.stamp ≡ stamp)) }
-        ensures silent { IfOk result (λ out. IfNone out (IsSilent plan_of StandsFor MaySend self.old)) }
+        ensures silent { IfOk result (λ out. IfNone out (
+            IsSilent plan_of StandsFor MaySend self.old)) }
         ensures same { IfOk result (λ out. IfNone out (self.new ≡ self.old)) }
         ensures err { OnErr result (self.new ≡ self.old) }
-        // neither a script that was sent to its end takes memory, nor a disk that has nothing to send
+        // a script that was sent to its end takes no memory, nor a disk with nothing to send
         ensures no_memory { OnErr result (HasFrames self.old) }
     {
         match self {

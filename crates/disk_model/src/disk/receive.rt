@@ -43,9 +43,11 @@ impl Disk {
     }
 
     fn refuse(&mut self) -> Result<(), AllocError>
-        ensures ok { OnOk result (self.new ≡ with_now self.old (refused self.old.now self.old.now.queued)) }
+        ensures ok { OnOk result (
+            self.new ≡ with_now self.old (refused self.old.now self.old.now.queued)) }
         ensures err { OnErr result (self.new ≡ self.old) }
-        ensures no_memory { OnErr result (WantsRoom self.old.now (refused self.old.now self.old.now.queued)) }
+        ensures no_memory { OnErr result (
+            WantsRoom self.old.now (refused self.old.now self.old.now.queued)) }
     {
         if self.queue.is_empty() {
             self.owe(Answer::Refused)
@@ -75,9 +77,11 @@ impl Disk {
     }
 
     fn flush(&mut self) -> Result<(), AllocError>
-        ensures ok { OnOk result (self.new ≡ with_now self.old (flushed self.old.now self.old.now.queued)) }
+        ensures ok { OnOk result (
+            self.new ≡ with_now self.old (flushed self.old.now self.old.now.queued)) }
         ensures err { OnErr result (self.new ≡ self.old) }
-        ensures no_memory { OnErr result (WantsRoom self.old.now (flushed self.old.now self.old.now.queued)) }
+        ensures no_memory { OnErr result (
+            WantsRoom self.old.now (flushed self.old.now self.old.now.queued)) }
     {
         if self.queue.is_empty() {
             self.owe(Answer::Finished)
@@ -103,9 +107,11 @@ impl Disk {
     }
 
     fn identify(&mut self) -> Result<(), AllocError>
-        ensures ok { OnOk result (self.new ≡ with_now self.old (identified self.old.now self.old.now.queued)) }
+        ensures ok { OnOk result (
+            self.new ≡ with_now self.old (identified self.old.now self.old.now.queued)) }
         ensures err { OnErr result (self.new ≡ self.old) }
-        ensures no_memory { OnErr result (WantsRoom self.old.now (identified self.old.now self.old.now.queued)) }
+        ensures no_memory { OnErr result (
+            WantsRoom self.old.now (identified self.old.now self.old.now.queued)) }
     {
         if self.queue.is_empty() {
             self.owe_page(Page::Identity)
@@ -115,9 +121,11 @@ impl Disk {
     }
 
     fn read_error_log(&mut self) -> Result<(), AllocError>
-        ensures ok { OnOk result (self.new ≡ with_now self.old (logged self.old.now self.old.now.queued)) }
+        ensures ok { OnOk result (
+            self.new ≡ with_now self.old (logged self.old.now self.old.now.queued)) }
         ensures err { OnErr result (self.new ≡ self.old) }
-        ensures no_memory { OnErr result (WantsRoom self.old.now (logged self.old.now self.old.now.queued)) }
+        ensures no_memory { OnErr result (
+            WantsRoom self.old.now (logged self.old.now self.old.now.queued)) }
     {
         if !self.queue.is_empty() {
             return self.refuse();
@@ -127,12 +135,15 @@ impl Disk {
         Ok(())
     }
 
-    /// Hears what a Register FIS asks for. In the error mode a command other than the log is dropped.
+    /// Hears what a Register FIS asks for. In the error mode a command other than the log is
+    /// dropped.
     pub(super) fn receive(&mut self, request: Request) -> Result<(), AllocError>
         requires { Asks request }
-        ensures ok { OnOk result (self.new ≡ with_now self.old (received self.old.now request self.old.now.fault)) }
+        ensures ok { OnOk result (
+            self.new ≡ with_now self.old (received self.old.now request self.old.now.fault)) }
         ensures err { OnErr result (self.new ≡ self.old) }
-        ensures no_memory { OnErr result (WantsRoom self.old.now (received self.old.now request self.old.now.fault)) }
+        ensures no_memory { OnErr result (
+            WantsRoom self.old.now (received self.old.now request self.old.now.fault)) }
     {
         match request {
             Request::Reset(true) => {
@@ -158,9 +169,13 @@ impl Disk {
 
     /// Takes the chunk that a write waits for. Other Data is dropped.
     pub(super) fn store(&mut self, bytes: &[u8]) -> Result<(), AllocError>
-        ensures ok { OnOk result (self.new ≡ with_now self.old (data_taken self.old.plan self.old.now self.old.now.writing bytes.now)) }
+        ensures ok { OnOk result (
+            self.new ≡ with_now self.old
+            (data_taken self.old.plan self.old.now self.old.now.writing bytes.now)) }
         ensures err { OnErr result (self.new ≡ self.old) }
-        ensures no_memory { OnErr result (WantsRoom self.old.now (data_taken self.old.plan self.old.now self.old.now.writing bytes.now)) }
+        ensures no_memory { OnErr result (
+            WantsRoom self.old.now
+            (data_taken self.old.plan self.old.now self.old.now.writing bytes.now)) }
     {
         let Transfer::Write(waiting) = self.transfer else {
             return Ok(());

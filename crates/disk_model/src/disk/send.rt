@@ -28,7 +28,9 @@ fn reading_frame(
     requires sectors { sectors ≤ 65536 }
     requires medium { length medium.now ≡ 512 * sectors }
     requires transfer { IsTransfer plan.now sectors (Read reading) }
-    ensures leads { IfOk result (λ f. Leads (sends_of plan.now medium.now reading reading.set_up) f.bytes (sends_after plan.now medium.now reading reading.set_up)) }
+    ensures leads { IfOk result (λ f. Leads
+        (sends_of plan.now medium.now reading reading.set_up) f.bytes
+        (sends_after plan.now medium.now reading reading.set_up)) }
     ensures stamp { IfOk result (λ f. f.stamp ≡ stamp) }
 {
     let command = reading.command;
@@ -62,7 +64,9 @@ fn asking_frame(
     requires some { 0 < waiting.left }
     requires among { waiting.left ≤ chunks plan.now waiting.command }
     requires more { waiting.gone < 2 }
-    ensures leads { IfOk result (λ f. Leads (drop waiting.gone (asks_for plan.now waiting.command waiting.left)) f.bytes (drop (waiting.gone + 1) (asks_for plan.now waiting.command waiting.left))) }
+    ensures leads { IfOk result (λ f. Leads
+        (drop waiting.gone (asks_for plan.now waiting.command waiting.left)) f.bytes
+        (drop (waiting.gone + 1) (asks_for plan.now waiting.command waiting.left))) }
     ensures stamp { IfOk result (λ f. f.stamp ≡ stamp) }
 {
     let command = waiting.command;
@@ -81,7 +85,8 @@ fn asking_frame(
     }
 }
 
-/// A write of which so many chunks are left, once so many FISes went that ask for the first of them.
+/// A write of which so many chunks are left, once so many FISes went that ask for the first of
+/// them.
 fn asked(command: Command, left: u32, gone: u8) -> Waiting
     ensures { result ≡ record { command = command; left = left; gone = gone } }
 {

@@ -41,7 +41,8 @@ pub fn reset(srst: bool) -> H2dFields {
     }
 }
 
-/// Gives a command to a device. Where memory is refused it is given again, and answers as if nothing had been.
+/// Gives a command to a device. Where memory is refused it is given again, and answers as if
+/// nothing had been.
 pub fn give(alloc: Global, unit: &mut impl Device, fields: &H2dFields) -> Result<(), AllocError> {
     let frame = h2d(alloc, fields, STAMP)?;
     give_frame(alloc, unit, &frame)

@@ -6,7 +6,8 @@ use std::alloc::Global;
 use std::process::Abort;
 use std::test::Fail;
 
-/// READ LOG EXT of the NCQ Command Error log is answered with this page, given by its bytes up to Count and its last.
+/// READ LOG EXT of the NCQ Command Error log is answered with this page, given by its bytes up to
+/// Count and its last.
 fn logs(rt: &impl Abort, alloc: Global, disk: &mut Disk, head: &str, last: u8) -> Result<(), Fail> {
     give(alloc, disk, &command(0x2F, 0, 0x10, 1))?;
     sends(rt, alloc, disk, "5f60580000000000000000000000005000020000")?;

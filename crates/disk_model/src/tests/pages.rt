@@ -5,9 +5,9 @@ use crate::answer::{Fault, Page};
 use crate::{Disk, DiskPlan};
 use std::test::Fail;
 
-/// NCQ Command Error logs that `ata_eh_read_log_10h` accepts: the bytes up to Count and the last one, in
-/// hexadecimal, the others being 0; tag, error and LBA as it reads them. Status is 41h, Device 40h and Count 0, as
-/// this disk has them.
+/// NCQ Command Error logs that `ata_eh_read_log_10h` accepts: the bytes up to Count and the last
+/// one, in hexadecimal, the others being 0; tag, error and LBA as it reads them. Status is 41h,
+/// Device 40h and Count 0, as this disk has them.
 const LOGS: [(&str, &str, u8, u8, u64); 4] = [
     (
         "06004110a7524940ad9882000000",
@@ -72,8 +72,9 @@ fn log_of_no_error(rt: HostRuntime) -> Result<(), Fail> {
     Ok(())
 }
 
-/// Words of IDENTIFY DEVICE data that are also this disk's in at least one place, and what `ata_id_has_ncq`,
-/// `ata_id_queue_depth` and `ata_id_has_fpdma_aa` read in them: words 75, 76, 78 and 79, and their answers.
+/// Words of IDENTIFY DEVICE data that are also this disk's in at least one place, and what
+/// `ata_id_has_ncq`, `ata_id_queue_depth` and `ata_id_has_fpdma_aa` read in them: words 75, 76, 78
+/// and 79, and their answers.
 const WORDS: [(u16, u16, u16, u16, u16, u16, u16); 4] = [
     (0x001c, 0x010e, 0x0002, 0x0002, 1, 29, 0),
     (0x001e, 0x010e, 0x0002, 0x0002, 1, 31, 0),

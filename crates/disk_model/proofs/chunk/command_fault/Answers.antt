@@ -1,17 +1,17 @@
 use Rattle.std.proofs.Common.{◌≡◌, ◌+◌, ◌≤◌, ℕ, false, nat_lt, List, Option, Some, None, sym, ap, ◌∙◌, arith, refl}
 use Rattle.std.proofs.lemmas.Bool.{le-ltb}
-use Rattle.std.specs.Prelude.{option_map}
+use Rattle.std.specs.Prelude.{fold, option_map}
 use Rattle.disk_model.specs.declared.answer.Fault.TheVariants.{Failed}
 use Rattle.disk_model.specs.declared.plan.DiskPlan.{DiskPlan}
 use Rattle.disk_model.specs.declared.request.Command.{Command}
 use Rattle.disk_model.specs.Chunks.{first_bad, fault_of}
-use Rattle.disk_model.specs.Insides.{lowest_bad}
+use Rattle.disk_model.specs.Insides.{lower_bad}
 use Rattle.disk_model.proofs.BadLemmas.{lowest_is_first}
 use Rattle.disk_model.proofs.chunk.command_fault.Goals as goal
 
 -- a read within the disk fails where a sector of it is bad
 by_bad : (plan : DiskPlan) (sectors : ℕ) (command : Command) (bads : List ℕ) (found : Option ℕ) → command.lba + command.count ≤ sectors → command.write ≡ false
-    → bads ≡ plan.bad.items → found ≡ lowest_bad command bads → option_map (λ bad. Failed command.tag 0x40 bad) found ≡ fault_of plan sectors command
+    → bads ≡ plan.bad.items → found ≡ fold (lower_bad command) None bads → option_map (λ bad. Failed command.tag 0x40 bad) found ≡ fault_of plan sectors command
 unfolding first_bad
 by_bad plan sectors command bads found inside read are is =
     let past : nat_lt sectors (command.lba + command.count) ≡ false = le-ltb sectors (command.lba + command.count) inside in
