@@ -3,7 +3,7 @@
 -- Of each step the refusals are tested first, in their order; then it is Idle where it reads from an
 -- empty link or from a unit that is not plugged in; then Blocked where the place it writes to is full;
 -- and only then may it want memory, or find that its source has nothing.
-use Rattle.std.specs.Prelude.{ℕ, ◌+◌, ◌≡◌, ◌≢◌, ◌==◌, ◌&&◌, length, not, Bool, true, false, IsTrue, if◌then◌else◌, List, [], ◌∷◌, Option, Some, None, is_some, is_none, MatchOption, Result, Ok, Err, IsSomeAnd, slice_get, slice_index_or, slice_set, take}
+use Rattle.std.specs.Prelude.{ℕ, ◌+◌, ◌≡◌, ◌≢◌, ◌<◌, ◌==◌, ◌&&◌, length, not, Bool, true, false, IsTrue, if◌then◌else◌, List, [], ◌∷◌, Option, Some, None, is_some, is_none, MatchOption, Result, Ok, Err, IsSomeAnd, slice_get, slice_index_or, slice_set, take}
 use Rattle.std.specs.Option.{option_map_or}
 use Rattle.fis_view.specs.Frames.{Stamped, is_frame}
 use Rattle.disk_model.specs.Histories.{Plugged}
@@ -245,8 +245,10 @@ Run old (s ∷ steps) (a ∷ answers) new = (mid : Places) × Rule old s (Ok a) 
 Run old [] (a ∷ answers) new = ⊥
 Run old (s ∷ steps) [] new = ⊥
 
--- The run of these steps stops at step i with an error. The steps before it made answers, the world is the
--- one that they leave, and the error is the first refusal of step i there, or want of memory where none applies.
+-- The run of these steps stops at step i with an error. The steps before it made answers, and the world is the one that they
+-- leave. The error is the first refusal of step i there, or want of memory where none applies. After the first step it is one
+-- that step i itself gives; before the first step the room for the answers may be what wants memory.
 pub record Stops (old : Places) (steps : List Step) (i : ℕ) (e : StepError) (answers : List Answer) (new : Places) : Type 0 where
   pub run : Run old (take i steps) answers new
   pub refused : IsSomeAnd (slice_get steps i) (λ s. Refuses (refusal new s) e)
+  pub gives : 0 < i → IsSomeAnd (slice_get steps i) (λ s. Rule new s (Err e) new)

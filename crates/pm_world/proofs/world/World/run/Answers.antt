@@ -21,7 +21,11 @@ returns-in-Err-clause-stops c =
     let run : Run c.args.self.now (take c.loop-i.i steps) c.loop-i.answers.items c.step.new.self = rw same c.loop-i.invariant.run in
     let here : slice_get steps c.loop-i.i ≡ Some s = slice_get_read steps (length steps) c.loop-i.i s (search rules) below c.index-steps-i.is in (
       c.loop-i.answers.items,
-      record { run = run; refused = rw here (rw same (rule_refuses c.loop-i.self s c.in-Err.e c.step.new.self rule)) },
+      record {
+        run = run;
+        refused = rw here (rw same (rule_refuses c.loop-i.self s c.in-Err.e c.step.new.self rule));
+        gives = λ later. rw (here, same) (rw same at rule);
+      },
       nothing_lost c.args.self.now (take c.loop-i.i steps) c.loop-i.answers.items c.step.new.self run,
       delivers_reads c.args.self.now (take c.loop-i.i steps) c.loop-i.answers.items c.step.new.self run,
     )
@@ -60,7 +64,11 @@ returns-in_default-with_capacity-clause-stops c =
     let here : slice_get c.args.steps.now 0 ≡ Some s = search rules in
     let says : c.unwrap_or.result ≡ unwrap_or (refusal now s) OutOfMemory = rw c.refusal-refused.ensures at c.unwrap_or.ensures in (
       [],
-      record { run = refl; refused = rw (here, says) (refuses_or_wants (refusal now s) (refusal_named now s)) },
+      record {
+        run = refl;
+        refused = rw (here, says) (refuses_or_wants (refusal now s) (refusal_named now s));
+        gives = λ later. absurd (omega (arith, later));
+      },
       nothing_lost now [] [] now refl,
       delivers_reads now [] [] now refl,
     )
