@@ -8,8 +8,8 @@ use Rattle.std.proofs.lemmas.Option.{same_Some}
 use Rattle.std.proofs.lemmas.List.{append-nil}
 use Rattle.std.proofs.lemmas.List.Folds.{list_any-append}
 use Rattle.disk_model.specs.declared.unit.Unit.{Unit}
-use Rattle.fis_view.specs.Frames.{Stamped}
-use Rattle.pm_world.specs.Places.{Places, Place, Queue, Known, opening, new_world, with_device, with_holds, with_known}
+use Rattle.pm_ports.specs.Port.{PortState}
+use Rattle.pm_world.specs.Places.{Places, Place, Queue, opening, new_world, with_device, with_port}
 use Rattle.pm_world.specs.Rules.{Outcome, CameActs, DiskSendActs, InjectActs, CameRule, DiskSendRule, InjectRule, PmPresenceRule, PmFromDeviceRule, PmUpRule, HostTakeRule, OnDevice, Rule, Run, SubmitRule, PollRule, PutRule, is_there}
 use Rattle.pm_world.specs.Traffic.{sent_by, taken_by, sent, taken}
 use Rattle.pm_world.specs.Counting.{capped, row_of, first_row, sent_more, taken_more, noted, says_came, has_come, Tell, AreOfARun}
@@ -23,7 +23,7 @@ use Rattle.pm_world.specs.declared.step.Answer.{Answer}
 use Rattle.pm_world.specs.declared.step.Answer.TheVariants as answer
 use Rattle.pm_world.proofs.Law.{nothing_lost}
 use Rattle.pm_world.proofs.Lists.{slice_get-set_same, slice_get-set_other}
-use Rattle.pm_world.proofs.Moves.{there}
+use Rattle.pm_world.proofs.Moves.{there, at_both}
 use Rattle.pm_world.proofs.Openings.{nothing_stands}
 
 -- a device is plugged in at port n, on connection c
@@ -115,28 +115,28 @@ inject_comes n given old answer.Blocked new acts = same_place n old answer.Block
 inject_comes n given old (answer.Sent port conn number bytes) new acts = place_sends n old port conn number bytes new acts.0.0 acts.1 acts.2 (ap (λ (p : Place). p.conn) acts.5)
 inject_comes n given old _ new acts = absurd acts
 
-presence_comes : (n : ℕ) (old : Place) (known : List Known) (a : Answer) (new : Place) (after : List Known) → PmPresenceRule n old known (Ok a) new after → PlaceComes n old a new
-presence_comes n old known answer.Idle new after acts = same_place n old answer.Idle new acts.1 (λ m c. refl)
-presence_comes n old known (answer.Presence port) new after acts =
-    place_stays n old (answer.Presence port) new (ap (λ (p : Place). p.plugged) acts.1) (ap (λ (p : Place). p.conn) acts.1) (λ m c. refl)
-presence_comes n old known _ new after acts = absurd acts
+presence_comes : (n : ℕ) (old : Place) (port : PortState) (a : Answer) (new : Place) (after : PortState) → PmPresenceRule n old port (Ok a) new after → PlaceComes n old a new
+presence_comes n old port answer.Idle new after acts = same_place n old answer.Idle new acts.1 (λ m c. refl)
+presence_comes n old port (answer.Presence p) new after acts =
+    place_stays n old (answer.Presence p) new (ap (λ (p : Place). p.plugged) acts.1) (ap (λ (p : Place). p.conn) acts.1) (λ m c. refl)
+presence_comes n old port _ new after acts = absurd acts
 
-from_device_comes : (n : ℕ) (old : Place) (holds : List (Option Stamped)) (a : Answer) (new : Place) (after : List (Option Stamped)) → PmFromDeviceRule n old holds (Ok a) new after → PlaceComes n old a new
-from_device_comes n old holds answer.Idle new after acts = same_place n old answer.Idle new acts.1 (λ m c. refl)
-from_device_comes n old holds answer.Blocked new after acts = same_place n old answer.Blocked new acts.2 (λ m c. refl)
-from_device_comes n old holds (answer.Offered port dropped) new after acts =
-    place_stays n old (answer.Offered port dropped) new (ap (λ (p : Place). p.plugged) acts.3) (ap (λ (p : Place). p.conn) acts.3) (λ m c. refl)
-from_device_comes n old holds _ new after acts = absurd acts
+from_device_comes : (n : ℕ) (old : Place) (port : PortState) (a : Answer) (new : Place) (after : PortState) → PmFromDeviceRule n old port (Ok a) new after → PlaceComes n old a new
+from_device_comes n old port answer.Idle new after acts = same_place n old answer.Idle new acts.1 (λ m c. refl)
+from_device_comes n old port answer.Blocked new after acts = same_place n old answer.Blocked new acts.2 (λ m c. refl)
+from_device_comes n old port (answer.Offered p dropped) new after acts =
+    place_stays n old (answer.Offered p dropped) new (ap (λ (p : Place). p.plugged) acts.3) (ap (λ (p : Place). p.conn) acts.3) (λ m c. refl)
+from_device_comes n old port _ new after acts = absurd acts
 
 -- a step of no device leaves them
 devices_stay : (old : List Place) (a : Answer) → ((m c : ℕ) → sent_by m c a ≡ []) → Comes old a old
 devices_stay old a none = record { comes = λ m c at. inr at; sends = λ m c. inl (none m c) }
 
-up_comes : (devices : List Place) (known : List Known) (holds : List (Option Stamped)) (served : ℕ) (host : Queue) (a : Answer) (after : List (Option Stamped)) (last : ℕ) (new : Queue) → PmUpRule known holds served host (Ok a) after last new → Comes devices a devices
-up_comes devices known holds served host answer.Idle after last new acts = devices_stay devices answer.Idle (λ m c. refl)
-up_comes devices known holds served host answer.Blocked after last new acts = devices_stay devices answer.Blocked (λ m c. refl)
-up_comes devices known holds served host (answer.Up port) after last new acts = devices_stay devices (answer.Up port) (λ m c. refl)
-up_comes devices known holds served host _ after last new acts = absurd acts
+up_comes : (devices : List Place) (ports : List PortState) (served : ℕ) (host : Queue) (a : Answer) (after : List PortState) (last : ℕ) (new : Queue) → PmUpRule ports served host (Ok a) after last new → Comes devices a devices
+up_comes devices ports served host answer.Idle after last new acts = devices_stay devices answer.Idle (λ m c. refl)
+up_comes devices ports served host answer.Blocked after last new acts = devices_stay devices answer.Blocked (λ m c. refl)
+up_comes devices ports served host (answer.Up port) after last new acts = devices_stay devices (answer.Up port) (λ m c. refl)
+up_comes devices ports served host _ after last new acts = absurd acts
 
 take_comes : (devices : List Place) (link : Queue) (host : Host) (a : Answer) (new : Queue) (after : Host) → HostTakeRule link host (Ok a) new after → Comes devices a devices
 take_comes devices link host answer.Idle new after acts = devices_stay devices answer.Idle (λ m c. refl)
@@ -168,12 +168,12 @@ rule_comes old (step.Came n) a new rule = on_device old n a new (CameRule n) (λ
 rule_comes old (step.DiskSend n) a new rule = on_device old n a new (DiskSendRule n) (λ place after r. sends_comes n place a after r.1) rule
 rule_comes old (step.Inject n bytes) a new rule = on_device old n a new (InjectRule n bytes) (λ place after r. inject_comes n bytes place a after r.1) rule
 rule_comes old (step.PmPresence n) a new rule =
-    let p = there old n a new (λ place. (after : Place) × PmPresenceRule n place old.known (Ok a) after new.known × (new ≡ with_known (with_device old n after) new.known)) rule in
-    rw (ap (λ (w : Places). w.devices) p.2.2) (device_comes old.devices n p.0 a p.2.0 p.1 (presence_comes n p.0 old.known a p.2.0 new.known p.2.1))
+    let p = at_both old n a new (PmPresenceRule n) rule in
+    rw (ap (λ (w : Places). w.devices) p.new_is) (device_comes old.devices n p.place a p.after p.is (presence_comes n p.place p.port a p.after p.left p.rule))
 rule_comes old (step.PmFromDevice n) a new rule =
-    let p = there old n a new (λ place. (after : Place) × PmFromDeviceRule n place old.holds (Ok a) after new.holds × (new ≡ with_holds (with_device old n after) new.holds)) rule in
-    rw (ap (λ (w : Places). w.devices) p.2.2) (device_comes old.devices n p.0 a p.2.0 p.1 (from_device_comes n p.0 old.holds a p.2.0 new.holds p.2.1))
-rule_comes old step.PmUp a new rule = rw (ap (λ (w : Places). w.devices) rule.1) (up_comes old.devices old.known old.holds old.served old.upward a new.holds new.served new.upward rule.0)
+    let p = at_both old n a new (PmFromDeviceRule n) rule in
+    rw (ap (λ (w : Places). w.devices) p.new_is) (device_comes old.devices n p.place a p.after p.is (from_device_comes n p.place p.port a p.after p.left p.rule))
+rule_comes old step.PmUp a new rule = rw (ap (λ (w : Places). w.devices) rule.1) (up_comes old.devices old.ports old.served old.upward a new.ports new.served new.upward rule.0)
 rule_comes old step.HostTake a new rule = rw (ap (λ (w : Places). w.devices) rule.1) (take_comes old.devices old.upward old.host a new.upward new.host rule.0)
 rule_comes old (step.Submit dev request) a new rule = rw (ap (λ (w : Places). w.devices) rule.1) (submit_comes old.devices (is_there old dev) request old.host a new.host rule.0)
 rule_comes old step.Poll a new rule = rw (ap (λ (w : Places). w.devices) rule.1) (poll_comes old.devices old.host a new.host rule.0)

@@ -4,7 +4,7 @@ use Rattle.std.specs.Prelude.{Ok}
 use Rattle.pm_world.specs.Host.{Host}
 use Rattle.pm_world.specs.Deeds.{Deed, Submitted, Polled, Put, Took, Does, DoesAll, Polls, completion_of, after_poll}
 use Rattle.pm_world.specs.Delivery.{deed_of, deeds_of, DeliversReads}
-use Rattle.pm_world.specs.Places.{Places, Place, Queue, new_world, with_device, with_holds, with_known}
+use Rattle.pm_world.specs.Places.{Places, Place, Queue, new_world, with_device}
 use Rattle.pm_world.specs.Rules.{Outcome, Rule, Run, OnDevice, CameRule, DiskSendRule, InjectRule, PmPresenceRule, PmFromDeviceRule, HostTakeRule, SubmitRule, PollRule, PutRule, is_there}
 use Rattle.pm_world.specs.declared.host.Slot.{Slot}
 use Rattle.pm_world.specs.declared.host.Slot.TheVariants as slot
@@ -13,7 +13,7 @@ use Rattle.pm_world.specs.declared.step.Step.{Step}
 use Rattle.pm_world.specs.declared.step.Step.TheVariants as step
 use Rattle.pm_world.specs.declared.step.Answer.{Answer}
 use Rattle.pm_world.specs.declared.step.Answer.TheVariants as answer
-use Rattle.pm_world.proofs.Moves.{there}
+use Rattle.pm_world.proofs.Moves.{there, at_both}
 use Rattle.pm_world.proofs.ReadLaws.{completes_once, delivers}
 
 -- deeds, and then deeds
@@ -71,12 +71,8 @@ pub rule_does : (old : Places) (s : Step) (a : Answer) (new : Places) → Rule o
 rule_does old (step.Came n) a new rule = on_device_host old n a new (CameRule n) rule
 rule_does old (step.DiskSend n) a new rule = on_device_host old n a new (DiskSendRule n) rule
 rule_does old (step.Inject n bytes) a new rule = on_device_host old n a new (InjectRule n bytes) rule
-rule_does old (step.PmPresence n) a new rule =
-    let p = there old n a new (λ place. (after : Place) × PmPresenceRule n place old.known (Ok a) after new.known × (new ≡ with_known (with_device old n after) new.known)) rule in
-    ap (λ (w : Places). w.host) p.2.2
-rule_does old (step.PmFromDevice n) a new rule =
-    let p = there old n a new (λ place. (after : Place) × PmFromDeviceRule n place old.holds (Ok a) after new.holds × (new ≡ with_holds (with_device old n after) new.holds)) rule in
-    ap (λ (w : Places). w.host) p.2.2
+rule_does old (step.PmPresence n) a new rule = ap (λ (w : Places). w.host) (at_both old n a new (PmPresenceRule n) rule).new_is
+rule_does old (step.PmFromDevice n) a new rule = ap (λ (w : Places). w.host) (at_both old n a new (PmFromDeviceRule n) rule).new_is
 rule_does old step.PmUp a new rule = ap (λ (w : Places). w.host) rule.1
 rule_does old step.HostTake a new rule = take_does old.upward old.host a new.upward new.host rule.0
 rule_does old (step.Submit dev request) a new rule = submit_does (is_there old dev) dev request old.host a new.host rule.0

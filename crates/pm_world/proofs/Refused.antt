@@ -4,8 +4,9 @@ use Rattle.std.specs.Prelude.{slice_get, Ok, Err, MatchOption, unwrap_or, if◌t
 use Rattle.std.specs.Option.{option_map_or}
 use Rattle.std.proofs.lemmas.Option.{same_Some}
 use Rattle.fis_view.specs.Frames.{is_frame}
-use Rattle.pm_world.specs.Places.{Places, Place, with_device, with_holds, with_known}
-use Rattle.pm_world.specs.Rules.{Outcome, Refuses, came_refusal, send_refusal, inject_refusal, no_refusal, port_refusal, refusal, CameRule, DiskSendRule, InjectRule, OnDevice, AtPort, SubmitRule, is_there, Rule, largest}
+use Rattle.pm_ports.specs.Port.{PortState}
+use Rattle.pm_world.specs.Places.{Places, Place, with_device, with_port}
+use Rattle.pm_world.specs.Rules.{Outcome, Refuses, came_refusal, send_refusal, inject_refusal, no_refusal, port_refusal, refusal, CameRule, DiskSendRule, InjectRule, PmPresenceRule, PmFromDeviceRule, OnDevice, OnDeviceAndPort, SubmitRule, is_there, Rule, largest}
 use Rattle.host_memory.specs.Memory.{client_start}
 use Rattle.pm_world.specs.Host.{Host, end_of}
 use Rattle.pm_world.specs.Deeds.{put_refusal, in_use}
@@ -107,24 +108,29 @@ submit_wants there request error.OutOfMemory host after r = refl
 submit_wants there request _ host after r = absurd r
 
 -- a step at a port that is refused where there is no such port, and nowhere else
-at_port_refuses : (old : Places) (n : ℕ) (e : StepError) (new : Places) (Leaves : Place → Place → Type 0) → AtPort old n (Err e) new (λ place. (after : Place) × ⊥ × Leaves place after) → Refuses (port_refusal old n no_refusal) e
-at_port_refuses old n e new Leaves h = by_cases (slice_get old.devices n) h
+both_refuses : (old : Places) (n : ℕ) (e : StepError) (new : Places) (R : Place → PortState → Outcome → Place → PortState → Type 0)
+    → ((place after : Place) (port left : PortState) → R place port (Err e) after left → ⊥) → OnDeviceAndPort old n (Err e) new R → Refuses (port_refusal old n no_refusal) e
+both_refuses old n e new R never h = by_cases (slice_get old.devices n) h
   where
     at : StepError → Outcome → Type 0
     at v (Err w) = Refuses (Some v) w
     at v (Ok a) = Unit {0}
 
-    by_cases : (o : Option Place) → MatchOption o ((◌≡◌ {A = Outcome} (Err e) (Err error.NoSuchPort)) × (new ≡ old)) (λ place. (after : Place) × ⊥ × Leaves place after) → Refuses (option_map_or no_refusal o (Some error.NoSuchPort)) e
+    with_ports_there : (place : Place) (p : Option PortState) → MatchOption p ⊥ (λ port. (after : Place) × (left : PortState) × R place port (Err e) after left × (new ≡ with_port (with_device old n after) n left)) → Refuses None e
+    with_ports_there place None h = absurd h
+    with_ports_there place (Some port) h = absurd (never place h.0 port h.1 h.2)
+
+    by_cases : (o : Option Place) → MatchOption o ((◌≡◌ {A = Outcome} (Err e) (Err error.NoSuchPort)) × (new ≡ old)) (λ place. MatchOption (slice_get old.ports n) ⊥ (λ port. (after : Place) × (left : PortState) × R place port (Err e) after left × (new ≡ with_port (with_device old n after) n left))) → Refuses (option_map_or no_refusal o (Some error.NoSuchPort)) e
     by_cases None h = subst (λ (w : Outcome). at error.NoSuchPort w) (sym h.0) refl
-    by_cases (Some place) h = absurd h.1
+    by_cases (Some place) h = with_ports_there place (slice_get old.ports n) h
 
 -- the error that a step gives is its first refusal, or want of memory where none applies
 pub rule_refuses : (old : Places) (s : Step) (e : StepError) (new : Places) → Rule old s (Err e) new → Refuses (refusal old s) e
 rule_refuses old (step.Came n) e new rule = on_device_refuses old n e new (CameRule n) came_refusal (λ place after r. r.0) rule
 rule_refuses old (step.DiskSend n) e new rule = on_device_refuses old n e new (DiskSendRule n) send_refusal (λ place after r. r.0) rule
 rule_refuses old (step.Inject n bytes) e new rule = on_device_refuses old n e new (InjectRule n bytes) (inject_refusal bytes) (λ place after r. r.0) rule
-rule_refuses old (step.PmPresence n) e new rule = at_port_refuses old n e new (λ place after. new ≡ with_known (with_device old n after) new.known) rule
-rule_refuses old (step.PmFromDevice n) e new rule = at_port_refuses old n e new (λ place after. new ≡ with_holds (with_device old n after) new.holds) rule
+rule_refuses old (step.PmPresence n) e new rule = both_refuses old n e new (PmPresenceRule n) (λ place after port left r. r) rule
+rule_refuses old (step.PmFromDevice n) e new rule = both_refuses old n e new (PmFromDeviceRule n) (λ place after port left r. r) rule
 rule_refuses old step.PmUp e new rule = absurd rule.0
 rule_refuses old step.HostTake e new rule = absurd rule.0
 rule_refuses old (step.Submit dev request) e new rule = submit_wants (is_there old dev) request e old.host new.host rule.0

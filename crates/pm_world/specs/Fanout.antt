@@ -1,23 +1,32 @@
--- The fan-out ports of the world's multiplier, as its other parts see them.
-use Rattle.std.specs.Prelude.{ℕ, List, map, Option}
+-- The fan-out ports of the world's multiplier, as its other parts see them (Serial ATA 3.x, port multiplier).
+use Rattle.std.specs.Prelude.{ℕ, ◌≡◌, List, map, Some, None, slice_get, slice_set, slice_index_or}
 use Rattle.fis_view.specs.Frames.{Stamped}
 use Rattle.disk_model.specs.declared.unit.Unit.{Unit}
-use Rattle.pm_ports.specs.Port.{PortState}
+use Rattle.pm_ports.specs.Port.{PortState, empty_port, with_up}
 use Rattle.multiplier.specs.Arbiter.{control_port}
-use Rattle.pm_world.specs.Places.{Known, empty_hold, knows_nobody}
+use Rattle.pm_world.specs.Places.{opening_port, rising}
 
--- what each port holds and what it knows of its device, and the place that was served last
+-- the ports, and the place that was served last
 pub record FanoutState : Type 0 where
-  pub holds : List (Option Stamped)
-  pub known : List Known
+  pub ports : List PortState
   pub served : ℕ
 
-abbrev pub hold_of : PortState → Option Stamped
-hold_of port = port.up
+-- port n; where there is none, one to which no device came
+abbrev pub port_at : List PortState → ℕ → PortState
+port_at ports n = slice_index_or ports n empty_port
 
-abbrev pub known_of : PortState → Known
-known_of port = record { present = port.present; last = port.last }
+abbrev pub with_port_at : FanoutState → ℕ → PortState → FanoutState
+with_port_at old n port = record { ports = slice_set old.ports n port; served = old.served }
 
 -- of a new world
 abbrev pub opening_fanout : List Unit → FanoutState
-opening_fanout units = record { holds = map empty_hold units; known = map knows_nobody units; served = control_port }
+opening_fanout units = record { ports = map opening_port units; served = control_port }
+
+-- The frame that port n held goes up, marked; its upward place is empty, and it was served last.
+pub record GoesUp (old : FanoutState) (n : ℕ) (risen : Stamped) (new : FanoutState) : Type 0 where
+  pub port : PortState
+  pub frame : Stamped
+  pub there : slice_get old.ports n ≡ Some port
+  pub held : port.up ≡ Some frame
+  pub risen_is : risen ≡ rising n frame
+  pub after : new ≡ record { ports = slice_set old.ports n (with_up port None); served = n }

@@ -1,6 +1,7 @@
 -- Where frames stand in a world, as its callers see it.
-use Rattle.std.specs.Prelude.{ℕ, ◌+◌, ◌≡◌, ◌%◌, ◌==◌, ◌&&◌, nat_le, Bool, false, List, [], ◌∷◌, ◌++◌, length, map, Option, None, slice_set, replicate}
+use Rattle.std.specs.Prelude.{ℕ, ◌+◌, ◌≡◌, ◌%◌, ◌==◌, ◌&&◌, nat_le, Bool, false, List, [], ◌∷◌, ◌++◌, length, map, slice_set, replicate}
 use Rattle.fis_view.specs.Frames.{Stamped, marked}
+use Rattle.pm_ports.specs.Port.{PortState, empty_port}
 use Rattle.multiplier.specs.Arbiter.{control_port}
 use Rattle.disk_model.specs.declared.unit.Unit.{Unit}
 use Rattle.host_memory.specs.Memory.{zeroed}
@@ -40,21 +41,11 @@ pub record Place : Type 0 where
   pub up : Queue
   pub presence : Comings
 
--- what a port of the multiplier knows of its device: the connection that is present, and the highest that came, 0 for none
-pub record Known : Type 0 where
-  pub present : Option ℕ
-  pub last : ℕ
-
--- of a port to which no device came
-abbrev pub nobody : Known
-nobody = record { present = None; last = 0 }
-
--- a world: the place at each fan-out port, what each port of the multiplier holds and what it knows, the place that
--- was served last, the link to the host, and the host
+-- a world: the place at each fan-out port, the multiplier's fan-out ports, the place that was served last, the link to
+-- the host, and the host
 pub record Places : Type 0 where
   pub devices : List Place
-  pub holds : List (Option Stamped)
-  pub known : List Known
+  pub ports : List PortState
   pub served : ℕ
   pub upward : Queue
   pub host : Host
@@ -95,11 +86,11 @@ rising port frame = record {
 abbrev pub with_device : Places → ℕ → Place → Places
 with_device old n place = record old { devices = slice_set old.devices n place }
 
-abbrev pub with_holds : Places → List (Option Stamped) → Places
-with_holds old holds = record old { holds = holds }
+abbrev pub with_ports : Places → List PortState → Places
+with_ports old ports = record old { ports = ports }
 
-abbrev pub with_known : Places → List Known → Places
-with_known old known = record old { known = known }
+abbrev pub with_port : Places → ℕ → PortState → Places
+with_port old n port = with_ports old (slice_set old.ports n port)
 
 abbrev pub with_served : Places → ℕ → Places
 with_served old served = record old { served = served }
@@ -121,20 +112,15 @@ opening capacity unit = record {
   presence = record { conns = []; capacity = capacity };
 }
 
--- the hold of a unit's port in a new world
-abbrev pub empty_hold : Unit → Option Stamped
-empty_hold unit = None
-
--- and what it knows
-abbrev pub knows_nobody : Unit → Known
-knows_nobody unit = nobody
+-- and its port
+abbrev pub opening_port : Unit → PortState
+opening_port unit = empty_port
 
 -- a new world of these units, in which port 0 is served first
 abbrev pub new_world : Config → List Unit → Places
 new_world config units = record {
   devices = map (opening config.capacity) units;
-  holds = map empty_hold units;
-  known = map knows_nobody units;
+  ports = map opening_port units;
   served = control_port;
   upward = record { frames = []; capacity = config.capacity };
   host = record { memory = zeroed config.memory; given = 0; slot = Free };

@@ -3,14 +3,15 @@
 -- Of each step the refusals are tested first, in their order; then it is Idle where it reads from an
 -- empty link or from a unit that is not plugged in; then Blocked where the place it writes to is full;
 -- and only then may it want memory, or find that its source has nothing.
-use Rattle.std.specs.Prelude.{ℕ, ◌+◌, ◌≡◌, ◌≢◌, ◌<◌, ◌==◌, ◌&&◌, length, not, Bool, true, false, IsTrue, if◌then◌else◌, List, [], ◌∷◌, Option, Some, None, is_some, is_none, MatchOption, Result, Ok, Err, IsSomeAnd, slice_get, slice_index_or, slice_set, take}
+use Rattle.std.specs.Prelude.{ℕ, ◌+◌, ◌≡◌, ◌≢◌, ◌<◌, ◌==◌, ◌&&◌, length, not, Bool, true, false, IsTrue, if◌then◌else◌, List, [], ◌∷◌, Option, Some, None, is_some, is_none, MatchOption, Result, Ok, Err, IsSomeAnd, slice_get, slice_set, take}
 use Rattle.std.specs.Option.{option_map_or}
 use Rattle.fis_view.specs.Frames.{Stamped, is_frame}
 use Rattle.disk_model.specs.Histories.{Plugged}
 use Rattle.disk_model.specs.Units.{UnitGoesOn, UnitSends, UnitIsSilent}
-use Rattle.pm_ports.specs.Port.{PortState, came_refusal as port_came_refusal, rises}
+use Rattle.pm_ports.specs.Port.{PortState, came_refusal as port_came_refusal, next_up, with_connection, with_up}
 use Rattle.multiplier.specs.Arbiter.{next_served}
-use Rattle.pm_world.specs.Places.{Places, Place, Queue, Known, nobody, IsFull, AreFull, IsTold, pushed, posted, after_sending, rising, with_device, with_holds, with_known, with_served, with_upward, with_host}
+use Rattle.pm_world.specs.Places.{Places, Place, Queue, IsFull, AreFull, IsTold, pushed, posted, after_sending, rising, with_device, with_port, with_ports, with_served, with_upward, with_host}
+use Rattle.pm_world.specs.Fanout.{port_at}
 use Rattle.pm_world.specs.Host.{Host, submit_refusal, Submits}
 use Rattle.pm_world.specs.Deeds.{Takes, PutsBytes, completion_of, after_poll, put_refusal}
 use Rattle.pm_world.specs.declared.request.Request.{Request}
@@ -105,49 +106,49 @@ abbrev pub InjectRule : ℕ → List ℕ → Place → Outcome → Place → Typ
 InjectRule port given old (Ok a) new = (inject_refusal given old ≡ None) × InjectActs port given old a new
 InjectRule port given old (Err e) new = Refuses (inject_refusal given old) e × SendWants old e × (new ≡ old)
 
--- what a port knows after a connection was read off its presence link; one that it refuses changes nothing
-abbrev pub port_of : Known → PortState
-port_of known = record { present = known.present; last = known.last; up = None; down = None }
-
-abbrev pub recorded : Known → ℕ → Known
-recorded known conn = if is_none (port_came_refusal (port_of known) conn) then record { present = Some conn; last = conn } else known
+-- a port after a connection was read off its presence link; one that it refuses changes nothing
+abbrev pub recorded : PortState → ℕ → PortState
+recorded port conn = if is_none (port_came_refusal port conn) then with_connection port conn else port
 
 -- The first connection on a presence link is recorded by its port.
-abbrev pub PmPresenceRule : ℕ → Place → List Known → Outcome → Place → List Known → Type 0
-PmPresenceRule n old known (Ok answer.Idle) new after = (old.presence.conns ≡ []) × (new ≡ old) × (after ≡ known)
-PmPresenceRule n old known (Ok (answer.Presence port)) new after =
-    (port ≡ n)
+abbrev pub PmPresenceRule : ℕ → Place → PortState → Outcome → Place → PortState → Type 0
+PmPresenceRule n old port (Ok answer.Idle) new after = (old.presence.conns ≡ []) × (new ≡ old) × (after ≡ port)
+PmPresenceRule n old port (Ok (answer.Presence p)) new after =
+    (p ≡ n)
     × (new ≡ record old { presence = record old.presence { conns = new.presence.conns } })
-    × ((conn : ℕ) × (old.presence.conns ≡ conn ∷ new.presence.conns) × (after ≡ slice_set known n (recorded (slice_index_or known n nobody) conn)))
-PmPresenceRule n old known _ new after = ⊥
+    × ((conn : ℕ) × (old.presence.conns ≡ conn ∷ new.presence.conns) × (after ≡ recorded port conn))
+PmPresenceRule n old port _ new after = ⊥
 
--- The first frame of a device's link goes into the hold of its port.
-abbrev pub PmFromDeviceRule : ℕ → Place → List (Option Stamped) → Outcome → Place → List (Option Stamped) → Type 0
-PmFromDeviceRule n old holds (Ok answer.Idle) new after = (old.up.frames ≡ []) × (new ≡ old) × (after ≡ holds)
-PmFromDeviceRule n old holds (Ok answer.Blocked) new after = (old.up.frames ≢ []) × (slice_get holds n ≢ Some None) × (new ≡ old) × (after ≡ holds)
-PmFromDeviceRule n old holds (Ok (answer.Offered port dropped)) new after =
-    (port ≡ n) × (dropped ≡ false) × (slice_get holds n ≡ Some None)
+-- The first frame of a device's link goes into the empty upward place of its port.
+abbrev pub PmFromDeviceRule : ℕ → Place → PortState → Outcome → Place → PortState → Type 0
+PmFromDeviceRule n old port (Ok answer.Idle) new after = (old.up.frames ≡ []) × (new ≡ old) × (after ≡ port)
+PmFromDeviceRule n old port (Ok answer.Blocked) new after =
+    (old.up.frames ≢ []) × (port.up ≢ None) × (new ≡ old) × (after ≡ port)
+PmFromDeviceRule n old port (Ok (answer.Offered p dropped)) new after =
+    (p ≡ n) × (dropped ≡ false) × (port.up ≡ None)
     × (new ≡ record old { up = record old.up { frames = new.up.frames } })
-    × ((frame : Stamped) × (old.up.frames ≡ frame ∷ new.up.frames) × (after ≡ slice_set holds n (Some frame)))
-PmFromDeviceRule n old holds _ new after = ⊥
+    × ((frame : Stamped) × (old.up.frames ≡ frame ∷ new.up.frames) × (after ≡ with_up port (Some frame)))
+PmFromDeviceRule n old port _ new after = ⊥
 
 -- whether a port has a frame for the host: every port forwards, and the frame is of the connection that is present
-abbrev pub is_ready : List Known → List (Option Stamped) → ℕ → Bool
-is_ready known holds n = is_some (rises true (slice_index_or known n nobody).present (slice_index_or holds n None))
+abbrev pub is_ready : List PortState → ℕ → Bool
+is_ready ports n = is_some (next_up true (port_at ports n))
 
 -- the port that is served next
-abbrev pub next_port : List Known → List (Option Stamped) → ℕ → Option ℕ
-next_port known holds served = next_served served (is_ready known holds)
+abbrev pub next_port : List PortState → ℕ → Option ℕ
+next_port ports served = next_served served (is_ready ports)
 
 -- The frame of the port that is served next goes on the link to the host.
-abbrev pub PmUpRule : List Known → List (Option Stamped) → ℕ → Queue → Outcome → List (Option Stamped) → ℕ → Queue → Type 0
-PmUpRule known holds served upward (Ok answer.Idle) after last new =
-    (¬ IsFull upward) × (next_port known holds served ≡ None) × (after ≡ holds) × (last ≡ served) × (new ≡ upward)
-PmUpRule known holds served upward (Ok answer.Blocked) after last new = IsFull upward × (after ≡ holds) × (last ≡ served) × (new ≡ upward)
-PmUpRule known holds served upward (Ok (answer.Up port)) after last new =
-    (¬ IsFull upward) × (next_port known holds served ≡ Some port) × (last ≡ port)
-    × ((frame : Stamped) × (slice_get holds port ≡ Some (Some frame)) × (after ≡ slice_set holds port None) × (new ≡ pushed upward (rising port frame)))
-PmUpRule known holds served upward _ after last new = ⊥
+abbrev pub PmUpRule : List PortState → ℕ → Queue → Outcome → List PortState → ℕ → Queue → Type 0
+PmUpRule ports served upward (Ok answer.Idle) after last new =
+    (¬ IsFull upward) × (next_port ports served ≡ None) × (after ≡ ports) × (last ≡ served) × (new ≡ upward)
+PmUpRule ports served upward (Ok answer.Blocked) after last new =
+    IsFull upward × (after ≡ ports) × (last ≡ served) × (new ≡ upward)
+PmUpRule ports served upward (Ok (answer.Up n)) after last new =
+    (¬ IsFull upward) × (next_port ports served ≡ Some n) × (last ≡ n)
+    × ((port : PortState) × (frame : Stamped) × (slice_get ports n ≡ Some port) × (port.up ≡ Some frame)
+        × (after ≡ slice_set ports n (with_up port None)) × (new ≡ pushed upward (rising n frame)))
+PmUpRule ports served upward _ after last new = ⊥
 
 -- The host takes the first frame of its link.
 abbrev pub HostTakeRule : Queue → Host → Outcome → Queue → Host → Type 0
@@ -192,26 +193,22 @@ AtPort old n outcome new R = MatchOption (slice_get old.devices n) ((outcome ≡
 abbrev pub OnDevice : Places → ℕ → Outcome → Places → (Place → Outcome → Place → Type 0) → Type 0
 OnDevice old n outcome new R = AtPort old n outcome new (λ place. (after : Place) × R place outcome after × (new ≡ with_device old n after))
 
--- a step of device n and the multiplier
-abbrev pub OnDeviceAndMultiplier : Places → ℕ → Outcome → Places → (Place → List (Option Stamped) → Outcome → Place → List (Option Stamped) → Type 0) → Type 0
-OnDeviceAndMultiplier old n outcome new R =
-    AtPort old n outcome new (λ place. (after : Place) × R place old.holds outcome after new.holds × (new ≡ with_holds (with_device old n after) new.holds))
-
--- a step of device n and what the multiplier knows
-abbrev pub OnDeviceAndKnown : Places → ℕ → Outcome → Places → (Place → List Known → Outcome → Place → List Known → Type 0) → Type 0
-OnDeviceAndKnown old n outcome new R =
-    AtPort old n outcome new (λ place. (after : Place) × R place old.known outcome after new.known × (new ≡ with_known (with_device old n after) new.known))
+-- a step of device n and its port of the multiplier
+abbrev pub OnDeviceAndPort : Places → ℕ → Outcome → Places → (Place → PortState → Outcome → Place → PortState → Type 0) → Type 0
+OnDeviceAndPort old n outcome new R =
+    AtPort old n outcome new (λ place. MatchOption (slice_get old.ports n) ⊥ (λ port.
+    (after : Place) × (left : PortState) × R place port outcome after left × (new ≡ with_port (with_device old n after) n left)))
 
 -- what a step may give, and what it leaves
 abbrev pub Rule : Places → Step → Outcome → Places → Type 0
 Rule old (step.Came n) outcome new = OnDevice old n outcome new (CameRule n)
 Rule old (step.DiskSend n) outcome new = OnDevice old n outcome new (DiskSendRule n)
 Rule old (step.Inject n bytes) outcome new = OnDevice old n outcome new (InjectRule n bytes)
-Rule old (step.PmPresence n) outcome new = OnDeviceAndKnown old n outcome new (PmPresenceRule n)
-Rule old (step.PmFromDevice n) outcome new = OnDeviceAndMultiplier old n outcome new (PmFromDeviceRule n)
+Rule old (step.PmPresence n) outcome new = OnDeviceAndPort old n outcome new (PmPresenceRule n)
+Rule old (step.PmFromDevice n) outcome new = OnDeviceAndPort old n outcome new (PmFromDeviceRule n)
 Rule old step.PmUp outcome new =
-    PmUpRule old.known old.holds old.served old.upward outcome new.holds new.served new.upward
-    × (new ≡ with_upward (with_served (with_holds old new.holds) new.served) new.upward)
+    PmUpRule old.ports old.served old.upward outcome new.ports new.served new.upward
+    × (new ≡ with_upward (with_served (with_ports old new.ports) new.served) new.upward)
 Rule old step.HostTake outcome new = HostTakeRule old.upward old.host outcome new.upward new.host × (new ≡ with_host (with_upward old new.upward) new.host)
 Rule old (step.Submit dev request) outcome new = SubmitRule (is_there old dev) request old.host outcome new.host × (new ≡ with_host old new.host)
 Rule old step.Poll outcome new = PollRule old.host outcome new.host × (new ≡ with_host old new.host)

@@ -2,6 +2,7 @@
 use Rattle.std.specs.Prelude.{ℕ, ◌≡◌, ◌==◌, ◌&&◌, if◌then◌else◌, List, [], ◌∷◌, ◌++◌, map, filter, Option, Some, None, slice_get, option_to_list}
 use Rattle.std.specs.List.{flat_map}
 use Rattle.fis_view.specs.Frames.{Stamped, marked}
+use Rattle.pm_ports.specs.Port.{PortState}
 use Rattle.pm_world.specs.Places.{Places, Place}
 use Rattle.pm_world.specs.declared.step.Answer.{Answer}
 use Rattle.pm_world.specs.declared.step.Answer.TheVariants as answer
@@ -36,10 +37,10 @@ stamped n c frames = map (λ f. f.bytes) (filter (λ f. f.stamp.port == n && f.s
 abbrev pub of_conn : ℕ → List Stamped → List (List ℕ)
 of_conn c frames = map (λ f. f.bytes) (filter (λ f. f.stamp.conn == c) frames)
 
--- what a port of the multiplier holds
-abbrev pub held : Option (Option Stamped) → List Stamped
+-- what a port of the multiplier holds on its way up
+abbrev pub held : Option PortState → List Stamped
 held None = []
-held (Some hold) = option_to_list hold
+held (Some port) = option_to_list port.up
 
 -- what is on a device's link
 abbrev pub on_link : Option Place → List Stamped
@@ -48,7 +49,7 @@ on_link (Some place) = place.up.frames
 
 -- what waits at port n, oldest first: what it holds, and then the device's link
 abbrev pub waiting : ℕ → Places → List Stamped
-waiting n places = held (slice_get places.holds n) ++ on_link (slice_get places.devices n)
+waiting n places = held (slice_get places.ports n) ++ on_link (slice_get places.devices n)
 
 -- what is on its way from connection c of port n to the host, oldest first: on the host's link, and then at the port, marked
 abbrev pub transit : ℕ → ℕ → Places → List (List ℕ)

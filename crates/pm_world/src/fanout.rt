@@ -1,8 +1,8 @@
-ghost use Rattle.std.specs.Prelude.{◌≡◌, ◌≢◌, ◌↔◌, ◌<◌, ◌≤◌, IsTrue, true, Some, None, MatchOption, IfOk, is_some, length, map, vec_len, slice_get, slice_index_or, slice_set};
-ghost use Rattle.fis_view.specs.Frames.{Stamped};
+ghost use Rattle.std.specs.Prelude.{◌≡◌, ◌<◌, ◌≤◌, true, Some, None, MatchOption, IfOk, is_none, length, option_map, vec_len};
+ghost use Rattle.pm_ports.specs.Port.{with_up};
 ghost use Rattle.multiplier.specs.Arbiter.{control_port};
-ghost use Rattle.pm_world.specs.Fanout.{opening_fanout};
-ghost use Rattle.pm_world.specs.Places.{nobody, rising};
+ghost use Rattle.pm_world.specs.Fanout.{opening_fanout, port_at, with_port_at, GoesUp};
+ghost use Rattle.pm_world.specs.Places.{rising};
 ghost use Rattle.pm_world.specs.Rules.{is_ready, next_port, recorded};
 
 use disk_model::Unit;
@@ -22,12 +22,12 @@ pub struct Fanout {
 }
 
 impl Model for Fanout {
-    ghost use Rattle.std.specs.Prelude.{length, map, ◌≤◌};
-    ghost use Rattle.pm_world.specs.Fanout.{FanoutState, hold_of, known_of};
+    ghost use Rattle.std.specs.Prelude.{length, ◌≤◌};
+    ghost use Rattle.pm_world.specs.Fanout.{FanoutState};
 
     ghost Value = { FanoutState };
 
-    ghost view = { λ m. record { holds = map hold_of m.ports.items; known = map known_of m.ports.items; served = m.served } };
+    ghost view = { λ m. record { ports = m.ports.items; served = m.served } };
 
     ghost invariant = { λ m. (length m.ports.items ≤ 15) × (m.served ≤ 15) };
 }
@@ -50,25 +50,25 @@ impl Fanout {
 
     /// Has port n record that a connection came. One that the port refuses changes nothing.
     pub fn came(&mut self, n: u8, conn: u32)
-        requires { n < length self.old.known }
-        ensures { self.new ≡ record self.old { known = slice_set self.old.known n (recorded (slice_index_or self.old.known n nobody) conn) } }
+        requires { n < length self.old.ports }
+        ensures { self.new ≡ with_port_at self.old n (recorded (port_at self.old.ports n) conn) }
     {
         let _ = self.ports[n as usize].came(conn);
     }
 
-    /// Whether port n holds a frame.
-    pub fn holds(&self, n: u8) -> bool
-        requires { n < length self.now.holds }
-        ensures { IsTrue result ↔ (slice_get self.now.holds n ≢ Some None) }
+    /// Whether the upward place of port n is empty.
+    pub fn wants(&self, n: u8) -> bool
+        requires { n < length self.now.ports }
+        ensures { result ≡ is_none (port_at self.now.ports n).up }
     {
-        !self.ports[n as usize].wants()
+        self.ports[n as usize].wants()
     }
 
     /// Keeps a frame of the device at port n.
     pub fn hold(&mut self, n: u8, frame: Frame)
-        requires there { n < length self.old.holds }
-        requires empty { slice_get self.old.holds n ≡ Some None }
-        ensures { self.new ≡ record self.old { holds = slice_set self.old.holds n (Some frame) } }
+        requires there { n < length self.old.ports }
+        requires empty { (port_at self.old.ports n).up ≡ None }
+        ensures { self.new ≡ with_port_at self.old n (with_up (port_at self.old.ports n) (Some frame)) }
     {
         match self.ports[n as usize].offer(frame) {
             Ok(Offered::Held) => {}
@@ -78,7 +78,7 @@ impl Fanout {
 
     /// Whether port n has a frame for the host.
     fn is_ready(&self, n: u8) -> bool
-        ensures { result ≡ is_ready self.now.known self.now.holds n }
+        ensures { result ≡ is_ready self.now.ports n }
     {
         match self.ports.get(n as usize) {
             None => false,
@@ -88,7 +88,7 @@ impl Fanout {
 
     /// The port that is served next.
     fn next_port(&self) -> Option<u8>
-        ensures value { result ≡ next_port self.now.known self.now.holds self.now.served }
+        ensures value { result ≡ next_port self.now.ports self.now.served }
         ensures served { self.now.served ≤ control_port }
     {
         (self.served + 1..16)
@@ -98,8 +98,8 @@ impl Fanout {
 
     /// Gives the frame of the port that is served next, marked with the port.
     pub fn next_up(&mut self) -> Option<(u8, Frame)>
-        ensures none { MatchOption result (next_port self.old.known self.old.holds self.old.served ≡ None) (λ up. (next_port self.old.known self.old.holds self.old.served ≡ Some up.0) × ((frame : Stamped) × (slice_get self.old.holds up.0 ≡ Some (Some frame)) × (up.1 ≡ rising up.0 frame))) }
-        ensures after { MatchOption result (self.new ≡ self.old) (λ up. self.new ≡ record self.old { holds = slice_set self.old.holds up.0 None; served = up.0 }) }
+        ensures next { option_map (λ up. up.0) result ≡ next_port self.old.ports self.old.served }
+        ensures given { MatchOption result (self.new ≡ self.old) (λ up. GoesUp self.old up.0 up.1 self.new) }
     {
         let port = self.next_port()?;
         let frame = self.take_ready(port);
@@ -109,10 +109,10 @@ impl Fanout {
 
     /// Takes the frame of a port that is ready.
     fn take_ready(&mut self, n: u8) -> Frame
-        requires { is_ready self.old.known self.old.holds n ≡ true }
+        requires { is_ready self.old.ports n ≡ true }
         ensures there { n < control_port }
-        ensures held { slice_get self.old.holds n ≡ Some (Some result) }
-        ensures after { self.new ≡ record self.old { holds = slice_set self.old.holds n None } }
+        ensures held { (port_at self.old.ports n).up ≡ Some result }
+        ensures after { self.new ≡ with_port_at self.old n (with_up (port_at self.old.ports n) None) }
     {
         match self.ports[n as usize].take_held(true) {
             Some(frame) => frame,

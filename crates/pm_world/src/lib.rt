@@ -15,7 +15,6 @@ mod step;
 mod world;
 
 pub use counts::{ConnCount, Counts};
-pub use host::{Host, Read, Slot, Transfer};
 pub use request::{Completion, Outcome, Request, SubmitError, TakeReport, Ticket, Work};
 pub use step::{Answer, Config, Step, StepError, WorldError};
 pub use world::World;

@@ -1,5 +1,6 @@
 ghost use Rattle.std.specs.Prelude.{◌≡◌, ◌≢◌, ◌↔◌, ◌<◌, ℕ, true, false, [], map, IfOk, IfErr, OnOk, OnErr, IsErrOf, Result, Ok, Err, MatchResult, List, length, IsSomeAnd, slice_get, take};
 ghost use Rattle.pm_world.specs.Places.{Places, opening, new_world, is_config};
+ghost use Rattle.pm_world.specs.Fanout.{port_at, with_port_at};
 ghost use Rattle.pm_world.specs.Rules.{PmFromDeviceRule, PmPresenceRule, Rule, Run, Stops, refusal, is_there};
 ghost use Rattle.host_memory.specs.Memory.{is_memory_size, zeroed};
 ghost use Rattle.pm_world.specs.Traffic.{transit, NothingLost};
@@ -34,9 +35,9 @@ impl Model for World {
 
     ghost Value = { Places };
 
-    ghost view = { λ w. record { devices = w.seats.items; holds = w.fanout.holds; known = w.fanout.known; served = w.fanout.served; upward = w.upward; host = w.host } };
+    ghost view = { λ w. record { devices = w.seats.items; ports = w.fanout.ports; served = w.fanout.served; upward = w.upward; host = w.host } };
 
-    ghost invariant = { λ w. (length w.fanout.holds ≡ length w.seats.items) × (length w.fanout.known ≡ length w.seats.items) };
+    ghost invariant = { λ w. length w.fanout.ports ≡ length w.seats.items };
 }
 
 impl World {
@@ -302,9 +303,9 @@ fn seats_of(alloc: Global, capacity: usize, mut units: Vec<Unit>) -> Result<Vec<
 
 /// Has port n record the first connection on its presence link.
 fn record(n: u8, seat: &mut Seat, fanout: &mut Fanout) -> Answer
-    requires { n < length fanout.old.known }
-    ensures rule { PmPresenceRule n seat.old fanout.old.known (Ok result) seat.new fanout.new.known }
-    ensures others { fanout.new ≡ record fanout.old { known = fanout.new.known } }
+    requires { n < length fanout.old.ports }
+    ensures rule { PmPresenceRule n seat.old (port_at fanout.old.ports n) (Ok result) seat.new (port_at fanout.new.ports n) }
+    ensures others { fanout.new ≡ with_port_at fanout.old n (port_at fanout.new.ports n) }
 {
     match seat.next_coming() {
         None => Answer::Idle,
@@ -317,14 +318,14 @@ fn record(n: u8, seat: &mut Seat, fanout: &mut Fanout) -> Answer
 
 /// Moves the first frame of a device's link into the hold of port n.
 fn pass_up(n: u8, seat: &mut Seat, fanout: &mut Fanout) -> Answer
-    requires { n < length fanout.old.holds }
-    ensures rule { PmFromDeviceRule n seat.old fanout.old.holds (Ok result) seat.new fanout.new.holds }
-    ensures others { fanout.new ≡ record fanout.old { holds = fanout.new.holds } }
+    requires { n < length fanout.old.ports }
+    ensures rule { PmFromDeviceRule n seat.old (port_at fanout.old.ports n) (Ok result) seat.new (port_at fanout.new.ports n) }
+    ensures others { fanout.new ≡ with_port_at fanout.old n (port_at fanout.new.ports n) }
 {
     if seat.is_empty() {
         return Answer::Idle;
     }
-    if fanout.holds(n) {
+    if !fanout.wants(n) {
         return Answer::Blocked;
     }
     match seat.take() {
