@@ -43,8 +43,8 @@ pub gives : (old : PortState) (frame : Stamped) (given : Option Stamped) → giv
 gives old frame given is some = gives_held old.present old.up frame (sym is ∙ some)
 
 -- and it holds nothing more
-pub is_gone : (old new : PortState) (frame : Stamped) (given : Option Stamped) → given ≡ Some frame → new ≡ (if is_some given then with_up old None else old) → new ≡ with_up old None
-is_gone old new frame given some is = is ∙ ap (λ o. if is_some o then with_up old None else old) some
+pub holds_nothing : (old new : PortState) (frame : Stamped) (given : Option Stamped) → given ≡ Some frame → new ≡ (if is_some given then with_up old None else old) → new ≡ with_up old None
+holds_nothing old new frame given some is = is ∙ ap (λ o. if is_some o then with_up old None else old) some
 
 -- ---- one port among others
 

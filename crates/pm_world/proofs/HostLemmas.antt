@@ -12,7 +12,7 @@ use Rattle.host_memory.specs.Place.{total_of}
 use Rattle.host_memory.specs.Reading.{prds_at, read_fault, have_overlap}
 use Rattle.host_memory.specs.Writing.{CanBeWritten, IsUsable}
 use Rattle.pm_world.specs.Events.{has_bit}
-use Rattle.pm_world.specs.Host.{Host, HasTable, submit_refusal, is_bad_count, is_mismatch, is_bad_prd, is_free, end_of, table_at, new_read, TransferIsWithin}
+use Rattle.pm_world.specs.Host.{Host, HasTable, IsGoodFor, CanBeRead, with_table, submit_refusal, is_bad_count, is_mismatch, is_bad_prd, is_free, end_of, table_at, new_read, TransferIsWithin}
 use Rattle.pm_world.specs.Reads.{Read}
 use Rattle.pm_world.specs.declared.request.Request.{Request}
 use Rattle.pm_world.specs.declared.request.SubmitError.{SubmitError}
@@ -99,11 +99,6 @@ module _ (host : Host) (request : Request) (taken : IsTaken host request) where
       let good = entry_good (end_of host.memory) (get_or request.prds.items k d) (none_passes (is_bad_prd (end_of host.memory)) request.prds.items k d taken.good below) in
       (good.0, good.1, (omega (arith, good.4), good.5))
 
--- what was left in an area of the same length is what is there
-pub left_same : (area bytes : List ℕ) → length bytes ≡ length area → take (length area) (bytes ++ drop (length bytes) area) ≡ bytes
-left_same area bytes long =
-    take-append-le (length area) bytes (drop (length bytes) area) (omega arith) ∙ take_all (length area) bytes (omega arith)
-
 -- the table of a request that was taken, written in the structure area
 pub new_table : (host : Host) (request : Request) (structure : List ℕ) (ticket : ℕ) → IsTaken host request → prds_at structure table_at (length request.prds.items) ≡ request.prds.items
     → read_fault structure (length host.memory.client) table_at (length request.prds.items) ≡ None → HasTable (record { structure = structure; client = host.memory.client }) (new_read ticket request)
@@ -117,16 +112,16 @@ new_table host request structure ticket taken reads readable = record {
 }
 
 -- the host after a submit keeps what a host keeps
-pub submitted : (host : Host) (request : Request) (before after : Memory) (prds : List Prd) (read : Read) (ticket : ℕ) → before ≡ host.memory → submit_refusal host true request ≡ None → read ≡ new_read ticket request → prds ≡ request.prds.items → after.client ≡ before.client
-    → prds_at after.structure table_at (length prds) ≡ prds
-    → (All (IsUsable (length before.client)) prds → have_overlap prds ≡ false → read_fault after.structure (length before.client) table_at (length prds) ≡ None)
-    → HasTable after read × TransferIsWithin read read.transfer
-submitted host request before after prds read ticket was none is items client reads readable =
+pub submitted : (host : Host) (request : Request) (before after : Memory) (prds : List Prd) (read : Read) (ticket : ℕ) → before ≡ host.memory → submit_refusal host true request ≡ None
+    → read ≡ new_read ticket request → prds ≡ request.prds.items → after ≡ with_table before prds → prds_at after.structure table_at (length prds) ≡ prds
+    → (IsGoodFor (length before.client) prds → CanBeRead after prds) → HasTable after read × TransferIsWithin read read.transfer
+submitted host request before after prds read ticket was none is items written reads readable =
     let taken = is_taken host request none in
     let same : before.client ≡ host.memory.client = ap (λ (m : Memory). m.client) was in
-    let usable : All (IsUsable (length before.client)) prds = rw (same, items) (are_usable host request taken) in
-    let none_there : read_fault after.structure (length host.memory.client) table_at (length request.prds.items) ≡ None = rw (same, items) at (readable usable (rw items taken.apart)) in
+    let client : after.client ≡ host.memory.client = ap (λ (m : Memory). m.client) written ∙ same in
+    let good : IsGoodFor (length before.client) prds = record { usable = rw (same, items) (are_usable host request taken); apart = rw items taken.apart } in
+    let none_there : read_fault after.structure (length host.memory.client) table_at (length request.prds.items) ≡ None = rw (client, items) at (readable good) in
     let there : prds_at after.structure table_at (length request.prds.items) ≡ request.prds.items = rw items at reads in
     let table = new_table host request after.structure ticket taken there none_there in
-    let now : after ≡ record { structure = after.structure; client = host.memory.client } = ap (λ (bytes : List ℕ). record { structure = after.structure; client = bytes }) (client ∙ same) in
+    let now : after ≡ record { structure = after.structure; client = host.memory.client } = ap (λ (bytes : List ℕ). record { structure = after.structure; client = bytes }) client in
     rw is (rw now table, tt)

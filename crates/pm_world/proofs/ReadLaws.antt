@@ -4,12 +4,13 @@ use Rattle.std.proofs.Common.{◌≡◌, ℕ, zero, suc, ◌+◌, ◌<◌, ◌�
 use Rattle.std.specs.Prelude.{AllPairs}
 use Rattle.std.proofs.lemmas.Bool.{cases_eq, eqb-true, eqb-false}
 use Rattle.fis_view.specs.Frames.{IsFrame}
+use Rattle.host_memory.specs.Memory.{Memory}
 use Rattle.host_memory.specs.Place.{place}
 use Rattle.pm_world.specs.Events.{told}
 use Rattle.pm_world.specs.History.{CompletesOnce, issued}
 use Rattle.pm_world.specs.Client.{Touches, own, client}
 use Rattle.pm_world.specs.Host.{Host}
-use Rattle.pm_world.specs.Deeds.{Deed, Submitted, Polled, Put, Took, Acts, Takes, Does, DoesAll, Delivers, IsTook, heard, touched, touches, tickets, opening_of, port_of}
+use Rattle.pm_world.specs.Deeds.{Deed, Submitted, Polled, Put, Took, Acts, Takes, Does, DoesAll, Delivers, IsTook, heard, touched, touches, tickets, opening_of, pm_port_of}
 use Rattle.pm_world.specs.declared.host.Slot.{Slot}
 use Rattle.pm_world.specs.declared.host.Slot.TheVariants as slot
 use Rattle.pm_world.specs.declared.request.TakeReport.{TakeReport}
@@ -36,36 +37,37 @@ nothing_issued opening past bytes now a none port s =
 
 module _ (opening : ℕ → ℕ) (past : Touches) (frame : List ℕ) (report : TakeReport) where
   -- what a FIS does to a slot and to the client bytes agrees, by the slot and by whether the FIS is of device 0
-  acted : (was : Slot) (is_own : Bool) (old new : List ℕ) (now : Slot) → eqb (port_of frame) 0 ≡ is_own → IsFrame frame → Agrees opening past old was → Acts was is_own frame report old now new
-      → IsTaken opening past (port_of frame) (heard (own (port_of frame) past) (told frame)) new now report
+  acted : (was : Slot) (is_own : Bool) (old new : List ℕ) (now : Slot) → eqb (pm_port_of frame) 0 ≡ is_own → IsFrame frame → Agrees opening past old was → Acts was is_own frame report old now new
+      → IsTaken opening past (pm_port_of frame) (heard (own (pm_port_of frame) past) (told frame)) new now report
   acted (slot.Issued read) true old new now e framed a h =
-      subst (λ n. IsTaken opening past n (heard (own n past) (told frame)) new now report) (sym (eqb-true (port_of frame) 0 e))
-      (heard_taken opening past old read a (told frame) (told_whole frame framed) (port_of frame) new now report h)
+      subst (λ n. IsTaken opening past n (heard (own n past) (told frame)) new now report) (sym (eqb-true (pm_port_of frame) 0 e))
+      (heard_taken opening past old read a (told frame) (told_whole frame framed) (pm_port_of frame) new now report h)
   acted (slot.Issued read) false old new now e framed a h =
-      rw (h.2, h.1) (quiet_taken opening past (port_of frame) old (slot.Issued read) a (λ s. a.elsewhere (port_of frame) s (eqb-false (port_of frame) 0 e)) (told frame) report (ap (λ (r : TakeReport). r.done) h.0))
+      rw (h.2, h.1) (quiet_taken opening past (pm_port_of frame) old (slot.Issued read) a (λ s. a.elsewhere (pm_port_of frame) s (eqb-false (pm_port_of frame) 0 e)) (told frame) report (ap (λ (r : TakeReport). r.done) h.0))
   acted slot.Free is_own old new now e framed a h =
-      rw (h.2, h.1) (quiet_taken opening past (port_of frame) old slot.Free a (nothing_issued opening past old slot.Free a a.slot (port_of frame)) (told frame) report (ap (λ (r : TakeReport). r.done) h.0))
+      rw (h.2, h.1) (quiet_taken opening past (pm_port_of frame) old slot.Free a (nothing_issued opening past old slot.Free a a.slot (pm_port_of frame)) (told frame) report (ap (λ (r : TakeReport). r.done) h.0))
   acted (slot.Ended read) is_own old new now e framed a h =
-      rw (h.2, h.1) (quiet_taken opening past (port_of frame) old (slot.Ended read) a (nothing_issued opening past old (slot.Ended read) a a.slot (port_of frame)) (told frame) report (ap (λ (r : TakeReport). r.done) h.0))
+      rw (h.2, h.1) (quiet_taken opening past (pm_port_of frame) old (slot.Ended read) a (nothing_issued opening past old (slot.Ended read) a a.slot (pm_port_of frame)) (told frame) report (ap (λ (r : TakeReport). r.done) h.0))
 
   -- it is reported under its port
-  reported : (was : Slot) (is_own : Bool) (old new : List ℕ) (now : Slot) → Acts was is_own frame report old now new → report.dev ≡ port_of frame
-  reported (slot.Issued read) true old new now h = hears_dev (told frame) (port_of frame) read old report now new h
+  reported : (was : Slot) (is_own : Bool) (old new : List ℕ) (now : Slot) → Acts was is_own frame report old now new → report.dev ≡ pm_port_of frame
+  reported (slot.Issued read) true old new now h = hears_dev (told frame) (pm_port_of frame) read old report now new h
   reported (slot.Issued read) false old new now h = ap (λ (r : TakeReport). r.dev) h.0
   reported slot.Free is_own old new now h = ap (λ (r : TakeReport). r.dev) h.0
   reported (slot.Ended read) is_own old new now h = ap (λ (r : TakeReport). r.dev) h.0
 
 -- so a FIS that is taken agrees
 taken : (opening : ℕ → ℕ) (past : Touches) (old : Host) (frame : List ℕ) (report : TakeReport) (new : Host) → Agrees opening past old.memory.client old.slot → Takes old frame report new
-    → IsTaken opening past (port_of frame) (heard (own (port_of frame) past) (told frame)) new.memory.client new.slot report
+    → IsTaken opening past (pm_port_of frame) (heard (own (pm_port_of frame) past) (told frame)) new.memory.client new.slot report
 taken opening past old frame report new a t =
-    acted opening past frame report old.slot (eqb (port_of frame) 0) old.memory.client new.memory.client new.slot refl t.framed a t.acts
+    acted opening past frame report old.slot (eqb (pm_port_of frame) 0) old.memory.client new.memory.client new.slot refl t.framed a t.acts
 
 -- the host's part of a world still agrees after one more deed
 does : (opening : ℕ → ℕ) (past : Touches) (old : Host) (deed : Deed) (new : Host) → Agrees opening past old.memory.client old.slot → Does old deed new
     → Agrees opening (touched past deed) new.memory.client new.slot
 does opening past old (Submitted request ticket) new a h =
-    rw (h.2.client, h.2.slot) (submitted opening past old.memory.client old.slot request (old.given + 1) (good_from old request h.0) a)
+    let s = h.1.1 in
+    rw (ap (λ (m : Memory). m.client) s.memory, s.slot) (submitted opening past old.memory.client old.slot request (old.given + 1) (good_from old request h.0) a)
 does opening past old Polled new a h =
     rw h.new_is (polled opening past old.memory.client h.read (subst (λ (now : Slot). Agrees opening past old.memory.client now) h.was a))
 does opening past old (Put at bytes) new a h = rw h.new_is (put opening past old.memory.client old.slot at bytes h.inside h.unused a)
@@ -102,7 +104,7 @@ touches_push past (x ∷ before) deed = touches_push (touched past x) before dee
 
 -- how far a deed takes the tickets
 given_after : (old : Host) (deed : Deed) (new : Host) → Does old deed new → old.given ≤ new.given
-given_after old (Submitted request ticket) new h = let e = h.2.given in omega arith
+given_after old (Submitted request ticket) new h = let e = h.1.1.given in omega arith
 given_after old Polled new h = let e : new.given ≡ old.given = ap (λ (x : Host). x.given) h.new_is in omega arith
 given_after old (Put at bytes) new h = let e : new.given ≡ old.given = ap (λ (x : Host). x.given) h.new_is in omega arith
 given_after old (Took frame report) new h = let e = h.given in omega arith
@@ -110,7 +112,7 @@ given_after old (Took frame report) new h = let e = h.given in omega arith
 -- each ticket is above what was given before
 above : (old : Host) (deeds : List Deed) (new : Host) → DoesAll old deeds new → (i d : ℕ) → i < length (tickets deeds) → old.given < get_or (tickets deeds) i d
 above old [] new h i d lt = absurd (omega arith)
-above old (Submitted request ticket ∷ deeds) new h zero d lt = let e = h.1.1 in omega arith
+above old (Submitted request ticket ∷ deeds) new h zero d lt = let e = h.1.1.0 in omega arith
 above old (Submitted request ticket ∷ deeds) new h (suc i) d lt =
     let e = given_after old (Submitted request ticket) h.0 h.1 in let x = above h.0 deeds new h.2 i d (omega arith) in omega arith
 above old (Polled ∷ deeds) new h i d lt = let e = given_after old Polled h.0 h.1 in let x = above h.0 deeds new h.2 i d lt in omega arith
@@ -122,7 +124,7 @@ rising : (old : Host) (deeds : List Deed) (new : Host) → DoesAll old deeds new
 rising old [] new h i j d lt below = absurd (omega arith)
 rising old (Submitted request ticket ∷ deeds) new h i zero d lt below = absurd (omega arith)
 rising old (Submitted request ticket ∷ deeds) new h zero (suc j) d lt below =
-    let e = h.1.1 in let f = h.1.2.given in let x = above h.0 deeds new h.2 j d (omega arith) in omega arith
+    let e = h.1.1.0 in let f = h.1.1.1.given in let x = above h.0 deeds new h.2 j d (omega arith) in omega arith
 rising old (Submitted request ticket ∷ deeds) new h (suc i) (suc j) d lt below = rising h.0 deeds new h.2 i j d (omega arith) (omega arith)
 rising old (Polled ∷ deeds) new h i j d lt below = rising h.0 deeds new h.2 i j d lt below
 rising old (Put at bytes ∷ deeds) new h i j d lt below = rising h.0 deeds new h.2 i j d lt below
@@ -157,11 +159,11 @@ delivers old deeds now free none_given run = record {
       (taken (opening_of old.memory.client) (touches [] before) t.from frame report t.to t.agrees t.takes).done s lt;
   by_device = λ before frame report took.
       let t = taking old deeds now free run before frame report took in
-      reported (opening_of old.memory.client) (touches [] before) frame report t.from.slot (eqb (port_of frame) 0) t.from.memory.client t.to.memory.client t.to.slot t.takes.acts;
+      reported (opening_of old.memory.client) (touches [] before) frame report t.from.slot (eqb (pm_port_of frame) 0) t.from.memory.client t.to.memory.client t.to.slot t.takes.acts;
   in_place = λ before frame report took s c is completes i lt.
       let t = taking old deeds now free run before frame report took in
-      let r = completed_in_place (opening_of old.memory.client) (touches [] before) t.from.memory.client t.from.slot t.agrees (port_of frame) s c
-      (heard (own (port_of frame) (touches [] before)) (told frame)) is completes i lt in
+      let r = completed_in_place (opening_of old.memory.client) (touches [] before) t.from.memory.client t.from.slot t.agrees (pm_port_of frame) s c
+      (heard (own (pm_port_of frame) (touches [] before)) (told frame)) is completes i lt in
       (r.0, r.1, ap (λ (past : Touches). client (opening_of old.memory.client) past (place c.table i)) (touches_push [] before (Took frame report)) ∙ r.2);
   tickets_once = rising old deeds now run;
 }

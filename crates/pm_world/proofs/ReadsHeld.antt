@@ -19,10 +19,10 @@ command_of_read read = record { kind = QueuedRead; len = read.len; table = read.
 pub record IsLast (past : History) (len : ℕ) (t : Transfer) : Type 0 where
   pub last : last_setup past ≡ Some (record { slot = 0; offset = t.offset; count = t.count })
   pub up : is_set_up 0 past ≡ true
-  pub came : carried past ≡ t.gone
+  pub came : carried past ≡ t.came
   pub offset_dwords : t.offset % 4 ≡ 0
-  pub gone_dwords : t.gone % 4 ≡ 0
-  pub gone_within : t.gone ≤ t.count
+  pub came_dwords : t.came % 4 ≡ 0
+  pub came_within : t.came ≤ t.count
   pub inside : t.offset + t.count ≤ len
 
 -- where a read has no transfer, none was set up since its issue
@@ -102,11 +102,11 @@ module _ (past : History) (read : Read) (h : IsHeld past read) (others : (s : �
 
 module _ (past : History) (read : Read) (h : IsHeld past read) where
   -- what Data fills
-  pub fills : (t : Transfer) → IsLast past read.len t → filling past ≡ Some (record { slot = 0; command = command_of_read read; from = t.offset + t.gone })
+  pub fills : (t : Transfer) → IsLast past read.len t → filling past ≡ Some (record { slot = 0; command = command_of_read read; from = t.offset + t.came })
   fills t x = rw (x.last, x.up, h.issue, x.came) refl
 
   -- and the read's bytes after it
-  pub filled_is : (t : Transfer) (payload : List ℕ) → IsLast past read.len t → filled 0 (Carried payload ∷ past) ≡ filled_from (t.offset + t.gone) payload (filled 0 past)
+  pub filled_is : (t : Transfer) (payload : List ℕ) → IsLast past read.len t → filled 0 (Carried payload ∷ past) ≡ filled_from (t.offset + t.came) payload (filled 0 past)
   filled_is t payload x = rw (x.last, x.up, x.came) refl
 
   -- a Set Device Bits FIS that names the slot completes the read exactly where all of its dwords came
@@ -126,31 +126,31 @@ module _ (past : History) (read : Read) (h : IsHeld past read) where
       up = rw fit.tag_is refl;
       came = refl;
       offset_dwords = fit.offset_dwords;
-      gone_dwords = refl;
-      gone_within = omega arith;
+      came_dwords = refl;
+      came_within = omega arith;
       inside = fit.inside;
     };
   }
 
   -- whole dwords of Data that fit
-  pub held_carried : (t : Transfer) (payload : List ℕ) → IsLast past read.len t → length payload % 4 ≡ 0 → t.gone + length payload ≤ t.count
+  pub held_carried : (t : Transfer) (payload : List ℕ) → IsLast past read.len t → length payload % 4 ≡ 0 → t.came + length payload ≤ t.count
       → IsHeld (Carried payload ∷ past) (with_data read t (length payload))
   held_carried t payload x dwords room =
-      let a = x.offset_dwords in let b = x.gone_dwords in let c = x.inside in let d = h.long in
-      let from_dwords : (t.offset + t.gone) % 4 ≡ 0 = omega arith in
-      let fits : t.offset + t.gone + length payload ≤ read.len = omega arith in
-      let in_flags : (t.offset + t.gone) / 4 + length payload / 4 ≤ length read.over = omega arith in
+      let a = x.offset_dwords in let b = x.came_dwords in let c = x.inside in let d = h.long in
+      let from_dwords : (t.offset + t.came) % 4 ≡ 0 = omega arith in
+      let fits : t.offset + t.came + length payload ≤ read.len = omega arith in
+      let in_flags : (t.offset + t.came) / 4 + length payload / 4 ≤ length read.over = omega arith in
       record {
         issue = rw h.issue refl;
-        long = omega (arith, come_long read.over ((t.offset + t.gone) / 4) (length payload / 4) in_flags);
-        tells = rw (filled_is t payload x) (tells_more read.over (filled 0 past) read.len (t.offset + t.gone) payload h.long h.tells from_dwords dwords fits);
+        long = omega (arith, come_long read.over ((t.offset + t.came) / 4) (length payload / 4) in_flags);
+        tells = rw (filled_is t payload x) (tells_more read.over (filled 0 past) read.len (t.offset + t.came) payload h.long h.tells from_dwords dwords fits);
         transfer = record {
           last = x.last;
           up = x.up;
           came = ap (λ n. n + length payload) x.came;
           offset_dwords = x.offset_dwords;
-          gone_dwords = omega arith;
-          gone_within = room;
+          came_dwords = omega arith;
+          came_within = room;
           inside = x.inside;
         };
       }
@@ -166,4 +166,4 @@ module _ (past : History) (read : Read) (h : IsHeld past read) where
     where
       kept : (o : Option Transfer) → TransferIs past read.len o → TransferIs (Named mask ∷ past) read.len o
       kept None x = x
-      kept (Some t) x = record { last = x.last; up = x.up; came = x.came; offset_dwords = x.offset_dwords; gone_dwords = x.gone_dwords; gone_within = x.gone_within; inside = x.inside }
+      kept (Some t) x = record { last = x.last; up = x.up; came = x.came; offset_dwords = x.offset_dwords; came_dwords = x.came_dwords; came_within = x.came_within; inside = x.inside }

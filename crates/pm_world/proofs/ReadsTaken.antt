@@ -144,7 +144,7 @@ told_whole frame framed = let b = frame_bounds frame framed in whole_view (kind_
 abbrev HearsData : (payload : List ℕ) (dev : ℕ) (read : Read) (client : List ℕ) → TakeReport → Slot → (after : List ℕ) → Option Transfer → Type 0
 HearsData payload dev read client report now after None = (report ≡ nothing_done dev) × (after ≡ client) × (now ≡ slot.Issued read)
 HearsData payload dev read client report now after (Some t) =
-    MatchBool (nat_le (t.gone + length payload) t.count) (Comes read t payload client dev report now after) ((report ≡ nothing_done dev) × (after ≡ client) × (now ≡ slot.Issued read))
+    MatchBool (nat_le (t.came + length payload) t.count) (Comes read t payload client dev report now after) ((report ≡ nothing_done dev) × (after ≡ client) × (now ≡ slot.Issued read))
 
 -- it is what Hears says of Data
 data_heard : (payload : List ℕ) (dev : ℕ) (client : List ℕ) (report : TakeReport) (now : Slot) (after : List ℕ) (ticket : ℕ) (prds : List Prd) (len : ℕ) (over : List Bool) (o : Option Transfer)
@@ -161,7 +161,7 @@ hears_dev (DataFis payload) dev read client report now after h =
   where
     by_transfer : (o : Option Transfer) → HearsData payload dev read client report now after o → report.dev ≡ dev
     by_transfer None h = ap (λ (r : TakeReport). r.dev) h.0
-    by_transfer (Some t) h = by_test (nat_le (t.gone + length payload) t.count) h
+    by_transfer (Some t) h = by_test (nat_le (t.came + length payload) t.count) h
       where
         by_test : (b : Bool) → MatchBool b (Comes read t payload client dev report now after) ((report ≡ nothing_done dev) × (after ≡ client) × (now ≡ slot.Issued read)) → report.dev ≡ dev
         by_test true c = ap (λ (r : TakeReport). r.dev) c.reported
@@ -250,11 +250,11 @@ module _ (opening : ℕ → ℕ) (past : Touches) (bytes : List ℕ) (read : Rea
 
   -- Data comes
   came : (t : Transfer) (payload : List ℕ) (dev : ℕ) (after : List ℕ) (now : Slot) (report : TakeReport) → IsLast (own 0 past) read.len t → length payload % 4 ≡ 0
-      → t.gone + length payload ≤ t.count → Comes read t payload bytes dev report now after → IsTaken opening past 0 (Some (Carried payload)) after now report
+      → t.came + length payload ≤ t.count → Comes read t payload bytes dev report now after → IsTaken opening past 0 (Some (Carried payload)) after now report
   came t payload dev after now report x dwords room c = record {
     agrees = record {
       same = λ k lt. rw filling_is
-          (scattered read.prds (length bytes) (t.offset + t.gone) payload bytes after (client opening past) a.slot.inside a.slot.apart fits c.written a.same k (omega (arith, c.written.as_long)));
+          (scattered read.prds (length bytes) (t.offset + t.came) payload bytes after (client opening past) a.slot.inside a.slot.apart fits c.written a.same k (omega (arith, c.written.as_long)));
       elsewhere = elsewhere_too (Carried payload);
       others = λ s ne. rw (a.others s ne) refl;
       slot = rw (c.slot_is, c.written.as_long) (record {
@@ -268,26 +268,26 @@ module _ (opening : ℕ → ℕ) (past : Touches) (bytes : List ℕ) (read : Rea
     done = λ s lt. ap (λ (r : TakeReport). has_bit r.done s) c.reported ∙ no_bit s ∙ never (issued s (own 0 past));
   }
     where
-      filling_is : filling (own 0 past) ≡ Some (record { slot = 0; command = command_of_read read; from = t.offset + t.gone })
+      filling_is : filling (own 0 past) ≡ Some (record { slot = 0; command = command_of_read read; from = t.offset + t.came })
       filling_is = fills (own 0 past) read a.slot.held t x
 
-      fits : t.offset + t.gone + length payload ≤ total_of read.prds
+      fits : t.offset + t.came + length payload ≤ total_of read.prds
       fits = omega (arith, x.inside, a.slot.whole)
 
       stands : (i b : ℕ) → i < read.len → filled 0 (Carried payload ∷ own 0 past) i ≡ Some b → client opening (By 0 (Carried payload) ∷ past) (place read.prds i) ≡ b
       stands i b lt e =
           let whole = a.slot.whole in
-          let e2 : filled_from (t.offset + t.gone) payload (filled 0 (own 0 past)) i ≡ Some b = ap (λ (g : ℕ → Option ℕ). g i) (sym (filled_is (own 0 past) read a.slot.held t payload x)) ∙ e in
-          rw filling_is (elim (filled_cases (t.offset + t.gone) payload (filled 0 (own 0 past)) i b e2) [
+          let e2 : filled_from (t.offset + t.came) payload (filled 0 (own 0 past)) i ≡ Some b = ap (λ (g : ℕ → Option ℕ). g i) (sym (filled_is (own 0 past) read a.slot.held t payload x)) ∙ e in
+          rw filling_is (elim (filled_cases (t.offset + t.came) payload (filled 0 (own 0 past)) i b e2) [
             | inl p ↦
                 let low = p.0 in let high = p.1 in
-                let at : t.offset + t.gone + (i - (t.offset + t.gone)) ≡ i = omega arith in
-                ap (λ k. written read.prds (t.offset + t.gone) payload (client opening past) (place read.prds k)) (sym at)
-                ∙ written_at read.prds (t.offset + t.gone) payload (client opening past) (i - (t.offset + t.gone)) b (λ j below same.
-                let n : t.offset + t.gone + (i - (t.offset + t.gone)) ≡ t.offset + t.gone + j = place_injective read.prds (t.offset + t.gone + (i - (t.offset + t.gone))) (t.offset + t.gone + j) a.slot.apart (omega arith) (omega arith) same in absurd (omega arith)) p.2
+                let at : t.offset + t.came + (i - (t.offset + t.came)) ≡ i = omega arith in
+                ap (λ k. written read.prds (t.offset + t.came) payload (client opening past) (place read.prds k)) (sym at)
+                ∙ written_at read.prds (t.offset + t.came) payload (client opening past) (i - (t.offset + t.came)) b (λ j below same.
+                let n : t.offset + t.came + (i - (t.offset + t.came)) ≡ t.offset + t.came + j = place_injective read.prds (t.offset + t.came + (i - (t.offset + t.came))) (t.offset + t.came + j) a.slot.apart (omega arith) (omega arith) same in absurd (omega arith)) p.2
             | inr q ↦
-                written_elsewhere read.prds (t.offset + t.gone) payload (client opening past) (place read.prds i) (λ j below same.
-                q.0 j below (place_injective read.prds i (t.offset + t.gone + j) a.slot.apart (omega arith) (omega (arith, fits)) same))
+                written_elsewhere read.prds (t.offset + t.came) payload (client opening past) (place read.prds i) (λ j below same.
+                q.0 j below (place_injective read.prds i (t.offset + t.came + j) a.slot.apart (omega arith) (omega (arith, fits)) same))
                 ∙ a.slot.stands i b lt q.1
           ])
 
@@ -309,11 +309,11 @@ module _ (opening : ℕ → ℕ) (past : Touches) (bytes : List ℕ) (read : Rea
       by_transfer : (o : Option Transfer) → TransferIs (own 0 past) read.len o → HearsData payload dev read bytes report now after o
           → IsTaken opening past 0 (cond (takes_data o (length payload)) (Some (Carried payload)) None) after now report
       by_transfer None x h = nothing after now report (ap (λ (r : TakeReport). r.done) h.0) h.1 h.2
-      by_transfer (Some t) x h = by_test (nat_le (t.gone + length payload) t.count) refl
+      by_transfer (Some t) x h = by_test (nat_le (t.came + length payload) t.count) refl
         where
-          by_test : (b : Bool) → nat_le (t.gone + length payload) t.count ≡ b → IsTaken opening past 0 (cond b (Some (Carried payload)) None) after now report
+          by_test : (b : Bool) → nat_le (t.came + length payload) t.count ≡ b → IsTaken opening past 0 (cond b (Some (Carried payload)) None) after now report
           by_test true e =
-              came t payload dev after now report x w (leb-true (t.gone + length payload) t.count e)
+              came t payload dev after now report x w (leb-true (t.came + length payload) t.count e)
               (MatchBool-at_true (Comes read t payload bytes dev report now after) ((report ≡ nothing_done dev) × (after ≡ bytes) × (now ≡ slot.Issued read)) e h)
           by_test false e =
               let k = MatchBool-at_false (Comes read t payload bytes dev report now after) ((report ≡ nothing_done dev) × (after ≡ bytes) × (now ≡ slot.Issued read)) e h in

@@ -1,4 +1,4 @@
--- The client bytes of a run, and what a completed read finds there.
+-- The client bytes of a run (AHCI 1.3.1, data transfer; Serial ATA 3.x, first party DMA).
 use Rattle.std.specs.Prelude.{ℕ, ◌≡◌, ◌+◌, ◌-◌, ◌<◌, ◌==◌, ◌&&◌, nat_le, nat_lt, if◌then◌else◌, List, [], ◌∷◌, length, slice_index, Option, Some, None}
 use Rattle.host_memory.specs.declared.table.Prd.{Prd}
 use Rattle.host_memory.specs.Place.{place}
@@ -43,7 +43,3 @@ client opening (Puts at bytes ∷ past) k = (if nat_le at k && nat_lt k (at + le
 client opening (By dev (Carried bytes) ∷ past) k =
     match_some (filling (own dev past)) (client opening past k) (λ f. written f.command.table f.from bytes (client opening past) k)
 client opening (By dev e ∷ past) k = client opening past k
-
--- At the event that completes an issue, the slot is whole and each of its bytes stands at its place.
-pub record CompletesInPlace (opening : ℕ → ℕ) (past : Touches) (dev : ℕ) (e : Event) (s : ℕ) (c : Command) : Type 0 where
-  pub in_place : (i : ℕ) → i < c.len → (b : ℕ) × (filled s (own dev past) i ≡ Some b) × (client opening (By dev e ∷ past) (place c.table i) ≡ b)

@@ -1,5 +1,6 @@
--- How many FISes were sent and taken on each connection, and in which order they are told.
-use Rattle.std.specs.Prelude.{ℕ, ◌+◌, ◌≡◌, ◌<◌, ◌≤◌, ◌==◌, ◌&&◌, min, Bool, false, if◌then◌else◌, List, length, find, HoldsAt, Option, Some, None, AllPairs, ◌⊎◌}
+-- How many FISes were sent and taken on each connection, and in which order they are told. No standard speaks of these
+-- counts.
+use Rattle.std.specs.Prelude.{ℕ, ◌+◌, ◌≡◌, ◌<◌, ◌≤◌, ◌==◌, ◌&&◌, min, Bool, false, if◌then◌else◌, List, [], ◌∷◌, ◌++◌, length, find, HoldsAt, Option, Some, None, AllPairs, ◌⊎◌}
 use Rattle.std.specs.List.{list_any, AllWithin}
 use Rattle.std.specs.Option.{option_map, option_or}
 use Rattle.disk_model.specs.declared.unit.Unit.{Unit}
@@ -62,6 +63,20 @@ noted n c (answer.Sent port conn number bytes) row = if port == n && conn == c t
 noted n c (answer.Took port conn number bytes report) row = if port == n && conn == c then option_map taken_more row else row
 noted n c _ row = row
 
+-- the connection has a row, a first one where it had none; every other row is as it was
+abbrev pub HasRowFor : List ConnCount → (port conn : ℕ) → List ConnCount → Type 0
+HasRowFor old port conn new =
+    (n c : ℕ) → row_of n c new ≡ (if port == n && conn == c then option_or (row_of n c old) (Some (first_row n c)) else row_of n c old)
+
+-- the connection's row is changed so, where it has one; every other row is as it was
+abbrev pub ChangesRow : (ConnCount → ConnCount) → List ConnCount → (port conn : ℕ) → List ConnCount → Type 0
+ChangesRow change old port conn new =
+    (n c : ℕ) → row_of n c new ≡ (if port == n && conn == c then option_map change (row_of n c old) else row_of n c old)
+
+-- every row is what the answer makes of it
+abbrev pub CountsAnswer : List ConnCount → Answer → List ConnCount → Type 0
+CountsAnswer old answer new = (n c : ℕ) → row_of n c new ≡ noted n c answer (row_of n c old)
+
 -- the answer adds a row, so that memory may be wanted
 abbrev pub AddsRow : List ConnCount → Answer → Type 0
 AddsRow rows (answer.Came port conn) = row_of port conn rows ≡ None
@@ -89,3 +104,8 @@ pub record AreOfARun (answers : List Answer) : Type 0 where
   pub steps : List Step
   pub now : Places
   pub run : Run (new_world config units) steps answers now
+
+-- rows that told what the answers of a run say tell it with one more answer
+abbrev pub GoesOnTelling : List ConnCount → Answer → List ConnCount → Type 0
+GoesOnTelling old answer new =
+    (answers : List Answer) → AreOfARun (answers ++ answer ∷ []) → Tell old answers → Tell new (answers ++ answer ∷ [])

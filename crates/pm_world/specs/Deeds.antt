@@ -1,4 +1,5 @@
--- What the host's part of a world does, and what its reads come to over a whole run.
+-- What the host's part of a world does, and what its reads come to over a whole run (AHCI 1.3.1, command list and data
+-- transfer; Serial ATA 3.x, native command queuing).
 use Rattle.std.specs.Prelude.{ℕ, ◌+◌, ◌-◌, ◌*◌, ◌%◌, ◌≡◌, ◌<◌, ◌==◌, ◌&&◌, ◌||◌, nat_lt, Bool, true, false, if◌then◌else◌, List, [], ◌∷◌, ◌++◌, length, slice_index, Option, Some, None, AllPairs}
 use Rattle.std.specs.List.{list_any}
 use Rattle.fis_view.specs.Frames.{IsFrame}
@@ -9,7 +10,7 @@ use Rattle.pm_world.specs.Events.{Command, QueuedRead, Event, Issued, SetUp, Car
 use Rattle.pm_world.specs.History.{issued, filled, completes, fits_setup, fits_data}
 use Rattle.pm_world.specs.Client.{Touches, By, Puts, own, client}
 use Rattle.pm_world.specs.Reads.{Read}
-use Rattle.pm_world.specs.Host.{Host, end_of, submit_refusal, Submits, Hears, nothing_done}
+use Rattle.pm_world.specs.Host.{Host, end_of, submit_refusal, TakesRequest, Hears, nothing_done}
 use Rattle.pm_world.specs.declared.host.Slot.{Slot}
 use Rattle.pm_world.specs.declared.host.Slot.TheVariants as slot
 use Rattle.pm_world.specs.declared.request.Request.{Request}
@@ -32,8 +33,8 @@ pub data Deed : Type 0 where
   Took : (frame : List ℕ) → TakeReport → Deed
 
 -- the PM Port of a frame
-abbrev pub port_of : List ℕ → ℕ
-port_of frame = slice_index frame 1 % 16
+abbrev pub pm_port_of : List ℕ → ℕ
+pm_port_of frame = slice_index frame 1 % 16
 
 -- so many bytes from an address on share one with so many from another
 abbrev pub share_bytes : ℕ → ℕ → ℕ → ℕ → Bool
@@ -50,15 +51,15 @@ in_use now at len = nat_lt 0 len && (share_bytes at len client_start 512 || list
 
 -- what a FIS of device 0, or of another, does to a slot and to the client bytes
 abbrev pub Acts : Slot → Bool → List ℕ → TakeReport → List ℕ → Slot → List ℕ → Type 0
-Acts (slot.Issued read) true frame report bytes new after = Hears (told frame) (port_of frame) read bytes report new after
-Acts now is_own frame report bytes new after = (report ≡ nothing_done (port_of frame)) × (new ≡ now) × (after ≡ bytes)
+Acts (slot.Issued read) true frame report bytes new after = Hears (told frame) (pm_port_of frame) read bytes report new after
+Acts now is_own frame report bytes new after = (report ≡ nothing_done (pm_port_of frame)) × (new ≡ now) × (after ≡ bytes)
 
 -- a FIS is taken
 pub record Takes (old : Host) (frame : List ℕ) (report : TakeReport) (new : Host) : Type 0 where
   pub framed : IsFrame frame
   pub given : new.given ≡ old.given
   pub structure : new.memory.structure ≡ old.memory.structure
-  pub acts : Acts old.slot (port_of frame == 0) frame report old.memory.client new.slot new.memory.client
+  pub acts : Acts old.slot (pm_port_of frame == 0) frame report old.memory.client new.slot new.memory.client
 
 -- why bytes are not put: not all of them lie in the client area, or one is in use
 abbrev pub put_refusal : Host → ℕ → ℕ → Option StepError
@@ -92,7 +93,7 @@ pub record Polls (old new : Host) : Type 0 where
   pub new_is : new ≡ record old { slot = slot.Free }
 
 abbrev pub Does : Host → Deed → Host → Type 0
-Does old (Submitted request ticket) new = (submit_refusal old true request ≡ None) × (ticket ≡ old.given + 1) × Submits old request new
+Does old (Submitted request ticket) new = (submit_refusal old true request ≡ None) × TakesRequest old request ticket new
 Does old Polled new = Polls old new
 Does old (Put at bytes) new = PutsBytes old at bytes new
 Does old (Took frame report) new = Takes old frame report new
@@ -120,7 +121,7 @@ abbrev pub touched : Touches → Deed → Touches
 touched past (Submitted request ticket) = By 0 (Issued 0 (command_of request)) ∷ past
 touched past Polled = past
 touched past (Put at bytes) = Puts at bytes ∷ past
-touched past (Took frame report) = match_some (heard (own (port_of frame) past) (told frame)) past (λ e. By (port_of frame) e ∷ past)
+touched past (Took frame report) = match_some (heard (own (pm_port_of frame) past) (told frame)) past (λ e. By (pm_port_of frame) e ∷ past)
 
 -- the touches after deeds, the latest first
 abbrev pub touches : Touches → List Deed → Touches
@@ -140,7 +141,7 @@ opening_of bytes at = slice_index bytes (at - client_start)
 -- whether this FIS completes slot s of its device after these touches
 abbrev pub completes_now : Touches → ℕ → List ℕ → Bool
 completes_now past s frame =
-    let before = own (port_of frame) past in
+    let before = own (pm_port_of frame) past in
     match_some (issued s before) false (λ c. match_some (heard before (told frame)) false (λ e. completes s e before c))
 
 -- the deeds have this Took after those before it
@@ -154,11 +155,11 @@ pub record Delivers (opened : List ℕ) (deeds : List Deed) (now : Host) : Type 
   pub bytes : (k : ℕ) → k < length now.memory.client → slice_index now.memory.client k ≡ client (opening_of opened) (touches [] deeds) (client_start + k)
   -- a bit of done is set exactly where the FIS completes that slot of its own device
   pub done : (before : List Deed) (frame : List ℕ) (report : TakeReport) → IsTook deeds before frame report → (s : ℕ) → s < 32 → has_bit report.done s ≡ completes_now (touches [] before) s frame
-  pub by_device : (before : List Deed) (frame : List ℕ) (report : TakeReport) → IsTook deeds before frame report → report.dev ≡ port_of frame
+  pub by_device : (before : List Deed) (frame : List ℕ) (report : TakeReport) → IsTook deeds before frame report → report.dev ≡ pm_port_of frame
   -- at that step every byte of the read is filled, and stands at its place in client memory
   pub in_place : (before : List Deed) (frame : List ℕ) (report : TakeReport) → IsTook deeds before frame report → (s : ℕ) (c : Command) →
-      issued s (own (port_of frame) (touches [] before)) ≡ Some c → completes_now (touches [] before) s frame ≡ true → (i : ℕ) → i < c.len →
-      (b : ℕ) × (filled s (own (port_of frame) (touches [] before)) i ≡ Some b)
+      issued s (own (pm_port_of frame) (touches [] before)) ≡ Some c → completes_now (touches [] before) s frame ≡ true → (i : ℕ) → i < c.len →
+      (b : ℕ) × (filled s (own (pm_port_of frame) (touches [] before)) i ≡ Some b)
       × (client (opening_of opened) (touches [] (before ++ Took frame report ∷ [])) (place c.table i) ≡ b)
   -- each ticket is given once
   pub tickets_once : AllPairs (λ earlier later. earlier < later) (tickets deeds)

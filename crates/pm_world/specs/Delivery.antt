@@ -1,4 +1,5 @@
--- The reads of a whole run: what the world's steps come to for the host's part.
+-- The reads of a whole run: what the world's steps come to for the host's part (AHCI 1.3.1, command list; Serial ATA 3.x,
+-- native command queuing).
 use Rattle.std.specs.Prelude.{List, [], ◌∷◌, ◌++◌}
 use Rattle.host_memory.specs.Memory.{zeroed}
 use Rattle.disk_model.specs.declared.unit.Unit.{Unit}

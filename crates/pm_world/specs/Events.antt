@@ -1,4 +1,5 @@
--- What happens to a slot of the host port, as far as its bytes and its completion turn on it.
+-- What happens to a slot of the host port, as far as its bytes and its completion turn on it (Serial ATA 3.x, DMA Setup,
+-- Data and Set Device Bits FIS; native command queuing).
 use Rattle.std.specs.Prelude.{ℕ, ◌+◌, ◌-◌, ◌%◌, ◌==◌, ◌&&◌, nat_le, nat_lt, Bool, if◌then◌else◌, List, length, drop, slice_get, Option, Some, None, Result, Ok}
 use Rattle.std.specs.Int.{bit_at}
 use Rattle.fis_view.specs.Table as table

@@ -1,4 +1,5 @@
--- What is issued, what is filled and what completes, read off a device's history.
+-- What is issued, what is filled and what completes, read off a device's history (Serial ATA 3.x, first party DMA and native
+-- command queuing).
 use Rattle.std.specs.Prelude.{ℕ, ◌+◌, ◌%◌, ◌≤◌, ◌==◌, ◌&&◌, nat_le, not, Bool, false, if◌then◌else◌, [], ◌∷◌, length, Option, Some, None, is_some}
 use Rattle.std.specs.List.{range_with_len, list_all, list_any}
 use Rattle.pm_world.specs.Events.{Command, Event, Issued, SetUp, Carried, Named, History, Setup, has_bit, match_some, unless, none_filled, filled_from}

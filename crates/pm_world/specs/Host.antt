@@ -1,10 +1,12 @@
--- The host's part of a world: one read of device 0 in slot 0, and the driver's refusals.
-use Rattle.std.specs.Prelude.{ℕ, ◌+◌, ◌*◌, ◌/◌, ◌%◌, ◌≡◌, ◌≤◌, ◌==◌, ◌&&◌, ◌||◌, not, nat_lt, nat_le, Bool, true, false, if◌then◌else◌, List, ◌++◌, length, take, drop, replicate, Option, Some, None, MatchBool}
+-- The host's part of a world: one read of device 0 in slot 0, and the driver's refusals (AHCI 1.3.1, command list and
+-- command table, data transfer; Serial ATA 3.x, first party DMA and native command queuing).
+use Rattle.std.specs.Prelude.{ℕ, ◌+◌, ◌*◌, ◌/◌, ◌%◌, ◌≡◌, ◌≤◌, ◌==◌, ◌&&◌, ◌||◌, not, nat_lt, nat_le, Bool, true, false, if◌then◌else◌, List, ◌++◌, length, take, drop, replicate, Option, Some, None, All, MatchBool}
 use Rattle.std.specs.List.{list_any, list_all}
 use Rattle.host_memory.specs.declared.table.Prd.{Prd}
-use Rattle.host_memory.specs.Memory.{Memory, client_start}
+use Rattle.host_memory.specs.Memory.{Memory, client_start, overwritten}
 use Rattle.host_memory.specs.Place.{total_of, Scatters}
 use Rattle.host_memory.specs.Reading.{prds_at, read_fault, have_overlap}
+use Rattle.host_memory.specs.Writing.{IsUsable, table_bytes}
 use Rattle.pm_world.specs.Events.{Told, SetupFis, DataFis, BitsFis, OtherFis, has_bit}
 use Rattle.pm_world.specs.Reads.{Read}
 use Rattle.pm_world.specs.declared.host.Transfer.{Transfer}
@@ -68,11 +70,18 @@ new_read ticket request = record {
   transfer = None;
 }
 
--- The request is taken: its read stands in the slot under the next ticket, its table in the structure area; the client bytes stay.
+-- a memory with the entries' bytes at the table's address; every other byte is as it was
+abbrev pub with_table : Memory → List Prd → Memory
+with_table memory prds = record { structure = overwritten memory.structure table_at (table_bytes prds); client = memory.client }
+
+-- The request is taken: its read stands in the slot under the next ticket, and its table in the structure area.
 pub record Submits (old : Host) (request : Request) (new : Host) : Type 0 where
   pub given : new.given ≡ old.given + 1
   pub slot : new.slot ≡ Issued (new_read (old.given + 1) request)
-  pub client : new.memory.client ≡ old.memory.client
+  pub memory : new.memory ≡ with_table old.memory request.prds.items
+
+abbrev pub TakesRequest : Host → Request → (ticket : ℕ) → Host → Type 0
+TakesRequest old request ticket new = (ticket ≡ old.given + 1) × Submits old request new
 
 -- ---- what a FIS of device 0 does
 
@@ -96,7 +105,7 @@ takes_setup read tag offset count to_host =
 -- whether so many bytes of Data fit
 abbrev pub takes_data : Option Transfer → ℕ → Bool
 takes_data None bytes = false
-takes_data (Some t) bytes = nat_le (t.gone + bytes) t.count
+takes_data (Some t) bytes = nat_le (t.came + bytes) t.count
 
 -- a Set Device Bits FIS ends the read: ERR is 0, bit 0 of SActive is set, and all bytes came
 abbrev pub takes_bits : Read → (status sactive : ℕ) → Bool
@@ -107,38 +116,43 @@ abbrev pub nothing_done : ℕ → TakeReport
 nothing_done dev = record { dev = dev; wrote = None; done = 0 }
 
 abbrev pub with_setup : Read → ℕ → ℕ → Read
-with_setup read offset count = record read { transfer = Some (record { offset = offset; count = count; gone = 0 }) }
+with_setup read offset count = record read { transfer = Some (record { offset = offset; count = count; came = 0 }) }
+
+-- the read after a DMA Setup that fits, or does not
+abbrev pub after_setup : Read → (tag offset count : ℕ) → (to_host : Bool) → Read
+after_setup read tag offset count to_host =
+    if takes_setup read tag offset count to_host then with_setup read offset count else read
 
 -- the read after so many bytes came
 abbrev pub with_data : Read → Transfer → ℕ → Read
 with_data read t bytes = record read {
-  over = with_come read.over ((t.offset + t.gone) / 4) (bytes / 4);
-  transfer = Some (record { offset = t.offset; count = t.count; gone = t.gone + bytes });
+  over = with_come read.over ((t.offset + t.came) / 4) (bytes / 4);
+  transfer = Some (record { offset = t.offset; count = t.count; came = t.came + bytes });
 }
 
 -- what Data does to a read and to the client bytes, and from which byte of the transfer on it is written, if it is
 abbrev pub Carries : Option Transfer → Read → (payload client : List ℕ) → Option ℕ → Read → List ℕ → Type 0
 Carries None read payload client from new after = (from ≡ None) × (new ≡ read) × (after ≡ client)
-Carries (Some t) read payload client from new after = MatchBool (nat_le (t.gone + length payload) t.count)
-    ((from ≡ Some (t.offset + t.gone)) × (new ≡ with_data read t (length payload)) × Scatters read.prds (t.offset + t.gone) payload client after)
+Carries (Some t) read payload client from new after = MatchBool (nat_le (t.came + length payload) t.count)
+    ((from ≡ Some (t.offset + t.came)) × (new ≡ with_data read t (length payload)) × Scatters read.prds (t.offset + t.came) payload client after)
     ((from ≡ None) × (new ≡ read) × (after ≡ client))
 
 -- Data came for this transfer: its bytes are at their places, and nothing else changed.
 pub record Comes (read : Read) (t : Transfer) (payload client : List ℕ) (dev : ℕ) (report : TakeReport) (slot : Slot) (after : List ℕ) : Type 0 where
-  pub reported : report ≡ record { dev = dev; wrote = Some (record { 0 = 0; 1 = t.offset + t.gone; 2 = length payload }); done = 0 }
-  pub written : Scatters read.prds (t.offset + t.gone) payload client after
+  pub reported : report ≡ record { dev = dev; wrote = Some (record { 0 = 0; 1 = t.offset + t.came; 2 = length payload }); done = 0 }
+  pub written : Scatters read.prds (t.offset + t.came) payload client after
   pub slot_is : slot ≡ Issued (with_data read t (length payload))
 
 -- What a FIS does to an issued read and to the client bytes, and what the host reports of it.
 abbrev pub Hears : Told → ℕ → Read → (client : List ℕ) → TakeReport → Slot → (after : List ℕ) → Type 0
 Hears (SetupFis tag offset count to_host) dev read client report slot after =
     (report ≡ nothing_done dev) × (after ≡ client)
-    × (slot ≡ Issued (if takes_setup read tag offset count to_host then with_setup read offset count else read))
+    × (slot ≡ Issued (after_setup read tag offset count to_host))
 Hears (DataFis payload) dev read client report slot after = HearsData read.transfer
   where
     HearsData : Option Transfer → Type 0
     HearsData None = (report ≡ nothing_done dev) × (after ≡ client) × (slot ≡ Issued read)
-    HearsData (Some t) = MatchBool (nat_le (t.gone + length payload) t.count) (Comes read t payload client dev report slot after) ((report ≡ nothing_done dev) × (after ≡ client) × (slot ≡ Issued read))
+    HearsData (Some t) = MatchBool (nat_le (t.came + length payload) t.count) (Comes read t payload client dev report slot after) ((report ≡ nothing_done dev) × (after ≡ client) × (slot ≡ Issued read))
 Hears (BitsFis status sactive) dev read client report slot after =
     (after ≡ client)
     × (report ≡ (if takes_bits read status sactive then record { dev = dev; wrote = None; done = 1 } else nothing_done dev))
@@ -146,6 +160,19 @@ Hears (BitsFis status sactive) dev read client report slot after =
 Hears OtherFis dev read client report slot after = (report ≡ nothing_done dev) × (after ≡ client) × (slot ≡ Issued read)
 
 -- ---- what keeps the table of an issued read readable
+
+-- the table in the structure area, of so many entries
+abbrev pub table_of : Memory → (count : ℕ) → List Prd
+table_of memory count = prds_at memory.structure table_at count
+
+-- the entries may stand in a table for so many client bytes
+pub record IsGoodFor (client : ℕ) (prds : List Prd) : Type 0 where
+  pub usable : All (IsUsable client) prds
+  pub apart : have_overlap prds ≡ false
+
+-- a table of as many entries is read without a fault
+abbrev pub CanBeRead : Memory → List Prd → Type 0
+CanBeRead memory prds = read_fault memory.structure (length memory.client) table_at (length prds) ≡ None
 
 pub record HasTable (memory : Memory) (read : Read) : Type 0 where
   pub prds_are : prds_at memory.structure table_at (length read.prds) ≡ read.prds
@@ -157,8 +184,8 @@ pub record HasTable (memory : Memory) (read : Read) : Type 0 where
 
 pub record IsWithin (read : Read) (t : Transfer) : Type 0 where
   pub offset_dwords : t.offset % 4 ≡ 0
-  pub gone_dwords : t.gone % 4 ≡ 0
-  pub gone_within : t.gone ≤ t.count
+  pub came_dwords : t.came % 4 ≡ 0
+  pub came_within : t.came ≤ t.count
   pub inside : t.offset + t.count ≤ read.len
 
 abbrev pub TransferIsWithin : Read → Option Transfer → Type 0

@@ -1,6 +1,8 @@
--- Where frames stand in a world, as its callers see it.
-use Rattle.std.specs.Prelude.{ℕ, ◌+◌, ◌≡◌, ◌%◌, ◌==◌, ◌&&◌, nat_le, Bool, false, List, [], ◌∷◌, ◌++◌, length, map, slice_set, replicate}
+-- Where frames stand in a world, as its callers see it (Serial ATA 3.x, port multiplier: device ports, frame transmission,
+-- presence of a device on a port).
+use Rattle.std.specs.Prelude.{ℕ, ◌+◌, ◌≡◌, ◌%◌, ◌==◌, ◌&&◌, nat_le, Bool, false, List, [], ◌∷◌, ◌++◌, length, map, Option, Some, None, slice_set, replicate}
 use Rattle.fis_view.specs.Frames.{Stamped, marked}
+use Rattle.fis_view.specs.declared.frame.Stamp.{Stamp}
 use Rattle.pm_ports.specs.Port.{PortState, empty_port}
 use Rattle.multiplier.specs.Arbiter.{control_port}
 use Rattle.disk_model.specs.declared.unit.Unit.{Unit}
@@ -20,6 +22,11 @@ IsFull link = link.capacity ≡ length link.frames
 abbrev pub pushed : Queue → Stamped → Queue
 pushed link frame = record { frames = link.frames ++ frame ∷ []; capacity = link.capacity }
 
+-- the first frame is taken off a link, if there is one
+abbrev pub FirstLeaves : Queue → Option Stamped → Queue → Type 0
+FirstLeaves old None new = (old.frames ≡ []) × (new ≡ old)
+FirstLeaves old (Some frame) new = (old.frames ≡ frame ∷ new.frames) × (new.capacity ≡ old.capacity)
+
 -- a presence link: the connections that came and are not recorded yet, oldest first, and how many it can hold
 pub record Comings : Type 0 where
   pub conns : List ℕ
@@ -30,6 +37,11 @@ AreFull link = link.capacity ≡ length link.conns
 
 abbrev pub posted : Comings → ℕ → Comings
 posted link conn = record { conns = link.conns ++ conn ∷ []; capacity = link.capacity }
+
+-- the first connection is read off a presence link, if there is one
+abbrev pub FirstIsRead : Comings → Option ℕ → Comings → Type 0
+FirstIsRead old None new = (old.conns ≡ []) × (new ≡ old)
+FirstIsRead old (Some conn) new = (old.conns ≡ conn ∷ new.conns) × (new.capacity ≡ old.capacity)
 
 -- The place of a device: the unit, whether it is plugged in, its connection (0 before the first), the
 -- number of its next FIS on it, its link to the multiplier, and its presence link.
@@ -54,9 +66,13 @@ pub record Places : Type 0 where
 abbrev pub nothing_shown : List ℕ
 nothing_shown = replicate 15 0
 
+-- the stamp of what is sent from a place at this port
+abbrev pub stamp_of : ℕ → Place → Stamp
+stamp_of port place = record { port = port; conn = place.conn; number = place.number; shown = nothing_shown }
+
 -- the frame that is sent with these bytes from a place at this port
 abbrev pub frame_of : ℕ → Place → List ℕ → Stamped
-frame_of port place bytes = record { bytes = bytes; stamp = record { port = port; conn = place.conn; number = place.number; shown = nothing_shown } }
+frame_of port place bytes = record { bytes = bytes; stamp = stamp_of port place }
 
 -- the frame is the one of which an answer with these parts tells
 pub record IsTold (frame : Stamped) (port conn number : ℕ) (bytes : List ℕ) : Type 0 where

@@ -1,4 +1,4 @@
--- An issued read, as the contracts see it.
+-- An issued read, as the contracts see it (Serial ATA 3.x, native command queuing).
 use Rattle.std.specs.Prelude.{ℕ, Bool, List, Option}
 use Rattle.host_memory.specs.declared.table.Prd.{Prd}
 use Rattle.pm_world.specs.declared.host.Transfer.{Transfer}

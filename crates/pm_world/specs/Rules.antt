@@ -1,4 +1,5 @@
--- The rules of the steps: when a step is refused, and what it does where it is not.
+-- The rules of the steps: when a step is refused, and what it does where it is not (Serial ATA 3.x, port multiplier: frame
+-- transmission, presence; AHCI 1.3.1, command list).
 --
 -- Of each step the refusals are tested first, in their order; then it is Idle where it reads from an
 -- empty link or from a unit that is not plugged in; then Blocked where the place it writes to is full;
@@ -7,12 +8,12 @@ use Rattle.std.specs.Prelude.{ℕ, ◌+◌, ◌≡◌, ◌≢◌, ◌<◌, ◌==
 use Rattle.std.specs.Option.{option_map_or}
 use Rattle.fis_view.specs.Frames.{Stamped, is_frame}
 use Rattle.disk_model.specs.Histories.{Plugged}
-use Rattle.disk_model.specs.Units.{UnitGoesOn, UnitSends, UnitIsSilent}
+use Rattle.disk_model.specs.Units.{IsDisk, UnitGoesOn, UnitSends, UnitIsSilent}
 use Rattle.pm_ports.specs.Port.{PortState, came_refusal as port_came_refusal, next_up, with_connection, with_up}
 use Rattle.multiplier.specs.Arbiter.{next_served}
 use Rattle.pm_world.specs.Places.{Places, Place, Queue, IsFull, AreFull, IsTold, pushed, posted, after_sending, rising, with_device, with_port, with_ports, with_served, with_upward, with_host}
 use Rattle.pm_world.specs.Fanout.{port_at}
-use Rattle.pm_world.specs.Host.{Host, submit_refusal, Submits}
+use Rattle.pm_world.specs.Host.{Host, submit_refusal, TakesRequest}
 use Rattle.pm_world.specs.Deeds.{Takes, PutsBytes, completion_of, after_poll, put_refusal}
 use Rattle.pm_world.specs.declared.request.Request.{Request}
 use Rattle.pm_world.specs.declared.step.Step.{Step}
@@ -54,9 +55,9 @@ CameActs port old (answer.Came p conn) new =
     × (¬ AreFull old.presence)
 CameActs port old _ new = ⊥
 
--- where want of memory may be answered
+-- where want of memory may be answered: there is room on the presence link, and the unit is a disk; a script takes none
 abbrev pub CameWants : Place → StepError → Type 0
-CameWants place error.OutOfMemory = ¬ AreFull place.presence
+CameWants place error.OutOfMemory = (¬ AreFull place.presence) × IsDisk place.unit
 CameWants place _ = Unit {0}
 
 abbrev pub CameRule : ℕ → Place → Outcome → Place → Type 0
@@ -169,7 +170,7 @@ is_there now dev = dev == 0 && is_plugged (slice_get now.devices 0)
 -- A request is given to the driver.
 abbrev pub SubmitRule : Bool → Request → Host → Outcome → Host → Type 0
 SubmitRule there request host (Ok (answer.Refused e)) after = (submit_refusal host there request ≡ Some e) × (after ≡ host)
-SubmitRule there request host (Ok (answer.Submitted ticket)) after = (submit_refusal host there request ≡ None) × (ticket.0 ≡ host.given + 1) × Submits host request after
+SubmitRule there request host (Ok (answer.Submitted ticket)) after = (submit_refusal host there request ≡ None) × TakesRequest host request ticket.0 after
 SubmitRule there request host (Err error.OutOfMemory) after = (submit_refusal host there request ≡ None) × (after ≡ host)
 SubmitRule there request host _ after = ⊥
 

@@ -1,4 +1,4 @@
--- What was sent, what was taken, and what stands between.
+-- What was sent, what was taken, and what stands between (Serial ATA 3.x, port multiplier: frame transmission, PM Port).
 use Rattle.std.specs.Prelude.{ℕ, ◌≡◌, ◌==◌, ◌&&◌, if◌then◌else◌, List, [], ◌∷◌, ◌++◌, map, filter, Option, Some, None, slice_get, option_to_list}
 use Rattle.std.specs.List.{flat_map}
 use Rattle.fis_view.specs.Frames.{Stamped, marked}

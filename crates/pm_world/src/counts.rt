@@ -1,13 +1,14 @@
-ghost use Rattle.std.specs.Prelude.{◌≡◌, ◌==◌, ◌&&◌, ℕ, if◌then◌else◌, [], ◌∷◌, ◌++◌, List, option_map, None, IfOk, IfErr, OnOk, OnErr};
-ghost use Rattle.std.specs.Option.{option_or};
-ghost use Rattle.pm_world.specs.Counting.{noted, row_of, first_row, sent_more, taken_more, AreSorted, AddsRow, Tell, AreOfARun, IsRowAt, IsGapFor};
-ghost use Rattle.pm_world.specs.declared.step.Answer.{Answer};
+ghost use Rattle.std.specs.Prelude.{◌≡◌, [], None, IfOk, IfErr, OnOk, OnErr};
+ghost use Rattle.pm_world.specs.Counting.{row_of, sent_more, taken_more, AreSorted, AddsRow, Tell};
+ghost use Rattle.pm_world.specs.Counting.{IsRowAt, IsGapFor, HasRowFor, ChangesRow};
+ghost use Rattle.pm_world.specs.Counting.{CountsAnswer, GoesOnTelling};
 
 use crate::step::Answer;
 use std::alloc::{AllocError, Global};
 use std::marker::Model;
 
-/// How many FISes of one connection of one port were sent and taken. A count stays at its largest value.
+/// How many FISes of one connection of one port were sent and taken. A count stays at its largest
+/// value.
 #[derive(Clone, Copy, Debug, PartialEq, Eq)]
 pub struct ConnCount {
     pub port: u8,
@@ -37,7 +38,7 @@ impl Model for Counts {
 impl Counts {
     /// Counts with no row, whose rows will be kept in memory of this allocator.
     pub fn new(alloc: Global) -> Self
-        ensures none { result ≡ [] }
+        ensures no_rows { result ≡ [] }
         ensures tell { Tell result [] }
     {
         Counts {
@@ -47,8 +48,8 @@ impl Counts {
 
     /// Counts one answer of a world.
     pub fn note(&mut self, answer: &Answer) -> Result<(), AllocError>
-        ensures rows { OnOk result ((n c : ℕ) → row_of n c self.new ≡ noted n c answer.now (row_of n c self.old)) }
-        ensures tell { OnOk result ((answers : List Answer) → AreOfARun (answers ++ answer.now ∷ []) → Tell self.old answers → Tell self.new (answers ++ answer.now ∷ [])) }
+        ensures rows { OnOk result (CountsAnswer self.old answer.now self.new) }
+        ensures tell { OnOk result (GoesOnTelling self.old answer.now self.new) }
         ensures err { OnErr result (self.new ≡ self.old) }
         ensures memory { OnErr result (AddsRow self.old answer.now) }
     {
@@ -64,7 +65,7 @@ impl Counts {
     }
 
     fn count(&mut self, answer: &Answer) -> Result<(), AllocError>
-        ensures rows { OnOk result ((n c : ℕ) → row_of n c self.new ≡ noted n c answer.now (row_of n c self.old)) }
+        ensures rows { OnOk result (CountsAnswer self.old answer.now self.new) }
         ensures err { OnErr result (self.new ≡ self.old) }
         ensures memory { OnErr result (AddsRow self.old answer.now) }
     {
@@ -81,7 +82,7 @@ impl Counts {
 
     /// Gives the connection a row, unless it has one.
     fn came(&mut self, port: u8, conn: u32) -> Result<(), AllocError>
-        ensures rows { OnOk result ((n c : ℕ) → row_of n c self.new ≡ (if port == n && conn == c then option_or (row_of n c self.old) (Some (first_row n c)) else row_of n c self.old)) }
+        ensures rows { OnOk result (HasRowFor self.old port conn self.new) }
         ensures err { OnErr result (self.new ≡ self.old) }
         ensures memory { OnErr result (row_of port conn self.old ≡ None) }
     {
@@ -99,7 +100,7 @@ impl Counts {
 
     /// Counts one more FIS as sent on the connection, where it has a row.
     fn sent(&mut self, port: u8, conn: u32)
-        ensures { (n c : ℕ) → row_of n c self.new ≡ (if port == n && conn == c then option_map sent_more (row_of n c self.old) else row_of n c self.old) }
+        ensures { ChangesRow sent_more self.old port conn self.new }
     {
         if let Ok(at) = self.search(port, conn) {
             let row = self.rows[at];
@@ -112,7 +113,7 @@ impl Counts {
 
     /// Counts one more FIS as taken on the connection, where it has a row.
     fn took(&mut self, port: u8, conn: u32)
-        ensures { (n c : ℕ) → row_of n c self.new ≡ (if port == n && conn == c then option_map taken_more (row_of n c self.old) else row_of n c self.old) }
+        ensures { ChangesRow taken_more self.old port conn self.new }
     {
         if let Ok(at) = self.search(port, conn) {
             let row = self.rows[at];

@@ -1,4 +1,5 @@
-ghost use Rattle.std.specs.Prelude.{◌≡◌, ◌<◌, ◌≤◌, true, Some, None, MatchOption, IfOk, is_none, length, option_map, vec_len};
+ghost use Rattle.std.specs.Prelude.{◌≡◌, ◌<◌, ◌≤◌, true, Some, None, IfNone};
+ghost use Rattle.std.specs.Prelude.{IfOk, IfSome, is_none, length, option_map, vec_len};
 ghost use Rattle.pm_ports.specs.Port.{with_up};
 ghost use Rattle.multiplier.specs.Arbiter.{control_port};
 ghost use Rattle.pm_world.specs.Fanout.{opening_fanout, port_at, with_port_at, GoesUp};
@@ -14,7 +15,8 @@ use std::marker::Model;
 /// The control port, the last place of the circle. It has nothing to say here.
 const CONTROL_PORT: u8 = 15;
 
-/// The fan-out ports of a multiplier, one for each unit, which always forward, and the place that was served last.
+/// The fan-out ports of a multiplier, one for each unit, which always forward, and the place that
+/// was served last.
 #[derive(Drop)]
 pub struct Fanout {
     ports: Vec<Port>,
@@ -88,7 +90,7 @@ impl Fanout {
 
     /// The port that is served next.
     fn next_port(&self) -> Option<u8>
-        ensures value { result ≡ next_port self.now.ports self.now.served }
+        ensures next { result ≡ next_port self.now.ports self.now.served }
         ensures served { self.now.served ≤ control_port }
     {
         (self.served + 1..16)
@@ -99,7 +101,8 @@ impl Fanout {
     /// Gives the frame of the port that is served next, marked with the port.
     pub fn next_up(&mut self) -> Option<(u8, Frame)>
         ensures next { option_map (λ up. up.0) result ≡ next_port self.old.ports self.old.served }
-        ensures given { MatchOption result (self.new ≡ self.old) (λ up. GoesUp self.old up.0 up.1 self.new) }
+        ensures silent { IfNone result (self.new ≡ self.old) }
+        ensures goes_up { IfSome result (λ up. GoesUp self.old up.0 up.1 self.new) }
     {
         let port = self.next_port()?;
         let frame = self.take_ready(port);

@@ -1,15 +1,18 @@
 //! The host's part of a world: its memory, and a driver and a host port for one read.
 
-ghost use Rattle.std.specs.Prelude.{◌≡◌, ◌+◌, ◌*◌, ◌/◌, ◌%◌, ◌≤◌, ◌<◌, ◌↔◌, ◌==◌, if◌then◌else◌, false, true, None, All, IsTrue, IfOk, OnErr, length, replicate};
+ghost use Rattle.std.specs.Prelude.{◌≡◌, ◌+◌, ◌%◌, ◌≤◌, ◌==◌, true, false, None, All, IfOk, OnErr, length};
 ghost use Rattle.std.specs.List.{list_any, list_all};
-ghost use Rattle.host_memory.specs.Place.{Scatters, total_of as total};
 ghost use Rattle.fis_view.specs.Frames.{IsFrame};
 ghost use Rattle.fis_view.specs.Table.{Bits, BufferId, Count, D, Offset, SActive, Setup, Status, field};
-ghost use Rattle.host_memory.specs.Reading.{have_overlap as have_overlap_of, prds_at, read_fault};
-ghost use Rattle.host_memory.specs.Writing.{CanBeWritten, IsUsable};
+ghost use Rattle.host_memory.specs.Place.{Scatters, total_of as total};
+ghost use Rattle.host_memory.specs.Reading.{prds_at, read_fault};
+ghost use Rattle.host_memory.specs.Writing.{CanBeWritten};
 ghost use Rattle.pm_world.specs.Events.{told};
-ghost use Rattle.pm_world.specs.Deeds.{in_use, port_of, put_refusal, share_bytes};
-ghost use Rattle.pm_world.specs.Host.{Hears, IsHost, nothing_done, Carries, HasTable, TransferIsWithin, with_come, new_read, table_at, takes_setup, takes_bits, with_setup, is_bad_prd, is_bad_count, is_mismatch, have_not_come};
+ghost use Rattle.pm_world.specs.Deeds.{in_use, pm_port_of, put_refusal, share_bytes};
+ghost use Rattle.pm_world.specs.Host.{CanBeRead, Carries, HasTable, Hears, IsGoodFor, IsHost};
+ghost use Rattle.pm_world.specs.Host.{TransferIsWithin, after_setup, have_not_come, new_read};
+ghost use Rattle.pm_world.specs.Host.{is_bad_count, is_bad_prd, is_mismatch, nothing_done};
+ghost use Rattle.pm_world.specs.Host.{table_at, table_of, takes_bits, with_come, with_table};
 
 use crate::request::{Completion, Outcome, Request, SubmitError, TakeReport, Ticket};
 use crate::step::StepError;
@@ -27,7 +30,7 @@ pub struct Transfer {
     /// How many bytes it lets come.
     pub count: u32,
     /// How many of them came.
-    pub gone: u32,
+    pub came: u32,
 }
 
 /// An issued read.
@@ -46,7 +49,12 @@ impl Model for Read {
 
     ghost Value = { Read };
 
-    ghost view = { λ r. record { ticket = r.ticket; prds = r.prds.items; len = r.len; over = r.over.items; transfer = r.transfer } };
+    ghost view = {
+        λ r. record {
+            ticket = r.ticket; prds = r.prds.items; len = r.len; over = r.over.items;
+            transfer = r.transfer;
+        }
+    };
 }
 
 /// The slot of the one read.
@@ -82,7 +90,7 @@ impl Model for Host {
 }
 
 impl Host {
-    ghost use Rattle.pm_world.specs.Host.{submit_refusal, Submits, end_of};
+    ghost use Rattle.pm_world.specs.Host.{submit_refusal, TakesRequest, end_of};
     ghost use Rattle.pm_world.specs.Deeds.{Takes, PutsBytes, after_poll, completion_of};
 
     /// A host with this memory, which has taken no request.
@@ -131,7 +139,7 @@ impl Host {
     /// Takes the request: writes its table and issues its read under the next ticket.
     pub fn submit(&mut self, alloc: Global, request: &Request) -> Result<Ticket, AllocError>
         requires { submit_refusal self.old true request.now ≡ None }
-        ensures ok { IfOk result (λ ticket. (ticket.0 ≡ self.old.given + 1) × Submits self.old request.now self.new) }
+        ensures ok { IfOk result (λ ticket. TakesRequest self.old request.now ticket.0 self.new) }
         ensures err { OnErr result (self.new ≡ self.old) }
     {
         let read = issued_read(alloc, self.given + 1, request)?;
@@ -226,9 +234,9 @@ fn issued_read(alloc: Global, ticket: u32, request: &Request) -> Result<Read, Al
 fn write_table(memory: &mut HostMemory, prds: &[Prd])
     requires counts { All CanBeWritten prds.now }
     requires few { length prds.now ≤ 248 }
-    ensures client { memory.new.client ≡ memory.old.client }
+    ensures written { memory.new ≡ with_table memory.old prds.now }
     ensures reads { prds_at memory.new.structure table_at (length prds.now) ≡ prds.now }
-    ensures readable { All (IsUsable (length memory.old.client)) prds.now → have_overlap_of prds.now ≡ false → read_fault memory.new.structure (length memory.old.client) table_at (length prds.now) ≡ None }
+    ensures readable { IsGoodFor (length memory.old.client) prds.now → CanBeRead memory.new prds.now }
 {
     write_prds(memory.structure_mut(), TABLE, prds);
 }
@@ -293,8 +301,12 @@ fn have_bad_prd(end: u32, prds: &[Prd]) -> bool
 
 // Accepts a DMA Setup, if it fits.
 fn set_up(read: &mut Read, fis: &DmaSetup<'_>)
-    ensures { read.new ≡ (if takes_setup read.old (field Setup BufferId fis.now % 32) (field Setup Offset fis.now) (field Setup Count fis.now) (field Setup D fis.now == 1)
-        then with_setup read.old (field Setup Offset fis.now) (field Setup Count fis.now) else read.old) }
+    ensures {
+        let offset = field Setup Offset fis.now in
+        let count = field Setup Count fis.now in
+        let tag = field Setup BufferId fis.now % 32 in
+        read.new ≡ after_setup read.old tag offset count (field Setup D fis.now == 1)
+    }
 {
     let (offset, count) = (fis.offset(), fis.count());
     let is_for_read = fis.buffer_id() % 32 == 0 && fis.d();
@@ -304,7 +316,7 @@ fn set_up(read: &mut Read, fis: &DmaSetup<'_>)
         read.transfer = Some(Transfer {
             offset,
             count,
-            gone: 0,
+            came: 0,
         });
     }
 }
@@ -336,7 +348,10 @@ fn hear_by(mut read: Read, memory: &mut HostMemory, frame: &[u8]) -> (Slot, Take
     requires frame { IsFrame frame.now }
     requires table { HasTable memory.old read }
     requires within { TransferIsWithin read read.transfer }
-    ensures heard { Hears (told frame.now) (port_of frame.now) read memory.old.client result.1 result.0 memory.new.client }
+    ensures heard {
+        let dev = pm_port_of frame.now in
+        Hears (told frame.now) dev read memory.old.client result.1 result.0 memory.new.client
+    }
     ensures structure { memory.new.structure ≡ memory.old.structure }
     ensures host { IsHost memory.new result.0 }
 {
@@ -364,10 +379,15 @@ fn hear_by(mut read: Read, memory: &mut HostMemory, frame: &[u8]) -> (Slot, Take
 
 // Writes bytes of the transfer, from this one on, to their places.
 fn write_data(memory: &mut HostMemory, count: u16, from: u32, payload: &[u8])
-    requires readable { read_fault memory.old.structure (length memory.old.client) table_at count ≡ None }
-    requires fits { from + length payload.now ≤ total (prds_at memory.old.structure table_at count) }
+    requires readable {
+        read_fault memory.old.structure (length memory.old.client) table_at count ≡ None
+    }
+    requires fits { from + length payload.now ≤ total (table_of memory.old count) }
     ensures structure { memory.new.structure ≡ memory.old.structure }
-    ensures client { Scatters (prds_at memory.old.structure table_at count) from payload.now memory.old.client memory.new.client }
+    ensures client {
+        let prds = table_of memory.old count in
+        Scatters prds from payload.now memory.old.client memory.new.client
+    }
 {
     let (structure, client) = memory.split();
     match PrdTable::read(structure, client.len() as u32, TABLE, count) {
@@ -389,20 +409,23 @@ fn carry(read: &mut Read, memory: &mut HostMemory, payload: &[u8]) -> Option<u32
     requires table { HasTable memory.old read.old }
     requires within { TransferIsWithin read.old read.old.transfer }
     requires dwords { length payload.now % 4 ≡ 0 }
-    ensures data { Carries read.old.transfer read.old payload.now memory.old.client result read.new memory.new.client }
+    ensures data {
+        let client = memory.old.client in
+        Carries read.old.transfer read.old payload.now client result read.new memory.new.client
+    }
     ensures structure { memory.new.structure ≡ memory.old.structure }
     ensures table { HasTable memory.new read.new }
     ensures within { TransferIsWithin read.new read.new.transfer }
 {
     let transfer = read.transfer?;
-    if payload.len() > (transfer.count - transfer.gone) as usize {
+    if payload.len() > (transfer.count - transfer.came) as usize {
         return None;
     }
-    let from = transfer.offset + transfer.gone;
+    let from = transfer.offset + transfer.came;
     write_data(memory, read.prds.len() as u16, from, payload);
     note_come(&mut read.over, from as usize / 4, payload.len() / 4);
     read.transfer = Some(Transfer {
-        gone: transfer.gone + payload.len() as u32,
+        came: transfer.came + payload.len() as u32,
         ..transfer
     });
     Some(from)
@@ -411,7 +434,10 @@ fn carry(read: &mut Read, memory: &mut HostMemory, payload: &[u8]) -> Option<u32
 // Whether the FIS ends the read.
 #[tactic(auto, using(crate::proofs::HostLemmas::has_bit_low))]
 fn is_ended_by(read: &Read, fis: &SetBits<'_>) -> bool
-    ensures { result ≡ takes_bits read.now (field Bits Status fis.now) (field Bits SActive fis.now) }
+    ensures {
+        let status = field Bits Status fis.now in
+        result ≡ takes_bits read.now status (field Bits SActive fis.now)
+    }
 {
     if fis.status() % 2 == 1 || fis.sactive() % 2 == 0 {
         return false;

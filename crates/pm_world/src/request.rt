@@ -37,7 +37,8 @@ pub struct Completion {
     pub outcome: Outcome,
 }
 
-/// Why a request is refused. They are tested in the order of their numbers, and a refusal changes nothing.
+/// Why a request is refused. They are tested in the order of their numbers, and a refusal changes
+/// nothing.
 #[derive(Clone, Copy, Debug, PartialEq, Eq)]
 pub enum SubmitError {
     /// There is no such device, or it is not plugged in.
@@ -61,7 +62,8 @@ pub enum SubmitError {
 pub struct TakeReport {
     /// The PM Port of the FIS.
     pub dev: u8,
-    /// Of a Data FIS that was written: the slot, the number of its first byte in the transfer, and how many bytes.
+    /// Of a Data FIS that was written: the slot, the number of its first byte in the transfer, and
+    /// how many bytes.
     pub wrote: Option<(u8, u32, u32)>,
     /// The slots that completed, a bit for each.
     pub done: u32,

@@ -1,7 +1,8 @@
-ghost use Rattle.std.specs.Prelude.{◌≡◌, ◌↔◌, ◌≤◌, ◌∷◌, [], IsTrue, IfOk, MatchOption, false, length, vec_capacity};
+ghost use Rattle.std.specs.Prelude.{◌≡◌, ◌↔◌, ◌≤◌, [], IsTrue, IfOk, false, length, vec_capacity};
 ghost use Rattle.fis_view.specs.Frames.{IsFrame};
-ghost use Rattle.pm_world.specs.Places.{nothing_shown, opening};
-ghost use Rattle.pm_world.specs.Rules.{CameRule, DiskSendRule, InjectRule, no_refusal, came_refusal, send_refusal, inject_refusal};
+ghost use Rattle.pm_world.specs.Places.{FirstIsRead, FirstLeaves, opening, stamp_of};
+ghost use Rattle.pm_world.specs.Rules.{CameRule, DiskSendRule, InjectRule};
+ghost use Rattle.pm_world.specs.Rules.{came_refusal, send_refusal, inject_refusal};
 
 use crate::link::{Link, PresenceLink};
 use crate::step::{Answer, StepError};
@@ -10,8 +11,8 @@ use fis_view::{Bytes, Frame, FrameError, Stamp, is_frame_length};
 use std::alloc::{AllocError, Global};
 use std::marker::Model;
 
-/// The place of a device: the unit, its connection, its link to the multiplier, and the presence link, on which
-/// connections that came wait to be recorded.
+/// The place of a device: the unit, its connection, its link to the multiplier, and the presence
+/// link, on which connections that came wait to be recorded.
 #[derive(Drop)]
 pub struct Seat {
     unit: Unit,
@@ -27,7 +28,12 @@ impl Model for Seat {
 
     ghost Value = { Place };
 
-    ghost view = { λ s. record { unit = s.unit; plugged = s.plugged; conn = s.conn; number = s.number; up = s.up; presence = s.presence } };
+    ghost view = {
+        λ s. record {
+            unit = s.unit; plugged = s.plugged; conn = s.conn; number = s.number; up = s.up;
+            presence = s.presence;
+        }
+    };
 }
 
 impl Seat {
@@ -164,23 +170,22 @@ impl Seat {
 
     /// Takes the first connection off the presence link.
     pub fn next_coming(&mut self) -> Option<u32>
-        ensures taken { MatchOption result (self.old.presence.conns ≡ []) (λ conn. self.old.presence.conns ≡ conn ∷ self.new.presence.conns) }
-        ensures same { MatchOption result (self.new ≡ self.old) (λ _. self.new.presence.capacity ≡ self.old.presence.capacity) }
-        ensures others { self.new ≡ record self.old { presence = record self.old.presence { conns = self.new.presence.conns } } }
+        ensures first { FirstIsRead self.old.presence result self.new.presence }
+        ensures others { self.new ≡ record self.old { presence = self.new.presence } }
     {
         self.presence.take()
     }
 
     /// Takes the first frame off the link.
     pub fn take(&mut self) -> Option<Frame>
-        ensures taken { MatchOption result (self.old.up.frames ≡ []) (λ frame. self.old.up.frames ≡ frame ∷ self.new.up.frames) }
-        ensures others { self.new ≡ record self.old { up = record self.old.up { frames = self.new.up.frames } } }
+        ensures first { FirstLeaves self.old.up result self.new.up }
+        ensures others { self.new ≡ record self.old { up = self.new.up } }
     {
         self.up.take()
     }
 
     fn stamp(&self, port: u8) -> Stamp
-        ensures { result ≡ record { port = port; conn = self.now.conn; number = self.now.number; shown = nothing_shown } }
+        ensures { result ≡ stamp_of port self.now }
     {
         Stamp {
             port,

@@ -35,7 +35,12 @@ impl Model for World {
 
     ghost Value = { Places };
 
-    ghost view = { λ w. record { devices = w.seats.items; ports = w.fanout.ports; served = w.fanout.served; upward = w.upward; host = w.host } };
+    ghost view = {
+        λ w. record {
+            devices = w.seats.items; ports = w.fanout.ports; served = w.fanout.served;
+            upward = w.upward; host = w.host;
+        }
+    };
 
     ghost invariant = { λ w. length w.fanout.ports ≡ length w.seats.items };
 }
@@ -45,7 +50,9 @@ impl World {
     pub fn new(alloc: Global, config: Config, units: Vec<Unit>) -> Result<Self, WorldError>
         ensures ok { IfOk result (λ world. world ≡ new_world config units.items) }
         ensures nothing_stands { IfOk result (λ world. (n c : ℕ) → transit n c world ≡ []) }
-        ensures bad_config { (result ≡ Err WorldError.BadConfig) ↔ (is_config config (length units.items) ≡ false) }
+        ensures bad_config {
+            (result ≡ Err WorldError.BadConfig) ↔ (is_config config (length units.items) ≡ false)
+        }
     {
         if !is_config(config, units.len()) {
             return Err(WorldError::BadConfig);
@@ -304,7 +311,10 @@ fn seats_of(alloc: Global, capacity: usize, mut units: Vec<Unit>) -> Result<Vec<
 /// Has port n record the first connection on its presence link.
 fn record(n: u8, seat: &mut Seat, fanout: &mut Fanout) -> Answer
     requires { n < length fanout.old.ports }
-    ensures rule { PmPresenceRule n seat.old (port_at fanout.old.ports n) (Ok result) seat.new (port_at fanout.new.ports n) }
+    ensures rule {
+        let port = port_at fanout.old.ports n in
+        PmPresenceRule n seat.old port (Ok result) seat.new (port_at fanout.new.ports n)
+    }
     ensures others { fanout.new ≡ with_port_at fanout.old n (port_at fanout.new.ports n) }
 {
     match seat.next_coming() {
@@ -319,7 +329,10 @@ fn record(n: u8, seat: &mut Seat, fanout: &mut Fanout) -> Answer
 /// Moves the first frame of a device's link into the hold of port n.
 fn pass_up(n: u8, seat: &mut Seat, fanout: &mut Fanout) -> Answer
     requires { n < length fanout.old.ports }
-    ensures rule { PmFromDeviceRule n seat.old (port_at fanout.old.ports n) (Ok result) seat.new (port_at fanout.new.ports n) }
+    ensures rule {
+        let port = port_at fanout.old.ports n in
+        PmFromDeviceRule n seat.old port (Ok result) seat.new (port_at fanout.new.ports n)
+    }
     ensures others { fanout.new ≡ with_port_at fanout.old n (port_at fanout.new.ports n) }
 {
     if seat.is_empty() {
@@ -342,7 +355,10 @@ fn pass_up(n: u8, seat: &mut Seat, fanout: &mut Fanout) -> Answer
 
 /// The answer to a frame that was taken.
 fn took(frame: Frame, report: TakeReport) -> Answer
-    ensures { result ≡ Answer.Took frame.stamp.port frame.stamp.conn frame.stamp.number frame.bytes report }
+    ensures {
+        let stamp = frame.stamp in
+        result ≡ Answer.Took stamp.port stamp.conn stamp.number frame.bytes report
+    }
 {
     let stamp = frame.stamp();
     Answer::Took {

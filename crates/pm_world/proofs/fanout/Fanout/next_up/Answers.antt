@@ -6,12 +6,12 @@ use Rattle.pm_world.proofs.Fanouts.{next_is_ready, ready_there}
 use Rattle.pm_world.proofs.fanout.Fanout.next_up.Goals as goal
 
 pub take_ready-frame-requires : goal.take_ready-frame-requires
-take_ready-frame-requires c = next_is_ready c.args.self.now.ports c.args.self.now.served c.in_ok-port.port c.next_port.result c.next_port.ensures.value c.in_ok-port.was
+take_ready-frame-requires c = next_is_ready c.args.self.now.ports c.args.self.now.served c.in_ok-port.port c.next_port.result c.next_port.ensures.next c.in_ok-port.was
 
-pub returns-clause-given : goal.returns-clause-given
-returns-clause-given c =
+pub returns-clause-goes_up : goal.returns-clause-goes_up
+returns-clause-goes_up c =
     let ports = c.args.self.now.ports in
-    let ready = next_is_ready ports c.args.self.now.served c.in_ok-port.port c.next_port.result c.next_port.ensures.value c.in_ok-port.was in
+    let ready = next_is_ready ports c.args.self.now.served c.in_ok-port.port c.next_port.result c.next_port.ensures.next c.in_ok-port.was in
     record {
       port = port_at ports c.in_ok-port.port;
       frame = c.take_ready-frame.result;
