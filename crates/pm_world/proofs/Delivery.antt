@@ -15,6 +15,7 @@ use Rattle.pm_world.specs.declared.step.Answer.{Answer}
 use Rattle.pm_world.specs.declared.step.Answer.TheVariants as answer
 use Rattle.pm_world.proofs.Moves.{there, at_both}
 use Rattle.pm_world.proofs.ReadLaws.{completes_once, delivers}
+use Rattle.pm_world.proofs.Risen.{run_rises, opening_risen}
 
 -- deeds, and then deeds
 pub does-append : (a b c : Host) (first second : List Deed) → DoesAll a first b → DoesAll b second c → DoesAll a (first ++ second) c
@@ -93,5 +94,6 @@ delivers_reads old steps answers new run = record {
   delivers = λ config units before told made.
       let whole = run-append (new_world config units) old new before told steps answers made run in
       delivers (new_world config units).host (deeds_of (before ++ steps) (told ++ answers)) new.host refl refl (run_does (new_world config units) (before ++ steps) (told ++ answers) new whole);
+  own_port = λ config units before told made. (run_rises old steps answers new (run_rises (new_world config units) before told old (opening_risen config units) made).1 run).0;
   once = completes_once;
 }

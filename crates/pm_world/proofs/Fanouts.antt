@@ -1,12 +1,11 @@
 -- The ports after a call of one of them.
 use Rattle.std.proofs.Common.{◌≡◌, ℕ, zero, suc, ◌<◌, ◌≤◌, Bool, true, false, List, [], ◌∷◌, length, map, take, Option, Some, None, Result, Ok, Err, refl, sym, ap, ◌∙◌, arith}
 use Rattle.std.specs.Prelude.{slice_get, slice_set, slice_index_or, is_some, is_none, ◌&&◌, if◌then◌else◌, MatchResult}
-use Rattle.std.specs.List.{find}
 use Rattle.std.specs.Result.{result_err}
 use Rattle.std.proofs.lemmas.List.{get_or_default, take_all}
 use Rattle.disk_model.specs.declared.unit.Unit.{Unit as Device}
 use Rattle.fis_view.specs.Frames.{Stamped}
-use Rattle.multiplier.specs.Arbiter.{control_port, circle_after}
+use Rattle.multiplier.proofs.ArbiterLemmas.{served_is_ready}
 use Rattle.pm_ports.specs.Port.{PortState, empty_port, came_refusal, with_connection, with_up, is_of_present, only_if, rises, next_up}
 use Rattle.pm_ports.specs.Offering.{IsOffered}
 use Rattle.pm_ports.specs.declared.port.Offered.{Offered}
@@ -62,16 +61,6 @@ port_is ports n old was lt = was ∙ get_or_default ports n old empty_port lt
 pub new_view : (ports : List PortState) (units now : List Device) (k : ℕ) → ports ≡ map opening_port (take k units) → now ≡ units → length now ≤ k → ports ≡ map opening_port units
 new_view ports units now k are is all = are ∙ ap (λ (us : List Device). map opening_port us) (take_all k units (rw is at all))
 
--- ---- the port that is served next
-
-passes_by : (test : ℕ → Bool) (x r : ℕ) (rest : Option ℕ) (b : Bool) → test x ≡ b → (if b then Some x else rest) ≡ Some r → (rest ≡ Some r → test r ≡ true) → test r ≡ true
-passes_by test x r rest true is e h = let s : x ≡ r = cc in sym (ap test s) ∙ is
-passes_by test x r rest false is e h = h e
-
-passes_test : (test : ℕ → Bool) (places : List ℕ) (r : ℕ) → find test places ≡ Some r → test r ≡ true
-passes_test test [] r e = absurd cc
-passes_test test (x ∷ places) r e = passes_by test x r (find test places) (test x) refl e (passes_test test places r)
-
--- it is ready, and so one of the ports
+-- the port that is served next is ready
 pub next_is_ready : (ports : List PortState) (served r : ℕ) (found : Option ℕ) → found ≡ next_port ports served → found ≡ Some r → is_ready ports r ≡ true
-next_is_ready ports served r found is some = passes_test (is_ready ports) (circle_after served) r (sym is ∙ some)
+next_is_ready ports served r found is some = served_is_ready (is_ready ports) served r (sym is ∙ some)

@@ -16,3 +16,6 @@ pub mod Rows
 pub mod Comings
 pub mod Delivery
 pub mod Fanouts
+pub mod Risen
+pub mod Units
+pub mod Laws

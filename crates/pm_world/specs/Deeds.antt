@@ -149,6 +149,19 @@ pub record IsTook (deeds before : List Deed) (frame : List ℕ) (report : TakeRe
   pub after : List Deed
   pub deeds_are : deeds ≡ before ++ Took frame report ∷ after
 
+-- whether a deed issues slot s of a device: a request is issued in slot 0 of device 0
+abbrev pub issues : (dev s : ℕ) → Deed → Bool
+issues dev s (Submitted request ticket) = 0 == dev && 0 == s
+issues dev s _ = false
+
+-- the deeds have two Took with these reports, and these deeds between them
+pub record AreTooks (deeds : List Deed) (first : TakeReport) (between : List Deed) (second : TakeReport) : Type 0 where
+  pub before : List Deed
+  pub frame : List ℕ
+  pub later : List ℕ
+  pub after : List Deed
+  pub deeds_are : deeds ≡ before ++ Took frame first ∷ (between ++ Took later second ∷ after)
+
 -- What holds of the reads and of the client bytes over all deeds since the world was made.
 pub record Delivers (opened : List ℕ) (deeds : List Deed) (now : Host) : Type 0 where
   -- each client byte is as it was at the opening, but for what accepted Puts wrote and for what Data filled at its place
@@ -156,6 +169,8 @@ pub record Delivers (opened : List ℕ) (deeds : List Deed) (now : Host) : Type 
   -- a bit of done is set exactly where the FIS completes that slot of its own device
   pub done : (before : List Deed) (frame : List ℕ) (report : TakeReport) → IsTook deeds before frame report → (s : ℕ) → s < 32 → has_bit report.done s ≡ completes_now (touches [] before) s frame
   pub by_device : (before : List Deed) (frame : List ℕ) (report : TakeReport) → IsTook deeds before frame report → report.dev ≡ pm_port_of frame
+  -- between two reports of one device that both have the bit of a slot, the slot is issued again
+  pub done_once : (first : TakeReport) (between : List Deed) (second : TakeReport) → AreTooks deeds first between second → first.dev ≡ second.dev → (s : ℕ) → s < 32 → has_bit first.done s ≡ true → has_bit second.done s ≡ true → list_any (issues first.dev s) between ≡ true
   -- at that step every byte of the read is filled, and stands at its place in client memory
   pub in_place : (before : List Deed) (frame : List ℕ) (report : TakeReport) → IsTook deeds before frame report → (s : ℕ) (c : Command) →
       issued s (own (pm_port_of frame) (touches [] before)) ≡ Some c → completes_now (touches [] before) s frame ≡ true → (i : ℕ) → i < c.len →

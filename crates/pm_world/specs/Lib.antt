@@ -10,3 +10,4 @@ pub mod Host
 pub mod Deeds
 pub mod Counting
 pub mod Delivery
+pub mod Laws

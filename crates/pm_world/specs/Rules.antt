@@ -148,7 +148,7 @@ PmUpRule ports served upward (Ok answer.Blocked) after last new =
 PmUpRule ports served upward (Ok (answer.Up n)) after last new =
     (¬ IsFull upward) × (next_port ports served ≡ Some n) × (last ≡ n)
     × ((port : PortState) × (frame : Stamped) × (slice_get ports n ≡ Some port) × (port.up ≡ Some frame)
-        × (after ≡ slice_set ports n (with_up port None)) × (new ≡ pushed upward (rising n frame)))
+    × (after ≡ slice_set ports n (with_up port None)) × (new ≡ pushed upward (rising n frame)))
 PmUpRule ports served upward _ after last new = ⊥
 
 -- The host takes the first frame of its link.

@@ -49,12 +49,13 @@ impl Model for Read {
 
     ghost Value = { Read };
 
-    ghost view = {
-        λ r. record {
-            ticket = r.ticket; prds = r.prds.items; len = r.len; over = r.over.items;
-            transfer = r.transfer;
-        }
-    };
+    ghost view = { λ r. record {
+      ticket = r.ticket;
+      prds = r.prds.items;
+      len = r.len;
+      over = r.over.items;
+      transfer = r.transfer;
+    } };
 }
 
 /// The slot of the one read.
@@ -301,12 +302,10 @@ fn have_bad_prd(end: u32, prds: &[Prd]) -> bool
 
 // Accepts a DMA Setup, if it fits.
 fn set_up(read: &mut Read, fis: &DmaSetup<'_>)
-    ensures {
-        let offset = field Setup Offset fis.now in
+    ensures { let offset = field Setup Offset fis.now in
         let count = field Setup Count fis.now in
         let tag = field Setup BufferId fis.now % 32 in
-        read.new ≡ after_setup read.old tag offset count (field Setup D fis.now == 1)
-    }
+        read.new ≡ after_setup read.old tag offset count (field Setup D fis.now == 1) }
 {
     let (offset, count) = (fis.offset(), fis.count());
     let is_for_read = fis.buffer_id() % 32 == 0 && fis.d();
@@ -348,10 +347,8 @@ fn hear_by(mut read: Read, memory: &mut HostMemory, frame: &[u8]) -> (Slot, Take
     requires frame { IsFrame frame.now }
     requires table { HasTable memory.old read }
     requires within { TransferIsWithin read read.transfer }
-    ensures heard {
-        let dev = pm_port_of frame.now in
-        Hears (told frame.now) dev read memory.old.client result.1 result.0 memory.new.client
-    }
+    ensures heard { let dev = pm_port_of frame.now in
+        Hears (told frame.now) dev read memory.old.client result.1 result.0 memory.new.client }
     ensures structure { memory.new.structure ≡ memory.old.structure }
     ensures host { IsHost memory.new result.0 }
 {
@@ -379,15 +376,11 @@ fn hear_by(mut read: Read, memory: &mut HostMemory, frame: &[u8]) -> (Slot, Take
 
 // Writes bytes of the transfer, from this one on, to their places.
 fn write_data(memory: &mut HostMemory, count: u16, from: u32, payload: &[u8])
-    requires readable {
-        read_fault memory.old.structure (length memory.old.client) table_at count ≡ None
-    }
+    requires readable { read_fault memory.old.structure (length memory.old.client) table_at count ≡ None }
     requires fits { from + length payload.now ≤ total (table_of memory.old count) }
     ensures structure { memory.new.structure ≡ memory.old.structure }
-    ensures client {
-        let prds = table_of memory.old count in
-        Scatters prds from payload.now memory.old.client memory.new.client
-    }
+    ensures client { let prds = table_of memory.old count in
+        Scatters prds from payload.now memory.old.client memory.new.client }
 {
     let (structure, client) = memory.split();
     match PrdTable::read(structure, client.len() as u32, TABLE, count) {
@@ -409,10 +402,8 @@ fn carry(read: &mut Read, memory: &mut HostMemory, payload: &[u8]) -> Option<u32
     requires table { HasTable memory.old read.old }
     requires within { TransferIsWithin read.old read.old.transfer }
     requires dwords { length payload.now % 4 ≡ 0 }
-    ensures data {
-        let client = memory.old.client in
-        Carries read.old.transfer read.old payload.now client result read.new memory.new.client
-    }
+    ensures data { let client = memory.old.client in
+        Carries read.old.transfer read.old payload.now client result read.new memory.new.client }
     ensures structure { memory.new.structure ≡ memory.old.structure }
     ensures table { HasTable memory.new read.new }
     ensures within { TransferIsWithin read.new read.new.transfer }
@@ -434,10 +425,8 @@ fn carry(read: &mut Read, memory: &mut HostMemory, payload: &[u8]) -> Option<u32
 // Whether the FIS ends the read.
 #[tactic(auto, using(crate::proofs::HostLemmas::has_bit_low))]
 fn is_ended_by(read: &Read, fis: &SetBits<'_>) -> bool
-    ensures {
-        let status = field Bits Status fis.now in
-        result ≡ takes_bits read.now status (field Bits SActive fis.now)
-    }
+    ensures { let status = field Bits Status fis.now in
+        result ≡ takes_bits read.now status (field Bits SActive fis.now) }
 {
     if fis.status() % 2 == 1 || fis.sactive() % 2 == 0 {
         return false;

@@ -28,12 +28,14 @@ impl Model for Seat {
 
     ghost Value = { Place };
 
-    ghost view = {
-        λ s. record {
-            unit = s.unit; plugged = s.plugged; conn = s.conn; number = s.number; up = s.up;
-            presence = s.presence;
-        }
-    };
+    ghost view = { λ s. record {
+      unit = s.unit;
+      plugged = s.plugged;
+      conn = s.conn;
+      number = s.number;
+      up = s.up;
+      presence = s.presence;
+    } };
 }
 
 impl Seat {

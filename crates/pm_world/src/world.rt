@@ -1,12 +1,14 @@
-ghost use Rattle.std.specs.Prelude.{◌≡◌, ◌≢◌, ◌↔◌, ◌<◌, ℕ, true, false, [], map, IfOk, IfErr, OnOk, OnErr, IsErrOf, Result, Ok, Err, MatchResult, List, length, IsSomeAnd, slice_get, take};
-ghost use Rattle.pm_world.specs.Places.{Places, opening, new_world, is_config};
-ghost use Rattle.pm_world.specs.Fanout.{port_at, with_port_at};
-ghost use Rattle.pm_world.specs.Rules.{PmFromDeviceRule, PmPresenceRule, Rule, Run, Stops, refusal, is_there};
+ghost use Rattle.std.specs.Prelude.{◌≡◌, ◌↔◌, ◌<◌, ℕ, true, false, List, [], ◌∷◌, length, map, take};
+ghost use Rattle.std.specs.Prelude.{IfErr, IfOk, OnErr};
 ghost use Rattle.host_memory.specs.Memory.{is_memory_size, zeroed};
-ghost use Rattle.pm_world.specs.Traffic.{transit, NothingLost};
-ghost use Rattle.pm_world.specs.Delivery.{DeliversReads};
-ghost use Rattle.pm_world.specs.declared.step.Step.TheVariants as step;
+ghost use Rattle.pm_world.specs.Fanout.{port_at, with_port_at};
+ghost use Rattle.pm_world.specs.Laws.{ObeysLaws};
+ghost use Rattle.pm_world.specs.Places.{Places, opening, new_world, is_config};
+ghost use Rattle.pm_world.specs.Rules.{PmFromDeviceRule, PmPresenceRule, Rule, Run, Stops};
+ghost use Rattle.pm_world.specs.Rules.{is_there, refusal};
+ghost use Rattle.pm_world.specs.Traffic.{transit};
 ghost use Rattle.pm_world.specs.declared.step.Answer.{Answer};
+ghost use Rattle.pm_world.specs.declared.step.Step.TheVariants as step;
 
 use crate::fanout::Fanout;
 use crate::host::Host;
@@ -35,12 +37,13 @@ impl Model for World {
 
     ghost Value = { Places };
 
-    ghost view = {
-        λ w. record {
-            devices = w.seats.items; ports = w.fanout.ports; served = w.fanout.served;
-            upward = w.upward; host = w.host;
-        }
-    };
+    ghost view = { λ w. record {
+      devices = w.seats.items;
+      ports = w.fanout.ports;
+      served = w.fanout.served;
+      upward = w.upward;
+      host = w.host;
+    } };
 
     ghost invariant = { λ w. length w.fanout.ports ≡ length w.seats.items };
 }
@@ -50,9 +53,7 @@ impl World {
     pub fn new(alloc: Global, config: Config, units: Vec<Unit>) -> Result<Self, WorldError>
         ensures ok { IfOk result (λ world. world ≡ new_world config units.items) }
         ensures nothing_stands { IfOk result (λ world. (n c : ℕ) → transit n c world ≡ []) }
-        ensures bad_config {
-            (result ≡ Err WorldError.BadConfig) ↔ (is_config config (length units.items) ≡ false)
-        }
+        ensures bad_config { (result ≡ Err WorldError.BadConfig) ↔ (is_config config (length units.items) ≡ false) }
     {
         if !is_config(config, units.len()) {
             return Err(WorldError::BadConfig);
@@ -72,6 +73,7 @@ impl World {
     /// One step of one actor. A refused step changes nothing.
     pub fn step(&mut self, alloc: Global, step: &Step) -> Result<Answer, StepError>
         ensures rule { Rule self.old step.now result self.new }
+        ensures laws { IfOk result (λ answer. ObeysLaws self.old (step.now ∷ []) (answer ∷ []) self.new) }
         ensures refused { OnErr result (self.new ≡ self.old) }
     {
         self.act(alloc, step)
@@ -97,9 +99,10 @@ impl World {
     /// Steps in order, until one is refused.
     pub fn run(&mut self, alloc: Global, steps: &[Step]) -> Result<Vec<Answer>, (usize, StepError)>
         ensures run { IfOk result (λ answers. Run self.old steps.now answers.items self.new) }
-        ensures nothing_lost { IfOk result (λ answers. NothingLost self.old answers.items self.new) }
-        ensures delivers { IfOk result (λ answers. DeliversReads self.old steps.now answers.items self.new) }
-        ensures stops { IfErr result (λ e. (answers : List Answer) × Stops self.old steps.now e.0 e.1 answers self.new × NothingLost self.old answers self.new × DeliversReads self.old (take e.0 steps.now) answers self.new) }
+        ensures laws { IfOk result (λ answers. ObeysLaws self.old steps.now answers.items self.new) }
+        ensures stops { IfErr result (λ e. (answers : List Answer)
+            × Stops self.old steps.now e.0 e.1 answers self.new
+            × ObeysLaws self.old (take e.0 steps.now) answers self.new) }
     {
         let Some(first) = steps.first() else {
             return Ok(Vec::new(alloc));
@@ -311,10 +314,8 @@ fn seats_of(alloc: Global, capacity: usize, mut units: Vec<Unit>) -> Result<Vec<
 /// Has port n record the first connection on its presence link.
 fn record(n: u8, seat: &mut Seat, fanout: &mut Fanout) -> Answer
     requires { n < length fanout.old.ports }
-    ensures rule {
-        let port = port_at fanout.old.ports n in
-        PmPresenceRule n seat.old port (Ok result) seat.new (port_at fanout.new.ports n)
-    }
+    ensures rule { let port = port_at fanout.old.ports n in
+        PmPresenceRule n seat.old port (Ok result) seat.new (port_at fanout.new.ports n) }
     ensures others { fanout.new ≡ with_port_at fanout.old n (port_at fanout.new.ports n) }
 {
     match seat.next_coming() {
@@ -329,10 +330,8 @@ fn record(n: u8, seat: &mut Seat, fanout: &mut Fanout) -> Answer
 /// Moves the first frame of a device's link into the hold of port n.
 fn pass_up(n: u8, seat: &mut Seat, fanout: &mut Fanout) -> Answer
     requires { n < length fanout.old.ports }
-    ensures rule {
-        let port = port_at fanout.old.ports n in
-        PmFromDeviceRule n seat.old port (Ok result) seat.new (port_at fanout.new.ports n)
-    }
+    ensures rule { let port = port_at fanout.old.ports n in
+        PmFromDeviceRule n seat.old port (Ok result) seat.new (port_at fanout.new.ports n) }
     ensures others { fanout.new ≡ with_port_at fanout.old n (port_at fanout.new.ports n) }
 {
     if seat.is_empty() {
@@ -355,10 +354,8 @@ fn pass_up(n: u8, seat: &mut Seat, fanout: &mut Fanout) -> Answer
 
 /// The answer to a frame that was taken.
 fn took(frame: Frame, report: TakeReport) -> Answer
-    ensures {
-        let stamp = frame.stamp in
-        result ≡ Answer.Took stamp.port stamp.conn stamp.number frame.bytes report
-    }
+    ensures { let stamp = frame.stamp in
+        result ≡ Answer.Took stamp.port stamp.conn stamp.number frame.bytes report }
 {
     let stamp = frame.stamp();
     Answer::Took {

@@ -5,8 +5,8 @@ use Rattle.std.proofs.lemmas.Option.{slice_get_read}
 use Rattle.pm_world.specs.Rules.{Rule, Run, refusal}
 use Rattle.pm_world.specs.declared.step.Step.{Step}
 use Rattle.pm_world.specs.declared.step.StepError.TheVariants.{OutOfMemory}
-use Rattle.pm_world.proofs.Law.{nothing_lost, run_more}
-use Rattle.pm_world.proofs.Delivery.{delivers_reads}
+use Rattle.pm_world.proofs.Law.{run_more}
+use Rattle.pm_world.proofs.Laws.{obeys}
 use Rattle.pm_world.proofs.Lists.{none_first}
 use Rattle.pm_world.proofs.Refused.{rule_refuses, refuses_or_wants, refusal_named}
 use Rattle.pm_world.proofs.world.World.run.Goals as goal
@@ -26,8 +26,7 @@ returns-in-Err-clause-stops c =
         refused = rw here (rw same (rule_refuses c.loop-i.self s c.in-Err.e c.step.new.self rule));
         gives = λ later. rw (here, same) (rw same at rule);
       },
-      nothing_lost c.args.self.now (take c.loop-i.i steps) c.loop-i.answers.items c.step.new.self run,
-      delivers_reads c.args.self.now (take c.loop-i.i steps) c.loop-i.answers.items c.step.new.self run,
+      obeys c.args.self.now (take c.loop-i.i steps) c.loop-i.answers.items c.step.new.self run,
     )
 
 pub loop-i-preserved : goal.loop-i-preserved
@@ -44,17 +43,11 @@ loop-i-preserved c =
       count = omega (arith, c.push_reserved.ensures.len, c.loop-i.invariant.count);
     }
 
-pub returns-clause-nothing_lost : goal.returns-clause-nothing_lost
-returns-clause-nothing_lost c = nothing_lost c.args.self.now (take c.loop-i.i c.args.steps.now) c.loop-i.answers.items c.loop-i.self c.loop-i.invariant.run
-
-pub returns-in_default-clause-nothing_lost : goal.returns-in_default-clause-nothing_lost
-returns-in_default-clause-nothing_lost c = rw c.new.ensures.items (nothing_lost c.args.self.now [] [] c.args.self.now refl)
-
-pub returns-in_default-clause-delivers : goal.returns-in_default-clause-delivers
-returns-in_default-clause-delivers c =
+pub returns-in_default-clause-laws : goal.returns-in_default-clause-laws
+returns-in_default-clause-laws c =
     let missing : slice_get c.args.steps.now 0 ≡ None = search rules in
     let none : c.args.steps.now ≡ [] = none_first c.args.steps.now missing in
-    rw (none, c.new.ensures.items) (delivers_reads c.args.self.now [] [] c.args.self.now refl)
+    rw (none, c.new.ensures.items) (obeys c.args.self.now [] [] c.args.self.now refl)
 
 pub returns-in_default-with_capacity-clause-stops :
     goal.returns-in_default-with_capacity-clause-stops
@@ -69,12 +62,11 @@ returns-in_default-with_capacity-clause-stops c =
         refused = rw (here, says) (refuses_or_wants (refusal now s) (refusal_named now s));
         gives = λ later. absurd (omega (arith, later));
       },
-      nothing_lost now [] [] now refl,
-      delivers_reads now [] [] now refl,
+      obeys now [] [] now refl,
     )
 
-pub returns-clause-delivers : goal.returns-clause-delivers
-returns-clause-delivers c =
+pub returns-clause-laws : goal.returns-clause-laws
+returns-clause-laws c =
     let steps = c.args.steps.now in
     let all : take c.loop-i.i steps ≡ steps = take_all c.loop-i.i steps c.loop-i-test.false in
-    rw all at (delivers_reads c.args.self.now (take c.loop-i.i steps) c.loop-i.answers.items c.loop-i.self c.loop-i.invariant.run)
+    rw all at (obeys c.args.self.now (take c.loop-i.i steps) c.loop-i.answers.items c.loop-i.self c.loop-i.invariant.run)
