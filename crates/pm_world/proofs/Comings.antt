@@ -9,7 +9,7 @@ use Rattle.std.proofs.lemmas.List.{append-nil}
 use Rattle.std.proofs.lemmas.List.Folds.{list_any-append}
 use Rattle.disk_model.specs.declared.unit.Unit.{Unit}
 use Rattle.pm_ports.specs.Port.{PortState}
-use Rattle.pm_world.specs.Places.{Places, Place, Queue, opening, new_world, with_device, with_port}
+use Rattle.pm_world.specs.Places.{Places, Place, Queue, opening, new_world, with_device}
 use Rattle.pm_world.specs.Rules.{Outcome, CameActs, DiskSendActs, InjectActs, CameRule, DiskSendRule, InjectRule, PmPresenceRule, PmFromDeviceRule, PmUpRule, HostTakeRule, OnDevice, Rule, Run, SubmitRule, PollRule, PutRule, is_there}
 use Rattle.pm_world.specs.Traffic.{sent_by, taken_by, sent, taken}
 use Rattle.pm_world.specs.Counting.{capped, row_of, first_row, sent_more, taken_more, noted, says_came, has_come, Tell, AreOfARun}

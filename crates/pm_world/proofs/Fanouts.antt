@@ -1,6 +1,6 @@
 -- The ports after a call of one of them.
-use Rattle.std.proofs.Common.{◌≡◌, ℕ, zero, suc, ◌<◌, ◌≤◌, Bool, true, false, List, [], ◌∷◌, length, map, take, Option, Some, None, Result, Ok, Err, refl, sym, ap, ◌∙◌, arith}
-use Rattle.std.specs.Prelude.{slice_get, slice_set, slice_index_or, is_some, is_none, ◌&&◌, if◌then◌else◌, MatchResult}
+use Rattle.std.proofs.Common.{◌≡◌, ℕ, zero, suc, ◌<◌, ◌≤◌, Bool, true, false, List, [], ◌∷◌, length, map, take, Option, Some, None, Result, Ok, Err, sym, ap, ◌∙◌, arith}
+use Rattle.std.specs.Prelude.{slice_index_or, is_some, is_none, ◌&&◌, if◌then◌else◌, MatchResult}
 use Rattle.std.specs.Result.{result_err}
 use Rattle.std.proofs.lemmas.List.{get_or_default, take_all}
 use Rattle.disk_model.specs.declared.unit.Unit.{Unit as Device}
@@ -11,7 +11,7 @@ use Rattle.pm_ports.specs.Offering.{IsOffered}
 use Rattle.pm_ports.specs.declared.port.Offered.{Offered}
 use Rattle.pm_ports.specs.declared.port.Offered.TheVariants as offered
 use Rattle.pm_ports.specs.declared.port.PortError.{PortError}
-use Rattle.pm_world.specs.Fanout.{FanoutState, port_at, with_port_at, opening_fanout}
+use Rattle.pm_world.specs.Fanout.{port_at}
 use Rattle.pm_world.specs.Places.{opening_port}
 use Rattle.pm_world.specs.Rules.{recorded, is_ready, next_port}
 

@@ -1,11 +1,11 @@
 -- What a request that is taken is like, and that its table can be read.
-use Rattle.std.proofs.Common.{◌≡◌, ◌≢◌, ℕ, zero, suc, ◌+◌, ◌*◌, ◌%◌, ◌<◌, ◌≤◌, Bool, true, false, List, [], ◌∷◌, ◌++◌, Option, Some, None, length, take, drop, get_or, refl, ap, ◌∙◌, arith, All}
+use Rattle.std.proofs.Common.{◌≡◌, ◌≢◌, ℕ, zero, suc, ◌+◌, ◌*◌, ◌%◌, ◌<◌, ◌≤◌, Bool, true, false, List, [], ◌∷◌, Option, Some, None, length, get_or, refl, ap, ◌∙◌, arith, All}
 use Rattle.std.specs.Prelude.{nat_lt, nat_le, ◌==◌, ◌||◌, not, if◌then◌else◌}
 use Rattle.std.specs.List.{list_any}
 use Rattle.std.proofs.Math.Nat.{div-one}
 use Rattle.std.proofs.lemmas.Bool.Decides.{nat_tests}
 use Rattle.std.proofs.lemmas.Bool.{or_parts}
-use Rattle.std.proofs.lemmas.List.{length-replicate, take-append-le, take_all}
+use Rattle.std.proofs.lemmas.List.{length-replicate}
 use Rattle.host_memory.specs.declared.table.Prd.{Prd}
 use Rattle.host_memory.specs.Memory.{Memory}
 use Rattle.host_memory.specs.Place.{total_of}
@@ -114,7 +114,7 @@ new_table host request structure ticket taken reads readable = record {
 -- the host after a submit keeps what a host keeps
 pub submitted : (host : Host) (request : Request) (before after : Memory) (prds : List Prd) (read : Read) (ticket : ℕ) → before ≡ host.memory → submit_refusal host true request ≡ None
     → read ≡ new_read ticket request → prds ≡ request.prds.items → after ≡ with_table before prds → prds_at after.structure table_at (length prds) ≡ prds
-    → (IsGoodFor (length before.client) prds → CanBeRead after prds) → HasTable after read × TransferIsWithin read read.transfer
+    → (IsGoodFor (length before.client) prds → CanBeRead after (length prds)) → HasTable after read × TransferIsWithin read read.transfer
 submitted host request before after prds read ticket was none is items written reads readable =
     let taken = is_taken host request none in
     let same : before.client ≡ host.memory.client = ap (λ (m : Memory). m.client) was in

@@ -1,10 +1,10 @@
 -- Every run obeys the laws.
-use Rattle.std.proofs.Common.{◌≡◌, ℕ, List, [], ◌∷◌, ◌++◌, refl, ap, ◌∙◌}
-use Rattle.std.specs.Prelude.{Result, Ok, Err, IfOk}
+use Rattle.std.proofs.Common.{ℕ, List, [], ◌∷◌, ◌++◌, refl, ap, ◌∙◌}
+use Rattle.std.specs.Prelude.{Ok, Err, IfOk}
 use Rattle.pm_world.specs.Laws.{TakenIsPrefix, ObeysLaws}
 use Rattle.pm_world.specs.Places.{Places, new_world}
 use Rattle.pm_world.specs.Rules.{Outcome, Rule, Run}
-use Rattle.pm_world.specs.Traffic.{sent, taken, transit, all_marked}
+use Rattle.pm_world.specs.Traffic.{sent, transit, all_marked}
 use Rattle.pm_world.specs.declared.step.Step.{Step}
 use Rattle.pm_world.specs.declared.step.Answer.{Answer}
 use Rattle.pm_world.proofs.Law.{nothing_lost}

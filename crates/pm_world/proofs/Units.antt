@@ -1,17 +1,15 @@
 -- Each unit lives on through its own history.
-use Rattle.std.proofs.Common.{◌≡◌, ◌≢◌, ℕ, zero, suc, List, [], ◌∷◌, ◌++◌, Option, Some, None, Bool, true, false, refl, sym, ap, subst, ◌∙◌, append_assoc, inl, inr, map}
+use Rattle.std.proofs.Common.{◌≡◌, ◌≢◌, ℕ, zero, suc, List, [], ◌∷◌, ◌++◌, Option, Some, None, refl, sym, ap, subst, ◌∙◌, append_assoc, inl, inr, map}
 use Rattle.std.specs.Prelude.{slice_get, slice_set, option_map, IsSomeAnd, MatchOption, Ok}
 use Rattle.std.proofs.lemmas.Bool.{cases_eq, eq-eqb, ne_eqb}
 use Rattle.std.proofs.lemmas.List.{append-nil}
 use Rattle.disk_model.specs.Histories.{Happening, Received, Sent, Plugged, Plan}
-use Rattle.disk_model.specs.Units.{plan_of, StandsFor, MaySend}
+use Rattle.disk_model.specs.Units.{plan_of, StandsFor}
 use Rattle.disk_model.specs.declared.unit.Unit.{Unit as Device}
 use Rattle.pm_ports.specs.Port.{PortState}
-use Rattle.pm_world.specs.Host.{Host}
 use Rattle.pm_world.specs.Laws.{happens, own_history, MaySendAll, LivesOn, UnitsLiveOn, UnitsLivedOn}
 use Rattle.pm_world.specs.Places.{Places, Place, opening, new_world, with_device}
 use Rattle.pm_world.specs.Rules.{Outcome, CameActs, DiskSendActs, InjectActs, CameRule, DiskSendRule, InjectRule, PmPresenceRule, PmFromDeviceRule, OnDevice, Rule, Run}
-use Rattle.pm_world.specs.declared.step.Config.{Config}
 use Rattle.pm_world.specs.declared.step.Step.{Step}
 use Rattle.pm_world.specs.declared.step.Step.TheVariants as step
 use Rattle.pm_world.specs.declared.step.Answer.{Answer}

@@ -1,9 +1,9 @@
 -- The client bytes of a run (AHCI 1.3.1, data transfer; Serial ATA 3.x, first party DMA).
-use Rattle.std.specs.Prelude.{ℕ, ◌≡◌, ◌+◌, ◌-◌, ◌<◌, ◌==◌, ◌&&◌, nat_le, nat_lt, if◌then◌else◌, List, [], ◌∷◌, length, slice_index, Option, Some, None}
+use Rattle.std.specs.Prelude.{ℕ, ◌+◌, ◌-◌, ◌==◌, ◌&&◌, nat_le, nat_lt, if◌then◌else◌, List, [], ◌∷◌, length, slice_index, Option, Some, None}
 use Rattle.host_memory.specs.declared.table.Prd.{Prd}
 use Rattle.host_memory.specs.Place.{place}
 use Rattle.pm_world.specs.Events.{Command, Event, Carried, History, match_some}
-use Rattle.pm_world.specs.History.{issued, filled, is_set_up, last_setup, next_number}
+use Rattle.pm_world.specs.History.{issued, is_set_up, last_setup, next_number}
 
 -- what may touch a client byte: an event of a device, and bytes that a Put writes
 pub data Touch : Type 0 where

@@ -167,10 +167,13 @@ pub record Delivers (opened : List ℕ) (deeds : List Deed) (now : Host) : Type 
   -- each client byte is as it was at the opening, but for what accepted Puts wrote and for what Data filled at its place
   pub bytes : (k : ℕ) → k < length now.memory.client → slice_index now.memory.client k ≡ client (opening_of opened) (touches [] deeds) (client_start + k)
   -- a bit of done is set exactly where the FIS completes that slot of its own device
-  pub done : (before : List Deed) (frame : List ℕ) (report : TakeReport) → IsTook deeds before frame report → (s : ℕ) → s < 32 → has_bit report.done s ≡ completes_now (touches [] before) s frame
+  pub done : (before : List Deed) (frame : List ℕ) (report : TakeReport) → IsTook deeds before frame report
+      → (s : ℕ) → s < 32 → has_bit report.done s ≡ completes_now (touches [] before) s frame
   pub by_device : (before : List Deed) (frame : List ℕ) (report : TakeReport) → IsTook deeds before frame report → report.dev ≡ pm_port_of frame
   -- between two reports of one device that both have the bit of a slot, the slot is issued again
-  pub done_once : (first : TakeReport) (between : List Deed) (second : TakeReport) → AreTooks deeds first between second → first.dev ≡ second.dev → (s : ℕ) → s < 32 → has_bit first.done s ≡ true → has_bit second.done s ≡ true → list_any (issues first.dev s) between ≡ true
+  pub done_once : (first : TakeReport) (between : List Deed) (second : TakeReport) → AreTooks deeds first between second
+      → first.dev ≡ second.dev → (s : ℕ) → s < 32 → has_bit first.done s ≡ true → has_bit second.done s ≡ true
+      → list_any (issues first.dev s) between ≡ true
   -- at that step every byte of the read is filled, and stands at its place in client memory
   pub in_place : (before : List Deed) (frame : List ℕ) (report : TakeReport) → IsTook deeds before frame report → (s : ℕ) (c : Command) →
       issued s (own (pm_port_of frame) (touches [] before)) ≡ Some c → completes_now (touches [] before) s frame ≡ true → (i : ℕ) → i < c.len →

@@ -26,6 +26,12 @@ abbrev pub deeds_of : List Step → List Answer → List Deed
 deeds_of (s ∷ steps) (a ∷ answers) = deed_of s a ++ deeds_of steps answers
 deeds_of _ _ = []
 
+-- what holds whichever run from a new world leads to here
+abbrev pub AfterEveryRun : Places → (Config → List Unit → List Step → List Answer → Type 0) → Type 0
+AfterEveryRun now Holds =
+    (config : Config) (units : List Unit) (before : List Step) (told : List Answer) → Run (new_world config units) before told now
+    → Holds config units before told
+
 -- the FIS of which a Took answer tells has the PM Port of the answer's port, and the report is of that device
 abbrev pub IsOfItsPort : Answer → Type 0
 IsOfItsPort (answer.Took port conn number bytes report) = (pm_port_of bytes ≡ port) × (report.dev ≡ port)
@@ -34,9 +40,9 @@ IsOfItsPort _ = Prim.Unit {0}
 -- What these steps, from old to new, do with reads.
 pub record DeliversReads (old : Places) (steps : List Step) (answers : List Answer) (new : Places) : Type 0 where
   -- whatever was done since the world was made: over the steps from any new world to the world before these, and then these
-  pub delivers : (config : Config) (units : List Unit) (before : List Step) (told : List Answer) → Run (new_world config units) before told old →
-      Delivers (zeroed config.memory).client (deeds_of (before ++ steps) (told ++ answers)) new.host
+  pub delivers : AfterEveryRun old (λ config units before told.
+      Delivers (zeroed config.memory).client (deeds_of (before ++ steps) (told ++ answers)) new.host)
   -- the device of a FIS that was taken, read off its bytes, is the one at the port of which the answer tells
-  pub own_port : (config : Config) (units : List Unit) (before : List Step) (told : List Answer) → Run (new_world config units) before told old → All IsOfItsPort answers
+  pub own_port : AfterEveryRun old (λ config units before told. All IsOfItsPort answers)
   -- and over every history an issue completes at most once
   pub once : CompletesOnce

@@ -1,5 +1,5 @@
 -- The fan-out ports of the world's multiplier, as its other parts see them (Serial ATA 3.x, port multiplier).
-use Rattle.std.specs.Prelude.{ℕ, ◌≡◌, List, map, Some, None, slice_get, slice_set, slice_index_or}
+use Rattle.std.specs.Prelude.{ℕ, ◌≡◌, List, map, Option, Some, None, slice_get, slice_set, slice_index_or}
 use Rattle.fis_view.specs.Frames.{Stamped}
 use Rattle.disk_model.specs.declared.unit.Unit.{Unit}
 use Rattle.pm_ports.specs.Port.{PortState, empty_port, with_up}
@@ -17,6 +17,10 @@ port_at ports n = slice_index_or ports n empty_port
 
 abbrev pub with_port_at : FanoutState → ℕ → PortState → FanoutState
 with_port_at old n port = record { ports = slice_set old.ports n port; served = old.served }
+
+-- port n's upward place is as given
+abbrev pub with_up_at : FanoutState → ℕ → Option Stamped → FanoutState
+with_up_at old n up = with_port_at old n (with_up (port_at old.ports n) up)
 
 -- of a new world
 abbrev pub opening_fanout : List Unit → FanoutState

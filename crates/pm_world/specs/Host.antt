@@ -170,13 +170,13 @@ pub record IsGoodFor (client : ℕ) (prds : List Prd) : Type 0 where
   pub usable : All (IsUsable client) prds
   pub apart : have_overlap prds ≡ false
 
--- a table of as many entries is read without a fault
-abbrev pub CanBeRead : Memory → List Prd → Type 0
-CanBeRead memory prds = read_fault memory.structure (length memory.client) table_at (length prds) ≡ None
+-- a table of so many entries is read without a fault
+abbrev pub CanBeRead : Memory → (count : ℕ) → Type 0
+CanBeRead memory count = read_fault memory.structure (length memory.client) table_at count ≡ None
 
 pub record HasTable (memory : Memory) (read : Read) : Type 0 where
-  pub prds_are : prds_at memory.structure table_at (length read.prds) ≡ read.prds
-  pub readable : read_fault memory.structure (length memory.client) table_at (length read.prds) ≡ None
+  pub prds_are : table_of memory (length read.prds) ≡ read.prds
+  pub readable : CanBeRead memory (length read.prds)
   pub few : length read.prds ≤ 248
   pub whole : total_of read.prds ≡ read.len
   pub flags : 4 * length read.over ≡ read.len

@@ -4,11 +4,9 @@ use Rattle.std.specs.Prelude.{ℕ, ◌≡◌, ◌==◌, if◌then◌else◌, Lis
 use Rattle.disk_model.specs.Histories.{Happening, Received, Sent, Plugged, Plan}
 use Rattle.disk_model.specs.Units.{plan_of, StandsFor, MaySend}
 use Rattle.disk_model.specs.declared.unit.Unit.{Unit}
-use Rattle.pm_world.specs.Places.{Places, Place, new_world}
-use Rattle.pm_world.specs.Rules.{Run}
+use Rattle.pm_world.specs.Places.{Places}
 use Rattle.pm_world.specs.Traffic.{sent, taken, all_marked, IsPrefixOf, NothingLost}
-use Rattle.pm_world.specs.Delivery.{DeliversReads}
-use Rattle.pm_world.specs.declared.step.Config.{Config}
+use Rattle.pm_world.specs.Delivery.{AfterEveryRun, DeliversReads}
 use Rattle.pm_world.specs.declared.step.Step.{Step}
 use Rattle.pm_world.specs.declared.step.Step.TheVariants as step
 use Rattle.pm_world.specs.declared.step.Answer.{Answer}
@@ -19,9 +17,8 @@ use Rattle.pm_world.specs.declared.step.Answer.TheVariants as answer
 -- Over all answers since the world was made, whichever run from a new world leads to these steps: what the host took of a
 -- connection is a prefix of what was sent on it, each marked with its port.
 abbrev pub TakenIsPrefix : Places → List Answer → Type 0
-TakenIsPrefix old answers =
-    (config : Config) (units : List Unit) (before : List Step) (told : List Answer) → Run (new_world config units) before told old
-    → (n c : ℕ) → IsPrefixOf (taken n c (told ++ answers)) (all_marked n (sent n c (told ++ answers)))
+TakenIsPrefix old answers = AfterEveryRun old (λ config units before told.
+    (n c : ℕ) → IsPrefixOf (taken n c (told ++ answers)) (all_marked n (sent n c (told ++ answers))))
 
 -- ---- the units
 
@@ -58,10 +55,9 @@ UnitsLiveOn old steps answers new =
 
 -- whichever run from a new world leads to these steps, each unit of that world lived on through all its own history
 abbrev pub UnitsLivedOn : Places → List Step → List Answer → Places → Type 0
-UnitsLivedOn old steps answers new =
-    (config : Config) (units : List Unit) (before : List Step) (told : List Answer) → Run (new_world config units) before told old
-    → (n : ℕ) (unit : Unit) → slice_get units n ≡ Some unit
-    → IsSomeAnd (slice_get new.devices n) (λ now. LivesOn unit (own_history n (before ++ steps) (told ++ answers)) now.unit)
+UnitsLivedOn old steps answers new = AfterEveryRun old (λ config units before told.
+    (n : ℕ) (unit : Unit) → slice_get units n ≡ Some unit → IsSomeAnd (slice_get new.devices n) (λ now.
+    LivesOn unit (own_history n (before ++ steps) (told ++ answers)) now.unit))
 
 -- ---- all of it
 

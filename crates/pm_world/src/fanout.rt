@@ -1,8 +1,7 @@
 ghost use Rattle.std.specs.Prelude.{◌≡◌, ◌<◌, ◌≤◌, true, Some, None, IfNone};
 ghost use Rattle.std.specs.Prelude.{IfOk, IfSome, is_none, length, option_map, vec_len};
-ghost use Rattle.pm_ports.specs.Port.{with_up};
 ghost use Rattle.multiplier.specs.Arbiter.{control_port};
-ghost use Rattle.pm_world.specs.Fanout.{opening_fanout, port_at, with_port_at, GoesUp};
+ghost use Rattle.pm_world.specs.Fanout.{opening_fanout, port_at, with_port_at, with_up_at, GoesUp};
 ghost use Rattle.pm_world.specs.Places.{rising};
 ghost use Rattle.pm_world.specs.Rules.{is_ready, next_port, recorded};
 
@@ -70,7 +69,7 @@ impl Fanout {
     pub fn hold(&mut self, n: u8, frame: Frame)
         requires there { n < length self.old.ports }
         requires empty { (port_at self.old.ports n).up ≡ None }
-        ensures { self.new ≡ with_port_at self.old n (with_up (port_at self.old.ports n) (Some frame)) }
+        ensures { self.new ≡ with_up_at self.old n (Some frame) }
     {
         match self.ports[n as usize].offer(frame) {
             Ok(Offered::Held) => {}
@@ -115,7 +114,7 @@ impl Fanout {
         requires { is_ready self.old.ports n ≡ true }
         ensures there { n < control_port }
         ensures held { (port_at self.old.ports n).up ≡ Some result }
-        ensures after { self.new ≡ with_port_at self.old n (with_up (port_at self.old.ports n) None) }
+        ensures after { self.new ≡ with_up_at self.old n None }
     {
         match self.ports[n as usize].take_held(true) {
             Some(frame) => frame,

@@ -1,11 +1,12 @@
 //! The host's part of a world: its memory, and a driver and a host port for one read.
 
-ghost use Rattle.std.specs.Prelude.{◌≡◌, ◌+◌, ◌%◌, ◌≤◌, ◌==◌, true, false, None, All, IfOk, OnErr, length};
+ghost use Rattle.std.specs.Prelude.{◌≡◌, ◌+◌, ◌%◌, ◌≤◌, ◌==◌, true, false, None};
+ghost use Rattle.std.specs.Prelude.{All, IfOk, OnErr, length};
 ghost use Rattle.std.specs.List.{list_any, list_all};
 ghost use Rattle.fis_view.specs.Frames.{IsFrame};
-ghost use Rattle.fis_view.specs.Table.{Bits, BufferId, Count, D, Offset, SActive, Setup, Status, field};
+ghost use Rattle.fis_view.specs.Table.{Bits, BufferId, Count, D, Offset, SActive, Setup};
+ghost use Rattle.fis_view.specs.Table.{Status, field};
 ghost use Rattle.host_memory.specs.Place.{Scatters, total_of as total};
-ghost use Rattle.host_memory.specs.Reading.{prds_at, read_fault};
 ghost use Rattle.host_memory.specs.Writing.{CanBeWritten};
 ghost use Rattle.pm_world.specs.Events.{told};
 ghost use Rattle.pm_world.specs.Deeds.{in_use, pm_port_of, put_refusal, share_bytes};
@@ -236,8 +237,9 @@ fn write_table(memory: &mut HostMemory, prds: &[Prd])
     requires counts { All CanBeWritten prds.now }
     requires few { length prds.now ≤ 248 }
     ensures written { memory.new ≡ with_table memory.old prds.now }
-    ensures reads { prds_at memory.new.structure table_at (length prds.now) ≡ prds.now }
-    ensures readable { IsGoodFor (length memory.old.client) prds.now → CanBeRead memory.new prds.now }
+    ensures reads { table_of memory.new (length prds.now) ≡ prds.now }
+    ensures readable { let client = length memory.old.client in
+        IsGoodFor client prds.now → CanBeRead memory.new (length prds.now) }
 {
     write_prds(memory.structure_mut(), TABLE, prds);
 }
@@ -376,7 +378,7 @@ fn hear_by(mut read: Read, memory: &mut HostMemory, frame: &[u8]) -> (Slot, Take
 
 // Writes bytes of the transfer, from this one on, to their places.
 fn write_data(memory: &mut HostMemory, count: u16, from: u32, payload: &[u8])
-    requires readable { read_fault memory.old.structure (length memory.old.client) table_at count ≡ None }
+    requires readable { CanBeRead memory.old count }
     requires fits { from + length payload.now ≤ total (table_of memory.old count) }
     ensures structure { memory.new.structure ≡ memory.old.structure }
     ensures client { let prds = table_of memory.old count in

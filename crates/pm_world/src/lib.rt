@@ -1,8 +1,8 @@
 //! A world of devices, a port multiplier and a host, in which one step is one action of one actor.
 //!
 //! `World::run` takes any list of steps, in any order, and its contract says that nothing is lost,
-//! made up or put out of order on the way: what the host took from each device on each connection is
-//! a prefix of what that device sent on it, marked with its port.
+//! made up or put out of order on the way: what the host took from each device on each connection
+//! is a prefix of what that device sent on it, marked with its port.
 #![tactic(auto)]
 
 mod counts;

@@ -1,92 +1,84 @@
-mod counting;
-mod reads;
-mod steps;
-
-use crate::{Answer, Config, Step, StepError, World, WorldError};
+use crate::{Answer, Config, Step, StepError, SubmitError, World, WorldError};
 use disk_model::{Scripted, Unit};
-use fis_view::Bytes;
 use std::alloc::{AllocError, Global};
 use std::test::Fail;
 
-const CONFIG: Config = Config {
-    ports: 2,
-    capacity: 1,
-    memory: 2_097_152,
-};
-
-/// Two devices that send nothing by themselves.
+/// One device that sends nothing by itself.
 fn units(alloc: Global) -> Result<Vec<Unit>, AllocError> {
     let mut units = Vec::new(alloc);
-    for _ in 0..2 {
-        units.push(Unit::Scripted(Scripted::new(Vec::new(alloc))))?;
-    }
+    units.push(Unit::Scripted(Scripted::new(Vec::new(alloc))))?;
     Ok(units)
 }
 
-/// A new world of two such devices.
-fn new_world(alloc: Global) -> Result<World, Fail> {
-    match World::new(alloc, CONFIG, units(alloc)?) {
-        Ok(world) => Ok(world),
-        Err(WorldError::OutOfMemory) => Err(Fail::from(AllocError)),
-        Err(WorldError::BadConfig) => Err(Fail::from("bad config")),
+/// A world of so many ports and that device.
+fn new_world(alloc: Global, ports: u8) -> Result<World, WorldError> {
+    let config = Config {
+        ports,
+        capacity: 1,
+        memory: 2_097_152,
+    };
+    World::new(alloc, config, units(alloc)?)
+}
+
+/// A run of a new world of one port.
+fn run(alloc: Global, steps: &[Step]) -> Result<Vec<Answer>, (usize, StepError)> {
+    match new_world(alloc, 1) {
+        Ok(mut world) => world.run(alloc, steps),
+        Err(_) => Err((0, StepError::OutOfMemory)),
     }
 }
 
-fn inject(alloc: Global, port: u8, bytes: &[u8]) -> Result<Step, AllocError> {
-    Ok(Step::Inject(port, Bytes::from_slice(alloc, bytes)?))
+#[test]
+fn a_device_comes_once(rt: HostRuntime) -> Result<(), Fail> {
+    let mut steps = Vec::new(rt.alloc());
+    steps.push(Step::Came(0))?;
+    steps.push(Step::DiskSend(0))?;
+    let Ok(answers) = run(rt.alloc(), &steps) else {
+        return Err(Fail::from(AllocError));
+    };
+    assert_eq!(rt; answers.len(), 2);
+    assert!(rt; matches!(answers.get(0), Some(Answer::Came { port: 0, conn: 1 })));
+    assert!(rt; matches!(answers.get(1), Some(Answer::Idle)));
+    steps.push(Step::Came(0))?;
+    assert_eq!(rt;
+        run(rt.alloc(), &steps).err(),
+        Some((2, StepError::AlreadyThere))
+    );
+    Ok(())
 }
 
-/// Why the step is refused, if it is.
-fn refusal(alloc: Global, world: &mut World, step: &Step) -> Option<StepError> {
-    world.step(alloc, step).err()
-}
-
-/// The answers to steps that are not refused.
-fn run(alloc: Global, world: &mut World, steps: &[Step]) -> Result<Vec<Answer>, Fail> {
-    match world.run(alloc, steps) {
-        Ok(answers) => Ok(answers),
-        Err((_, StepError::OutOfMemory)) => Err(Fail::from(AllocError)),
-        Err(_) => Err(Fail::from("refused")),
+#[test]
+fn sizes_are_tested(rt: HostRuntime) {
+    for ports in [0, 2, 16] {
+        let refusal = new_world(rt.alloc(), ports).err();
+        assert_eq!(rt; refusal, Some(WorldError::BadConfig));
     }
 }
 
-fn is_came(answer: Option<&Answer>, n: u8, c: u32) -> bool {
-    matches!(answer, Some(Answer::Came { port, conn }) if *port == n && *conn == c)
-}
-
-fn is_offered(answer: Option<&Answer>, n: u8) -> bool {
-    matches!(answer, Some(Answer::Offered { port, dropped: false }) if *port == n)
-}
-
-fn is_up(answer: Option<&Answer>, n: u8) -> bool {
-    matches!(answer, Some(Answer::Up(port)) if *port == n)
-}
-
-fn is_sent(answer: Option<&Answer>, n: u8, c: u32, k: u32, frame: &[u8]) -> bool {
-    match answer {
-        Some(
-            Answer::Sent {
-                port,
-                conn,
-                number,
-                bytes,
-            },
-        ) => *port == n && *conn == c && *number == k && bytes.as_slice() == frame,
-        _ => false,
+/// The numbers of the refusals.
+#[test]
+fn refusals_have_their_numbers(rt: HostRuntime) {
+    for (number, error) in [
+        (1u8, StepError::OutOfMemory),
+        (2, StepError::BadBytes),
+        (3, StepError::NoSuchPort),
+        (4, StepError::AlreadyThere),
+        (5, StepError::NotThere),
+        (6, StepError::Spent),
+        (7, StepError::Outside),
+        (8, StepError::InUse),
+    ] {
+        assert_eq!(rt; error as u8, number);
     }
-}
-
-fn is_took(answer: Option<&Answer>, n: u8, c: u32, k: u32, frame: &[u8]) -> bool {
-    match answer {
-        Some(
-            Answer::Took {
-                port,
-                conn,
-                number,
-                bytes,
-                report: _,
-            },
-        ) => *port == n && *conn == c && *number == k && bytes.as_slice() == frame,
-        _ => false,
+    for (number, error) in [
+        (1u8, SubmitError::NoDevice),
+        (4, SubmitError::BadCount),
+        (5, SubmitError::LengthMismatch),
+        (6, SubmitError::BadPrd),
+        (7, SubmitError::Overlap),
+        (8, SubmitError::NoSlot),
+        (9, SubmitError::TicketsSpent),
+    ] {
+        assert_eq!(rt; error as u8, number);
     }
 }

@@ -1,5 +1,5 @@
-ghost use Rattle.std.specs.Prelude.{◌≡◌, ◌↔◌, ◌<◌, ℕ, true, false, List, [], ◌∷◌, length, map, take};
-ghost use Rattle.std.specs.Prelude.{IfErr, IfOk, OnErr};
+ghost use Rattle.std.specs.Prelude.{◌≡◌, ◌↔◌, ◌<◌, ℕ, true, false, List, [], ◌∷◌};
+ghost use Rattle.std.specs.Prelude.{IfErr, IfOk, OnErr, length, map, take};
 ghost use Rattle.host_memory.specs.Memory.{is_memory_size, zeroed};
 ghost use Rattle.pm_world.specs.Fanout.{port_at, with_port_at};
 ghost use Rattle.pm_world.specs.Laws.{ObeysLaws};
@@ -53,7 +53,8 @@ impl World {
     pub fn new(alloc: Global, config: Config, units: Vec<Unit>) -> Result<Self, WorldError>
         ensures ok { IfOk result (λ world. world ≡ new_world config units.items) }
         ensures nothing_stands { IfOk result (λ world. (n c : ℕ) → transit n c world ≡ []) }
-        ensures bad_config { (result ≡ Err WorldError.BadConfig) ↔ (is_config config (length units.items) ≡ false) }
+        ensures bad_config { let fits = is_config config (length units.items) in
+            (result ≡ Err WorldError.BadConfig) ↔ (fits ≡ false) }
     {
         if !is_config(config, units.len()) {
             return Err(WorldError::BadConfig);
@@ -73,7 +74,8 @@ impl World {
     /// One step of one actor. A refused step changes nothing.
     pub fn step(&mut self, alloc: Global, step: &Step) -> Result<Answer, StepError>
         ensures rule { Rule self.old step.now result self.new }
-        ensures laws { IfOk result (λ answer. ObeysLaws self.old (step.now ∷ []) (answer ∷ []) self.new) }
+        ensures laws { let steps = step.now ∷ [] in
+            IfOk result (λ answer. ObeysLaws self.old steps (answer ∷ []) self.new) }
         ensures refused { OnErr result (self.new ≡ self.old) }
     {
         self.act(alloc, step)
@@ -99,7 +101,7 @@ impl World {
     /// Steps in order, until one is refused.
     pub fn run(&mut self, alloc: Global, steps: &[Step]) -> Result<Vec<Answer>, (usize, StepError)>
         ensures run { IfOk result (λ answers. Run self.old steps.now answers.items self.new) }
-        ensures laws { IfOk result (λ answers. ObeysLaws self.old steps.now answers.items self.new) }
+        ensures laws { IfOk result (λ all. ObeysLaws self.old steps.now all.items self.new) }
         ensures stops { IfErr result (λ e. (answers : List Answer)
             × Stops self.old steps.now e.0 e.1 answers self.new
             × ObeysLaws self.old (take e.0 steps.now) answers self.new) }
