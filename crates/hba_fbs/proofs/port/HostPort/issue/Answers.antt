@@ -1,0 +1,8 @@
+use Rattle.std.proofs.Common.{arith}
+use Rattle.hba_fbs.proofs.port.HostPort.issue.Goals as goal
+
+pub invariant_of-self : goal.invariant_of-self
+invariant_of-self c = record {
+  registers = c.self.invariant.registers;
+  commands = c.issue_all.ensures.have c.self.invariant.commands;
+}

@@ -1,0 +1,9 @@
+use Rattle.std.proofs.Common.{refl, replicate, None}
+use Rattle.hba_fbs.proofs.SlotLemmas.{none_have}
+use Rattle.hba_fbs.proofs.port.HostPort.new.Goals as goal
+
+pub invariant_of-result : goal.invariant_of-result
+invariant_of-result c = record {
+  registers = c.new.ensures.are;
+  commands = rw c.new-2.ensures (none_have (replicate 32 None));
+}

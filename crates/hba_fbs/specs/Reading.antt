@@ -1,0 +1,42 @@
+-- What a register shows: AHCI 1.3.1, section 3.3.
+use Rattle.std.specs.Prelude.{ℕ, ◌+◌, ◌*◌, ◌^◌, bit_or, Option, Some, None, Result, Ok, Err}
+use Rattle.slots.specs.Slots.{is_queued_issue, match_some}
+use Rattle.slots.specs.Commands.{is_unanswered, slots_where}
+use Rattle.port_errors.specs.Errors.{shown}
+use Rattle.port_errors.specs.declared.errors.FbsBits.{FbsBits}
+use Rattle.hba_fbs.specs.declared.error.NoRegister.{NoRegister}
+use Rattle.hba_fbs.specs.declared.register.Register.{Register}
+use Rattle.hba_fbs.specs.declared.register.Register.TheVariants.{Clb, Clbu, Fb, Fbu, Is, Ie, Cmd, Tfd, Sig, Serr, Sact, Ci, Sntf, Fbs}
+use Rattle.hba_fbs.specs.Bits.{bit, sde, dwe_unit, ufs, unknown_fis}
+use Rattle.hba_fbs.specs.Offsets.{register_at}
+use Rattle.hba_fbs.specs.Registers.{cmd_of, fbs_of}
+use Rattle.hba_fbs.specs.Views.{Port, state_at, task_file}
+
+-- SDE and DWE at their places in PxFBS
+abbrev pub fbs_errors : FbsBits → ℕ
+fbs_errors bits = bit sde bits.sde + dwe_unit * bits.dwe
+
+-- the value of a register: PxIS shows in UFS what PxSERR has in F; PxTFD is that of the device that PxFBS.DEV names; PxSACT
+-- shows the slots that are armed and the queued ones that are issued; PxCI those that are issued and not answered
+unfoldable pub value_of : Register → Port → ℕ
+value_of Clb port = port.registers.clb
+value_of Clbu port = port.registers.clbu
+value_of Fb port = port.registers.fb
+value_of Fbu port = port.registers.fbu
+value_of Is port = bit_or port.registers.interrupts (bit ufs port.registers.unknown)
+value_of Ie port = port.registers.enabled
+value_of Cmd port = cmd_of port.registers
+value_of Tfd port = task_file (state_at port.states port.registers.chosen)
+value_of Sig port = port.registers.signature
+value_of Serr port = bit unknown_fis port.registers.unknown
+value_of Sact port = bit_or port.registers.armed (slots_where is_queued_issue port.slots)
+value_of Ci port = slots_where is_unanswered port.slots
+value_of Sntf port = port.registers.notified
+value_of Fbs port = fbs_of port.registers + fbs_errors (shown port.errors.reported port.errors.port)
+
+abbrev no_register : NoRegister
+no_register = record {}
+
+-- and at an offset, if a register stands there
+abbrev pub read_at : Port → ℕ → Result ℕ NoRegister
+read_at port offset = match_some (register_at offset) (Err no_register) (λ register. Ok (value_of register port))

@@ -1,0 +1,121 @@
+-- The port's own registers: AHCI 1.3.1, section 3.3, Port Registers. When a write is refused that looks at them alone,
+-- and what an accepted one leaves of them.
+use Rattle.std.specs.Prelude.{ℕ, ◌≡◌, ◌+◌, ◌*◌, ◌-◌, ◌^◌, ◌/◌, ◌%◌, ◌<◌, ◌≤◌, ◌==◌, ◌&&◌, ◌||◌, Bool, true, false, not, nat_lt, if◌then◌else◌, bit_or, bit_and, Option, Some, None}
+use Rattle.std.specs.Bool.{beq}
+use Rattle.slots.specs.Slots.{has_bit}
+use Rattle.hba_fbs.specs.declared.error.WriteError.{WriteError}
+use Rattle.hba_fbs.specs.declared.error.WriteError.TheVariants as refusal
+use Rattle.hba_fbs.specs.declared.register.Register.{Register}
+use Rattle.hba_fbs.specs.declared.register.Register.TheVariants.{Clb, Clbu, Fb, Fbu, Is, Ie, Cmd, Tfd, Sig, Serr, Sact, Ci, Sntf, Fbs}
+use Rattle.hba_fbs.specs.declared.registers.Registers.{Registers}
+use Rattle.hba_fbs.specs.Bits.{bit, without, st, fre, fr, cr, pma, fbscp, ufs, interrupts, unknown_fis, en, ado, dev_unit}
+
+-- as they open: no signature has come, and all else is 0
+abbrev pub opening_registers : Registers
+opening_registers = record {
+  clb = 0;
+  clbu = 0;
+  fb = 0;
+  fbu = 0;
+  interrupts = 0;
+  enabled = 0;
+  started = false;
+  receives = false;
+  multiplied = false;
+  signature = 4294967295;
+  unknown = false;
+  armed = 0;
+  notified = 0;
+  switching = false;
+  chosen = 0;
+}
+
+-- What is true of the registers of every port: PxFBS.DEV has four bits, and an area that is in use lies in the structure
+-- area, which ends at 100000h.
+pub record AreRegisters (r : Registers) : Type 0 where
+  pub chosen : r.chosen < 16
+  -- the command list, while ST is 1, and FRE is 1 then
+  pub started : r.started ≡ true → (r.receives ≡ true) × (r.clb + 1024 ≤ 1048576)
+  -- the received area, while FRE is 1
+  pub receives : r.receives ≡ true → r.fb + 4096 ≤ 1048576
+
+-- ---- what they show
+
+-- PxCMD: FR shows FRE, and CR shows ST
+abbrev pub cmd_of : Registers → ℕ
+cmd_of r = bit st r.started + bit fre r.receives + bit fr r.receives + bit cr r.started + bit pma r.multiplied + 2 ^ fbscp
+
+-- PxFBS but for the bits of errors; DEC reads 0
+abbrev pub fbs_of : Registers → ℕ
+fbs_of r = bit en r.switching + dev_unit * r.chosen + ado
+
+-- ---- refusals
+
+-- the received area does not lie in the structure area
+abbrev pub is_area_outside : Registers → Bool
+is_area_outside r = not (r.fbu == 0) || nat_lt 1048576 (r.fb + 4096)
+
+-- nor does the command list
+abbrev pub is_list_outside : Registers → Bool
+is_list_outside r = not (r.clbu == 0) || nat_lt 1048576 (r.clb + 1024)
+
+-- a write of PxCMD with these bits ST and FRE
+unfoldable pub cmd_refusal : Registers → (starts receives : Bool) → Option WriteError
+cmd_refusal r starts receives =
+    if r.receives && not receives && starts then Some refusal.Running
+    else if receives && not r.receives && is_area_outside r then Some refusal.BadTable
+    else if starts && not r.started && (not receives || is_list_outside r) then Some refusal.BadTable
+    else if starts && not r.started && not r.switching then Some refusal.NoSwitching
+    else None
+
+abbrev pub running_if : Bool → Option WriteError
+running_if b = if b then Some refusal.Running else None
+
+-- a one is refused while ST is 0
+abbrev pub stopped_if_ones : Registers → ℕ → Option WriteError
+stopped_if_ones r value = if not r.started && not (value == 0) then Some refusal.Stopped else None
+
+-- the first refusal that looks at these registers alone
+unfoldable pub own_refusal : Register → Registers → ℕ → Option WriteError
+own_refusal Clb r value = running_if r.started
+own_refusal Clbu r value = running_if r.started
+own_refusal Fb r value = running_if r.receives
+own_refusal Fbu r value = running_if r.receives
+own_refusal Is r value = None
+own_refusal Ie r value = None
+own_refusal Cmd r value = cmd_refusal r (has_bit value st) (has_bit value fre)
+own_refusal Tfd r value = None
+own_refusal Sig r value = None
+own_refusal Serr r value = None
+own_refusal Sact r value = stopped_if_ones r value
+own_refusal Ci r value = stopped_if_ones r value
+own_refusal Sntf r value = None
+own_refusal Fbs r value = running_if (r.started && not (beq (has_bit value en) r.switching))
+
+-- ---- what an accepted write leaves
+
+-- ST falls from 1 to 0
+abbrev pub falls : Registers → ℕ → Bool
+falls r value = r.started && not (has_bit value st)
+
+-- A write of PxCI takes the bits in PxSACT over to the slots that it issues. A write of PxFBS does nothing by DEC.
+unfoldable pub written : Register → Registers → ℕ → Registers
+written Clb r value = record r { clb = value / 1024 * 1024 }
+written Clbu r value = record r { clbu = value }
+written Fb r value = record r { fb = value / 4096 * 4096 }
+written Fbu r value = record r { fbu = value }
+written Is r value = record r { interrupts = without r.interrupts (bit_and value interrupts) }
+written Ie r value = record r { enabled = value }
+written Cmd r value = record r {
+  started = has_bit value st;
+  receives = has_bit value fre;
+  multiplied = has_bit value pma;
+  armed = (if falls r value then 0 else r.armed);
+}
+written Tfd r value = r
+written Sig r value = r
+written Serr r value = record r { unknown = r.unknown && not (has_bit value unknown_fis) }
+written Sact r value = record r { armed = bit_or r.armed value }
+written Ci r value = record r { armed = without r.armed value }
+written Sntf r value = record r { notified = bit_and r.notified (65535 - value % 65536) }
+written Fbs r value = record r { switching = has_bit value en; chosen = value / dev_unit % 16 }

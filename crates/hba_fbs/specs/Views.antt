@@ -1,0 +1,81 @@
+-- A host port as its callers see it, and of it what belongs to one device: AHCI 1.3.1, chapter 9, FIS-based Switching.
+use Rattle.std.specs.Prelude.{ℕ, ◌≡◌, ◌≢◌, ◌+◌, ◌*◌, Bool, false, bit_and, List, length, replicate, slice_index_or, Option, Some, None}
+use Rattle.slots.specs.Slots.{Slots, DeviceSlots, issue_at, no_slots, no_own_slots, slots_of}
+use Rattle.port_errors.specs.Errors.{Errors, cause_of, no_errors}
+use Rattle.port_errors.specs.declared.cause.DeviceCause.{DeviceCause}
+use Rattle.hba_commands.specs.declared.command.Command.{Command}
+use Rattle.hba_fbs.specs.declared.registers.Registers.{Registers}
+use Rattle.hba_fbs.specs.declared.state.DeviceState.{DeviceState}
+use Rattle.hba_fbs.specs.Registers.{AreRegisters, opening_registers}
+
+pub record Port : Type 0 where
+  -- the port's own registers
+  pub registers : Registers
+  pub slots : Slots
+  pub errors : Errors
+  -- by device: its task file, and whether it is in software reset
+  pub states : List DeviceState
+  -- by slot: the command that stood there when it was issued
+  pub commands : List (Option Command)
+
+-- the state of a device of which nothing was heard: Status 50h, Error 0
+abbrev pub opening_state : DeviceState
+opening_state = record { status = 80; error = 0; resetting = false }
+
+-- a port as it opens
+abbrev pub opening_port : Port
+opening_port = record {
+  registers = opening_registers;
+  slots = no_slots;
+  errors = no_errors;
+  states = replicate 16 opening_state;
+  commands = replicate 32 None;
+}
+
+abbrev pub state_at : List DeviceState → ℕ → DeviceState
+state_at states dev = slice_index_or states dev opening_state
+
+-- the command that was issued last in a slot
+abbrev pub last_command : List (Option Command) → ℕ → Option Command
+last_command commands slot = slice_index_or commands slot None
+
+-- PxTFD of a device: Error in bits 15:8, Status in bits 7:0
+abbrev pub task_file : DeviceState → ℕ
+task_file state = 256 * state.error + state.status
+
+-- every slot in which something is issued has its command
+abbrev pub HaveCommands : Slots → List (Option Command) → Type 0
+HaveCommands slots commands = (slot : ℕ) → last_command commands slot ≡ None → issue_at slots slot ≡ None
+
+-- what is true of every port
+pub record IsPort (port : Port) : Type 0 where
+  pub registers : AreRegisters port.registers
+  pub commands : HaveCommands port.slots port.commands
+
+-- ---- the view of one device
+
+-- what belongs to a device: its issues, with the bytes that went over, and its last setup; its task file and whether it is
+-- in software reset; and its first fault
+pub record DeviceView : Type 0 where
+  pub slots : DeviceSlots
+  pub state : DeviceState
+  pub fault : Option DeviceCause
+
+abbrev pub view_of : ℕ → Port → DeviceView
+view_of n port = record { slots = slots_of n port.slots; state = state_at port.states n; fault = cause_of port.errors n }
+
+-- the view of every other device stays
+abbrev pub LeavesOtherViews : ℕ → Port → Port → Type 0
+LeavesOtherViews n old new = (other : ℕ) → other ≢ n → view_of other new ≡ view_of other old
+
+-- a device that was flushed has no slot, no setup, no fault, and its task file is as it opens
+abbrev pub flushed_view : DeviceView
+flushed_view = record { slots = no_own_slots; state = opening_state; fault = None }
+
+-- after ST fell BSY and DRQ, bits 7 and 3 of Status, are 0, and no reset goes on
+abbrev pub stopped_state : DeviceState → DeviceState
+stopped_state state = record { status = bit_and state.status 119; error = state.error; resetting = false }
+
+-- nor is there a slot, a setup or a fault
+abbrev pub stopped_view : DeviceView → DeviceView
+stopped_view view = record { slots = no_own_slots; state = stopped_state view.state; fault = None }

@@ -1,0 +1,71 @@
+-- A write of a register: when it is refused, and what an accepted one leaves (AHCI 1.3.1, section 3.3 and chapter 9).
+use Rattle.std.specs.Prelude.{ℕ, ◌≡◌, ◌<◌, ◌==◌, Bool, not, if◌then◌else◌, List, Option, Some, None, MatchOption}
+use Rattle.std.specs.Option.{option_or}
+use Rattle.host_memory.specs.Memory.{Memory}
+use Rattle.slots.specs.Slots.{match_some}
+use Rattle.port_errors.specs.Errors.{Errors, no_errors}
+use Rattle.hba_commands.specs.declared.command.Command.{Command}
+use Rattle.hba_fbs.specs.declared.error.WriteError.{WriteError}
+use Rattle.hba_fbs.specs.declared.error.WriteError.TheVariants as refusal
+use Rattle.hba_fbs.specs.declared.register.Register.{Register}
+use Rattle.hba_fbs.specs.declared.register.Register.TheVariants.{Clb, Clbu, Fb, Fbu, Is, Ie, Cmd, Tfd, Sig, Serr, Sact, Ci, Sntf, Fbs}
+use Rattle.hba_fbs.specs.declared.registers.Registers.{Registers}
+use Rattle.hba_fbs.specs.Issuing.{any_slot, asked, commands_with, is_bad, is_busy, is_foreign, issued_view}
+use Rattle.hba_fbs.specs.Offsets.{register_at}
+use Rattle.hba_fbs.specs.Registers.{falls, own_refusal, written}
+use Rattle.hba_fbs.specs.Views.{DeviceView, Port, stopped_view, view_of}
+
+-- ---- refusals
+
+abbrev pub busy_refusal : Port → ℕ → Option WriteError
+busy_refusal port value = if any_slot value (is_busy port.slots) then Some refusal.SlotBusy else None
+
+-- what is wrong with the slots that are to be issued, each test over all of them before the next
+abbrev pub issue_refusal : Port → Memory → ℕ → Option WriteError
+issue_refusal port memory value =
+    if any_slot value (is_busy port.slots) then Some refusal.SlotBusy
+    else if any_slot value (is_foreign port.registers memory.structure) then Some refusal.WrongDevice
+    else if any_slot value (is_bad port.registers memory) then Some refusal.BadTable
+    else None
+
+-- a refusal that looks at the slots: while ST is 0 nothing is armed or issued
+unfoldable pub slots_refusal : Register → Port → Memory → ℕ → Option WriteError
+slots_refusal Sact port memory value = busy_refusal port value
+slots_refusal Ci port memory value = if port.registers.started then issue_refusal port memory value else None
+slots_refusal register port memory value = None
+
+-- why a write is refused: the first of these that applies
+abbrev pub refusal_of : Register → Port → Memory → ℕ → Option WriteError
+refusal_of register port memory value = option_or (own_refusal register port.registers value) (slots_refusal register port memory value)
+
+abbrev pub write_refusal : Port → Memory → ℕ → ℕ → Option WriteError
+write_refusal port memory offset value = match_some (register_at offset) (Some refusal.NoRegister) (λ register. refusal_of register port memory value)
+
+-- ---- what an accepted write leaves
+
+-- the view of a device: ST that falls stops every device, and a write of PxCI issues for the device that PxFBS.DEV names
+unfoldable pub view_after : Register → Port → Memory → ℕ → ℕ → DeviceView
+view_after Cmd old memory value n = if falls old.registers value then stopped_view (view_of n old) else view_of n old
+view_after Ci old memory value n = if n == old.registers.chosen then issued_view n (asked old.registers memory value) (view_of n old) else view_of n old
+view_after register old memory value n = view_of n old
+
+-- the errors of the port
+unfoldable pub errors_after : Register → Port → ℕ → Errors
+errors_after Cmd old value = if falls old.registers value then no_errors else old.errors
+errors_after register old value = old.errors
+
+-- the commands of the slots
+unfoldable pub commands_after : Register → Port → Memory → ℕ → List (Option Command)
+commands_after Ci old memory value = commands_with (asked old.registers memory value) old.commands
+commands_after register old memory value = old.commands
+
+-- An accepted write of a register. The slots, the task files and the resets are the views' parts.
+pub record Accepts (old : Port) (memory : Memory) (register : Register) (value : ℕ) (new : Port) : Type 0 where
+  pub registers : new.registers ≡ written register old.registers value
+  pub views : (n : ℕ) → n < 16 → view_of n new ≡ view_after register old memory value n
+  pub errors : new.errors ≡ errors_after register old value
+  pub commands : new.commands ≡ commands_after register old memory value
+
+-- and at an offset
+abbrev pub Writes : Port → Memory → ℕ → ℕ → Port → Type 0
+Writes old memory offset value new = MatchOption (register_at offset) ⊥ (λ register. Accepts old memory register value new)

@@ -1,0 +1,56 @@
+//! The numbers of the bits of a register, and dwords as sets of bits.
+
+ghost use Rattle.std.specs.Prelude.{◌≡◌, ◌<◌};
+ghost use Rattle.slots.specs.Slots.{has_bit as has_bit_of};
+ghost use Rattle.hba_fbs.specs.Bits.{bit as bit_of, without};
+
+/// PxCMD.ST, Start.
+pub(crate) const ST: u32 = 0;
+/// PxCMD.FRE, FIS Receive Enable.
+pub(crate) const FRE: u32 = 4;
+/// PxCMD.FR, FIS Receive Running.
+pub(crate) const FR: u32 = 14;
+/// PxCMD.CR, Command List Running.
+pub(crate) const CR: u32 = 15;
+/// PxCMD.PMA, Port Multiplier Attached.
+pub(crate) const PMA: u32 = 17;
+/// PxCMD.FBSCP, FIS-based Switching Capable Port.
+pub(crate) const FBSCP: u32 = 22;
+
+/// PxIS.UFS, Unknown FIS Interrupt.
+pub(crate) const UFS: u32 = 4;
+/// The bits of PxIS that ones clear: DHRS, PSS, DSS, SDBS, OFS, IFS, HBFS and TFES.
+pub(crate) const INTERRUPTS: u32 = 0x6900_000F;
+
+/// PxSERR.DIAG.F, Unknown FIS Type.
+pub(crate) const UNKNOWN: u32 = 25;
+
+/// PxFBS.EN, Enable.
+pub(crate) const EN: u32 = 0;
+/// PxFBS.DEV, Device To Issue, is the four bits from here on.
+pub(crate) const DEV: u32 = 8;
+/// PxFBS.ADO, Active Device Optimization: any number of devices, up to 15, may be active.
+pub(crate) const ADO: u32 = 0xF000;
+
+/// Whether bit `k` of a dword is set.
+pub(crate) fn has_bit(value: u32, k: u32) -> bool
+    requires { k < 32 }
+    ensures { result ≡ has_bit_of value k }
+{
+    value >> k & 1 == 1
+}
+
+/// The dword that has bit `k` set, or no bit.
+pub(crate) fn bit(set: bool, k: u32) -> u32
+    requires { k < 32 }
+    ensures { result ≡ bit_of k set }
+{
+    if set { 1 << k } else { 0 }
+}
+
+/// The bits that are not in `dropped`.
+pub(crate) fn cleared(bits: u32, dropped: u32) -> u32
+    ensures { result ≡ without bits dropped }
+{
+    bits & !dropped
+}

@@ -1,0 +1,146 @@
+//! The slots of a write: what is wrong with them, and their issue.
+
+ghost use Rattle.std.specs.Prelude.{◌≡◌, ◌<◌, ◌+◌, ◌≤◌, ◌&&◌, None, false, true, is_some, length, IfSome};
+ghost use Rattle.hba_commands.specs.Commands.{command_at};
+ghost use Rattle.slots.specs.Slots.{LeavesOthers, has_bit as has_bit_of, slots_of};
+ghost use Rattle.slots.specs.Work.{IsWork};
+ghost use Rattle.hba_fbs.specs.Issuing.{any_slot, asked as asked_of, commands_with, is_bad as is_bad_slot, is_busy as is_busy_slot, is_foreign as is_foreign_slot, issued_slots, slots_after, with_command};
+ghost use Rattle.hba_fbs.specs.Views.{HaveCommands};
+
+use crate::bits::has_bit;
+use crate::registers::Registers;
+use hba_commands::{Command, pmp};
+use host_memory::HostMemory;
+use slots::SlotTable;
+
+fn is_busy(slots: &SlotTable, value: u32, slot: u8) -> bool
+    requires { slot < 32 }
+    ensures { result ≡ (has_bit_of value slot && is_busy_slot slots.now slot) }
+{
+    has_bit(value, u32::from(slot)) && slots.work(slot).is_some()
+}
+
+/// Whether something is issued in one of these slots.
+pub(crate) fn any_busy(slots: &SlotTable, value: u32) -> bool
+    ensures { result ≡ any_slot value (is_busy_slot slots.now) }
+{
+    for slot in 0..32_u8 {
+        if is_busy(slots, value, slot) {
+            return true;
+        }
+    }
+    false
+}
+
+fn is_foreign(registers: Registers, structure: &[u8], value: u32, slot: u8) -> bool
+    requires slot { slot < 32 }
+    requires list { registers.clb + 1024 ≤ length structure.now }
+    ensures { result ≡ (has_bit_of value slot && is_foreign_slot registers structure.now slot) }
+{
+    has_bit(value, u32::from(slot)) && pmp(structure, registers.clb, slot) != registers.chosen
+}
+
+/// Whether the header of one of these slots names another device than PxFBS.DEV.
+pub(crate) fn any_foreign(registers: Registers, structure: &[u8], value: u32) -> bool
+    requires { registers.clb + 1024 ≤ length structure.now }
+    ensures { result ≡ any_slot value (is_foreign_slot registers structure.now) }
+{
+    for slot in 0..32_u8 {
+        if is_foreign(registers, structure, value, slot) {
+            return true;
+        }
+    }
+    false
+}
+
+// The command that stands in a slot.
+fn standing(registers: Registers, memory: &HostMemory, slot: u8) -> Option<Command>
+    requires slot { slot < 32 }
+    requires list { registers.clb + 1024 ≤ 1048576 }
+    ensures value { result ≡ command_at memory.now registers.clb slot (has_bit_of registers.armed slot) }
+    ensures work { IfSome result (λ command. IsWork command.work) }
+{
+    let armed = has_bit(registers.armed, u32::from(slot));
+    Command::read(memory, registers.clb, slot, armed)
+}
+
+fn is_bad(registers: Registers, memory: &HostMemory, value: u32, slot: u8) -> bool
+    requires slot { slot < 32 }
+    requires list { registers.clb + 1024 ≤ 1048576 }
+    ensures { result ≡ (has_bit_of value slot && is_bad_slot registers memory.now slot) }
+{
+    has_bit(value, u32::from(slot)) && standing(registers, memory, slot).is_none()
+}
+
+/// Whether the header or the command table of one of these slots is bad.
+pub(crate) fn any_bad(registers: Registers, memory: &HostMemory, value: u32) -> bool
+    requires { registers.clb + 1024 ≤ 1048576 }
+    ensures { result ≡ any_slot value (is_bad_slot registers memory.now) }
+{
+    for slot in 0..32_u8 {
+        if is_bad(registers, memory, value, slot) {
+            return true;
+        }
+    }
+    false
+}
+
+// The command to be issued in a slot.
+fn asked(registers: Registers, memory: &HostMemory, value: u32, slot: u8) -> Option<Command>
+    requires slot { slot < 32 }
+    requires list { registers.clb + 1024 ≤ 1048576 }
+    ensures value { result ≡ asked_of registers memory.now value slot }
+    ensures work { IfSome result (λ command. IsWork command.work) }
+{
+    if has_bit(value, u32::from(slot)) {
+        standing(registers, memory, slot)
+    } else {
+        None
+    }
+}
+
+// Issues a command, if there is one, in a slot that is free.
+fn issue_one(
+    slots: &mut SlotTable,
+    commands: &mut [Option<Command>; 32],
+    dev: u8,
+    slot: u8,
+    command: Option<Command>,
+)
+    requires slot { slot < 32 }
+    requires dev { dev < 16 }
+    requires work { IfSome command (λ command. IsWork command.work) }
+    requires free { is_some command ≡ true → is_busy_slot slots.old slot ≡ false }
+    ensures own { slots_of dev slots.new ≡ slots_after dev slot command (slots_of dev slots.old) }
+    ensures others { LeavesOthers dev slots.old slots.new }
+    ensures commands { commands.new ≡ with_command slot command commands.old }
+{
+    if let Some(command) = command {
+        // it is free
+        let _ = slots.issue(slot, dev, command.work);
+        commands[slot as usize] = Some(command);
+    }
+}
+
+/// Issues the command that stands in each of these slots, for the device that PxFBS.DEV names.
+pub(crate) fn issue_all(
+    registers: Registers,
+    slots: &mut SlotTable,
+    commands: &mut [Option<Command>; 32],
+    memory: &HostMemory,
+    value: u32,
+)
+    requires list { registers.clb + 1024 ≤ 1048576 }
+    requires dev { registers.chosen < 16 }
+    requires free { any_slot value (is_busy_slot slots.old) ≡ false }
+    ensures own { slots_of registers.chosen slots.new ≡ issued_slots registers.chosen (asked_of registers memory.now value) (slots_of registers.chosen slots.old) }
+    ensures others { LeavesOthers registers.chosen slots.old slots.new }
+    ensures commands { commands.new ≡ commands_with (asked_of registers memory.now value) commands.old }
+    ensures have { HaveCommands slots.old commands.old → HaveCommands slots.new commands.new }
+{
+    slots.keeps_rules();
+    for slot in 0..32_u8 {
+        let command = asked(registers, memory, value, slot);
+        issue_one(slots, commands, registers.chosen, slot, command);
+    }
+}

@@ -1,0 +1,252 @@
+//! The host port.
+
+ghost use Rattle.std.specs.Prelude.{◌≡◌, ◌<◌, ◌+◌, ◌≤◌, ℕ, None, false, OnErr, OnOk};
+ghost use Rattle.slots.specs.Commands.{own_slots};
+ghost use Rattle.slots.specs.Slots.{slots_of};
+ghost use Rattle.port_errors.specs.Errors.{no_errors, without as without_fault};
+ghost use Rattle.std.specs.Result.{result_err};
+ghost use Rattle.hba_fbs.specs.Issuing.{any_slot, asked, commands_with, is_busy, issued_view};
+ghost use Rattle.hba_fbs.specs.Writing.{Writes, commands_after, errors_after, issue_refusal as issue_refusal_of, refusal_of, slots_refusal as slots_refusal_of, view_after, write_refusal};
+ghost use Rattle.hba_fbs.specs.Reading.{read_at, value_of};
+ghost use Rattle.hba_fbs.specs.Views.{IsPort, LeavesOtherViews, flushed_view, opening_port, stopped_view, view_of};
+
+use crate::bits::{UFS, UNKNOWN, bit};
+use crate::error::{NoRegister, WriteError};
+use crate::issue::{any_bad, any_busy, any_foreign, issue_all};
+use crate::register::Register;
+use crate::registers::Registers;
+use crate::state::{DeviceState, state_of, stop_all};
+use hba_commands::Command;
+use host_memory::HostMemory;
+use port_errors::PortErrors;
+use slots::SlotTable;
+use std::marker::Model;
+
+/// A host port.
+#[derive(Drop)]
+pub struct HostPort {
+    registers: Registers,
+    slots: SlotTable,
+    errors: PortErrors,
+    states: [DeviceState; 16],
+    commands: [Option<Command>; 32],
+}
+
+impl Model for HostPort {
+    ghost use Rattle.hba_fbs.specs.Views.{IsPort, Port};
+
+    ghost Value = { Port };
+
+    ghost view = { λ p. record { registers = p.registers; slots = p.slots; errors = p.errors; states = p.states; commands = p.commands } };
+
+    ghost invariant = { λ p. IsPort (record { registers = p.registers; slots = p.slots; errors = p.errors; states = p.states; commands = p.commands }) };
+}
+
+impl HostPort {
+    /// As it opens: nothing is issued, and the port is stopped.
+    pub fn new() -> HostPort
+        ensures { result ≡ opening_port }
+    {
+        HostPort {
+            registers: Registers::new(),
+            slots: SlotTable::new(),
+            errors: PortErrors::new(),
+            states: [DeviceState::new(); 16],
+            commands: [None; 32],
+        }
+    }
+
+    /// What is true of every port. It does nothing when it runs.
+    pub fn keeps_rules(&self)
+        ensures { IsPort self.now }
+    {
+        let _ = &self.registers;
+    }
+
+    // The value of a register.
+    #[tactic(auto, unfolding(crate::specs::Reading::value_of))]
+    fn value(&self, register: Register) -> u32
+        ensures { result ≡ value_of register self.now }
+    {
+        let registers = self.registers;
+        match register {
+            Register::Clb => registers.clb,
+            Register::Clbu => registers.clbu,
+            Register::Fb => registers.fb,
+            Register::Fbu => registers.fbu,
+            Register::Is => registers.interrupts | bit(registers.unknown, UFS),
+            Register::Ie => registers.enabled,
+            Register::Cmd => registers.cmd(),
+            Register::Tfd => state_of(&self.states, registers.chosen).task_file(),
+            Register::Sig => registers.signature,
+            Register::Serr => bit(registers.unknown, UNKNOWN),
+            Register::Sact => registers.armed | self.slots.queued(),
+            Register::Ci => self.slots.ci(),
+            Register::Sntf => u32::from(registers.notified),
+            Register::Fbs => registers.fbs() + self.errors.fbs_bits().in_register(),
+        }
+    }
+
+    /// The value of the register at an offset.
+    pub fn read(&self, offset: u32) -> Result<u32, NoRegister>
+        ensures { result ≡ read_at self.now offset }
+    {
+        let Some(register) = Register::at(offset) else {
+            return Err(NoRegister);
+        };
+        Ok(self.value(register))
+    }
+
+    /// Whether a device is in software reset: a control frame with SRST set went out, and no signature came since.
+    pub fn resetting(&self, dev: u8) -> bool
+        requires { dev < 16 }
+        ensures { result ≡ (view_of dev self.now).state.resetting }
+    {
+        self.states[dev as usize].resetting
+    }
+
+    /// Frees each slot of a device, and answers their mask. The device's fault and its reset end, and its task file is as
+    /// it opens.
+    pub fn flush_device(&mut self, dev: u8) -> u32
+        requires { dev < 16 }
+        ensures answer { result ≡ own_slots (slots_of dev self.old.slots) }
+        ensures own { view_of dev self.new ≡ flushed_view }
+        ensures others { LeavesOtherViews dev self.old self.new }
+        ensures registers { self.new.registers ≡ self.old.registers }
+        ensures errors { self.new.errors ≡ without_fault self.old.errors dev }
+        ensures commands { self.new.commands ≡ self.old.commands }
+    {
+        let freed = self.slots.flush(dev);
+        self.errors.forget(dev);
+        self.states[dev as usize] = DeviceState::new();
+        freed
+    }
+
+    // Why a write is refused that arms or issues slots.
+    fn issue_refusal(&self, value: u32, memory: &HostMemory) -> Option<WriteError>
+        requires { self.now.registers.clb + 1024 ≤ 1048576 }
+        ensures { result ≡ issue_refusal_of self.now memory.now value }
+    {
+        if any_busy(&self.slots, value) {
+            return Some(WriteError::SlotBusy);
+        }
+        if any_foreign(self.registers, memory.structure(), value) {
+            return Some(WriteError::WrongDevice);
+        }
+        if any_bad(self.registers, memory, value) {
+            return Some(WriteError::BadTable);
+        }
+        None
+    }
+
+    #[tactic(auto, unfolding(crate::specs::Writing::slots_refusal))]
+    fn slots_refusal(
+        &self,
+        register: Register,
+        value: u32,
+        memory: &HostMemory,
+    ) -> Option<WriteError>
+        ensures { result ≡ slots_refusal_of register self.now memory.now value }
+    {
+        match register {
+            Register::Sact => any_busy(&self.slots, value).then_some(WriteError::SlotBusy),
+            Register::Ci if self.registers.started => self.issue_refusal(value, memory),
+            _ => None,
+        }
+    }
+
+    // Why a write is refused.
+    fn refusal(&self, register: Register, value: u32, memory: &HostMemory) -> Option<WriteError>
+        ensures { result ≡ refusal_of register self.now memory.now value }
+    {
+        if let Some(refusal) = self.registers.refusal(register, value) {
+            return Some(refusal);
+        }
+        self.slots_refusal(register, value, memory)
+    }
+
+    // ST falls: every slot, fault and reset ends.
+    fn stop(&mut self)
+        ensures views { (n : ℕ) → n < 16 → view_of n self.new ≡ stopped_view (view_of n self.old) }
+        ensures registers { self.new.registers ≡ self.old.registers }
+        ensures errors { self.new.errors ≡ no_errors }
+        ensures commands { self.new.commands ≡ self.old.commands }
+    {
+        let _ = self.slots.flush_all();
+        self.errors.stop();
+        stop_all(&mut self.states);
+    }
+
+    // The commands of these slots are issued.
+    fn issue(&mut self, value: u32, memory: &HostMemory)
+        requires list { self.old.registers.clb + 1024 ≤ 1048576 }
+        requires free { any_slot value (is_busy self.old.slots) ≡ false }
+        ensures own { view_of self.old.registers.chosen self.new ≡ issued_view self.old.registers.chosen (asked self.old.registers memory.now value) (view_of self.old.registers.chosen self.old) }
+        ensures others { LeavesOtherViews self.old.registers.chosen self.old self.new }
+        ensures registers { self.new.registers ≡ self.old.registers }
+        ensures errors { self.new.errors ≡ self.old.errors }
+        ensures commands { self.new.commands ≡ commands_with (asked self.old.registers memory.now value) self.old.commands }
+    {
+        let registers = self.registers;
+        issue_all(
+            registers,
+            &mut self.slots,
+            &mut self.commands,
+            memory,
+            value,
+        );
+    }
+
+    // What a write that is not refused does beside the port's own registers.
+    #[tactic(auto, unfolding(crate::specs::Writing::view_after, crate::specs::Writing::errors_after, crate::specs::Writing::commands_after))]
+    fn act(&mut self, register: Register, value: u32, memory: &HostMemory)
+        requires accepted { refusal_of register self.old memory.now value ≡ None }
+        ensures views { (n : ℕ) → n < 16 → view_of n self.new ≡ view_after register self.old memory.now value n }
+        ensures registers { self.new.registers ≡ self.old.registers }
+        ensures errors { self.new.errors ≡ errors_after register self.old value }
+        ensures commands { self.new.commands ≡ commands_after register self.old memory.now value }
+    {
+        match register {
+            Register::Cmd => {
+                if self.registers.falls(value) {
+                    self.stop();
+                }
+            }
+            Register::Ci => {
+                if self.registers.started {
+                    self.issue(value, memory);
+                }
+            }
+            Register::Clb
+            | Register::Clbu
+            | Register::Fb
+            | Register::Fbu
+            | Register::Is
+            | Register::Ie
+            | Register::Tfd
+            | Register::Sig
+            | Register::Serr
+            | Register::Sact
+            | Register::Sntf
+            | Register::Fbs => {}
+        }
+    }
+
+    /// Writes a register: all bits of the value, or none where the write is refused. Ones written to PxCI issue the commands
+    /// that stand in their slots, and ST that falls stops every device. The memory is read for PxCI alone.
+    pub fn write(&mut self, offset: u32, value: u32, memory: &HostMemory) -> Result<(), WriteError>
+        ensures refusal { result_err result ≡ write_refusal self.old memory.now offset value }
+        ensures refused { OnErr result (self.new ≡ self.old) }
+        ensures accepted { OnOk result (Writes self.old memory.now offset value self.new) }
+    {
+        let Some(register) = Register::at(offset) else {
+            return Err(WriteError::NoRegister);
+        };
+        if let Some(refusal) = self.refusal(register, value, memory) {
+            return Err(refusal);
+        }
+        self.act(register, value, memory);
+        self.registers = self.registers.written(register, value);
+        Ok(())
+    }
+}
