@@ -1,5 +1,5 @@
 -- A test of the slots whose bit is set.
-use Rattle.std.proofs.Common.{◌≡◌, ℕ, ◌<◌, Bool, true, false, ◌&&◌, refl, sym, ◌∙◌, ap, Option, Some, None}
+use Rattle.std.proofs.Common.{◌≡◌, ℕ, ◌<◌, Bool, true, false, ◌&&◌, refl, ap, Option, Some, None}
 use Rattle.std.specs.Option.{is_some}
 use Rattle.slots.specs.Slots.{has_bit, lowest}
 use Rattle.slots.proofs.MaskLemmas.{lowest_found, lowest_none, none_below}

@@ -1,11 +1,11 @@
 -- Slots that are free stay so, and so each issued one keeps its command.
-use Rattle.std.proofs.Common.{◌≡◌, ◌≢◌, ℕ, ◌<◌, ◌≤◌, List, length, get_or, map, replicate, refl, sym, ◌∙◌, ap, subst, inl, inr, Option, Some, None, arith}
+use Rattle.std.proofs.Common.{◌≡◌, ℕ, List, get_or, replicate, refl, ◌∙◌, ap, subst, inl, inr, Option, Some, None, arith}
 use Rattle.std.proofs.lemmas.Bool.{cases_eq, cases_lt, eq-eqb}
 use Rattle.std.proofs.lemmas.List.{get_or-replicate, get_or_past}
 use Rattle.std.proofs.Math.ListN.{get_or-map, length-replicate}
 use Rattle.slots.specs.Slots.{Issue, Slots, DeviceSlots, LeavesOthers, issue_at, no_own_slots, no_slots, owned_by, own_issue, slots_of}
 use Rattle.hba_commands.specs.declared.command.Command.{Command}
-use Rattle.hba_fbs.specs.Views.{HaveCommands, last_command}
+use Rattle.hba_fbs.specs.Views.{HaveCommands}
 
 -- what a list has everywhere it has at each place
 none_everywhere : {A : Type 0} (n k : ℕ) (x : A) → get_or (replicate n x) k x ≡ x

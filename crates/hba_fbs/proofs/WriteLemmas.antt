@@ -1,18 +1,17 @@
 -- A write of PxCI that is not refused.
-use Rattle.std.proofs.Common.{◌≡◌, ◌≢◌, ℕ, ◌<◌, Bool, true, false, not, ◌&&◌, List, refl, sym, ◌∙◌, ap, subst, Option, Some, None}
+use Rattle.std.proofs.Common.{◌≡◌, ℕ, Bool, true, false, not, ◌&&◌, refl, ap, Option, Some, None}
 use Rattle.std.specs.Prelude.{if◌then◌else◌, ◌==◌}
 use Rattle.std.specs.Option.{option_or}
-use Rattle.std.proofs.lemmas.Bool.{eqb-true, eqb-false, false≢true, true≢false}
+use Rattle.std.proofs.lemmas.Bool.{eqb-true, false≢true, true≢false}
 use Rattle.host_memory.specs.Memory.{Memory}
 use Rattle.slots.specs.Slots.{DeviceSlots}
-use Rattle.hba_commands.specs.declared.command.Command.{Command}
 use Rattle.hba_fbs.specs.declared.error.WriteError.{WriteError}
 use Rattle.hba_fbs.specs.declared.error.WriteError.TheVariants as refusal
 use Rattle.hba_fbs.specs.declared.register.Register.TheVariants.{Ci}
-use Rattle.hba_fbs.specs.Issuing.{any_slot, asked, commands_with, is_busy, issued_slots, issued_view}
+use Rattle.hba_fbs.specs.Issuing.{any_slot, asked, is_busy, view_issued}
 use Rattle.hba_fbs.specs.Registers.{own_refusal}
-use Rattle.hba_fbs.specs.Views.{DeviceView, LeavesOtherViews, Port, view_of}
-use Rattle.hba_fbs.specs.Writing.{commands_after, issue_refusal, refusal_of, slots_refusal, view_after}
+use Rattle.hba_fbs.specs.Views.{DeviceView, Port, view_of}
+use Rattle.hba_fbs.specs.Writing.{commands_after, refusal_of, slots_refusal, view_after}
 use Rattle.hba_fbs.proofs.IssueLemmas.{commands_none, issued_none, nothing_asked}
 
 not_one : (b : Bool) (e : WriteError) (o : Option WriteError) → (if b then Some e else o) ≡ None → b ≡ false
@@ -44,22 +43,13 @@ pick : (b : Bool) (x y z : DeviceView) → (b ≡ true → z ≡ x) → (b ≡ f
 pick true x y z one other = one refl
 pick false x y z one other = other refl
 
-pub issued_views : (old new : Port) (memory : Memory) (value : ℕ)
-    → view_of old.registers.chosen new ≡ issued_view old.registers.chosen (asked old.registers memory value) (view_of old.registers.chosen old) → LeavesOtherViews old.registers.chosen old new
-    → (n : ℕ) → view_of n new ≡ view_after Ci old memory value n
-unfolding view_after
-issued_views old new memory value own others n =
-    pick (n == old.registers.chosen) (issued_view n (asked old.registers memory value) (view_of n old)) (view_of n old) (view_of n new)
-    (λ same. subst (λ (m : ℕ). view_of m new ≡ issued_view m (asked old.registers memory value) (view_of m old)) (sym (eqb-true n old.registers.chosen same)) own)
-    (λ differs. others n (eqb-false n old.registers.chosen differs))
-
 -- nothing is issued by a write of 0
 pub idle_views : (port : Port) (memory : Memory) (value : ℕ) → value ≡ 0 → (n : ℕ) → view_of n port ≡ view_after Ci port memory value n
 unfolding view_after
 idle_views port memory value zero n =
-    pick (n == port.registers.chosen) (issued_view n (asked port.registers memory value) (view_of n port)) (view_of n port) (view_of n port)
+    pick (n == port.registers.chosen) (view_issued port.registers memory value (view_of n port)) (view_of n port) (view_of n port)
     (λ same. ap (λ (own : DeviceSlots). let view : DeviceView = record (view_of n port) { slots = own } in view)
-    (issued_none n (asked port.registers memory value) (view_of n port).slots (λ slot. nothing_asked port.registers memory value slot zero)))
+    (issued_none port.registers.chosen (asked port.registers memory value) (view_of n port).slots (λ slot. nothing_asked port.registers memory value slot zero)))
     (λ differs. refl)
 
 pub idle_commands : (port : Port) (memory : Memory) (value : ℕ) → value ≡ 0 → port.commands ≡ commands_after Ci port memory value

@@ -1,5 +1,5 @@
 -- The commands that a write of PxCI issues: AHCI 1.3.1, sections 3.3.14 and 4.2.2.
-use Rattle.std.specs.Prelude.{ℕ, ◌<◌, ◌==◌, ◌&&◌, Bool, not, if◌then◌else◌, List, length, map, Option, Some, None, is_some, is_none, slice_index_or, slice_set}
+use Rattle.std.specs.Prelude.{ℕ, ◌==◌, ◌&&◌, Bool, not, if◌then◌else◌, List, length, map, Option, Some, None, is_some, is_none, slice_index_or, slice_set}
 use Rattle.std.specs.List.{range_with_len}
 use Rattle.std.specs.Option.{option_or}
 use Rattle.host_memory.specs.Memory.{Memory}
@@ -46,16 +46,25 @@ abbrev pub with_command : ℕ → Option Command → List (Option Command) → L
 with_command slot None commands = commands
 with_command slot (Some command) commands = slice_set commands slot (Some command)
 
--- the issues of a device with these commands, each in its slot
+-- the issues of a device with these commands, each in its slot, and its slots with them
 unfoldable pub issues_with : ℕ → (ℕ → Option Command) → List (Option Issue) → List (Option Issue)
 issues_with dev commands issues = map (λ slot. issue_with dev (commands slot) (slice_index_or issues slot None)) (range_with_len 0 (length issues))
 
 abbrev pub issued_slots : ℕ → (ℕ → Option Command) → DeviceSlots → DeviceSlots
 issued_slots dev commands own = record own { issues = issues_with dev commands own.issues }
 
-abbrev pub issued_view : ℕ → (ℕ → Option Command) → DeviceView → DeviceView
-issued_view dev commands view = record view { slots = issued_slots dev commands view.slots }
-
--- and the commands by slot
+-- the last commands of the slots with these
 unfoldable pub commands_with : (ℕ → Option Command) → List (Option Command) → List (Option Command)
 commands_with commands old = map (λ slot. option_or (commands slot) (last_command old slot)) (range_with_len 0 (length old))
+
+-- ---- what a write of PxCI issues, for the device that PxFBS.DEV names
+
+abbrev pub slots_issued : Registers → Memory → ℕ → DeviceSlots → DeviceSlots
+slots_issued r memory value own = issued_slots r.chosen (asked r memory value) own
+
+-- of that device's view only the slots change
+abbrev pub view_issued : Registers → Memory → ℕ → DeviceView → DeviceView
+view_issued r memory value view = record view { slots = slots_issued r memory value view.slots }
+
+abbrev pub commands_issued : Registers → Memory → ℕ → List (Option Command) → List (Option Command)
+commands_issued r memory value old = commands_with (asked r memory value) old

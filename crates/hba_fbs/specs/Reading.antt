@@ -1,5 +1,5 @@
 -- What a register shows: AHCI 1.3.1, section 3.3.
-use Rattle.std.specs.Prelude.{ℕ, ◌+◌, ◌*◌, ◌^◌, bit_or, Option, Some, None, Result, Ok, Err}
+use Rattle.std.specs.Prelude.{ℕ, ◌+◌, ◌*◌, bit_or, Result, Ok, Err}
 use Rattle.slots.specs.Slots.{is_queued_issue, match_some}
 use Rattle.slots.specs.Commands.{is_unanswered, slots_where}
 use Rattle.port_errors.specs.Errors.{shown}

@@ -8,7 +8,7 @@ use Rattle.hba_fbs.specs.declared.error.WriteError.TheVariants as refusal
 use Rattle.hba_fbs.specs.declared.register.Register.{Register}
 use Rattle.hba_fbs.specs.declared.register.Register.TheVariants.{Clb, Clbu, Fb, Fbu, Is, Ie, Cmd, Tfd, Sig, Serr, Sact, Ci, Sntf, Fbs}
 use Rattle.hba_fbs.specs.declared.registers.Registers.{Registers}
-use Rattle.hba_fbs.specs.Bits.{bit, without, st, fre, fr, cr, pma, fbscp, ufs, interrupts, unknown_fis, en, ado, dev_unit}
+use Rattle.hba_fbs.specs.Bits.{bit, without, st, fre, fr, cr, pma, fbscp, interrupts, unknown_fis, en, ado, dev_unit}
 
 -- as they open: no signature has come, and all else is 0
 abbrev pub opening_registers : Registers

@@ -1,5 +1,5 @@
 -- A host port as its callers see it, and of it what belongs to one device: AHCI 1.3.1, chapter 9, FIS-based Switching.
-use Rattle.std.specs.Prelude.{ℕ, ◌≡◌, ◌≢◌, ◌+◌, ◌*◌, Bool, false, bit_and, List, length, replicate, slice_index_or, Option, Some, None}
+use Rattle.std.specs.Prelude.{ℕ, ◌≡◌, ◌≢◌, ◌+◌, ◌*◌, false, bit_and, List, replicate, slice_index_or, Option, None}
 use Rattle.slots.specs.Slots.{Slots, DeviceSlots, issue_at, no_slots, no_own_slots, slots_of}
 use Rattle.port_errors.specs.Errors.{Errors, cause_of, no_errors}
 use Rattle.port_errors.specs.declared.cause.DeviceCause.{DeviceCause}

@@ -1,5 +1,5 @@
 -- A write of a register: when it is refused, and what an accepted one leaves (AHCI 1.3.1, section 3.3 and chapter 9).
-use Rattle.std.specs.Prelude.{ℕ, ◌≡◌, ◌<◌, ◌==◌, Bool, not, if◌then◌else◌, List, Option, Some, None, MatchOption}
+use Rattle.std.specs.Prelude.{ℕ, ◌≡◌, ◌<◌, ◌==◌, if◌then◌else◌, List, Option, Some, None, MatchOption}
 use Rattle.std.specs.Option.{option_or}
 use Rattle.host_memory.specs.Memory.{Memory}
 use Rattle.slots.specs.Slots.{match_some}
@@ -8,9 +8,8 @@ use Rattle.hba_commands.specs.declared.command.Command.{Command}
 use Rattle.hba_fbs.specs.declared.error.WriteError.{WriteError}
 use Rattle.hba_fbs.specs.declared.error.WriteError.TheVariants as refusal
 use Rattle.hba_fbs.specs.declared.register.Register.{Register}
-use Rattle.hba_fbs.specs.declared.register.Register.TheVariants.{Clb, Clbu, Fb, Fbu, Is, Ie, Cmd, Tfd, Sig, Serr, Sact, Ci, Sntf, Fbs}
-use Rattle.hba_fbs.specs.declared.registers.Registers.{Registers}
-use Rattle.hba_fbs.specs.Issuing.{any_slot, asked, commands_with, is_bad, is_busy, is_foreign, issued_view}
+use Rattle.hba_fbs.specs.declared.register.Register.TheVariants.{Cmd, Sact, Ci}
+use Rattle.hba_fbs.specs.Issuing.{any_slot, commands_issued, is_bad, is_busy, is_foreign, view_issued}
 use Rattle.hba_fbs.specs.Offsets.{register_at}
 use Rattle.hba_fbs.specs.Registers.{falls, own_refusal, written}
 use Rattle.hba_fbs.specs.Views.{DeviceView, Port, stopped_view, view_of}
@@ -46,7 +45,7 @@ write_refusal port memory offset value = match_some (register_at offset) (Some r
 -- the view of a device: ST that falls stops every device, and a write of PxCI issues for the device that PxFBS.DEV names
 unfoldable pub view_after : Register → Port → Memory → ℕ → ℕ → DeviceView
 view_after Cmd old memory value n = if falls old.registers value then stopped_view (view_of n old) else view_of n old
-view_after Ci old memory value n = if n == old.registers.chosen then issued_view n (asked old.registers memory value) (view_of n old) else view_of n old
+view_after Ci old memory value n = if n == old.registers.chosen then view_issued old.registers memory value (view_of n old) else view_of n old
 view_after register old memory value n = view_of n old
 
 -- the errors of the port
@@ -56,7 +55,7 @@ errors_after register old value = old.errors
 
 -- the commands of the slots
 unfoldable pub commands_after : Register → Port → Memory → ℕ → List (Option Command)
-commands_after Ci old memory value = commands_with (asked old.registers memory value) old.commands
+commands_after Ci old memory value = commands_issued old.registers memory value old.commands
 commands_after register old memory value = old.commands
 
 -- An accepted write of a register. The slots, the task files and the resets are the views' parts.

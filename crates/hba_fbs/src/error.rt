@@ -25,8 +25,8 @@ pub enum WriteError {
     /// The header of one of the slots names another device than PxFBS.DEV.
     #[error("a header names another device")]
     WrongDevice = 5,
-    /// The command list or the received area does not lie in the structure area, or the header or the command table of
-    /// one of the slots is bad.
+    /// The command list or the received area does not lie in the structure area, or the header or
+    /// the command table of one of the slots is bad.
     #[error("bad table")]
     BadTable = 6,
     /// PxFBS.EN is 0, and a port without FIS-based switching is not driven.

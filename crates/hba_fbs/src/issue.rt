@@ -4,7 +4,7 @@ ghost use Rattle.std.specs.Prelude.{◌≡◌, ◌<◌, ◌+◌, ◌≤◌, ◌&
 ghost use Rattle.hba_commands.specs.Commands.{command_at};
 ghost use Rattle.slots.specs.Slots.{LeavesOthers, has_bit as has_bit_of, slots_of};
 ghost use Rattle.slots.specs.Work.{IsWork};
-ghost use Rattle.hba_fbs.specs.Issuing.{any_slot, asked as asked_of, commands_with, is_bad as is_bad_slot, is_busy as is_busy_slot, is_foreign as is_foreign_slot, issued_slots, slots_after, with_command};
+ghost use Rattle.hba_fbs.specs.Issuing.{any_slot, asked as asked_of, commands_issued, is_bad as is_bad_slot, is_busy as is_busy_slot, is_foreign as is_foreign_slot, slots_after, slots_issued, with_command};
 ghost use Rattle.hba_fbs.specs.Views.{HaveCommands};
 
 use crate::bits::has_bit;
@@ -133,9 +133,9 @@ pub(crate) fn issue_all(
     requires list { registers.clb + 1024 ≤ 1048576 }
     requires dev { registers.chosen < 16 }
     requires free { any_slot value (is_busy_slot slots.old) ≡ false }
-    ensures own { slots_of registers.chosen slots.new ≡ issued_slots registers.chosen (asked_of registers memory.now value) (slots_of registers.chosen slots.old) }
+    ensures own { slots_of registers.chosen slots.new ≡ slots_issued registers memory.now value (slots_of registers.chosen slots.old) }
     ensures others { LeavesOthers registers.chosen slots.old slots.new }
-    ensures commands { commands.new ≡ commands_with (asked_of registers memory.now value) commands.old }
+    ensures commands { commands.new ≡ commands_issued registers memory.now value commands.old }
     ensures have { HaveCommands slots.old commands.old → HaveCommands slots.new commands.new }
 {
     slots.keeps_rules();

@@ -3,9 +3,10 @@
 ghost use Rattle.std.specs.Prelude.{◌≡◌, ◌<◌, ◌+◌, ◌≤◌, ℕ, None, false, OnErr, OnOk};
 ghost use Rattle.slots.specs.Commands.{own_slots};
 ghost use Rattle.slots.specs.Slots.{slots_of};
-ghost use Rattle.port_errors.specs.Errors.{no_errors, without as without_fault};
+ghost use Rattle.slots.specs.Table.{IsTable};
+ghost use Rattle.port_errors.specs.Errors.{AreErrors, no_errors, without as without_fault};
 ghost use Rattle.std.specs.Result.{result_err};
-ghost use Rattle.hba_fbs.specs.Issuing.{any_slot, asked, commands_with, is_busy, issued_view};
+ghost use Rattle.hba_fbs.specs.Issuing.{any_slot, commands_issued, is_busy, view_issued};
 ghost use Rattle.hba_fbs.specs.Writing.{Writes, commands_after, errors_after, issue_refusal as issue_refusal_of, refusal_of, slots_refusal as slots_refusal_of, view_after, write_refusal};
 ghost use Rattle.hba_fbs.specs.Reading.{read_at, value_of};
 ghost use Rattle.hba_fbs.specs.Views.{IsPort, LeavesOtherViews, flushed_view, opening_port, stopped_view, view_of};
@@ -25,11 +26,16 @@ use std::marker::Model;
 /// A host port.
 #[derive(Drop)]
 pub struct HostPort {
-    registers: Registers,
-    slots: SlotTable,
-    errors: PortErrors,
-    states: [DeviceState; 16],
-    commands: [Option<Command>; 32],
+    /// Its own registers.
+    pub(crate) registers: Registers,
+    /// What is issued in each slot, and the last setup of each device.
+    pub(crate) slots: SlotTable,
+    /// The faulty devices, and what stopped the port.
+    pub(crate) errors: PortErrors,
+    /// By device: its task file, and whether it is in software reset.
+    pub(crate) states: [DeviceState; 16],
+    /// By slot: the command that was issued last.
+    pub(crate) commands: [Option<Command>; 32],
 }
 
 impl Model for HostPort {
@@ -56,11 +62,14 @@ impl HostPort {
         }
     }
 
-    /// What is true of every port. It does nothing when it runs.
+    /// What is true of every port, of its slots and of its errors. It does nothing when it runs.
     pub fn keeps_rules(&self)
-        ensures { IsPort self.now }
+        ensures port { IsPort self.now }
+        ensures slots { IsTable self.now.slots }
+        ensures errors { AreErrors self.now.errors }
     {
-        let _ = &self.registers;
+        self.slots.keeps_rules();
+        let _ = self.errors.fbs_bits();
     }
 
     // The value of a register.
@@ -97,7 +106,8 @@ impl HostPort {
         Ok(self.value(register))
     }
 
-    /// Whether a device is in software reset: a control frame with SRST set went out, and no signature came since.
+    /// Whether a device is in software reset: a control frame with SRST set went out, and no
+    /// signature came since.
     pub fn resetting(&self, dev: u8) -> bool
         requires { dev < 16 }
         ensures { result ≡ (view_of dev self.now).state.resetting }
@@ -105,8 +115,8 @@ impl HostPort {
         self.states[dev as usize].resetting
     }
 
-    /// Frees each slot of a device, and answers their mask. The device's fault and its reset end, and its task file is as
-    /// it opens.
+    /// Frees each slot of a device, and answers their mask. The device's fault and its reset end,
+    /// and its task file is as it opens.
     pub fn flush_device(&mut self, dev: u8) -> u32
         requires { dev < 16 }
         ensures answer { result ≡ own_slots (slots_of dev self.old.slots) }
@@ -181,11 +191,11 @@ impl HostPort {
     fn issue(&mut self, value: u32, memory: &HostMemory)
         requires list { self.old.registers.clb + 1024 ≤ 1048576 }
         requires free { any_slot value (is_busy self.old.slots) ≡ false }
-        ensures own { view_of self.old.registers.chosen self.new ≡ issued_view self.old.registers.chosen (asked self.old.registers memory.now value) (view_of self.old.registers.chosen self.old) }
+        ensures own { view_of self.old.registers.chosen self.new ≡ view_issued self.old.registers memory.now value (view_of self.old.registers.chosen self.old) }
         ensures others { LeavesOtherViews self.old.registers.chosen self.old self.new }
         ensures registers { self.new.registers ≡ self.old.registers }
         ensures errors { self.new.errors ≡ self.old.errors }
-        ensures commands { self.new.commands ≡ commands_with (asked self.old.registers memory.now value) self.old.commands }
+        ensures commands { self.new.commands ≡ commands_issued self.old.registers memory.now value self.old.commands }
     {
         let registers = self.registers;
         issue_all(
@@ -232,8 +242,9 @@ impl HostPort {
         }
     }
 
-    /// Writes a register: all bits of the value, or none where the write is refused. Ones written to PxCI issue the commands
-    /// that stand in their slots, and ST that falls stops every device. The memory is read for PxCI alone.
+    /// Writes a register: all bits of the value, or none where the write is refused. Ones written to
+    /// PxCI issue the commands that stand in their slots, and ST that falls stops every device. The
+    /// memory is looked at for PxCI alone.
     pub fn write(&mut self, offset: u32, value: u32, memory: &HostMemory) -> Result<(), WriteError>
         ensures refusal { result_err result ≡ write_refusal self.old memory.now offset value }
         ensures refused { OnErr result (self.new ≡ self.old) }

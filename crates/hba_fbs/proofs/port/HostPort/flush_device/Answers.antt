@@ -1,5 +1,3 @@
-use Rattle.std.proofs.Common.{◌∙◌, length}
-use Rattle.std.proofs.Math.ListN.{length-set}
 use Rattle.hba_fbs.proofs.SlotLemmas.{flushed_have}
 use Rattle.hba_fbs.proofs.port.HostPort.flush_device.Goals as goal
 

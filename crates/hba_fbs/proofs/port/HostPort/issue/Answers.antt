@@ -1,4 +1,3 @@
-use Rattle.std.proofs.Common.{arith}
 use Rattle.hba_fbs.proofs.port.HostPort.issue.Goals as goal
 
 pub invariant_of-self : goal.invariant_of-self

@@ -1,4 +1,4 @@
-use Rattle.std.proofs.Common.{refl, replicate, None}
+use Rattle.std.proofs.Common.{replicate, None}
 use Rattle.hba_fbs.proofs.SlotLemmas.{none_have}
 use Rattle.hba_fbs.proofs.port.HostPort.new.Goals as goal
 

@@ -1,4 +1,3 @@
-use Rattle.std.proofs.Common.{arith}
 use Rattle.hba_fbs.proofs.SlotLemmas.{none_have}
 use Rattle.hba_fbs.proofs.port.HostPort.stop.Goals as goal
 
