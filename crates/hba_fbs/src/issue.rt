@@ -116,7 +116,7 @@ fn issue_one(
     ensures commands { commands.new ≡ with_command slot command commands.old }
 {
     if let Some(command) = command {
-        // it is free
+        // is not refused, since the slot is free
         let _ = slots.issue(slot, dev, command.work);
         commands[slot as usize] = Some(command);
     }

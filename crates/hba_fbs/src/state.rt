@@ -3,9 +3,9 @@
 ghost use Rattle.std.specs.Prelude.{◌≡◌, ◌<◌, ℕ};
 ghost use Rattle.hba_fbs.specs.Views.{opening_state, state_at, stopped_state, task_file};
 
-/// Status with DRDY, and bit 4, which is always set in it here.
+/// The Status of a device that is ready: DRDY, and bit 4, which old standards call seek complete.
 const READY: u8 = 0x50;
-/// Status without BSY and DRQ.
+/// All bits of Status but BSY and DRQ.
 const IDLE: u8 = 0x77;
 
 /// The task file of a device, and whether it is in software reset.
