@@ -8,7 +8,7 @@ use Rattle.std.specs.Prelude.{ℕ, ◌+◌, ◌≡◌, ◌≢◌, ◌<◌, ◌==
 use Rattle.std.specs.Option.{option_map_or}
 use Rattle.fis_view.specs.Frames.{Stamped, is_frame}
 use Rattle.disk_model.specs.Histories.{Plugged}
-use Rattle.disk_model.specs.Units.{IsDisk, UnitGoesOn, UnitSends, UnitIsSilent}
+use Rattle.disk_model.specs.Units.{UnitGoesOn, UnitSends, UnitIsSilent}
 use Rattle.pm_ports.specs.Port.{PortState, came_refusal as port_came_refusal, next_up, with_connection, with_up}
 use Rattle.multiplier.specs.Arbiter.{next_served}
 use Rattle.pm_world.specs.Places.{Places, Place, Queue, IsFull, AreFull, IsTold, pushed, posted, after_sending, rising, with_device, with_port, with_ports, with_served, with_upward, with_host}
@@ -55,14 +55,14 @@ CameActs port old (answer.Came p conn) new =
     × (¬ AreFull old.presence)
 CameActs port old _ new = ⊥
 
--- where want of memory may be answered: there is room on the presence link, and the unit is a disk; a script takes none
-abbrev pub CameWants : Place → StepError → Type 0
-CameWants place error.OutOfMemory = (¬ AreFull place.presence) × IsDisk place.unit
-CameWants place _ = Unit {0}
+-- a step that takes no memory never wants any
+abbrev pub TakesNone : StepError → Type 0
+TakesNone error.OutOfMemory = ⊥
+TakesNone _ = Unit {0}
 
 abbrev pub CameRule : ℕ → Place → Outcome → Place → Type 0
 CameRule port old (Ok a) new = (came_refusal old ≡ None) × CameActs port old a new
-CameRule port old (Err e) new = Refuses (came_refusal old) e × CameWants old e × (new ≡ old)
+CameRule port old (Err e) new = Refuses (came_refusal old) e × TakesNone e × (new ≡ old)
 
 -- A device sends its next FIS.
 abbrev pub send_refusal : Place → Option StepError
