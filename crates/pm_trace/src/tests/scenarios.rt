@@ -29,6 +29,48 @@ port 1 conn 1 sent 1 taken 1
 }
 
 #[test]
+fn ports_are_served_in_turn(rt: HostRuntime) {
+    let input = "ports 2 capacity 1 memory 2
+came 0
+inject 0 a100500001000000
+step pmfromdevice 0
+step pmup
+came 1
+inject 1 a100500001000000
+step pmfromdevice 1
+step pmup
+inject 1 a100500001000000
+step pmfromdevice 1
+step pmpresence 0
+step pmpresence 1
+step pmpresence 1
+step pmup
+step pmup
+step hosttake
+step pmup";
+    let output = "ports 2 capacity 1 memory 2
+came 0 conn 1
+sent 0 1 0 a100500001000000
+moved
+nothing
+came 1 conn 1
+sent 1 1 0 a100500001000000
+moved
+nothing
+sent 1 1 1 a100500001000000
+blocked
+moved
+moved
+nothing
+moved
+blocked
+took 0 1 0 a100500001000000
+moved
+";
+    assert_run(&rt, "run", input.as_bytes(), 0, output);
+}
+
+#[test]
 fn scripts_refusals_and_full_links(rt: HostRuntime) {
     let input = "ports 2 capacity 1 memory 16
 script 1 A1 00 50 00 01 00 00 00
