@@ -1,0 +1,88 @@
+//! A link, before its seats are taken.
+
+ghost use Rattle.std.specs.Prelude.{◌≡◌, ◌↔◌, [], false, IsTrue, IsNone, IfOk, IfSome};
+ghost use Rattle.ruled_links.specs.Links.{is_capacity, new_link};
+
+use crate::item::Item;
+use crate::rule::{Ruled, Seats, View};
+use crate::seat::{Rx, Tx};
+use crossbeam_queue::{Pass, RuledArrayQueue};
+use std::alloc::{AllocError, Global};
+use std::marker::Model;
+use thiserror::Error;
+
+/// The most items that a link may be made for.
+pub const MAX_CAPACITY: usize = 64;
+
+pub(crate) type Queue<T> = RuledArrayQueue<T, View<T>, Ruled>;
+
+/// Why no link is made.
+#[derive(Clone, Copy, Debug, PartialEq, Eq, Error)]
+pub enum LinkError {
+    /// The capacity is 0 or above [`MAX_CAPACITY`].
+    #[error("bad capacity")]
+    BadCapacity = 1,
+    /// The allocator refused memory for the items.
+    #[error("out of memory")]
+    OutOfMemory = 2,
+}
+
+impl From<AllocError> for LinkError {
+    ghost use Rattle.std.specs.Prelude.{◌≡◌};
+    ghost use Rattle.ruled_links.specs.declared.link.LinkError.TheVariants.{OutOfMemory};
+
+    ghost from_gives = { λ _ e. e ≡ OutOfMemory };
+
+    fn from(_: AllocError) -> LinkError {
+        LinkError::OutOfMemory
+    }
+}
+
+/// A link of a bounded capacity for items from one thread to another. It gives its two seats once.
+#[derive(Drop)]
+pub struct Link<T: Item> {
+    queue: Queue<T>,
+    pass: Option<Pass<T, View<T>>>,
+}
+
+impl<T: Item> Model for Link<T> {
+    ghost use Rattle.std.specs.Prelude.{◌≡◌, is_none};
+    ghost use Rattle.std.specs.Option.{ForSome};
+    ghost use Rattle.crossbeam_queue.specs.Passes.{IsPassOf, ruled_capacity};
+    ghost use Rattle.ruled_links.specs.Rule.{fresh, known};
+    ghost use Rattle.ruled_links.specs.Links.{LinkState};
+
+    ghost Value = { LinkState };
+
+    ghost view = { λ l. record { room = ruled_capacity l.queue; seated = is_none l.pass } };
+
+    ghost invariant = { λ l. ForSome l.pass (λ p. IsPassOf l.queue p × (known p ≡ fresh)) };
+}
+
+impl<T: Item> Link<T> {
+    /// An empty link. The capacity is tested before memory is asked for.
+    pub fn new(alloc: Global, capacity: usize) -> Result<Link<T>, LinkError>
+        ensures ok { IfOk result (λ link. link ≡ new_link capacity) }
+        ensures bad_capacity { (result ≡ Err LinkError.BadCapacity) ↔ (is_capacity capacity ≡ false) }
+    {
+        if capacity < 1 || capacity > MAX_CAPACITY {
+            return Err(LinkError::BadCapacity);
+        }
+        let (queue, pass) = Queue::ruled(alloc, capacity)?;
+        Ok(Link {
+            queue,
+            pass: Some(pass),
+        })
+    }
+
+    /// The two seats, unless they were given before. Nothing was sent yet.
+    pub fn seats(&mut self) -> Option<(Tx<'_, T>, Rx<'_, T>)>
+        ensures once { IsNone result ↔ IsTrue self.old.seated }
+        ensures new { IfSome result (λ s. (s.0 ≡ s.1) × (s.0.room ≡ self.old.room) × (s.0.sent ≡ []) × (s.0.taken ≡ [])) }
+    {
+        let mut pass = self.pass.take()?;
+        let queue = &self.queue;
+        let other = queue.another::<Seats>(&mut pass);
+        Some((Tx { queue, pass }, Rx { queue, pass: other }))
+    }
+}
