@@ -18,5 +18,5 @@ pub use item::Item;
 pub use link::{Link, LinkError, MAX_CAPACITY};
 pub use seat::{Full, Rx, Tx, meet};
 
-//cfg
-//mod tests;
+#[cfg(test)]
+mod tests;

@@ -1,6 +1,6 @@
 //! A link, before its seats are taken.
 
-ghost use Rattle.std.specs.Prelude.{◌≡◌, ◌↔◌, [], false, IsTrue, IsNone, IfOk, IfSome};
+ghost use Rattle.std.specs.Prelude.{◌≡◌, ◌↔◌, [], true, false, IsTrue, IsNone, IfOk, IfSome};
 ghost use Rattle.ruled_links.specs.Links.{is_capacity, new_link};
 
 use crate::item::Item;
@@ -62,7 +62,7 @@ impl<T: Item> Model for Link<T> {
 impl<T: Item> Link<T> {
     /// An empty link. The capacity is tested before memory is asked for.
     pub fn new(alloc: Global, capacity: usize) -> Result<Link<T>, LinkError>
-        ensures ok { IfOk result (λ link. link ≡ new_link capacity) }
+        ensures ok { IfOk result (λ link. (link ≡ new_link capacity) × (is_capacity capacity ≡ true)) }
         ensures bad_capacity { (result ≡ Err LinkError.BadCapacity) ↔ (is_capacity capacity ≡ false) }
     {
         if capacity < 1 || capacity > MAX_CAPACITY {

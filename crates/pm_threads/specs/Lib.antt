@@ -1,0 +1,4 @@
+pub mod Beginnings
+pub mod Links
+pub mod OrderLaws
+pub mod Orders
