@@ -1,13 +1,13 @@
 -- The laws of the orders.
 use Rattle.std.proofs.Common.{◌≡◌, ◌≢◌, ◌==◌, ◌≤◌, ◌<◌, ℕ, suc, ◌+◌, ◌⊎◌, ◌↔◌, Bool, true, false, List, [], ◌∷◌, ◌++◌, length, map, drop, refl, sym, ap, subst, ◌∙◌, inl, inr, ⊎_elim, append_assoc, length-append, append-nil, arith}
-use Rattle.std.specs.Prelude.{All, filter, if◌then◌else◌, ◌&&◌}
+use Rattle.std.specs.Prelude.{All, filter, slice_index, if◌then◌else◌, ◌&&◌}
 use Rattle.std.specs.List.{range_with_len}
 use Rattle.std.proofs.lemmas.List.Elements.{filter-append, All-append, All-nil, All-cons}
 use Rattle.std.proofs.lemmas.Bool.{eq-eqb, eqb-true, ne_eqb, and_from, and_parts}
 use Rattle.fis_view.specs.Frames.{Stamped}
 use Rattle.pm_threads.specs.Orders.{of_connection, of_port, control_port, IsNextOfDevice, InDeviceOrder, NoneAbove, NoneShown, IsNextAtHost, InStampedOrder}
 use Rattle.pm_threads.specs.Beginnings.{some_element, device_prefixes, stamped_prefixes}
-use Rattle.pm_threads.specs.OrderLaws.{DeviceGoesOn, IsAt, DeviceCounts, HostGoesOn, NumbersCount}
+use Rattle.pm_threads.specs.OrderLaws.{DeviceGoesOn, IsAt, DeviceCounts, DeviceNumbers, HostGoesOn, IsWithin, HostBounds, HostNumbers}
 
 -- where an element of a list that is one longer stands: at the end, or before it
 stands : {A : Type 0} (before rest xs : List A) (x y : A) → before ++ y ∷ rest ≡ xs ++ x ∷ []
@@ -84,49 +84,78 @@ device_counts = record {
   };
 }
 
+-- ---- the bounds of a port
+
+pub host_bounds : HostBounds
+host_bounds = record {
+  starts = λ n conn gone. record {
+    highest = All-nil (λ g. g.stamp.port ≡ n → g.stamp.conn ≤ conn);
+    shown = All-nil (λ g. g.stamp.port ≡ control_port → slice_index g.stamp.shown n ≤ gone);
+  };
+  rises = λ fises n conn gone later more h conns removals. record {
+    highest = λ k d less of_n. let p = h.highest k d less of_n in omega arith;
+    shown = λ k d less control. let p = h.shown k d less control in omega arith;
+  };
+  next = λ fises f conn gone h conns present number. record {
+    connection = λ k d less of_n. let p = h.highest k d less of_n in omega arith;
+    present = λ k d less control. let p = h.shown k d less control in omega arith;
+    number = number;
+  };
+  goes_on = λ fises f n conn gone h own control. record {
+    highest = All-append (λ g. g.stamp.port ≡ n → g.stamp.conn ≤ conn) fises (f ∷ []) h.highest
+        (All-cons (λ g. g.stamp.port ≡ n → g.stamp.conn ≤ conn) f [] own (All-nil (λ g. g.stamp.port ≡ n → g.stamp.conn ≤ conn)));
+    shown = All-append (λ g. g.stamp.port ≡ control_port → slice_index g.stamp.shown n ≤ gone) fises (f ∷ []) h.shown
+        (All-cons (λ g. g.stamp.port ≡ control_port → slice_index g.stamp.shown n ≤ gone) f [] control
+        (All-nil (λ g. g.stamp.port ≡ control_port → slice_index g.stamp.shown n ≤ gone)));
+  };
+}
+
 -- ---- numbers count up
 
-of_port-here : (n c : ℕ) (x : Stamped) (xs : List Stamped) → (x.stamp.port == n && x.stamp.conn == c) ≡ true
-    → of_port n c (x ∷ xs) ≡ x ∷ of_port n c xs
-of_port-here n c x xs test = ap (λ b. if b then x ∷ of_port n c xs else of_port n c xs) test
+-- the FISes that pass a test
+module _ (test : Stamped → Bool) where
+  abbrev Counted : ℕ → List Stamped → Type 0
+  Counted k fises = map (λ f. f.stamp.number) (filter test fises) ≡ range_with_len k (length (filter test fises))
 
-of_port-else : (n c : ℕ) (x : Stamped) (xs : List Stamped) → (x.stamp.port == n && x.stamp.conn == c) ≡ false
-    → of_port n c (x ∷ xs) ≡ of_port n c xs
-of_port-else n c x xs test = ap (λ b. if b then x ∷ of_port n c xs else of_port n c xs) test
+  -- each of them has the number k plus how many stand before it
+  abbrev CountsFrom : ℕ → List Stamped → Type 0
+  CountsFrom k fises = (before rest : List Stamped) (f : Stamped) → before ++ f ∷ rest ≡ fises → test f ≡ true
+      → f.stamp.number ≡ k + length (filter test before)
 
-abbrev Counted : ℕ → ℕ → ℕ → List Stamped → Type 0
-Counted n c k fises =
-    map (λ f. f.stamp.number) (of_port n c fises) ≡ range_with_len k (length (of_port n c fises))
+  filter-here : (x : Stamped) (xs : List Stamped) → test x ≡ true → filter test (x ∷ xs) ≡ x ∷ filter test xs
+  filter-here x xs passes = ap (λ b. if b then x ∷ filter test xs else filter test xs) passes
 
--- each FIS of connection c of port n has the number k plus how many stand before it
-abbrev CountsFrom : ℕ → ℕ → ℕ → List Stamped → Type 0
-CountsFrom n c k fises = (before rest : List Stamped) (f : Stamped) → before ++ f ∷ rest ≡ fises
-    → (f.stamp.port == n && f.stamp.conn == c) ≡ true → f.stamp.number ≡ k + length (of_port n c before)
+  filter-else : (x : Stamped) (xs : List Stamped) → test x ≡ false → filter test (x ∷ xs) ≡ filter test xs
+  filter-else x xs fails = ap (λ b. if b then x ∷ filter test xs else filter test xs) fails
 
-counted_by : (n c k : ℕ) (x : Stamped) (xs : List Stamped) (b : Bool) → (x.stamp.port == n && x.stamp.conn == c) ≡ b
-    → CountsFrom n c k (x ∷ xs) → (CountsFrom n c (k + 1) xs → Counted n c (k + 1) xs)
-    → (CountsFrom n c k xs → Counted n c k xs) → Counted n c k (x ∷ xs)
-counted_by n c k x xs true test h one_more same =
-    let own : x.stamp.number ≡ k = h [] xs x refl test ∙ omega arith in
-    let rest : Counted n c (k + 1) xs = one_more (λ before after f e is.
-    let l = ap length (of_port-here n c x before test) in
-    let number = h (x ∷ before) after f (ap (λ l. x ∷ l) e) is in
-    omega (arith, l, number)) in
-    rw (of_port-here n c x xs test) (λ i. own i ∷ rest i)
-counted_by n c k x xs _ test h one_more same =
-    rw (of_port-else n c x xs test) (same (λ before after f e is.
-    let l = ap length (of_port-else n c x before test) in
-    let number = h (x ∷ before) after f (ap (λ l. x ∷ l) e) is in
-    omega (arith, l, number)))
+  counted_by : (k : ℕ) (x : Stamped) (xs : List Stamped) (b : Bool) → test x ≡ b → CountsFrom k (x ∷ xs)
+      → (CountsFrom (k + 1) xs → Counted (k + 1) xs) → (CountsFrom k xs → Counted k xs) → Counted k (x ∷ xs)
+  counted_by k x xs true passes h one_more same =
+      let own : x.stamp.number ≡ k = h [] xs x refl passes ∙ omega arith in
+      let rest : Counted (k + 1) xs = one_more (λ before after f e is.
+      let l = ap length (filter-here x before passes) in
+      let number = h (x ∷ before) after f (ap (λ l. x ∷ l) e) is in
+      omega (arith, l, number)) in
+      rw (filter-here x xs passes) (λ i. own i ∷ rest i)
+  counted_by k x xs _ fails h one_more same =
+      rw (filter-else x xs fails) (same (λ before after f e is.
+      let l = ap length (filter-else x before fails) in
+      let number = h (x ∷ before) after f (ap (λ l. x ∷ l) e) is in
+      omega (arith, l, number)))
 
-count_up : (n c k : ℕ) (fises : List Stamped) → CountsFrom n c k fises → Counted n c k fises
-count_up n c k [] h = refl
-count_up n c k (x ∷ xs) h =
-    counted_by n c k x xs (x.stamp.port == n && x.stamp.conn == c) refl h (count_up n c (k + 1) xs) (count_up n c k xs)
+  count_up : (k : ℕ) (fises : List Stamped) → CountsFrom k fises → Counted k fises
+  count_up k [] h = refl
+  count_up k (x ∷ xs) h = counted_by k x xs (test x) refl h (count_up (k + 1) xs) (count_up k xs)
 
-pub numbers_count : NumbersCount
-numbers_count fises n c h low = count_up n c 0 fises (λ before rest f e test.
-    let parts = and_parts (f.stamp.port == n) (f.stamp.conn == c) test in
+pub device_numbers : DeviceNumbers
+device_numbers fises c h = count_up (λ f. f.stamp.conn == c) 0 fises (λ before rest f e passes.
+    let conn : f.stamp.conn ≡ c = eqb-true f.stamp.conn c passes in
+    let next = h before rest f e in
+    next.number ∙ ap (λ d. length (of_connection d before)) conn ∙ omega arith)
+
+pub host_numbers : HostNumbers
+host_numbers fises n c h low = count_up (λ f. f.stamp.port == n && f.stamp.conn == c) 0 fises (λ before rest f e passes.
+    let parts = and_parts (f.stamp.port == n) (f.stamp.conn == c) passes in
     let port : f.stamp.port ≡ n = eqb-true f.stamp.port n parts.0 in
     let conn : f.stamp.conn ≡ c = eqb-true f.stamp.conn c parts.1 in
     let next = h before rest f e (omega (arith, port, low)) in

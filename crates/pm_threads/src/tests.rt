@@ -1,6 +1,6 @@
 //! What no clause says: values from outside, and that calls succeed.
 
-use crate::{Links, LinksError};
+use crate::{Links, LinksError, order_goes_on};
 use std::alloc::Global;
 use std::test::Fail;
 
@@ -11,6 +11,7 @@ fn refusal(alloc: Global, ports: u8, capacity: usize) -> Option<LinksError> {
 
 #[test]
 fn refusals(rt: HostRuntime) -> Result<(), Fail> {
+    order_goes_on();
     let alloc = rt.alloc();
     let bad = Some(LinksError::BadConfig);
     for (ports, capacity, want) in [
