@@ -62,7 +62,8 @@ impl<T: Item> Model for Link<T> {
 impl<T: Item> Link<T> {
     /// An empty link. The capacity is tested before memory is asked for.
     pub fn new(alloc: Global, capacity: usize) -> Result<Link<T>, LinkError>
-        ensures ok { IfOk result (λ link. (link ≡ new_link capacity) × (is_capacity capacity ≡ true)) }
+        ensures ok { IfOk result (λ link. (link ≡ new_link capacity)
+            × (is_capacity capacity ≡ true)) }
         ensures bad_capacity { (result ≡ Err LinkError.BadCapacity) ↔ (is_capacity capacity ≡ false) }
     {
         if capacity < 1 || capacity > MAX_CAPACITY {
@@ -78,7 +79,8 @@ impl<T: Item> Link<T> {
     /// The two seats, unless they were given before. Nothing was sent yet.
     pub fn seats(&mut self) -> Option<(Tx<'_, T>, Rx<'_, T>)>
         ensures once { IsNone result ↔ IsTrue self.old.seated }
-        ensures new { IfSome result (λ s. (s.0 ≡ s.1) × (s.0.room ≡ self.old.room) × (s.0.sent ≡ []) × (s.0.taken ≡ [])) }
+        ensures new { IfSome result (λ s. (s.0 ≡ s.1) × (s.0.room ≡ self.old.room)
+            × (s.0.sent ≡ []) × (s.0.taken ≡ [])) }
     {
         let mut pass = self.pass.take()?;
         let queue = &self.queue;

@@ -32,9 +32,15 @@ impl<'a, T: Item> Model for Tx<'a, T> {
 
     ghost Value = { Seat T };
 
-    ghost view = { λ s. record { link = s.pass.table_id; room = ruled_capacity s.queue.now; sent = (known s.pass).sent; taken = (known s.pass).taken } };
+    ghost view = { λ s. record {
+      link = s.pass.table_id;
+      room = ruled_capacity s.queue.now;
+      sent = (known s.pass).sent;
+      taken = (known s.pass).taken;
+    } };
 
-    ghost invariant = { λ s. IsPassOf s.queue.now s.pass × ((known s.pass).sends ≡ true) × ((known s.pass).takes ≡ false) };
+    ghost invariant = { λ s. IsPassOf s.queue.now s.pass
+        × ((known s.pass).sends ≡ true) × ((known s.pass).takes ≡ false) };
 }
 
 /// The seat of a link that takes. It knows all that was taken.
@@ -52,9 +58,15 @@ impl<'a, T: Item> Model for Rx<'a, T> {
 
     ghost Value = { Seat T };
 
-    ghost view = { λ s. record { link = s.pass.table_id; room = ruled_capacity s.queue.now; sent = (known s.pass).sent; taken = (known s.pass).taken } };
+    ghost view = { λ s. record {
+      link = s.pass.table_id;
+      room = ruled_capacity s.queue.now;
+      sent = (known s.pass).sent;
+      taken = (known s.pass).taken;
+    } };
 
-    ghost invariant = { λ s. IsPassOf s.queue.now s.pass × ((known s.pass).sends ≡ false) × ((known s.pass).takes ≡ true) };
+    ghost invariant = { λ s. IsPassOf s.queue.now s.pass
+        × ((known s.pass).sends ≡ false) × ((known s.pass).takes ≡ true) };
 }
 
 impl<'a, T: Item> Tx<'a, T> {
@@ -62,7 +74,8 @@ impl<'a, T: Item> Tx<'a, T> {
     pub fn send<R: Wait>(&mut self, rt: &R, item: T) -> Result<(), Full<T>>
         requires { T.in_order (self.old.sent ++ item ∷ []) }
         ensures sent { OnOk result (self.new ≡ record self.old { sent = self.old.sent ++ item ∷ [] }) }
-        ensures full { IfErr result (λ full. (self.new ≡ self.old) × (full.0 ≡ item) × (length self.old.taken + self.old.room ≤ length self.old.sent)) }
+        ensures full { IfErr result (λ full. (self.new ≡ self.old) × (full.0 ≡ item)
+            × (length self.old.taken + self.old.room ≤ length self.old.sent)) }
     {
         match self.queue.push_as::<Sends, R>(rt, &mut self.pass, item) {
             Ok(()) => Ok(()),
@@ -74,7 +87,8 @@ impl<'a, T: Item> Tx<'a, T> {
 impl<'a, T: Item> Rx<'a, T> {
     /// Takes the first item that the link holds. None only where the link was empty at one moment of the call.
     pub fn take<R: Wait>(&mut self, rt: &R) -> Option<T>
-        ensures taken { IfSome result (λ item. self.new ≡ record self.old { taken = self.old.taken ++ item ∷ [] }) }
+        ensures taken { IfSome result
+            (λ item. self.new ≡ record self.old { taken = self.old.taken ++ item ∷ [] }) }
         ensures ordered { IfSome result (λ _. T.in_order self.new.taken) }
         ensures agree { IfSome result (λ _. Agree self.new.sent self.new.taken) }
         ensures empty { IfNone result ((self.new ≡ self.old) × IsPrefixOf self.old.sent self.old.taken) }
