@@ -4,3 +4,6 @@ pub mod FillLemmas
 pub mod AnyLemmas
 pub mod IssueLemmas
 pub mod WriteLemmas
+pub mod DataLemmas
+pub mod PostLemmas
+pub mod TakeLemmas

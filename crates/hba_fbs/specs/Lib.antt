@@ -5,3 +5,8 @@ pub mod Views
 pub mod Reading
 pub mod Issuing
 pub mod Writing
+pub mod Status
+pub mod Hearing
+pub mod Tables
+pub mod Posting
+pub mod Taking

@@ -20,7 +20,7 @@ pub record Port : Type 0 where
 
 -- the state of a device of which nothing was heard: Status 50h, Error 0
 abbrev pub opening_state : DeviceState
-opening_state = record { status = 80; error = 0; resetting = false }
+opening_state = record { status = 80; error = 0; resetting = false; block = None }
 
 -- a port as it opens
 abbrev pub opening_port : Port
@@ -55,7 +55,7 @@ pub record IsPort (port : Port) : Type 0 where
 -- ---- the view of one device
 
 -- what belongs to a device: its issues, with the bytes that went over, and its last setup; its task file and whether it is
--- in software reset; and its first fault
+-- in software reset, with the block of a PIO Setup; and its first fault
 pub record DeviceView : Type 0 where
   pub slots : DeviceSlots
   pub state : DeviceState
@@ -72,9 +72,9 @@ LeavesOtherViews n old new = (other : ℕ) → other ≢ n → view_of other new
 abbrev pub flushed_view : DeviceView
 flushed_view = record { slots = no_own_slots; state = opening_state; fault = None }
 
--- after ST fell BSY and DRQ, bits 7 and 3 of Status, are 0, and no reset goes on
+-- after ST fell BSY and DRQ, bits 7 and 3 of Status, are 0, and no reset goes on and no block
 abbrev pub stopped_state : DeviceState → DeviceState
-stopped_state state = record { status = bit_and state.status 119; error = state.error; resetting = false }
+stopped_state state = record { status = bit_and state.status 119; error = state.error; resetting = false; block = None }
 
 -- nor is there a slot, a setup or a fault
 abbrev pub stopped_view : DeviceView → DeviceView

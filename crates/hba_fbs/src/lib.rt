@@ -8,16 +8,23 @@
 #![tactic(auto)]
 
 mod bits;
+mod data;
 mod error;
+mod hearing;
 mod issue;
 mod port;
+mod post;
 mod register;
 mod registers;
+mod report;
 mod state;
+mod status;
+mod take;
 
 pub use error::{NoRegister, WriteError};
 pub use port::HostPort;
 pub use register::Register;
+pub use report::{TakeReport, Wrote};
 
 #[cfg(test)]
 mod tests;

@@ -32,7 +32,7 @@ pub struct HostPort {
     pub(crate) slots: SlotTable,
     /// The faulty devices, and what stopped the port.
     pub(crate) errors: PortErrors,
-    /// By device: its task file, and whether it is in software reset.
+    /// By device: its task file, whether it is in software reset, and the block of its last PIO Setup.
     pub(crate) states: [DeviceState; 16],
     /// By slot: the command that was issued last.
     pub(crate) commands: [Option<Command>; 32],

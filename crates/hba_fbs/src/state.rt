@@ -3,12 +3,14 @@
 ghost use Rattle.std.specs.Prelude.{◌≡◌, ◌<◌, ℕ};
 ghost use Rattle.hba_fbs.specs.Views.{opening_state, state_at, stopped_state, task_file};
 
+use crate::status::Block;
+
 /// The Status of a device that is ready: DRDY, and bit 4, which old standards call seek complete.
 const READY: u8 = 0x50;
 /// All bits of Status but BSY and DRQ.
 const IDLE: u8 = 0x77;
 
-/// The task file of a device, and whether it is in software reset.
+/// The task file of a device, whether it is in software reset, and the block that its last setup began.
 #[derive(Clone, Copy, Debug, PartialEq, Eq)]
 pub(crate) struct DeviceState {
     /// Its Status.
@@ -17,6 +19,8 @@ pub(crate) struct DeviceState {
     pub(crate) error: u8,
     /// A control frame with SRST set went out, and no signature came since.
     pub(crate) resetting: bool,
+    /// The block of its last setup, where that was a PIO Setup.
+    pub(crate) block: Option<Block>,
 }
 
 impl DeviceState {
@@ -28,6 +32,7 @@ impl DeviceState {
             status: READY,
             error: 0,
             resetting: false,
+            block: None,
         }
     }
 
@@ -45,6 +50,7 @@ impl DeviceState {
         DeviceState {
             status: self.status & IDLE,
             resetting: false,
+            block: None,
             ..self
         }
     }

@@ -1,0 +1,157 @@
+-- A FIS is taken: AHCI 1.3.1, 5.3.13 and 9.3 (FIS-based Switching: errors of one device and of the port).
+use Rattle.std.specs.Prelude.{ℕ, ◌≡◌, ◌%◌, ◌&&◌, ◌||◌, Bool, true, false, not, if◌then◌else◌, bit_or, List, drop, slice_index, Option, Some, None, is_none, is_some, Result, Ok, Err}
+use Rattle.fis_view.specs.Seen.{seen}
+use Rattle.fis_view.specs.declared.view.Fis.{Fis}
+use Rattle.fis_view.specs.declared.view.FisFault.{FisFault}
+use Rattle.host_memory.specs.Memory.{Memory}
+use Rattle.port_errors.specs.Errors.{Errors, with_device, with_port}
+use Rattle.port_errors.specs.Interrupts.{device_interrupts, port_interrupts}
+use Rattle.port_errors.specs.declared.cause.DeviceCause.{DeviceCause}
+use Rattle.port_errors.specs.declared.cause.PortCause.{PortCause}
+use Rattle.rx_area.specs.Area as rx
+use Rattle.rx_area.specs.declared.area.Posted.{Posted}
+use Rattle.rx_area.specs.declared.area.Posted.TheVariants as place
+use Rattle.hba_fbs.specs.declared.hearing.Fault.{Fault}
+use Rattle.hba_fbs.specs.declared.hearing.Fault.TheVariants as fault
+use Rattle.hba_fbs.specs.declared.hearing.Happening.{Happening}
+use Rattle.hba_fbs.specs.declared.hearing.Happening.TheVariants as happening
+use Rattle.hba_fbs.specs.declared.hearing.Heard.{Heard}
+use Rattle.hba_fbs.specs.declared.registers.Registers.{Registers}
+use Rattle.hba_fbs.specs.declared.report.TakeReport.{TakeReport}
+use Rattle.hba_fbs.specs.declared.report.Wrote.{Wrote}
+use Rattle.hba_fbs.specs.Bits.{bit}
+use Rattle.hba_fbs.specs.Hearing.{heard_bad, heard_fis, is_admitted, moved}
+use Rattle.hba_fbs.specs.Posting.{Posts, posted, pss, signs}
+use Rattle.hba_fbs.specs.Tables.{Delivers, is_sound}
+use Rattle.hba_fbs.specs.Views.{DeviceView, LeavesOtherViews, Port, view_of}
+
+-- ---- which FISes are heard
+
+-- the PM Port of a frame
+abbrev pub port_of : List ℕ → ℕ
+port_of frame = slice_index frame 1 % 16
+
+-- ST is 1, and no fault of the port stands
+abbrev pub is_running : Port → Bool
+is_running port = port.registers.started && is_none port.errors.port
+
+-- A FIS is ignored while the port does not run, while its device is faulty, and while its device is in software reset but
+-- for a signature.
+abbrev pub is_ignored : (running : Bool) → DeviceView → Result Fis FisFault → Bool
+is_ignored running view fis = not running || is_some view.fault || (view.state.resetting && not (signs fis))
+
+-- so it is with a frame from this PM Port, as the port stands
+abbrev pub ignores : ℕ → Port → List ℕ → Bool
+ignores dev port frame = is_ignored (is_running port) (view_of dev port) (seen frame)
+
+-- the FIS, where it has a right length and may be sent from this PM Port
+abbrev pub admitted : ℕ → Result Fis FisFault → Option Fis
+admitted dev (Err e) = None
+admitted dev (Ok fis) = if is_admitted dev fis then Some fis else None
+
+-- ---- what it is to its device
+
+abbrev pub heard : ℕ → DeviceView → (sound : Bool) → Option Fis → Heard
+heard dev view sound None = heard_bad dev view.state
+heard dev view sound (Some fis) = heard_fis view.slots view.state sound fis
+
+abbrev pub device_cause : Option Fault → Option DeviceCause
+device_cause None = None
+device_cause (Some (fault.Device c)) = Some c
+device_cause (Some (fault.Port c)) = None
+
+abbrev pub port_cause : Option Fault → Option PortCause
+port_cause None = None
+port_cause (Some (fault.Device c)) = None
+port_cause (Some (fault.Port c)) = Some c
+
+-- the device's view after it: the slots move by the happening
+abbrev pub view_after_hearing : DeviceView → Heard → DeviceView
+view_after_hearing view h = record { slots = moved h.happening view.slots; state = h.state; fault = device_cause h.fault }
+
+abbrev pub heard_view : ℕ → DeviceView → (sound : Bool) → Option Fis → DeviceView
+heard_view dev view sound fis = view_after_hearing view (heard dev view sound fis)
+
+-- ---- what it is to the port
+
+abbrev pub errors_with : Errors → ℕ → Option Fault → Errors
+errors_with errors dev None = errors
+errors_with errors dev (Some (fault.Device c)) = with_device errors dev c
+errors_with errors dev (Some (fault.Port c)) = with_port errors c
+
+-- the bits of PxIS that a fault sets
+abbrev pub fault_interrupts : Option Fault → ℕ
+fault_interrupts None = 0
+fault_interrupts (Some (fault.Device c)) = device_interrupts c
+fault_interrupts (Some (fault.Port c)) = port_interrupts c
+
+-- PSS, and the bits of a fault
+unfoldable pub settled : Registers → Heard → Registers
+settled r h = record r { interrupts = bit_or (bit_or r.interrupts (bit pss h.pss)) (fault_interrupts h.fault) }
+
+abbrev pub posted_of : Registers → ℕ → (resetting : Bool) → Option Fis → Registers
+posted_of r dev resetting None = r
+posted_of r dev resetting (Some fis) = posted r dev resetting fis
+
+abbrev pub place_of : Option Fis → Posted
+place_of None = place.Nothing
+place_of (Some fis) = rx.posted_at fis
+
+abbrev pub PostsOf : ℕ → ℕ → Option Fis → List ℕ → List ℕ → Type 0
+PostsOf fb dev None old new = new ≡ old
+PostsOf fb dev (Some fis) old new = Posts fb dev fis old new
+
+-- ---- the report
+
+-- the bytes that it brought
+abbrev pub wrote_by : Happening → Option Wrote
+wrote_by happening.Nothing = None
+wrote_by (happening.Answered a) = None
+wrote_by (happening.Named mask) = None
+wrote_by (happening.SetUp c) = None
+wrote_by (happening.PioSetUp count to_host) = None
+wrote_by happening.Activated = None
+wrote_by (happening.Carried wrote finishes) = Some wrote
+
+unfoldable pub heard_report : ℕ → Posted → Heard → TakeReport
+heard_report dev at h = record {
+  dev = dev;
+  ignored = false;
+  posted = at;
+  fault = device_cause h.fault;
+  stopped = port_cause h.fault;
+  wrote = wrote_by h.happening;
+  done = h.done;
+}
+
+abbrev pub ignored_report : ℕ → TakeReport
+ignored_report dev = record { dev = dev; ignored = true; posted = place.Nothing; fault = None; stopped = None; wrote = None; done = 0 }
+
+-- ---- the call
+
+-- what a FIS is, as port and memory stand
+abbrev pub heard_now : Port → Memory → ℕ → Option Fis → Heard
+heard_now port memory dev fis = heard dev (view_of dev port) (is_sound memory port.commands (view_of dev port).slots) fis
+
+-- A FIS that is not ignored, or a frame that is none: its device's view is a function of that view and of the FIS, and
+-- each other view stays. So it is with all the rest of port and memory.
+pub record Takes (old : Port) (before : Memory) (dev : ℕ) (fis : Option Fis) (payload : List ℕ) (report : TakeReport) (new : Port) (after : Memory) : Type 0 where
+  pub own : view_of dev new ≡ heard_view dev (view_of dev old) (is_sound before old.commands (view_of dev old).slots) fis
+  pub others : LeavesOtherViews dev old new
+  pub reports : report ≡ heard_report dev (place_of fis) (heard_now old before dev fis)
+  pub registers : new.registers ≡ settled (posted_of old.registers dev (view_of dev old).state.resetting fis) (heard_now old before dev fis)
+  pub errors : new.errors ≡ errors_with old.errors dev (heard_now old before dev fis).fault
+  pub commands : new.commands ≡ old.commands
+  -- it is posted, and Data is written to the places of its slot's bytes
+  pub structure : PostsOf old.registers.fb dev fis before.structure after.structure
+  pub client : Delivers before old.commands payload (wrote_by (heard_now old before dev fis).happening) after.client
+
+-- and of a frame: the payload of Data stands from its byte 4 on
+abbrev pub Hears : ℕ → Port → Memory → List ℕ → TakeReport → Port → Memory → Type 0
+Hears dev old before frame report new after = Takes old before dev (admitted dev (seen frame)) (drop 4 frame) report new after
+
+-- an ignored frame leaves port and memory whole
+pub record Ignores (dev : ℕ) (old : Port) (before : Memory) (report : TakeReport) (new : Port) (after : Memory) : Type 0 where
+  pub reports : report ≡ ignored_report dev
+  pub port : new ≡ old
+  pub memory : after ≡ before

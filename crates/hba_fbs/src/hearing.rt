@@ -1,0 +1,364 @@
+//! What a FIS is to the device that sent it.
+
+ghost use Rattle.std.specs.Prelude.{◌≡◌, ◌<◌, ◌-◌, ◌%◌, ◌==◌, if◌then◌else◌, None, Some, drop, length};
+ghost use Rattle.fis_view.specs.Seen.{frame_of};
+ghost use Rattle.slots.specs.Slots.{KeepsFree, LeavesOthers, slots_of};
+ghost use Rattle.slots.specs.Commands.{IsSlotAnswer};
+ghost use Rattle.hba_fbs.specs.Hearing.{answer_fault as answer_fault_of, answered as answered_heard, block_of as block_of_fis, cause_of_setup as cause_of_setup_error, done_by as done_by_answer, faulty as faulty_heard, heard_activate, heard_bad, heard_bits, heard_d2h, heard_fis, heard_pio, heard_register, heard_setup, is_admitted as is_admitted_fis, moved, named as named_heard, quietly as quietly_heard};
+ghost use Rattle.hba_fbs.specs.Tables.{Delivers, is_sound};
+ghost use Rattle.hba_fbs.specs.Taking.{wrote_by};
+
+use crate::data::hear_data;
+use crate::report::Wrote;
+use crate::state::DeviceState;
+use crate::status::{Block, is_busy, is_error};
+use fis_view::{Fis, PioSetup};
+use hba_commands::Command;
+use host_memory::HostMemory;
+use port_errors::{DeviceCause, PortCause};
+use slots::{Answered, Completed, Context, SetupError, SlotTable};
+
+/// What is wrong with a FIS.
+#[derive(Clone, Copy, Debug, PartialEq, Eq)]
+pub(crate) enum Fault {
+    /// The device is faulty from then on.
+    Device(DeviceCause),
+    /// The port is stopped.
+    Port(PortCause),
+}
+
+/// What a FIS is to the slots of the device that sent it.
+#[derive(Clone, Copy, Debug, PartialEq, Eq)]
+pub(crate) enum Happening {
+    /// No slot changes.
+    Nothing,
+    /// The command that waits is answered.
+    Answered(Answered),
+    /// These slots are said to be done.
+    Named(u32),
+    /// A DMA Setup is accepted, and this is the device's context since.
+    SetUp(Context),
+    /// A PIO Setup is accepted: so many bytes, to the host or not.
+    PioSetUp(u32, bool),
+    /// A DMA Activate is accepted.
+    Activated,
+    /// Data came, and whether it ends a block whose status says that a PIO data-in may be done.
+    Carried(Wrote, bool),
+}
+
+/// What a FIS is to the device that sent it.
+#[derive(Clone, Copy, Debug, PartialEq, Eq)]
+pub(crate) struct Heard {
+    /// Its task file and its reset after the FIS.
+    pub(crate) state: DeviceState,
+    /// What happened to its slots.
+    pub(crate) happening: Happening,
+    /// What is wrong with the FIS.
+    pub(crate) fault: Option<Fault>,
+    /// The slots that became free, as a mask.
+    pub(crate) done: u32,
+    /// Whether it sets PxIS.PSS.
+    pub(crate) pss: bool,
+}
+
+/// A FIS with which nothing is wrong, and that frees no slot.
+pub(crate) fn quietly(state: DeviceState, happening: Happening) -> Heard
+    ensures { result ≡ quietly_heard state happening }
+{
+    Heard {
+        state,
+        happening,
+        fault: None,
+        done: 0,
+        pss: false,
+    }
+}
+
+/// A FIS that makes its device faulty, and changes no slot.
+pub(crate) fn faulty(state: DeviceState, cause: DeviceCause) -> Heard
+    ensures { result ≡ faulty_heard state cause }
+{
+    Heard {
+        state,
+        happening: Happening::Nothing,
+        fault: Some(Fault::Device(cause)),
+        done: 0,
+        pss: false,
+    }
+}
+
+/// A FIS of a wrong length, or one that may not come from this PM Port.
+pub(crate) fn bad(dev: u8, state: DeviceState) -> Heard
+    ensures { result ≡ heard_bad dev state }
+{
+    let fault = if dev == 15 {
+        Fault::Port(PortCause::BadControl)
+    } else {
+        Fault::Device(DeviceCause::BadFis)
+    };
+    Heard {
+        state,
+        happening: Happening::Nothing,
+        fault: Some(fault),
+        done: 0,
+        pss: false,
+    }
+}
+
+fn done_by(answer: Answered) -> u32
+    requires { IsSlotAnswer answer }
+    ensures { result ≡ done_by_answer answer }
+{
+    match answer {
+        Answered::Done(slot) => 1 << slot,
+        Answered::Nobody | Answered::Queued(_) | Answered::Short(_) => 0,
+    }
+}
+
+fn answer_fault(answer: Answered) -> Option<Fault>
+    ensures { result ≡ answer_fault_of answer }
+{
+    match answer {
+        Answered::Short(_) => Some(Fault::Device(DeviceCause::Short)),
+        Answered::Nobody | Answered::Queued(_) | Answered::Done(_) => None,
+    }
+}
+
+fn answered(answer: Answered, state: DeviceState) -> Heard
+    requires { IsSlotAnswer answer }
+    ensures { result ≡ answered_heard answer state }
+{
+    Heard {
+        state,
+        happening: Happening::Answered(answer),
+        fault: answer_fault(answer),
+        done: done_by(answer),
+        pss: false,
+    }
+}
+
+// A Register Device to Host FIS that ends no reset.
+fn hear_d2h(slots: &mut SlotTable, dev: u8, state: DeviceState, status: u8, error: u8) -> Heard
+    requires { dev < 16 }
+    ensures heard { result ≡ heard_d2h (slots_of dev slots.old) state status error }
+    ensures own { slots_of dev slots.new ≡ moved result.happening (slots_of dev slots.old) }
+    ensures others { LeavesOthers dev slots.old slots.new }
+    ensures frees { KeepsFree slots.old slots.new }
+    ensures unwritten { wrote_by result.happening ≡ None }
+{
+    let told = state.with_file(status, error);
+    if is_error(status) {
+        return faulty(told, DeviceCause::TaskFile);
+    }
+    if is_busy(status) {
+        return quietly(told, Happening::Nothing);
+    }
+    answered(slots.answered(dev), told)
+}
+
+// A Register Device to Host FIS: in software reset it is the signature that ends it.
+fn hear_register(slots: &mut SlotTable, dev: u8, state: DeviceState, status: u8, error: u8) -> Heard
+    requires { dev < 16 }
+    ensures heard { result ≡ heard_register (slots_of dev slots.old) state status error }
+    ensures own { slots_of dev slots.new ≡ moved result.happening (slots_of dev slots.old) }
+    ensures others { LeavesOthers dev slots.old slots.new }
+    ensures frees { KeepsFree slots.old slots.new }
+    ensures unwritten { wrote_by result.happening ≡ None }
+{
+    if state.resetting {
+        return quietly(state.after_reset(status, error), Happening::Nothing);
+    }
+    hear_d2h(slots, dev, state, status, error)
+}
+
+fn named(completed: Completed, state: DeviceState, mask: u32) -> Heard
+    ensures { result ≡ named_heard completed state mask }
+{
+    let fault = if completed.short == 0 {
+        None
+    } else {
+        Some(Fault::Device(DeviceCause::Short))
+    };
+    Heard {
+        state,
+        happening: Happening::Named(mask),
+        fault,
+        done: completed.done,
+        pss: false,
+    }
+}
+
+fn hear_bits(
+    slots: &mut SlotTable,
+    dev: u8,
+    state: DeviceState,
+    status: u8,
+    error: u8,
+    mask: u32,
+) -> Heard
+    requires { dev < 16 }
+    ensures heard { result ≡ heard_bits (slots_of dev slots.old) state status error mask }
+    ensures own { slots_of dev slots.new ≡ moved result.happening (slots_of dev slots.old) }
+    ensures others { LeavesOthers dev slots.old slots.new }
+    ensures frees { KeepsFree slots.old slots.new }
+    ensures unwritten { wrote_by result.happening ≡ None }
+{
+    let told = state.with_bits(status, error);
+    if is_error(status) {
+        return faulty(told, DeviceCause::TaskFile);
+    }
+    named(slots.complete(dev, mask), told, mask)
+}
+
+fn cause_of_setup(error: SetupError) -> DeviceCause
+    ensures { result ≡ cause_of_setup_error error }
+{
+    match error {
+        SetupError::NotOutstanding => DeviceCause::BadTag,
+        SetupError::WrongWay => DeviceCause::WrongWay,
+        SetupError::Overflow => DeviceCause::Overflow,
+        SetupError::Twice => DeviceCause::Twice,
+        SetupError::Fragments => DeviceCause::Fragments,
+        SetupError::BadCount => DeviceCause::BadFis,
+    }
+}
+
+fn hear_setup(
+    slots: &mut SlotTable,
+    dev: u8,
+    state: DeviceState,
+    tag: u8,
+    offset: u32,
+    count: u32,
+    to_host: bool,
+) -> Heard
+    requires dev { dev < 16 }
+    requires tag { tag < 32 }
+    ensures heard { result ≡ heard_setup (slots_of dev slots.old) state tag offset count to_host }
+    ensures own { slots_of dev slots.new ≡ moved result.happening (slots_of dev slots.old) }
+    ensures others { LeavesOthers dev slots.old slots.new }
+    ensures frees { KeepsFree slots.old slots.new }
+    ensures unwritten { wrote_by result.happening ≡ None }
+{
+    let context = Context {
+        slot: tag,
+        next: offset,
+        left: count,
+        to_host,
+        activated: false,
+    };
+    match slots.setup(dev, tag, offset, count, to_host) {
+        Ok(()) => quietly(state.with_block(None), Happening::SetUp(context)),
+        Err(error) => faulty(state, cause_of_setup(error)),
+    }
+}
+
+fn hear_pio(
+    slots: &mut SlotTable,
+    dev: u8,
+    state: DeviceState,
+    status: u8,
+    error: u8,
+    count: u32,
+    to_host: bool,
+    block: Block,
+) -> Heard
+    requires { dev < 16 }
+    ensures heard { result ≡ heard_pio (slots_of dev slots.old) state status error count to_host block }
+    ensures own { slots_of dev slots.new ≡ moved result.happening (slots_of dev slots.old) }
+    ensures others { LeavesOthers dev slots.old slots.new }
+    ensures frees { KeepsFree slots.old slots.new }
+    ensures unwritten { wrote_by result.happening ≡ None }
+{
+    let told = state.with_file(status, error);
+    if is_error(status) {
+        return faulty(told, DeviceCause::TaskFile);
+    }
+    match slots.setup_pio(dev, count, to_host) {
+        Ok(()) => quietly(
+            told.with_block(Some(block)),
+            Happening::PioSetUp(count, to_host),
+        ),
+        Err(error) => faulty(told, cause_of_setup(error)),
+    }
+}
+
+fn hear_activate(slots: &mut SlotTable, dev: u8, state: DeviceState) -> Heard
+    requires { dev < 16 }
+    ensures heard { result ≡ heard_activate (slots_of dev slots.old) state }
+    ensures own { slots_of dev slots.new ≡ moved result.happening (slots_of dev slots.old) }
+    ensures others { LeavesOthers dev slots.old slots.new }
+    ensures frees { KeepsFree slots.old slots.new }
+    ensures unwritten { wrote_by result.happening ≡ None }
+{
+    match slots.activate(dev) {
+        Ok(()) => quietly(state, Happening::Activated),
+        Err(_) => faulty(state, DeviceCause::Stray),
+    }
+}
+
+/// Whether a FIS may come from this PM Port.
+pub(crate) fn is_admitted(dev: u8, fis: &Fis<'_>) -> bool
+    ensures { result ≡ is_admitted_fis dev fis.now }
+{
+    match fis {
+        Fis::RegH2D(_) => false,
+        Fis::RegD2H(_) | Fis::SetBits(_) => true,
+        Fis::DmaActivate(_) | Fis::DmaSetup(_) | Fis::PioSetup(_) | Fis::Payload(_) => dev != 15,
+        Fis::Unknown(fis) => fis.bytes().len() <= 64,
+    }
+}
+
+fn block_of(fis: &PioSetup<'_>) -> Block
+    ensures { result ≡ block_of_fis fis.now }
+{
+    Block {
+        interrupts: fis.i(),
+        ends: fis.e_status(),
+    }
+}
+
+/// A FIS that may come from this PM Port.
+#[tactic(auto, unfolding(crate::specs::Hearing::heard_fis))]
+pub(crate) fn hear(
+    slots: &mut SlotTable,
+    memory: &mut HostMemory,
+    commands: &[Option<Command>; 32],
+    dev: u8,
+    state: DeviceState,
+    fis: &Fis<'_>,
+) -> Heard
+    requires { dev < 16 }
+    ensures heard { result ≡ heard_fis (slots_of dev slots.old) state (is_sound memory.old commands.now (slots_of dev slots.old)) fis.now }
+    ensures own { slots_of dev slots.new ≡ moved result.happening (slots_of dev slots.old) }
+    ensures others { LeavesOthers dev slots.old slots.new }
+    ensures frees { KeepsFree slots.old slots.new }
+    ensures structure { memory.new.structure ≡ memory.old.structure }
+    ensures client { Delivers memory.old commands.now (drop 4 (frame_of fis.now)) (wrote_by result.happening) memory.new.client }
+{
+    match fis {
+        Fis::RegD2H(fis) => hear_register(slots, dev, state, fis.status(), fis.error()),
+        Fis::SetBits(fis) => hear_bits(slots, dev, state, fis.status(), fis.error(), fis.sactive()),
+        Fis::DmaSetup(fis) => {
+            let tag = (fis.buffer_id() % 32) as u8;
+            hear_setup(slots, dev, state, tag, fis.offset(), fis.count(), fis.d())
+        }
+        Fis::PioSetup(fis) => {
+            let count = u32::from(fis.transfer());
+            let (status, error) = (fis.status(), fis.error());
+            hear_pio(
+                slots,
+                dev,
+                state,
+                status,
+                error,
+                count,
+                fis.d(),
+                block_of(fis),
+            )
+        }
+        Fis::Payload(fis) => hear_data(slots, memory, commands, dev, state, fis.payload()),
+        Fis::DmaActivate(_) => hear_activate(slots, dev, state),
+        Fis::Unknown(_) | Fis::RegH2D(_) => quietly(state, Happening::Nothing),
+    }
+}

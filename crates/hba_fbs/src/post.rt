@@ -1,0 +1,119 @@
+//! Posting of FISes, and what a FIS that is posted sets in the port's registers.
+
+ghost use Rattle.std.specs.Prelude.{◌≡◌, ◌<◌, ◌≤◌, ◌+◌, bit_or, length};
+ghost use Rattle.rx_area.specs.Area.{LeavesOthers, after_post, posted_at, row_after, row_of};
+ghost use Rattle.hba_fbs.specs.Bits.{bit as bit_of};
+ghost use Rattle.hba_fbs.specs.Posting.{Posts, is_signature as is_signature_of, posted as posted_of, signature_of, signs as signs_of};
+ghost use Rattle.hba_fbs.specs.Registers.{AreRegisters};
+
+use crate::bits::bit;
+use crate::registers::Registers;
+use crate::status::is_quiet;
+use fis_view::{Fis, FisFault, RegD2H};
+use host_memory::HostMemory;
+use rx_area::{Posted, RxArea};
+
+/// PxIS.DHRS, Device to Host Register FIS Interrupt.
+const DHRS: u32 = 0;
+/// PxIS.DSS, DMA Setup FIS Interrupt.
+const DSS: u32 = 2;
+/// PxIS.SDBS, Set Device Bits Interrupt.
+const SDBS: u32 = 3;
+
+fn post_into(area: &mut [u8], dev: u8, fis: &Fis<'_>) -> Posted
+    requires area { length area.old ≡ 4096 }
+    requires dev { dev < 16 }
+    ensures posted { result ≡ posted_at fis.now }
+    ensures after { area.new ≡ after_post area.old dev fis.now }
+    ensures own { row_of area.new dev ≡ row_after (row_of area.old dev) fis.now }
+    ensures others { LeavesOthers dev area.old area.new }
+{
+    let mut area = RxArea::over(area);
+    area.post(dev, fis)
+}
+
+fn post_at(structure: &mut [u8], fb: u32, dev: u8, fis: &Fis<'_>) -> Posted
+    requires area { fb + 4096 ≤ length structure.old }
+    requires dev { dev < 16 }
+    ensures posted { result ≡ posted_at fis.now }
+    ensures posts { Posts fb dev fis.now structure.old structure.new }
+{
+    let fb = fb as usize;
+    post_into(&mut structure[fb..fb + 4096], dev, fis)
+}
+
+/// Posts a FIS of a device to the received area at `fb`.
+pub(crate) fn post(memory: &mut HostMemory, fb: u32, dev: u8, fis: &Fis<'_>) -> Posted
+    requires area { fb + 4096 ≤ 1048576 }
+    requires dev { dev < 16 }
+    ensures posted { result ≡ posted_at fis.now }
+    ensures posts { Posts fb dev fis.now memory.old.structure memory.new.structure }
+    ensures client { memory.new.client ≡ memory.old.client }
+{
+    post_at(memory.structure_mut(), fb, dev, fis)
+}
+
+fn signature(fis: &RegD2H<'_>) -> u32
+    ensures { result ≡ signature_of fis.now }
+{
+    (fis.lba() % 0x100_0000) as u32 * 256 + u32::from(fis.count() % 256)
+}
+
+fn is_signature(fis: &RegD2H<'_>) -> bool
+    ensures { result ≡ is_signature_of fis.now }
+{
+    fis.error() == 1 && is_quiet(fis.status()) && fis.count() % 256 == 1 && fis.lba() % 256 == 1
+}
+
+/// Whether a FIS is a Register Device to Host FIS with a signature.
+pub(crate) fn signs(fis: &Result<Fis<'_>, FisFault>) -> bool
+    ensures { result ≡ signs_of fis.now }
+{
+    match fis {
+        Ok(Fis::RegD2H(fis)) => is_signature(fis),
+        _ => false,
+    }
+}
+
+// PxSNTF, where the device sends a notification, or none.
+fn notified(old: u16, dev: u8, notifies: bool) -> u16
+    requires { dev < 16 }
+    ensures { result ≡ bit_or old (bit_of dev notifies) }
+{
+    old | if notifies { 1 << dev } else { 0 }
+}
+
+/// The registers after a FIS of a device was posted.
+#[tactic(auto, unfolding(crate::specs::Posting::posted))]
+pub(crate) fn posted(registers: Registers, dev: u8, resetting: bool, fis: &Fis<'_>) -> Registers
+    requires dev { dev < 16 }
+    requires are { AreRegisters registers }
+    ensures value { result ≡ posted_of registers dev resetting fis.now }
+    ensures are { AreRegisters result }
+{
+    match fis {
+        Fis::RegD2H(fis) => Registers {
+            interrupts: registers.interrupts | bit(fis.i(), DHRS),
+            signature: if resetting {
+                signature(fis)
+            } else {
+                registers.signature
+            },
+            ..registers
+        },
+        Fis::SetBits(fis) => Registers {
+            interrupts: registers.interrupts | bit(fis.i(), SDBS),
+            notified: notified(registers.notified, dev, fis.n()),
+            ..registers
+        },
+        Fis::DmaSetup(fis) => Registers {
+            interrupts: registers.interrupts | bit(fis.i(), DSS),
+            ..registers
+        },
+        Fis::Unknown(_) => Registers {
+            unknown: true,
+            ..registers
+        },
+        Fis::RegH2D(_) | Fis::DmaActivate(_) | Fis::PioSetup(_) | Fis::Payload(_) => registers,
+    }
+}

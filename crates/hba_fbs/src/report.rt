@@ -1,0 +1,104 @@
+//! What taking a FIS did.
+
+ghost use Rattle.std.specs.Prelude.{◌≡◌};
+ghost use Rattle.hba_fbs.specs.Taking.{device_cause as device_cause_of, heard_report, ignored_report, port_cause as port_cause_of, wrote_by as wrote_by_of};
+
+use crate::hearing::{Fault, Happening, Heard};
+use port_errors::{DeviceCause, PortCause};
+use rx_area::Posted;
+
+/// Bytes of a Data FIS that went to client memory.
+#[derive(Clone, Copy, Debug, PartialEq, Eq)]
+pub struct Wrote {
+    /// The slot to which they belong.
+    pub slot: u8,
+    /// The number of the first of them in the slot's transfer.
+    pub offset: u32,
+    /// How many there are.
+    pub len: u32,
+}
+
+/// What taking a FIS did.
+#[derive(Clone, Copy, Debug, PartialEq, Eq)]
+pub struct TakeReport {
+    /// The PM Port from which it came.
+    pub dev: u8,
+    /// Whether it was ignored. Then nothing else happened.
+    pub ignored: bool,
+    /// Where it was posted.
+    pub posted: Posted,
+    /// Why the device is faulty since.
+    pub fault: Option<DeviceCause>,
+    /// Why the port is stopped since.
+    pub stopped: Option<PortCause>,
+    /// The bytes that it brought to client memory.
+    pub wrote: Option<Wrote>,
+    /// The slots that became free, as a mask.
+    pub done: u32,
+}
+
+/// The cause of a device's fault.
+pub(crate) fn device_cause(fault: Option<Fault>) -> Option<DeviceCause>
+    ensures { result ≡ device_cause_of fault }
+{
+    match fault {
+        Some(Fault::Device(cause)) => Some(cause),
+        Some(Fault::Port(_)) | None => None,
+    }
+}
+
+fn port_cause(fault: Option<Fault>) -> Option<PortCause>
+    ensures { result ≡ port_cause_of fault }
+{
+    match fault {
+        Some(Fault::Port(cause)) => Some(cause),
+        Some(Fault::Device(_)) | None => None,
+    }
+}
+
+fn wrote_by(happening: Happening) -> Option<Wrote>
+    ensures { result ≡ wrote_by_of happening }
+{
+    match happening {
+        Happening::Carried(wrote, _) => Some(wrote),
+        Happening::Nothing
+        | Happening::Answered(_)
+        | Happening::Named(_)
+        | Happening::SetUp(_)
+        | Happening::PioSetUp(_, _)
+        | Happening::Activated => None,
+    }
+}
+
+impl TakeReport {
+    /// Of a FIS that is ignored.
+    pub(crate) fn ignored(dev: u8) -> TakeReport
+        ensures { result ≡ ignored_report dev }
+    {
+        TakeReport {
+            dev,
+            ignored: true,
+            posted: Posted::Nothing,
+            fault: None,
+            stopped: None,
+            wrote: None,
+            done: 0,
+        }
+    }
+
+    /// Of a FIS that is heard.
+    #[tactic(auto, unfolding(crate::specs::Taking::heard_report))]
+    pub(crate) fn heard(dev: u8, posted: Posted, heard: Heard) -> TakeReport
+        ensures { result ≡ heard_report dev posted heard }
+    {
+        TakeReport {
+            dev,
+            ignored: false,
+            posted,
+            fault: device_cause(heard.fault),
+            stopped: port_cause(heard.fault),
+            wrote: wrote_by(heard.happening),
+            done: heard.done,
+        }
+    }
+}

@@ -1,0 +1,96 @@
+//! Status, and what FISes tell of a device's task file.
+
+ghost use Rattle.std.specs.Prelude.{◌≡◌};
+ghost use Rattle.hba_fbs.specs.Status.{after_reset as after_reset_of, is_busy as is_busy_status, is_error as is_error_status, is_quiet as is_quiet_status, with_bits as with_bits_of, with_block as with_block_of, with_file as with_file_of, with_status as with_status_of};
+
+use crate::bits::has_bit;
+use crate::state::DeviceState;
+
+/// Status.ERR.
+const ERR: u32 = 0;
+/// Status.DRQ.
+const DRQ: u32 = 3;
+/// Status.BSY.
+const BSY: u32 = 7;
+/// BSY and DRQ, which a Set Device Bits FIS does not tell.
+const UNTOLD: u8 = 0x88;
+
+/// The block of data that a PIO Setup begins.
+#[derive(Clone, Copy, Debug, PartialEq, Eq)]
+pub(crate) struct Block {
+    /// I: its end sets PSS.
+    pub(crate) interrupts: bool,
+    /// E_Status: the Status at its end.
+    pub(crate) ends: u8,
+}
+
+/// Whether ERR is set.
+pub(crate) fn is_error(status: u8) -> bool
+    ensures { result ≡ is_error_status status }
+{
+    has_bit(u32::from(status), ERR)
+}
+
+/// Whether BSY is set.
+pub(crate) fn is_busy(status: u8) -> bool
+    ensures { result ≡ is_busy_status status }
+{
+    has_bit(u32::from(status), BSY)
+}
+
+/// Whether BSY, DRQ and ERR are 0.
+pub(crate) fn is_quiet(status: u8) -> bool
+    ensures { result ≡ is_quiet_status status }
+{
+    !is_busy(status) && !has_bit(u32::from(status), DRQ) && !is_error(status)
+}
+
+impl DeviceState {
+    /// A FIS tells Status and Error.
+    pub(crate) fn with_file(self, status: u8, error: u8) -> DeviceState
+        ensures { result ≡ with_file_of self status error }
+    {
+        DeviceState {
+            status,
+            error,
+            ..self
+        }
+    }
+
+    /// A Set Device Bits FIS tells Error, and Status but for BSY and DRQ.
+    pub(crate) fn with_bits(self, status: u8, error: u8) -> DeviceState
+        ensures { result ≡ with_bits_of self status error }
+    {
+        DeviceState {
+            status: self.status & UNTOLD | status,
+            error,
+            ..self
+        }
+    }
+
+    /// A signature tells Status and Error, and the software reset ends.
+    pub(crate) fn after_reset(self, status: u8, error: u8) -> DeviceState
+        ensures { result ≡ after_reset_of self status error }
+    {
+        DeviceState {
+            status,
+            error,
+            resetting: false,
+            ..self
+        }
+    }
+
+    /// A setup begins a block, or none.
+    pub(crate) fn with_block(self, block: Option<Block>) -> DeviceState
+        ensures { result ≡ with_block_of self block }
+    {
+        DeviceState { block, ..self }
+    }
+
+    /// The end of a block tells Status.
+    pub(crate) fn with_status(self, status: u8) -> DeviceState
+        ensures { result ≡ with_status_of self status }
+    {
+        DeviceState { status, ..self }
+    }
+}
