@@ -1,3 +1,4 @@
 pub mod BitLemmas
 pub mod RegisterLemmas
 pub mod LawLemmas
+pub mod ShownLemmas

@@ -1,8 +1,8 @@
 -- What is true after any list of calls, by the calls alone (Serial ATA 3.x, 16.4.1: GSCR[32] shows the ports with an
 -- error that the mask GSCR[33] lets through; 16.3.4: asynchronous notification).
-use Rattle.std.specs.Prelude.{◌≡◌, ◌≢◌, ℕ, ◌<◌, ◌↔◌, ◌⊎◌, List, [], ◌∷◌, ◌++◌, All, unwrap_or}
+use Rattle.std.specs.Prelude.{◌≡◌, ◌≢◌, ℕ, ◌<◌, ◌==◌, ◌↔◌, ◌⊎◌, Bool, true, false, if◌then◌else◌, List, [], ◌∷◌, ◌++◌, All, unwrap_or}
 use Rattle.std.specs.Int.{bit_at}
-use Rattle.pm_registers.specs.RegisterMap.{RegisterMap, register_at, after_write, after_insert, after_remove, after_raise, after_notice, after_restore}
+use Rattle.pm_registers.specs.RegisterMap.{RegisterMap, IsSound, port_at, register_at, after_write, after_insert, after_remove, after_raise, after_notice, after_restore}
 
 -- a call that changes the registers
 pub data Call : Type 0 where
@@ -63,3 +63,15 @@ abbrev pub ClearedByOnes : RegisterMap → Type 0
 ClearedByOnes m =
     (call : Call) (n k : ℕ) → n < m.ports → HasBit m n 1 k → bit_at (value_at (called m call) n 1) k ≡ 0
     → (value : ℕ) × (call ≡ Writes n 1 value) × (bit_at value k ≡ 1)
+
+-- whether a device is present at port n after a call, where one was or was not: only its coming and going change it
+abbrev pub device_after : Call → ℕ → Bool → Bool
+device_after (Inserts port) n was = if port == n then true else was
+device_after (Removes port) n was = if port == n then false else was
+device_after call n was = was
+
+-- a call keeps what is true of every map, and knows which devices are present
+abbrev pub KeepsSound : RegisterMap → Call → Type 0
+KeepsSound m call =
+    IsSound m → IsSound (called m call)
+    × ((n : ℕ) → n < 15 → (port_at (called m call) n).present ≡ device_after call n (port_at m n).present)

@@ -1,6 +1,6 @@
 -- The registers of one device port (Serial ATA 3.x, 14.1: SStatus, SError and SControl; 16.4.2: PSCR[0], PSCR[1] and
 -- PSCR[2] are these three), and what happens to them when a device comes or goes and when SControl is written.
-use Rattle.std.specs.Prelude.{◌≡◌, ℕ, ◌%◌, Bool, true, false, not, ◌==◌, ◌&&◌, if◌then◌else◌, bit_and, bit_or, Option, Some, None}
+use Rattle.std.specs.Prelude.{◌≡◌, ℕ, ◌%◌, Bool, true, false, ◌==◌, ◌&&◌, if◌then◌else◌, bit_and, bit_or, Option, Some, None}
 use Rattle.pm_registers.specs.Bits.{without}
 use Rattle.pm_registers.specs.declared.port.PortRegisters.{PortRegisters}
 
@@ -64,5 +64,9 @@ raised p bits = record p { error = bit_or p.error bits }
 
 -- whether FISes pass the port, in either direction: it is open, communication is established, and no exchange of the
 -- device is left that the host has not seen
-abbrev pub Forwards : PortRegisters → Type 0
-Forwards p = (det p.control ≡ 0) × (det p.status ≡ 3) × (bit_and p.error bit_x ≡ 0)
+abbrev pub passes : PortRegisters → Bool
+passes p = is_open p && det p.status == 3 && bit_and p.error bit_x == 0
+
+-- SStatus shows that communication is established (DET 3) only where the port is open and a device is present
+abbrev pub ShowsTruly : PortRegisters → Type 0
+ShowsTruly p = det p.status ≡ 3 → (is_open p ≡ true) × (p.present ≡ true)

@@ -1,10 +1,10 @@
 -- The registers of a port multiplier (Serial ATA 3.x, 16.4), as a finite map from a port and a number to a value.
-use Rattle.std.specs.Prelude.{ℕ, Bool, true, false, not, ◌==◌, ◌&&◌, ◌||◌, nat_lt, if◌then◌else◌, bit_and, List, replicate, slice_set, slice_index_or, Option, Some, None, ok_or, is_some, Result, Err}
+use Rattle.std.specs.Prelude.{◌≡◌, ◌≤◌, ℕ, Bool, true, false, not, ◌==◌, ◌&&◌, ◌||◌, nat_lt, if◌then◌else◌, bit_and, List, length, replicate, slice_set, slice_index_or, Option, Some, None, ok_or, is_some, Result, Err}
 use Rattle.pm_registers.specs.Bits.{without, shares, rises, bits_where}
 use Rattle.pm_registers.specs.declared.port.PortRegisters.{PortRegisters}
 use Rattle.pm_registers.specs.declared.words.RegisterError.{RegisterError}
 use Rattle.pm_registers.specs.declared.words.RegisterError.TheVariants.{NoPort, NoRegister}
-use Rattle.pm_registers.specs.Port.{opening_port, pscr, port_written, inserted, removed, raised}
+use Rattle.pm_registers.specs.Port.{opening_port, pscr, port_written, inserted, removed, raised, passes, ShowsTruly}
 
 -- what a multiplier holds: how many device ports it has, GSCR[33], GSCR[96], the registers of the ports (those from
 -- `ports` on are not there), and whether a notification is due
@@ -24,6 +24,16 @@ opening ports = record { ports = ports; mask = 0x400FFFF; enabled = 0; bank = re
 
 abbrev pub port_at : RegisterMap → ℕ → PortRegisters
 port_at m n = slice_index_or m.bank n opening_port
+
+-- what is true of every map: there are at most 15 device ports, and each shows its device truly
+pub record IsSound (m : RegisterMap) : Type 0 where
+  pub ports : m.ports ≤ 15
+  pub bank : length m.bank ≡ 15
+  pub shown : (n : ℕ) → ShowsTruly (port_at m n)
+
+-- whether FISes pass device port n, in both directions; a port that is not there passes none
+abbrev pub forwards : RegisterMap → ℕ → Bool
+forwards m n = nat_lt n m.ports && passes (port_at m n)
 
 -- ---- reading
 

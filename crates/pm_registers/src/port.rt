@@ -1,7 +1,7 @@
 //! The registers of one device port, and what each event does to them.
 
-ghost use Rattle.std.specs.Prelude.{bit_and, ◌%◌, ◌≡◌, ◌↔◌, IsTrue};
-ghost use Rattle.pm_registers.specs.Port.{Forwards, controlled, inserted, is_open, met, opened, opening_port, port_written, pscr, raised, removed};
+ghost use Rattle.std.specs.Prelude.{bit_and, ◌%◌, ◌≡◌};
+ghost use Rattle.pm_registers.specs.Port.{controlled, inserted, is_open, met, opened, opening_port, passes, port_written, pscr, raised, removed};
 
 use crate::bits::cleared;
 use crate::words::{
@@ -150,7 +150,7 @@ impl PortRegisters {
 
     /// Whether FISes pass.
     pub(crate) fn forwards(self) -> bool
-        ensures { IsTrue result ↔ Forwards self }
+        ensures { result ≡ passes self }
     {
         self.is_open() && self.status & DET_MASK == 3 && self.error & SERROR_X == 0
     }

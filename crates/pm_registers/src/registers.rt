@@ -4,8 +4,8 @@ ghost use Rattle.std.specs.Prelude.{List, ℕ, bit_and, false, true, not, ◌==�
 ghost use Rattle.std.specs.Result.{result_err};
 ghost use Rattle.pm_registers.specs.Bits.{shares, without, rises, bits_where};
 ghost use Rattle.pm_registers.specs.Calls.{Call, after};
-ghost use Rattle.pm_registers.specs.Port.{Forwards};
-ghost use Rattle.pm_registers.specs.RegisterMap.{after_insert, after_notice, after_restore, after_raise, after_remove, after_rule, after_write, control_written, gscr, may_change, opening, port_at, read_at, register_at, settled, summary, with_port, write_rule};
+ghost use Rattle.pm_registers.specs.Port.{ShowsTruly};
+ghost use Rattle.pm_registers.specs.RegisterMap.{after_insert, after_notice, after_restore, after_raise, after_remove, after_rule, after_write, control_written, forwards, gscr, may_change, opening, port_at, read_at, register_at, settled, summary, with_port, write_rule};
 
 use crate::bits::cleared;
 use crate::port::PortRegisters;
@@ -26,14 +26,13 @@ pub struct PmRegisters {
 }
 
 impl Model for PmRegisters {
-    ghost use Rattle.std.specs.Prelude.{List, ℕ, length, ◌≡◌, ◌≤◌};
-    ghost use Rattle.pm_registers.specs.RegisterMap.{RegisterMap};
+    ghost use Rattle.pm_registers.specs.RegisterMap.{IsSound, RegisterMap};
 
     ghost Value = { RegisterMap };
 
     ghost view = { λ r. record { ports = r.ports; mask = r.mask; enabled = r.enabled; bank = r.bank; due = r.due } };
 
-    ghost invariant = { λ r. (r.ports ≤ 15) × (length r.bank ≡ 15) };
+    ghost invariant = { λ r. IsSound (record { ports = r.ports; mask = r.mask; enabled = r.enabled; bank = r.bank; due = r.due }) };
 }
 
 impl PmRegisters {
@@ -55,13 +54,16 @@ impl PmRegisters {
     /// The registers of device port `n`.
     fn port(&self, n: u8) -> PortRegisters
         requires { n < self.now.ports }
-        ensures { result ≡ port_at self.now n }
+        ensures value { result ≡ port_at self.now n }
+        ensures shows { ShowsTruly result }
     {
         self.bank[usize::from(n)]
     }
 
+    #[tactic(auto, using(crate::proofs::ShownLemmas::sound_set))]
     fn set_port(&mut self, n: u8, port: PortRegisters)
-        requires { n < self.old.ports }
+        requires there { n < self.old.ports }
+        requires shows { ShowsTruly port }
         ensures changed { self.new ≡ with_port self.old n port }
         ensures there { port_at self.new n ≡ port }
     {
@@ -136,6 +138,7 @@ impl PmRegisters {
 
     /// Writes a register, and does what the write of PSCR\[2\] asks for. It refuses what [`read`](Self::read) does.
     /// A write to a register that is only read is no error, and changes nothing.
+    #[tactic(auto, using(crate::proofs::ShownLemmas::shows_written))]
     pub fn write(&mut self, port: u8, register: u16, value: u32) -> Result<(), RegisterError>
         ensures refusal { result_err result ≡ result_err (read_at self.old port register) }
         ensures after { self.new ≡ after_write self.old port register value }
@@ -144,6 +147,8 @@ impl PmRegisters {
             register_at self.new port register
             ≡ Some (after_rule (write_rule port register) was value) }
         ensures ports { self.new.ports ≡ self.old.ports }
+        // no write makes a device present or takes one away
+        ensures devices { (n : ℕ) → (port_at self.new n).present ≡ (port_at self.old n).present }
         // each other register stays, but for what a write to SControl acts on and for GSCR[32]
         ensures others { (p r : ℕ) → may_change port register p r ≡ false →
             register_at self.new p r ≡ register_at self.old p r }
@@ -161,6 +166,7 @@ impl PmRegisters {
     }
 
     /// A device comes to device port `n`.
+    #[tactic(auto, using(crate::proofs::ShownLemmas::shows_inserted))]
     pub fn insert(&mut self, n: u8)
         requires { n < self.old.ports }
         ensures { self.new ≡ after_insert self.old n }
@@ -172,6 +178,7 @@ impl PmRegisters {
     }
 
     /// The device of device port `n` goes.
+    #[tactic(auto, using(crate::proofs::ShownLemmas::shows_removed))]
     pub fn remove(&mut self, n: u8)
         requires { n < self.old.ports }
         ensures { self.new ≡ after_remove self.old n }
@@ -183,6 +190,7 @@ impl PmRegisters {
     }
 
     /// Sets bits in PSCR\[1\], the SError, of device port `n`.
+    #[tactic(auto, using(crate::proofs::ShownLemmas::shows_raised))]
     pub fn raise(&mut self, n: u8, bits: u32)
         requires { n < self.old.ports }
         ensures { self.new ≡ after_raise self.old n bits }
@@ -195,7 +203,7 @@ impl PmRegisters {
 
     /// Whether FISes pass device port `n`, in both directions. A port that is not there passes none.
     pub fn forwards(&self, n: u8) -> bool
-        ensures { IsTrue result ↔ ((n < self.now.ports) × Forwards (port_at self.now n)) }
+        ensures { result ≡ forwards self.now n }
     {
         n < self.ports && self.port(n).forwards()
     }

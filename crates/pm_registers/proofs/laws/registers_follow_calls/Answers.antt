@@ -2,6 +2,7 @@ use Rattle.std.proofs.Common.{arith}
 use Rattle.pm_registers.specs.RegisterMap.{opening}
 use Rattle.pm_registers.specs.Calls.{after}
 use Rattle.pm_registers.proofs.LawLemmas.{ports_after, summary_agrees, due_since, cleared_by_ones}
+use Rattle.pm_registers.proofs.ShownLemmas.{keeps_sound}
 use Rattle.pm_registers.proofs.laws.registers_follow_calls.Goals as goal
 
 pub returns-clause-summary : goal.returns-clause-summary
@@ -12,3 +13,6 @@ returns-clause-due c = due_since
 
 pub returns-clause-cleared : goal.returns-clause-cleared
 returns-clause-cleared c ports calls most = cleared_by_ones (after (opening ports) calls) (omega (arith, ports_after (opening ports) calls))
+
+pub returns-clause-sound : goal.returns-clause-sound
+returns-clause-sound c = keeps_sound

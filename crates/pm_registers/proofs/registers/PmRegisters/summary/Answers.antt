@@ -12,7 +12,7 @@ pub loop-n-preserved : goal.loop-n-preserved
 loop-n-preserved c =
     let r = c.self.inside in
     let test : ℕ → Bool = λ k. shares (slice_index_or r.bank k opening_port).error r.mask in
-    let within : c.loop-n.n < length r.bank = omega (arith, c.self.invariant.1) in
+    let within : c.loop-n.n < length r.bank = omega (arith, c.self.invariant.bank) in
     elim c.if-self-from-ne0.branch [
       | then-self-from-ne0 w ↦ w.bits-is ∙ bits_where_set test c.loop-n.n c.loop-n.bits (omega arith) c.loop-n.invariant (asks_true r.bank c.loop-n.n c.from.result r.mask _ c.from.ensures within w.if-self-from-ne0.true)
       | else-self-from-ne0 w ↦ w.bits-is ∙ bits_where_same test c.loop-n.n c.loop-n.bits c.loop-n.invariant (asks_false r.bank c.loop-n.n c.from.result r.mask _ c.from.ensures within w.if-self-from-ne0.false)
