@@ -1,4 +1,5 @@
--- What becomes of a frame that a port is given: it is kept, dropped because its connection is gone, or given back.
+-- What becomes of a frame that a port is given (Serial ATA 3.x, 16.3, port multiplier: frame transmission): it is kept,
+-- dropped because its connection is gone, or given back.
 use Rattle.std.specs.Prelude.{◌≡◌, true, false, Some, None, is_some, Result, Ok, Err}
 use Rattle.fis_view.specs.Frames.{Stamped}
 use Rattle.pm_ports.specs.Port.{PortState, is_gone, with_up, with_down}

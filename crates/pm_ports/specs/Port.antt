@@ -1,7 +1,7 @@
 -- What one fan-out port of a port multiplier holds: a frame on its way up, a frame on its way down, and which
--- connection of its device is present (Serial ATA 3.x, port multiplier, frame transmission: one FIS at a time is
--- buffered in each direction).
-use Rattle.std.specs.Prelude.{ℕ, Bool, false, nat_le, nat_lt, ◌==◌, ◌&&◌, if◌then◌else◌, Option, Some, None, is_some}
+-- connection of its device is present (Serial ATA 3.x, 16.3, port multiplier: frame transmission, where one FIS at a
+-- time is buffered in each direction).
+use Rattle.std.specs.Prelude.{◌≡◌, ℕ, ◌<◌, Bool, false, nat_le, nat_lt, ◌==◌, ◌&&◌, if◌then◌else◌, Option, Some, None, is_some}
 use Rattle.fis_view.specs.Frames.{Stamped}
 use Rattle.pm_ports.specs.declared.port.PortError.{PortError}
 use Rattle.pm_ports.specs.declared.port.PortError.TheVariants.{AlreadyThere, OldConnection}
@@ -16,6 +16,11 @@ pub record PortState : Type 0 where
   pub up : Option Stamped
   -- the frame for the device that waits to go down
   pub down : Option Stamped
+
+-- what is true of every port: the connection that is present is one that a device may have, and the highest that came
+pub record IsSound (port : PortState) : Type 0 where
+  pub counted : (conn : ℕ) → port.present ≡ Some conn → 0 < conn
+  pub last : (conn : ℕ) → port.present ≡ Some conn → conn ≡ port.last
 
 -- a port to which no device came, and which holds nothing
 abbrev pub empty_port : PortState

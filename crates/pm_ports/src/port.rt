@@ -2,14 +2,14 @@
 
 ghost use Rattle.std.specs.Prelude.{◌≡◌, if◌then◌else◌, None, MatchResult, is_some, is_none, option_copied};
 ghost use Rattle.std.specs.Result.{result_err};
-ghost use Rattle.pm_ports.specs.Port.{came_refusal, empty_port, next_up, with_connection, with_down, with_up};
+ghost use Rattle.pm_ports.specs.Port.{IsSound, came_refusal, empty_port, next_up, with_connection, with_down, with_up};
 ghost use Rattle.pm_ports.specs.Offering.{IsOffered, IsPutDown};
 
 use fis_view::Frame;
 use std::marker::Model;
 use thiserror::Error;
 
-/// Why a connection is refused.
+/// Why a connection that comes is refused; [`Port::came`] alone refuses so, and has no other refusal.
 #[derive(Clone, Copy, Debug, PartialEq, Eq, Error)]
 pub enum PortError {
     /// A device is there.
@@ -39,11 +39,13 @@ pub struct Port {
 }
 
 impl Model for Port {
-    ghost use Rattle.pm_ports.specs.Port.{PortState};
+    ghost use Rattle.pm_ports.specs.Port.{IsSound, PortState};
 
     ghost Value = { PortState };
 
     ghost view = { λ p. record { present = p.present; last = p.last; up = p.up; down = p.down } };
+
+    ghost invariant = { λ p. IsSound (record { present = p.present; last = p.last; up = p.up; down = p.down }) };
 }
 
 impl Default for Port {
@@ -89,7 +91,8 @@ impl Port {
 
     /// The connection that is present.
     pub fn present(&self) -> Option<u32>
-        ensures { result ≡ self.now.present }
+        ensures value { result ≡ self.now.present }
+        ensures sound { IsSound self.now }
     {
         self.present
     }
