@@ -48,15 +48,15 @@ found test from zero = record {
 found test from (suc n) = found_by test from n (test from) refl (found test (from + 1) n)
 
 -- so many turns of others can pass before the place is served
-abbrev WaitsAtMost : ℕ → ℕ → ℕ → Type 0
+abbrev pub WaitsAtMost : ℕ → ℕ → ℕ → Type 0
 WaitsAtMost last place k = ((last < place) × (place ≡ last + 1 + k)) ⊎ ((place ≤ last) × (place + 15 ≡ last + k))
 
-waits_some : (last place : ℕ) → last ≤ 15 → place ≤ 15 → (k : ℕ) × WaitsAtMost last place k × (k ≤ 15)
+pub waits_some : (last place : ℕ) → last ≤ 15 → place ≤ 15 → (k : ℕ) × WaitsAtMost last place k × (k ≤ 15)
 waits_some last place a b =
     elim (more_or_not place last) [ inl le ↦ (place + 15 - last, inr (le, omega arith), omega arith) | inr lt ↦ (place - last - 1, inl (lt, omega arith), omega arith) ]
 
 -- a turn at which another place is served
-abbrev Nearer : ℕ → ℕ → ℕ → Type 0
+abbrev pub Nearer : ℕ → ℕ → ℕ → Type 0
 Nearer served place k = (j : ℕ) × (j < k) × WaitsAtMost served place j × (served ≤ 15)
 
 step_up : (test : ℕ → Bool) (last place k r : ℕ) (hi : Option ℕ) → IsFound test (last + 1) (15 - last) hi → last ≤ 15 → place ≤ 15
@@ -84,7 +84,7 @@ step_by : (test : ℕ → Bool) (last place k r : ℕ) (hi lo : Option ℕ) → 
 step_by test last place k r (Some x) lo f g a b w e t ne = step_up test last place k r (Some x) f a b w e t ne
 step_by test last place k r None lo f g a b w e t ne = step_round test last place k r None lo f g a b w refl e t ne
 
-nearer : (test : ℕ → Bool) (last place k r : ℕ) → last ≤ 15 → place ≤ 15 → WaitsAtMost last place k → next_served last test ≡ Some r
+pub nearer : (test : ℕ → Bool) (last place k r : ℕ) → last ≤ 15 → place ≤ 15 → WaitsAtMost last place k → next_served last test ≡ Some r
     → test place ≡ true → r ≢ place → Nearer r place k
 nearer test last place k r a b w e t ne =
     let split : find test (range_with_len (last + 1) (15 - last) ++ range_with_len 0 (last + 1))

@@ -1,5 +1,9 @@
 pub mod ArbiterLemmas
-pub mod PutBack
 pub mod Holds
-pub mod Keeps
+pub mod Ports
+pub mod Sound
+pub mod GiveLemmas
+pub mod PutBack
+pub mod UpSteps
 pub mod PassingLemmas
+pub mod TurnLemmas

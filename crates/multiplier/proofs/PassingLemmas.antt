@@ -1,390 +1,575 @@
--- What each call does to the places of a port, and so the order in which frames pass.
-use Rattle.std.proofs.Common.{◌≡◌, ◌≢◌, ℕ, zero, suc, ◌<◌, ◌==◌, Bool, true, false, eqb, List, [], ◌∷◌, ◌++◌, append_assoc, length, replicate, Option, Some, None, Ok, Err, MatchOption, refl, sym, ap, ◌∙◌, arith, inl, inr}
-use Rattle.std.specs.Prelude.{slice_set, slice_index_or, Result}
+-- What each call does to the frames that passed, and so the order in which frames pass.
+use Rattle.std.proofs.Common.{◌≡◌, ◌≢◌, ℕ, ◌+◌, ◌-◌, ◌<◌, ◌≤◌, ◌==◌, ◌&&◌, Bool, true, false, cond, List, [], ◌∷◌, ◌++◌, append_assoc, All, length, map, take, get_or, Option, Some, None, Result, Ok, Err, MatchOption, refl, sym, ap, ◌∙◌, subst, arith, inl, inr}
+use Rattle.std.specs.Prelude.{if◌then◌else◌, is_some, nat_le}
 use Rattle.std.specs.Bool.{MatchBool}
-use Rattle.std.proofs.lemmas.Bool.{cases_eq, eq-eqb, ne_eqb, eqb-false}
-use Rattle.std.proofs.lemmas.Option.{same_Some}
-use Rattle.std.proofs.lemmas.List.{append-nil, get_or-set_other, get_or-set_same, length-set}
+use Rattle.std.specs.List.{filter}
+use Rattle.std.specs.List.Sorted.{IsNonDecreasingBy}
+use Rattle.std.specs.Option.{option_to_list}
+use Rattle.std.proofs.lemmas.Bool.{cases_eq, eq-eqb, ne_eqb, eqb-true, eqb-false, leb-false}
+use Rattle.std.proofs.lemmas.List.{append-nil, length-append, map-append}
+use Rattle.std.proofs.lemmas.List.Elements.{All-append, All-cons, All-nil, All-take, filter-append}
+use Rattle.std.proofs.lemmas.List.Sorted.{IsNonDecreasingBy-push, IsNonDecreasingBy-take}
+use Rattle.std.proofs.Math.Seq.{take-append_seam}
 use Rattle.std.specs.declared.alloc.AllocError.{AllocError}
-use Rattle.fis_view.specs.Frames.{Stamped, marked}
+use Rattle.fis_view.specs.Frames.{Stamped}
+use Rattle.fis_view.specs.declared.frame.Stamp.{Stamp}
+use Rattle.fis_view.specs.declared.build.D2hFields.{D2hFields}
+use Rattle.pm_registers.specs.RegisterMap as map
+use Rattle.pm_control.specs.Answers.{IsAnswer, answer_to}
 use Rattle.pm_ports.specs.Port as port
 use Rattle.pm_ports.specs.declared.port.Offered.{Offered}
 use Rattle.pm_ports.specs.declared.port.Offered.TheVariants as offered
-use Rattle.pm_registers.specs.RegisterMap as map
-use Rattle.pm_control.specs.Answers.{IsAnswer, IsNotice, answer_to}
-use Rattle.fis_view.specs.declared.build.D2hFields.{D2hFields}
+use Rattle.pm_ports.specs.declared.port.PortError.{PortError}
+use Rattle.pm_ports.specs.declared.port.PortError.TheVariants.{AlreadyThere, OldConnection}
 use Rattle.multiplier.specs.Arbiter.{control_port}
-use Rattle.multiplier.specs.State.{PmState, port_at, with_port, held, rising, falling, arriving, next_place, control_stamp, counted, pm_port, passes_to, opening, forwards}
-use Rattle.multiplier.specs.declared.given.Source.TheVariants as source
+use Rattle.multiplier.specs.State.{PmState, IsSound, port_at, with_port, settled, stamped, rising, falling, control_stamp, counted, pm_port, passes_to, is_answer, is_notice}
+use Rattle.multiplier.specs.Rules.{FromHostRule, FromDeviceRule, CameRule, NextUpRule, NextDownRule, ToControl, ToDevice, ToNobody, CanPutBackUp, UndoesUp, with_device}
 use Rattle.multiplier.specs.declared.multiplier.Passed.{Passed}
 use Rattle.multiplier.specs.declared.multiplier.Passed.TheVariants as passed
 use Rattle.multiplier.specs.declared.multiplier.PmRefusal.{PmRefusal}
-use Rattle.multiplier.specs.Rules.{FromHostRule, FromDeviceRule, NextUpRule, PlaceGives, ControlGives, PortGives, ToControl, ToDevice, ToNobody, with_device, held_source, given_from}
-use Rattle.multiplier.specs.Passing.{Call, FromHost, FromDevice, Came, NextUp, PutsBackUp, NextDown, PutsBackDown, Does, DoesAll, came_by, left_by, came_in, left, of_conn, held_of, passed_by, given_by, passed_down, given_down, bytes_of, falling_to}
+use Rattle.multiplier.specs.Passing.{Call, FromHost, FromDevice, Came, NextUp, PutBackUp, NextDown, PutBackDown, Does, DoesAll, Past, Suits, EndsWith, past_after, all_past, but_last, made_by, of_conn, held_of, of_port, came_by, came_in, NeverFall, to_port, falls_to, passed_by, passed_down, present_after, all_present, answers, answer_by, answers_made, AreNumbered, PassInOrder}
 use Rattle.multiplier.proofs.ArbiterLemmas.{different}
-use Rattle.multiplier.proofs.PutBack.{has_down, has_up, gives_held}
-
--- ---- the ports of a multiplier
-
-abbrev Ports : Type 0
-Ports = List port.PortState
-
-abbrev at : Ports → ℕ → port.PortState
-at ports n = slice_index_or ports n port.empty_port
-
-other_port : (ports : Ports) (m n : ℕ) (p : port.PortState) → n ≢ m → at (slice_set ports m p) n ≡ at ports n
-other_port ports m n p h = get_or-set_other ports m n p port.empty_port h
-
-this_port : (ports : Ports) (m : ℕ) (p : port.PortState) → m < length ports → at (slice_set ports m p) m ≡ p
-this_port ports m p lt = get_or-set_same ports m p port.empty_port lt
-
--- a part of a port that a write leaves is as before at each port
-pub kept_part : {A : Type 0} (part : port.PortState → A) (ports : Ports) (m : ℕ) (p : port.PortState) → part p ≡ part (at ports m) → (n : ℕ) → part (at (slice_set ports m p) n) ≡ part (at ports n)
-kept_part part [] m p h n = refl
-kept_part part (q ∷ ports) zero p h zero = h
-kept_part part (q ∷ ports) zero p h (suc n) = refl
-kept_part part (q ∷ ports) (suc m) p h zero = refl
-kept_part part (q ∷ ports) (suc m) p h (suc n) = kept_part part ports m p h n
-
-abbrev up_of : port.PortState → Option Stamped
-up_of p = p.up
-
-abbrev down_of : port.PortState → Option Stamped
-down_of p = p.down
-
--- ---- what holds of a multiplier after any calls
-
-pub record IsSound (pm : PmState) : Type 0 where
-  pub room : length pm.ports ≡ 15
-  -- a frame that a port holds is stamped with the port, and an answer with the control port
-  pub held : (n : ℕ) (frame : Stamped) → (port_at pm n).up ≡ Some frame → frame.stamp.port ≡ n
-  pub answer : (frame : Stamped) → pm.answer ≡ Some frame → frame.stamp.port ≡ control_port
+use Rattle.multiplier.proofs.Ports.{Ports, at, kept_part, this_port, other_port, has_down}
+use Rattle.multiplier.proofs.Sound.{answered_sound, answer_is, came_sound, down_sound, kept_sound, rest_sound, settled_sound}
+use Rattle.multiplier.proofs.GiveLemmas.{gives, given_sound, down_rule_sound}
+use Rattle.multiplier.proofs.UpSteps.{IsUpStep, up_step}
 
 -- One call: what it gave, and then what waits, is what waited and then what it took in.
-pub record IsInOrder (old : PmState) (call : Call) (new : PmState) : Type 0 where
-  pub up : (n c : ℕ) → n < control_port → left_by n c call ++ held_of n c new ≡ held_of n c old ++ came_by n c call
-  pub down : (n : ℕ) → given_by n call ++ falling_to n new ≡ falling_to n old ++ passed_by n call
+pub record IsStep (past : Past) (old : PmState) (call : Call) (new : PmState) : Type 0 where
   pub sound : IsSound new
+  pub up : (n c : ℕ) → n < 15 → of_conn n c (past_after past call).up ++ held_of n c new ≡ of_conn n c past.up ++ held_of n c old ++ came_by n c call
+  pub connections : (n : ℕ) → n < 15 → NeverFall n past.up (port_at old n).last → NeverFall n (past_after past call).up (port_at new n).last
+  pub last : (n : ℕ) → (port_at old n).last ≤ (port_at new n).last
+  pub present : (n : ℕ) → n < 15 → (port_at new n).present ≡ present_after n (port_at old n).present call
+  pub down : (n : ℕ) → n < 15 → to_port n (past_after past call).down ++ falls_to n new ≡ to_port n past.down ++ falls_to n old ++ passed_by n (port_at old n).present call
+  pub answered : answers (past_after past call).up ++ option_to_list new.answer ≡ answers past.up ++ option_to_list old.answer ++ answer_by call
+  pub numbers : (first : ℕ) → AreNumbered first past.made old.number → AreNumbered first (past_after past call).made new.number
+
+-- ---- what stays
+
+module _ (past : Past) (old new : PmState) where
+  keep_up : (n c : ℕ) → (port_at new n).up ≡ (port_at old n).up → of_conn n c past.up ++ held_of n c new ≡ of_conn n c past.up ++ held_of n c old ++ []
+  keep_up n c e =
+      ap (λ (o : Option Stamped). of_conn n c past.up ++ of_conn n c (map (rising n) (option_to_list o))) e
+      ∙ sym (append-nil (of_conn n c past.up ++ held_of n c old))
+
+  keep_down : (n : ℕ) → (port_at new n).down ≡ (port_at old n).down → to_port n past.down ++ falls_to n new ≡ to_port n past.down ++ falls_to n old ++ []
+  keep_down n e = ap (λ (o : Option Stamped). to_port n past.down ++ option_to_list o) e ∙ sym (append-nil (to_port n past.down ++ falls_to n old))
+
+  keep_connections : (n : ℕ) → (port_at new n).last ≡ (port_at old n).last → NeverFall n past.up (port_at old n).last → NeverFall n past.up (port_at new n).last
+  keep_connections n e h = subst (λ (k : ℕ). NeverFall n past.up k) (sym e) h
+
+  keep_last : (n : ℕ) → (port_at new n).last ≡ (port_at old n).last → (port_at old n).last ≤ (port_at new n).last
+  keep_last n e = omega arith
+
+  keep_answer : new.answer ≡ old.answer → answers past.up ++ option_to_list new.answer ≡ answers past.up ++ option_to_list old.answer ++ []
+  keep_answer e = ap (λ (o : Option Stamped). answers past.up ++ option_to_list o) e ∙ sym (append-nil (answers past.up ++ option_to_list old.answer))
+
+  keep_numbers : new.number ≡ old.number → (first : ℕ) → AreNumbered first past.made old.number → AreNumbered first past.made new.number
+  keep_numbers e first h = subst (λ (k : ℕ). AreNumbered first past.made k) (sym e) h
 
 -- a call that gives nothing and takes nothing in
-record IsQuiet (call : Call) : Type 0 where
-  left : (n c : ℕ) → n < control_port → left_by n c call ≡ []
+record IsQuiet (past : Past) (old : PmState) (call : Call) : Type 0 where
+  after : past_after past call ≡ past
   came : (n c : ℕ) → came_by n c call ≡ []
-  given : (n : ℕ) → given_by n call ≡ []
-  passed : (n : ℕ) → passed_by n call ≡ []
+  passed : (n : ℕ) → passed_by n (port_at old n).present call ≡ []
+  present : (n : ℕ) → present_after n (port_at old n).present call ≡ (port_at old n).present
+  answer : answer_by call ≡ []
 
--- where it leaves the ports too
-module _ (old : PmState) (call : Call) (new : PmState) (sound : IsSound old) (ports : new.ports ≡ old.ports) (quiet : IsQuiet call) where
-  still : ((frame : Stamped) → new.answer ≡ Some frame → frame.stamp.port ≡ control_port) → IsInOrder old call new
-  still answer = record {
-    up = λ n c lt. rw (quiet.left n c lt, quiet.came n c) (ap (λ ps. of_conn n c (at ps n).up) ports ∙ sym (append-nil (held_of n c old)));
-    down = λ n. rw (quiet.given n, quiet.passed n) (ap (λ ps. bytes_of (at ps n).down) ports ∙ sym (append-nil (falling_to n old)));
-    sound = record {
-      room = ap length ports ∙ sound.room;
-      held = λ n frame is. sound.held n frame (sym (ap (λ ps. (at ps n).up) ports) ∙ is);
-      answer = answer;
-    };
-  }
+-- and leaves the ports, the answer and the number
+quiet : (past : Past) (old : PmState) (call : Call) (new : PmState) → IsQuiet past old call → IsSound new → new.ports ≡ old.ports → new.answer ≡ old.answer → new.number ≡ old.number → IsStep past old call new
+quiet past old call new is sound ports answer number =
+    let last : (n : ℕ) → (port_at new n).last ≡ (port_at old n).last = λ n. ap (λ (ps : Ports). (at ps n).last) ports in
+    record {
+      sound = sound;
+      up = λ n c lt. rw (is.after, is.came n c) (keep_up past old new n c (ap (λ (ps : Ports). (at ps n).up) ports));
+      connections = λ n lt h. rw is.after (keep_connections past old new n (last n) h);
+      last = λ n. keep_last past old new n (last n);
+      present = λ n lt. ap (λ (ps : Ports). (at ps n).present) ports ∙ sym (is.present n);
+      down = λ n lt. rw (is.after, is.passed n) (keep_down past old new n (ap (λ (ps : Ports). (at ps n).down) ports));
+      answered = rw (is.after, is.answer) (keep_answer past old new answer);
+      numbers = λ first h. rw is.after (keep_numbers past old new number first h);
+    }
 
--- nothing changes
-same : (old : PmState) (call : Call) (new : PmState) → IsSound old → IsQuiet call → new ≡ old → IsInOrder old call new
-same old call new sound quiet e = still old call new sound (ap (λ pm. pm.ports) e) quiet (λ frame is. sound.answer frame (sym (ap (λ pm. pm.answer) e) ∙ is))
+same : (past : Past) (old : PmState) (call : Call) (new : PmState) → IsQuiet past old call → IsSound old → new ≡ old → IsStep past old call new
+same past old call new is sound e =
+    quiet past old call new is (subst IsSound (sym e) sound) (ap (λ (pm : PmState). pm.ports) e) (ap (λ (pm : PmState). pm.answer) e) (ap (λ (pm : PmState). pm.number) e)
+
+-- ---- running numbers
+
+pub numbered_push : (first : ℕ) (xs : List Stamped) (next : ℕ) (frame : Stamped) → AreNumbered first xs next → frame.stamp.number ≡ next → AreNumbered first (xs ++ frame ∷ []) (counted next)
+numbered_push first [] next frame is e = (e ∙ is, ap counted is)
+numbered_push first (x ∷ xs) next frame is e = (is.0, numbered_push (counted first) xs next frame is.1 e)
+
+numbered_pop : (first : ℕ) (xs : List Stamped) (next : ℕ) (frame : Stamped) → AreNumbered first (xs ++ frame ∷ []) next → AreNumbered first xs frame.stamp.number
+numbered_pop first [] next frame is = is.0
+numbered_pop first (x ∷ xs) next frame is = (is.0, numbered_pop (counted first) xs next frame is.1)
+
+numbered_answer : (first : ℕ) (xs : List Stamped) (fields : Option D2hFields) (stamp : Stamp) (answer : Option Stamped) → IsAnswer fields stamp answer → AreNumbered first xs stamp.number
+    → AreNumbered first (xs ++ option_to_list answer) (if is_some answer then counted stamp.number else stamp.number)
+numbered_answer first xs fields stamp None is h = subst (λ (ys : List Stamped). AreNumbered first ys stamp.number) (sym (append-nil xs)) h
+numbered_answer first xs None stamp (Some frame) is h = absurd is
+numbered_answer first xs (Some fields) stamp (Some frame) is h = numbered_push first xs stamp.number frame h (ap (λ (s : Stamp). s.number) is.1)
 
 -- ---- a frame of the host
 
-quiet_host : (frame : Stamped) (result : Result Passed (Stamped × PmRefusal)) → ((n : ℕ) → passed_by n (FromHost frame result) ≡ []) → IsQuiet (FromHost frame result)
-quiet_host frame result none = record { left = λ n c lt. refl; came = λ n c. refl; given = λ n. refl; passed = none }
+module _ (past : Past) (old : PmState) (frame : Stamped) (result : Result Passed (Stamped × PmRefusal)) where
+  quiet_host : ((n : ℕ) → passed_by n (port_at old n).present (FromHost frame result None) ≡ []) → IsQuiet past old (FromHost frame result None)
+  quiet_host none = record {
+    after = ap (λ (xs : List Stamped). let p : Past = record past { made = xs } in p) (append-nil past.made);
+    came = λ n c. refl;
+    passed = none;
+    present = λ n. refl;
+    answer = refl;
+  }
 
-answer_stamped : (fields : Option D2hFields) (number : ℕ) (answer : Option Stamped) → IsAnswer fields (control_stamp number) answer → (frame : Stamped) → answer ≡ Some frame → frame.stamp.port ≡ control_port
-answer_stamped None number None is frame e = absurd cc
-answer_stamped None number (Some f) is frame e = absurd is
-answer_stamped (Some fields) number None is frame e = absurd is
-answer_stamped (Some fields) number (Some f) is frame e = ap (λ s. s.port) (sym (ap (λ (g : Stamped). g.stamp) (same_Some f frame e)) ∙ is.1)
+control_step : (past : Past) (old : PmState) (frame : Stamped) (result : Result Passed (Stamped × PmRefusal)) (new : PmState) → IsSound old → ToControl old frame result new
+    → IsStep past old (FromHost frame result (made_by result new)) new
+control_step past old frame (Ok passed.Control) new sound rule =
+    let e = rule.2 in
+    let ports : new.ports ≡ old.ports = ap (λ (pm : PmState). pm.ports) e in
+    let last : (n : ℕ) → (port_at new n).last ≡ (port_at old n).last = λ n. ap (λ (ps : Ports). (at ps n).last) ports in
+    record {
+      sound = subst IsSound (sym e) (answered_sound old _ _ new.answer _ None frame.bytes sound refl (answer_is (answer_to old.resetting old.registers frame.bytes) (control_stamp old) refl new.answer rule.1) tt);
+      up = λ n c lt. keep_up past old new n c (ap (λ (ps : Ports). (at ps n).up) ports);
+      connections = λ n lt h. keep_connections past old new n (last n) h;
+      last = λ n. keep_last past old new n (last n);
+      present = λ n lt. ap (λ (ps : Ports). (at ps n).present) ports;
+      down = λ n lt. keep_down past old new n (ap (λ (ps : Ports). (at ps n).down) ports);
+      answered = ap (λ (xs : List Stamped). xs ++ option_to_list new.answer) (sym (append-nil (answers past.up)) ∙ ap (λ (o : Option Stamped). answers past.up ++ option_to_list o) (sym rule.0));
+      numbers = λ first h. subst (λ (k : ℕ). AreNumbered first (past.made ++ option_to_list new.answer) k) (sym (ap (λ (pm : PmState). pm.number) e))
+          (numbered_answer first past.made (answer_to old.resetting old.registers frame.bytes) (control_stamp old) new.answer rule.1 h);
+    }
+control_step past old frame (Err given) new sound rule = same past old (FromHost frame (Err given) None) new (quiet_host past old frame (Err given) (λ n. refl)) sound rule.2
+control_step past old frame (Ok (passed.Down m)) new sound rule = absurd rule
+control_step past old frame (Ok passed.Dropped) new sound rule = absurd rule
 
-control_in_order : (old : PmState) (frame : Stamped) (result : Result Passed (Stamped × PmRefusal)) (new : PmState) → IsSound old → ToControl old frame result new → IsInOrder old (FromHost frame result) new
-control_in_order old frame (Ok passed.Control) new sound rule =
-    still old (FromHost frame (Ok passed.Control)) new sound (ap (λ pm. pm.ports) rule.2) (quiet_host frame (Ok passed.Control) (λ n. refl))
-    (answer_stamped (answer_to old.resetting old.registers frame.bytes) old.number new.answer rule.1)
-control_in_order old frame (Err given) new sound rule = same old (FromHost frame (Err given)) new sound (quiet_host frame (Err given) (λ n. refl)) rule.2
-control_in_order old frame (Ok (passed.Down m)) new sound rule = absurd rule
-control_in_order old frame (Ok passed.Dropped) new sound rule = absurd rule
-
-module _ (old : PmState) (m conn : ℕ) (frame : Stamped) (new : PmState) (sound : IsSound old) (lt : m < control_port) where
+module _ (past : Past) (old : PmState) (m conn : ℕ) (frame : Stamped) (new : PmState) (sound : IsSound old) (lt : m < 15) (there : (port_at old m).present ≡ Some conn) where
   abbrev into : port.PortState
   into = port.with_down (port_at old m) (Some (falling conn frame))
 
-  passes : (port_at old m).down ≡ None → new ≡ with_port old m into → (n : ℕ) → falling_to n new ≡ falling_to n old ++ passed_by n (FromHost frame (Ok (passed.Down m)))
-  passes empty e n =
-      elim (cases_eq n m) [
-        | inl here ↦
-            let test : eqb m m ≡ true = eq-eqb m m refl in
-            let there : m < length old.ports = let r = sound.room in omega arith in
-            rw (here, test) (ap (λ (pm : PmState). falling_to m pm) e ∙ ap (λ p. bytes_of (down_of p)) (this_port old.ports m into there) ∙ ap (λ o. bytes_of o ++ marked frame.bytes 0 ∷ []) (sym empty))
-        | inr other ↦
-            let test : eqb m n ≡ false = ne_eqb m n (λ h. other (sym h)) in
-            rw test (ap (λ (pm : PmState). falling_to n pm) e ∙ ap (λ p. bytes_of (down_of p)) (other_port old.ports m n into other) ∙ sym (append-nil (falling_to n old)))
-      ]
+  module _ (empty : (port_at old m).down ≡ None) (e : new ≡ with_port old m into) where
+    falls_here : falls_to m new ≡ falling conn frame ∷ []
+    falls_here =
+        let room : length old.ports ≡ 15 = sound.room in
+        ap (λ (pm : PmState). falls_to m pm) e ∙ ap (λ (p : port.PortState). option_to_list p.down) (this_port old.ports m into (omega arith))
 
-  down_in_order : (port_at old m).down ≡ None → new ≡ with_port old m into → IsInOrder old (FromHost frame (Ok (passed.Down m))) new
-  down_in_order empty e = record {
-    up = λ n c small. ap (λ (pm : PmState). held_of n c pm) e ∙ ap (of_conn n c) (kept_part up_of old.ports m into refl n) ∙ sym (append-nil (held_of n c old));
-    down = passes empty e;
-    sound = record {
-      room = ap (λ (pm : PmState). length pm.ports) e ∙ length-set old.ports m into ∙ sound.room;
-      held = λ n f is. sound.held n f (sym (kept_part up_of old.ports m into refl n) ∙ sym (ap (λ (pm : PmState). (port_at pm n).up) e) ∙ is);
-      answer = λ f is. sound.answer f (sym (ap (λ (pm : PmState). pm.answer) e) ∙ is);
-    };
-  }
+    passes : (n : ℕ) → to_port n past.down ++ falls_to n new ≡ to_port n past.down ++ falls_to n old ++ passed_by n (port_at old n).present (FromHost frame (Ok (passed.Down m)) None)
+    passes n =
+        elim (cases_eq n m) [
+          | inl here ↦ subst (λ (k : ℕ). to_port k past.down ++ falls_to k new ≡ to_port k past.down ++ falls_to k old ++ passed_by k (port_at old k).present (FromHost frame (Ok (passed.Down m)) None)) (sym here)
+              (rw (eq-eqb m m refl, there, empty) (ap (λ (xs : List Stamped). to_port m past.down ++ xs) falls_here ∙ ap (λ (xs : List Stamped). xs ++ falling conn frame ∷ []) (sym (append-nil (to_port m past.down)))))
+          | inr other ↦ rw (ne_eqb m n (λ h. other (sym h))) (keep_down past old new n
+              (ap (λ (pm : PmState). (port_at pm n).down) e ∙ ap (λ (p : port.PortState). p.down) (other_port old.ports m n into other)))
+        ]
 
-device_in_order : (old : PmState) (n conn : ℕ) (frame : Stamped) (result : Result Passed (Stamped × PmRefusal)) (new : PmState) → IsSound old → n < control_port → ToDevice old n conn frame result new → IsInOrder old (FromHost frame result) new
-device_in_order old n conn frame (Ok (passed.Down m)) new sound lt rule =
-    rw rule.0 (down_in_order old n conn frame new sound lt rule.1 rule.2)
-device_in_order old n conn frame (Err given) new sound lt rule = same old (FromHost frame (Err given)) new sound (quiet_host frame (Err given) (λ n. refl)) rule.2
-device_in_order old n conn frame (Ok passed.Control) new sound lt rule = absurd rule
-device_in_order old n conn frame (Ok passed.Dropped) new sound lt rule = absurd rule
+    pub down_step : IsStep past old (FromHost frame (Ok (passed.Down m)) None) new
+    down_step =
+        let last : (n : ℕ) → (port_at new n).last ≡ (port_at old n).last =
+        λ n. ap (λ (pm : PmState). (port_at pm n).last) e ∙ kept_part (λ (p : port.PortState). p.last) old.ports m into refl n in
+        record {
+          sound = subst IsSound (sym e) (down_sound old m (Some (falling conn frame)) sound);
+          up = λ n c small. keep_up past old new n c (ap (λ (pm : PmState). (port_at pm n).up) e ∙ kept_part (λ (p : port.PortState). p.up) old.ports m into refl n);
+          connections = λ n small h. keep_connections past old new n (last n) h;
+          last = λ n. keep_last past old new n (last n);
+          present = λ n small. ap (λ (pm : PmState). (port_at pm n).present) e ∙ kept_part (λ (p : port.PortState). p.present) old.ports m into refl n;
+          down = λ n small. passes n;
+          answered = keep_answer past old new (ap (λ (pm : PmState). pm.answer) e);
+          numbers = λ first h. subst (λ (xs : List Stamped). AreNumbered first xs new.number) (sym (append-nil past.made)) (keep_numbers past old new (ap (λ (pm : PmState). pm.number) e) first h);
+        }
 
-nobody_in_order : (old : PmState) (frame : Stamped) (result : Result Passed (Stamped × PmRefusal)) (new : PmState) → IsSound old → ToNobody old result new → IsInOrder old (FromHost frame result) new
-nobody_in_order old frame (Ok passed.Dropped) new sound rule =
-    still old (FromHost frame (Ok passed.Dropped)) new sound (ap (λ (pm : PmState). pm.ports) rule) (quiet_host frame (Ok passed.Dropped) (λ n. refl))
-    (λ f is. sound.answer f (sym (ap (λ (pm : PmState). pm.answer) rule) ∙ is))
-nobody_in_order old frame (Ok passed.Control) new sound rule = absurd rule
-nobody_in_order old frame (Ok (passed.Down m)) new sound rule = absurd rule
-nobody_in_order old frame (Err given) new sound rule = absurd rule
+device_step : (past : Past) (old : PmState) (n conn : ℕ) (frame : Stamped) (result : Result Passed (Stamped × PmRefusal)) (new : PmState) → IsSound old → n < 15
+    → (port_at old n).present ≡ Some conn → ToDevice old n conn frame result new → IsStep past old (FromHost frame result (made_by result new)) new
+device_step past old n conn frame (Ok (passed.Down m)) new sound lt there rule =
+    subst (λ (k : ℕ). IsStep past old (FromHost frame (Ok (passed.Down k)) None) new) (sym rule.0) (down_step past old n conn frame new sound lt there rule.1 rule.2)
+device_step past old n conn frame (Err given) new sound lt there rule = same past old (FromHost frame (Err given) None) new (quiet_host past old frame (Err given) (λ k. refl)) sound rule.2
+device_step past old n conn frame (Ok passed.Control) new sound lt there rule = absurd rule
+device_step past old n conn frame (Ok passed.Dropped) new sound lt there rule = absurd rule
 
-host_in_order : (old : PmState) (frame : Stamped) (result : Result Passed (Stamped × PmRefusal)) (new : PmState) → IsSound old → FromHostRule old frame result new → IsInOrder old (FromHost frame result) new
-host_in_order old frame result new sound rule = by_port (pm_port frame == control_port) refl rule
-  where
-    by_device : (to : Option ℕ) → pm_port frame < control_port → MatchOption to (ToNobody old result new) (λ conn. ToDevice old (pm_port frame) conn frame result new) → IsInOrder old (FromHost frame result) new
-    by_device None lt rule = nobody_in_order old frame result new sound rule
-    by_device (Some conn) lt rule = device_in_order old (pm_port frame) conn frame result new sound lt rule
+nobody_step : (past : Past) (old : PmState) (frame : Stamped) (result : Result Passed (Stamped × PmRefusal)) (new : PmState) → IsSound old → ToNobody old result new
+    → IsStep past old (FromHost frame result (made_by result new)) new
+nobody_step past old frame (Ok passed.Dropped) new sound rule =
+    quiet past old (FromHost frame (Ok passed.Dropped) None) new (quiet_host past old frame (Ok passed.Dropped) (λ n. refl))
+    (subst IsSound (sym rule) (rest_sound old old.answer old.served old.number (counted old.dropped) old.resetting None sound sound.answer sound.served tt))
+    (ap (λ (pm : PmState). pm.ports) rule) (ap (λ (pm : PmState). pm.answer) rule) (ap (λ (pm : PmState). pm.number) rule)
+nobody_step past old frame (Ok passed.Control) new sound rule = absurd rule
+nobody_step past old frame (Ok (passed.Down m)) new sound rule = absurd rule
+nobody_step past old frame (Err given) new sound rule = absurd rule
 
-    by_port : (b : Bool) → (pm_port frame == control_port) ≡ b → MatchBool b (ToControl old frame result new) (MatchOption (passes_to old (pm_port frame)) (ToNobody old result new) (λ conn. ToDevice old (pm_port frame) conn frame result new)) → IsInOrder old (FromHost frame result) new
-    by_port true is rule = control_in_order old frame result new sound rule
-    by_port false is rule =
-        let other : pm_port frame ≢ control_port = eqb-false (pm_port frame) control_port is in
-        by_device (passes_to old (pm_port frame)) (different (pm_port frame) control_port (omega arith) other) rule
+-- the connection that a frame passes to is present
+passes_present : (forwards : Bool) (present : Option ℕ) (conn : ℕ) → (if forwards then present else None) ≡ Some conn → present ≡ Some conn
+passes_present true present conn e = e
+passes_present false present conn e = absurd cc
+
+module _ (past : Past) (old : PmState) (frame : Stamped) (result : Result Passed (Stamped × PmRefusal)) (new : PmState) (sound : IsSound old) where
+  by_device : (to : Option ℕ) → passes_to old (pm_port frame) ≡ to → pm_port frame < 15 → MatchOption to (ToNobody old result new) (λ conn. ToDevice old (pm_port frame) conn frame result new)
+      → IsStep past old (FromHost frame result (made_by result new)) new
+  by_device None is lt rule = nobody_step past old frame result new sound rule
+  by_device (Some conn) is lt rule = device_step past old (pm_port frame) conn frame result new sound lt (passes_present (map.forwards old.registers (pm_port frame)) (port_at old (pm_port frame)).present conn is) rule
+
+  by_port : (b : Bool) → (pm_port frame == control_port) ≡ b
+      → MatchBool b (ToControl old frame result new) (MatchOption (passes_to old (pm_port frame)) (ToNobody old result new) (λ conn. ToDevice old (pm_port frame) conn frame result new))
+      → IsStep past old (FromHost frame result (made_by result new)) new
+  by_port true is rule = control_step past old frame result new sound rule
+  by_port false is rule =
+      let other : pm_port frame ≢ control_port = eqb-false (pm_port frame) control_port is in
+      by_device (passes_to old (pm_port frame)) refl (different (pm_port frame) control_port (omega arith) other) rule
+
+  host_step : FromHostRule old frame result new → IsStep past old (FromHost frame result (made_by result new)) new
+  host_step rule = by_port (pm_port frame == control_port) refl rule
 
 -- ---- a frame of a device
 
-quiet_device : (m : ℕ) (frame : Stamped) (result : Result Offered Stamped) → ((n c : ℕ) → came_by n c (FromDevice m frame result) ≡ []) → IsQuiet (FromDevice m frame result)
-quiet_device m frame result none = record { left = λ n c lt. refl; came = none; given = λ n. refl; passed = λ n. refl }
+module _ (past : Past) (old : PmState) (m : ℕ) (frame : Stamped) where
+  quiet_device : (result : Result Offered Stamped) → ((n c : ℕ) → came_by n c (FromDevice m frame result) ≡ []) → IsQuiet past old (FromDevice m frame result)
+  quiet_device result none = record { after = refl; came = none; passed = λ n. refl; present = λ n. refl; answer = refl }
 
-module _ (old : PmState) (m : ℕ) (frame : Stamped) (new : PmState) (sound : IsSound old) (lt : m < control_port) (empty : (port_at old m).up ≡ None) where
+module _ (past : Past) (old : PmState) (m : ℕ) (frame : Stamped) (new : PmState) (sound : IsSound old) (lt : m < 15) (empty : (port_at old m).up ≡ None)
+    (e : new ≡ with_port old m (port.with_up (port_at old m) (Some (stamped m frame)))) where
   abbrev holding : port.PortState
-  holding = port.with_up (port_at old m) (Some (arriving m frame))
+  holding = port.with_up (port_at old m) (Some (stamped m frame))
 
-  module _ (e : new ≡ with_port old m holding) where
-    there : m < length old.ports
-    there = let r = sound.room in omega arith
+  held_here : (c : ℕ) → held_of m c new ≡ of_conn m c (rising m frame ∷ [])
+  held_here c =
+      let room : length old.ports ≡ 15 = sound.room in
+      ap (λ (pm : PmState). held_of m c pm) e
+      ∙ ap (λ (p : port.PortState). of_conn m c (map (rising m) (option_to_list p.up))) (this_port old.ports m holding (omega arith))
 
-    now_here : (port_at new m).up ≡ Some (arriving m frame)
-    now_here = ap (λ (pm : PmState). (port_at pm m).up) e ∙ ap up_of (this_port old.ports m holding there)
+  comes : (n c : ℕ) → of_conn n c past.up ++ held_of n c new ≡ of_conn n c past.up ++ held_of n c old ++ came_by n c (FromDevice m frame (Ok offered.Held))
+  comes n c =
+      elim (cases_eq n m) [
+        | inl here ↦ subst (λ (k : ℕ). of_conn k c past.up ++ held_of k c new ≡ of_conn k c past.up ++ held_of k c old ++ came_by k c (FromDevice m frame (Ok offered.Held))) (sym here)
+            (ap (λ (xs : List Stamped). of_conn m c past.up ++ xs) (held_here c)
+            ∙ ap (λ (xs : List Stamped). xs ++ of_conn m c (rising m frame ∷ [])) (sym (append-nil (of_conn m c past.up)))
+            ∙ ap (λ (o : Option Stamped). of_conn m c past.up ++ of_conn m c (map (rising m) (option_to_list o)) ++ of_conn m c (rising m frame ∷ [])) (sym empty)
+            ∙ ap (λ (b : Bool). of_conn m c past.up ++ held_of m c old ++ (if b then of_conn m c (rising m frame ∷ []) else [])) (sym (eq-eqb m m refl)))
+        | inr other ↦ rw (ne_eqb m n (λ h. other (sym h))) (keep_up past old new n c
+            (ap (λ (pm : PmState). (port_at pm n).up) e ∙ ap (λ (p : port.PortState). p.up) (other_port old.ports m n holding other)))
+      ]
 
-    now_elsewhere : (n : ℕ) → n ≢ m → (port_at new n).up ≡ (port_at old n).up
-    now_elsewhere n other = ap (λ (pm : PmState). (port_at pm n).up) e ∙ ap up_of (other_port old.ports m n holding other)
+  kept_step : IsStep past old (FromDevice m frame (Ok offered.Held)) new
+  kept_step =
+      let last : (n : ℕ) → (port_at new n).last ≡ (port_at old n).last =
+      λ n. ap (λ (pm : PmState). (port_at pm n).last) e ∙ kept_part (λ (p : port.PortState). p.last) old.ports m holding refl n in
+      record {
+        sound = subst IsSound (sym e) (kept_sound old m frame sound);
+        up = λ n c small. comes n c;
+        connections = λ n small h. keep_connections past old new n (last n) h;
+        last = λ n. keep_last past old new n (last n);
+        present = λ n small. ap (λ (pm : PmState). (port_at pm n).present) e ∙ kept_part (λ (p : port.PortState). p.present) old.ports m holding refl n;
+        down = λ n small. keep_down past old new n (ap (λ (pm : PmState). (port_at pm n).down) e ∙ kept_part (λ (p : port.PortState). p.down) old.ports m holding refl n);
+        answered = keep_answer past old new (ap (λ (pm : PmState). pm.answer) e);
+        numbers = λ first h. keep_numbers past old new (ap (λ (pm : PmState). pm.number) e) first h;
+      }
 
-    comes : (n c : ℕ) → held_of n c new ≡ held_of n c old ++ came_by n c (FromDevice m frame (Ok offered.Held))
-    comes n c =
-        elim (cases_eq n m) [
-          | inl here ↦
-              let test : eqb m m ≡ true = eq-eqb m m refl in
-              rw (here, test) (ap (of_conn m c) now_here ∙ ap (λ o. of_conn m c o ++ of_conn m c (Some (arriving m frame))) (sym empty))
-          | inr other ↦
-              let test : eqb m n ≡ false = ne_eqb m n (λ h. other (sym h)) in
-              rw test (ap (of_conn n c) (now_elsewhere n other) ∙ sym (append-nil (held_of n c old)))
-        ]
+offer_step : (past : Past) (old : PmState) (m : ℕ) (frame : Stamped) (result : Result Offered Stamped) (new : PmState) → IsSound old → m < 15 → FromDeviceRule old m frame result new
+    → IsStep past old (FromDevice m frame result) new
+offer_step past old m frame (Ok offered.Held) new sound lt rule = kept_step past old m frame new sound lt rule.1 rule.2
+offer_step past old m frame (Ok offered.Dropped) new sound lt rule = same past old (FromDevice m frame (Ok offered.Dropped)) new (quiet_device past old m frame (Ok offered.Dropped) (λ n c. refl)) sound rule.1
+offer_step past old m frame (Err back) new sound lt rule = same past old (FromDevice m frame (Err back)) new (quiet_device past old m frame (Err back) (λ n c. refl)) sound rule.3
 
-    kept_in_order : IsInOrder old (FromDevice m frame (Ok offered.Held)) new
-    kept_in_order = record {
-      up = λ n c small. comes n c;
-      down = λ n. ap (λ (pm : PmState). falling_to n pm) e ∙ ap bytes_of (kept_part down_of old.ports m holding refl n) ∙ sym (append-nil (falling_to n old));
-      sound = record {
-        room = ap (λ (pm : PmState). length pm.ports) e ∙ length-set old.ports m holding ∙ sound.room;
-        held = λ n f is. elim (cases_eq n m) [
-          | inl here ↦ ap (λ (g : Stamped). g.stamp.port) (sym (same_Some (arriving m frame) f (sym now_here ∙ ap (λ k. (port_at new k).up) (sym here) ∙ is))) ∙ sym here
-          | inr other ↦ sound.held n f (sym (now_elsewhere n other) ∙ is)
-        ];
-        answer = λ f is. sound.answer f (sym (ap (λ (pm : PmState). pm.answer) e) ∙ is);
-      };
-    }
+-- ---- a device came
 
-offer_in_order : (old : PmState) (m : ℕ) (frame : Stamped) (result : Result Offered Stamped) (new : PmState) → IsSound old → m < control_port → FromDeviceRule old m frame result new → IsInOrder old (FromDevice m frame result) new
-offer_in_order old m frame (Ok offered.Held) new sound lt rule = kept_in_order old m frame new sound lt rule.1 rule.2
-offer_in_order old m frame (Ok offered.Dropped) new sound lt rule = same old (FromDevice m frame (Ok offered.Dropped)) new sound (quiet_device m frame (Ok offered.Dropped) (λ n c. refl)) rule.1
-offer_in_order old m frame (Err back) new sound lt rule = same old (FromDevice m frame (Err back)) new sound (quiet_device m frame (Err back) (λ n c. refl)) rule.3
+-- a connection that is not refused is above the last
+above_by : (there : Bool) (conn last : ℕ) → (if there then Some AlreadyThere else if nat_le conn last then Some OldConnection else None) ≡ None → last ≤ conn
+above_by true conn last e = absurd cc
+above_by false conn last e = by_order (nat_le conn last) refl e
+  where
+    by_order : (b : Bool) → nat_le conn last ≡ b → (let o : Option PortError = (if b then Some OldConnection else None) in o) ≡ None → last ≤ conn
+    by_order true is e = absurd cc
+    by_order false is e = let above : last < conn = leb-false conn last is in omega arith
 
--- a device came
-came_in_order : (old : PmState) (m conn : ℕ) (new : PmState) → IsSound old → new ≡ with_device old m conn → IsInOrder old (Came m conn) new
-came_in_order old m conn new sound e =
-    let p = port.with_connection (port_at old m) conn in
-    record {
-      up = λ n c lt. ap (λ (pm : PmState). held_of n c pm) e ∙ ap (of_conn n c) (kept_part up_of old.ports m p refl n) ∙ sym (append-nil (held_of n c old));
-      down = λ n. ap (λ (pm : PmState). falling_to n pm) e ∙ ap bytes_of (kept_part down_of old.ports m p refl n) ∙ sym (append-nil (falling_to n old));
-      sound = record {
-        room = ap (λ (pm : PmState). length pm.ports) e ∙ length-set old.ports m p ∙ sound.room;
-        held = λ n f is. sound.held n f (sym (kept_part up_of old.ports m p refl n) ∙ sym (ap (λ (pm : PmState). (port_at pm n).up) e) ∙ is);
-        answer = λ f is. sound.answer f (sym (ap (λ (pm : PmState). pm.answer) e) ∙ is);
-      };
-    }
+module _ (past : Past) (old : PmState) (m conn : ℕ) (new : PmState) (sound : IsSound old) (lt : m < 15) (accepted : port.came_refusal (port_at old m) conn ≡ None) (e : new ≡ with_device old m conn) where
+  abbrev met : port.PortState
+  met = port.with_connection (port_at old m) conn
+
+  met_here : port_at new m ≡ met
+  met_here = let room : length old.ports ≡ 15 = sound.room in ap (λ (pm : PmState). port_at pm m) e ∙ this_port old.ports m met (omega arith)
+
+  met_other : (n : ℕ) → n ≢ m → port_at new n ≡ port_at old n
+  met_other n other = ap (λ (pm : PmState). port_at pm n) e ∙ other_port old.ports m n met other
+
+  last_grows : (n : ℕ) → (port_at old n).last ≤ (port_at new n).last
+  last_grows n =
+      elim (cases_eq n m) [
+        | inl here ↦
+            let above : (port_at old m).last ≤ conn = above_by (is_some (port_at old m).present) conn (port_at old m).last accepted in
+            let now : (port_at new m).last ≡ conn = ap (λ (p : port.PortState). p.last) met_here in
+            subst (λ (k : ℕ). (port_at old k).last ≤ (port_at new k).last) (sym here) (omega arith)
+        | inr other ↦ keep_last past old new n (ap (λ (p : port.PortState). p.last) (met_other n other))
+      ]
+
+  grows : (n : ℕ) → NeverFall n past.up (port_at old n).last → NeverFall n past.up (port_at new n).last
+  grows n h = record {
+    rise = h.rise;
+    most = λ k d inside. let below : (get_or (of_port n past.up) k d).stamp.conn ≤ (port_at old n).last = h.most k d inside in let up : (port_at old n).last ≤ (port_at new n).last = last_grows n in omega arith;
+  }
+
+  met_present : (n : ℕ) → (port_at new n).present ≡ (if m == n then Some conn else (port_at old n).present)
+  met_present n =
+      elim (cases_eq n m) [
+        | inl here ↦ subst (λ (k : ℕ). (port_at new k).present ≡ (if m == k then Some conn else (port_at old k).present)) (sym here)
+            (rw (eq-eqb m m refl) (ap (λ (p : port.PortState). p.present) met_here))
+        | inr other ↦ rw (ne_eqb m n (λ h. other (sym h))) (ap (λ (p : port.PortState). p.present) (met_other n other))
+      ]
+
+  met_step : (done : Unit {0}) → IsStep past old (Came m conn (Ok done)) new
+  met_step done = record {
+    sound = subst IsSound (sym e) (came_sound old m conn sound lt accepted);
+    up = λ n c small. keep_up past old new n c (ap (λ (pm : PmState). (port_at pm n).up) e ∙ kept_part (λ (p : port.PortState). p.up) old.ports m met refl n);
+    connections = λ n small h. grows n h;
+    last = last_grows;
+    present = λ n small. met_present n;
+    down = λ n small. keep_down past old new n (ap (λ (pm : PmState). (port_at pm n).down) e ∙ kept_part (λ (p : port.PortState). p.down) old.ports m met refl n);
+    answered = keep_answer past old new (ap (λ (pm : PmState). pm.answer) e);
+    numbers = λ first h. keep_numbers past old new (ap (λ (pm : PmState). pm.number) e) first h;
+  }
+
+came_step : (past : Past) (old : PmState) (m conn : ℕ) (result : Result (Unit {0}) PortError) (new : PmState) → IsSound old → m < 15 → CameRule old m conn result new → IsStep past old (Came m conn result) new
+came_step past old m conn (Ok done) new sound lt rule = met_step past old m conn new sound lt (sym rule.0) rule.1 done
+came_step past old m conn (Err error) new sound lt rule =
+    same past old (Came m conn (Err error)) new (record { after = refl; came = λ n c. refl; passed = λ n. refl; present = λ n. refl; answer = refl }) sound rule.1
 
 -- ---- a frame for the host
 
--- a frame of the control port is of no device port
-quiet_up : (frame : Stamped) → frame.stamp.port ≡ control_port → IsQuiet (NextUp (Ok (Some frame)))
-quiet_up frame is = record {
-  left = λ n c lt. let test : eqb frame.stamp.port n ≡ false = ne_eqb frame.stamp.port n (λ h. absurd (omega arith)) in rw test;
-  came = λ n c. refl;
-  given = λ n. refl;
-  passed = λ n. refl;
-}
+-- a list that ends with a frame, and the same without it
+pub last_gone : {A : Type 0} (xs front : List A) (x : A) → xs ≡ front ++ x ∷ [] → but_last xs ≡ front
+last_gone xs front x e =
+    let long : length (front ++ x ∷ []) ≡ length front + 1 = length-append front (x ∷ []) in
+    let size : length xs ≡ length front + 1 = ap length e ∙ long in
+    let less : length xs - 1 ≡ length front = omega arith in
+    ap (λ (k : ℕ). take k xs) less ∙ ap (λ ys. take (length front) ys) e ∙ take-append_seam front (x ∷ [])
 
-control_gives_in_order : (old : PmState) (frame : Stamped) (new : PmState) (due : Bool) → IsSound old
-    → MatchBool due
-    (IsNotice true (control_stamp old.number) (Some frame)
-    × (new ≡ record old { registers = map.after_notice old.registers; number = counted old.number; served = control_port; given = given_from old source.Notice }))
-    ((old.answer ≡ Some frame) × (new ≡ record old { answer = None; served = control_port; given = given_from old source.Answer }))
-    → IsInOrder old (NextUp (Ok (Some frame))) new
-control_gives_in_order old frame new true sound h =
-    still old (NextUp (Ok (Some frame))) new sound (ap (λ (pm : PmState). pm.ports) h.1) (quiet_up frame (ap (λ s. s.port) h.0.1))
-    (λ f is. sound.answer f (sym (ap (λ (pm : PmState). pm.answer) h.1) ∙ is))
-control_gives_in_order old frame new false sound h =
-    still old (NextUp (Ok (Some frame))) new sound (ap (λ (pm : PmState). pm.ports) h.1) (quiet_up frame (sound.answer frame h.0))
-    (λ f is. let none : None ≡ Some f = sym (ap (λ (pm : PmState). pm.answer) h.1) ∙ is in absurd cc)
+-- a filter takes a frame that went up, and then what waits, for what waited before
+moved : (test : Stamped → Bool) (front : List Stamped) (frame : Stamped) (waits waited : List Stamped) → filter test (frame ∷ []) ++ waits ≡ waited → filter test (front ++ frame ∷ []) ++ waits ≡ filter test front ++ waited
+moved test front frame waits waited e =
+    ap (λ (xs : List Stamped). xs ++ waits) (filter-append test front (frame ∷ []))
+    ∙ append_assoc (filter test front) (filter test (frame ∷ [])) waits
+    ∙ ap (λ (xs : List Stamped). filter test front ++ xs) e
 
-module _ (old : PmState) (m : ℕ) (was : Stamped) (new : PmState) (sound : IsSound old) (holds : (port_at old m).up ≡ Some was) where
-  abbrev emptied : port.PortState
-  emptied = port.with_up (port_at old m) None
+-- connections, with one frame more or less
+abbrev conn_of : Stamped → ℕ
+conn_of frame = frame.stamp.conn
 
-  module _ (e : new ≡ record old { ports = (with_port old m emptied).ports; served = m; given = given_from old (held_source was) }) where
-    gone_here : (port_at new m).up ≡ None
-    gone_here = ap (λ (pm : PmState). (port_at pm m).up) e ∙ ap up_of (this_port old.ports m emptied (has_up old.ports m was holds))
+abbrev Rising : List Stamped → ℕ → Type 0
+Rising xs last = IsNonDecreasingBy conn_of xs × All (λ (frame : Stamped). frame.stamp.conn ≤ last) xs
 
-    gone_elsewhere : (n : ℕ) → n ≢ m → (port_at new n).up ≡ (port_at old n).up
-    gone_elsewhere n other = ap (λ (pm : PmState). (port_at pm n).up) e ∙ ap up_of (other_port old.ports m n emptied other)
+rising_push : (xs : List Stamped) (last : ℕ) (frame : Stamped) → Rising xs last → frame.stamp.conn ≡ last → Rising (xs ++ frame ∷ []) last
+rising_push xs last frame h is =
+    let P : Stamped → Type 0 = λ f. f.stamp.conn ≤ last in (
+      IsNonDecreasingBy-push conn_of xs frame h.0 (λ d some. let most : (get_or xs (length xs - 1) d).stamp.conn ≤ last = h.1 (length xs - 1) d (omega arith) in omega arith),
+      All-append P xs (frame ∷ []) h.1 (All-cons P frame [] (omega arith) (All-nil P)),
+    )
 
-    leaves : (n c : ℕ) → left_by n c (NextUp (Ok (Some (rising m was)))) ++ held_of n c new ≡ held_of n c old ++ []
-    leaves n c =
-        let port_is : was.stamp.port ≡ m = sound.held m was holds in
-        elim (cases_eq n m) [
-          | inl here ↦
-              let test : eqb was.stamp.port m ≡ true = eq-eqb was.stamp.port m port_is in
-              rw (here, test, gone_here, holds) refl
-          | inr other ↦
-              let test : eqb was.stamp.port n ≡ false = ne_eqb was.stamp.port n (λ h. other (sym h ∙ port_is)) in
-              rw test (ap (of_conn n c) (gone_elsewhere n other) ∙ sym (append-nil (held_of n c old)))
-        ]
+rising_pop : (xs ys : List Stamped) (last : ℕ) → Rising (xs ++ ys) last → Rising xs last
+rising_pop xs ys last h =
+    let P : Stamped → Type 0 = λ f. f.stamp.conn ≤ last in
+    subst (λ (zs : List Stamped). Rising zs last) (take-append_seam xs ys)
+    (IsNonDecreasingBy-take conn_of (length xs) (xs ++ ys) h.0, All-take P (length xs) (xs ++ ys) h.1)
 
-    port_gives_in_order : IsInOrder old (NextUp (Ok (Some (rising m was)))) new
-    port_gives_in_order = record {
-      up = λ n c lt. leaves n c;
-      down = λ n. ap (λ (pm : PmState). falling_to n pm) e ∙ ap bytes_of (kept_part down_of old.ports m emptied refl n) ∙ sym (append-nil (falling_to n old));
-      sound = record {
-        room = ap (λ (pm : PmState). length pm.ports) e ∙ length-set old.ports m emptied ∙ sound.room;
-        held = λ n f is. elim (cases_eq n m) [
-          | inl here ↦ let none : None ≡ Some f = sym gone_here ∙ ap (λ k. (port_at new k).up) (sym here) ∙ is in absurd cc
-          | inr other ↦ sound.held n f (sym (gone_elsewhere n other) ∙ is)
-        ];
-        answer = λ f is. sound.answer f (sym (ap (λ (pm : PmState). pm.answer) e) ∙ is);
-      };
-    }
+rising_more : (xs : List Stamped) (last : ℕ) (frame : Stamped) (b : Bool) → Rising xs last → (b ≡ true → frame.stamp.conn ≡ last) → Rising (xs ++ cond b (frame ∷ []) []) last
+rising_more xs last frame true h is = rising_push xs last frame h (is refl)
+rising_more xs last frame false h is = subst (λ (ys : List Stamped). Rising ys last) (sym (append-nil xs)) h
 
-up_in_order : (old : PmState) (result : Result (Option Stamped) AllocError) (new : PmState) → IsSound old → NextUpRule old result new → IsInOrder old (NextUp result) new
-up_in_order old (Ok None) new sound rule = same old (NextUp (Ok None)) new sound (record { left = λ n c lt. refl; came = λ n c. refl; given = λ n. refl; passed = λ n. refl }) rule.1
-up_in_order old (Err e) new sound rule = same old (NextUp (Err e)) new sound (record { left = λ n c lt. refl; came = λ n c. refl; given = λ n. refl; passed = λ n. refl }) rule.2
-up_in_order old (Ok (Some frame)) new sound rule = by_place (next_place old) rule
-  where
-    by_held : (m : ℕ) (was : Option Stamped) → held old m ≡ was → MatchOption was ⊥ (λ was. (frame ≡ rising m was) × (new ≡ record old { ports = (with_port old m (port.with_up (port_at old m) None)).ports; served = m; given = given_from old (held_source was) })) → IsInOrder old (NextUp (Ok (Some frame))) new
-    by_held m None is h = absurd h
-    by_held m (Some was) is h =
-        let holds = gives_held (forwards old.registers m) (port_at old m).present (port_at old m).up was is in
-        rw h.0 (port_gives_in_order old m was new sound holds h.1)
+never_falls_more : (n : ℕ) (up : List Stamped) (last : ℕ) (frame : Stamped) → NeverFall n up last → (frame.stamp.port ≡ n → frame.stamp.conn ≡ last) → NeverFall n (up ++ frame ∷ []) last
+never_falls_more n up last frame h is =
+    let split : of_port n (up ++ frame ∷ []) ≡ of_port n up ++ of_port n (frame ∷ []) = filter-append (λ (f : Stamped). f.stamp.port == n) up (frame ∷ []) in
+    let r : Rising (of_port n (up ++ frame ∷ [])) last =
+    subst (λ (ys : List Stamped). Rising ys last) (sym split) (rising_more (of_port n up) last frame (frame.stamp.port == n) (h.rise, h.most) (λ t. is (eqb-true frame.stamp.port n t))) in
+    record { rise = r.0; most = r.1 }
 
-    by_kind : (m : ℕ) (control : Bool) → MatchBool control (ControlGives old frame new) (PortGives old m frame new) → IsInOrder old (NextUp (Ok (Some frame))) new
-    by_kind m true h = control_gives_in_order old frame new old.registers.due sound h
-    by_kind m false h = by_held m (held old m) refl h
+never_falls_less : (n : ℕ) (up : List Stamped) (last : ℕ) (frame : Stamped) → NeverFall n (up ++ frame ∷ []) last → NeverFall n up last
+never_falls_less n up last frame h =
+    let split : of_port n (up ++ frame ∷ []) ≡ of_port n up ++ of_port n (frame ∷ []) = filter-append (λ (f : Stamped). f.stamp.port == n) up (frame ∷ []) in
+    let r : Rising (of_port n up) last = rising_pop (of_port n up) (of_port n (frame ∷ [])) last (subst (λ (ys : List Stamped). Rising ys last) split (h.rise, h.most)) in
+    record { rise = r.0; most = r.1 }
 
-    by_place : (place : Option ℕ) → MatchOption place ⊥ (λ place. PlaceGives old place frame new) → IsInOrder old (NextUp (Ok (Some frame))) new
-    by_place None h = absurd h
-    by_place (Some m) h = by_kind m (m == control_port) h
+module _ (past : Past) (old : PmState) (frame : Stamped) (new : PmState) (sound : IsSound new) (step : IsUpStep old frame new) where
+  given_numbers : (first : ℕ) (b : Bool) → is_notice frame ≡ b → AreNumbered first past.made old.number → AreNumbered first (if b then past.made ++ frame ∷ [] else past.made) (if b then counted old.number else old.number)
+  given_numbers first true is h = numbered_push first past.made old.number frame h (step.numbered is)
+  given_numbers first false is h = h
+
+  given_step : IsStep past old (NextUp (Ok (Some frame))) new
+  given_step = record {
+    sound = sound;
+    up = λ n c lt. moved (λ (f : Stamped). f.stamp.port == n && f.stamp.conn == c) past.up frame (held_of n c new) (held_of n c old) (step.up n c lt) ∙ sym (append-nil (of_conn n c past.up ++ held_of n c old));
+    connections = λ n lt h. subst (λ (k : ℕ). NeverFall n (past.up ++ frame ∷ []) k) (sym (step.last n)) (never_falls_more n past.up (port_at old n).last frame h (step.connection n lt));
+    last = λ n. keep_last past old new n (step.last n);
+    present = λ n lt. step.present n;
+    down = λ n lt. ap (λ (xs : List Stamped). to_port n past.down ++ xs) (step.down n) ∙ sym (append-nil (to_port n past.down ++ falls_to n old));
+    answered = moved is_answer past.up frame (option_to_list new.answer) (option_to_list old.answer) step.answered ∙ sym (append-nil (answers past.up ++ option_to_list old.answer));
+    numbers = λ first h. subst (λ (k : ℕ). AreNumbered first (if is_notice frame then past.made ++ frame ∷ [] else past.made) k) (sym step.number) (given_numbers first (is_notice frame) refl h);
+  }
+
+turn_step : (past : Past) (old : PmState) (result : Result (Option Stamped) AllocError) (new : PmState) → IsSound old → NextUpRule old result new → IsStep past old (NextUp result) new
+turn_step past old (Ok (Some frame)) new sound rule =
+    given_step past old frame new (given_sound old frame new sound (gives old frame new rule)) (up_step old frame new sound (gives old frame new rule))
+turn_step past old (Ok None) new sound rule =
+    same past old (NextUp (Ok None)) new (record { after = refl; came = λ n c. refl; passed = λ n. refl; present = λ n. refl; answer = refl }) sound rule.1
+turn_step past old (Err e) new sound rule =
+    same past old (NextUp (Err e)) new (record { after = refl; came = λ n c. refl; passed = λ n. refl; present = λ n. refl; answer = refl }) sound rule.2
+
+-- ---- and back
+
+-- a frame that goes back leaves what waits as it waited before it went
+back : (test : Stamped → Bool) (up front : List Stamped) (frame : Stamped) (waits waited now : List Stamped) → up ≡ front ++ frame ∷ [] → filter test (frame ∷ []) ++ waits ≡ waited → now ≡ waited
+    → filter test (but_last up) ++ now ≡ filter test up ++ waits ++ []
+back test up front frame waits waited now e moves is =
+    ap (λ (xs : List Stamped). filter test xs ++ now) (last_gone up front frame e)
+    ∙ ap (λ (xs : List Stamped). filter test front ++ xs) is
+    ∙ sym (moved test front frame waits waited moves)
+    ∙ ap (λ (xs : List Stamped). filter test xs ++ waits) (sym e)
+    ∙ sym (append-nil (filter test up ++ waits))
+
+module _ (past : Past) (before old : PmState) (frame : Stamped) (new : PmState) (sound : IsSound before) (step : IsUpStep before frame old) (is : new ≡ settled before)
+    (up : EndsWith past.up frame) (made : is_notice frame ≡ true → EndsWith past.made frame) where
+  back_numbers : (first : ℕ) (b : Bool) → is_notice frame ≡ b → old.number ≡ (if b then counted before.number else before.number) → AreNumbered first past.made old.number
+      → AreNumbered first (if b then but_last past.made else past.made) before.number
+  back_numbers first true notice number h =
+      let end : EndsWith past.made frame = made notice in
+      let front : AreNumbered first (end.0 ++ frame ∷ []) old.number = subst (λ (xs : List Stamped). AreNumbered first xs old.number) end.1 h in
+      let popped : AreNumbered first (but_last past.made) frame.stamp.number =
+      subst (λ (xs : List Stamped). AreNumbered first xs frame.stamp.number) (sym (last_gone past.made end.0 frame end.1)) (numbered_pop first end.0 old.number frame front) in
+      subst (λ (k : ℕ). AreNumbered first (but_last past.made) k) (step.numbered notice) popped
+  back_numbers first false notice number h = subst (λ (k : ℕ). AreNumbered first past.made k) number h
+
+  back_connections : (n : ℕ) → NeverFall n past.up (port_at old n).last → NeverFall n (but_last past.up) (port_at new n).last
+  back_connections n h =
+      let whole : NeverFall n (up.0 ++ frame ∷ []) (port_at old n).last = subst (λ (xs : List Stamped). NeverFall n xs (port_at old n).last) up.1 h in
+      let less : NeverFall n up.0 (port_at old n).last = never_falls_less n up.0 (port_at old n).last frame whole in
+      let last : (port_at old n).last ≡ (port_at new n).last = step.last n ∙ sym (ap (λ (pm : PmState). (port_at pm n).last) is) in
+      subst (λ (k : ℕ). NeverFall n (but_last past.up) k) last (subst (λ (xs : List Stamped). NeverFall n xs (port_at old n).last) (sym (last_gone past.up up.0 frame up.1)) less)
+
+  back_step : IsStep past old (PutBackUp frame) new
+  back_step = record {
+    sound = subst IsSound (sym is) (settled_sound before sound);
+    up = λ n c lt. back (λ (f : Stamped). f.stamp.port == n && f.stamp.conn == c) past.up up.0 frame (held_of n c old) (held_of n c before) (held_of n c new) up.1 (step.up n c lt) (ap (λ (pm : PmState). held_of n c pm) is);
+    connections = λ n lt h. back_connections n h;
+    last = λ n. keep_last past old new n (ap (λ (pm : PmState). (port_at pm n).last) is ∙ sym (step.last n));
+    present = λ n lt. ap (λ (pm : PmState). (port_at pm n).present) is ∙ sym (step.present n);
+    down = λ n lt. ap (λ (xs : List Stamped). to_port n past.down ++ xs) (ap (λ (pm : PmState). falls_to n pm) is ∙ sym (step.down n)) ∙ sym (append-nil (to_port n past.down ++ falls_to n old));
+    answered = back is_answer past.up up.0 frame (option_to_list old.answer) (option_to_list before.answer) (option_to_list new.answer) up.1 step.answered (ap (λ (pm : PmState). option_to_list pm.answer) is);
+    numbers = λ first h. subst (λ (k : ℕ). AreNumbered first (if is_notice frame then but_last past.made else past.made) k) (sym (ap (λ (pm : PmState). pm.number) is)) (back_numbers first (is_notice frame) refl step.number h);
+  }
+
+put_back_step : (past : Past) (old : PmState) (frame : Stamped) (new : PmState) → Suits past (PutBackUp frame) → CanPutBackUp old frame → UndoesUp old frame new → IsStep past old (PutBackUp frame) new
+put_back_step past old frame new suits can undoes =
+    back_step past can.0 old frame new can.1 (up_step can.0 frame old can.1 (gives can.0 frame old can.2)) (undoes can.0 can.2) suits.0 suits.1
 
 -- ---- a frame for a device
 
-module _ (old : PmState) (m : ℕ) (new : PmState) (sound : IsSound old) (e : new ≡ with_port old m (port.with_down (port_at old m) None)) where
-  abbrev lowered : port.PortState
-  lowered = port.with_down (port_at old m) None
+-- it is the one that waited
+module _ (old : PmState) (m : ℕ) (frame : Stamped) (new : PmState) (rule : NextDownRule old m (Some frame) new) where
+  abbrev low : port.PortState
+  low = port.with_down (port_at old m) None
 
-  lowers : (result : Option Stamped) → result ≡ (port_at old m).down → (n : ℕ) → given_by n (NextDown m result) ++ falling_to n new ≡ falling_to n old ++ []
-  lowers None is n = ap (λ (pm : PmState). falling_to n pm) e ∙ ap bytes_of (kept_part down_of old.ports m lowered is n) ∙ sym (append-nil (falling_to n old))
-  lowers (Some frame) is n =
+  waited : (n : ℕ) → to_port n ((m, frame) ∷ []) ++ falls_to n new ≡ falls_to n old
+  waited n =
       elim (cases_eq n m) [
-        | inl here ↦
-            let test : eqb m m ≡ true = eq-eqb m m refl in
-            let gone : (port_at new m).down ≡ None = ap (λ (pm : PmState). (port_at pm m).down) e ∙ ap down_of (this_port old.ports m lowered (has_down old.ports m frame is)) in
-            rw (here, test, gone, ← is) refl
-        | inr other ↦
-            let test : eqb m n ≡ false = ne_eqb m n (λ h. other (sym h)) in
-            rw test (ap (λ (pm : PmState). falling_to n pm) e ∙ ap (λ p. bytes_of (down_of p)) (other_port old.ports m n lowered other) ∙ sym (append-nil (falling_to n old)))
+        | inl here ↦ subst (λ (k : ℕ). to_port k ((m, frame) ∷ []) ++ falls_to k new ≡ falls_to k old) (sym here)
+            (rw (eq-eqb m m refl) (ap (λ (o : Option Stamped). frame ∷ option_to_list o) (ap (λ (pm : PmState). (port_at pm m).down) rule.1 ∙ ap (λ (p : port.PortState). p.down) (this_port old.ports m low (has_down old.ports m frame rule.0)))
+            ∙ ap option_to_list (sym rule.0)))
+        | inr other ↦ rw (ne_eqb m n (λ h. other (sym h)))
+            (ap (λ (o : Option Stamped). option_to_list o) (ap (λ (pm : PmState). (port_at pm n).down) rule.1 ∙ ap (λ (p : port.PortState). p.down) (other_port old.ports m n low other)))
       ]
 
-  down_call_in_order : (result : Option Stamped) → result ≡ (port_at old m).down → IsInOrder old (NextDown m result) new
-  down_call_in_order result is = record {
-    up = λ n c lt. ap (λ (pm : PmState). held_of n c pm) e ∙ ap (of_conn n c) (kept_part up_of old.ports m lowered refl n) ∙ sym (append-nil (held_of n c old));
-    down = lowers result is;
-    sound = record {
-      room = ap (λ (pm : PmState). length pm.ports) e ∙ length-set old.ports m lowered ∙ sound.room;
-      held = λ n f held. sound.held n f (sym (kept_part up_of old.ports m lowered refl n) ∙ sym (ap (λ (pm : PmState). (port_at pm n).up) e) ∙ held);
-      answer = λ f held. sound.answer f (sym (ap (λ (pm : PmState). pm.answer) e) ∙ held);
-    };
+  down_up : (n : ℕ) → (port_at new n).up ≡ (port_at old n).up
+  down_up n = ap (λ (pm : PmState). (port_at pm n).up) rule.1 ∙ kept_part (λ (p : port.PortState). p.up) old.ports m low refl n
+
+  down_last : (n : ℕ) → (port_at new n).last ≡ (port_at old n).last
+  down_last n = ap (λ (pm : PmState). (port_at pm n).last) rule.1 ∙ kept_part (λ (p : port.PortState). p.last) old.ports m low refl n
+
+  down_present : (n : ℕ) → (port_at new n).present ≡ (port_at old n).present
+  down_present n = ap (λ (pm : PmState). (port_at pm n).present) rule.1 ∙ kept_part (λ (p : port.PortState). p.present) old.ports m low refl n
+
+-- frames for a port, with one more
+to_port_more : (n : ℕ) (front : List (ℕ × Stamped)) (sent : ℕ × Stamped) (waits waited : List Stamped) → to_port n (sent ∷ []) ++ waits ≡ waited → to_port n (front ++ sent ∷ []) ++ waits ≡ to_port n front ++ waited
+to_port_more n front sent waits waited e =
+    let test : ℕ × Stamped → Bool = λ s. s.0 == n in
+    ap (λ (xs : List (ℕ × Stamped)). map (λ s. s.1) xs ++ waits) (filter-append test front (sent ∷ []))
+    ∙ ap (λ (xs : List Stamped). xs ++ waits) (map-append (λ (s : ℕ × Stamped). s.1) (filter test front) (filter test (sent ∷ [])))
+    ∙ append_assoc (to_port n front) (to_port n (sent ∷ [])) waits
+    ∙ ap (λ (xs : List Stamped). to_port n front ++ xs) e
+
+lower_step : (past : Past) (old : PmState) (m : ℕ) (result : Option Stamped) (new : PmState) → IsSound old → NextDownRule old m result new → IsStep past old (NextDown m result) new
+lower_step past old m (Some frame) new sound rule = record {
+  sound = down_rule_sound old new m (Some frame) sound rule;
+  up = λ n c lt. keep_up past old new n c (down_up old m frame new rule n);
+  connections = λ n lt h. keep_connections past old new n (down_last old m frame new rule n) h;
+  last = λ n. keep_last past old new n (down_last old m frame new rule n);
+  present = λ n lt. down_present old m frame new rule n;
+  down = λ n lt. to_port_more n past.down (m, frame) (falls_to n new) (falls_to n old) (waited old m frame new rule n) ∙ sym (append-nil (to_port n past.down ++ falls_to n old));
+  answered = keep_answer past old new (ap (λ (pm : PmState). pm.answer) rule.1);
+  numbers = λ first h. keep_numbers past old new (ap (λ (pm : PmState). pm.number) rule.1) first h;
+}
+lower_step past old m None new sound rule =
+    same past old (NextDown m None) new (record { after = refl; came = λ n c. refl; passed = λ n. refl; present = λ n. refl; answer = refl }) sound rule.1
+
+module _ (past : Past) (before old : PmState) (m : ℕ) (frame : Stamped) (new : PmState) (sound : IsSound before) (rule : NextDownRule before m (Some frame) old) (is : new ≡ settled before)
+    (down : EndsWith past.down (m, frame)) where
+  raised : (n : ℕ) → to_port n (but_last past.down) ++ falls_to n new ≡ to_port n past.down ++ falls_to n old ++ []
+  raised n =
+      ap (λ (xs : List (ℕ × Stamped)). to_port n xs ++ falls_to n new) (last_gone past.down down.0 (m, frame) down.1)
+      ∙ ap (λ (xs : List Stamped). to_port n down.0 ++ xs) (ap (λ (pm : PmState). falls_to n pm) is)
+      ∙ sym (to_port_more n down.0 (m, frame) (falls_to n old) (falls_to n before) (waited before m frame old rule n))
+      ∙ ap (λ (xs : List (ℕ × Stamped)). to_port n xs ++ falls_to n old) (sym down.1)
+      ∙ sym (append-nil (to_port n past.down ++ falls_to n old))
+
+  raise_step : IsStep past old (PutBackDown m frame) new
+  raise_step = record {
+    sound = subst IsSound (sym is) (settled_sound before sound);
+    up = λ n c lt. keep_up past old new n c (ap (λ (pm : PmState). (port_at pm n).up) is ∙ sym (down_up before m frame old rule n));
+    connections = λ n lt h. keep_connections past old new n (ap (λ (pm : PmState). (port_at pm n).last) is ∙ sym (down_last before m frame old rule n)) h;
+    last = λ n. keep_last past old new n (ap (λ (pm : PmState). (port_at pm n).last) is ∙ sym (down_last before m frame old rule n));
+    present = λ n lt. ap (λ (pm : PmState). (port_at pm n).present) is ∙ sym (down_present before m frame old rule n);
+    down = λ n lt. raised n;
+    answered = keep_answer past old new (ap (λ (pm : PmState). pm.answer) is ∙ sym (ap (λ (pm : PmState). pm.answer) rule.1));
+    numbers = λ first h. keep_numbers past old new (ap (λ (pm : PmState). pm.number) is ∙ sym (ap (λ (pm : PmState). pm.number) rule.1)) first h;
   }
 
 -- ---- each call, and all
 
-in_order : (old : PmState) (call : Call) (new : PmState) → IsSound old → Does old call new → IsInOrder old call new
-in_order old (FromHost frame result) new sound does = host_in_order old frame result new sound does
-in_order old (FromDevice m frame result) new sound does = offer_in_order old m frame result new sound does.0 does.1
-in_order old (Came m conn) new sound does = came_in_order old m conn new sound does
-in_order old (NextUp result) new sound does = up_in_order old result new sound does
-in_order old (PutsBackUp frame) new sound does =
-    still old (PutsBackUp frame) new sound (ap (λ (pm : PmState). pm.ports) does) (record { left = λ n c lt. refl; came = λ n c. refl; given = λ n. refl; passed = λ n. refl })
-    (λ f is. sound.answer f (sym (ap (λ (pm : PmState). pm.answer) does) ∙ is))
-in_order old (NextDown m result) new sound does = down_call_in_order old m new sound does.1 result does.0
-in_order old (PutsBackDown m frame) new sound does = same old (PutsBackDown m frame) new sound (record { left = λ n c lt. refl; came = λ n c. refl; given = λ n. refl; passed = λ n. refl }) does
+pub one_step : (past : Past) (old : PmState) (call : Call) (new : PmState) → IsSound old → Suits past call → Does old call new → IsStep past old call new
+one_step past old (FromHost frame result made) new sound suits does =
+    subst (λ (o : Option Stamped). IsStep past old (FromHost frame result o) new) (sym does.1) (host_step past old frame result new sound does.0)
+one_step past old (FromDevice m frame result) new sound suits does = let most : old.registers.ports ≤ 15 = sound.registers.ports in let less : m < old.registers.ports = does.0 in offer_step past old m frame result new sound (omega arith) does.1
+one_step past old (Came m conn result) new sound suits does = let most : old.registers.ports ≤ 15 = sound.registers.ports in let less : m < old.registers.ports = does.0 in came_step past old m conn result new sound (omega arith) does.1
+one_step past old (NextUp result) new sound suits does = turn_step past old result new sound does
+one_step past old (PutBackUp frame) new sound suits does = put_back_step past old frame new suits does.0 does.1
+one_step past old (NextDown m result) new sound suits does = lower_step past old m result new sound does.1
+one_step past old (PutBackDown m frame) new sound suits does =
+    raise_step past does.0.0 old m frame new does.0.1 does.0.2 (does.1 does.0.0 does.0.2) suits
 
--- four lists in order
-swap : {A : Type 0} (a b c d e f g : List A) → b ++ c ≡ d ++ e → a ++ d ≡ f ++ g → (a ++ b) ++ c ≡ f ++ (g ++ e)
-swap a b c d e f g rest first = append_assoc a b c ∙ ap (λ xs. a ++ xs) rest ∙ sym (append_assoc a d e) ∙ ap (λ xs. xs ++ e) first ∙ append_assoc f g e
+-- what the first call leaves, and what the others do with it
+joined : {A : Type 0} (now waits mid held past waited came rest : List A) → now ++ waits ≡ mid ++ held ++ rest → mid ++ held ≡ past ++ waited ++ came → now ++ waits ≡ past ++ waited ++ (came ++ rest)
+joined now waits mid held past waited came rest later first = later ∙ ap (λ xs. xs ++ rest) first ∙ append_assoc (past ++ waited) came rest
 
-all_up : (old : PmState) (calls : List Call) (new : PmState) → IsSound old → DoesAll old calls new → (n c : ℕ) → n < control_port → left n c calls ++ held_of n c new ≡ held_of n c old ++ came_in n c calls
-all_up old [] new sound does n c lt = rw does (sym (append-nil (held_of n c old)))
-all_up old (call ∷ calls) new sound does n c lt =
-    let first = in_order old call does.0 sound does.1 in
-    swap (left_by n c call) (left n c calls) (held_of n c new) (held_of n c does.0) (came_in n c calls) (held_of n c old) (came_by n c call)
-    (all_up does.0 calls new first.sound does.2 n c lt) (first.up n c lt)
-
-all_down : (old : PmState) (calls : List Call) (new : PmState) → IsSound old → DoesAll old calls new → (n : ℕ) → given_down n calls ++ falling_to n new ≡ falling_to n old ++ passed_down n calls
-all_down old [] new sound does n = rw does (sym (append-nil (falling_to n old)))
-all_down old (call ∷ calls) new sound does n =
-    let first = in_order old call does.0 sound does.1 in
-    swap (given_by n call) (given_down n calls) (falling_to n new) (falling_to n does.0) (passed_down n calls) (falling_to n old) (passed_by n call)
-    (all_down does.0 calls new first.sound does.2 n) (first.down n)
-
--- a new multiplier holds nothing
-empty_at : (count n : ℕ) → at (replicate count port.empty_port) n ≡ port.empty_port
-empty_at zero n = refl
-empty_at (suc count) zero = refl
-empty_at (suc count) (suc n) = empty_at count n
-
-opens_sound : (ports : ℕ) → IsSound (opening ports)
-opens_sound ports = record {
-  room = refl;
-  held = λ n frame is. let none : None ≡ Some frame = sym (ap up_of (empty_at 15 n)) ∙ is in absurd cc;
-  answer = λ frame is. absurd cc;
-}
-
-pub frames_up : (ports : ℕ) (calls : List Call) (now : PmState) → DoesAll (opening ports) calls now → (n c : ℕ) → n < control_port → left n c calls ++ held_of n c now ≡ came_in n c calls
-frames_up ports calls now does n c lt =
-    all_up (opening ports) calls now (opens_sound ports) does n c lt ∙ ap (λ p. of_conn n c (up_of p) ++ came_in n c calls) (empty_at 15 n)
-
-pub frames_down : (ports : ℕ) (calls : List Call) (now : PmState) → DoesAll (opening ports) calls now → (n : ℕ) → given_down n calls ++ falling_to n now ≡ passed_down n calls
-frames_down ports calls now does n =
-    all_down (opening ports) calls now (opens_sound ports) does n ∙ ap (λ p. bytes_of (down_of p) ++ passed_down n calls) (empty_at 15 n)
+pub pass_in_order : (past : Past) (old new : PmState) (calls : List Call) → IsSound old → DoesAll past old calls new → PassInOrder past old calls new
+pass_in_order past old new [] sound does =
+    subst (λ (pm : PmState). PassInOrder past old [] pm) (sym does) (record {
+      sound = sound;
+      up = λ n c lt. sym (append-nil (of_conn n c past.up ++ held_of n c old));
+      connections = λ n lt h. h;
+      last = λ n. omega arith;
+      present = λ n lt. refl;
+      down = λ n lt. sym (append-nil (to_port n past.down ++ falls_to n old));
+      answered = sym (append-nil (answers past.up ++ option_to_list old.answer));
+      numbers = λ first h. h;
+    })
+pass_in_order past old new (call ∷ calls) sound does =
+    let mid : PmState = does.0 in
+    let first : IsStep past old call mid = one_step past old call mid sound does.1 does.2 in
+    let later : PassInOrder (past_after past call) mid calls new = pass_in_order (past_after past call) mid new calls first.sound does.3 in
+    let now : Past = all_past (past_after past call) calls in
+    record {
+      sound = later.sound;
+      up = λ n c lt. joined (of_conn n c now.up) (held_of n c new) (of_conn n c (past_after past call).up) (held_of n c mid) (of_conn n c past.up) (held_of n c old) (came_by n c call) (came_in n c calls) (later.up n c lt) (first.up n c lt);
+      connections = λ n lt h. later.connections n lt (first.connections n lt h);
+      last = λ n. let a : (port_at old n).last ≤ (port_at mid n).last = first.last n in let b : (port_at mid n).last ≤ (port_at new n).last = later.last n in omega arith;
+      present = λ n lt. later.present n lt ∙ ap (λ (o : Option ℕ). all_present n o calls) (first.present n lt);
+      down = λ n lt. joined (to_port n now.down) (falls_to n new) (to_port n (past_after past call).down) (falls_to n mid) (to_port n past.down) (falls_to n old)
+          (passed_by n (port_at old n).present call) (passed_down n (present_after n (port_at old n).present call) calls)
+          (later.down n lt ∙ ap (λ (o : Option ℕ). to_port n (past_after past call).down ++ falls_to n mid ++ passed_down n o calls) (first.present n lt)) (first.down n lt);
+      answered = joined (answers now.up) (option_to_list new.answer) (answers (past_after past call).up) (option_to_list mid.answer) (answers past.up) (option_to_list old.answer) (answer_by call) (answers_made calls) later.answered first.answered;
+      numbers = λ start h. later.numbers start (first.numbers start h);
+    }

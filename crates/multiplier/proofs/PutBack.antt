@@ -1,16 +1,29 @@
 -- Putting a frame back undoes the call that gave it.
-use Rattle.std.proofs.Common.{◌≡◌, ℕ, zero, suc, ◌+◌, ◌*◌, ◌/◌, ◌%◌, ◌<◌, ◌==◌, ◌&&◌, Bool, true, false, List, [], ◌∷◌, length, slice_index, Option, Some, None, Ok, MatchOption, refl, sym, ap, ◌∙◌, arith}
+use Rattle.std.proofs.Common.{◌≡◌, ℕ, ◌+◌, ◌*◌, ◌/◌, ◌%◌, ◌<◌, ◌≤◌, ◌&&◌, Bool, true, false, List, [], ◌∷◌, length, slice_index, Option, Some, None, Ok, refl, sym, ap, ◌∙◌, subst, arith}
 use Rattle.std.specs.Prelude.{slice_set, slice_index_or}
-use Rattle.std.specs.Bool.{MatchBool}
-use Rattle.std.proofs.lemmas.List.{set-set, set-get_or, get_or-set_same, length-set}
+use Rattle.std.proofs.lemmas.List.{set-set, set-get_or, get_or-set_same}
 use Rattle.fis_view.specs.Frames.{Stamped, marked}
+use Rattle.fis_view.specs.declared.frame.Stamp.{Stamp}
 use Rattle.pm_ports.specs.Port as port
 use Rattle.pm_control.specs.Answers.{IsNotice}
 use Rattle.pm_registers.specs.RegisterMap as map
 use Rattle.multiplier.specs.Arbiter.{control_port}
-use Rattle.multiplier.specs.State.{PmState, port_at, with_port, held, rising, next_place, control_stamp, counted, pm_port, forwards}
+use Rattle.multiplier.specs.State.{PmState, IsSound, port_at, with_port, held, rising, control_stamp, counted, pm_port, settled}
+use Rattle.multiplier.specs.Rules.{CanPutBackUp, CanPutBackDown, UndoesUp, UndoesDown, KeepsPorts, HasRoomFor, put_back, held_source, may_go_back}
+use Rattle.multiplier.specs.declared.given.Given.{Given}
 use Rattle.multiplier.specs.declared.given.Source.TheVariants as source
-use Rattle.multiplier.specs.Rules.{NextUpRule, PlaceGives, ControlGives, PortGives, NextDownRule, put_back, settled, held_source, given_from}
+use Rattle.multiplier.proofs.ArbiterLemmas.{different}
+use Rattle.multiplier.proofs.Ports.{has_down, has_up}
+use Rattle.multiplier.proofs.GiveLemmas.{Gives, FromPort, Notice, Answer, gives, given_sound, lowered, place_small, up_rule_keeps, down_rule_keeps}
+
+gives_only : (test : Bool) (frame was : Stamped) → port.only_if test frame ≡ Some was → Some frame ≡ Some was
+gives_only true frame was e = e
+gives_only false frame was e = absurd cc
+
+-- what a port gives is what it holds
+pub gives_held : (passes : Bool) (present : Option ℕ) (up : Option Stamped) (was : Stamped) → port.rises passes present up ≡ Some was → up ≡ Some was
+gives_held passes present None was e = absurd cc
+gives_held passes present (Some frame) was e = gives_only (passes && port.is_of_present present frame) frame was e
 
 -- a place that is set to what it was
 set_back : {A : Type 0} (xs : List A) (i : ℕ) (x y d : A) → y ≡ slice_index_or xs i d → slice_set (slice_set xs i x) i y ≡ xs
@@ -22,86 +35,111 @@ mark_back [] n small = refl
 mark_back (a ∷ []) n small = refl
 mark_back (a ∷ (b ∷ f)) n small = let e : (b / 16 * 16 + n) / 16 * 16 + b % 16 ≡ b = omega arith in ap (λ x. a ∷ (x ∷ f)) e
 
-frame_back : (was : Stamped) (n : ℕ) → n < 16 → rising (pm_port was) (rising n was) ≡ was
-frame_back was n small = ap (λ b. let f : Stamped = record { bytes = b; stamp = was.stamp } in f) (mark_back was.bytes n small)
+-- and the port of the stamp, which stays
+stamp_back : (was : Stamped) (n : ℕ) → was.stamp.port ≡ n → (rising n was).stamp ≡ was.stamp
+stamp_back was n e = ap (λ (k : ℕ). let s : Stamp = record was.stamp { port = k } in s) (sym e)
 
--- a port that has a frame is there
-pub has_down : (ports : List port.PortState) (n : ℕ) (frame : Stamped) → Some frame ≡ (slice_index_or ports n port.empty_port).down → n < length ports
-has_down [] n frame e = absurd cc
-has_down (p ∷ ports) zero frame e = omega arith
-has_down (p ∷ ports) (suc n) frame e = let k : n < length ports = has_down ports n frame e in omega arith
+frame_back : (was : Stamped) (n : ℕ) → n < 16 → was.stamp.port ≡ n → (let f : Stamped = record { bytes = marked (rising n was).bytes (pm_port was); stamp = (rising n was).stamp } in f) ≡ was
+frame_back was n small e =
+    ap (λ b. let f : Stamped = record { bytes = b; stamp = (rising n was).stamp } in f) (mark_back was.bytes n small)
+    ∙ ap (λ s. let f : Stamped = record { bytes = was.bytes; stamp = s } in f) (stamp_back was n e)
 
-pub has_up : (ports : List port.PortState) (n : ℕ) (frame : Stamped) → (slice_index_or ports n port.empty_port).up ≡ Some frame → n < length ports
-has_up [] n frame e = absurd cc
-has_up (p ∷ ports) zero frame e = omega arith
-has_up (p ∷ ports) (suc n) frame e = let k : n < length ports = has_up ports n frame e in omega arith
+-- the places, as the leave has them
+module _ (before now : PmState) (frame : Stamped) where
+  port_back : (n : ℕ) (was : Stamped) → n < 16 → held before n ≡ Some was → was.stamp.port ≡ n → frame ≡ rising n was
+      → now ≡ record (lowered before n) { served = n; given = may_go_back before (held_source was) frame } → put_back now frame now.given ≡ settled before
+  port_back n was small is stamped rises e =
+      let q : port.PortState = port_at before n in
+      let low : port.PortState = port.with_up q None in
+      let holds : q.up ≡ Some was = gives_held (map.forwards before.registers n) q.present q.up was is in
+      let there : n < length before.ports = has_up before.ports n was holds in
+      let same : slice_index_or (slice_set before.ports n low) n port.empty_port ≡ low = get_or-set_same before.ports n low port.empty_port there in
+      let again : Stamped = record { bytes = marked frame.bytes (pm_port was); stamp = frame.stamp } in
+      let frame_is : again ≡ was = ap (λ (f : Stamped). let g : Stamped = record { bytes = marked f.bytes (pm_port was); stamp = f.stamp } in g) rises ∙ frame_back was n small stamped in
+      let back : port.with_up (slice_index_or (slice_set before.ports n low) n port.empty_port) (Some again) ≡ q =
+      ap (λ p. port.with_up p (Some again)) same ∙ (ap (λ f. port.with_up q (Some f)) frame_is ∙ ap (λ w. port.with_up q w) (sym holds)) in
+      rw e (ap (λ ps. let pm : PmState = record before { ports = ps; given = None } in pm) (set_back before.ports n low _ port.empty_port back))
 
-pub undoes_down : (before now : PmState) (n : ℕ) (frame : Stamped) → NextDownRule before n (Some frame) now
-    → with_port now n (port.with_down (port_at now n) (Some frame)) ≡ before
-undoes_down before now n frame h =
+  notice_back : before.registers.due ≡ true → IsNotice true (control_stamp before) (Some frame)
+      → now ≡ record before { registers = map.after_notice before.registers; number = counted before.number; served = control_port; given = may_go_back before source.Notice frame }
+      → put_back now frame now.given ≡ settled before
+  notice_back due is e =
+      let number : frame.stamp.number ≡ before.number = ap (λ (s : Stamp). s.number) is.1 in
+      rw e (ap (λ k. let pm : PmState = record before { registers = record before.registers { due = true }; number = k; given = None } in pm) number
+      ∙ ap (λ d. let pm : PmState = record before { registers = record before.registers { due = d }; given = None } in pm) (sym due))
+
+  answer_back : before.answer ≡ Some frame → now ≡ record before { answer = None; served = control_port; given = may_go_back before source.Answer frame }
+      → put_back now frame now.given ≡ settled before
+  answer_back is e = rw e (ap (λ a. let pm : PmState = record before { answer = a; given = None } in pm) (sym is))
+
+  pub given_back : now.served ≤ control_port → Gives before frame now → put_back now frame now.given ≡ settled before
+  given_back small (FromPort n was at other is stamped rises e) =
+      let served : now.served ≡ n = ap (λ (pm : PmState). pm.served) e in
+      port_back n was (omega arith) is stamped rises e
+  given_back small (Notice at due is e) = notice_back due is e
+  given_back small (Answer at is e) = answer_back is e
+
+-- ---- a frame that went up
+
+-- the multiplier after a frame that may go back is sound
+pub can_back_sound : (pm : PmState) (frame : Stamped) → CanPutBackUp pm frame → IsSound pm
+can_back_sound pm frame can = given_sound can.0 frame pm can.1 (gives can.0 frame pm can.2)
+
+pub back_undoes : (pm : PmState) (frame : Stamped) → CanPutBackUp pm frame → UndoesUp pm frame (put_back pm frame pm.given)
+back_undoes pm frame can before rule = given_back before pm frame (can_back_sound pm frame can).served (gives before frame pm rule)
+
+pub undone_up : (pm new : PmState) (frame : Stamped) → CanPutBackUp pm frame → new ≡ put_back pm frame pm.given → UndoesUp pm frame new
+undone_up pm new frame can e before rule = e ∙ back_undoes pm frame can before rule
+
+-- ports before and after a frame are the same
+back_keeps : (before pm new : PmState) → KeepsPorts before pm → new ≡ settled before → KeepsPorts pm new
+back_keeps before pm new keeps e = rw e (record { count = sym keeps.count; present = λ n. sym (keeps.present n); last = λ n. sym (keeps.last n) })
+
+pub undone_up_keeps : (pm new : PmState) (frame : Stamped) → CanPutBackUp pm frame → UndoesUp pm frame new → KeepsPorts pm new
+undone_up_keeps pm new frame can undoes = back_keeps can.0 pm new (up_rule_keeps can.0 pm (Ok (Some frame)) can.2) (undoes can.0 can.2)
+
+-- ---- a frame that went down
+
+pub down_there : (pm : PmState) (n : ℕ) (frame : Stamped) → CanPutBackDown pm n frame → n < 15
+down_there pm n frame can =
+    let room : length can.0.ports ≡ 15 = can.1.room in
+    let there : n < length can.0.ports = has_down can.0.ports n frame can.2.0 in
+    omega arith
+
+pub down_empty : (pm : PmState) (n : ℕ) (frame : Stamped) → CanPutBackDown pm n frame → (port_at pm n).down ≡ None
+down_empty pm n frame can =
+    let low : port.PortState = port.with_down (port_at can.0 n) None in
+    ap (λ (m : PmState). (port_at m n).down) can.2.1
+    ∙ ap (λ (p : port.PortState). p.down) (get_or-set_same can.0.ports n low port.empty_port (has_down can.0.ports n frame can.2.0))
+
+pub undone_down : (pm new : PmState) (n : ℕ) (frame : Stamped) → new ≡ with_port pm n (port.with_down (port_at pm n) (Some frame)) → UndoesDown pm n frame new
+undone_down pm new n frame is before rule =
     let q : port.PortState = port_at before n in
-    let there : n < length before.ports = has_down before.ports n frame h.0 in
-    let same : slice_index_or (slice_set before.ports n (port.with_down q None)) n port.empty_port ≡ port.with_down q None =
-    get_or-set_same before.ports n (port.with_down q None) port.empty_port there in
-    let back : port.with_down (slice_index_or (slice_set before.ports n (port.with_down q None)) n port.empty_port) (Some frame) ≡ q =
-    ap (λ p. port.with_down p (Some frame)) same ∙ ap (λ w. port.with_down q w) h.0 in
-    rw h.1 (ap (λ ps. let pm : PmState = record before { ports = ps } in pm) (set_back before.ports n (port.with_down q None) _ port.empty_port back))
+    let low : port.PortState = port.with_down q None in
+    let there : n < length before.ports = has_down before.ports n frame rule.0 in
+    let same : slice_index_or (slice_set before.ports n low) n port.empty_port ≡ low = get_or-set_same before.ports n low port.empty_port there in
+    let back : port.with_down (slice_index_or (slice_set before.ports n low) n port.empty_port) (Some frame) ≡ q =
+    ap (λ p. port.with_down p (Some frame)) same ∙ ap (λ w. port.with_down q w) (sym rule.0) in
+    is ∙ rw rule.1 (ap (λ ps. let pm : PmState = record before { ports = ps; given = None } in pm) (set_back before.ports n low _ port.empty_port back))
 
-gives_only : (test : Bool) (frame was : Stamped) → port.only_if test frame ≡ Some was → Some frame ≡ Some was
-gives_only true frame was e = e
-gives_only false frame was e = absurd cc
+pub undone_down_keeps : (pm new : PmState) (n : ℕ) (frame : Stamped) → CanPutBackDown pm n frame → UndoesDown pm n frame new → KeepsPorts pm new
+undone_down_keeps pm new n frame can undoes = back_keeps can.0 pm new (down_rule_keeps can.0 pm n (Some frame) can.2) (undoes can.0 can.2)
 
--- what a port gives is what it holds
-pub gives_held : (passes : Bool) (present : Option ℕ) (up : Option Stamped) (was : Stamped) → port.rises passes present up ≡ Some was → up ≡ Some was
-gives_held passes present None was e = absurd cc
-gives_held passes present (Some frame) was e = gives_only (passes && port.is_of_present present frame) frame was e
+-- the frame's place, when it is given back
+module _ (pm : PmState) (frame : Stamped) where
+  room_by : (before : PmState) → IsSound before → Gives before frame pm → HasRoomFor pm frame pm.given
+  room_by before sound (FromPort n f at other is stamped rises e) =
+      let q : port.PortState = port_at before n in
+      let small : n ≤ control_port = place_small before n sound at in
+      let below : n < 15 = different n control_port small other in
+      let served : pm.served ≡ n = ap (λ (m : PmState). m.served) e in
+      let there : n < length before.ports = has_up before.ports n f (gives_held (map.forwards before.registers n) q.present q.up f is) in
+      let empty : (port_at pm n).up ≡ None =
+      ap (λ (m : PmState). (port_at m n).up) e ∙ ap (λ (p : port.PortState). p.up) (get_or-set_same before.ports n (port.with_up q None) port.empty_port there) in
+      subst (λ (g : Option Given). HasRoomFor pm frame g) (sym (ap (λ (m : PmState). m.given) e))
+      (sound.served, (omega arith, omega arith, ap (λ (k : ℕ). (port_at pm k).up) served ∙ empty, ap (λ (g : Stamped). g.stamp.port) rises ∙ sym served))
+  room_by before sound (Notice at due is e) = subst (λ (g : Option Given). HasRoomFor pm frame g) (sym (ap (λ (m : PmState). m.given) e)) (sound.served, tt)
+  room_by before sound (Answer at is e) = subst (λ (g : Option Given). HasRoomFor pm frame g) (sym (ap (λ (m : PmState). m.given) e)) (sound.served, sound.answer frame is)
 
-port_back : (before now : PmState) (n : ℕ) (frame was : Stamped) → length now.ports ≡ 15 → held before n ≡ Some was → frame ≡ rising n was
-    → now ≡ record before { ports = (with_port before n (port.with_up (port_at before n) None)).ports; served = n; given = given_from before (held_source was) }
-    → put_back now frame now.given ≡ settled before
-port_back before now n frame was room is up e =
-    let q : port.PortState = port_at before n in
-    let holds : q.up ≡ Some was = gives_held (forwards before.registers n) q.present q.up was is in
-    let there : n < length before.ports = has_up before.ports n was holds in
-    let kept : length (slice_set before.ports n (port.with_up q None)) ≡ length before.ports = length-set before.ports n (port.with_up q None) in
-    let all : length (slice_set before.ports n (port.with_up q None)) ≡ 15 = sym (ap (λ pm. length pm.ports) e) ∙ room in
-    let small : n < 16 = omega arith in
-    let same : slice_index_or (slice_set before.ports n (port.with_up q None)) n port.empty_port ≡ port.with_up q None =
-    get_or-set_same before.ports n (port.with_up q None) port.empty_port there in
-    let frame_is : rising (pm_port was) frame ≡ was = ap (λ f. rising (pm_port was) f) up ∙ frame_back was n small in
-    let back : port.with_up (slice_index_or (slice_set before.ports n (port.with_up q None)) n port.empty_port) (Some (rising (pm_port was) frame)) ≡ q =
-    ap (λ p. port.with_up p (Some (rising (pm_port was) frame))) same ∙ (ap (λ f. port.with_up q (Some f)) frame_is ∙ ap (λ w. port.with_up q w) (sym holds)) in
-    rw e (ap (λ ps. let pm : PmState = record before { ports = ps; given = None } in pm) (set_back before.ports n (port.with_up q None) _ port.empty_port back))
-
-by_held : (before now : PmState) (n : ℕ) (frame : Stamped) (was : Option Stamped) → length now.ports ≡ 15 → held before n ≡ was
-    → MatchOption was ⊥ (λ was. (frame ≡ rising n was)
-    × (now ≡ record before { ports = (with_port before n (port.with_up (port_at before n) None)).ports; served = n; given = given_from before (held_source was) }))
-    → put_back now frame now.given ≡ settled before
-by_held before now n frame None room is h = absurd h
-by_held before now n frame (Some was) room is h = port_back before now n frame was room is h.0 h.1
-
-by_due : (before now : PmState) (frame : Stamped) (due : Bool) → before.registers.due ≡ due
-    → MatchBool due
-    (IsNotice true (control_stamp before.number) (Some frame)
-    × (now ≡ record before { registers = map.after_notice before.registers; number = counted before.number; served = control_port; given = given_from before source.Notice }))
-    ((before.answer ≡ Some frame) × (now ≡ record before { answer = None; served = control_port; given = given_from before source.Answer }))
-    → put_back now frame now.given ≡ settled before
-by_due before now frame true is h =
-    let number : frame.stamp.number ≡ before.number = ap (λ s. s.number) h.0.1 in
-    rw h.1 (ap (λ k. let pm : PmState = record before { registers = record before.registers { due = true }; number = k; given = None } in pm) number
-    ∙ ap (λ d. let pm : PmState = record before { registers = record before.registers { due = d }; given = None } in pm) (sym is))
-by_due before now frame false is h =
-    rw h.1 (ap (λ a. let pm : PmState = record before { answer = a; given = None } in pm) (sym h.0))
-
-by_kind : (before now : PmState) (n : ℕ) (frame : Stamped) (control : Bool) → length now.ports ≡ 15
-    → MatchBool control (ControlGives before frame now) (PortGives before n frame now) → put_back now frame now.given ≡ settled before
-by_kind before now n frame true room h = by_due before now frame before.registers.due refl h
-by_kind before now n frame false room h = by_held before now n frame (held before n) room refl h
-
-by_place : (before now : PmState) (frame : Stamped) (place : Option ℕ) → length now.ports ≡ 15
-    → MatchOption place ⊥ (λ place. PlaceGives before place frame now) → put_back now frame now.given ≡ settled before
-by_place before now frame None room h = absurd h
-by_place before now frame (Some n) room h = by_kind before now n frame (n == control_port) room h
-
-pub undoes_up : (before now : PmState) (frame : Stamped) → length now.ports ≡ 15 → NextUpRule before (Ok (Some frame)) now → put_back now frame now.given ≡ settled before
-undoes_up before now frame room h = by_place before now frame (next_place before) room h
+  pub has_room : CanPutBackUp pm frame → HasRoomFor pm frame pm.given
+  has_room can = room_by can.0 can.1 (gives can.0 frame pm can.2)

@@ -1,11 +1,9 @@
--- Which place is served next (Serial ATA 3.x, port multiplier: the policy for frames on their way to the host is to
--- be fair). The places are the device ports 0 to 14 and the control port Fh, 15.
+-- Which place is served next (Serial ATA 3.x, 16.3, port multiplier: frame transmission; the policy for frames on their
+-- way to the host is to be fair). The places are the device ports 0 to 14 and the control port Fh, 15.
 use Rattle.std.specs.Prelude.{◌≡◌, ◌≢◌, ℕ, ◌+◌, ◌-◌, Bool, IsTrue, List, [], ◌∷◌, ◌++◌, All, Option, Some}
 use Rattle.std.specs.List.{range_with_len, find}
-
 -- the control port's PM Port
-abbrev pub control_port : ℕ
-control_port = 15
+pub use Rattle.pm_registers.specs.RegisterMap.{control_port}
 
 -- the places of the circle 0, 1, .., 14, Fh in the order that begins after a place; that place comes last
 abbrev pub circle_after : ℕ → List ℕ

@@ -1,98 +1,199 @@
--- Frames pass a multiplier in their order and none is lost (Serial ATA 3.x, port multiplier, frame transmission): what
--- left of a connection, and then what is held, is what came in of it.
-use Rattle.std.specs.Prelude.{◌≡◌, ℕ, ◌<◌, ◌==◌, ◌&&◌, if◌then◌else◌, List, [], ◌∷◌, Option, Some, None, Result, Ok}
-use Rattle.std.specs.List.{flat_map}
-use Rattle.fis_view.specs.Frames.{Stamped, marked}
+-- Frames pass a multiplier in their order and none is lost (Serial ATA 3.x, 16.3, port multiplier: frame transmission).
+-- What is said here is said of any sound multiplier and of any frames that passed before.
+use Rattle.std.specs.Prelude.{◌≡◌, ◌≢◌, ℕ, ◌-◌, ◌<◌, ◌≤◌, ◌==◌, ◌&&◌, true, if◌then◌else◌, List, [], ◌∷◌, ◌++◌, All, length, map, take, Option, Some, None, Result, Ok}
+use Rattle.std.specs.List.{filter, flat_map}
+use Rattle.std.specs.List.Sorted.{IsNonDecreasingBy}
+use Rattle.std.specs.Option.{option_to_list}
 use Rattle.std.specs.declared.alloc.AllocError.{AllocError}
+use Rattle.fis_view.specs.Frames.{Stamped}
 use Rattle.pm_ports.specs.declared.port.Offered.{Offered}
 use Rattle.pm_ports.specs.declared.port.Offered.TheVariants.{Held as Kept}
-use Rattle.multiplier.specs.Arbiter.{control_port}
-use Rattle.multiplier.specs.State.{PmState, port_at}
-use Rattle.multiplier.specs.Rules.{FromHostRule, FromDeviceRule, NextUpRule, NextDownRule, settled, with_device}
+use Rattle.pm_ports.specs.declared.port.PortError.{PortError}
+use Rattle.multiplier.specs.State.{PmState, IsSound, counted, falling, is_answer, is_notice, port_at, ready, rising}
+use Rattle.multiplier.specs.Rules.{CameRule, CanPutBackDown, CanPutBackUp, FromDeviceRule, FromHostRule, NextDownRule, NextUpRule, UndoesDown, UndoesUp}
 use Rattle.multiplier.specs.declared.multiplier.Passed.{Passed}
 use Rattle.multiplier.specs.declared.multiplier.Passed.TheVariants as passed
 use Rattle.multiplier.specs.declared.multiplier.PmRefusal.{PmRefusal}
 
+-- ---- calls
+
 -- a call, with what it gave
 pub data Call : Type 0 where
-  -- this frame of the host was taken, or given back
-  FromHost : Stamped → Result Passed (Stamped × PmRefusal) → Call
+  -- this frame of the host was taken, or given back; and the answer that was made to it
+  FromHost : Stamped → Result Passed (Stamped × PmRefusal) → Option Stamped → Call
   -- this frame of the device at port n was
   FromDevice : (n : ℕ) → Stamped → Result Offered Stamped → Call
-  -- a device came to port n, under this connection
-  Came : (n conn : ℕ) → Call
+  -- a device came to port n, under this connection, or was refused
+  Came : (n conn : ℕ) → Result (Unit {0}) PortError → Call
   -- the next frame for the host was asked for
   NextUp : Result (Option Stamped) AllocError → Call
-  -- the next frame for the host was this one, and it was put back
-  PutsBackUp : Stamped → Call
+  -- this one was put back
+  PutBackUp : Stamped → Call
   -- the next frame for the device at port n was asked for
   NextDown : (n : ℕ) → Option Stamped → Call
-  -- it was this one, and it was put back
-  PutsBackDown : (n : ℕ) → Stamped → Call
+  -- this one was put back
+  PutBackDown : (n : ℕ) → Stamped → Call
 
--- what the call leaves, as its contract has it
+-- the answer that a frame of the host left in its place
+abbrev pub made_by : Result Passed (Stamped × PmRefusal) → PmState → Option Stamped
+made_by (Ok passed.Control) new = new.answer
+made_by result new = None
+
+-- what the call wants and what it leaves, as its contract has it
 abbrev pub Does : PmState → Call → PmState → Type 0
-Does old (FromHost frame result) new = FromHostRule old frame result new
-Does old (FromDevice n frame result) new = (n < control_port) × FromDeviceRule old n frame result new
-Does old (Came n conn) new = new ≡ with_device old n conn
+Does old (FromHost frame result made) new = FromHostRule old frame result new × (made ≡ made_by result new)
+Does old (FromDevice n frame result) new = (n < old.registers.ports) × FromDeviceRule old n frame result new
+Does old (Came n conn result) new = (n < old.registers.ports) × CameRule old n conn result new
 Does old (NextUp result) new = NextUpRule old result new
-Does old (PutsBackUp frame) new = new ≡ settled old
-Does old (NextDown n result) new = NextDownRule old n result new
-Does old (PutsBackDown n frame) new = new ≡ old
+Does old (PutBackUp frame) new = CanPutBackUp old frame × UndoesUp old frame new
+Does old (NextDown n result) new = (n < old.registers.ports) × NextDownRule old n result new
+Does old (PutBackDown n frame) new = CanPutBackDown old n frame × UndoesDown old n frame new
 
--- one call after another
-abbrev pub DoesAll : PmState → List Call → PmState → Type 0
-DoesAll old [] new = new ≡ old
-DoesAll old (call ∷ calls) new = (mid : PmState) × Does old call mid × DoesAll mid calls new
+-- ---- what passed
+
+-- the frames that were given and were not put back, those for a device with its port; and those of the control port
+-- that were made, a notification as it is given; all in their order
+pub record Past : Type 0 where
+  pub up : List Stamped
+  pub down : List (ℕ × Stamped)
+  pub made : List Stamped
+
+abbrev pub but_last : {A : Type 0} → List A → List A
+but_last xs = take (length xs - 1) xs
+
+abbrev pub past_after : Past → Call → Past
+past_after past (FromHost frame result made) = record past { made = past.made ++ option_to_list made }
+past_after past (NextUp (Ok (Some frame))) = record past {
+  up = past.up ++ frame ∷ [];
+  made = (if is_notice frame then past.made ++ frame ∷ [] else past.made);
+}
+past_after past (PutBackUp frame) = record past {
+  up = but_last past.up;
+  made = (if is_notice frame then but_last past.made else past.made);
+}
+past_after past (NextDown n (Some frame)) = record past { down = past.down ++ (n, frame) ∷ [] }
+past_after past (PutBackDown n frame) = record past { down = but_last past.down }
+past_after past _ = past
+
+abbrev pub EndsWith : {A : Type 0} → List A → A → Type 0
+EndsWith {A} xs x = (front : List A) × (xs ≡ front ++ x ∷ [])
+
+-- a frame that is put back is the one that was given last; a notification is also what was made last
+abbrev pub Suits : Past → Call → Type 0
+Suits past (PutBackUp frame) = EndsWith past.up frame × (is_notice frame ≡ true → EndsWith past.made frame)
+Suits past (PutBackDown n frame) = EndsWith past.down (n, frame)
+Suits past _ = Unit {0}
+
+-- one call after another, by a rule that says what each does
+abbrev pub Runs : (PmState → Call → PmState → Type 0) → Past → PmState → List Call → PmState → Type 0
+Runs Rule past old [] new = new ≡ old
+Runs Rule past old (call ∷ calls) new =
+    (mid : PmState) × Suits past call × Rule old call mid × Runs Rule (past_after past call) mid calls new
+
+abbrev pub DoesAll : Past → PmState → List Call → PmState → Type 0
+DoesAll past old calls new = Runs Does past old calls new
+
+abbrev pub all_past : Past → List Call → Past
+all_past past [] = past
+all_past past (call ∷ calls) = all_past (past_after past call) calls
 
 -- ---- up
 
--- the bytes that a call took in on connection c of port n, marked with n; none or one list
-abbrev pub came_by : ℕ → ℕ → Call → List (List ℕ)
-came_by n c (FromDevice m frame (Ok Kept)) = if m == n && frame.stamp.conn == c then marked frame.bytes n ∷ [] else []
+-- the frames of connection c of port n, by their stamps
+abbrev pub of_conn : ℕ → ℕ → List Stamped → List Stamped
+of_conn n c frames = filter (λ frame. frame.stamp.port == n && frame.stamp.conn == c) frames
+
+-- what port n holds, as it will go up
+abbrev pub held_of : ℕ → ℕ → PmState → List Stamped
+held_of n c pm = of_conn n c (map (rising n) (option_to_list (port_at pm n).up))
+
+-- what a call took in from the device at port n, as it will go up
+abbrev pub came_by : ℕ → ℕ → Call → List Stamped
+came_by n c (FromDevice m frame (Ok Kept)) = if m == n then of_conn n c (rising n frame ∷ []) else []
 came_by n c _ = []
 
--- the bytes that a call gave to the host of it
-abbrev pub left_by : ℕ → ℕ → Call → List (List ℕ)
-left_by n c (NextUp (Ok (Some frame))) = if frame.stamp.port == n && frame.stamp.conn == c then frame.bytes ∷ [] else []
-left_by n c _ = []
-
-abbrev pub came_in : ℕ → ℕ → List Call → List (List ℕ)
+abbrev pub came_in : ℕ → ℕ → List Call → List Stamped
 came_in n c calls = flat_map (came_by n c) calls
 
-abbrev pub left : ℕ → ℕ → List Call → List (List ℕ)
-left n c calls = flat_map (left_by n c) calls
+-- the connections of the frames of port n that went up never fall, and none is above the highest that came
+abbrev pub of_port : ℕ → List Stamped → List Stamped
+of_port n frames = filter (λ frame. frame.stamp.port == n) frames
 
--- what a hold has of connection c, as it will leave port n
-abbrev pub of_conn : ℕ → ℕ → Option Stamped → List (List ℕ)
-of_conn n c None = []
-of_conn n c (Some frame) = if frame.stamp.conn == c then marked frame.bytes n ∷ [] else []
-
-abbrev pub held_of : ℕ → ℕ → PmState → List (List ℕ)
-held_of n c pm = of_conn n c (port_at pm n).up
+pub record NeverFall (n : ℕ) (up : List Stamped) (last : ℕ) : Type 0 where
+  pub rise : IsNonDecreasingBy (λ frame. frame.stamp.conn) (of_port n up)
+  pub most : All (λ frame. frame.stamp.conn ≤ last) (of_port n up)
 
 -- ---- down
 
--- the bytes that a call passed down to port n, with PM Port 0
-abbrev pub passed_by : ℕ → Call → List (List ℕ)
-passed_by n (FromHost frame (Ok (passed.Down m))) = if m == n then marked frame.bytes 0 ∷ [] else []
-passed_by n _ = []
+abbrev pub to_port : ℕ → List (ℕ × Stamped) → List Stamped
+to_port n frames = map (λ sent. sent.1) (filter (λ sent. sent.0 == n) frames)
 
--- the bytes that a call gave to the device at port n
-abbrev pub given_by : ℕ → Call → List (List ℕ)
-given_by n (NextDown m (Some frame)) = if m == n then frame.bytes ∷ [] else []
-given_by n _ = []
+-- what waits for the device at port n
+abbrev pub falls_to : ℕ → PmState → List Stamped
+falls_to n pm = option_to_list (port_at pm n).down
 
-abbrev pub passed_down : ℕ → List Call → List (List ℕ)
-passed_down n calls = flat_map (passed_by n) calls
+-- which connection is present at port n after a call, where this one was
+abbrev pub present_after : ℕ → Option ℕ → Call → Option ℕ
+present_after n was (Came m conn (Ok done)) = if m == n then Some conn else was
+present_after n was _ = was
 
-abbrev pub given_down : ℕ → List Call → List (List ℕ)
-given_down n calls = flat_map (given_by n) calls
+-- what a call passed down to port n, where this connection was present: with PM Port 0 and the connection
+abbrev pub falls : Option ℕ → Stamped → List Stamped
+falls (Some conn) frame = falling conn frame ∷ []
+falls None frame = []
 
-abbrev pub bytes_of : Option Stamped → List (List ℕ)
-bytes_of None = []
-bytes_of (Some frame) = frame.bytes ∷ []
+abbrev pub passed_by : ℕ → Option ℕ → Call → List Stamped
+passed_by n present (FromHost frame (Ok (passed.Down m)) made) = if m == n then falls present frame else []
+passed_by n present _ = []
 
--- what is on its way down to the device at port n
-abbrev pub falling_to : ℕ → PmState → List (List ℕ)
-falling_to n pm = bytes_of (port_at pm n).down
+abbrev pub passed_down : ℕ → Option ℕ → List Call → List Stamped
+passed_down n present [] = []
+passed_down n present (call ∷ calls) = passed_by n present call ++ passed_down n (present_after n present call) calls
+
+abbrev pub all_present : ℕ → Option ℕ → List Call → Option ℕ
+all_present n was [] = was
+all_present n was (call ∷ calls) = all_present n (present_after n was call) calls
+
+-- ---- the control port
+
+abbrev pub answers : List Stamped → List Stamped
+answers frames = filter is_answer frames
+
+abbrev pub answer_by : Call → List Stamped
+answer_by (FromHost frame result made) = option_to_list made
+answer_by _ = []
+
+-- the answers that calls made, in their order
+abbrev pub answers_made : List Call → List Stamped
+answers_made calls = flat_map answer_by calls
+
+-- the running numbers of these frames are given one after another, from one number on, and so is the next
+abbrev pub AreNumbered : ℕ → List Stamped → ℕ → Type 0
+AreNumbered from [] next = next ≡ from
+AreNumbered from (frame ∷ frames) next = (frame.stamp.number ≡ from) × AreNumbered (counted from) frames next
+
+-- ---- the laws
+
+-- What holds of calls from one multiplier to another, where these frames passed before.
+pub record PassInOrder (past : Past) (old : PmState) (calls : List Call) (new : PmState) : Type 0 where
+  pub sound : IsSound new
+  -- what went up of a connection, and then what its port holds of it, is what did before and then what came in, each
+  -- frame with the port as its PM Port and in its stamp
+  pub up : (n c : ℕ) → n < 15
+      → of_conn n c (all_past past calls).up ++ held_of n c new ≡ of_conn n c past.up ++ held_of n c old ++ came_in n c calls
+  pub connections : (n : ℕ) → n < 15 → NeverFall n past.up (port_at old n).last → NeverFall n (all_past past calls).up (port_at new n).last
+  pub last : (n : ℕ) → (port_at old n).last ≤ (port_at new n).last
+  pub present : (n : ℕ) → n < 15 → (port_at new n).present ≡ all_present n (port_at old n).present calls
+  -- what went down to the device at a port, and then what waits for it, is what did before and then what was passed down
+  pub down : (n : ℕ) → n < 15
+      → to_port n (all_past past calls).down ++ falls_to n new
+      ≡ to_port n past.down ++ falls_to n old ++ passed_down n (port_at old n).present calls
+  -- what went up of the answers, and then the one that waits, is what did before and then those that were made
+  pub answered : answers (all_past past calls).up ++ option_to_list new.answer ≡ answers past.up ++ option_to_list old.answer ++ answers_made calls
+  pub numbers : (first : ℕ) → AreNumbered first past.made old.number → AreNumbered first (all_past past calls).made new.number
+
+-- The same calls, with a place that is ready at each turn at which a frame goes up, and that is not the one served.
+abbrev pub PassesOver : ℕ → PmState → Call → PmState → Type 0
+PassesOver place old (NextUp (Ok (Some frame))) new =
+    NextUpRule old (Ok (Some frame)) new × (ready old place ≡ true) × (new.served ≢ place)
+PassesOver place old call new = Does old call new

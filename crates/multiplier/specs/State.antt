@@ -1,13 +1,13 @@
--- What a port multiplier holds (Serial ATA 3.x, port multiplier): its registers, its device ports, and what its
--- control port has to say.
-use Rattle.std.specs.Prelude.{ℕ, ◌+◌, ◌%◌, ◌==◌, ◌&&◌, ◌||◌, nat_lt, min, Bool, false, if◌then◌else◌, bit_and, List, replicate, slice_index, slice_index_or, slice_set, Option, None, is_some}
+-- What a port multiplier holds (Serial ATA 3.x, 16.3, port multiplier): its registers (16.4), its device ports, and
+-- what its control port has to say.
+use Rattle.std.specs.Prelude.{◌≡◌, ℕ, ◌+◌, ◌%◌, ◌==◌, ◌≤◌, ◌&&◌, ◌||◌, min, Bool, false, true, if◌then◌else◌, List, length, replicate, slice_index, slice_index_or, slice_set, Option, None, Some, is_some}
 use Rattle.fis_view.specs.Frames.{Stamped, marked}
 use Rattle.fis_view.specs.declared.frame.Stamp.{Stamp}
-use Rattle.pm_registers.specs.Port.{det, bit_x}
 use Rattle.pm_registers.specs.RegisterMap as map
 use Rattle.pm_ports.specs.Port as port
 use Rattle.multiplier.specs.Arbiter.{control_port, next_served}
 use Rattle.multiplier.specs.declared.given.Given.{Given}
+use Rattle.multiplier.specs.declared.given.Given.TheVariants.{Up, Down}
 
 -- a multiplier, as contracts see it
 pub record PmState : Type 0 where
@@ -24,7 +24,7 @@ pub record PmState : Type 0 where
   pub number : ℕ
   -- how many frames of the host were dropped
   pub dropped : ℕ
-  -- how the frame that went up last is put back
+  -- the frame that the last call gave, where it may be put back
   pub given : Option Given
 
 -- the largest count and the largest running number; one that reached it stays
@@ -50,24 +50,61 @@ opening ports = record {
 abbrev pub port_at : PmState → ℕ → port.PortState
 port_at pm n = slice_index_or pm.ports n port.empty_port
 
-abbrev pub with_port : PmState → ℕ → port.PortState → PmState
-with_port pm n p = record pm { ports = slice_set pm.ports n p }
+-- a multiplier of which nothing may be put back
+abbrev pub settled : PmState → PmState
+settled pm = record pm { given = None }
 
--- whether FISes pass a port, in both directions
-abbrev pub forwards : map.RegisterMap → ℕ → Bool
-forwards m n =
-    nat_lt n m.ports && (det (map.port_at m n).control == 0) && (det (map.port_at m n).status == 3)
-    && (bit_and (map.port_at m n).error bit_x == 0)
+-- another state of a port; what was given before may not be put back any more
+abbrev pub with_port : PmState → ℕ → port.PortState → PmState
+with_port pm n p = record pm { ports = slice_set pm.ports n p; given = None }
+
+-- ---- what is true of every multiplier
+
+-- a port is sound; the registers show a device at it exactly where a connection is present; and the frame that waits to
+-- go up is stamped with the port
+pub record IsSoundPort (n : ℕ) (shown : Bool) (p : port.PortState) : Type 0 where
+  pub sound : port.IsSound p
+  pub agrees : shown ≡ is_some p.present
+  pub stamped : (frame : Stamped) → p.up ≡ Some frame → frame.stamp.port ≡ n
+
+-- the answer of the control port: a Register Device to Host FIS, type 34h (10.5), that is stamped with the port
+abbrev pub is_answer : Stamped → Bool
+is_answer frame = frame.stamp.port == control_port && slice_index frame.bytes 0 == 0x34
+
+-- its notification: a Set Device Bits FIS, type A1h (10.5)
+abbrev pub is_notice : Stamped → Bool
+is_notice frame = frame.stamp.port == control_port && slice_index frame.bytes 0 == 0xA1
+
+-- the place that is served once more where the frame that went up is put back
+abbrev pub IsPlace : Option Given → Type 0
+IsPlace (Some (Up before source stamp)) = before ≤ control_port
+IsPlace (Some (Down n stamp)) = Unit {0}
+IsPlace None = Unit {0}
+
+pub record IsSound (pm : PmState) : Type 0 where
+  pub served : pm.served ≤ control_port
+  pub registers : map.IsSound pm.registers
+  pub room : length pm.ports ≡ 15
+  pub ports : (n : ℕ) → IsSoundPort n (map.port_at pm.registers n).present (port_at pm n)
+  pub answer : (frame : Stamped) → pm.answer ≡ Some frame → is_answer frame ≡ true
+  pub given : IsPlace pm.given
 
 -- ---- up
 
 -- the frame of a port that goes up next: the one it holds, where it forwards and the frame is of its connection
 abbrev pub held : PmState → ℕ → Option Stamped
-held pm n = port.next_up (forwards pm.registers n) (port_at pm n)
+held pm n = port.next_up (map.forwards pm.registers n) (port_at pm n)
 
--- a frame as it goes up from a port: its PM Port is the port's
+-- a frame with this port in its stamp
+abbrev pub stamped : ℕ → Stamped → Stamped
+stamped n frame = record {
+  bytes = frame.bytes;
+  stamp = record { port = n; conn = frame.stamp.conn; number = frame.stamp.number; shown = frame.stamp.shown };
+}
+
+-- a frame as it goes up from a port: its PM Port and the port of its stamp are the port
 abbrev pub rising : ℕ → Stamped → Stamped
-rising n frame = record { bytes = marked frame.bytes n; stamp = frame.stamp }
+rising n frame = record { bytes = marked frame.bytes n; stamp = (stamped n frame).stamp }
 
 -- a place is ready where it has a frame for the host: a port that holds one which may go up, and the control port
 -- where a notification is due or an answer waits
@@ -78,9 +115,9 @@ ready pm place = if place == control_port then pm.registers.due || is_some pm.an
 abbrev pub next_place : PmState → Option ℕ
 next_place pm = next_served pm.served (ready pm)
 
--- the stamp of a frame of the control port; no removal is recorded yet
-abbrev pub control_stamp : ℕ → Stamp
-control_stamp number = record { port = control_port; conn = 0; number = number; shown = replicate 15 0 }
+-- the stamp of the next frame of the control port; no removal is recorded yet
+abbrev pub control_stamp : PmState → Stamp
+control_stamp pm = record { port = control_port; conn = 0; number = pm.number; shown = replicate 15 0 }
 
 -- ---- down
 
@@ -90,18 +127,11 @@ pm_port frame = slice_index frame.bytes 1 % 16
 
 -- the connection that a frame for this port goes to: the one that is present, where the port forwards
 abbrev pub passes_to : PmState → ℕ → Option ℕ
-passes_to pm n = if forwards pm.registers n then (port_at pm n).present else None
+passes_to pm n = if map.forwards pm.registers n then (port_at pm n).present else None
 
 -- a frame on its way down: its PM Port is 0, and its stamp has the connection that it goes to
 abbrev pub falling : ℕ → Stamped → Stamped
 falling conn frame = record {
   bytes = marked frame.bytes 0;
   stamp = record { port = frame.stamp.port; conn = conn; number = frame.stamp.number; shown = frame.stamp.shown };
-}
-
--- a frame of the device at this port, as it is held
-abbrev pub arriving : ℕ → Stamped → Stamped
-arriving n frame = record {
-  bytes = frame.bytes;
-  stamp = record { port = n; conn = frame.stamp.conn; number = frame.stamp.number; shown = frame.stamp.shown };
 }

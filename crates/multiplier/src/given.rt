@@ -1,4 +1,6 @@
-//! How the frame that went up last is put back.
+//! How the frame that was given last is put back.
+
+use fis_view::Stamp;
 
 /// From where a frame went up.
 #[derive(Clone, Copy, Debug, PartialEq, Eq)]
@@ -11,11 +13,23 @@ pub enum Source {
     Notice,
 }
 
-/// What is to be restored where the frame that went up last is put back.
+/// The frame that the last call gave, and what is to be restored where it is put back.
 #[derive(Clone, Copy, Debug, PartialEq, Eq)]
-pub struct Given {
-    /// The place that was served before it.
-    pub before: u8,
-    /// From where it went up.
-    pub source: Source,
+pub enum Given {
+    /// A frame for the host.
+    Up {
+        /// The place that was served before it.
+        before: u8,
+        /// From where it went up.
+        source: Source,
+        /// Its stamp.
+        stamp: Stamp,
+    },
+    /// A frame for a device.
+    Down {
+        /// The port of the device.
+        port: u8,
+        /// Its stamp.
+        stamp: Stamp,
+    },
 }

@@ -18,7 +18,7 @@ mod passing;
 pub use arbiter::waits_for_at_most_fifteen;
 pub use given::{Given, Source};
 pub use multiplier::{Multiplier, Passed, PmRefusal};
-pub use passing::frames_pass_in_order;
+pub use passing::{frames_pass_in_order, is_passed_over_at_most_fifteen_times};
 
 #[cfg(test)]
 mod tests;

@@ -1,11 +1,12 @@
 //! The port multiplier.
 
-ghost use Rattle.std.specs.Prelude.{if◌then◌else◌, is_some, length, true, IfOk, IfSome, IsTrue, MatchOption, MatchResult, None, OnOk, Some, ◌<◌, ◌↔◌, ◌≡◌, ◌≤◌, option_copied};
-ghost use Rattle.std.specs.Result.{result_err};
-ghost use Rattle.pm_ports.specs.Port.{came_refusal, with_down};
+ghost use Rattle.std.specs.Prelude.{if◌then◌else◌, is_none, is_some, not, true, IfOk, IfSome, IsTrue, MatchOption, MatchResult, None, Ok, Some, replicate, ◌<◌, ◌≡◌, ◌≤◌, option_copied};
+ghost use Rattle.pm_ports.specs.Port.{empty_port, with_down};
+ghost use Rattle.pm_registers.specs.RegisterMap.{forwards};
 ghost use Rattle.multiplier.specs.Arbiter.{control_port};
-ghost use Rattle.multiplier.specs.Rules.{CanPutBackUp, ControlGives, FromDeviceRule, FromHostRule, KeepsPorts, NextDownRule, NextUpRule, PortGives, given_from, ToControl, ToDevice, put_back, settled, with_device};
-ghost use Rattle.multiplier.specs.State.{PmState, control_stamp, falling, forwards, held, next_place, opening, passes_to, port_at, ready, rising, with_port};
+ghost use Rattle.multiplier.specs.Rules.{CameRule, CanPutBackDown, CanPutBackUp, ControlGives, DropsOnly, FromDeviceRule, FromHostRule, HasRoom, HasRoomFor, KeepsPorts, NextDownRule, NextUpRule, PortGives, ToControl, ToDevice, UndoesDown, UndoesUp, may_go_back, put_back, refilled};
+ghost use Rattle.multiplier.specs.declared.given.Source.TheVariants as source;
+ghost use Rattle.multiplier.specs.State.{IsSound, control_stamp, counted, falling, held, is_answer, next_place, opening, passes_to, port_at, ready, rising, stamped, with_port};
 
 use crate::given::{Given, Source};
 use fis_view::{Frame, Stamp};
@@ -53,21 +54,48 @@ pub struct Multiplier {
 }
 
 impl Model for Multiplier {
-    ghost use Rattle.std.specs.Prelude.{length, ◌≡◌, ◌≤◌};
-    ghost use Rattle.multiplier.specs.State.{PmState};
+    ghost use Rattle.multiplier.specs.State.{IsSound, PmState};
 
     ghost Value = { PmState };
 
-    ghost view = { λ m. record { registers = m.registers; resetting = m.control; ports = m.ports; answer = m.answer; served = m.served; number = m.number; dropped = m.dropped; given = m.given } };
+    ghost view = { λ m. record {
+      registers = m.registers;
+      resetting = m.control;
+      ports = m.ports;
+      answer = m.answer;
+      served = m.served;
+      number = m.number;
+      dropped = m.dropped;
+      given = m.given;
+    } };
 
-    ghost invariant = { λ m. (m.served ≤ 15) × (m.registers.ports ≤ 15) × (length m.ports ≡ 15) };
+    ghost invariant = { λ m. IsSound (record {
+      registers = m.registers;
+      resetting = m.control;
+      ports = m.ports;
+      answer = m.answer;
+      served = m.served;
+      number = m.number;
+      dropped = m.dropped;
+      given = m.given;
+    }) };
+}
+
+/// The frame with port `n` in its stamp.
+fn stamped(n: u8, mut frame: Frame) -> Frame
+    ensures { result ≡ stamped n frame }
+{
+    let stamp = frame.stamp();
+    frame.set_stamp(Stamp { port: n, ..stamp });
+    frame
 }
 
 /// The frame as it goes up from port `n`.
-fn rising(n: u8, mut frame: Frame) -> Frame
+fn rising(n: u8, frame: Frame) -> Frame
     requires { n < 16 }
     ensures { result ≡ rising n frame }
 {
+    let mut frame = stamped(n, frame);
     frame.set_pm_port(n);
     frame
 }
@@ -82,16 +110,21 @@ fn falling(conn: u32, mut frame: Frame) -> Frame
     frame
 }
 
-/// The stamp of a frame of the control port with this running number.
-fn control_stamp(number: u32) -> Stamp
-    ensures { result ≡ control_stamp number }
+/// The running number after this one, where it was given to an answer.
+fn number_after(number: u32, answer: &Option<Frame>) -> u32
+    ensures { result ≡ (if is_some answer.now then counted number else number) }
 {
-    Stamp {
-        port: CONTROL_PORT,
-        conn: 0,
-        number,
-        shown: [0; 15],
+    match answer {
+        Some(_) => number.saturating_add(1),
+        None => number,
     }
+}
+
+/// Fifteen ports to which no device came.
+fn empty_ports() -> [Port; 15]
+    ensures { result ≡ replicate 15 empty_port }
+{
+    Default::default()
 }
 
 impl Multiplier {
@@ -104,12 +137,24 @@ impl Multiplier {
         Multiplier {
             registers: PmRegisters::new(ports),
             control: PmControl::new(),
-            ports: Default::default(),
+            ports: empty_ports(),
             answer: None,
             served: CONTROL_PORT,
             number: 0,
             dropped: 0,
             given: None,
+        }
+    }
+
+    /// The stamp of the next frame of the control port.
+    fn control_stamp(&self) -> Stamp
+        ensures { result ≡ control_stamp self.now }
+    {
+        Stamp {
+            port: CONTROL_PORT,
+            conn: 0,
+            number: self.number,
+            shown: [0; 15],
         }
     }
 
@@ -121,10 +166,11 @@ impl Multiplier {
         self.registers.forwards(n)
     }
 
-    /// The connection that a frame for port `n` goes to.
+    /// The connection that a frame for port `n` goes to: a port that forwards has one.
     fn passes_to(&self, n: u8) -> Option<u32>
         ensures value { result ≡ passes_to self.now n }
         ensures there { MatchOption result (Unit {0}) (λ conn. n < 15) }
+        ensures present { is_none result ≡ not (forwards self.now.registers n) }
     {
         if self.forwards(n) {
             self.ports[usize::from(n)].present()
@@ -136,9 +182,10 @@ impl Multiplier {
     /// Takes a frame of the host to the port that its PM Port names: to the control port, which answers it, or into the
     /// downward place of a port that forwards. A frame to a port that is absent or does not forward is dropped and
     /// counted. Where the place is taken, or no memory is left for the answer, the frame is given back.
-    #[tactic(auto, using(crate::proofs::Keeps::control_keeps, crate::proofs::Keeps::device_keeps))]
+
     pub fn from_host(&mut self, alloc: Global, frame: Frame) -> Result<Passed, (Frame, PmRefusal)>
         ensures rule { FromHostRule self.old frame result self.new }
+        ensures drops { DropsOnly self.old frame result }
         ensures ports { KeepsPorts self.old self.new }
     {
         let port = frame.pm_port();
@@ -149,6 +196,7 @@ impl Multiplier {
             Some(conn) => self.to_device(port, conn, frame),
             None => {
                 self.dropped = self.dropped.saturating_add(1);
+                self.given = None;
                 Ok(Passed::Dropped)
             }
         }
@@ -161,16 +209,15 @@ impl Multiplier {
         if self.answer.is_some() {
             return Err((frame, PmRefusal::HoldFull));
         }
-        let stamp = control_stamp(self.number);
+        let stamp = self.control_stamp();
         match self
             .control
             .answer(alloc, &mut self.registers, &frame, stamp)
         {
             Ok(answer) => {
-                if answer.is_some() {
-                    self.number = self.number.saturating_add(1);
-                }
+                self.number = number_after(self.number, &answer);
                 self.answer = answer;
+                self.given = None;
                 Ok(Passed::Control)
             }
             Err(_) => Err((frame, PmRefusal::OutOfMemory)),
@@ -187,37 +234,43 @@ impl Multiplier {
             return Err((frame, PmRefusal::HoldFull));
         }
         match port.put_down(falling(conn, frame)) {
-            Ok(()) => Ok(Passed::Down(n)),
+            Ok(()) => {
+                self.given = None;
+                Ok(Passed::Down(n))
+            }
             Err(_) => unreachable!(),
         }
     }
 
     /// Takes a frame of the device at port `n`, or gives it back where another one is held. The frame that is held has
     /// `n` as the port of its stamp.
-    pub fn from_device(&mut self, n: u8, mut frame: Frame) -> Result<Offered, Frame>
+    pub fn from_device(&mut self, n: u8, frame: Frame) -> Result<Offered, Frame>
         requires { n < self.old.registers.ports }
-        ensures { FromDeviceRule self.old n frame result self.new }
+        ensures rule { FromDeviceRule self.old n frame result self.new }
+        ensures ports { KeepsPorts self.old self.new }
     {
-        let stamp = frame.stamp();
-        frame.set_stamp(Stamp { port: n, ..stamp });
-        match self.ports[usize::from(n)].offer(frame) {
-            Ok(offered) => Ok(offered),
+        let sent = frame.stamp();
+        match self.ports[usize::from(n)].offer(stamped(n, frame)) {
+            Ok(offered) => {
+                self.given = None;
+                Ok(offered)
+            }
             Err(mut frame) => {
-                frame.set_stamp(stamp);
+                frame.set_stamp(sent);
                 Err(frame)
             }
         }
     }
 
     /// Records that a device came to port `n`, under this connection, in the port and in the registers. It is refused as
-    /// by [`Port::came`].
+    /// by [`Port::came`], and has no other refusal.
     pub fn came(&mut self, n: u8, conn: u32) -> Result<(), PortError>
         requires { n < self.old.registers.ports }
-        ensures refusal { result_err result ≡ came_refusal (port_at self.old n) conn }
-        ensures after { MatchResult result (λ _. self.new ≡ with_device self.old n conn) (λ _. self.new ≡ self.old) }
+        ensures { CameRule self.old n conn result self.new }
     {
         self.ports[usize::from(n)].came(conn)?;
         self.registers.insert(n);
+        self.given = None;
         Ok(())
     }
 
@@ -235,18 +288,20 @@ impl Multiplier {
     /// The place that is served next.
     fn next_place(&self) -> Option<u8>
         ensures value { result ≡ next_place self.now }
-        ensures served { self.now.served ≤ control_port }
+        ensures sound { IsSound self.now }
     {
         (self.served + 1..16)
             .chain(0..self.served + 1)
             .find(|place| self.is_ready(*place))
     }
 
-    /// Gives the next frame for the host, of the place that is its turn. A frame of a device goes up with PM Port `n`
-    /// of its port. Memory is asked for a notification alone; where it is refused, nothing changes.
+    /// Gives the next frame for the host, of the place that is its turn. A frame of a device goes up with the number of
+    /// its port as PM Port and in its stamp. Memory is asked for a notification alone; where it is refused, nothing
+    /// changes.
     pub fn next_up(&mut self, alloc: Global) -> Result<Option<Frame>, AllocError>
         ensures up { NextUpRule self.old result self.new }
-        ensures can_put_back { IfOk result (λ up. IfSome up (λ frame. CanPutBackUp self.new)) }
+        ensures can_put_back { IfOk result (λ up. IfSome up (λ frame. CanPutBackUp self.new frame)) }
+        ensures ports { KeepsPorts self.old self.new }
     {
         let Some(place) = self.next_place() else {
             return Ok(None);
@@ -260,13 +315,17 @@ impl Multiplier {
     }
 
     /// Counts a place as served, and keeps how its frame is put back.
-    fn serve(&mut self, place: u8, source: Source)
+    fn serve(&mut self, place: u8, source: Source, frame: &Frame)
         requires { place ≤ control_port }
-        ensures { self.new ≡ record self.old { served = place; given = given_from self.old source } }
+        ensures { self.new ≡ record self.old {
+          served = place;
+          given = may_go_back self.old source frame.now;
+        } }
     {
-        self.given = Some(Given {
+        self.given = Some(Given::Up {
             before: self.served,
             source,
+            stamp: frame.stamp(),
         });
         self.served = place;
     }
@@ -275,14 +334,15 @@ impl Multiplier {
     fn port_gives(&mut self, n: u8) -> Frame
         requires there { n < 15 }
         requires ready { is_some (held self.old n) ≡ true }
-        ensures gives { PortGives self.old n result self.new }
-        ensures can_put_back { CanPutBackUp self.new }
+        ensures { PortGives self.old n result self.new }
     {
         let forwards = self.forwards(n);
         match self.ports[usize::from(n)].take_held(forwards) {
             Some(frame) => {
-                self.serve(n, Source::Held(frame.pm_port()));
-                rising(n, frame)
+                let source = Source::Held(frame.pm_port());
+                let frame = rising(n, frame);
+                self.serve(n, source, &frame);
+                frame
             }
             None => unreachable!(),
         }
@@ -291,15 +351,17 @@ impl Multiplier {
     /// Gives a notification that is due, or else the answer of the control port.
     fn control_gives(&mut self, alloc: Global) -> Result<Frame, AllocError>
         requires { ready self.old control_port ≡ true }
-        ensures gives { MatchResult result (λ frame. ControlGives self.old frame self.new) (λ _. (self.old.registers.due ≡ true) × (self.new ≡ self.old)) }
-        ensures can_put_back { OnOk result (CanPutBackUp self.new) }
+        ensures { MatchResult result (λ frame. ControlGives self.old frame self.new)
+            (λ _. (self.old.registers.due ≡ true) × (self.new ≡ self.old)) }
     {
         if self.registers.notice_due() {
             return self.notice(alloc);
         }
-        self.serve(CONTROL_PORT, Source::Answer);
         match self.answer.take() {
-            Some(frame) => Ok(frame),
+            Some(frame) => {
+                self.serve(CONTROL_PORT, Source::Answer, &frame);
+                Ok(frame)
+            }
             None => unreachable!(),
         }
     }
@@ -307,77 +369,116 @@ impl Multiplier {
     /// Makes the notification that is due.
     fn notice(&mut self, alloc: Global) -> Result<Frame, AllocError>
         requires { self.old.registers.due ≡ true }
-        ensures gives { MatchResult result (λ frame. ControlGives self.old frame self.new) (λ _. self.new ≡ self.old) }
-        ensures can_put_back { OnOk result (CanPutBackUp self.new) }
+        ensures { MatchResult result (λ frame. ControlGives self.old frame self.new)
+            (λ _. self.new ≡ self.old) }
     {
-        let stamp = control_stamp(self.number);
+        let stamp = self.control_stamp();
         match PmControl::notice(alloc, &mut self.registers, stamp)? {
             Some(frame) => {
                 self.number = self.number.saturating_add(1);
-                self.serve(CONTROL_PORT, Source::Notice);
+                self.serve(CONTROL_PORT, Source::Notice, &frame);
                 Ok(frame)
             }
             None => unreachable!(),
         }
     }
 
-    /// Puts back the frame that `next_up` gave last, where its place is still empty. Where nothing was called since,
-    /// the multiplier is as before, and the next `next_up` gives the same frame.
+    /// Puts back the frame that `next_up` gave, where nothing was called since: the multiplier is as before, and the
+    /// next `next_up` gives the same frame.
     pub fn put_back_up(&mut self, frame: Frame)
-        requires { CanPutBackUp self.old }
-        ensures after { self.new ≡ put_back self.old frame self.old.given }
-        ensures undoes { (before : PmState) → NextUpRule before (Ok (Some frame)) self.old → self.new ≡ settled before }
+        requires { CanPutBackUp self.old frame }
+        ensures undoes { UndoesUp self.old frame self.new }
+        ensures ports { KeepsPorts self.old self.new }
     {
         self.refill(frame);
     }
 
     /// The frame that went up last is in its place again, and the place before is the one served last.
     fn refill(&mut self, frame: Frame)
-        requires { CanPutBackUp self.old }
-        ensures after { self.new ≡ put_back self.old frame self.old.given }
-        ensures ports { length self.old.ports ≡ 15 }
+        requires { HasRoomFor self.old frame self.old.given }
+        ensures { self.new ≡ put_back self.old frame self.old.given }
     {
-        let Some(given) = self.given.take() else {
+        let Some(Given::Up { before, source, .. }) = self.given else {
             return;
         };
-        match given.source {
-            Source::Held(pm_port) => {
-                self.ports[usize::from(self.served)].put_back_up(rising(pm_port, frame));
-            }
-            Source::Answer => self.answer = Some(frame),
-            Source::Notice => {
-                self.number = frame.stamp().number;
-                self.registers.restore_notice();
-            }
+        let place = self.served;
+        self.served = before;
+        self.put_into(place, source, frame);
+    }
+
+    /// The frame is in its place again.
+    fn put_into(&mut self, place: u8, source: Source, frame: Frame)
+        requires { HasRoom self.old place frame source }
+        ensures { self.new ≡ refilled self.old place frame source }
+    {
+        match source {
+            Source::Held(pm_port) => self.hold_again(place, pm_port, frame),
+            Source::Answer => self.answer_again(frame),
+            Source::Notice => self.notice_again(&frame),
         }
-        self.served = given.before;
+    }
+
+    /// Port `n` holds the frame again, whose PM Port was this.
+    fn hold_again(&mut self, n: u8, pm_port: u8, mut frame: Frame)
+        requires { HasRoom self.old n frame (source.Held pm_port) }
+        ensures { self.new ≡ refilled self.old n frame (source.Held pm_port) }
+    {
+        frame.set_pm_port(pm_port);
+        self.ports[usize::from(n)].put_back_up(frame);
+        self.given = None;
+    }
+
+    /// The answer waits again.
+    fn answer_again(&mut self, frame: Frame)
+        requires { is_answer frame ≡ true }
+        ensures { self.new ≡ record self.old { answer = Some frame; given = None } }
+    {
+        self.answer = Some(frame);
+        self.given = None;
+    }
+
+    /// The notification is due again, and its number is the next.
+    fn notice_again(&mut self, frame: &Frame)
+        ensures { self.new ≡ refilled self.old 15 frame.now source.Notice }
+    {
+        self.number = frame.stamp().number;
+        self.registers.restore_notice();
+        self.given = None;
     }
 
     /// Gives the frame on its way down to the device at port `n`.
     pub fn next_down(&mut self, n: u8) -> Option<Frame>
         requires { n < self.old.registers.ports }
         ensures down { NextDownRule self.old n result self.new }
+        ensures can_put_back { IfSome result (λ frame. CanPutBackDown self.new n frame) }
+        ensures ports { KeepsPorts self.old self.new }
     {
-        self.ports[usize::from(n)].take_down()
+        let frame = self.ports[usize::from(n)].take_down()?;
+        self.given = Some(Given::Down {
+            port: n,
+            stamp: frame.stamp(),
+        });
+        Some(frame)
     }
 
-    /// Puts back the frame that `next_down(n)` gave, where its place is still empty.
+    /// Puts back the frame that `next_down(n)` gave, where nothing was called since: the multiplier is as before, and
+    /// the next `next_down(n)` gives the same frame.
     pub fn put_back_down(&mut self, n: u8, frame: Frame)
-        requires there { n < self.old.registers.ports }
-        requires empty { (port_at self.old n).down ≡ None }
-        ensures after { self.new ≡ with_port self.old n (with_down (port_at self.old n) (Some frame)) }
-        ensures undoes { (before : PmState) → NextDownRule before n (Some frame) self.old → self.new ≡ before }
+        requires { CanPutBackDown self.old n frame }
+        ensures undoes { UndoesDown self.old n frame self.new }
+        ensures ports { KeepsPorts self.old self.new }
     {
         self.refill_down(n, frame);
     }
 
     /// The frame is in the downward place of port `n` again.
     fn refill_down(&mut self, n: u8, frame: Frame)
-        requires there { n < self.old.registers.ports }
+        requires there { n < 15 }
         requires empty { (port_at self.old n).down ≡ None }
         ensures { self.new ≡ with_port self.old n (with_down (port_at self.old n) (Some frame)) }
     {
         self.ports[usize::from(n)].put_back_down(frame);
+        self.given = None;
     }
 
     /// The registers, with which devices are present at ports, as the host sees them.

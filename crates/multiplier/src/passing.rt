@@ -1,14 +1,22 @@
-//! In which order frames pass.
+//! In which order frames pass, over any calls.
 
-ghost use Rattle.std.specs.Prelude.{◌≡◌, ◌<◌, ◌++◌, ℕ, List};
+ghost use Rattle.std.specs.Prelude.{◌+◌, ◌≤◌, ℕ, List, length};
 ghost use Rattle.multiplier.specs.Arbiter.{control_port};
-ghost use Rattle.multiplier.specs.State.{PmState, opening};
-ghost use Rattle.multiplier.specs.Passing.{Call, DoesAll, left, held_of, came_in, given_down, falling_to, passed_down};
+ghost use Rattle.multiplier.specs.State.{IsSound, PmState};
+ghost use Rattle.multiplier.specs.Passing.{Call, DoesAll, PassInOrder, PassesOver, Past, Runs, all_past};
 
-/// A law of any list of calls, which does nothing when it runs: what left of a connection of a device port, and then
-/// what the port holds of it, is what came in of it, marked with the port; and what was given to the device at a port,
-/// and then what is on its way down, is what was passed down to it, with PM Port 0.
+/// A law of any calls, one or many, of any sound multiplier, which does nothing when it runs: frames pass in their
+/// order and none is lost, the running numbers are given one after another, and no connection falls. A frame that is
+/// put back is one that did not pass.
 pub fn frames_pass_in_order()
-    ensures up { (ports : ℕ) (calls : List Call) (now : PmState) → DoesAll (opening ports) calls now → (n c : ℕ) → n < control_port → left n c calls ++ held_of n c now ≡ came_in n c calls }
-    ensures down { (ports : ℕ) (calls : List Call) (now : PmState) → DoesAll (opening ports) calls now → (n : ℕ) → given_down n calls ++ falling_to n now ≡ passed_down n calls }
+    ensures { (past : Past) (old new : PmState) (calls : List Call) →
+        IsSound old → DoesAll past old calls new → PassInOrder past old calls new }
+{}
+
+/// A law of any calls of any sound multiplier, which does nothing when it runs: where a place is ready at each turn at
+/// which a frame goes up, and is not the one served, at most 15 frames go up, those not counted that are put back.
+pub fn is_passed_over_at_most_fifteen_times()
+    ensures { (past : Past) (old new : PmState) (calls : List Call) (place : ℕ) →
+        IsSound old → place ≤ control_port → Runs (PassesOver place) past old calls new →
+        length (all_past past calls).up ≤ length past.up + 15 }
 {}

@@ -2,9 +2,12 @@
 
 ghost use Rattle.std.specs.Prelude.{IsTrue, ◌<◌};
 
-use crate::{Multiplier, Passed, PmRefusal, waits_for_at_most_fifteen};
+use crate::{
+    Multiplier, Passed, PmRefusal, frames_pass_in_order, is_passed_over_at_most_fifteen_times,
+    waits_for_at_most_fifteen,
+};
 use fis_view::{Frame, FrameError, Stamp};
-use pm_ports::{Offered, PortError};
+use pm_ports::Offered;
 use pm_registers::{CONTROL_PORT, GSCR_PORTS};
 use std::alloc::Global;
 use std::test::Fail;
@@ -14,6 +17,7 @@ const READ: [u8; 20] = [
     0x27, 0x83, 0x60, 0x01, 0, 0x01, 0, 0x40, 0, 0, 0, 0, 0x28, 0, 0, 0, 0, 0, 0, 0,
 ];
 
+/// READ PORT MULTIPLIER of PSCR[0] of port 2.
 const READ_STATUS: [u8; 20] = [
     0x27, 0x8F, 0xE4, 0, 0, 0, 0, 0x02, 0, 0, 0, 0, 0, 0, 0, 0, 0, 0, 0, 0,
 ];
@@ -24,16 +28,13 @@ const ENABLE_NOTIFICATION: [u8; 20] = [
 
 const NOTIFICATION: [u8; 8] = [0xA1, 0xCF, 0x50, 0, 0, 0, 0, 0];
 
-const SOFTWARE_RESET: [u8; 20] = [
-    0x27, 0x0F, 0, 0, 0, 0, 0, 0, 0, 0, 0, 0, 0, 0, 0, 0x04, 0, 0, 0, 0,
-];
-
+/// A Set Device Bits FIS as a device sends it.
 const BITS: [u8; 8] = [0xA1, 0x40, 0x50, 0, 0x20, 0, 0, 0];
 
-fn frame(alloc: Global, bytes: &[u8], conn: u32) -> Result<Frame, FrameError> {
+fn frame(alloc: Global, bytes: &[u8]) -> Result<Frame, FrameError> {
     let stamp = Stamp {
         port: 0,
-        conn,
+        conn: 1,
         number: 5,
         shown: [0; 15],
     };
@@ -50,182 +51,151 @@ fn has_port(pm: &Multiplier, n: u8) -> bool
     }
 }
 
-fn came(pm: &mut Multiplier, n: u8, conn: u32) -> Result<(), PortError> {
-    if has_port(pm, n) {
-        pm.came(n, conn)?;
-    }
-    Ok(())
-}
-
-/// Offers a frame of the device at port `n`, and tells whether it is held.
-fn holds(pm: &mut Multiplier, n: u8, frame: Frame) -> bool {
-    has_port(pm, n) && matches!(pm.from_device(n, frame), Ok(Offered::Held))
-}
-
-/// The stamp's port and the bytes of the frame that waits at port `n`.
-fn held(pm: &Multiplier, n: u8) -> Option<&Frame> {
-    if has_port(pm, n) { pm.hold(n) } else { None }
-}
-
-fn next_down(pm: &mut Multiplier, n: u8) -> Option<Frame> {
-    if has_port(pm, n) {
-        pm.next_down(n)
-    } else {
-        None
-    }
-}
-
-/// Gives the multiplier a frame of the host.
+/// Gives the multiplier a frame of the host, and tells where it went.
 fn pass(alloc: Global, pm: &mut Multiplier, bytes: &[u8]) -> Result<Passed, Fail> {
-    match pm.from_host(alloc, frame(alloc, bytes, 0)?) {
+    match pm.from_host(alloc, frame(alloc, bytes)?) {
         Ok(passed) => Ok(passed),
         Err((_, refusal)) => Err(refusal.into()),
     }
 }
 
-/// Has the control port do a register command, and gives the answer.
-fn command(alloc: Global, pm: &mut Multiplier, bytes: &[u8]) -> Result<Frame, Fail> {
-    if pass(alloc, pm, bytes)? != Passed::Control {
-        return Err("not passed".into());
+/// The bytes and the stamp of the next frame for the host are these.
+fn goes_up(alloc: Global, pm: &mut Multiplier, bytes: &[u8], port: u8, number: u32) -> bool {
+    match pm.next_up(alloc) {
+        Ok(Some(frame)) => {
+            let stamp = frame.stamp();
+            frame.bytes() == bytes && stamp.port == port && stamp.number == number
+        }
+        _ => false,
     }
-    Ok(pm.next_up(alloc)?.ok_or("no answer")?)
+}
+
+/// Has the control port write a register of port `n`: its number, the low byte and the high byte of the value.
+fn write(
+    alloc: Global,
+    pm: &mut Multiplier,
+    n: u8,
+    register: u8,
+    value: [u8; 2],
+) -> Result<(), Fail> {
+    let mut command = READ_STATUS;
+    command[2] = 0xE8;
+    command[3] = register;
+    command[7] = n;
+    command[12] = value[0];
+    command[6] = value[1];
+    pass(alloc, pm, &command)?;
+    pm.next_up(alloc)?;
+    Ok(())
 }
 
 /// Opens port `n` to a device that comes as connection 1.
 fn open(alloc: Global, pm: &mut Multiplier, n: u8) -> Result<(), Fail> {
-    let mut set_control = READ_STATUS;
-    set_control[2] = 0xE8;
-    set_control[3] = 2;
-    set_control[7] = n;
-    let mut clear_error = set_control;
-    clear_error[3] = 1;
-    clear_error[5] = 1;
-    clear_error[6] = 4;
-    command(alloc, pm, &set_control)?;
-    came(pm, n, 1)?;
-    command(alloc, pm, &clear_error)?;
-    Ok(())
+    write(alloc, pm, n, 2, [0, 0])?;
+    if has_port(pm, n) {
+        pm.came(n, 1)?;
+    }
+    write(alloc, pm, n, 1, [0, 4])
 }
 
+/// Offers a frame of the device at port `n`, and tells whether it is held.
+fn holds(alloc: Global, pm: &mut Multiplier, n: u8) -> Result<bool, Fail> {
+    let frame = frame(alloc, &BITS)?;
+    Ok(has_port(pm, n) && matches!(pm.from_device(n, frame), Ok(Offered::Held)))
+}
+
+/// A multiplier of four ports that are open to devices.
+fn four(alloc: Global) -> Result<Multiplier, Fail> {
+    let mut pm = Multiplier::new(4);
+    for n in 0..4 {
+        open(alloc, &mut pm, n)?;
+    }
+    Ok(pm)
+}
+
+/// The port of the next frame for the host, as its PM Port and in its stamp.
+fn turn(alloc: Global, pm: &mut Multiplier) -> Result<(u8, u8), Fail> {
+    match pm.next_up(alloc)? {
+        Some(frame) => Ok((frame.pm_port(), frame.stamp().port)),
+        None => Err("silent".into()),
+    }
+}
+
+/// Takes the next frame for the host and puts it back.
+fn take_and_put_back(alloc: Global, pm: &mut Multiplier) -> Result<(), Fail> {
+    match pm.next_up(alloc)? {
+        Some(frame) => {
+            pm.put_back_up(frame);
+            Ok(())
+        }
+        None => Err("silent".into()),
+    }
+}
+
+/// With frames ready at 0, 1, 3 and Fh, and port 1 served last.
 #[test]
 fn serves_in_a_circle(rt: HostRuntime) -> Result<(), Fail> {
     let alloc = rt.alloc();
-    waits_for_at_most_fifteen();
-    let mut pm = Multiplier::new(4);
-    for n in 0..4 {
-        open(alloc, &mut pm, n)?;
-    }
-    assert!(rt; pm.next_up(alloc)?.is_none());
-    assert!(rt; holds(&mut pm, 1, frame(alloc, &BITS, 1)?));
-    let first = pm.next_up(alloc)?.ok_or("silent")?;
-    assert_eq!(rt; first.pm_port(), 1);
+    let mut pm = four(alloc)?;
+    assert!(rt; holds(alloc, &mut pm, 1)?);
+    assert_eq!(rt; turn(alloc, &mut pm)?, (1, 1));
     for n in [0, 1, 3] {
-        assert!(rt; holds(&mut pm, n, frame(alloc, &BITS, 1)?));
-        assert_eq!(rt; held(&pm, n).ok_or("lost")?.stamp().port, n);
+        assert!(rt; holds(alloc, &mut pm, n)?);
     }
     assert_eq!(rt; pass(alloc, &mut pm, &READ_STATUS)?, Passed::Control);
     for n in [3, 15, 0, 1] {
-        let up = pm.next_up(alloc)?.ok_or("silent")?;
-        assert_eq!(rt; (up.pm_port(), up.stamp().port), (n, n));
+        take_and_put_back(alloc, &mut pm)?;
+        assert_eq!(rt; turn(alloc, &mut pm)?, (n, n));
     }
     assert!(rt; pm.next_up(alloc)?.is_none());
-    Ok(())
-}
-
-#[test]
-fn a_frame_that_is_put_back_goes_up_again(rt: HostRuntime) -> Result<(), Fail> {
-    let alloc = rt.alloc();
-    let mut pm = Multiplier::new(4);
-    for n in 0..4 {
-        open(alloc, &mut pm, n)?;
-    }
-    for n in 0..2 {
-        assert!(rt; holds(&mut pm, n, frame(alloc, &BITS, 1)?));
-    }
-    for n in 0..2 {
-        for _ in 0..3 {
-            let up = pm.next_up(alloc)?.ok_or("silent")?;
-            assert_eq!(rt; up.pm_port(), n);
-            pm.put_back_up(up);
-            assert_eq!(rt; held(&pm, n).ok_or("lost")?.bytes(), BITS.as_slice());
-        }
-        assert!(rt; pm.next_up(alloc)?.is_some());
-    }
     Ok(())
 }
 
 #[test]
 fn frames_go_down_with_pm_port_0(rt: HostRuntime) -> Result<(), Fail> {
     let alloc = rt.alloc();
-    let mut pm = Multiplier::new(4);
-    assert_eq!(rt; pass(alloc, &mut pm, &READ)?, Passed::Dropped);
-    assert_eq!(rt; pm.dropped(), 1);
-    open(alloc, &mut pm, 3)?;
+    let mut pm = four(alloc)?;
     assert_eq!(rt; pass(alloc, &mut pm, &READ)?, Passed::Down(3));
-    let (back, refusal) = pm
-        .from_host(alloc, frame(alloc, &READ, 0)?)
-        .err()
-        .ok_or("kept")?;
-    assert_eq!(rt; refusal, PmRefusal::HoldFull);
-    assert_eq!(rt; back.bytes(), READ.as_slice());
-    let mut wanted = READ;
-    wanted[1] = 0x80;
+    let full = pm.from_host(alloc, frame(alloc, &READ)?);
+    assert!(rt; matches!(full, Err((_, PmRefusal::HoldFull))));
     if !has_port(&pm, 3) {
         return Err("no port 3".into());
     }
     let down = pm.next_down(3).ok_or("silent")?;
+    let mut wanted = READ;
+    wanted[1] = 0x80;
     assert_eq!(rt; down.bytes(), wanted.as_slice());
     assert_eq!(rt; down.stamp().conn, 1);
-    pm.put_back_down(3, down);
-    assert!(rt; next_down(&mut pm, 3).is_some());
-    assert!(rt; next_down(&mut pm, 3).is_none());
-    assert!(rt; pm.registers().forwards(3));
-    assert_eq!(rt; pm.dropped(), 1);
+    Ok(())
+}
+
+/// The notification of a device that came goes before the answer that waits, and has the later number.
+#[test]
+fn a_notification_goes_first(rt: HostRuntime) -> Result<(), Fail> {
+    let alloc = rt.alloc();
+    let mut pm = Multiplier::new(4);
+    write(alloc, &mut pm, 0, 2, [0, 0])?;
+    pass(alloc, &mut pm, &ENABLE_NOTIFICATION)?;
+    assert_eq!(rt; turn(alloc, &mut pm)?, (15, 15));
+    pass(alloc, &mut pm, &READ_STATUS)?;
+    if has_port(&pm, 0) {
+        pm.came(0, 1)?;
+    }
+    take_and_put_back(alloc, &mut pm)?;
+    assert!(rt; goes_up(alloc, &mut pm, &NOTIFICATION, 15, 3));
+    let answer = [
+        0x34, 0x4F, 0x50, 0, 0, 0, 0, 0, 0, 0, 0, 0, 0x04, 0, 0, 0, 0, 0, 0, 0,
+    ];
+    assert!(rt; goes_up(alloc, &mut pm, &answer, 15, 2));
     Ok(())
 }
 
 #[test]
-fn a_notification_goes_before_an_answer(rt: HostRuntime) -> Result<(), Fail> {
-    let alloc = rt.alloc();
-    let mut pm = Multiplier::new(4);
-    open(alloc, &mut pm, 2)?;
-    command(alloc, &mut pm, &ENABLE_NOTIFICATION)?;
-    assert_eq!(rt; came(&mut pm, 2, 2), Err(PortError::AlreadyThere));
-    assert!(rt; pm.next_up(alloc)?.is_none());
-    let mut open_port_0 = READ_STATUS;
-    open_port_0[2] = 0xE8;
-    open_port_0[3] = 2;
-    open_port_0[7] = 0;
-    command(alloc, &mut pm, &open_port_0)?;
-    assert_eq!(rt; pass(alloc, &mut pm, &READ_STATUS)?, Passed::Control);
-    came(&mut pm, 0, 1)?;
-    let full = pm.from_host(alloc, frame(alloc, &READ_STATUS, 0)?).err();
-    assert_eq!(rt; full.ok_or("kept")?.1, PmRefusal::HoldFull);
-    for _ in 0..2 {
-        let notice = pm.next_up(alloc)?.ok_or("silent")?;
-        assert_eq!(rt; notice.bytes(), NOTIFICATION.as_slice());
-        assert_eq!(rt;
-            (
-                notice.stamp().port,
-                notice.stamp().conn,
-                notice.stamp().number
-            ),
-            (15, 0, 5)
-        );
-        pm.put_back_up(notice);
-    }
-    assert!(rt; pm.next_up(alloc)?.is_some());
-    for _ in 0..2 {
-        let answer = pm.next_up(alloc)?.ok_or("silent")?;
-        assert_eq!(rt; answer.bytes()[0], 0x34);
-        assert_eq!(rt; answer.stamp().number, 4);
-        pm.put_back_up(answer);
-    }
-    assert!(rt; pm.next_up(alloc)?.is_some());
-    assert!(rt; pm.next_up(alloc)?.is_none());
-    assert_eq!(rt; pass(alloc, &mut pm, &SOFTWARE_RESET)?, Passed::Control);
-    assert!(rt; pm.next_up(alloc)?.is_none());
-    let text = format!(in alloc; "{}, {}", PmRefusal::HoldFull, PmRefusal::OutOfMemory)?;
+fn refusals_have_numbers_and_texts(rt: HostRuntime) -> Result<(), Fail> {
+    frames_pass_in_order();
+    is_passed_over_at_most_fifteen_times();
+    waits_for_at_most_fifteen();
+    let text = format!(in rt.alloc(); "{}, {}", PmRefusal::HoldFull, PmRefusal::OutOfMemory)?;
     assert_eq!(rt; text.as_str(), "hold full, out of memory");
     assert_eq!(rt;
         (PmRefusal::HoldFull as u8, PmRefusal::OutOfMemory as u8),

@@ -1,8 +1,5 @@
-use Rattle.multiplier.proofs.PassingLemmas.{frames_up, frames_down}
+use Rattle.multiplier.proofs.PassingLemmas.{pass_in_order}
 use Rattle.multiplier.proofs.passing.frames_pass_in_order.Goals as goal
 
-pub returns-clause-up : goal.returns-clause-up
-returns-clause-up c = frames_up
-
-pub returns-clause-down : goal.returns-clause-down
-returns-clause-down c = frames_down
+pub returns : goal.returns
+returns c = pass_in_order

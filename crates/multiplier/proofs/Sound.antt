@@ -1,0 +1,291 @@
+-- Each call leaves a sound multiplier.
+use Rattle.std.proofs.Common.{◌≡◌, ◌≢◌, ℕ, zero, suc, ◌<◌, ◌≤◌, ◌==◌, ◌&&◌, Bool, true, false, List, length, replicate, slice_index, Option, Some, None, Result, Ok, Err, refl, sym, ap, ◌∙◌, subst, arith, inl, inr}
+use Rattle.std.specs.Prelude.{if◌then◌else◌, slice_set, slice_index_or, is_some, nat_le}
+use Rattle.std.proofs.lemmas.Bool.{cases_eq, eq-eqb, ne_eqb, le-leb}
+use Rattle.std.proofs.lemmas.Option.{same_Some}
+use Rattle.std.proofs.lemmas.List.{length-set, get_or-set_other}
+use Rattle.fis_view.specs.Frames.{Stamped}
+use Rattle.fis_view.specs.declared.frame.Stamp.{Stamp}
+use Rattle.fis_view.specs.declared.build.D2hFields.{D2hFields}
+use Rattle.fis_view.specs.declared.view.Fis.{Fis}
+use Rattle.fis_view.specs.declared.view.Fis.TheVariants as view
+use Rattle.fis_view.specs.declared.view.FisFault.{FisFault}
+use Rattle.fis_view.specs.Table.{Kind, H2d, D2h, Activate, Setup, Data, Pio, Bits, Other}
+use Rattle.fis_view.specs.Seen.{seen, kind_of, kind_of_type, may_have, view_as}
+use Rattle.pm_registers.specs.RegisterMap as map
+use Rattle.pm_registers.specs.Port.{opening_port, inserted, ShowsTruly}
+use Rattle.pm_registers.specs.declared.port.PortRegisters.{PortRegisters}
+use Rattle.pm_registers.proofs.ShownLemmas.{keeps_sound, write_sound, write_devices}
+use Rattle.pm_registers.specs.Calls.{Inserts}
+use Rattle.pm_ports.specs.declared.port.PortError.TheVariants.{AlreadyThere, OldConnection}
+use Rattle.pm_control.specs.Answers.{IsAnswer, IsNotice, registers_left, registers_after_request}
+use Rattle.pm_control.specs.Requests.{request_in}
+use Rattle.pm_control.specs.declared.request.Request.{Request}
+use Rattle.pm_control.specs.declared.request.Request.TheVariants.{Read, Write, Unknown, Reset, EndReset}
+use Rattle.pm_ports.specs.Port as port
+use Rattle.multiplier.specs.Arbiter.{control_port}
+use Rattle.multiplier.specs.State.{PmState, IsSound, IsSoundPort, IsPlace, is_answer, is_notice, port_at, with_port, settled, stamped, opening}
+use Rattle.multiplier.specs.Rules.{with_device}
+use Rattle.multiplier.specs.declared.given.Given.{Given}
+use Rattle.multiplier.proofs.Ports.{at, each_port, this_port, other_port}
+
+-- ---- types of FIS
+
+either_kind : (P : Kind → Type 0) (b : Bool) (x y : Kind) → P x → P y → P (if b then x else y)
+either_kind P true x y p q = p
+either_kind P false x y p q = q
+
+abbrev NoD2h : Kind → Type 0
+NoD2h k = k ≢ D2h
+
+-- the type byte of a frame that is seen as a Register Device to Host FIS
+d2h_type : (t : ℕ) → kind_of_type t ≡ D2h → t ≡ 0x34
+d2h_type t e =
+    elim (cases_eq t 0x34) [
+      | inl is ↦ is
+      | inr ne ↦
+          let e2 : (if t == 0x27 then H2d else if false then D2h else if t == 0x39 then Activate else if t == 0x41 then Setup
+          else if t == 0x46 then Data else if t == 0x5F then Pio else if t == 0xA1 then Bits else Other) ≡ D2h = rw (ne_eqb t 0x34 ne) at e in
+          absurd (
+          either_kind NoD2h (t == 0x27) H2d _ (λ h. absurd cc)
+          (either_kind NoD2h (t == 0x39) Activate _ (λ h. absurd cc)
+          (either_kind NoD2h (t == 0x41) Setup _ (λ h. absurd cc)
+          (either_kind NoD2h (t == 0x46) Data _ (λ h. absurd cc)
+          (either_kind NoD2h (t == 0x5F) Pio _ (λ h. absurd cc)
+          (either_kind NoD2h (t == 0xA1) Bits Other (λ h. absurd cc) (λ h. absurd cc)))))) e2)
+    ]
+
+-- the type byte of a frame that is seen as a Set Device Bits FIS is not that of an answer
+abbrev NoBits : Kind → Type 0
+NoBits k = k ≢ Bits
+
+bits_type : (t : ℕ) → kind_of_type t ≡ Bits → t ≡ 0xA1
+bits_type t e =
+    elim (cases_eq t 0xA1) [
+      | inl is ↦ is
+      | inr ne ↦
+          let e2 : (if t == 0x27 then H2d else if t == 0x34 then D2h else if t == 0x39 then Activate else if t == 0x41 then Setup
+          else if t == 0x46 then Data else if t == 0x5F then Pio else if false then Bits else Other) ≡ Bits = rw (ne_eqb t 0xA1 ne) at e in
+          absurd (
+          either_kind NoBits (t == 0x27) H2d _ (λ h. absurd cc)
+          (either_kind NoBits (t == 0x34) D2h _ (λ h. absurd cc)
+          (either_kind NoBits (t == 0x39) Activate _ (λ h. absurd cc)
+          (either_kind NoBits (t == 0x41) Setup _ (λ h. absurd cc)
+          (either_kind NoBits (t == 0x46) Data _ (λ h. absurd cc)
+          (either_kind NoBits (t == 0x5F) Pio Other (λ h. absurd cc) (λ h. absurd cc)))))) e2)
+    ]
+
+viewed_d2h : (k : Kind) (f : List ℕ) → view_as k f ≡ view.RegD2H f → k ≡ D2h
+viewed_d2h H2d f e = absurd cc
+viewed_d2h D2h f e = refl
+viewed_d2h Activate f e = absurd cc
+viewed_d2h Setup f e = absurd cc
+viewed_d2h Data f e = absurd cc
+viewed_d2h Pio f e = absurd cc
+viewed_d2h Bits f e = absurd cc
+viewed_d2h Other f e = absurd cc
+
+viewed_bits : (k : Kind) (f : List ℕ) → view_as k f ≡ view.SetBits f → k ≡ Bits
+viewed_bits H2d f e = absurd cc
+viewed_bits D2h f e = absurd cc
+viewed_bits Activate f e = absurd cc
+viewed_bits Setup f e = absurd cc
+viewed_bits Data f e = absurd cc
+viewed_bits Pio f e = absurd cc
+viewed_bits Bits f e = refl
+viewed_bits Other f e = absurd cc
+
+seen_by : (b : Bool) (x y : Fis) (fault : FisFault) → (let r : Result Fis FisFault = (if b then Ok x else Err fault) in r) ≡ Ok y → x ≡ y
+seen_by true x y fault e = cc
+seen_by false x y fault e = absurd cc
+
+seen_d2h : (f : List ℕ) → seen f ≡ Ok (view_as D2h f) → slice_index f 0 ≡ 0x34
+unfolding seen
+seen_d2h f e = d2h_type (slice_index f 0) (viewed_d2h (kind_of f) f (seen_by (may_have (kind_of f) (length f)) _ _ _ e))
+
+seen_bits : (f : List ℕ) → seen f ≡ Ok (view_as Bits f) → slice_index f 0 ≡ 0xA1
+unfolding seen
+seen_bits f e = bits_type (slice_index f 0) (viewed_bits (kind_of f) f (seen_by (may_have (kind_of f) (length f)) _ _ _ e))
+
+-- ---- frames of the control port
+
+of_type : (frame : Stamped) (t : ℕ) → frame.stamp.port ≡ control_port → slice_index frame.bytes 0 ≡ t → (frame.stamp.port == control_port && slice_index frame.bytes 0 == t) ≡ true
+of_type frame t port type = rw (eq-eqb frame.stamp.port control_port port, eq-eqb (slice_index frame.bytes 0) t type) refl
+
+not_of_type : (frame : Stamped) (t u : ℕ) → slice_index frame.bytes 0 ≡ t → t ≢ u → (frame.stamp.port == control_port && slice_index frame.bytes 0 == u) ≡ false
+not_of_type frame t u type ne = none (frame.stamp.port == control_port) _ (ne_eqb (slice_index frame.bytes 0) u (λ h. ne (sym type ∙ h)))
+  where
+    none : (a b : Bool) → b ≡ false → (a && b) ≡ false
+    none true b e = e
+    none false b e = refl
+
+pub answer_is : (fields : Option D2hFields) (stamp : Stamp) → stamp.port ≡ control_port → (answer : Option Stamped) → IsAnswer fields stamp answer
+    → (frame : Stamped) → answer ≡ Some frame → is_answer frame ≡ true
+answer_is None stamp port None is frame e = absurd cc
+answer_is None stamp port (Some f) is frame e = absurd is
+answer_is (Some fields) stamp port None is frame e = absurd is
+answer_is (Some fields) stamp port (Some f) is frame e =
+    let same : f ≡ frame = same_Some f frame e in
+    subst (λ (g : Stamped). is_answer g ≡ true) same (of_type f 0x34 (ap (λ (s : Stamp). s.port) is.1 ∙ port) (seen_d2h f.bytes is.0.viewed))
+
+pub notice_is : (stamp : Stamp) → stamp.port ≡ control_port → (frame : Stamped) → IsNotice true stamp (Some frame) → is_notice frame ≡ true
+notice_is stamp port frame is = of_type frame 0xA1 (ap (λ (s : Stamp). s.port) is.1 ∙ port) (seen_bits frame.bytes is.0.viewed)
+
+pub notice_is_no_answer : (stamp : Stamp) (frame : Stamped) → IsNotice true stamp (Some frame) → is_answer frame ≡ false
+notice_is_no_answer stamp frame is = not_of_type frame 0xA1 0x34 (seen_bits frame.bytes is.0.viewed) (λ h. absurd (omega (arith, h)))
+
+-- ---- the registers after a request
+
+request_sound : (m : map.RegisterMap) (request : Option Request) → map.IsSound m → map.IsSound (registers_after_request m request)
+request_sound m None sound = sound
+request_sound m (Some (Read at)) sound = sound
+request_sound m (Some (Write at value)) sound = write_sound m at.port at.register value sound
+request_sound m (Some Unknown) sound = sound
+request_sound m (Some Reset) sound = sound
+request_sound m (Some EndReset) sound = sound
+
+request_devices : (m : map.RegisterMap) (request : Option Request) (n : ℕ) → (map.port_at (registers_after_request m request) n).present ≡ (map.port_at m n).present
+request_devices m None n = refl
+request_devices m (Some (Read at)) n = refl
+request_devices m (Some (Write at value)) n = write_devices m at.port at.register value n
+request_devices m (Some Unknown) n = refl
+request_devices m (Some Reset) n = refl
+request_devices m (Some EndReset) n = refl
+
+-- ---- sound multipliers
+
+-- where the registers show the same devices
+shows_as : (n : ℕ) (shown now : Bool) (p : port.PortState) → now ≡ shown → IsSoundPort n shown p → IsSoundPort n now p
+shows_as n shown now p e is = record { sound = is.sound; agrees = e ∙ is.agrees; stamped = is.stamped }
+
+pub answered_sound : (pm : PmState) (m : map.RegisterMap) (resetting : Bool) (answer : Option Stamped) (number : ℕ) (given : Option Given) (bytes : List ℕ) → IsSound pm → m ≡ registers_left pm.registers bytes
+    → ((frame : Stamped) → answer ≡ Some frame → is_answer frame ≡ true) → IsPlace given
+    → IsSound (record pm { registers = m; resetting = resetting; answer = answer; number = number; given = given })
+answered_sound pm m resetting answer number given bytes sound is answers place = record {
+  served = sound.served;
+  registers = subst map.IsSound (sym is) (request_sound pm.registers (request_in bytes) sound.registers);
+  room = sound.room;
+  ports = λ n. shows_as n _ _ (port_at pm n) (ap (λ (r : map.RegisterMap). (map.port_at r n).present) is ∙ request_devices pm.registers (request_in bytes) n) (sound.ports n);
+  answer = answers;
+  given = place;
+}
+
+-- another state of a port that is as sound
+pub set_sound : (pm : PmState) (n : ℕ) (p : port.PortState) → IsSound pm → IsSoundPort n (map.port_at pm.registers n).present p → IsSound (with_port pm n p)
+set_sound pm n p sound is = record {
+  served = sound.served;
+  registers = sound.registers;
+  room = length-set pm.ports n p ∙ sound.room;
+  ports = each_port (λ k q. IsSoundPort k (map.port_at pm.registers k).present q) pm.ports n p is sound.ports;
+  answer = sound.answer;
+  given = tt;
+}
+
+-- other frames in its places: one that waits to go up has the port's stamp
+pub places_sound : (n : ℕ) (shown : Bool) (p : port.PortState) (up down : Option Stamped) → IsSoundPort n shown p
+    → ((frame : Stamped) → up ≡ Some frame → frame.stamp.port ≡ n) → IsSoundPort n shown (record p { up = up; down = down })
+places_sound n shown p up down is stamped = record {
+  sound = record { counted = is.sound.counted; last = is.sound.last };
+  agrees = is.agrees;
+  stamped = stamped;
+}
+
+pub down_sound : (pm : PmState) (n : ℕ) (down : Option Stamped) → IsSound pm → IsSound (with_port pm n (port.with_down (port_at pm n) down))
+down_sound pm n down sound = set_sound pm n _ sound (places_sound n _ (port_at pm n) (port_at pm n).up down (sound.ports n) (sound.ports n).stamped)
+
+pub up_sound : (pm : PmState) (n : ℕ) (up : Option Stamped) → IsSound pm → ((frame : Stamped) → up ≡ Some frame → frame.stamp.port ≡ n)
+    → IsSound (with_port pm n (port.with_up (port_at pm n) up))
+up_sound pm n up sound stamped = set_sound pm n _ sound (places_sound n _ (port_at pm n) up (port_at pm n).down (sound.ports n) stamped)
+
+pub kept_sound : (pm : PmState) (n : ℕ) (frame : Stamped) → IsSound pm → IsSound (with_port pm n (port.with_up (port_at pm n) (Some (stamped n frame))))
+kept_sound pm n frame sound = up_sound pm n _ sound (λ f e. ap (λ (g : Stamped). g.stamp.port) (sym (same_Some (stamped n frame) f e)))
+
+-- the parts that are no port
+pub rest_sound : (pm : PmState) (answer : Option Stamped) (served number dropped : ℕ) (resetting : Bool) (given : Option Given) → IsSound pm
+    → ((frame : Stamped) → answer ≡ Some frame → is_answer frame ≡ true) → served ≤ control_port → IsPlace given
+    → IsSound (record pm { answer = answer; served = served; number = number; dropped = dropped; resetting = resetting; given = given })
+rest_sound pm answer served number dropped resetting given sound answers place leave = record {
+  served = place;
+  registers = sound.registers;
+  room = sound.room;
+  ports = sound.ports;
+  answer = answers;
+  given = leave;
+}
+
+pub settled_sound : (pm : PmState) → IsSound pm → IsSound (settled pm)
+settled_sound pm sound = rest_sound pm pm.answer pm.served pm.number pm.dropped pm.resetting None sound sound.answer sound.served tt
+
+-- a notification is due or not
+pub due_sound : (pm : PmState) (due : Bool) → IsSound pm → IsSound (record pm { registers = record pm.registers { due = due } })
+due_sound pm due sound = record {
+  served = sound.served;
+  registers = record { ports = sound.registers.ports; bank = sound.registers.bank; shown = sound.registers.shown };
+  room = sound.room;
+  ports = sound.ports;
+  answer = sound.answer;
+  given = sound.given;
+}
+
+-- a new one
+pub opens_sound : (ports : ℕ) → ports ≤ 15 → IsSound (opening ports)
+opens_sound ports most = record {
+  served = omega arith;
+  registers = record { ports = most; bank = refl; shown = λ n. subst ShowsTruly (sym (opening_at 15 n)) (λ e. absurd (omega (arith, e))) };
+  room = refl;
+  ports = λ n. record {
+    sound = subst port.IsSound (sym (empty_at 15 n)) (record { counted = λ conn e. absurd cc; last = λ conn e. absurd cc });
+    agrees = ap (λ (p : PortRegisters). p.present) (opening_at 15 n) ∙ sym (ap (λ (p : port.PortState). is_some p.present) (empty_at 15 n));
+    stamped = λ frame e. let none : None ≡ Some frame = sym (ap (λ (p : port.PortState). p.up) (empty_at 15 n)) ∙ e in absurd cc;
+  };
+  answer = λ frame e. absurd cc;
+  given = tt;
+}
+  where
+    empty_at : (count n : ℕ) → at (replicate count port.empty_port) n ≡ port.empty_port
+    empty_at zero n = refl
+    empty_at (suc count) zero = refl
+    empty_at (suc count) (suc n) = empty_at count n
+
+    opening_at : (count n : ℕ) → slice_index_or (replicate count opening_port) n opening_port ≡ opening_port
+    opening_at zero n = refl
+    opening_at (suc count) zero = refl
+    opening_at (suc count) (suc n) = opening_at count n
+
+-- ---- a device that came
+
+came_port : (n conn : ℕ) (p : port.PortState) → IsSoundPort n (is_some p.present) p → 0 < conn → IsSoundPort n true (port.with_connection p conn)
+came_port n conn p is some = record {
+  sound = record { counted = λ c e. let same : conn ≡ c = same_Some conn c e in omega arith; last = λ c e. sym (same_Some conn c e) };
+  agrees = refl;
+  stamped = is.stamped;
+}
+
+-- a connection that is not refused is not 0
+accepted_by : (there : Bool) (conn last : ℕ) → (if there then Some AlreadyThere else if nat_le conn last then Some OldConnection else None) ≡ None → 0 < conn
+accepted_by true conn last e = absurd cc
+accepted_by false zero last e = absurd (let first : nat_le 0 last ≡ true = le-leb 0 last (omega arith) in cc)
+accepted_by false (suc conn) last e = omega arith
+
+pub came_sound : (pm : PmState) (n conn : ℕ) → IsSound pm → n < 15 → port.came_refusal (port_at pm n) conn ≡ None → IsSound (with_device pm n conn)
+came_sound pm n conn sound small accepted =
+    let registers : map.RegisterMap = map.after_insert pm.registers n in
+    let kept = keeps_sound pm.registers (Inserts n) sound.registers in
+    let now : port.PortState = port.with_connection (port_at pm n) conn in
+    let room : n < length pm.ports = (let r : length pm.ports ≡ 15 = sound.room in omega arith) in
+    let shows : (map.port_at registers n).present ≡ true = kept.1 n small ∙ rw (eq-eqb n n refl) refl in
+    let came : IsSoundPort n true now = came_port n conn (port_at pm n) (shows_as n _ _ (port_at pm n) (sym (sound.ports n).agrees) (sound.ports n)) (accepted_by _ conn (port_at pm n).last accepted) in
+    record {
+      served = sound.served;
+      registers = kept.0;
+      room = length-set pm.ports n now ∙ sound.room;
+      ports = λ k. elim (cases_eq k n) [
+        | inl here ↦ subst (λ (j : ℕ). IsSoundPort j (map.port_at registers j).present (at (slice_set pm.ports n now) j)) (sym here)
+            (subst (λ (q : port.PortState). IsSoundPort n (map.port_at registers n).present q) (sym (this_port pm.ports n now room)) (shows_as n _ _ now shows came))
+        | inr other ↦
+            subst (λ (q : port.PortState). IsSoundPort k (map.port_at registers k).present q) (sym (other_port pm.ports n k now other))
+            (shows_as k _ _ (port_at pm k) (ap (λ (q : PortRegisters). q.present) (get_or-set_other pm.registers.bank n k (inserted (map.port_at pm.registers n)) opening_port other)) (sound.ports k))
+      ];
+      answer = sound.answer;
+      given = tt;
+    }
