@@ -1,5 +1,5 @@
 -- Each command is answered in its turn.
-use Rattle.std.proofs.Common.{◌≡◌, ℕ, true, false, List, [], ◌∷◌, ◌++◌, Option, Some, None, refl, ap, ◌∙◌}
+use Rattle.std.proofs.Common.{◌≡◌, ℕ, true, false, List, [], ◌∷◌, ◌++◌, ap, ◌∙◌}
 use Rattle.fis_view.specs.Table.{D2h, Pio, I, Status, Error, Lba, Count, D, Transfer, places, field}
 use Rattle.fis_view.specs.Built.{cut}
 use Rattle.fis_view.specs.Seen.{seen}
@@ -12,7 +12,6 @@ use Rattle.disk_model.specs.Runs.{IsDiskRun}
 use Rattle.disk_model.specs.Ledger.{Ledger, IsSize, ledger}
 use Rattle.disk_model.specs.Laws.{IsRegister, AnswersRight}
 use Rattle.disk_model.proofs.QueueLemmas.{replies}
-use Rattle.disk_model.proofs.AgreeLemmas.{Agrees}
 use Rattle.disk_model.proofs.TurnCases.{IsTransfer, sent_by}
 
 signs : (b : List ℕ) → Shows (register false 0x50 1 1) b → IsRegister D2h 0 0x50 1 1 b

@@ -1,5 +1,5 @@
 -- Each error is that of its command, and the log tells it.
-use Rattle.std.proofs.Common.{◌≡◌, ℕ, ◌%◌, ◌^◌, Bool, true, false, List, [], ◌∷◌, ◌++◌, Option, Some, None, drop, refl, ap, sym, subst, ◌∙◌, inl, inr, arith}
+use Rattle.std.proofs.Common.{◌≡◌, ℕ, ◌%◌, ◌^◌, true, List, [], ◌∷◌, ◌++◌, Option, Some, None, drop, refl, ap, sym, subst, ◌∙◌, arith}
 use Rattle.fis_view.specs.Table.{Bits, Error, field}
 use Rattle.fis_view.specs.Seen.{seen}
 use Rattle.disk_model.specs.declared.plan.DiskPlan.{DiskPlan}
@@ -13,13 +13,13 @@ use Rattle.disk_model.specs.declared.answer.Page.TheVariants.{ErrorLog, Identity
 use Rattle.disk_model.specs.Histories.{Happening, Sent}
 use Rattle.disk_model.specs.Pages.{error_log, page_bytes}
 use Rattle.disk_model.specs.Sendings.{Sending, Register, SetsBits, SetsUp, Activates, SetsUpPio, Carries, Shows, answer_sent}
-use Rattle.disk_model.specs.Chunks.{chunks, chunk_from, chunk_count, chunk_setup, fault_of, report, error_of}
+use Rattle.disk_model.specs.Chunks.{chunks, chunk_setup, fault_of, report, error_of}
 use Rattle.disk_model.specs.Disks.{Moment, picked}
 use Rattle.disk_model.specs.Runs.{IsDiskRun}
 use Rattle.disk_model.specs.Ledger.{Ledger, Moving, Failure, Wanted, LogOf, IdentifyData, IsSize, ledger}
-use Rattle.disk_model.specs.Laws.{Fails, FailsNext, LogsNext, IsPage, StartsNext, ErrsRight}
+use Rattle.disk_model.specs.Laws.{Fails, FailsNext, LogsNext, IsPage, ErrsRight}
 use Rattle.disk_model.proofs.GeometryLemmas.{chunk_part, some_chunks}
-use Rattle.disk_model.proofs.ShowsLemmas.{TellsSetup, error_field_tells, end_tells}
+use Rattle.disk_model.proofs.ShowsLemmas.{error_field_tells, end_tells}
 use Rattle.disk_model.proofs.QueueLemmas.{IsIn, is_page, pages_of}
 use Rattle.disk_model.proofs.FaultLemmas.{FaultIs, IsNoted, IsWanted, AreWanted, fault_is, fault_small, can_be_done}
 use Rattle.disk_model.proofs.AgreeLemmas.{Agrees, Moves}

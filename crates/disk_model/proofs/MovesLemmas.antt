@@ -1,5 +1,5 @@
 -- Each FIS of a disk moves data as its command wants it.
-use Rattle.std.proofs.Common.{◌≡◌, ℕ, ◌+◌, ◌-◌, ◌*◌, ◌<◌, ◌≤◌, Bool, true, false, List, [], ◌∷◌, ◌++◌, Option, Some, None, length, drop, refl, ap, sym, subst, ◌∙◌, arith}
+use Rattle.std.proofs.Common.{◌≡◌, ℕ, ◌+◌, ◌*◌, ◌<◌, ◌≤◌, Bool, true, false, List, [], ◌∷◌, ◌++◌, Option, Some, None, length, drop, refl, ap, sym, subst, ◌∙◌, arith}
 use Rattle.std.specs.Prelude.{not}
 use Rattle.fis_view.specs.Seen.{seen}
 use Rattle.disk_model.specs.declared.plan.DiskPlan.{DiskPlan}
@@ -8,8 +8,8 @@ use Rattle.disk_model.specs.declared.answer.Answer.{Answer}
 use Rattle.disk_model.specs.declared.answer.Answer.TheVariants.{Signature, Accepted, Finished, Refused, Ended, PageFollows, PageData}
 use Rattle.disk_model.specs.declared.answer.Fault.{Fault}
 use Rattle.disk_model.specs.Histories.{Happening, Sent}
-use Rattle.disk_model.specs.Sendings.{Sending, Carries, Shows, answer_sent}
-use Rattle.disk_model.specs.Chunks.{chunks, chunk_from, chunk_count, chunk_setup, sectors_at, fault_of, report}
+use Rattle.disk_model.specs.Sendings.{Sending, Shows, answer_sent}
+use Rattle.disk_model.specs.Chunks.{chunks, chunk_from, chunk_count, chunk_setup, sectors_at, fault_of}
 use Rattle.disk_model.specs.Disks.{Moment, Started, Writing, turn, read_turn, write_turn, pick_turn, picked, opening}
 use Rattle.disk_model.specs.Runs.{IsTurn, IsDiskRun, moment}
 use Rattle.disk_model.specs.Ledger.{Ledger, Moving, Stretch, IsSize, ledger}
@@ -19,7 +19,7 @@ use Rattle.disk_model.proofs.ShowsLemmas.{TellsSetup}
 use Rattle.disk_model.proofs.GeometryLemmas.{moved_sectors, moved_none, chunk_part, some_chunks, ChunkPart}
 use Rattle.disk_model.proofs.SetupLemmas.{AreSetUp, set_up_none, set_up_apart}
 use Rattle.disk_model.proofs.QueueLemmas.{IsQueue, IsIn, is_page}
-use Rattle.disk_model.proofs.AgreeLemmas.{Agrees, Moves, IsReading, IsWriting, Stage, Fresh, SetUp, Asked, at}
+use Rattle.disk_model.proofs.AgreeLemmas.{Moves, IsReading, IsWriting, Stage, Fresh, SetUp, Asked, at}
 use Rattle.disk_model.proofs.StoreLemmas.{IsSized}
 use Rattle.disk_model.proofs.ListenLemmas.{page_goes}
 use Rattle.disk_model.proofs.TransferLemmas.{length-sectors_at, setup_of_chunk}

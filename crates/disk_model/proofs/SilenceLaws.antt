@@ -1,6 +1,5 @@
 -- A disk that has nothing to send owes nothing.
-use Rattle.std.proofs.Common.{◌≡◌, ◌≢◌, ℕ, ◌+◌, ◌-◌, ◌*◌, ◌<◌, ◌≤◌, Bool, true, false, List, [], ◌∷◌, Option, Some, None, length, get_or, drop, refl, ap, sym, ◌∙◌, arith}
-use Rattle.std.specs.Prelude.{slice_get}
+use Rattle.std.proofs.Common.{◌≡◌, ◌≢◌, ℕ, ◌-◌, ◌<◌, Bool, true, false, List, [], ◌∷◌, Option, Some, None, length, drop, refl, ap, ◌∙◌, arith}
 use Rattle.std.proofs.lemmas.Option.{slice_get-get_or}
 use Rattle.disk_model.specs.declared.plan.DiskPlan.{DiskPlan}
 use Rattle.disk_model.specs.declared.plan.Order.{Order}
@@ -20,7 +19,7 @@ use Rattle.disk_model.proofs.TurnLemmas.{none_left}
 use Rattle.disk_model.proofs.GeometryLemmas.{some_chunks}
 use Rattle.disk_model.proofs.QueueLemmas.{IsQueue, ended_tags, replies, pages_of}
 use Rattle.disk_model.proofs.FaultLemmas.{AreWanted}
-use Rattle.disk_model.proofs.AgreeLemmas.{Agrees, Moves, IsReading, IsWriting, Stage, Fresh, SetUp, Asked, at}
+use Rattle.disk_model.proofs.AgreeLemmas.{Moves, IsReading, IsWriting, Stage, Fresh, SetUp, Asked, at}
 use Rattle.disk_model.proofs.StoreLemmas.{IsSized}
 use Rattle.disk_model.proofs.StartLemmas.{picked_in}
 use Rattle.disk_model.proofs.LawLemmas.{agrees, sized_by, begun_by}

@@ -1,11 +1,11 @@
 -- The FISes that a disk may send next, by what each of them is for.
-use Rattle.std.proofs.Common.{◌≡◌, ℕ, ◌+◌, ◌-◌, ◌*◌, Bool, true, false, List, [], ◌∷◌, ◌++◌, Option, Some, None, drop, refl, ap, subst, ◌∙◌}
+use Rattle.std.proofs.Common.{◌≡◌, ℕ, ◌+◌, Bool, true, false, List, [], ◌∷◌, ◌++◌, Option, Some, None, drop, refl, ap, subst, ◌∙◌}
 use Rattle.disk_model.specs.declared.plan.DiskPlan.{DiskPlan}
 use Rattle.disk_model.specs.declared.request.Command.{Command}
 use Rattle.disk_model.specs.declared.answer.Answer.{Answer}
 use Rattle.disk_model.specs.declared.answer.Fault.{Fault}
 use Rattle.disk_model.specs.Histories.{Happening, Sent}
-use Rattle.disk_model.specs.Sendings.{Sending, Register, SetsBits, SetsUp, Activates, SetsUpPio, Carries, Shows, answer_sent}
+use Rattle.disk_model.specs.Sendings.{Sending, SetsUp, Activates, Carries, Shows, answer_sent}
 use Rattle.disk_model.specs.Chunks.{chunks, chunk_from, chunk_count, chunk_setup, sectors_at, fault_of, report}
 use Rattle.disk_model.specs.Disks.{Moment, Started, Writing, turn, read_turn, write_turn, pick_turn, picked, opening}
 use Rattle.disk_model.specs.Runs.{IsTurn, IsDiskRun, moment}

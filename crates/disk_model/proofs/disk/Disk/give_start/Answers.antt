@@ -1,4 +1,4 @@
-use Rattle.std.proofs.Common.{ℕ, ◌<◌, ◌≡◌, ◌∙◌, List, None, ap, sym, subst, refl, false}
+use Rattle.std.proofs.Common.{◌<◌, ◌≡◌, ◌∙◌, List, None, ap, sym, subst, refl, false}
 use Rattle.disk_model.specs.Sendings.{Sending}
 use Rattle.disk_model.specs.Chunks.{chunks, sends_left, fault_of}
 use Rattle.disk_model.specs.Disks.{DiskValue, went}
