@@ -1,7 +1,7 @@
 -- What a FIS is to the device that sent it: AHCI 1.3.1, 5.3.13 (how a port takes each type of FIS) and chapter 9
 -- (FIS-based Switching); Serial ATA 3.x, 10.5 (FIS types). Here it is decided, from the FIS and the device's own part,
 -- which happening of its slots a FIS is and what is wrong with it; the slots then move by the happening.
-use Rattle.std.specs.Prelude.{ℕ, ◌-◌, ◌%◌, ◌^◌, ◌==◌, ◌&&◌, Bool, true, false, not, nat_lt, nat_le, if◌then◌else◌, List, length, Option, Some, None}
+use Rattle.std.specs.Prelude.{ℕ, ◌-◌, ◌%◌, ◌^◌, ◌==◌, Bool, true, false, not, nat_lt, nat_le, if◌then◌else◌, List, length, Option, Some, None}
 use Rattle.fis_view.specs.Table as table
 use Rattle.fis_view.specs.Table.{field}
 use Rattle.fis_view.specs.declared.view.Fis.{Fis}

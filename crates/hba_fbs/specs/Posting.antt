@@ -1,6 +1,6 @@
 -- Posting (AHCI 1.3.1, 4.2.1, Received FIS Structure) and what a FIS that is posted sets in the port's registers (3.3.5 PxIS,
 -- 3.3.9 PxSIG, 3.3.12 PxSERR, 3.3.15 PxSNTF).
-use Rattle.std.specs.Prelude.{ℕ, ◌≡◌, ◌+◌, ◌*◌, ◌%◌, ◌^◌, ◌==◌, ◌&&◌, Bool, true, false, if◌then◌else◌, bit_or, List, take, drop, Result, Ok, Err}
+use Rattle.std.specs.Prelude.{ℕ, ◌≡◌, ◌+◌, ◌*◌, ◌%◌, ◌^◌, ◌==◌, ◌&&◌, Bool, true, false, if◌then◌else◌, bit_or, List, take, drop, Result, Ok}
 use Rattle.fis_view.specs.Table as table
 use Rattle.fis_view.specs.Table.{field}
 use Rattle.fis_view.specs.declared.view.Fis.{Fis}

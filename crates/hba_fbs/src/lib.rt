@@ -12,6 +12,7 @@ mod data;
 mod error;
 mod hearing;
 mod issue;
+mod laws;
 mod port;
 mod post;
 mod register;
@@ -22,6 +23,7 @@ mod status;
 mod take;
 
 pub use error::{NoRegister, WriteError};
+pub use laws::isolated;
 pub use port::HostPort;
 pub use register::Register;
 pub use report::{TakeReport, Wrote};
