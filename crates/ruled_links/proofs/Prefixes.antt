@@ -1,5 +1,5 @@
 -- Beginnings of lists.
-use Rattle.std.proofs.Common.{◌≡◌, List, [], ◌∷◌, ◌++◌, drop, length, sym, refl, ap, ◌∙◌, inl, inr, append_assoc, append-nil}
+use Rattle.std.proofs.Common.{◌≡◌, List, [], ◌∷◌, ◌++◌, drop, sym, refl, ap, ◌∙◌, inl, inr, append_assoc, append-nil}
 use Rattle.ruled_links.specs.Lists.{IsPrefixOf, Agree}
 
 module _ {T : Type 0} where

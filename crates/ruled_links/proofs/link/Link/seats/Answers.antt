@@ -1,5 +1,4 @@
 use Rattle.std.proofs.Common.{sym, ap, ◌∙◌}
-use Rattle.ruled_links.specs.Rule.{known}
 use Rattle.ruled_links.proofs.Moves.{splits}
 use Rattle.ruled_links.proofs.link.Link.seats.Goals as goal
 
