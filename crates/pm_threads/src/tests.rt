@@ -30,11 +30,18 @@ fn refusals(rt: HostRuntime) -> Result<(), Fail> {
         (2, 0, bad),
         (2, 65, bad),
     ] {
-        assert_eq!(rt; refusal(alloc, ports, capacity), want, "at {ports}, {capacity}");
+        assert_eq!(rt;
+            refusal(alloc, ports, capacity),
+            want,
+            "at {ports}, {capacity}"
+        );
     }
     let text = format!(in alloc; "{}, {}", LinksError::BadConfig, LinksError::OutOfMemory)?;
     assert_eq!(rt; text.as_str(), "bad config, out of memory");
-    assert_eq!(rt; (LinksError::BadConfig as u8, LinksError::OutOfMemory as u8), (1, 2));
+    assert_eq!(rt;
+        (LinksError::BadConfig as u8, LinksError::OutOfMemory as u8),
+        (1, 2)
+    );
     Ok(())
 }
 
