@@ -2,7 +2,7 @@
 use Rattle.std.specs.Prelude.{◌≡◌, ◌↔◌, ℕ, ◌+◌, ◌<◌, ◌≤◌, List, [], ◌∷◌, ◌++◌, length, map, slice_index, All}
 use Rattle.std.specs.List.{range_with_len}
 use Rattle.fis_view.specs.Frames.{Stamped}
-use Rattle.pm_threads.specs.Orders.{of_connection, of_port, control_port, IsNextOfDevice, InDeviceOrder, NoneAbove, NoneShown, IsNextAtHost, InStampedOrder}
+use Rattle.pm_threads.specs.Orders.{of_connection, of_port, control_port, IsNextOfDevice, InDeviceOrder, NoneAbove, IsNextAtHost, InStampedOrder}
 
 -- ---- a device
 

@@ -1,4 +1,4 @@
-use Rattle.std.proofs.Common.{◌≡◌, ◌≤◌}
+use Rattle.std.proofs.Common.{◌≡◌}
 use Rattle.std.specs.Prelude.{replicate}
 use Rattle.pm_threads.specs.Links.{new_device}
 use Rattle.pm_threads.proofs.links.Links.new.Given as goal
