@@ -115,10 +115,11 @@ came_by n c _ = []
 abbrev pub came_in : ℕ → ℕ → List Call → List Stamped
 came_in n c calls = flat_map (came_by n c) calls
 
--- the connections of the frames of port n that went up never fall, and none is above the highest that came
+-- the frames of port n, by their stamps
 abbrev pub of_port : ℕ → List Stamped → List Stamped
 of_port n frames = filter (λ frame. frame.stamp.port == n) frames
 
+-- their connections never fall, and none is above the highest that came
 pub record NeverFall (n : ℕ) (up : List Stamped) (last : ℕ) : Type 0 where
   pub rise : IsNonDecreasingBy (λ frame. frame.stamp.conn) (of_port n up)
   pub most : All (λ frame. frame.stamp.conn ≤ last) (of_port n up)
@@ -181,7 +182,9 @@ pub record PassInOrder (past : Past) (old : PmState) (calls : List Call) (new : 
   -- frame with the port as its PM Port and in its stamp
   pub up : (n c : ℕ) → n < 15
       → of_conn n c (all_past past calls).up ++ held_of n c new ≡ of_conn n c past.up ++ held_of n c old ++ came_in n c calls
-  pub connections : (n : ℕ) → n < 15 → NeverFall n past.up (port_at old n).last → NeverFall n (all_past past calls).up (port_at new n).last
+  -- the connections of the frames of a port that went up never fall, nor does the highest that came
+  pub connections : (n : ℕ) → n < 15
+      → NeverFall n past.up (port_at old n).last → NeverFall n (all_past past calls).up (port_at new n).last
   pub last : (n : ℕ) → (port_at old n).last ≤ (port_at new n).last
   pub present : (n : ℕ) → n < 15 → (port_at new n).present ≡ all_present n (port_at old n).present calls
   -- what went down to the device at a port, and then what waits for it, is what did before and then what was passed down
@@ -189,8 +192,11 @@ pub record PassInOrder (past : Past) (old : PmState) (calls : List Call) (new : 
       → to_port n (all_past past calls).down ++ falls_to n new
       ≡ to_port n past.down ++ falls_to n old ++ passed_down n (port_at old n).present calls
   -- what went up of the answers, and then the one that waits, is what did before and then those that were made
-  pub answered : answers (all_past past calls).up ++ option_to_list new.answer ≡ answers past.up ++ option_to_list old.answer ++ answers_made calls
-  pub numbers : (first : ℕ) → AreNumbered first past.made old.number → AreNumbered first (all_past past calls).made new.number
+  pub answered : answers (all_past past calls).up ++ option_to_list new.answer
+      ≡ answers past.up ++ option_to_list old.answer ++ answers_made calls
+  -- the frames of the control port have running numbers one after another, in the order in which they were made
+  pub numbers : (first : ℕ)
+      → AreNumbered first past.made old.number → AreNumbered first (all_past past calls).made new.number
 
 -- The same calls, with a place that is ready at each turn at which a frame goes up, and that is not the one served.
 abbrev pub PassesOver : ℕ → PmState → Call → PmState → Type 0

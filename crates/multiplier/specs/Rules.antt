@@ -140,7 +140,8 @@ ControlGives old frame new =
     × (new ≡ record old { answer = None; served = control_port; given = may_go_back old source.Answer frame }))
 
 abbrev pub PlaceGives : PmState → ℕ → Stamped → PmState → Type 0
-PlaceGives old place frame new = MatchBool (place == control_port) (ControlGives old frame new) (PortGives old place frame new)
+PlaceGives old place frame new =
+    MatchBool (place == control_port) (ControlGives old frame new) (PortGives old place frame new)
 
 -- The next ready place after the one served last gives its frame. Memory is wanted for a notification alone.
 abbrev pub NextUpRule : PmState → Result (Option Stamped) AllocError → PmState → Type 0

@@ -6,5 +6,7 @@ ghost use Rattle.multiplier.specs.Arbiter.{IsPassedOver, IsServedInTurn, StaysRe
 /// A law of the arbiter, which does nothing when it runs: a place that stays ready waits while at most 15 frames of
 /// other places are served.
 pub fn waits_for_at_most_fifteen()
-    ensures { (last place : ℕ) (turns : List (ℕ → Bool)) (served : List ℕ) → last ≤ control_port → place ≤ control_port → IsServedInTurn last turns served → StaysReady place turns → IsPassedOver place served → length served ≤ 15 }
+    ensures { (last place : ℕ) (turns : List (ℕ → Bool)) (served : List ℕ) →
+        last ≤ control_port → place ≤ control_port → IsServedInTurn last turns served →
+        StaysReady place turns → IsPassedOver place served → length served ≤ 15 }
 {}

@@ -3,11 +3,14 @@
 //! A [`Multiplier`] takes frames of the host ([`Multiplier::from_host`]) and of devices
 //! ([`Multiplier::from_device`]), each into a place for one frame, and gives them on
 //! ([`Multiplier::next_down`], [`Multiplier::next_up`]). A frame on its way up has the number of its port as PM Port,
-//! one on its way down has 0. Places are served in a circle, and [`waits_for_at_most_fifteen`] says how long a place
-//! may be passed over. A frame that found no room further on can be put back, and all is as before.
+//! one on its way down has 0. Places are served in a circle, and [`waits_for_at_most_fifteen`] and
+//! [`is_passed_over_at_most_fifteen_times`] say how long a place may be passed over. A frame that was given and found
+//! no room further on can be put back before anything else is done, and all is as before.
+//! [`frames_pass_in_order`] says what calls do one after another, from any multiplier on.
 //!
-//! What a call does stands in `specs/Rules.antt`, over the value of `specs/State.antt`; the circle stands in
-//! `specs/Arbiter.antt`.
+//! What a call does stands in `specs/Rules.antt`, over the value of `specs/State.antt`, where `IsSound` is what is true
+//! of every multiplier; the circle stands in `specs/Arbiter.antt`, and what passed over many calls in
+//! `specs/Passing.antt`.
 #![tactic(auto)]
 
 mod arbiter;

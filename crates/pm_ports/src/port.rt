@@ -45,7 +45,12 @@ impl Model for Port {
 
     ghost view = { λ p. record { present = p.present; last = p.last; up = p.up; down = p.down } };
 
-    ghost invariant = { λ p. IsSound (record { present = p.present; last = p.last; up = p.up; down = p.down }) };
+    ghost invariant = { λ p. IsSound (record {
+      present = p.present;
+      last = p.last;
+      up = p.up;
+      down = p.down;
+    }) };
 }
 
 impl Default for Port {
@@ -76,7 +81,8 @@ impl Port {
     /// connection may have arrived before.
     pub fn came(&mut self, conn: u32) -> Result<(), PortError>
         ensures refusal { result_err result ≡ came_refusal self.old conn }
-        ensures after { MatchResult result (λ _. self.new ≡ with_connection self.old conn) (λ _. self.new ≡ self.old) }
+        ensures after { MatchResult result (λ _. self.new ≡ with_connection self.old conn)
+            (λ _. self.new ≡ self.old) }
     {
         if self.present.is_some() {
             return Err(PortError::AlreadyThere);
@@ -135,7 +141,7 @@ impl Port {
     /// Gives the held frame on its way up, where the port forwards and the frame is of the present connection. The
     /// frame of a later connection waits until that connection came.
     pub fn take_held(&mut self, forwards: bool) -> Option<Frame>
-        ensures taken { result ≡ next_up forwards self.old }
+        ensures gives { result ≡ next_up forwards self.old }
         ensures after { self.new ≡ (if is_some result then with_up self.old None else self.old) }
     {
         if self.is_ready(forwards) {
@@ -173,7 +179,7 @@ impl Port {
 
     /// Gives the frame on its way down.
     pub fn take_down(&mut self) -> Option<Frame>
-        ensures taken { result ≡ self.old.down }
+        ensures gives { result ≡ self.old.down }
         ensures after { self.new ≡ with_down self.old None }
     {
         self.down.take()
