@@ -7,3 +7,4 @@ pub mod PutBack
 pub mod UpSteps
 pub mod PassingLemmas
 pub mod TurnLemmas
+pub mod Forwarding

@@ -33,7 +33,7 @@ pub record IsUpStep (old : PmState) (frame : Stamped) (new : PmState) : Type 0 w
   pub last : (n : ℕ) → (port_at new n).last ≡ (port_at old n).last
   pub present : (n : ℕ) → (port_at new n).present ≡ (port_at old n).present
 
-both_by : (a b : Bool) → (a && b) ≡ true → (a ≡ true) × (b ≡ true)
+pub both_by : (a b : Bool) → (a && b) ≡ true → (a ≡ true) × (b ≡ true)
 both_by true true e = (refl, refl)
 both_by true false e = absurd cc
 both_by false b e = absurd cc

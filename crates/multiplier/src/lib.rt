@@ -21,7 +21,9 @@ mod passing;
 pub use arbiter::waits_for_at_most_fifteen;
 pub use given::{Given, Source};
 pub use multiplier::{Multiplier, Passed, PmRefusal};
-pub use passing::{frames_pass_in_order, is_passed_over_at_most_fifteen_times};
+pub use passing::{
+    frames_pass_in_order, is_passed_over_at_most_fifteen_times, ports_that_forward_have_connections,
+};
 
 #[cfg(test)]
 mod tests;

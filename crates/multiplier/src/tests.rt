@@ -4,7 +4,7 @@ ghost use Rattle.std.specs.Prelude.{IsTrue, ◌<◌};
 
 use crate::{
     Multiplier, Passed, PmRefusal, frames_pass_in_order, is_passed_over_at_most_fifteen_times,
-    waits_for_at_most_fifteen,
+    ports_that_forward_have_connections, waits_for_at_most_fifteen,
 };
 use fis_view::{Frame, FrameError, Stamp};
 use pm_ports::Offered;
@@ -194,6 +194,7 @@ fn a_notification_goes_first(rt: HostRuntime) -> Result<(), Fail> {
 fn refusals_have_numbers_and_texts(rt: HostRuntime) -> Result<(), Fail> {
     frames_pass_in_order();
     is_passed_over_at_most_fifteen_times();
+    ports_that_forward_have_connections();
     waits_for_at_most_fifteen();
     let text = format!(in rt.alloc(); "{}, {}", PmRefusal::HoldFull, PmRefusal::OutOfMemory)?;
     assert_eq!(rt; text.as_str(), "hold full, out of memory");
