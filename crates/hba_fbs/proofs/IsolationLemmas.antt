@@ -14,8 +14,9 @@ use Rattle.hba_fbs.specs.declared.hearing.Heard.{Heard}
 use Rattle.hba_fbs.specs.declared.register.Register.{Register}
 use Rattle.hba_fbs.specs.declared.register.Register.TheVariants.{Clb, Clbu, Fb, Fbu, Is, Ie, Cmd, Tfd, Sig, Serr, Sact, Ci, Sntf, Fbs}
 use Rattle.hba_fbs.specs.declared.state.DeviceState.{DeviceState}
-use Rattle.hba_fbs.specs.Events.{AreAlike, Came, Does, Emptied, Flushed, HostEvent, IsFoldOfOwn, OwnEvent, Took, Wrote, device_after, device_after_all, is_port_event, issued_by, lowers_st, own_events, own_over, stops_port}
+use Rattle.hba_fbs.specs.Events.{AreAlike, Came, Does, Emptied, Flushed, HostEvent, IsFoldOfOwn, Issued, OwnEvent, Took, Wrote, device_after, device_after_all, is_port_event, issued_by, lowers_st, own_events, own_over, stops_port}
 use Rattle.hba_fbs.specs.Hearing.{faulty, heard_data, heard_data_of, heard_fis}
+use Rattle.hba_fbs.specs.Issuing.{asked, issued_slots}
 use Rattle.hba_fbs.specs.Registers.{falls}
 use Rattle.hba_fbs.specs.Tables.{is_sound}
 use Rattle.hba_fbs.specs.Taking.{admitted, heard, heard_view, ignores, is_ignored, is_running, port_cause, port_of, view_after_hearing}
@@ -95,7 +96,10 @@ wrote : (n : ℕ) (old new : Port) (register : Register) (value : ℕ) (memory :
 unfolding view_after
 wrote n old new Cmd value memory lt does none = does.views n lt ∙ if_false (falls old.registers value) _ (view_of n old) none
 wrote n old new Ci value memory lt does none =
-    one_if n (view_of n old) (view_of n new) (n == old.registers.chosen) _ (λ same. does.views n lt ∙ rw same refl) (λ differs. does.views n lt ∙ rw differs refl)
+    one_if n (view_of n old) (view_of n new) (n == old.registers.chosen) (Issued (asked old.registers memory value))
+    (λ same. does.views n lt ∙ rw same (ap (λ (m : ℕ). let v : DeviceView = record (view_of n old) { slots = issued_slots m (asked old.registers memory value) (view_of n old).slots } in v)
+    (sym (eqb-true n old.registers.chosen same))))
+    (λ differs. does.views n lt ∙ rw differs refl)
 wrote n old new Clb value memory lt does none = does.views n lt
 wrote n old new Clbu value memory lt does none = does.views n lt
 wrote n old new Fb value memory lt does none = does.views n lt

@@ -8,7 +8,7 @@ use Rattle.hba_fbs.specs.declared.register.Register.{Register}
 use Rattle.hba_fbs.specs.declared.register.Register.TheVariants.{Cmd, Ci}
 use Rattle.hba_fbs.specs.declared.registers.Registers.{Registers}
 use Rattle.hba_fbs.specs.declared.report.TakeReport.{TakeReport}
-use Rattle.hba_fbs.specs.Issuing.{asked, issued_view}
+use Rattle.hba_fbs.specs.Issuing.{asked, issued_slots}
 use Rattle.hba_fbs.specs.Registers.{falls}
 use Rattle.hba_fbs.specs.Taking.{Hears, Ignores, admitted, heard_now, heard_view, ignores, is_ignored, is_running, port_cause, port_of}
 use Rattle.hba_fbs.specs.Views.{DeviceView, LeavesOtherViews, Port, flushed_view, view_of}
@@ -79,7 +79,7 @@ own_events n port (Flushed dev) = if dev == n then Emptied ∷ [] else []
 -- Data FIS that stops no port can be used.
 abbrev pub device_after : ℕ → DeviceView → OwnEvent → DeviceView
 device_after n view (Came frame) = if is_ignored true view (seen frame) then view else heard_view n view true (admitted n (seen frame))
-device_after n view (Issued commands) = issued_view n commands view
+device_after n view (Issued commands) = record view { slots = issued_slots n commands view.slots }
 device_after n view Emptied = flushed_view
 
 -- and after a list of them, the first first

@@ -31,6 +31,10 @@ use Rattle.hba_fbs.specs.Status.{after_reset, is_busy, is_error, is_quiet, with_
 
 -- ---- happenings
 
+-- the device's own part after the end of a block, where that says that a PIO data-in may be done
+abbrev pub block_ended : Bool → DeviceSlots → DeviceSlots
+block_ended finishes own = if finishes then after_pio_done own else own
+
 -- the device's own part after a happening
 abbrev pub moved : Happening → DeviceSlots → DeviceSlots
 moved happening.Nothing own = own
@@ -39,7 +43,7 @@ moved (happening.Named mask) own = after_complete mask own
 moved (happening.SetUp c) own = with_own_context own c
 moved (happening.PioSetUp count to_host) own = after_setup_pio own count to_host
 moved happening.Activated own = after_activate own
-moved (happening.Carried wrote finishes) own = if finishes then after_pio_done (after_arrive own wrote.len) else after_arrive own wrote.len
+moved (happening.Carried wrote finishes) own = block_ended finishes (after_arrive own wrote.len)
 
 -- nothing is wrong with it, and no slot becomes free
 abbrev pub quietly : DeviceState → Happening → Heard

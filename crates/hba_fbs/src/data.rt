@@ -1,11 +1,10 @@
 //! Data of devices, and the PRD tables by which it is written.
 
-ghost use Rattle.std.specs.Prelude.{◌≡◌, ◌<◌, ◌≤◌, ◌+◌, ◌%◌, None, Some, IfSome, length, if◌then◌else◌};
+ghost use Rattle.std.specs.Prelude.{◌≡◌, ◌<◌, ◌≤◌, ◌+◌, ◌%◌, None, Some, IfSome, length};
 ghost use Rattle.host_memory.specs.Place.{Scatters, total_of};
 ghost use Rattle.host_memory.specs.Reading.{read_fault};
-ghost use Rattle.slots.specs.Commands.{after_pio_done};
 ghost use Rattle.slots.specs.Slots.{KeepsFree, LeavesOthers, context_of, issue_at, own_issue, slots_of};
-ghost use Rattle.hba_fbs.specs.Hearing.{asks as asks_of, bus_failed as bus_heard, carried as carried_heard, ended as ended_heard, ended_fault as ended_fault_of, heard_data, mask_of_slot, moved, overflowed as overflow_heard};
+ghost use Rattle.hba_fbs.specs.Hearing.{asks as asks_of, block_ended, bus_failed as bus_heard, carried as carried_heard, ended as ended_heard, ended_fault as ended_fault_of, heard_data, mask_of_slot, moved, overflowed as overflow_heard};
 ghost use Rattle.hba_fbs.specs.Status.{is_quiet as is_quiet_status};
 ghost use Rattle.hba_fbs.specs.Tables.{Delivers, are_last as are_last_of, is_readable as is_readable_of, is_sound, prds_of, sound_command as sound_command_of};
 ghost use Rattle.hba_fbs.specs.Taking.{wrote_by};
@@ -75,10 +74,12 @@ fn is_readable(memory: &HostMemory, command: &Command, len: u32) -> bool
 // Writes bytes of a transfer, from this one on, to their places.
 #[tactic(auto, using(crate::proofs::DataLemmas::read_inside))]
 fn write_data(memory: &mut HostMemory, command: Command, offset: u32, payload: &[u8])
-    requires readable { read_fault memory.old.structure (length memory.old.client) (command.table + 128) command.count ≡ None }
+    requires readable { read_fault memory.old.structure (length memory.old.client)
+        (command.table + 128) command.count ≡ None }
     requires fits { offset + length payload.now ≤ total_of (prds_of memory.old command) }
     ensures structure { memory.new.structure ≡ memory.old.structure }
-    ensures client { Scatters (prds_of memory.old command) offset payload.now memory.old.client memory.new.client }
+    ensures client { Scatters (prds_of memory.old command) offset payload.now
+        memory.old.client memory.new.client }
 {
     let (structure, client) = memory.split();
     let client_len = client.len() as u32;
@@ -98,7 +99,8 @@ fn sound_command(
 ) -> Option<Command>
     requires slot { slot < 32 }
     requires owner { own_issue (slots_of dev slots.now) slot ≡ issue_at slots.now slot }
-    ensures value { result ≡ sound_command_of memory.now commands.now (slots_of dev slots.now) slot }
+    ensures value { result
+        ≡ sound_command_of memory.now commands.now (slots_of dev slots.now) slot }
     ensures command { IfSome result (λ command. last_command commands.now slot ≡ Some command) }
 {
     let work = slots.work(slot)?;
@@ -130,7 +132,8 @@ fn ended_fault(status: u8) -> Option<Fault>
 fn ended(slots: &mut SlotTable, dev: u8, state: DeviceState, wrote: Wrote, block: Block) -> Heard
     requires { dev < 16 }
     ensures heard { result ≡ ended_heard (slots_of dev slots.old) state wrote block }
-    ensures own { slots_of dev slots.new ≡ (if is_quiet_status block.ends then after_pio_done (slots_of dev slots.old) else slots_of dev slots.old) }
+    ensures own { slots_of dev slots.new
+        ≡ block_ended (is_quiet_status block.ends) (slots_of dev slots.old) }
     ensures others { LeavesOthers dev slots.old slots.new }
     ensures frees { KeepsFree slots.old slots.new }
 {
@@ -179,12 +182,15 @@ pub(crate) fn hear_data(
     requires dev { dev < 16 }
     requires dwords { length payload.now % 4 ≡ 0 }
     requires few { length payload.now ≤ 8192 }
-    ensures heard { result ≡ heard_data (slots_of dev slots.old) state (is_sound memory.old commands.now (slots_of dev slots.old)) (length payload.now) }
+    ensures heard { result
+        ≡ heard_data (slots_of dev slots.old) state
+        (is_sound memory.old commands.now (slots_of dev slots.old)) (length payload.now) }
     ensures own { slots_of dev slots.new ≡ moved result.happening (slots_of dev slots.old) }
     ensures others { LeavesOthers dev slots.old slots.new }
     ensures frees { KeepsFree slots.old slots.new }
     ensures structure { memory.new.structure ≡ memory.old.structure }
-    ensures client { Delivers memory.old commands.now payload.now (wrote_by result.happening) memory.new.client }
+    ensures client { Delivers memory.old commands.now payload.now (wrote_by result.happening)
+        memory.new.client }
 {
     slots.keeps_rules();
     let Some(slot) = slots.receiving(dev) else {

@@ -234,7 +234,8 @@ fn hear_setup(
 ) -> Heard
     requires dev { dev < 16 }
     requires tag { tag < 32 }
-    ensures heard { result ≡ heard_setup (slots_of dev slots.old) state tag offset count to_host }
+    ensures heard { result
+        ≡ heard_setup (slots_of dev slots.old) state tag offset count to_host }
     ensures own { slots_of dev slots.new ≡ moved result.happening (slots_of dev slots.old) }
     ensures others { LeavesOthers dev slots.old slots.new }
     ensures frees { KeepsFree slots.old slots.new }
@@ -264,7 +265,8 @@ fn hear_pio(
     block: Block,
 ) -> Heard
     requires { dev < 16 }
-    ensures heard { result ≡ heard_pio (slots_of dev slots.old) state status error count to_host block }
+    ensures heard { result
+        ≡ heard_pio (slots_of dev slots.old) state status error count to_host block }
     ensures own { slots_of dev slots.new ≡ moved result.happening (slots_of dev slots.old) }
     ensures others { LeavesOthers dev slots.old slots.new }
     ensures frees { KeepsFree slots.old slots.new }
@@ -329,12 +331,15 @@ pub(crate) fn hear(
     fis: &Fis<'_>,
 ) -> Heard
     requires { dev < 16 }
-    ensures heard { result ≡ heard_fis (slots_of dev slots.old) state (is_sound memory.old commands.now (slots_of dev slots.old)) fis.now }
+    ensures heard { result
+        ≡ heard_fis (slots_of dev slots.old) state
+        (is_sound memory.old commands.now (slots_of dev slots.old)) fis.now }
     ensures own { slots_of dev slots.new ≡ moved result.happening (slots_of dev slots.old) }
     ensures others { LeavesOthers dev slots.old slots.new }
     ensures frees { KeepsFree slots.old slots.new }
     ensures structure { memory.new.structure ≡ memory.old.structure }
-    ensures client { Delivers memory.old commands.now (drop 4 (frame_of fis.now)) (wrote_by result.happening) memory.new.client }
+    ensures client { Delivers memory.old commands.now (drop 4 (frame_of fis.now))
+        (wrote_by result.happening) memory.new.client }
 {
     match fis {
         Fis::RegD2H(fis) => hear_register(slots, dev, state, fis.status(), fis.error()),

@@ -26,7 +26,7 @@ pub use error::{NoRegister, WriteError};
 pub use laws::isolated;
 pub use port::HostPort;
 pub use register::Register;
-pub use report::{TakeReport, Wrote};
+pub use report::TakeReport;
 
 #[cfg(test)]
 mod tests;

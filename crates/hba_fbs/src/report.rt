@@ -1,7 +1,7 @@
 //! What taking a FIS did.
 
 ghost use Rattle.std.specs.Prelude.{◌≡◌};
-ghost use Rattle.hba_fbs.specs.Taking.{device_cause as device_cause_of, heard_report, ignored_report, port_cause as port_cause_of, wrote_by as wrote_by_of};
+ghost use Rattle.hba_fbs.specs.Taking.{device_cause as device_cause_of, heard_report, ignored_report, port_cause as port_cause_of, told_bytes as told_bytes_of, wrote_by};
 
 use crate::hearing::{Fault, Happening, Heard};
 use port_errors::{DeviceCause, PortCause};
@@ -9,13 +9,13 @@ use rx_area::Posted;
 
 /// Bytes of a Data FIS that went to client memory.
 #[derive(Clone, Copy, Debug, PartialEq, Eq)]
-pub struct Wrote {
+pub(crate) struct Wrote {
     /// The slot to which they belong.
-    pub slot: u8,
+    pub(crate) slot: u8,
     /// The number of the first of them in the slot's transfer.
-    pub offset: u32,
+    pub(crate) offset: u32,
     /// How many there are.
-    pub len: u32,
+    pub(crate) len: u32,
 }
 
 /// What taking a FIS did.
@@ -31,8 +31,9 @@ pub struct TakeReport {
     pub fault: Option<DeviceCause>,
     /// Why the port is stopped since.
     pub stopped: Option<PortCause>,
-    /// The bytes that it brought to client memory.
-    pub wrote: Option<Wrote>,
+    /// The bytes that it brought to client memory: their slot, the number of the first of them in
+    /// the slot's transfer, and how many they are.
+    pub wrote: Option<(u8, u32, u32)>,
     /// The slots that became free, as a mask.
     pub done: u32,
 }
@@ -56,11 +57,11 @@ fn port_cause(fault: Option<Fault>) -> Option<PortCause>
     }
 }
 
-fn wrote_by(happening: Happening) -> Option<Wrote>
-    ensures { result ≡ wrote_by_of happening }
+fn told_bytes(happening: Happening) -> Option<(u8, u32, u32)>
+    ensures { result ≡ told_bytes_of (wrote_by happening) }
 {
     match happening {
-        Happening::Carried(wrote, _) => Some(wrote),
+        Happening::Carried(wrote, _) => Some((wrote.slot, wrote.offset, wrote.len)),
         Happening::Nothing
         | Happening::Answered(_)
         | Happening::Named(_)
@@ -97,7 +98,7 @@ impl TakeReport {
             posted,
             fault: device_cause(heard.fault),
             stopped: port_cause(heard.fault),
-            wrote: wrote_by(heard.happening),
+            wrote: told_bytes(heard.happening),
             done: heard.done,
         }
     }

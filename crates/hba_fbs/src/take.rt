@@ -33,7 +33,8 @@ fn mark(errors: &mut PortErrors, dev: u8, fault: Option<Fault>) -> u32
     ensures interrupts { result ≡ fault_interrupts fault }
     ensures after { errors.new ≡ errors_with errors.old dev fault }
     ensures own { cause_of errors.old dev ≡ None → cause_of errors.new dev ≡ device_cause fault }
-    ensures others { (other : ℕ) → other ≢ dev → cause_of errors.new other ≡ cause_of errors.old other }
+    ensures others { (other : ℕ) → other ≢ dev
+        → cause_of errors.new other ≡ cause_of errors.old other }
 {
     match fault {
         None => 0,
@@ -87,7 +88,8 @@ impl HostPort {
     fn hear_bad(&mut self, dev: u8) -> TakeReport
         requires dev { dev < 16 }
         requires sound { (view_of dev self.old).fault ≡ None }
-        ensures { (memory : Memory) → (payload : List ℕ) → Takes self.old memory dev None payload result self.new memory }
+        ensures { (memory : Memory) → (payload : List ℕ)
+            → Takes self.old memory dev None payload result self.new memory }
     {
         let heard = bad(dev, state_of(&self.states, dev));
         let interrupts = mark(&mut self.errors, dev, heard.fault);
@@ -100,14 +102,24 @@ impl HostPort {
         requires dev { dev < 16 }
         requires sound { (view_of dev self.old).fault ≡ None }
         requires running { self.old.registers.started ≡ true }
-        ensures own { view_of dev self.new ≡ heard_view dev (view_of dev self.old) (is_sound memory.old self.old.commands (view_of dev self.old).slots) (Some fis.now) }
+        ensures own { view_of dev self.new
+            ≡ heard_view dev (view_of dev self.old)
+            (is_sound memory.old self.old.commands (view_of dev self.old).slots) (Some fis.now) }
         ensures others { LeavesOtherViews dev self.old self.new }
-        ensures reports { result ≡ heard_report dev (posted_at fis.now) (heard_now self.old memory.old dev (Some fis.now)) }
-        ensures registers { self.new.registers ≡ settled_registers (posted_registers self.old.registers dev (view_of dev self.old).state.resetting fis.now) (heard_now self.old memory.old dev (Some fis.now)) }
-        ensures errors { self.new.errors ≡ errors_with self.old.errors dev (heard_now self.old memory.old dev (Some fis.now)).fault }
+        ensures reports { result
+            ≡ heard_report dev (posted_at fis.now) (heard_now self.old memory.old dev (Some fis.now)) }
+        ensures registers { self.new.registers
+            ≡ settled_registers (posted_registers self.old.registers dev
+            (view_of dev self.old).state.resetting fis.now)
+            (heard_now self.old memory.old dev (Some fis.now)) }
+        ensures errors { self.new.errors
+            ≡ errors_with self.old.errors dev (heard_now self.old memory.old dev (Some fis.now)).fault }
         ensures commands { self.new.commands ≡ self.old.commands }
-        ensures posts { Posts self.old.registers.fb dev fis.now memory.old.structure memory.new.structure }
-        ensures client { Delivers memory.old self.old.commands (drop 4 (frame_of fis.now)) (wrote_by (heard_now self.old memory.old dev (Some fis.now)).happening) memory.new.client }
+        ensures posts { Posts self.old.registers.fb dev fis.now
+            memory.old.structure memory.new.structure }
+        ensures client { Delivers memory.old self.old.commands (drop 4 (frame_of fis.now))
+            (wrote_by (heard_now self.old memory.old dev (Some fis.now)).happening)
+            memory.new.client }
     {
         let state = state_of(&self.states, dev);
         let heard = hear(&mut self.slots, memory, &self.commands, dev, state, fis);
@@ -122,8 +134,10 @@ impl HostPort {
     // Takes a frame from this PM Port.
     fn take_from(&mut self, dev: u8, frame: &Frame, memory: &mut HostMemory) -> TakeReport
         requires dev { dev < 16 }
-        ensures ignored { ignores dev self.old frame.now.bytes ≡ true → Ignores dev self.old memory.old result self.new memory.new }
-        ensures heard { ignores dev self.old frame.now.bytes ≡ false → Hears dev self.old memory.old frame.now.bytes result self.new memory.new }
+        ensures ignored { ignores dev self.old frame.now.bytes ≡ true
+            → Ignores dev self.old memory.old result self.new memory.new }
+        ensures heard { ignores dev self.old frame.now.bytes ≡ false
+            → Hears dev self.old memory.old frame.now.bytes result self.new memory.new }
     {
         let fis = frame.fis();
         if self.is_ignored(dev, &fis) {
@@ -135,9 +149,9 @@ impl HostPort {
         }
     }
 
-    /// Takes a FIS of a device, or of the control port: it is ignored, or posted and heard. A device that sends something
-    /// wrong is faulty until it is flushed, and the others go on; what is wrong with the control port or with the memory stops
-    /// the port.
+    /// Takes a FIS of a device, or of the control port: it is ignored, or posted and heard. A
+    /// device that sends something wrong is faulty until it is flushed, and the others go on; what
+    /// is wrong with the control port or with the memory stops the port.
     pub fn take(&mut self, frame: &Frame, memory: &mut HostMemory) -> TakeReport
         ensures ignored { ignores (port_of frame.now.bytes) self.old frame.now.bytes ≡ true
             → Ignores (port_of frame.now.bytes) self.old memory.old result self.new memory.new }
