@@ -1,5 +1,7 @@
 //! What no clause says: values from outside, and that calls succeed.
 
+mod taking;
+
 use crate::registers::Registers;
 use crate::state::DeviceState;
 use crate::{HostPort, NoRegister, Register, WriteError};
