@@ -7,4 +7,4 @@ pub mod WriteLemmas
 pub mod DataLemmas
 pub mod PostLemmas
 pub mod TakeLemmas
-pub mod IsolationLemmas
+pub mod SendLemmas

@@ -10,4 +10,4 @@ pub mod Hearing
 pub mod Tables
 pub mod Posting
 pub mod Taking
-pub mod Events
+pub mod Sending

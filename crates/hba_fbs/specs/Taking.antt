@@ -9,6 +9,7 @@ use Rattle.port_errors.specs.Interrupts.{device_interrupts, port_interrupts}
 use Rattle.port_errors.specs.declared.cause.DeviceCause.{DeviceCause}
 use Rattle.port_errors.specs.declared.cause.PortCause.{PortCause}
 use Rattle.rx_area.specs.Area as rx
+use Rattle.slots.specs.Slots.{KeepsFree}
 use Rattle.rx_area.specs.declared.area.Posted.{Posted}
 use Rattle.rx_area.specs.declared.area.Posted.TheVariants as place
 use Rattle.hba_fbs.specs.declared.hearing.Fault.{Fault}
@@ -147,6 +148,9 @@ pub record Takes (old : Port) (before : Memory) (dev : ℕ) (fis : Option Fis) (
   pub registers : new.registers ≡ settled (posted_of old.registers dev (view_of dev old).state.resetting fis) (heard_now old before dev fis)
   pub errors : new.errors ≡ errors_with old.errors dev (heard_now old before dev fis).fault
   pub commands : new.commands ≡ old.commands
+  pub number : new.number ≡ old.number
+  -- no slot that is free becomes filled
+  pub frees : KeepsFree old.slots new.slots
   -- it is posted, and Data is written to the places of its slot's bytes
   pub structure : PostsOf old.registers.fb dev fis before.structure after.structure
   pub client : Delivers before old.commands payload (wrote_by (heard_now old before dev fis).happening) after.client

@@ -17,6 +17,8 @@ pub record Port : Type 0 where
   pub states : List DeviceState
   -- by slot: the command that stood there when it was issued
   pub commands : List (Option Command)
+  -- the running number of the next frame that goes out
+  pub number : ℕ
 
 -- the state of a device of which nothing was heard: Status 50h, Error 0
 abbrev pub opening_state : DeviceState
@@ -30,6 +32,7 @@ opening_port = record {
   errors = no_errors;
   states = replicate 16 opening_state;
   commands = replicate 32 None;
+  number = 0;
 }
 
 abbrev pub state_at : List DeviceState → ℕ → DeviceState

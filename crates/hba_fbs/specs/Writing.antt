@@ -64,6 +64,7 @@ pub record Accepts (old : Port) (memory : Memory) (register : Register) (value :
   pub views : (n : ℕ) → n < 16 → view_of n new ≡ view_after register old memory value n
   pub errors : new.errors ≡ errors_after register old value
   pub commands : new.commands ≡ commands_after register old memory value
+  pub number : new.number ≡ old.number
 
 -- and at an offset
 abbrev pub Writes : Port → Memory → ℕ → ℕ → Port → Type 0

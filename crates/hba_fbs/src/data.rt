@@ -20,7 +20,7 @@ use port_errors::{DeviceCause, PortCause};
 use slots::{ArriveError, SlotTable};
 
 /// Where the PRDs begin in a command table.
-const PRDS: u32 = 0x80;
+pub(crate) const PRDS: u32 = 0x80;
 
 fn asks(block: Option<Block>) -> bool
     ensures { result ≡ asks_of block }
@@ -89,8 +89,8 @@ fn write_data(memory: &mut HostMemory, command: Command, offset: u32, payload: &
     }
 }
 
-// The command of a slot of a device, where its PRDs can be read and have the slot's bytes.
-fn sound_command(
+/// The command of a slot of a device, where its PRDs can be read and have the slot's bytes.
+pub(crate) fn sound_command(
     slots: &SlotTable,
     memory: &HostMemory,
     commands: &[Option<Command>; 32],

@@ -57,7 +57,8 @@ pub(crate) fn any_foreign(registers: Registers, structure: &[u8], value: u32) ->
 fn standing(registers: Registers, memory: &HostMemory, slot: u8) -> Option<Command>
     requires slot { slot < 32 }
     requires list { registers.clb + 1024 ≤ 1048576 }
-    ensures value { result ≡ command_at memory.now registers.clb slot (has_bit_of registers.armed slot) }
+    ensures value { result
+        ≡ command_at memory.now registers.clb slot (has_bit_of registers.armed slot) }
     ensures work { IfSome result (λ command. IsWork command.work) }
 {
     let armed = has_bit(registers.armed, u32::from(slot));
@@ -133,7 +134,8 @@ pub(crate) fn issue_all(
     requires list { registers.clb + 1024 ≤ 1048576 }
     requires dev { registers.chosen < 16 }
     requires free { any_slot value (is_busy_slot slots.old) ≡ false }
-    ensures own { slots_of registers.chosen slots.new ≡ slots_issued registers memory.now value (slots_of registers.chosen slots.old) }
+    ensures own { slots_of registers.chosen slots.new
+        ≡ slots_issued registers memory.now value (slots_of registers.chosen slots.old) }
     ensures others { LeavesOthers registers.chosen slots.old slots.new }
     ensures commands { commands.new ≡ commands_issued registers memory.now value commands.old }
     ensures have { HaveCommands slots.old commands.old → HaveCommands slots.new commands.new }

@@ -12,7 +12,7 @@ mod data;
 mod error;
 mod hearing;
 mod issue;
-mod laws;
+mod out;
 mod port;
 mod post;
 mod register;
@@ -23,7 +23,6 @@ mod status;
 mod take;
 
 pub use error::{NoRegister, WriteError};
-pub use laws::isolated;
 pub use port::HostPort;
 pub use register::Register;
 pub use report::TakeReport;

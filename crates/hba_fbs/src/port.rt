@@ -36,6 +36,8 @@ pub struct HostPort {
     pub(crate) states: [DeviceState; 16],
     /// By slot: the command that was issued last.
     pub(crate) commands: [Option<Command>; 32],
+    /// The running number of the next frame that goes out.
+    pub(crate) number: u32,
 }
 
 impl Model for HostPort {
@@ -43,9 +45,9 @@ impl Model for HostPort {
 
     ghost Value = { Port };
 
-    ghost view = { λ p. record { registers = p.registers; slots = p.slots; errors = p.errors; states = p.states; commands = p.commands } };
+    ghost view = { λ p. record { registers = p.registers; slots = p.slots; errors = p.errors; states = p.states; commands = p.commands; number = p.number } };
 
-    ghost invariant = { λ p. IsPort (record { registers = p.registers; slots = p.slots; errors = p.errors; states = p.states; commands = p.commands }) };
+    ghost invariant = { λ p. IsPort (record { registers = p.registers; slots = p.slots; errors = p.errors; states = p.states; commands = p.commands; number = p.number }) };
 }
 
 impl HostPort {
@@ -59,6 +61,7 @@ impl HostPort {
             errors: PortErrors::new(),
             states: [DeviceState::new(); 16],
             commands: [None; 32],
+            number: 0,
         }
     }
 
@@ -125,6 +128,7 @@ impl HostPort {
         ensures registers { self.new.registers ≡ self.old.registers }
         ensures errors { self.new.errors ≡ without_fault self.old.errors dev }
         ensures commands { self.new.commands ≡ self.old.commands }
+        ensures number { self.new.number ≡ self.old.number }
     {
         let freed = self.slots.flush(dev);
         self.errors.forget(dev);
@@ -181,6 +185,7 @@ impl HostPort {
         ensures registers { self.new.registers ≡ self.old.registers }
         ensures errors { self.new.errors ≡ no_errors }
         ensures commands { self.new.commands ≡ self.old.commands }
+        ensures number { self.new.number ≡ self.old.number }
     {
         let _ = self.slots.flush_all();
         self.errors.stop();
@@ -191,11 +196,15 @@ impl HostPort {
     fn issue(&mut self, value: u32, memory: &HostMemory)
         requires list { self.old.registers.clb + 1024 ≤ 1048576 }
         requires free { any_slot value (is_busy self.old.slots) ≡ false }
-        ensures own { view_of self.old.registers.chosen self.new ≡ view_issued self.old.registers memory.now value (view_of self.old.registers.chosen self.old) }
+        ensures own { view_of self.old.registers.chosen self.new
+            ≡ view_issued self.old.registers memory.now value
+            (view_of self.old.registers.chosen self.old) }
         ensures others { LeavesOtherViews self.old.registers.chosen self.old self.new }
         ensures registers { self.new.registers ≡ self.old.registers }
         ensures errors { self.new.errors ≡ self.old.errors }
-        ensures commands { self.new.commands ≡ commands_issued self.old.registers memory.now value self.old.commands }
+        ensures commands { self.new.commands
+            ≡ commands_issued self.old.registers memory.now value self.old.commands }
+        ensures number { self.new.number ≡ self.old.number }
     {
         let registers = self.registers;
         issue_all(
@@ -211,10 +220,12 @@ impl HostPort {
     #[tactic(auto, unfolding(crate::specs::Writing::view_after, crate::specs::Writing::errors_after, crate::specs::Writing::commands_after))]
     fn act(&mut self, register: Register, value: u32, memory: &HostMemory)
         requires accepted { refusal_of register self.old memory.now value ≡ None }
-        ensures views { (n : ℕ) → n < 16 → view_of n self.new ≡ view_after register self.old memory.now value n }
+        ensures views { (n : ℕ) → n < 16
+            → view_of n self.new ≡ view_after register self.old memory.now value n }
         ensures registers { self.new.registers ≡ self.old.registers }
         ensures errors { self.new.errors ≡ errors_after register self.old value }
         ensures commands { self.new.commands ≡ commands_after register self.old memory.now value }
+        ensures number { self.new.number ≡ self.old.number }
     {
         match register {
             Register::Cmd => {

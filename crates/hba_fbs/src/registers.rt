@@ -172,7 +172,8 @@ impl Registers {
     #[tactic(auto, unfolding(crate::specs::Registers::written))]
     fn with_cmd(self, value: u32) -> Registers
         requires are { AreRegisters self }
-        requires accepted { cmd_refusal_of self (has_bit_of value st_bit) (has_bit_of value fre_bit) ≡ None }
+        requires accepted { cmd_refusal_of self
+            (has_bit_of value st_bit) (has_bit_of value fre_bit) ≡ None }
         ensures written { result ≡ written_of Register.Cmd self value }
         ensures are { AreRegisters result }
     {

@@ -1,7 +1,7 @@
 //! Status, and what FISes tell of a device's task file.
 
 ghost use Rattle.std.specs.Prelude.{◌≡◌};
-ghost use Rattle.hba_fbs.specs.Status.{after_reset as after_reset_of, is_busy as is_busy_status, is_error as is_error_status, is_quiet as is_quiet_status, with_bits as with_bits_of, with_block as with_block_of, with_file as with_file_of, with_status as with_status_of};
+ghost use Rattle.hba_fbs.specs.Status.{after_reset as after_reset_of, is_busy as is_busy_status, is_error as is_error_status, is_quiet as is_quiet_status, wants_data as wants_data_status, with_bits as with_bits_of, with_block as with_block_of, with_file as with_file_of, with_status as with_status_of};
 
 use crate::bits::has_bit;
 use crate::state::DeviceState;
@@ -38,11 +38,18 @@ pub(crate) fn is_busy(status: u8) -> bool
     has_bit(u32::from(status), BSY)
 }
 
+/// Whether DRQ is set.
+pub(crate) fn wants_data(status: u8) -> bool
+    ensures { result ≡ wants_data_status status }
+{
+    has_bit(u32::from(status), DRQ)
+}
+
 /// Whether BSY, DRQ and ERR are 0.
 pub(crate) fn is_quiet(status: u8) -> bool
     ensures { result ≡ is_quiet_status status }
 {
-    !is_busy(status) && !has_bit(u32::from(status), DRQ) && !is_error(status)
+    !is_busy(status) && !wants_data(status) && !is_error(status)
 }
 
 impl DeviceState {

@@ -5,6 +5,7 @@ ghost use Rattle.fis_view.specs.Seen.{frame_of, seen};
 ghost use Rattle.host_memory.specs.Memory.{Memory};
 ghost use Rattle.port_errors.specs.Errors.{cause_of};
 ghost use Rattle.rx_area.specs.Area.{posted_at};
+ghost use Rattle.slots.specs.Slots.{KeepsFree};
 ghost use Rattle.hba_fbs.specs.Posting.{Posts, posted as posted_registers};
 ghost use Rattle.hba_fbs.specs.Registers.{AreRegisters};
 ghost use Rattle.hba_fbs.specs.Tables.{Delivers, is_sound};
@@ -69,7 +70,7 @@ fn admit(dev: u8, fis: Result<Fis<'_>, FisFault>) -> Option<Fis<'_>>
 }
 
 impl HostPort {
-    fn is_running(&self) -> bool
+    pub(crate) fn is_running(&self) -> bool
         ensures { result ≡ is_running_of self.now }
     {
         self.registers.started && !self.errors.stopped()
@@ -107,14 +108,18 @@ impl HostPort {
             (is_sound memory.old self.old.commands (view_of dev self.old).slots) (Some fis.now) }
         ensures others { LeavesOtherViews dev self.old self.new }
         ensures reports { result
-            ≡ heard_report dev (posted_at fis.now) (heard_now self.old memory.old dev (Some fis.now)) }
+            ≡ heard_report dev (posted_at fis.now)
+            (heard_now self.old memory.old dev (Some fis.now)) }
         ensures registers { self.new.registers
             ≡ settled_registers (posted_registers self.old.registers dev
             (view_of dev self.old).state.resetting fis.now)
             (heard_now self.old memory.old dev (Some fis.now)) }
         ensures errors { self.new.errors
-            ≡ errors_with self.old.errors dev (heard_now self.old memory.old dev (Some fis.now)).fault }
+            ≡ errors_with self.old.errors dev
+            (heard_now self.old memory.old dev (Some fis.now)).fault }
         ensures commands { self.new.commands ≡ self.old.commands }
+        ensures number { self.new.number ≡ self.old.number }
+        ensures frees { KeepsFree self.old.slots self.new.slots }
         ensures posts { Posts self.old.registers.fb dev fis.now
             memory.old.structure memory.new.structure }
         ensures client { Delivers memory.old self.old.commands (drop 4 (frame_of fis.now))
@@ -156,7 +161,8 @@ impl HostPort {
         ensures ignored { ignores (port_of frame.now.bytes) self.old frame.now.bytes ≡ true
             → Ignores (port_of frame.now.bytes) self.old memory.old result self.new memory.new }
         ensures heard { ignores (port_of frame.now.bytes) self.old frame.now.bytes ≡ false
-            → Hears (port_of frame.now.bytes) self.old memory.old frame.now.bytes result self.new memory.new }
+            → Hears (port_of frame.now.bytes) self.old memory.old frame.now.bytes
+            result self.new memory.new }
     {
         let dev = frame.pm_port();
         self.take_from(dev, frame, memory)

@@ -1,6 +1,8 @@
 //! What no clause says: values from outside, and that calls succeed.
 
+mod sending;
 mod taking;
+mod vectors;
 
 use crate::registers::Registers;
 use crate::state::DeviceState;

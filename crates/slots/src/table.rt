@@ -334,6 +334,8 @@ impl SlotTable {
         ensures value { result ≡ payload (context_of self.now dev) }
         ensures below { IfSome result (λ next. next.0 < 32) }
         ensures some { IfSome result (λ next. 0 < next.2) }
+        ensures few { IfSome result (λ next. next.2 ≤ 8192) }
+        ensures dwords { IfSome result (λ next. next.2 % 4 ≡ 0) }
         ensures own { IfSome result
             (λ next. own_issue (slots_of dev self.now) next.0 ≡ issue_at self.now next.0) }
         ensures inside { IfSome result

@@ -9,11 +9,11 @@ use hba_commands::write_command;
 use host_memory::{HostMemory, Prd};
 use port_errors::{DeviceCause, PortCause};
 use rx_area::Posted;
-use std::alloc::Global;
+use std::alloc::{AllocError, Global};
 use std::process::Abort;
 use std::test::Fail;
 
-fn can_be_written(prds: &[Prd]) -> bool
+pub(super) fn can_be_written(prds: &[Prd]) -> bool
     ensures { IsTrue result ↔ All CanBeWritten prds.now }
 {
     prds.iter()
@@ -21,7 +21,7 @@ fn can_be_written(prds: &[Prd]) -> bool
 }
 
 /// A port that runs, with its received area at 1000h.
-fn started(memory: &HostMemory) -> HostPort {
+pub(super) fn started(memory: &HostMemory) -> HostPort {
     let mut port = HostPort::new();
     let _ = port.write(0x08, 0x1000, memory);
     let _ = port.write(0x40, 1, memory);
@@ -29,23 +29,17 @@ fn started(memory: &HostMemory) -> HostPort {
     port
 }
 
-/// The next command counts as sent.
-fn send_next(port: &mut HostPort) {
-    if let Some(slot) = port.slots.next_command(0xFFFF, 0) {
-        port.slots.sent(slot);
-    }
-}
-
-/// Issues and sends a command of a device.
+/// Issues a command of a device, and lets it go out.
 fn issue(
     rt: &impl Abort,
+    alloc: Global,
     port: &mut HostPort,
     memory: &mut HostMemory,
     dev: u8,
     slot: u8,
     command: u8,
     prds: &[Prd],
-) {
+) -> Result<(), AllocError> {
     assert!(rt; slot < 32 && dev < 16);
     assert!(rt; prds.len() <= 2);
     assert!(rt; can_be_written(prds));
@@ -71,10 +65,12 @@ fn issue(
         Ok(())
     );
     assert_eq!(rt; port.write(0x38, bit, memory), Ok(()));
-    send_next(port);
+    let sent = port.next_out(alloc, memory)?;
+    assert!(rt; sent.is_some());
+    Ok(())
 }
 
-fn take(
+pub(super) fn take(
     alloc: Global,
     port: &mut HostPort,
     memory: &mut HostMemory,
@@ -91,7 +87,7 @@ fn take(
 }
 
 /// Status 50h, with which a queued command is answered.
-fn answer(dev: u8) -> [u8; 20] {
+pub(super) fn answer(dev: u8) -> [u8; 20] {
     let mut fis = [0; 20];
     fis[0] = 0x34;
     fis[1] = dev;
@@ -99,7 +95,7 @@ fn answer(dev: u8) -> [u8; 20] {
     fis
 }
 
-fn setup(dev: u8, to_host: bool, tag: u8, offset: u16, count: u16) -> [u8; 28] {
+pub(super) fn setup(dev: u8, to_host: bool, tag: u8, offset: u16, count: u16) -> [u8; 28] {
     let mut fis = [0; 28];
     fis[0] = 0x41;
     fis[1] = if to_host { dev | 0x20 } else { dev };
@@ -111,7 +107,7 @@ fn setup(dev: u8, to_host: bool, tag: u8, offset: u16, count: u16) -> [u8; 28] {
     fis
 }
 
-fn data(dev: u8, byte: u8) -> [u8; 516] {
+pub(super) fn data(dev: u8, byte: u8) -> [u8; 516] {
     let mut fis = [byte; 516];
     fis[0] = 0x46;
     fis[1] = dev;
@@ -133,14 +129,14 @@ fn pio_setup(dev: u8, ends: u8, count: u16) -> [u8; 20] {
 }
 
 /// So many bytes, from this address of the client area on, are this one.
-fn are(memory: &HostMemory, at: usize, count: usize, byte: u8) -> bool {
+pub(super) fn are(memory: &HostMemory, at: usize, count: usize, byte: u8) -> bool {
     let client = memory.client();
     at <= client.len()
         && count <= client.len() - at
         && client[at..at + count].iter().all(|b| *b == byte)
 }
 
-fn prd(address: u32, bytes: u32) -> Prd {
+pub(super) fn prd(address: u32, bytes: u32) -> Prd {
     Prd { address, bytes }
 }
 
@@ -151,7 +147,7 @@ fn read_is_done_once(rt: HostRuntime) -> Result<(), Fail> {
     let mut memory = HostMemory::new(alloc, 0x20_0000)?;
     let mut port = started(&memory);
     let prds = [prd(0x10_1000, 300), prd(0x10_2000, 212)];
-    issue(&rt, &mut port, &mut memory, 3, 5, 0x60, &prds);
+    issue(&rt, alloc, &mut port, &mut memory, 3, 5, 0x60, &prds)?;
     assert_eq!(rt; port.read(0x38), Ok(0x20));
     let _ = take(alloc, &mut port, &mut memory, &answer(3))?;
     assert_eq!(rt; port.read(0x38), Ok(0));
@@ -197,13 +193,14 @@ fn reads_cross(rt: HostRuntime) -> Result<(), Fail> {
     for (dev, slot, address) in [(0, 0, 0x10_1000), (4, 1, 0x10_2000), (9, 2, 0x10_3000)] {
         issue(
             &rt,
+            alloc,
             &mut port,
             &mut memory,
             dev,
             slot,
             0x60,
             &[prd(address, 1024)],
-        );
+        )?;
         let _ = take(alloc, &mut port, &mut memory, &answer(dev))?;
     }
     let _ = take(alloc, &mut port, &mut memory, &setup(0, true, 0, 0, 1024))?;
@@ -251,7 +248,16 @@ fn reading(
     memory: &mut HostMemory,
 ) -> Result<HostPort, FrameError> {
     let mut port = started(memory);
-    issue(rt, &mut port, memory, 2, 0, 0x60, &[prd(0x10_1000, 1024)]);
+    issue(
+        rt,
+        alloc,
+        &mut port,
+        memory,
+        2,
+        0,
+        0x60,
+        &[prd(0x10_1000, 1024)],
+    )?;
     let _ = take(alloc, &mut port, memory, &answer(2))?;
     Ok(port)
 }
@@ -461,7 +467,7 @@ fn identify(
     memory: &mut HostMemory,
     blocks: &[(u8, u16)],
 ) -> Result<TakeReport, FrameError> {
-    issue(rt, port, memory, 1, 3, 0xEC, &[prd(0x10_1000, 512)]);
+    issue(rt, alloc, port, memory, 1, 3, 0xEC, &[prd(0x10_1000, 512)])?;
     let bytes = data(1, 0x77);
     let mut last = take(alloc, port, memory, &answer(2))?;
     for (ends, count) in blocks {

@@ -1,8 +1,0 @@
-use Rattle.hba_fbs.proofs.IsolationLemmas.{are_alike, fold_of_own}
-use Rattle.hba_fbs.proofs.laws.isolated.Goals as goal
-
-pub returns-clause-fold : goal.returns-clause-fold
-returns-clause-fold c = fold_of_own
-
-pub returns-clause-alike : goal.returns-clause-alike
-returns-clause-alike c = are_alike

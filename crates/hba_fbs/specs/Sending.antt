@@ -1,0 +1,155 @@
+-- What goes out of a host port next: AHCI 1.3.1, 5.3 (the port's states, from sending a command to sending its data) and
+-- chapter 9 (FIS-based Switching); Serial ATA 3.x, 10.5 (Register Host to Device and Data FISes).
+use Rattle.std.specs.Prelude.{ℕ, ◌≡◌, ◌+◌, ◌-◌, min, ◌&&◌, ◌||◌, Bool, true, false, not, is_none, is_some, if◌then◌else◌, bit_or, List, ◌∷◌, map, replicate, slice_index, Option, Some, None, MatchOption}
+use Rattle.std.specs.List.{range_with_len}
+use Rattle.fis_view.specs.declared.frame.Stamp.{Stamp}
+use Rattle.fis_view.specs.Frames.{Stamped}
+use Rattle.host_memory.specs.Memory.{Memory, client_start}
+use Rattle.host_memory.specs.Place.{place}
+use Rattle.host_memory.specs.declared.table.Prd.{Prd}
+use Rattle.port_errors.specs.Errors.{Errors, cause_of, with_port}
+use Rattle.port_errors.specs.Interrupts.{port_interrupts}
+use Rattle.port_errors.specs.declared.cause.PortCause.TheVariants.{Bus}
+use Rattle.hba_commands.specs.declared.command.Command.{Command}
+use Rattle.slots.specs.Commands.{after_sent, next_slot}
+use Rattle.slots.specs.Data.{after_payload, payload}
+use Rattle.slots.specs.Slots.{Slots, context_of, has_bit, is_control, issue_at, lowest_below, mask_below, match_some}
+use Rattle.hba_fbs.specs.declared.state.DeviceState.{DeviceState}
+use Rattle.hba_fbs.specs.Status.{is_busy, wants_data}
+use Rattle.hba_fbs.specs.Tables.{prds_of, sound_command}
+use Rattle.hba_fbs.specs.Taking.{is_running}
+use Rattle.hba_fbs.specs.Views.{DeviceView, LeavesOtherViews, Port, last_command, state_at, view_of}
+
+-- ---- data
+
+-- a device that is not faulty asked for data of its setup
+abbrev pub is_due : Slots → Errors → ℕ → Bool
+is_due slots errors dev = is_some (payload (context_of slots dev)) && is_none (cause_of errors dev)
+
+-- the lowest of them is served first
+unfoldable pub next_receiver : Port → Option ℕ
+next_receiver port = lowest_below (is_due port.slots port.errors) 16
+
+-- the bytes of a transfer from one on, each as it stands at its place
+abbrev pub gathered : List Prd → ℕ → ℕ → List ℕ → List ℕ
+gathered prds offset len client = map (λ k. slice_index client (place prds (offset + k) - client_start)) (range_with_len 0 len)
+
+-- a Data FIS to a device
+abbrev pub data_fis : ℕ → List ℕ → List ℕ
+data_fis dev bytes = 0x46 ∷ dev ∷ 0 ∷ 0 ∷ bytes
+
+-- the view of the device to which its data went
+abbrev pub view_fed : DeviceView → DeviceView
+view_fed view = record view { slots = after_payload view.slots }
+
+-- ---- commands
+
+-- a device takes commands while it is in no software reset and BSY and DRQ are 0
+abbrev pub is_ready : DeviceState → Bool
+is_ready state = not (state.resetting || is_busy state.status || wants_data state.status)
+
+abbrev pub ready_devices : Port → ℕ
+ready_devices port = mask_below (λ dev. is_ready (state_at port.states dev)) 16
+
+abbrev pub faulty_devices : Port → ℕ
+faulty_devices port = mask_below (λ dev. is_some (cause_of port.errors dev)) 16
+
+-- the slot whose command goes out next
+unfoldable pub next_to_send : Port → Option ℕ
+next_to_send port = next_slot (ready_devices port) (faulty_devices port) port.slots
+
+-- SRST, bit 2 of the Control field, byte 15 of a Register Host to Device FIS
+abbrev pub resets : List ℕ → Bool
+resets cfis = has_bit (slice_index cfis 15) 2
+
+-- a command makes its device busy, and a Control with SRST set begins its software reset
+abbrev pub state_sent : DeviceState → Command → DeviceState
+state_sent state command =
+    if is_control command.work.kind then record state { resetting = state.resetting || resets command.cfis }
+    else record state { status = bit_or state.status 128 }
+
+-- the view of the device to which the command of its slot went
+abbrev pub view_sent : DeviceView → ℕ → Command → DeviceView
+view_sent view slot command = record view { slots = after_sent view.slots slot; state = state_sent view.state command }
+
+-- ---- what goes out next
+
+pub data Outgoing : Type 0 where
+  -- nothing may go
+  Nothing : Outgoing
+  -- data is due to a device, and the PRD table of its slot can not be used
+  Unreadable : (dev : ℕ) → Outgoing
+  -- so many bytes of a command's transfer, from one on, to a device
+  Data : (dev offset len : ℕ) → Command → Outgoing
+  -- the command of a slot of a device
+  Order : (dev slot : ℕ) → Command → Outgoing
+
+abbrev pub data_with : ℕ → ℕ → ℕ → Option Command → Outgoing
+data_with dev offset len None = Unreadable dev
+data_with dev offset len (Some command) = Data dev offset len command
+
+-- the data that is due to a device, by the PRD table of its slot as it stands now
+abbrev pub data_due : Port → Memory → ℕ → Outgoing
+data_due port memory dev = match_some (payload (context_of port.slots dev)) Nothing (λ next.
+    data_with dev next.1 next.2 (sound_command memory port.commands (view_of dev port).slots next.0))
+
+-- the command of a slot, as it stood at its issue
+abbrev pub order_due : Port → ℕ → Outgoing
+order_due port slot = match_some (issue_at port.slots slot) Nothing (λ issue.
+    match_some (last_command port.commands slot) Nothing (Order issue.dev slot))
+
+-- Data of the lowest device that asked for it, and else the command of the lowest slot that may be sent
+abbrev pub outgoing : Port → Memory → Outgoing
+outgoing port memory =
+    if not (is_running port) then Nothing
+    else match_some (next_receiver port) (match_some (next_to_send port) Nothing (order_due port)) (data_due port memory)
+
+-- a frame goes out
+abbrev pub is_sent : Outgoing → Bool
+is_sent Nothing = false
+is_sent (Unreadable dev) = false
+is_sent (Data dev offset len command) = true
+is_sent (Order dev slot command) = true
+
+-- nothing may go: the port does not run, or no device waits for data and no slot may be sent
+abbrev pub MayRest : Port → Type 0
+MayRest port = is_running port ≡ true → (next_receiver port ≡ None) × (next_to_send port ≡ None)
+
+-- ---- what it leaves
+
+-- the largest running number; one that reached it stays
+abbrev pub largest : ℕ
+largest = 4294967295
+
+abbrev pub counted : ℕ → ℕ
+counted n = min (n + 1) largest
+
+-- beside a frame of the host: its PM Port, and its running number
+abbrev pub host_stamp : ℕ → ℕ → Stamp
+host_stamp dev number = record { port = dev; conn = 0; number = number; shown = replicate 15 0 }
+
+-- These bytes go out to a device, of which this is the view afterwards. Of all the rest the running number alone changes.
+pub record Sends (old : Port) (dev : ℕ) (bytes : List ℕ) (view : DeviceView) (frame : Stamped) (new : Port) : Type 0 where
+  pub frame_is : frame ≡ record { bytes = bytes; stamp = host_stamp dev old.number }
+  pub own : view_of dev new ≡ view
+  pub others : LeavesOtherViews dev old new
+  pub registers : new.registers ≡ old.registers
+  pub errors : new.errors ≡ old.errors
+  pub commands : new.commands ≡ old.commands
+  pub number : new.number ≡ counted old.number
+
+-- the host's bus failed: that stops the port, and sets its bits of PxIS
+abbrev pub stopped_by_bus : Port → Port
+stopped_by_bus old = record old {
+  registers = record old.registers { interrupts = bit_or old.registers.interrupts (port_interrupts Bus) };
+  errors = with_port old.errors Bus;
+}
+
+-- what goes out, and what it leaves
+abbrev pub Gives : Outgoing → Port → Memory → Option Stamped → Port → Type 0
+Gives Nothing old memory frame new = (frame ≡ None) × (new ≡ old)
+Gives (Unreadable dev) old memory frame new = (frame ≡ None) × (new ≡ stopped_by_bus old)
+Gives (Data dev offset len command) old memory frame new = MatchOption frame ⊥ (λ f.
+    Sends old dev (data_fis dev (gathered (prds_of memory command) offset len memory.client)) (view_fed (view_of dev old)) f new)
+Gives (Order dev slot command) old memory frame new = MatchOption frame ⊥ (λ f.
+    Sends old dev command.cfis (view_sent (view_of dev old) slot command) f new)

@@ -1,0 +1,367 @@
+//! What goes out next: data of writes, and commands.
+
+ghost use Rattle.std.specs.Prelude.{◌≡◌, ◌<◌, ◌≤◌, ◌+◌, ◌%◌, ◌&&◌, None, Some, Ok, true, false, ℕ, is_none, is_some, bit_or, MatchOption, IfOk, IfSome, IsSome, OnErr, length};
+ghost use Rattle.host_memory.specs.Memory.{Memory};
+ghost use Rattle.host_memory.specs.Place.{total_of};
+ghost use Rattle.host_memory.specs.Reading.{read_fault};
+ghost use Rattle.port_errors.specs.Errors.{cause_of};
+ghost use Rattle.slots.specs.Commands.{MayBeSent, after_sent};
+ghost use Rattle.slots.specs.Data.{payload as payload_of};
+ghost use Rattle.slots.specs.Slots.{KeepsFree, LeavesOthers, context_of, issue_at, lowest_below, mask_below, slots_of};
+ghost use Rattle.hba_fbs.specs.Registers.{AreRegisters};
+ghost use Rattle.hba_fbs.specs.Sending.{Gives, MayRest, Sends, counted, data_due, data_fis, gathered, host_stamp, is_due as is_due_of, is_ready as is_ready_state, is_sent, next_receiver as next_receiver_of, next_to_send as next_to_send_of, order_due, outgoing, resets as resets_of, state_sent, stopped_by_bus, view_fed, view_sent};
+ghost use Rattle.hba_fbs.specs.Tables.{prds_of};
+ghost use Rattle.hba_fbs.specs.Views.{LeavesOtherViews, last_command, state_at, view_of};
+
+use crate::bits::has_bit;
+use crate::data::{PRDS, sound_command};
+use crate::port::HostPort;
+use crate::registers::Registers;
+use crate::state::{DeviceState, state_of};
+use crate::status::{is_busy, wants_data};
+use bitflags::Flags;
+use fis_view::{Frame, Stamp, payload};
+use hba_commands::Command;
+use host_memory::{HostMemory, PrdTable};
+use port_errors::{PortCause, PortErrors};
+use slots::{Kind, SlotTable};
+use std::alloc::{AllocError, Global};
+
+/// SRST, Software Reset, in the Control field.
+const SRST: u32 = 2;
+/// The Control field in a Register Host to Device FIS.
+const CONTROL: usize = 15;
+/// Status.BSY.
+const BSY: u8 = 0x80;
+
+// ---- who is next
+
+fn is_ready(state: DeviceState) -> bool
+    ensures { result ≡ is_ready_state state }
+{
+    !(state.resetting || is_busy(state.status) || wants_data(state.status))
+}
+
+fn low_half(mask: u32) -> u16
+    requires { mask < 65536 }
+    ensures { result ≡ mask }
+{
+    mask as u16
+}
+
+// The devices that take commands, as a mask.
+fn ready_devices(states: &[DeviceState; 16]) -> u16
+    ensures { result ≡ mask_below (λ dev. is_ready_state (state_at states.now dev)) 16 }
+{
+    let mut mask: u32 = 0;
+    for dev in 0..16_u8 {
+        if is_ready(state_of(states, dev)) {
+            mask |= 1 << dev;
+        }
+    }
+    low_half(mask)
+}
+
+// The faulty devices, as a mask.
+fn faulty_devices(errors: &PortErrors) -> u16
+    ensures { result ≡ mask_below (λ dev. is_some (cause_of errors.now dev)) 16 }
+{
+    let mut mask: u32 = 0;
+    for dev in 0..16_u8 {
+        if errors.faulty(dev) {
+            mask |= 1 << dev;
+        }
+    }
+    low_half(mask)
+}
+
+fn is_due(slots: &SlotTable, errors: &PortErrors, dev: u8) -> bool
+    requires { dev < 16 }
+    ensures { result ≡ is_due_of slots.now errors.now dev }
+{
+    slots.next_payload(dev).is_some() && !errors.faulty(dev)
+}
+
+// The lowest device that is due.
+fn lowest_due(slots: &SlotTable, errors: &PortErrors) -> Option<u8>
+    ensures value { result ≡ lowest_below (is_due_of slots.now errors.now) 16 }
+    ensures below { IfSome result (λ dev. dev < 16) }
+    ensures due { IfSome result (λ dev. IsSome (payload_of (context_of slots.now dev))) }
+{
+    for dev in 0..16_u8 {
+        if is_due(slots, errors, dev) {
+            return Some(dev);
+        }
+    }
+    None
+}
+
+// ---- frames
+
+fn stamp(dev: u8, number: u32) -> Stamp
+    ensures { result ≡ host_stamp dev number }
+{
+    Stamp {
+        port: dev,
+        conn: 0,
+        number,
+        shown: [0; 15],
+    }
+}
+
+// Bytes of a transfer, from this one on, as they stand at their places.
+fn gather(
+    alloc: Global,
+    memory: &HostMemory,
+    command: &Command,
+    offset: u32,
+    len: u32,
+) -> Result<Vec<u8>, AllocError>
+    requires readable { read_fault memory.now.structure (length memory.now.client)
+        (command.now.table + 128) command.now.count ≡ None }
+    requires fits { offset + len ≤ total_of (prds_of memory.now command.now) }
+    ensures bytes { IfOk result (λ bytes. bytes.items
+        ≡ gathered (prds_of memory.now command.now) offset len memory.now.client) }
+    ensures len { IfOk result (λ bytes. length bytes.items ≡ len) }
+{
+    let mut bytes = Vec::with_capacity(alloc, len as usize)?;
+    let structure = memory.structure();
+    let client = memory.client();
+    let client_len = client.len() as u32;
+    match PrdTable::read(structure, client_len, command.table + PRDS, command.count) {
+        Ok(table) => {
+            for part in table.parts(client, offset, len) {
+                bytes.extend_from_slice(part)?;
+            }
+        }
+        Err(_) => unreachable!(),
+    }
+    Ok(bytes)
+}
+
+// A Data FIS that carries these bytes.
+fn data_frame(alloc: Global, dev: u8, bytes: &[u8], number: u32) -> Result<Frame, AllocError>
+    requires dev { dev < 16 }
+    requires some { 0 < length bytes.now }
+    requires few { length bytes.now ≤ 8192 }
+    requires dwords { length bytes.now % 4 ≡ 0 }
+    ensures { IfOk result (λ frame. frame
+        ≡ record { bytes = data_fis dev bytes.now; stamp = host_stamp dev number }) }
+{
+    match payload(alloc, dev, bytes, stamp(dev, number)) {
+        Ok(frame) => Ok(frame),
+        Err(_) => Err(AllocError),
+    }
+}
+
+// A frame of a command.
+fn order_frame(alloc: Global, dev: u8, cfis: &[u8; 20], number: u32) -> Result<Frame, AllocError>
+    ensures { IfOk result (λ frame. frame
+        ≡ record { bytes = cfis.now; stamp = host_stamp dev number }) }
+{
+    match Frame::from_bytes(alloc, cfis, stamp(dev, number)) {
+        Ok(frame) => Ok(frame),
+        Err(_) => Err(AllocError),
+    }
+}
+
+// ---- what a command leaves
+
+// The state of a device to which a command goes.
+fn sent_to(state: DeviceState, command: &Command) -> DeviceState
+    ensures { result ≡ state_sent state command.now }
+{
+    match command.work.kind {
+        Kind::Control => DeviceState {
+            resetting: state.resetting || has_bit(u32::from(command.cfis[CONTROL]), SRST),
+            ..state
+        },
+        Kind::QueuedRead | Kind::QueuedWrite | Kind::PioIn | Kind::NoData => DeviceState {
+            status: state.status | BSY,
+            ..state
+        },
+    }
+}
+
+// The device of the command in a slot.
+fn owner_of(slots: &SlotTable, slot: u8) -> u8
+    requires slot { slot < 32 }
+    requires there { MayBeSent slots.now slot }
+    ensures owner { MatchOption (issue_at slots.now slot) ⊥ (λ issue. issue.dev ≡ result) }
+    ensures below { result < 16 }
+{
+    slots.keeps_rules();
+    match slots.owner(slot) {
+        Some(dev) => dev,
+        None => unreachable!(),
+    }
+}
+
+// The command of a device's slot is sent.
+fn send_slot(slots: &mut SlotTable, slot: u8, dev: u8)
+    requires slot { slot < 32 }
+    requires alone { MayBeSent slots.old slot }
+    requires owner { MatchOption (issue_at slots.old slot) ⊥ (λ issue. issue.dev ≡ dev) }
+    ensures own { slots_of dev slots.new ≡ after_sent (slots_of dev slots.old) slot }
+    ensures others { LeavesOthers dev slots.old slots.new }
+    ensures frees { KeepsFree slots.old slots.new }
+{
+    slots.sent(slot);
+}
+
+// The command that was issued last in a slot.
+fn command_of(commands: &[Option<Command>; 32], slot: u8) -> Option<Command>
+    requires { slot < 32 }
+    ensures { result ≡ last_command commands.now slot }
+{
+    commands[slot as usize]
+}
+
+// The registers after the host's bus failed.
+fn failed(registers: Registers, interrupts: u32) -> Registers
+    ensures value { result
+        ≡ record registers { interrupts = bit_or registers.interrupts interrupts } }
+    ensures are { AreRegisters registers → AreRegisters result }
+{
+    Registers {
+        interrupts: registers.interrupts | interrupts,
+        ..registers
+    }
+}
+
+impl HostPort {
+    // The device to which data goes next.
+    #[tactic(auto, unfolding(crate::specs::Sending::next_receiver))]
+    fn next_receiver(&self) -> Option<u8>
+        ensures value { result ≡ next_receiver_of self.now }
+        ensures below { IfSome result (λ dev. dev < 16) }
+        ensures due { IfSome result (λ dev. IsSome (payload_of (context_of self.now.slots dev))) }
+    {
+        lowest_due(&self.slots, &self.errors)
+    }
+
+    // The slot whose command goes out next.
+    fn next_to_send(&self) -> Option<u8>
+        ensures value { result ≡ next_to_send_of self.now }
+        ensures may { IfSome result (λ slot. (slot < 32) × MayBeSent self.now.slots slot) }
+    {
+        let ready = ready_devices(&self.states);
+        let faulty = faulty_devices(&self.errors);
+        self.slots.next_command(ready, faulty)
+    }
+
+    fn fail(&mut self)
+        ensures { self.new ≡ stopped_by_bus self.old }
+    {
+        let interrupts = self.errors.port(PortCause::Bus);
+        self.registers = failed(self.registers, interrupts.bits());
+    }
+
+    // The data that was due to a device goes.
+    fn feed(&mut self, dev: u8)
+        requires dev { dev < 16 }
+        requires due { IsSome (payload_of (context_of self.old.slots dev)) }
+        ensures own { view_of dev self.new ≡ view_fed (view_of dev self.old) }
+        ensures others { LeavesOtherViews dev self.old self.new }
+        ensures registers { self.new.registers ≡ self.old.registers }
+        ensures errors { self.new.errors ≡ self.old.errors }
+        ensures commands { self.new.commands ≡ self.old.commands }
+        ensures number { self.new.number ≡ counted self.old.number }
+    {
+        self.slots.payload_gone(dev);
+        self.number = self.number.saturating_add(1);
+    }
+
+    // Gives the data that is due to a device.
+    fn give_data(
+        &mut self,
+        alloc: Global,
+        dev: u8,
+        memory: &HostMemory,
+    ) -> Result<Option<Frame>, AllocError>
+        requires dev { dev < 16 }
+        requires due { IsSome (payload_of (context_of self.old.slots dev)) }
+        ensures gives { IfOk result (λ frame. Gives (data_due self.old memory.now dev)
+            self.old memory.now frame self.new) }
+        ensures stops { result ≡ Ok None → is_some self.new.errors.port ≡ true }
+        ensures refused { OnErr result ((self.new ≡ self.old)
+            × (is_sent (data_due self.old memory.now dev) ≡ true)) }
+    {
+        let Some((slot, offset, len)) = self.slots.next_payload(dev) else {
+            unreachable!();
+        };
+        let found = sound_command(&self.slots, memory, &self.commands, dev, slot);
+        let Some(command) = found else {
+            self.fail();
+            return Ok(None);
+        };
+        let bytes = gather(alloc, memory, &command, offset, len)?;
+        let frame = data_frame(alloc, dev, &bytes, self.number)?;
+        self.feed(dev);
+        Ok(Some(frame))
+    }
+
+    // The command of a device's slot goes.
+    fn send(&mut self, slot: u8, dev: u8, command: &Command)
+        requires slot { slot < 32 }
+        requires dev { dev < 16 }
+        requires may { MayBeSent self.old.slots slot }
+        requires owner { MatchOption (issue_at self.old.slots slot) ⊥ (λ issue. issue.dev ≡ dev) }
+        ensures own { view_of dev self.new ≡ view_sent (view_of dev self.old) slot command.now }
+        ensures others { LeavesOtherViews dev self.old self.new }
+        ensures registers { self.new.registers ≡ self.old.registers }
+        ensures errors { self.new.errors ≡ self.old.errors }
+        ensures commands { self.new.commands ≡ self.old.commands }
+        ensures number { self.new.number ≡ counted self.old.number }
+    {
+        send_slot(&mut self.slots, slot, dev);
+        self.states[dev as usize] = sent_to(state_of(&self.states, dev), command);
+        self.number = self.number.saturating_add(1);
+    }
+
+    // Gives the command of a slot.
+    fn give_order(&mut self, alloc: Global, slot: u8) -> Result<Option<Frame>, AllocError>
+        requires slot { slot < 32 }
+        requires may { MayBeSent self.old.slots slot }
+        ensures gives { (memory : Memory) → IfOk result (λ frame. Gives (order_due self.old slot)
+            self.old memory frame self.new) }
+        ensures refused { OnErr result ((self.new ≡ self.old)
+            × (is_sent (order_due self.old slot) ≡ true)) }
+        ensures given { IfOk result (λ frame. is_some frame ≡ true) }
+    {
+        let Some(command) = command_of(&self.commands, slot) else {
+            unreachable!();
+        };
+        let dev = owner_of(&self.slots, slot);
+        let frame = order_frame(alloc, dev, &command.cfis, self.number)?;
+        self.send(slot, dev, &command);
+        Ok(Some(frame))
+    }
+
+    /// Gives the frame that goes out next, if one may: data for the lowest device that asked for
+    /// it, as it stands in client memory, and else the command of the lowest slot that may be sent.
+    /// A PRD table that can not be used any more stops the port. Where memory for the frame is
+    /// refused, nothing changes.
+    pub fn next_out(
+        &mut self,
+        alloc: Global,
+        memory: &HostMemory,
+    ) -> Result<Option<Frame>, AllocError>
+        ensures gives { IfOk result (λ frame. Gives (outgoing self.old memory.now)
+            self.old memory.now frame self.new) }
+        ensures rests { (result ≡ Ok None) × (self.new ≡ self.old) → MayRest self.old }
+        ensures refused { OnErr result ((self.new ≡ self.old)
+            × (is_sent (outgoing self.old memory.now) ≡ true)) }
+    {
+        if !self.is_running() {
+            return Ok(None);
+        }
+        if let Some(dev) = self.next_receiver() {
+            return self.give_data(alloc, dev, memory);
+        }
+        let Some(slot) = self.next_to_send() else {
+            return Ok(None);
+        };
+        self.give_order(alloc, slot)
+    }
+}
