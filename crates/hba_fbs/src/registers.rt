@@ -194,51 +194,25 @@ impl Registers {
         ensures written { result ≡ written_of register self value }
         ensures are { AreRegisters result }
     {
+        let mut registers = self;
         match register {
-            Register::Clb => Registers {
-                clb: value / LIST_LEN * LIST_LEN,
-                ..self
-            },
-            Register::Clbu => Registers {
-                clbu: value,
-                ..self
-            },
-            Register::Fb => Registers {
-                fb: value / AREA_LEN * AREA_LEN,
-                ..self
-            },
-            Register::Fbu => Registers { fbu: value, ..self },
-            Register::Is => Registers {
-                interrupts: cleared(self.interrupts, value & INTERRUPTS),
-                ..self
-            },
-            Register::Ie => Registers {
-                enabled: value,
-                ..self
-            },
-            Register::Cmd => self.with_cmd(value),
-            Register::Tfd | Register::Sig => self,
-            Register::Serr => Registers {
-                unknown: self.unknown && !has_bit(value, UNKNOWN),
-                ..self
-            },
-            Register::Sact => Registers {
-                armed: self.armed | value,
-                ..self
-            },
-            Register::Ci => Registers {
-                armed: cleared(self.armed, value),
-                ..self
-            },
-            Register::Sntf => Registers {
-                notified: self.notified & !((value & 0xFFFF) as u16),
-                ..self
-            },
-            Register::Fbs => Registers {
-                switching: has_bit(value, EN),
-                chosen: (value >> DEV & 0xF) as u8,
-                ..self
-            },
+            Register::Clb => registers.clb = value / LIST_LEN * LIST_LEN,
+            Register::Clbu => registers.clbu = value,
+            Register::Fb => registers.fb = value / AREA_LEN * AREA_LEN,
+            Register::Fbu => registers.fbu = value,
+            Register::Is => registers.interrupts = cleared(self.interrupts, value & INTERRUPTS),
+            Register::Ie => registers.enabled = value,
+            Register::Cmd => registers = self.with_cmd(value),
+            Register::Tfd | Register::Sig => {}
+            Register::Serr => registers.unknown = self.unknown && !has_bit(value, UNKNOWN),
+            Register::Sact => registers.armed = self.armed | value,
+            Register::Ci => registers.armed = cleared(self.armed, value),
+            Register::Sntf => registers.notified = self.notified & !((value & 0xFFFF) as u16),
+            Register::Fbs => {
+                registers.switching = has_bit(value, EN);
+                registers.chosen = (value >> DEV & 0xF) as u8;
+            }
         }
+        registers
     }
 }
