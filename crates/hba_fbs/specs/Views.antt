@@ -1,7 +1,7 @@
 -- A host port as its callers see it, and of it what belongs to one device: AHCI 1.3.1, chapter 9, FIS-based Switching.
-use Rattle.std.specs.Prelude.{ℕ, ◌≡◌, ◌≢◌, ◌+◌, ◌*◌, false, bit_and, List, replicate, slice_index_or, Option, None}
+use Rattle.std.specs.Prelude.{ℕ, ◌≡◌, ◌≢◌, ◌+◌, ◌*◌, ◌<◌, false, bit_and, List, replicate, slice_index_or, Option, None}
 use Rattle.slots.specs.Slots.{Slots, DeviceSlots, issue_at, no_slots, no_own_slots, slots_of}
-use Rattle.port_errors.specs.Errors.{Errors, cause_of, no_errors}
+use Rattle.port_errors.specs.Errors.{Errors, cause_of, no_errors, without}
 use Rattle.port_errors.specs.declared.cause.DeviceCause.{DeviceCause}
 use Rattle.hba_commands.specs.declared.command.Command.{Command}
 use Rattle.hba_fbs.specs.declared.registers.Registers.{Registers}
@@ -74,6 +74,16 @@ LeavesOtherViews n old new = (other : ℕ) → other ≢ n → view_of other new
 -- a device that was flushed has no slot, no setup, no fault, and its task file is as it opens
 abbrev pub flushed_view : DeviceView
 flushed_view = record { slots = no_own_slots; state = opening_state; fault = None }
+
+-- a device is flushed, and its fault with it
+pub record Flushes (old : Port) (dev : ℕ) (new : Port) : Type 0 where
+  pub dev_below : dev < 16
+  pub own : view_of dev new ≡ flushed_view
+  pub others : LeavesOtherViews dev old new
+  pub registers : new.registers ≡ old.registers
+  pub errors : new.errors ≡ without old.errors dev
+  pub commands : new.commands ≡ old.commands
+  pub number : new.number ≡ old.number
 
 -- after ST fell BSY and DRQ, bits 7 and 3 of Status, are 0, and no reset goes on and no block
 abbrev pub stopped_state : DeviceState → DeviceState

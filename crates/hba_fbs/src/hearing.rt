@@ -20,7 +20,7 @@ use slots::{Answered, Completed, Context, SetupError, SlotTable};
 
 /// What is wrong with a FIS.
 #[derive(Clone, Copy, Debug, PartialEq, Eq)]
-pub(crate) enum Fault {
+pub enum Fault {
     /// The device is faulty from then on.
     Device(DeviceCause),
     /// The port is stopped.
@@ -29,7 +29,7 @@ pub(crate) enum Fault {
 
 /// What a FIS is to the slots of the device that sent it.
 #[derive(Clone, Copy, Debug, PartialEq, Eq)]
-pub(crate) enum Happening {
+pub enum Happening {
     /// No slot changes.
     Nothing,
     /// The command that waits is answered.
@@ -48,17 +48,17 @@ pub(crate) enum Happening {
 
 /// What a FIS is to the device that sent it.
 #[derive(Clone, Copy, Debug, PartialEq, Eq)]
-pub(crate) struct Heard {
+pub struct Heard {
     /// Its task file and its reset after the FIS.
-    pub(crate) state: DeviceState,
+    pub state: DeviceState,
     /// What happened to its slots.
-    pub(crate) happening: Happening,
+    pub happening: Happening,
     /// What is wrong with the FIS.
-    pub(crate) fault: Option<Fault>,
+    pub fault: Option<Fault>,
     /// The slots that became free, as a mask.
-    pub(crate) done: u32,
+    pub done: u32,
     /// Whether it sets PxIS.PSS.
-    pub(crate) pss: bool,
+    pub pss: bool,
 }
 
 /// A FIS with which nothing is wrong, and that frees no slot.

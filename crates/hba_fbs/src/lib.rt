@@ -23,9 +23,13 @@ mod status;
 mod take;
 
 pub use error::{NoRegister, WriteError};
+pub use hearing::{Fault, Happening, Heard};
 pub use port::HostPort;
 pub use register::Register;
-pub use report::TakeReport;
+pub use registers::Registers;
+pub use report::{TakeReport, Wrote};
+pub use state::DeviceState;
+pub use status::Block;
 
 #[cfg(test)]
 mod tests;

@@ -4,12 +4,12 @@ ghost use Rattle.std.specs.Prelude.{◌≡◌, ◌<◌, ◌+◌, ◌≤◌, ℕ,
 ghost use Rattle.slots.specs.Commands.{own_slots};
 ghost use Rattle.slots.specs.Slots.{slots_of};
 ghost use Rattle.slots.specs.Table.{IsTable};
-ghost use Rattle.port_errors.specs.Errors.{AreErrors, no_errors, without as without_fault};
+ghost use Rattle.port_errors.specs.Errors.{AreErrors, no_errors};
 ghost use Rattle.std.specs.Result.{result_err};
 ghost use Rattle.hba_fbs.specs.Issuing.{any_slot, commands_issued, is_busy, view_issued};
 ghost use Rattle.hba_fbs.specs.Writing.{Writes, commands_after, errors_after, issue_refusal as issue_refusal_of, refusal_of, slots_refusal as slots_refusal_of, view_after, write_refusal};
 ghost use Rattle.hba_fbs.specs.Reading.{read_at, value_of};
-ghost use Rattle.hba_fbs.specs.Views.{IsPort, LeavesOtherViews, flushed_view, opening_port, stopped_view, view_of};
+ghost use Rattle.hba_fbs.specs.Views.{Flushes, IsPort, LeavesOtherViews, opening_port, stopped_view, view_of};
 
 use crate::bits::{UFS, UNKNOWN, bit};
 use crate::error::{NoRegister, WriteError};
@@ -123,12 +123,7 @@ impl HostPort {
     pub fn flush_device(&mut self, dev: u8) -> u32
         requires { dev < 16 }
         ensures answer { result ≡ own_slots (slots_of dev self.old.slots) }
-        ensures own { view_of dev self.new ≡ flushed_view }
-        ensures others { LeavesOtherViews dev self.old self.new }
-        ensures registers { self.new.registers ≡ self.old.registers }
-        ensures errors { self.new.errors ≡ without_fault self.old.errors dev }
-        ensures commands { self.new.commands ≡ self.old.commands }
-        ensures number { self.new.number ≡ self.old.number }
+        ensures after { Flushes self.old dev self.new }
     {
         let freed = self.slots.flush(dev);
         self.errors.forget(dev);

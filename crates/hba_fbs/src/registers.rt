@@ -19,37 +19,37 @@ const AREA_LEN: u32 = 0x1000;
 
 /// The port's own registers, each field by what it means.
 #[derive(Clone, Copy, Debug, PartialEq, Eq)]
-pub(crate) struct Registers {
+pub struct Registers {
     /// Where the command list begins: a multiple of its length.
-    pub(crate) clb: u32,
+    pub clb: u32,
     /// The upper 32 bits of that address.
-    pub(crate) clbu: u32,
+    pub clbu: u32,
     /// Where the received area begins: a multiple of its length.
-    pub(crate) fb: u32,
+    pub fb: u32,
     /// The upper 32 bits of that address.
-    pub(crate) fbu: u32,
+    pub fbu: u32,
     /// PxIS, but for UFS.
-    pub(crate) interrupts: u32,
+    pub interrupts: u32,
     /// PxIE.
-    pub(crate) enabled: u32,
+    pub enabled: u32,
     /// PxCMD.ST.
-    pub(crate) started: bool,
+    pub started: bool,
     /// PxCMD.FRE.
-    pub(crate) receives: bool,
+    pub receives: bool,
     /// PxCMD.PMA.
-    pub(crate) multiplied: bool,
+    pub multiplied: bool,
     /// PxSIG: the last signature that ended a software reset.
-    pub(crate) signature: u32,
+    pub signature: u32,
     /// Whether a FIS of an unknown type came: bit F of PxSERR, which UFS shows too.
-    pub(crate) unknown: bool,
+    pub unknown: bool,
     /// The bits of PxSACT that were written for slots of which none is issued yet.
-    pub(crate) armed: u32,
+    pub armed: u32,
     /// PxSNTF: the devices that sent a notification.
-    pub(crate) notified: u16,
+    pub notified: u16,
     /// PxFBS.EN.
-    pub(crate) switching: bool,
+    pub switching: bool,
     /// PxFBS.DEV: the device whose commands are issued, and whose task file is shown.
-    pub(crate) chosen: u8,
+    pub chosen: u8,
 }
 
 fn running_if(in_use: bool) -> Option<WriteError>

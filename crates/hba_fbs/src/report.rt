@@ -9,13 +9,13 @@ use rx_area::Posted;
 
 /// Bytes of a Data FIS that went to client memory.
 #[derive(Clone, Copy, Debug, PartialEq, Eq)]
-pub(crate) struct Wrote {
+pub struct Wrote {
     /// The slot to which they belong.
-    pub(crate) slot: u8,
+    pub slot: u8,
     /// The number of the first of them in the slot's transfer.
-    pub(crate) offset: u32,
+    pub offset: u32,
     /// How many there are.
-    pub(crate) len: u32,
+    pub len: u32,
 }
 
 /// What taking a FIS did.

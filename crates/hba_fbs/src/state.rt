@@ -12,15 +12,15 @@ const IDLE: u8 = 0x77;
 
 /// The task file of a device, whether it is in software reset, and the block that its last setup began.
 #[derive(Clone, Copy, Debug, PartialEq, Eq)]
-pub(crate) struct DeviceState {
+pub struct DeviceState {
     /// Its Status.
-    pub(crate) status: u8,
+    pub status: u8,
     /// Its Error.
-    pub(crate) error: u8,
+    pub error: u8,
     /// A control frame with SRST set went out, and no signature came since.
-    pub(crate) resetting: bool,
+    pub resetting: bool,
     /// The block of its last setup, where that was a PIO Setup.
-    pub(crate) block: Option<Block>,
+    pub block: Option<Block>,
 }
 
 impl DeviceState {

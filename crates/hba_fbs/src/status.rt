@@ -17,11 +17,11 @@ const UNTOLD: u8 = 0x88;
 
 /// The block of data that a PIO Setup begins.
 #[derive(Clone, Copy, Debug, PartialEq, Eq)]
-pub(crate) struct Block {
+pub struct Block {
     /// I: its end sets PSS.
-    pub(crate) interrupts: bool,
+    pub interrupts: bool,
     /// E_Status: the Status at its end.
-    pub(crate) ends: u8,
+    pub ends: u8,
 }
 
 /// Whether ERR is set.
