@@ -1,0 +1,164 @@
+-- What an event keeps: the place of the received area, and the sizes of memory.
+use Rattle.std.proofs.Common.{◌≡◌, ℕ, ◌+◌, ◌-◌, ◌*◌, ◌/◌, ◌≤◌, Bool, true, false, List, [], ◌∷◌, length, refl, sym, ◌∙◌, ap, subst, arith, inl, inr, Option, Some, None}
+use Rattle.std.specs.Prelude.{◌==◌, drop, MatchOption, is_none}
+use Rattle.std.proofs.lemmas.Bool.{and_parts, cases_Bool, eqb-true, not-false}
+use Rattle.fis_view.specs.Frames.{Stamped}
+use Rattle.fis_view.specs.Seen.{seen}
+use Rattle.fis_view.specs.declared.view.Fis.{Fis}
+use Rattle.fis_view.specs.declared.view.Fis.TheVariants as view
+use Rattle.hba_commands.specs.declared.command.Command.{Command}
+use Rattle.host_memory.specs.Memory.{Memory, client_start, overwritten}
+use Rattle.host_memory.specs.Place.{Scatters}
+use Rattle.host_memory.proofs.AgreeLemmas.{length-overwritten}
+use Rattle.hba_fbs.specs.declared.hearing.Heard.{Heard}
+use Rattle.hba_fbs.specs.declared.register.Register.{Register}
+use Rattle.hba_fbs.specs.declared.register.Register.TheVariants.{Clb, Clbu, Fb, Fbu, Is, Ie, Cmd, Tfd, Sig, Serr, Sact, Ci, Sntf, Fbs}
+use Rattle.hba_fbs.specs.declared.registers.Registers.{Registers}
+use Rattle.hba_fbs.specs.declared.report.Wrote.{Wrote as BytesTold}
+use Rattle.hba_fbs.specs.Posting.{posted}
+use Rattle.hba_fbs.specs.Registers.{written}
+use Rattle.hba_fbs.specs.Sending.{Data, Gives, Nothing, Order, Outgoing, Unreadable, outgoing}
+use Rattle.hba_fbs.specs.Tables.{Delivers, prds_of}
+use Rattle.hba_fbs.specs.Taking.{admitted, heard_now, ignores, is_running, port_of, posted_of, settled, wrote_by}
+use Rattle.hba_fbs.specs.Views.{Port, last_command, view_of}
+use Rattle.hba_laws.specs.Hosts.{Does, Flushed, Gave, Host, HostEvent, Put, Rewrote, Runs, Stored, Took, Wrote}
+use Rattle.hba_laws.specs.Sound.{AreHosts, IsHost}
+use Rattle.hba_laws.specs.Tables.{moves_area}
+use Rattle.hba_laws.proofs.WriteLemmas.{fb_refused}
+
+-- ---- the place of the received area
+
+posted_fb : (r : Registers) (dev : ℕ) (b : Bool) (fis : Fis) → (posted r dev b fis).fb ≡ r.fb
+unfolding posted
+posted_fb r dev b (view.RegH2D f) = refl
+posted_fb r dev b (view.RegD2H f) = refl
+posted_fb r dev b (view.SetBits f) = refl
+posted_fb r dev b (view.DmaActivate f) = refl
+posted_fb r dev b (view.DmaSetup f) = refl
+posted_fb r dev b (view.PioSetup f) = refl
+posted_fb r dev b (view.Payload f) = refl
+posted_fb r dev b (view.Unknown f) = refl
+
+settled_fb : (r : Registers) (h : Heard) → (settled r h).fb ≡ r.fb
+unfolding settled
+settled_fb r h = refl
+
+posted_of_fb : (r : Registers) (dev : ℕ) (b : Bool) (fis : Option Fis) → (posted_of r dev b fis).fb ≡ r.fb
+posted_of_fb r dev b None = refl
+posted_of_fb r dev b (Some fis) = posted_fb r dev b fis
+
+pub taken_fb : (r next : Registers) (dev : ℕ) (b : Bool) (fis : Option Fis) (h : Heard) → next ≡ settled (posted_of r dev b fis) h → next.fb ≡ r.fb
+taken_fb r next dev b fis h is = ap (λ (x : Registers). x.fb) is ∙ settled_fb (posted_of r dev b fis) h ∙ posted_of_fb r dev b fis
+
+written_fb : (host : Host) (register : Register) (value : ℕ) → moves_area host (Wrote register value) ≡ false → (written register host.port.registers value).fb ≡ host.port.registers.fb
+unfolding written
+written_fb host Fb value h = eqb-true (value / 4096 * 4096) host.port.registers.fb (not-false (value / 4096 * 4096 == host.port.registers.fb) h)
+written_fb host Clb value h = refl
+written_fb host Clbu value h = refl
+written_fb host Fbu value h = refl
+written_fb host Is value h = refl
+written_fb host Ie value h = refl
+written_fb host Cmd value h = refl
+written_fb host Tfd value h = refl
+written_fb host Sig value h = refl
+written_fb host Serr value h = refl
+written_fb host Sact value h = refl
+written_fb host Ci value h = refl
+written_fb host Sntf value h = refl
+written_fb host Fbs value h = refl
+
+gives_fb : (o : Outgoing) (old : Port) (memory : Memory) (frame : Option Stamped) (new : Port) → Gives o old memory frame new → new.registers.fb ≡ old.registers.fb
+gives_fb Nothing old memory frame new gives = ap (λ (p : Port). p.registers.fb) gives.1
+gives_fb (Unreadable dev) old memory frame new gives = ap (λ (p : Port). p.registers.fb) gives.1
+gives_fb (Data dev offset len command) old memory None new gives = absurd gives
+gives_fb (Data dev offset len command) old memory (Some f) new gives = ap (λ (r : Registers). r.fb) gives.registers
+gives_fb (Order dev slot command) old memory None new gives = absurd gives
+gives_fb (Order dev slot command) old memory (Some f) new gives = ap (λ (r : Registers). r.fb) gives.registers
+
+-- an event that does not move it leaves its place
+pub fb_kept : (old new : Host) (event : HostEvent) → Does old event new → moves_area old event ≡ false → new.port.registers.fb ≡ old.port.registers.fb
+fb_kept old new (Took frame report) does h =
+    elim (cases_Bool (ignores (port_of frame) old.port frame)) [
+      | inl t ↦ ap (λ (p : Port). p.registers.fb) (does.ignored t).port
+      | inr f ↦
+          taken_fb old.port.registers new.port.registers (port_of frame) (view_of (port_of frame) old.port).state.resetting (admitted (port_of frame) (seen frame))
+          (heard_now old.port old.memory (port_of frame) (admitted (port_of frame) (seen frame))) (does.heard f).registers
+    ]
+fb_kept old new (Wrote register value) does h = ap (λ (r : Registers). r.fb) does.1.registers ∙ written_fb old register value h
+fb_kept old new (Flushed dev) does h = ap (λ (r : Registers). r.fb) does.0.registers
+fb_kept old new (Gave frame) does h = gives_fb (outgoing old.port old.memory) old.port old.memory frame new.port does.0
+fb_kept old new (Stored structure) does h = ap (λ (p : Port). p.registers.fb) does.1
+fb_kept old new (Rewrote dev row) does h = ap (λ (p : Port). p.registers.fb) does.1
+fb_kept old new (Put at bytes) does h = ap (λ (p : Port). p.registers.fb) does.1
+
+-- nor is it moved while the port runs
+pub receives : (host : Host) → IsHost host → is_running host.port ≡ true → host.port.registers.receives ≡ true
+receives host is runs = (is.port.registers.started (and_parts host.port.registers.started (is_none host.port.errors.port) runs).0).0
+
+pub stays_put : (old new : Host) (event : HostEvent) → IsHost old → is_running old.port ≡ true → Does old event new → moves_area old event ≡ false
+stays_put old new (Took frame report) is runs does = refl
+stays_put old new (Wrote Fb value) is runs does = absurd (fb_refused old.port old.memory value (receives old is runs) does.0)
+stays_put old new (Wrote Clb value) is runs does = refl
+stays_put old new (Wrote Clbu value) is runs does = refl
+stays_put old new (Wrote Fbu value) is runs does = refl
+stays_put old new (Wrote Is value) is runs does = refl
+stays_put old new (Wrote Ie value) is runs does = refl
+stays_put old new (Wrote Cmd value) is runs does = refl
+stays_put old new (Wrote Tfd value) is runs does = refl
+stays_put old new (Wrote Sig value) is runs does = refl
+stays_put old new (Wrote Serr value) is runs does = refl
+stays_put old new (Wrote Sact value) is runs does = refl
+stays_put old new (Wrote Ci value) is runs does = refl
+stays_put old new (Wrote Sntf value) is runs does = refl
+stays_put old new (Wrote Fbs value) is runs does = refl
+stays_put old new (Flushed dev) is runs does = refl
+stays_put old new (Gave frame) is runs does = refl
+stays_put old new (Stored structure) is runs does = refl
+stays_put old new (Rewrote dev row) is runs does = refl
+stays_put old new (Put at bytes) is runs does = refl
+
+-- ---- the hosts of a run
+
+pub first_host : (old new : Host) (events : List HostEvent) (run : Runs old events new) → AreHosts old new events run → IsHost old
+first_host old new [] run hosts = hosts
+first_host old new (event ∷ events) run hosts = hosts.0
+
+pub last_host : (old new : Host) (events : List HostEvent) (run : Runs old events new) → AreHosts old new events run → IsHost new
+last_host old new [] run hosts = subst IsHost (sym run) hosts
+last_host old new (event ∷ events) run hosts = last_host run.0 new events run.2 hosts.1
+
+-- ---- the sizes of memory
+
+scattered_len : (memory : Memory) (o : Option Command) (offset : ℕ) (payload new : List ℕ)
+    → MatchOption o ⊥ (λ command. Scatters (prds_of memory command) offset payload memory.client new) → length new ≡ length memory.client
+scattered_len memory None offset payload new h = absurd h
+scattered_len memory (Some command) offset payload new h = h.as_long
+
+delivered_len : (memory : Memory) (commands : List (Option Command)) (payload : List ℕ) (w : Option BytesTold) (new : List ℕ) → Delivers memory commands payload w new → length new ≡ length memory.client
+delivered_len memory commands payload None new h = ap (λ (x : List ℕ). length x) h
+delivered_len memory commands payload (Some w) new h = scattered_len memory (last_command commands w.slot) w.offset payload new h
+
+put_len : (client bytes : List ℕ) (at : ℕ) → client_start ≤ at → at + length bytes ≤ client_start + length client → length (overwritten client (at - client_start) bytes) ≡ length client
+put_len client bytes at low high = length-overwritten client (at - client_start) bytes (omega arith)
+
+client_len : (old new : Host) (event : HostEvent) → Does old event new → length new.memory.client ≡ length old.memory.client
+client_len old new (Took frame report) does =
+    elim (cases_Bool (ignores (port_of frame) old.port frame)) [
+      | inl t ↦ ap (λ (m : Memory). length m.client) (does.ignored t).memory
+      | inr f ↦
+          delivered_len old.memory old.port.commands (drop 4 frame) (wrote_by (heard_now old.port old.memory (port_of frame) (admitted (port_of frame) (seen frame))).happening)
+          new.memory.client (does.heard f).client
+    ]
+client_len old new (Wrote register value) does = ap (λ (m : Memory). length m.client) does.2
+client_len old new (Flushed dev) does = ap (λ (m : Memory). length m.client) does.1
+client_len old new (Gave frame) does = ap (λ (m : Memory). length m.client) does.1
+client_len old new (Stored structure) does = ap (λ (m : Memory). length m.client) does.0.after
+client_len old new (Rewrote dev row) does = ap (λ (m : Memory). length m.client) does.0.after
+client_len old new (Put at bytes) does = ap (λ (m : Memory). length m.client) does.0.after ∙ put_len old.memory.client bytes at does.0.inside.0 does.0.inside.1
+
+pub client_lens : (old new : Host) (events : List HostEvent) → Runs old events new → length new.memory.client ≡ length old.memory.client
+client_lens old new [] run = ap (λ (h : Host). length h.memory.client) run
+client_lens old new (event ∷ events) run = client_lens run.0 new events run.2 ∙ client_len old run.0 event run.1
+
+pub structure_lens : (old new : Host) (events : List HostEvent) (run : Runs old events new) → AreHosts old new events run → length new.memory.structure ≡ length old.memory.structure
+structure_lens old new events run hosts = (last_host old new events run hosts).memory.structure_len ∙ sym (first_host old new events run hosts).memory.structure_len

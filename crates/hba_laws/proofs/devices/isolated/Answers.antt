@@ -1,0 +1,8 @@
+use Rattle.hba_laws.proofs.IsolationLemmas.{are_alike, fold_of_own}
+use Rattle.hba_laws.proofs.devices.isolated.Goals as goal
+
+pub returns-clause-fold : goal.returns-clause-fold
+returns-clause-fold c = fold_of_own
+
+pub returns-clause-alike : goal.returns-clause-alike
+returns-clause-alike c = are_alike

@@ -1,0 +1,30 @@
+-- What belongs to one device of a host: AHCI 1.3.1, chapter 9 (FIS-based Switching) and section 4.2.1 (its row of the received area).
+use Rattle.std.specs.Prelude.{ℕ, if◌then◌else◌, List, Option, None, is_some}
+use Rattle.hba_commands.specs.declared.command.Command.{Command}
+use Rattle.rx_area.specs.Area.{row_of}
+use Rattle.slots.specs.Slots.{DeviceSlots, own_issue}
+use Rattle.hba_fbs.specs.Posting.{area_at}
+use Rattle.hba_fbs.specs.Views.{DeviceView, last_command, view_of}
+use Rattle.hba_laws.specs.Hosts.{Host}
+
+-- a device's view, the commands of its slots and its row of the received area
+pub record DevicePart : Type 0 where
+  pub view : DeviceView
+  -- by slot: the command that is issued there for the device, None where none is
+  pub commands : ℕ → Option Command
+  pub row : List ℕ
+
+-- of these commands those of the slots in which something of the device is issued
+abbrev pub commands_of : DeviceSlots → (ℕ → Option Command) → ℕ → Option Command
+commands_of own commands slot = if is_some (own_issue own slot) then commands slot else None
+
+abbrev pub part_of : ℕ → Host → DevicePart
+part_of n host = record {
+  view = view_of n host.port;
+  commands = commands_of (view_of n host.port).slots (last_command host.port.commands);
+  row = row_of (area_at host.memory.structure host.port.registers.fb) n;
+}
+
+-- the part with another view: the commands of slots that became free are no longer there
+abbrev pub with_view : DevicePart → DeviceView → DevicePart
+with_view part view = record part { view = view; commands = commands_of view.slots part.commands }
