@@ -31,7 +31,7 @@ use Rattle.hba_fbs.specs.Taking.{Hears, admitted, heard, heard_view, ignores, is
 use Rattle.hba_fbs.specs.Views.{DeviceView, Port, flushed_view, last_command, view_of}
 use Rattle.hba_fbs.specs.Writing.{commands_after, view_after}
 use Rattle.hba_laws.specs.Hosts.{Does, Flushed, Gave, Host, HostEvent, Put, Rewrote, Runs, Stored, TakesFrame, Took, Wrote}
-use Rattle.hba_laws.specs.Isolation.{AreAlike, AreOfDevices, Came, Cleared, Emptied, IsFoldOfOwn, Issued, OwnEvent, Went, after_fis, after_going, after_order, fails_by_bus, gone_to, is_port_event, issued_by, lowers_st, next_own, own_events, own_over, part_after, part_after_all, row_with, stops, stops_port}
+use Rattle.hba_laws.specs.Isolation.{AreAlike, AreOfDevices, Came, Rewritten, Emptied, IsFoldOfOwn, Issued, OwnEvent, Went, after_fis, after_going, after_order, fails_by_bus, gone_to, is_port_event, issued_by, lowers_st, next_own, own_events, own_over, part_after, part_after_all, row_with, stops, stops_port}
 use Rattle.hba_laws.specs.Parts.{DevicePart, commands_of, part_of, with_view}
 use Rattle.hba_laws.specs.Sound.{AreHosts, IsHost}
 use Rattle.hba_laws.proofs.AreaLemmas.{row_beside, row_beside_posted, row_posted, row_rewritten}
@@ -296,7 +296,7 @@ row_after_write n old new dev row does =
     ap (λ (m : Memory). row_of (area_at m.structure new.port.registers.fb) n) does.0.after
     ∙ ap (λ (p : Port). row_of (area_at (overwritten old.memory.structure (old.port.registers.fb + 256 * dev) row) p.registers.fb) n) does.1
 
-cleared_own : (old new : Host) (dev : ℕ) (row : List ℕ) → IsHost old → is_running old.port ≡ true → Does old (Rewrote dev row) new → part_of dev new ≡ part_after dev (part_of dev old) (Cleared row)
+cleared_own : (old new : Host) (dev : ℕ) (row : List ℕ) → IsHost old → is_running old.port ≡ true → Does old (Rewrote dev row) new → part_of dev new ≡ part_after dev (part_of dev old) (Rewritten row)
 cleared_own old new dev row is runs does =
     stays_but dev old new row (ap (view_of dev) does.1) (ap (λ (q : Port). q.commands) does.1)
     (row_after_write dev old new dev row does ∙ row_rewritten old.port.registers.fb dev row old.memory.structure does.0.dev_below (area_inside old is runs) does.0.as_long)
@@ -304,8 +304,8 @@ cleared_own old new dev row is runs does =
 cleared : (n : ℕ) (old new : Host) (dev : ℕ) (row : List ℕ) → n < 16 → IsHost old → is_running old.port ≡ true → Does old (Rewrote dev row) new
     → part_of n new ≡ part_after_all n (part_of n old) (own_events n old (Rewrote dev row))
 cleared n old new dev row lt is runs does =
-    one_if n (part_of n old) (part_of n new) (dev == n) (Cleared row)
-    (λ same. subst (λ (m : ℕ). part_of m new ≡ part_after m (part_of m old) (Cleared row)) (eqb-true dev n same) (cleared_own old new dev row is runs does))
+    one_if n (part_of n old) (part_of n new) (dev == n) (Rewritten row)
+    (λ same. subst (λ (m : ℕ). part_of m new ≡ part_after m (part_of m old) (Rewritten row)) (eqb-true dev n same) (cleared_own old new dev row is runs does))
     (λ differs.
     let ne : n ≢ dev = λ e. eqb-false dev n differs (sym e) in
     stays n old new (ap (view_of n) does.1) (ap (λ (p : Port). p.commands) does.1)
@@ -350,6 +350,6 @@ pub fold_of_own : IsFoldOfOwn
 fold_of_own n lt old new events run = fold_over n lt old new events run.run run.hosts run.devices
 
 pub are_alike : AreAlike
-are_alike n lt old new old2 new2 events events2 run run2 parts own =
+are_alike n lt old new events run old2 new2 events2 run2 parts own =
     fold_of_own n lt old new events run ∙ ap (λ (p : DevicePart). part_after_all n p (own_over n old new events run.run)) parts ∙ ap (part_after_all n (part_of n old2)) own
     ∙ sym (fold_of_own n lt old2 new2 events2 run2)

@@ -5,4 +5,5 @@ pub mod OutgoingLemmas
 pub mod WriteLemmas
 pub mod KeptLemmas
 pub mod IsolationLemmas
+pub mod GoingLemmas
 pub mod TableLemmas

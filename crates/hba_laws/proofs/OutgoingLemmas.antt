@@ -13,7 +13,7 @@ use Rattle.slots.specs.Slots.{Issue, context_of, has_bit, holds, is_control, iss
 use Rattle.slots.proofs.MaskLemmas.{MaskBelow, lowest_before, lowest_found, lowest_is, mask_none, mask_same, mask_set, none_below}
 use Rattle.slots.proofs.TableLemmas.{Owns, own_at, owned_same, owns_where}
 use Rattle.hba_fbs.specs.Sending.{Data, Nothing, Order, data_due, data_with, faulty_devices, is_ready, next_receiver, next_to_send, order_due, outgoing, ready_devices, wants_data_of}
-use Rattle.hba_fbs.specs.Tables.{sound_command}
+use Rattle.hba_fbs.specs.Tables.{is_readable, sound_command}
 use Rattle.hba_fbs.specs.Taking.{is_running}
 use Rattle.hba_fbs.specs.Views.{Port, last_command, state_at, view_of}
 use Rattle.hba_laws.specs.Isolation.{may_leave, next_own}
@@ -216,3 +216,71 @@ order_filled port n slot long owns h =
     let test : ℕ → Bool = λ s. holds (may_go (ready_devices port) (faulty_devices port) port.slots) (issue_at port.slots s) in
     let is = lowest_is test 32 slot h in
     ap (λ (x : Option Issue). is_some x) (own_at n port.slots slot (omega (arith, is.below)) ∙ owned_same n (issue_at port.slots slot) owns) ∙ owns_some n (issue_at port.slots slot) owns
+
+-- ---- the bytes
+
+record IsDueData (d dev offset len : ℕ) (p : Option (ℕ × ℕ × ℕ)) (g : ℕ × ℕ × ℕ → Option Command) (command : Command) : Type 0 where
+  is_dev : d ≡ dev
+  next : ℕ × ℕ × ℕ
+  is : p ≡ Some next
+  offset_is : next.1 ≡ offset
+  len_is : next.2 ≡ len
+  sound : g next ≡ Some command
+
+data_with_is : (d dev offset len : ℕ) (next : ℕ × ℕ × ℕ) (g : ℕ × ℕ × ℕ → Option Command) (c : Option Command) (command : Command) → g next ≡ c → data_with d next.1 next.2 c ≡ Data dev offset len command
+    → IsDueData d dev offset len (Some next) g command
+data_with_is d dev offset len next g None command is h = cc
+data_with_is d dev offset len next g (Some c) command is h =
+    let same : c ≡ command = cc in
+    record { is_dev = cc; next = next; is = refl; offset_is = cc; len_is = cc; sound = is ∙ ap (λ (x : Command). Some x) same }
+
+due_data_is : (d dev offset len : ℕ) (p : Option (ℕ × ℕ × ℕ)) (g : ℕ × ℕ × ℕ → Option Command) (command : Command)
+    → match_some p Nothing (λ next. data_with d next.1 next.2 (g next)) ≡ Data dev offset len command → IsDueData d dev offset len p g command
+due_data_is d dev offset len None g command h = cc
+due_data_is d dev offset len (Some next) g command h = data_with_is d dev offset len next g (g next) command refl h
+
+read_stands : (b : Bool) (c command : Command) → (if b then Some c else None) ≡ Some command → Some c ≡ Some command
+read_stands true c command h = h
+read_stands false c command h = cc
+
+sound_stands : (memory : Memory) (o : Option Issue) (q : Option Command) (command : Command)
+    → match_some o None (λ issue. match_some q None (λ c. if is_readable memory issue.work.len c then Some c else None)) ≡ Some command → (is_some o ≡ true) × (q ≡ Some command)
+sound_stands memory None q command h = cc
+sound_stands memory (Some issue) None command h = cc
+sound_stands memory (Some issue) (Some c) command h = (refl, read_stands (is_readable memory issue.work.len c) c command h)
+
+-- what is known of data that goes out: it is the next of the device's setup, of the command of its slot
+pub record IsData (port : Port) (dev offset len : ℕ) (command : Command) : Type 0 where
+  pub next : ℕ × ℕ × ℕ
+  pub is : payload (context_of port.slots dev) ≡ Some next
+  pub offset_is : next.1 ≡ offset
+  pub len_is : next.2 ≡ len
+  pub filled : is_some (own_issue (slots_of dev port.slots) next.0) ≡ true
+  pub stands : last_command port.commands next.0 ≡ Some command
+
+data_found : (port : Port) (memory : Memory) (d dev offset len : ℕ) (command : Command)
+    → IsDueData d dev offset len (payload (context_of port.slots d)) (λ next. sound_command memory port.commands (view_of d port).slots next.0) command → d ≡ dev → IsData port dev offset len command
+data_found port memory d dev offset len command due is =
+    let own = (view_of d port).slots in
+    let both = sound_stands memory (own_issue own due.next.0) (last_command port.commands due.next.0) command due.sound in
+    record {
+      next = due.next;
+      is = subst (λ (m : ℕ). payload (context_of port.slots m) ≡ Some due.next) is due.is;
+      offset_is = due.offset_is;
+      len_is = due.len_is;
+      filled = subst (λ (m : ℕ). is_some (own_issue (slots_of m port.slots) due.next.0) ≡ true) is both.0;
+      stands = both.1;
+    }
+
+data_is_by : (port : Port) (memory : Memory) (b : Bool) (r s : Option ℕ) (dev offset len : ℕ) (command : Command)
+    → (if b then Nothing else match_some r (match_some s Nothing (order_due port)) (data_due port memory)) ≡ Data dev offset len command → IsData port dev offset len command
+data_is_by port memory true r s dev offset len command h = cc
+data_is_by port memory false None None dev offset len command h = cc
+data_is_by port memory false None (Some slot) dev offset len command h =
+    absurd (order_no_data slot dev offset len (issue_at port.slots slot) (last_command port.commands slot) command h)
+data_is_by port memory false (Some d) s dev offset len command h =
+    let due = due_data_is d dev offset len (payload (context_of port.slots d)) (λ next. sound_command memory port.commands (view_of d port).slots next.0) command h in
+    data_found port memory d dev offset len command due due.is_dev
+
+pub data_is : (port : Port) (memory : Memory) (dev offset len : ℕ) (command : Command) → outgoing port memory ≡ Data dev offset len command → IsData port dev offset len command
+data_is port memory dev offset len command h = data_is_by port memory (not (is_running port)) (next_receiver port) (next_to_send port) dev offset len command h

@@ -1,12 +1,15 @@
 -- Bytes of the structure area apart from the received area over a run, and what a PRD table there says.
-use Rattle.std.proofs.Common.{◌≡◌, ℕ, ◌+◌, ◌*◌, ◌<◌, ◌≤◌, Bool, ◌&&◌, List, [], ◌∷◌, length, refl, sym, ◌∙◌, ap, subst, arith, inl, inr, Option, Some, None}
+use Rattle.std.proofs.Common.{◌≡◌, ℕ, ◌+◌, ◌*◌, ◌<◌, ◌≤◌, Bool, true, false, ◌&&◌, List, [], ◌∷◌, length, refl, sym, ◌∙◌, ap, subst, arith, inl, inr, Option, Some, None}
 use Rattle.std.specs.Prelude.{slice_index, is_none, if◌then◌else◌, ◌==◌}
-use Rattle.std.proofs.lemmas.Bool.{cases_Bool}
+use Rattle.std.proofs.lemmas.Bool.{and_from, and_parts, cases_Bool}
 use Rattle.fis_view.specs.Seen.{seen}
+use Rattle.hba_commands.specs.Commands.{cfis_at, command_at, command_in, command_under, has_table, is_proper, suits, total_at, total_if_sound}
+use Rattle.hba_commands.specs.Headers.{header_at}
+use Rattle.hba_commands.specs.Requests.{kind_of, request_at, work_of}
 use Rattle.hba_commands.specs.declared.command.Command.{Command}
 use Rattle.host_memory.specs.Memory.{Memory, overwritten}
 use Rattle.host_memory.specs.Place.{total_of}
-use Rattle.host_memory.specs.Reading.{AgreeFrom, LieApart, SaysTheSame, read_fault}
+use Rattle.host_memory.specs.Reading.{AgreeFrom, LieApart, SaysTheSame, prds_at, read_fault}
 use Rattle.host_memory.specs.declared.table.Prd.{Prd}
 use Rattle.host_memory.specs.declared.table.PrdError.{PrdError}
 use Rattle.host_memory.proofs.AgreeLemmas.{says_the_same}
@@ -16,7 +19,7 @@ use Rattle.hba_fbs.specs.Taking.{admitted, ignores, port_of}
 use Rattle.hba_fbs.specs.Views.{last_command}
 use Rattle.hba_laws.specs.Hosts.{Does, Flushed, Gave, Host, HostEvent, Put, Rewrote, Runs, Stored, Took, Wrote}
 use Rattle.hba_laws.specs.Sound.{AreHosts, IsHost}
-use Rattle.hba_laws.specs.Tables.{BytesStay, SizesStay, Spares, SparesBytes, TablesStay}
+use Rattle.hba_laws.specs.Tables.{BytesStay, IssuedStayReadable, SizesStay, Spares, SparesBytes, TablesStay}
 use Rattle.hba_laws.proofs.AreaLemmas.{apart_posted, apart_rewritten, row_inside}
 use Rattle.hba_laws.proofs.KeptLemmas.{client_lens, fb_kept, first_host, structure_lens}
 
@@ -98,6 +101,46 @@ tables_stay command old new events keeps =
       readable = readable;
       sound = λ commands own slot is. sound_by command old.memory new.memory (own_issue own slot) (last_command commands slot) is readable;
     }
+
+-- ---- commands that are issued
+
+total_is : (fault : Option PrdError) (total t : ℕ) → total_if_sound fault total ≡ Some t → (is_none fault ≡ true) × (total ≡ t)
+total_is None total t h = (refl, cc)
+total_is (Some e) total t h = cc
+
+then_some : {A : Type 0} (b : Bool) (o : Option A) (a : A) → (if b then o else None) ≡ Some a → (b ≡ true) × (o ≡ Some a)
+then_some true o a h = (refl, h)
+then_some false o a h = cc
+
+-- the PRDs of a command that stands in a slot can be read, and have its bytes
+stands_readable : (memory : Memory) (clb slot : ℕ) (armed : Bool) (command : Command) → command_at memory clb slot armed ≡ Some command → is_readable memory command.work.len command ≡ true
+unfolding command_under is_proper
+stands_readable memory clb slot armed command h =
+    let header = header_at memory.structure clb slot in
+    let cfis : List ℕ = cfis_at memory.structure header.ctba in
+    let fault : Option PrdError = read_fault memory.structure (length memory.client) (header.ctba + 128) header.prdtl in
+    let prds : List Prd = prds_at memory.structure (header.ctba + 128) header.prdtl in
+    let total : Option ℕ = total_at memory.structure (length memory.client) header.ctba header.prdtl in
+    let made = then_some (has_table header) (command_in header cfis (request_at cfis) total slot armed) command h in
+    (elim (request_at cfis) as (λ r. command_in header cfis r total slot armed ≡ Some command → is_readable memory command.work.len command ≡ true) [
+      | None ↦ λ e. cc
+      | Some request ↦ λ e.
+          (elim total as (λ t. total ≡ t → command_in header cfis (Some request) t slot armed ≡ Some command → is_readable memory command.work.len command ≡ true) [
+            | None ↦ λ is f. cc
+            | Some n ↦ λ is f.
+                let whole : Command = record { work = work_of request; cfis = cfis; table = header.ctba; count = header.prdtl } in
+                let found = then_some (is_proper header request n slot armed) (Some whole) command f in
+                let bytes = and_parts ((header.cfl == 5) && (header.pmp == request.pm_port) && suits (kind_of request) header request slot armed) (n == (work_of request).len) found.0 in
+                let sound = total_is fault (total_of prds) n is in
+                let same : (total_of prds == (work_of request).len) ≡ true = ap (λ (k : ℕ). k == (work_of request).len) sound.1 ∙ bytes.1 in
+                let it : whole ≡ command = cc in
+                subst (λ (c : Command). is_readable memory c.work.len c ≡ true) it (and_from (is_none fault) (total_of prds == (work_of request).len) sound.0 same)
+          ]) refl e
+    ]) made.1
+
+pub issued_stay_readable : IssuedStayReadable
+issued_stay_readable command old new events keeps clb slot armed h =
+    (tables_stay command old new events keeps).readable command.work.len ∙ stands_readable old.memory clb slot armed command h
 
 pub sizes_stay : SizesStay
 sizes_stay old new events run hosts = (structure_lens old new events run hosts, client_lens old new events run)

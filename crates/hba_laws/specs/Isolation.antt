@@ -1,5 +1,5 @@
--- Whose own each event of a host port is, and isolation (AHCI 1.3.1, chapter 9, FIS-based Switching): what belongs to a device is
--- the fold of its own events alone.
+-- Whose own each event of a host port is, and isolation (AHCI 1.3.1, chapter 9, FIS-based Switching):
+-- what belongs to a device is the fold of its own events alone.
 use Rattle.std.specs.Prelude.{ℕ, ◌≡◌, ◌<◌, ◌==◌, ◌&&◌, ◌||◌, Bool, true, false, not, if◌then◌else◌, List, [], ◌∷◌, ◌++◌, Option, Some, None, is_none, is_some}
 use Rattle.std.specs.Option.{option_or}
 use Rattle.fis_view.specs.Frames.{Stamped}
@@ -15,19 +15,21 @@ use Rattle.hba_fbs.specs.declared.register.Register.TheVariants.{Cmd, Ci}
 use Rattle.hba_fbs.specs.declared.registers.Registers.{Registers}
 use Rattle.hba_fbs.specs.Issuing.{asked, issued_slots}
 use Rattle.hba_fbs.specs.Registers.{falls}
-use Rattle.hba_fbs.specs.Sending.{Data, Nothing, Order, Outgoing, Unreadable, is_ready, outgoing, view_fed, view_sent}
+use Rattle.hba_fbs.specs.Sending.{Data, Nothing, Order, Outgoing, Unreadable, data_fis, gathered, is_ready, outgoing, view_fed, view_sent}
+use Rattle.hba_fbs.specs.Tables.{prds_of}
 use Rattle.hba_fbs.specs.Taking.{admitted, heard_now, heard_view, ignores, is_ignored, is_running, port_cause, port_of}
 use Rattle.hba_fbs.specs.Views.{DeviceView, Port, flushed_view}
-use Rattle.hba_laws.specs.Hosts.{Flushed, Gave, Host, HostEvent, Put, Rewrote, Runs, Stored, Took, Wrote}
+use Rattle.hba_laws.specs.Hosts.{Does, Flushed, Gave, Host, HostEvent, Put, Rewrote, Runs, Stored, Took, Wrote}
 use Rattle.hba_laws.specs.Parts.{DevicePart, part_of, with_view}
-use Rattle.hba_laws.specs.Sound.{AreHosts}
+use Rattle.hba_laws.specs.Sound.{AreHosts, IsHost}
 
 -- ---- events of the port
 
 -- the frame is heard, and stops the port
 abbrev pub stops_port : ℕ → Port → Memory → List ℕ → Bool
 stops_port dev port memory frame =
-    not (ignores dev port frame) && is_some (port_cause (heard_now port memory dev (admitted dev (seen frame))).fault)
+    not (ignores dev port frame)
+    && is_some (port_cause (heard_now port memory dev (admitted dev (seen frame))).fault)
 
 -- the write takes ST from 1 to 0
 abbrev pub lowers_st : Register → Registers → ℕ → Bool
@@ -50,8 +52,8 @@ stops host (Stored structure) = false
 stops host (Rewrote dev row) = false
 stops host (Put at bytes) = false
 
--- An event of the port and not of one device: any while ST is 0 or a fault of the port stands, so also a write that sets ST,
--- and each that ends this.
+-- An event of the port and not of one device: any while ST is 0 or a fault of the port stands, so also
+-- a write that sets ST, and each that ends this.
 abbrev pub is_port_event : Host → HostEvent → Bool
 is_port_event host event = not (is_running host.port) || stops host event
 
@@ -68,12 +70,13 @@ pub data OwnEvent : Type 0 where
   -- it is flushed
   Emptied : OwnEvent
   -- the software writes its row
-  Cleared : (row : List ℕ) → OwnEvent
+  Rewritten : (row : List ℕ) → OwnEvent
 
 -- a write issues commands for the device that PxFBS.DEV names
 abbrev pub issued_by : ℕ → Host → Register → ℕ → List OwnEvent
 issued_by n host Ci value =
-    if n == host.port.registers.chosen then Issued (asked host.port.registers host.memory value) ∷ [] else []
+    if n == host.port.registers.chosen then Issued (asked host.port.registers host.memory value) ∷ []
+    else []
 issued_by n host register value = []
 
 -- a frame goes out to the device whose PM Port stands beside it
@@ -81,15 +84,15 @@ abbrev pub gone_to : ℕ → Option Stamped → List OwnEvent
 gone_to n None = []
 gone_to n (Some frame) = if frame.stamp.port == n then Went ∷ [] else []
 
--- The own events of a device in an event: a frame that has its PM Port, commands for it, a frame to it, its flush, a write of its
--- row.
+-- The own events of a device in an event: a frame that has its PM Port, commands for it, a frame to it,
+-- its flush, a write of its row.
 abbrev pub own_events : ℕ → Host → HostEvent → List OwnEvent
 own_events n host (Took frame report) = if port_of frame == n then Came frame ∷ [] else []
 own_events n host (Wrote register value) = issued_by n host register value
 own_events n host (Flushed dev) = if dev == n then Emptied ∷ [] else []
 own_events n host (Gave frame) = gone_to n frame
 own_events n host (Stored structure) = []
-own_events n host (Rewrote dev row) = if dev == n then Cleared row ∷ [] else []
+own_events n host (Rewrote dev row) = if dev == n then Rewritten row ∷ [] else []
 own_events n host (Put at bytes) = []
 
 -- ---- what they leave
@@ -101,7 +104,8 @@ row_with row (Some fis) = row_after row fis
 
 -- the PRD table of a Data FIS that stops no port can be used
 abbrev pub after_fis : ℕ → DevicePart → Option Fis → DevicePart
-after_fis n part fis = record (with_view part (heard_view n part.view true fis)) { row = row_with part.row fis }
+after_fis n part fis =
+    record (with_view part (heard_view n part.view true fis)) { row = row_with part.row fis }
 
 -- the commands that are issued now, and else those from before
 abbrev pub after_issue : ℕ → (ℕ → Option Command) → DevicePart → DevicePart
@@ -109,7 +113,8 @@ after_issue n commands part =
     with_view (record part { commands = λ slot. option_or (commands slot) (part.commands slot) })
     (record part.view { slots = issued_slots n commands part.view.slots })
 
--- its command was not sent and may go: a Control, or any while the device is ready and no slot of it waits
+-- its command was not sent and may go: a Control, or any while the device is ready and no slot of it
+-- waits
 abbrev pub may_leave : DeviceView → Issue → Bool
 may_leave view issue =
     not issue.sent && not (is_some view.fault)
@@ -120,7 +125,8 @@ abbrev pub next_own : DeviceView → Option ℕ
 next_own view = lowest (λ slot. holds (may_leave view) (own_issue view.slots slot))
 
 abbrev pub after_order : DevicePart → ℕ → DevicePart
-after_order part slot = match_some (part.commands slot) part (λ command. with_view part (view_sent part.view slot command))
+after_order part slot =
+    match_some (part.commands slot) part (λ command. with_view part (view_sent part.view slot command))
 
 -- it is the data for which the device asked, and else the command of the slot that may go
 abbrev pub after_going : DevicePart → DevicePart
@@ -128,28 +134,49 @@ after_going part =
     if is_some (payload part.view.slots.context) then with_view part (view_fed part.view)
     else match_some (next_own part.view) part (after_order part)
 
--- What belongs to a device after one of its own events. It knows no register, no memory and no other device.
+-- What belongs to a device after one of its own events. It knows no register, no memory and no other
+-- device.
 abbrev pub part_after : ℕ → DevicePart → OwnEvent → DevicePart
-part_after n part (Came frame) = if is_ignored true part.view (seen frame) then part else after_fis n part (admitted n (seen frame))
+part_after n part (Came frame) =
+    if is_ignored true part.view (seen frame) then part else after_fis n part (admitted n (seen frame))
 part_after n part (Issued commands) = after_issue n commands part
 part_after n part Went = after_going part
 part_after n part Emptied = with_view part flushed_view
-part_after n part (Cleared row) = record part { row = row }
+part_after n part (Rewritten row) = record part { row = row }
 
 -- and after a list of them, the first first
 abbrev pub part_after_all : ℕ → DevicePart → List OwnEvent → DevicePart
 part_after_all n part [] = part
 part_after_all n part (event ∷ events) = part_after_all n (part_after n part event) events
 
+-- ---- what goes out to a device
+
+-- bytes of a slot's command, from the places of its table
+abbrev pub own_data : ℕ → DevicePart → Memory → ℕ × ℕ × ℕ → Option (List ℕ)
+own_data n part memory next =
+    match_some (part.commands next.0) None (λ command.
+    Some (data_fis n (gathered (prds_of memory command) next.1 next.2 memory.client)))
+
+-- the command of the slot that may go
+abbrev pub own_order : DevicePart → Option (List ℕ)
+own_order part =
+    match_some (next_own part.view) None (λ slot.
+    match_some (part.commands slot) None (λ command. Some command.cfis))
+
+-- the data for which it asked, and else a command
+abbrev pub own_bytes : ℕ → DevicePart → Memory → Option (List ℕ)
+own_bytes n part memory =
+    match_some (payload part.view.slots.context) (own_order part) (own_data n part memory)
+
 -- ---- isolation
 
--- no event of a run is one of the port
+-- each event of a run is one of devices, and none is one of the port
 abbrev pub AreOfDevices : (old new : Host) (events : List HostEvent) → Runs old events new → Type 0
 AreOfDevices old new [] run = Unit {0}
-AreOfDevices old new (event ∷ events) run = (is_port_event old event ≡ false) × AreOfDevices run.0 new events run.2
+AreOfDevices old new (event ∷ events) run =
+    (is_port_event old event ≡ false) × AreOfDevices run.0 new events run.2
 
--- a run of hosts without an event of the port
-pub record RunsApart (old : Host) (events : List HostEvent) (new : Host) : Type 0 where
+pub record RunsByDevices (old : Host) (events : List HostEvent) (new : Host) : Type 0 where
   pub run : Runs old events new
   pub hosts : AreHosts old new events run
   pub devices : AreOfDevices old new events run
@@ -157,18 +184,30 @@ pub record RunsApart (old : Host) (events : List HostEvent) (new : Host) : Type 
 -- a device's own events in it
 abbrev pub own_over : ℕ → (old new : Host) (events : List HostEvent) → Runs old events new → List OwnEvent
 own_over n old new [] run = []
-own_over n old new (event ∷ events) run = own_events n old event ++ own_over n run.0 new events run.2
+own_over n old new (event ∷ events) run =
+    own_events n old event ++ own_over n run.0 new events run.2
 
 -- what belongs to a device after a run is the fold of its own events from what did before
 abbrev pub IsFoldOfOwn : Type 0
 IsFoldOfOwn =
-    (n : ℕ) → n < 16 → (old new : Host) (events : List HostEvent) (run : RunsApart old events new)
+    (n : ℕ) → n < 16
+    → (old new : Host) (events : List HostEvent) (run : RunsByDevices old events new)
     → part_of n new ≡ part_after_all n (part_of n old) (own_over n old new events run.run)
 
--- So what other devices send, what is issued for them, what goes out to them, and which of them are flushed or faulty, is nothing
--- to a device: two runs with the same own events of it take equal parts of it to equal ones.
+-- So what other devices send, what is issued for them, what goes out to them, and which of them are
+-- flushed or faulty, is nothing to a device: two runs with the same own events of it take equal parts
+-- of it to equal ones.
 abbrev pub AreAlike : Type 0
 AreAlike =
-    (n : ℕ) → n < 16 → (old new old2 new2 : Host) (events events2 : List HostEvent) (run : RunsApart old events new) (run2 : RunsApart old2 events2 new2)
-    → part_of n old ≡ part_of n old2 → own_over n old new events run.run ≡ own_over n old2 new2 events2 run2.run
+    (n : ℕ) → n < 16
+    → (old new : Host) (events : List HostEvent) (run : RunsByDevices old events new)
+    → (old2 new2 : Host) (events2 : List HostEvent) (run2 : RunsByDevices old2 events2 new2)
+    → part_of n old ≡ part_of n old2
+    → own_over n old new events run.run ≡ own_over n old2 new2 events2 run2.run
     → part_of n new ≡ part_of n new2
+
+-- And what goes out to a device is told by what belongs to it, and of memory by its own table.
+abbrev pub GoesByOwn : Type 0
+GoesByOwn =
+    (n : ℕ) → n < 16 → (old new : Host) (frame : Stamped) → IsHost old → Does old (Gave (Some frame)) new
+    → frame.stamp.port ≡ n → own_bytes n (part_of n old) old.memory ≡ Some frame.bytes

@@ -1,3 +1,4 @@
+use Rattle.hba_laws.proofs.GoingLemmas.{goes_by_own}
 use Rattle.hba_laws.proofs.IsolationLemmas.{are_alike, fold_of_own}
 use Rattle.hba_laws.proofs.devices.isolated.Goals as goal
 
@@ -6,3 +7,6 @@ returns-clause-fold c = fold_of_own
 
 pub returns-clause-alike : goal.returns-clause-alike
 returns-clause-alike c = are_alike
+
+pub returns-clause-goes : goal.returns-clause-goes
+returns-clause-goes c = goes_by_own
