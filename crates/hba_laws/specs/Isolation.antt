@@ -1,5 +1,5 @@
--- Whose own each event of a host port is, and isolation (AHCI 1.3.1, chapter 9, FIS-based Switching):
--- what belongs to a device is the fold of its own events alone.
+-- Whose own each event of a host port is, and isolation (AHCI 1.3.1, chapter 9, FIS-based
+-- Switching): what belongs to a device is the fold of its own events alone.
 use Rattle.std.specs.Prelude.{ℕ, ◌≡◌, ◌<◌, ◌==◌, ◌&&◌, ◌||◌, Bool, true, false, not, if◌then◌else◌, List, [], ◌∷◌, ◌++◌, Option, Some, None, is_none, is_some}
 use Rattle.std.specs.Option.{option_or}
 use Rattle.fis_view.specs.Frames.{Stamped}
@@ -52,8 +52,8 @@ stops host (Stored structure) = false
 stops host (Rewrote dev row) = false
 stops host (Put at bytes) = false
 
--- An event of the port and not of one device: any while ST is 0 or a fault of the port stands, so also
--- a write that sets ST, and each that ends this.
+-- An event of the port and not of one device: any while ST is 0 or a fault of the port stands, so
+-- also a write that sets ST, and each that ends this.
 abbrev pub is_port_event : Host → HostEvent → Bool
 is_port_event host event = not (is_running host.port) || stops host event
 
@@ -75,7 +75,8 @@ pub data OwnEvent : Type 0 where
 -- a write issues commands for the device that PxFBS.DEV names
 abbrev pub issued_by : ℕ → Host → Register → ℕ → List OwnEvent
 issued_by n host Ci value =
-    if n == host.port.registers.chosen then Issued (asked host.port.registers host.memory value) ∷ []
+    if n == host.port.registers.chosen
+    then Issued (asked host.port.registers host.memory value) ∷ []
     else []
 issued_by n host register value = []
 
@@ -84,8 +85,8 @@ abbrev pub gone_to : ℕ → Option Stamped → List OwnEvent
 gone_to n None = []
 gone_to n (Some frame) = if frame.stamp.port == n then Went ∷ [] else []
 
--- The own events of a device in an event: a frame that has its PM Port, commands for it, a frame to it,
--- its flush, a write of its row.
+-- The own events of a device in an event: a frame that has its PM Port, commands for it, a frame to
+-- it, its flush, a write of its row.
 abbrev pub own_events : ℕ → Host → HostEvent → List OwnEvent
 own_events n host (Took frame report) = if port_of frame == n then Came frame ∷ [] else []
 own_events n host (Wrote register value) = issued_by n host register value
@@ -113,8 +114,8 @@ after_issue n commands part =
     with_view (record part { commands = λ slot. option_or (commands slot) (part.commands slot) })
     (record part.view { slots = issued_slots n commands part.view.slots })
 
--- its command was not sent and may go: a Control, or any while the device is ready and no slot of it
--- waits
+-- its command was not sent and may go: a Control, or any while the device is ready and no slot of
+-- it waits
 abbrev pub may_leave : DeviceView → Issue → Bool
 may_leave view issue =
     not issue.sent && not (is_some view.fault)
@@ -126,7 +127,8 @@ next_own view = lowest (λ slot. holds (may_leave view) (own_issue view.slots sl
 
 abbrev pub after_order : DevicePart → ℕ → DevicePart
 after_order part slot =
-    match_some (part.commands slot) part (λ command. with_view part (view_sent part.view slot command))
+    match_some (part.commands slot) part (λ command.
+    with_view part (view_sent part.view slot command))
 
 -- it is the data for which the device asked, and else the command of the slot that may go
 abbrev pub after_going : DevicePart → DevicePart
@@ -134,11 +136,12 @@ after_going part =
     if is_some (payload part.view.slots.context) then with_view part (view_fed part.view)
     else match_some (next_own part.view) part (after_order part)
 
--- What belongs to a device after one of its own events. It knows no register, no memory and no other
--- device.
+-- What belongs to a device after one of its own events. It knows no register, no memory and no
+-- other device.
 abbrev pub part_after : ℕ → DevicePart → OwnEvent → DevicePart
 part_after n part (Came frame) =
-    if is_ignored true part.view (seen frame) then part else after_fis n part (admitted n (seen frame))
+    if is_ignored true part.view (seen frame) then part
+    else after_fis n part (admitted n (seen frame))
 part_after n part (Issued commands) = after_issue n commands part
 part_after n part Went = after_going part
 part_after n part Emptied = with_view part flushed_view
@@ -182,7 +185,8 @@ pub record RunsByDevices (old : Host) (events : List HostEvent) (new : Host) : T
   pub devices : AreOfDevices old new events run
 
 -- a device's own events in it
-abbrev pub own_over : ℕ → (old new : Host) (events : List HostEvent) → Runs old events new → List OwnEvent
+abbrev pub own_over : ℕ → (old new : Host) (events : List HostEvent) → Runs old events new
+    → List OwnEvent
 own_over n old new [] run = []
 own_over n old new (event ∷ events) run =
     own_events n old event ++ own_over n run.0 new events run.2
@@ -195,8 +199,8 @@ IsFoldOfOwn =
     → part_of n new ≡ part_after_all n (part_of n old) (own_over n old new events run.run)
 
 -- So what other devices send, what is issued for them, what goes out to them, and which of them are
--- flushed or faulty, is nothing to a device: two runs with the same own events of it take equal parts
--- of it to equal ones.
+-- flushed or faulty, is nothing to a device: two runs with the same own events of it take equal
+-- parts of it to equal ones.
 abbrev pub AreAlike : Type 0
 AreAlike =
     (n : ℕ) → n < 16
@@ -209,5 +213,6 @@ AreAlike =
 -- And what goes out to a device is told by what belongs to it, and of memory by its own table.
 abbrev pub GoesByOwn : Type 0
 GoesByOwn =
-    (n : ℕ) → n < 16 → (old new : Host) (frame : Stamped) → IsHost old → Does old (Gave (Some frame)) new
-    → frame.stamp.port ≡ n → own_bytes n (part_of n old) old.memory ≡ Some frame.bytes
+    (n : ℕ) → n < 16 → (old new : Host) (frame : Stamped) → IsHost old
+    → Does old (Gave (Some frame)) new → frame.stamp.port ≡ n
+    → own_bytes n (part_of n old) old.memory ≡ Some frame.bytes

@@ -1,5 +1,5 @@
--- What belongs to one device of a host: AHCI 1.3.1, chapter 9 (FIS-based Switching) and section 4.2.1
--- (its row of the received area).
+-- What belongs to one device of a host: AHCI 1.3.1, chapter 9 (FIS-based Switching) and section
+-- 4.2.1 (its row of the received area).
 use Rattle.std.specs.Prelude.{ℕ, if◌then◌else◌, List, Option, None, is_some}
 use Rattle.hba_commands.specs.declared.command.Command.{Command}
 use Rattle.rx_area.specs.Area.{row_of}

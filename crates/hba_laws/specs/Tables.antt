@@ -1,4 +1,4 @@
--- The structure area over a run (AHCI 1.3.1, section 4.2), and what the PRD tables in it say (4.2.3.3).
+-- The structure area over a run (AHCI 1.3.1, section 4.2), and what PRD tables in it say (4.2.3.3).
 use Rattle.std.specs.Prelude.{ℕ, ◌≡◌, ◌+◌, ◌*◌, ◌/◌, ◌==◌, Bool, true, false, not, List, [], ◌∷◌, Option, Some, length}
 use Rattle.hba_commands.specs.Commands.{command_at}
 use Rattle.hba_commands.specs.declared.command.Command.{Command}
@@ -24,7 +24,8 @@ SparesBytes at count host (Stored structure) = AgreeFrom at count host.memory.st
 SparesBytes at count host event = Unit {0}
 
 -- so it does over a run, in which the received area is not moved
-abbrev pub Spares : (at count : ℕ) (old new : Host) (events : List HostEvent) → Runs old events new → Type 0
+abbrev pub Spares : (at count : ℕ) (old new : Host) (events : List HostEvent) → Runs old events new
+    → Type 0
 Spares at count old new [] run = Unit {0}
 Spares at count old new (event ∷ events) run =
     (moves_area old event ≡ false) × SparesBytes at count old event
@@ -51,30 +52,34 @@ BytesStay =
     (at count : ℕ) (old new : Host) (events : List HostEvent) → KeepsApart at count old events new
     → AgreeFrom at count old.memory.structure new.memory.structure
 
--- both memories say the same of a command: which PRDs it has, whether they can be read and have so many
--- bytes, and so whether Data of a slot with this command can be written
+-- both memories say the same of a command: which PRDs it has, whether they can be read and have so
+-- many bytes, and so whether Data of a slot with this command can be written
 pub record SayTheSame (command : Command) (old new : Memory) : Type 0 where
   pub entries : prds_of new command ≡ prds_of old command
   pub readable : (len : ℕ) → is_readable new len command ≡ is_readable old len command
-  pub sound : (commands : List (Option Command)) (own : DeviceSlots) (slot : ℕ) → last_command commands slot ≡ Some command
+  pub sound : (commands : List (Option Command)) (own : DeviceSlots) (slot : ℕ)
+      → last_command commands slot ≡ Some command
       → sound_command new commands own slot ≡ sound_command old commands own slot
 
 -- So where the PRDs of a command are such bytes, the memories say the same of it.
 abbrev pub TablesStay : Type 0
 TablesStay =
-    (command : Command) (old new : Host) (events : List HostEvent) → KeepsTable command old events new
+    (command : Command) (old new : Host) (events : List HostEvent)
+    → KeepsTable command old events new
     → SayTheSame command old.memory new.memory
 
 -- And where the command was issued at the beginning, its PRDs can be read, and have its bytes.
 abbrev pub IssuedStayReadable : Type 0
 IssuedStayReadable =
-    (command : Command) (old new : Host) (events : List HostEvent) → KeepsTable command old events new
+    (command : Command) (old new : Host) (events : List HostEvent)
+    → KeepsTable command old events new
     → (clb slot : ℕ) (armed : Bool) → command_at old.memory clb slot armed ≡ Some command
     → is_readable new.memory command.work.len command ≡ true
 
 -- no event makes one of the two areas longer or shorter
 abbrev pub SizesStay : Type 0
 SizesStay =
-    (old new : Host) (events : List HostEvent) (run : Runs old events new) → AreHosts old new events run
+    (old new : Host) (events : List HostEvent) (run : Runs old events new)
+    → AreHosts old new events run
     → (length new.memory.structure ≡ length old.memory.structure)
     × (length new.memory.client ≡ length old.memory.client)
