@@ -1,7 +1,7 @@
 -- What an event keeps: the place of the received area, and the sizes of memory.
-use Rattle.std.proofs.Common.{◌≡◌, ℕ, ◌+◌, ◌-◌, ◌*◌, ◌/◌, ◌≤◌, Bool, true, false, List, [], ◌∷◌, length, refl, sym, ◌∙◌, ap, subst, arith, inl, inr, Option, Some, None}
-use Rattle.std.specs.Prelude.{◌==◌, drop, MatchOption, is_none}
-use Rattle.std.proofs.lemmas.Bool.{and_parts, cases_Bool, eqb-true, not-false}
+use Rattle.std.proofs.Common.{◌≡◌, ℕ, ◌+◌, ◌-◌, ◌≤◌, Bool, true, false, List, [], ◌∷◌, length, refl, sym, ◌∙◌, ap, subst, arith, inl, inr, Option, Some, None}
+use Rattle.std.specs.Prelude.{◌==◌, drop, MatchOption, is_none, not}
+use Rattle.std.proofs.lemmas.Bool.{and_parts, cases_Bool, eq-eqb, eqb-true, not-false}
 use Rattle.fis_view.specs.Frames.{Stamped}
 use Rattle.fis_view.specs.Seen.{seen}
 use Rattle.fis_view.specs.declared.view.Fis.{Fis}
@@ -51,21 +51,9 @@ pub taken_fb : (r next : Registers) (dev : ℕ) (b : Bool) (fis : Option Fis) (h
 taken_fb r next dev b fis h is = ap (λ (x : Registers). x.fb) is ∙ settled_fb (posted_of r dev b fis) h ∙ posted_of_fb r dev b fis
 
 written_fb : (host : Host) (register : Register) (value : ℕ) → moves_area host (Wrote register value) ≡ false → (written register host.port.registers value).fb ≡ host.port.registers.fb
-unfolding written
-written_fb host Fb value h = eqb-true (value / 4096 * 4096) host.port.registers.fb (not-false (value / 4096 * 4096 == host.port.registers.fb) h)
-written_fb host Clb value h = refl
-written_fb host Clbu value h = refl
-written_fb host Fbu value h = refl
-written_fb host Is value h = refl
-written_fb host Ie value h = refl
-written_fb host Cmd value h = refl
-written_fb host Tfd value h = refl
-written_fb host Sig value h = refl
-written_fb host Serr value h = refl
-written_fb host Sact value h = refl
-written_fb host Ci value h = refl
-written_fb host Sntf value h = refl
-written_fb host Fbs value h = refl
+written_fb host register value h =
+    let next : ℕ = (written register host.port.registers value).fb in
+    eqb-true next host.port.registers.fb (not-false (next == host.port.registers.fb) h)
 
 gives_fb : (o : Outgoing) (old : Port) (memory : Memory) (frame : Option Stamped) (new : Port) → Gives o old memory frame new → new.registers.fb ≡ old.registers.fb
 gives_fb Nothing old memory frame new gives = ap (λ (p : Port). p.registers.fb) gives.1
@@ -95,22 +83,26 @@ fb_kept old new (Put at bytes) does h = ap (λ (p : Port). p.registers.fb) does.
 pub receives : (host : Host) → IsHost host → is_running host.port ≡ true → host.port.registers.receives ≡ true
 receives host is runs = (is.port.registers.started (and_parts host.port.registers.started (is_none host.port.errors.port) runs).0).0
 
+still : (n : ℕ) → not (n == n) ≡ false
+still n = ap not (eq-eqb n n refl)
+
 pub stays_put : (old new : Host) (event : HostEvent) → IsHost old → is_running old.port ≡ true → Does old event new → moves_area old event ≡ false
+unfolding written
 stays_put old new (Took frame report) is runs does = refl
 stays_put old new (Wrote Fb value) is runs does = absurd (fb_refused old.port old.memory value (receives old is runs) does.0)
-stays_put old new (Wrote Clb value) is runs does = refl
-stays_put old new (Wrote Clbu value) is runs does = refl
-stays_put old new (Wrote Fbu value) is runs does = refl
-stays_put old new (Wrote Is value) is runs does = refl
-stays_put old new (Wrote Ie value) is runs does = refl
-stays_put old new (Wrote Cmd value) is runs does = refl
-stays_put old new (Wrote Tfd value) is runs does = refl
-stays_put old new (Wrote Sig value) is runs does = refl
-stays_put old new (Wrote Serr value) is runs does = refl
-stays_put old new (Wrote Sact value) is runs does = refl
-stays_put old new (Wrote Ci value) is runs does = refl
-stays_put old new (Wrote Sntf value) is runs does = refl
-stays_put old new (Wrote Fbs value) is runs does = refl
+stays_put old new (Wrote Clb value) is runs does = still old.port.registers.fb
+stays_put old new (Wrote Clbu value) is runs does = still old.port.registers.fb
+stays_put old new (Wrote Fbu value) is runs does = still old.port.registers.fb
+stays_put old new (Wrote Is value) is runs does = still old.port.registers.fb
+stays_put old new (Wrote Ie value) is runs does = still old.port.registers.fb
+stays_put old new (Wrote Cmd value) is runs does = still old.port.registers.fb
+stays_put old new (Wrote Tfd value) is runs does = still old.port.registers.fb
+stays_put old new (Wrote Sig value) is runs does = still old.port.registers.fb
+stays_put old new (Wrote Serr value) is runs does = still old.port.registers.fb
+stays_put old new (Wrote Sact value) is runs does = still old.port.registers.fb
+stays_put old new (Wrote Ci value) is runs does = still old.port.registers.fb
+stays_put old new (Wrote Sntf value) is runs does = still old.port.registers.fb
+stays_put old new (Wrote Fbs value) is runs does = still old.port.registers.fb
 stays_put old new (Flushed dev) is runs does = refl
 stays_put old new (Gave frame) is runs does = refl
 stays_put old new (Stored structure) is runs does = refl

@@ -1,11 +1,11 @@
 -- The structure area over a run (AHCI 1.3.1, section 4.2), and what PRD tables in it say (4.2.3.3).
-use Rattle.std.specs.Prelude.{ℕ, ◌≡◌, ◌+◌, ◌*◌, ◌/◌, ◌==◌, Bool, true, false, not, List, [], ◌∷◌, Option, Some, length}
+use Rattle.std.specs.Prelude.{ℕ, ◌≡◌, ◌+◌, ◌*◌, ◌==◌, Bool, true, false, not, List, [], ◌∷◌, Option, Some, length}
 use Rattle.hba_commands.specs.Commands.{command_at}
 use Rattle.hba_commands.specs.declared.command.Command.{Command}
 use Rattle.host_memory.specs.Memory.{Memory}
 use Rattle.host_memory.specs.Reading.{AgreeFrom, LieApart}
 use Rattle.slots.specs.Slots.{DeviceSlots}
-use Rattle.hba_fbs.specs.declared.register.Register.TheVariants.{Fb}
+use Rattle.hba_fbs.specs.Registers.{written}
 use Rattle.hba_fbs.specs.Tables.{is_readable, prds_of, sound_command}
 use Rattle.hba_fbs.specs.Views.{last_command}
 use Rattle.hba_laws.specs.Hosts.{Host, HostEvent, Runs, Stored, Wrote}
@@ -13,9 +13,10 @@ use Rattle.hba_laws.specs.Sound.{AreHosts}
 
 -- ---- what changes an area
 
--- the write moves the received area: PxFB has bits 31:12 of its place
+-- the write gives the received area another place
 abbrev pub moves_area : Host → HostEvent → Bool
-moves_area host (Wrote Fb value) = not (value / 4096 * 4096 == host.port.registers.fb)
+moves_area host (Wrote register value) =
+    not ((written register host.port.registers value).fb == host.port.registers.fb)
 moves_area host event = false
 
 -- the software leaves these so many bytes of the structure area, from one address on, as they are
