@@ -7,3 +7,4 @@ pub mod KeptLemmas
 pub mod IsolationLemmas
 pub mod GoingLemmas
 pub mod TableLemmas
+pub mod SoundLemmas

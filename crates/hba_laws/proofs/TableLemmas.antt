@@ -19,7 +19,7 @@ use Rattle.hba_fbs.specs.Taking.{admitted, ignores, port_of}
 use Rattle.hba_fbs.specs.Views.{last_command}
 use Rattle.hba_laws.specs.Hosts.{Does, Flushed, Gave, Host, HostEvent, Put, Rewrote, Runs, Stored, Took, Wrote}
 use Rattle.hba_laws.specs.Sound.{AreHosts, IsHost}
-use Rattle.hba_laws.specs.Tables.{BytesStay, IssuedStayReadable, SizesStay, Spares, SparesBytes, TablesStay}
+use Rattle.hba_laws.specs.Tables.{BytesStay, IssuedStayReadable, Spares, SparesBytes, TablesStay}
 use Rattle.hba_laws.proofs.AreaLemmas.{apart_posted, apart_rewritten, row_inside}
 use Rattle.hba_laws.proofs.KeptLemmas.{client_lens, fb_kept, first_host, structure_lens}
 
@@ -141,6 +141,3 @@ stands_readable memory clb slot armed command h =
 pub issued_stay_readable : IssuedStayReadable
 issued_stay_readable command old new events keeps clb slot armed h =
     (tables_stay command old new events keeps).readable command.work.len ∙ stands_readable old.memory clb slot armed command h
-
-pub sizes_stay : SizesStay
-sizes_stay old new events run hosts = (structure_lens old new events run hosts, client_lens old new events run)

@@ -29,7 +29,7 @@ second_none : (x y : Option WriteError) → option_or x y ≡ None → y ≡ Non
 second_none None y h = h
 second_none (Some e) y h = cc
 
-first_none : (x y : Option WriteError) → option_or x y ≡ None → x ≡ None
+pub first_none : (x y : Option WriteError) → option_or x y ≡ None → x ≡ None
 first_none None y h = refl
 first_none (Some e) y h = cc
 

@@ -1,11 +1,12 @@
 -- What is true of every host: AHCI 1.3.1, section 3.3 (the registers), 4.2 (the memory structures)
 -- and chapter 9 (the devices behind a port).
-use Rattle.std.specs.Prelude.{List, [], ◌∷◌}
-use Rattle.host_memory.specs.Memory.{IsHostMemory}
+use Rattle.std.specs.Prelude.{ℕ, ◌≡◌, true, List, [], ◌∷◌, length}
+use Rattle.host_memory.specs.Memory.{IsHostMemory, is_memory_size, zeroed}
 use Rattle.port_errors.specs.Errors.{AreErrors}
 use Rattle.slots.specs.Table.{IsTable}
-use Rattle.hba_fbs.specs.Views.{IsPort}
-use Rattle.hba_laws.specs.Hosts.{Host, HostEvent, Runs}
+use Rattle.hba_fbs.specs.Registers.{AreRegisters}
+use Rattle.hba_fbs.specs.Views.{IsPort, opening_port}
+use Rattle.hba_laws.specs.Hosts.{Does, Host, HostEvent, Runs}
 
 -- what a port, its slots, its errors and its memory keep
 pub record IsHost (host : Host) : Type 0 where
@@ -20,3 +21,24 @@ pub record IsHost (host : Host) : Type 0 where
 abbrev pub AreHosts : (old new : Host) (events : List HostEvent) → Runs old events new → Type 0
 AreHosts old new [] run = IsHost old
 AreHosts old new (event ∷ events) run = IsHost old × AreHosts run.0 new events run.2
+
+-- ---- laws
+
+-- a port that opens beside a new memory is a sound host
+abbrev pub OpensSound : Type 0
+OpensSound =
+    (len : ℕ) → is_memory_size len ≡ true → IsHost (record { port = opening_port; memory = zeroed len })
+
+-- each event keeps what is true of the registers and of the errors
+abbrev pub RegistersStaySound : Type 0
+RegistersStaySound =
+    (old new : Host) (event : HostEvent) → IsHost old → Does old event new
+    → AreRegisters new.port.registers × AreErrors new.port.errors
+
+-- no event makes one of the two areas longer or shorter
+abbrev pub SizesStay : Type 0
+SizesStay =
+    (old new : Host) (events : List HostEvent) (run : Runs old events new)
+    → AreHosts old new events run
+    → (length new.memory.structure ≡ length old.memory.structure)
+    × (length new.memory.client ≡ length old.memory.client)

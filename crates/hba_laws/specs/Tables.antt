@@ -1,5 +1,5 @@
 -- The structure area over a run (AHCI 1.3.1, section 4.2), and what PRD tables in it say (4.2.3.3).
-use Rattle.std.specs.Prelude.{ℕ, ◌≡◌, ◌+◌, ◌*◌, ◌==◌, Bool, true, false, not, List, [], ◌∷◌, Option, Some, length}
+use Rattle.std.specs.Prelude.{ℕ, ◌≡◌, ◌+◌, ◌*◌, ◌==◌, Bool, true, false, not, List, [], ◌∷◌, Option, Some}
 use Rattle.hba_commands.specs.Commands.{command_at}
 use Rattle.hba_commands.specs.declared.command.Command.{Command}
 use Rattle.host_memory.specs.Memory.{Memory}
@@ -76,11 +76,3 @@ IssuedStayReadable =
     → KeepsTable command old events new
     → (clb slot : ℕ) (armed : Bool) → command_at old.memory clb slot armed ≡ Some command
     → is_readable new.memory command.work.len command ≡ true
-
--- no event makes one of the two areas longer or shorter
-abbrev pub SizesStay : Type 0
-SizesStay =
-    (old new : Host) (events : List HostEvent) (run : Runs old events new)
-    → AreHosts old new events run
-    → (length new.memory.structure ≡ length old.memory.structure)
-    × (length new.memory.client ≡ length old.memory.client)

@@ -1,4 +1,4 @@
-use Rattle.hba_laws.proofs.TableLemmas.{bytes_stay, issued_stay_readable, sizes_stay, tables_stay}
+use Rattle.hba_laws.proofs.TableLemmas.{bytes_stay, issued_stay_readable, tables_stay}
 use Rattle.hba_laws.proofs.tables.tables_stay.Goals as goal
 
 pub returns-clause-bytes : goal.returns-clause-bytes
@@ -9,6 +9,3 @@ returns-clause-tables c = tables_stay
 
 pub returns-clause-issued : goal.returns-clause-issued
 returns-clause-issued c = issued_stay_readable
-
-pub returns-clause-sizes : goal.returns-clause-sizes
-returns-clause-sizes c = sizes_stay
