@@ -27,7 +27,8 @@ AreHosts old new (event ∷ events) run = IsHost old × AreHosts run.0 new event
 -- a port that opens beside a new memory is a sound host
 abbrev pub OpensSound : Type 0
 OpensSound =
-    (len : ℕ) → is_memory_size len ≡ true → IsHost (record { port = opening_port; memory = zeroed len })
+    (len : ℕ) → is_memory_size len ≡ true
+    → IsHost (record { port = opening_port; memory = zeroed len })
 
 -- each event keeps what is true of the registers and of the errors
 abbrev pub RegistersStaySound : Type 0
