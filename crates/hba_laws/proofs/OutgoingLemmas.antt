@@ -55,14 +55,58 @@ has_device test dev h = (mask_bits test 16 (omega arith)).below dev h
 
 -- ---- data
 
-data_with_dev : (d o l dev offset len : ℕ) (c : Option Command) (command : Command) → data_with d o l c ≡ Data dev offset len command → d ≡ dev
-data_with_dev d o l dev offset len None command h = cc
-data_with_dev d o l dev offset len (Some c) command h = cc
+record IsDueData (d dev offset len : ℕ) (p : Option (ℕ × ℕ × ℕ)) (g : ℕ × ℕ × ℕ → Option Command) (command : Command) : Type 0 where
+  is_dev : d ≡ dev
+  next : ℕ × ℕ × ℕ
+  is : p ≡ Some next
+  offset_is : next.1 ≡ offset
+  len_is : next.2 ≡ len
+  sound : g next ≡ Some command
 
-due_data : (d dev offset len : ℕ) (p : Option (ℕ × ℕ × ℕ)) (g : ℕ × ℕ × ℕ → Option Command) (command : Command)
-    → match_some p Nothing (λ next. data_with d next.1 next.2 (g next)) ≡ Data dev offset len command → (d ≡ dev) × (is_some p ≡ true)
-due_data d dev offset len None g command h = cc
-due_data d dev offset len (Some next) g command h = (data_with_dev d next.1 next.2 dev offset len (g next) command h, refl)
+data_with_is : (d dev offset len : ℕ) (next : ℕ × ℕ × ℕ) (g : ℕ × ℕ × ℕ → Option Command) (c : Option Command) (command : Command) → g next ≡ c → data_with d next.1 next.2 c ≡ Data dev offset len command
+    → IsDueData d dev offset len (Some next) g command
+data_with_is d dev offset len next g None command is h = cc
+data_with_is d dev offset len next g (Some c) command is h =
+    let same : c ≡ command = cc in
+    record { is_dev = cc; next = next; is = refl; offset_is = cc; len_is = cc; sound = is ∙ ap (λ (x : Command). Some x) same }
+
+due_data_is : (d dev offset len : ℕ) (p : Option (ℕ × ℕ × ℕ)) (g : ℕ × ℕ × ℕ → Option Command) (command : Command)
+    → match_some p Nothing (λ next. data_with d next.1 next.2 (g next)) ≡ Data dev offset len command → IsDueData d dev offset len p g command
+due_data_is d dev offset len None g command h = cc
+due_data_is d dev offset len (Some next) g command h = data_with_is d dev offset len next g (g next) command refl h
+
+read_stands : (b : Bool) (c command : Command) → (if b then Some c else None) ≡ Some command → Some c ≡ Some command
+read_stands true c command h = h
+read_stands false c command h = cc
+
+sound_stands : (memory : Memory) (o : Option Issue) (q : Option Command) (command : Command)
+    → match_some o None (λ issue. match_some q None (λ c. if is_readable memory issue.work.len c then Some c else None)) ≡ Some command → (is_some o ≡ true) × (q ≡ Some command)
+sound_stands memory None q command h = cc
+sound_stands memory (Some issue) None command h = cc
+sound_stands memory (Some issue) (Some c) command h = (refl, read_stands (is_readable memory issue.work.len c) c command h)
+
+-- what is known of data that goes out: it is the next of the device's setup, of the command of its slot
+pub record IsData (port : Port) (dev offset len : ℕ) (command : Command) : Type 0 where
+  pub next : ℕ × ℕ × ℕ
+  pub is : payload (context_of port.slots dev) ≡ Some next
+  pub offset_is : next.1 ≡ offset
+  pub len_is : next.2 ≡ len
+  pub filled : is_some (own_issue (slots_of dev port.slots) next.0) ≡ true
+  pub stands : last_command port.commands next.0 ≡ Some command
+
+data_found : (port : Port) (memory : Memory) (d dev offset len : ℕ) (command : Command)
+    → IsDueData d dev offset len (payload (context_of port.slots d)) (λ next. sound_command memory port.commands (view_of d port).slots next.0) command → d ≡ dev → IsData port dev offset len command
+data_found port memory d dev offset len command due is =
+    let own = (view_of d port).slots in
+    let both = sound_stands memory (own_issue own due.next.0) (last_command port.commands due.next.0) command due.sound in
+    record {
+      next = due.next;
+      is = subst (λ (m : ℕ). payload (context_of port.slots m) ≡ Some due.next) is due.is;
+      offset_is = due.offset_is;
+      len_is = due.len_is;
+      filled = subst (λ (m : ℕ). is_some (own_issue (slots_of m port.slots) due.next.0) ≡ true) is both.0;
+      stands = both.1;
+    }
 
 order_no_data : (slot dev offset len : ℕ) (o : Option Issue) (q : Option Command) (command : Command)
     → match_some o Nothing (λ issue. match_some q Nothing (Order issue.dev slot)) ≡ Data dev offset len command → ⊥
@@ -70,21 +114,23 @@ order_no_data slot dev offset len None q command h = cc
 order_no_data slot dev offset len (Some issue) None command h = cc
 order_no_data slot dev offset len (Some issue) (Some c) command h = cc
 
-data_by : (port : Port) (memory : Memory) (b : Bool) (r s : Option ℕ) (dev offset len : ℕ) (command : Command)
-    → (if b then Nothing else match_some r (match_some s Nothing (order_due port)) (data_due port memory)) ≡ Data dev offset len command
-    → is_some (payload (context_of port.slots dev)) ≡ true
-data_by port memory true r s dev offset len command h = cc
-data_by port memory false None None dev offset len command h = cc
-data_by port memory false None (Some slot) dev offset len command h =
+data_is_by : (port : Port) (memory : Memory) (b : Bool) (r s : Option ℕ) (dev offset len : ℕ) (command : Command)
+    → (if b then Nothing else match_some r (match_some s Nothing (order_due port)) (data_due port memory)) ≡ Data dev offset len command → IsData port dev offset len command
+data_is_by port memory true r s dev offset len command h = cc
+data_is_by port memory false None None dev offset len command h = cc
+data_is_by port memory false None (Some slot) dev offset len command h =
     absurd (order_no_data slot dev offset len (issue_at port.slots slot) (last_command port.commands slot) command h)
-data_by port memory false (Some d) s dev offset len command h =
-    let found = due_data d dev offset len (payload (context_of port.slots d)) (λ next. sound_command memory port.commands (view_of d port).slots next.0) command h in
-    subst (λ (m : ℕ). is_some (payload (context_of port.slots m)) ≡ true) found.0 found.1
+data_is_by port memory false (Some d) s dev offset len command h =
+    let due = due_data_is d dev offset len (payload (context_of port.slots d)) (λ next. sound_command memory port.commands (view_of d port).slots next.0) command h in
+    data_found port memory d dev offset len command due due.is_dev
+
+pub data_is : (port : Port) (memory : Memory) (dev offset len : ℕ) (command : Command) → outgoing port memory ≡ Data dev offset len command → IsData port dev offset len command
+data_is port memory dev offset len command h = data_is_by port memory (not (is_running port)) (next_receiver port) (next_to_send port) dev offset len command h
 
 -- data goes to a device that asked for it
 pub data_is_own : (port : Port) (memory : Memory) (dev offset len : ℕ) (command : Command) → outgoing port memory ≡ Data dev offset len command
     → is_some (payload (context_of port.slots dev)) ≡ true
-data_is_own port memory dev offset len command h = data_by port memory (not (is_running port)) (next_receiver port) (next_to_send port) dev offset len command h
+data_is_own port memory dev offset len command h = ap (λ (x : Option (ℕ × ℕ × ℕ)). is_some x) (data_is port memory dev offset len command h).is
 
 -- ---- commands
 
@@ -216,71 +262,3 @@ order_filled port n slot long owns h =
     let test : ℕ → Bool = λ s. holds (may_go (ready_devices port) (faulty_devices port) port.slots) (issue_at port.slots s) in
     let is = lowest_is test 32 slot h in
     ap (λ (x : Option Issue). is_some x) (own_at n port.slots slot (omega (arith, is.below)) ∙ owned_same n (issue_at port.slots slot) owns) ∙ owns_some n (issue_at port.slots slot) owns
-
--- ---- the bytes
-
-record IsDueData (d dev offset len : ℕ) (p : Option (ℕ × ℕ × ℕ)) (g : ℕ × ℕ × ℕ → Option Command) (command : Command) : Type 0 where
-  is_dev : d ≡ dev
-  next : ℕ × ℕ × ℕ
-  is : p ≡ Some next
-  offset_is : next.1 ≡ offset
-  len_is : next.2 ≡ len
-  sound : g next ≡ Some command
-
-data_with_is : (d dev offset len : ℕ) (next : ℕ × ℕ × ℕ) (g : ℕ × ℕ × ℕ → Option Command) (c : Option Command) (command : Command) → g next ≡ c → data_with d next.1 next.2 c ≡ Data dev offset len command
-    → IsDueData d dev offset len (Some next) g command
-data_with_is d dev offset len next g None command is h = cc
-data_with_is d dev offset len next g (Some c) command is h =
-    let same : c ≡ command = cc in
-    record { is_dev = cc; next = next; is = refl; offset_is = cc; len_is = cc; sound = is ∙ ap (λ (x : Command). Some x) same }
-
-due_data_is : (d dev offset len : ℕ) (p : Option (ℕ × ℕ × ℕ)) (g : ℕ × ℕ × ℕ → Option Command) (command : Command)
-    → match_some p Nothing (λ next. data_with d next.1 next.2 (g next)) ≡ Data dev offset len command → IsDueData d dev offset len p g command
-due_data_is d dev offset len None g command h = cc
-due_data_is d dev offset len (Some next) g command h = data_with_is d dev offset len next g (g next) command refl h
-
-read_stands : (b : Bool) (c command : Command) → (if b then Some c else None) ≡ Some command → Some c ≡ Some command
-read_stands true c command h = h
-read_stands false c command h = cc
-
-sound_stands : (memory : Memory) (o : Option Issue) (q : Option Command) (command : Command)
-    → match_some o None (λ issue. match_some q None (λ c. if is_readable memory issue.work.len c then Some c else None)) ≡ Some command → (is_some o ≡ true) × (q ≡ Some command)
-sound_stands memory None q command h = cc
-sound_stands memory (Some issue) None command h = cc
-sound_stands memory (Some issue) (Some c) command h = (refl, read_stands (is_readable memory issue.work.len c) c command h)
-
--- what is known of data that goes out: it is the next of the device's setup, of the command of its slot
-pub record IsData (port : Port) (dev offset len : ℕ) (command : Command) : Type 0 where
-  pub next : ℕ × ℕ × ℕ
-  pub is : payload (context_of port.slots dev) ≡ Some next
-  pub offset_is : next.1 ≡ offset
-  pub len_is : next.2 ≡ len
-  pub filled : is_some (own_issue (slots_of dev port.slots) next.0) ≡ true
-  pub stands : last_command port.commands next.0 ≡ Some command
-
-data_found : (port : Port) (memory : Memory) (d dev offset len : ℕ) (command : Command)
-    → IsDueData d dev offset len (payload (context_of port.slots d)) (λ next. sound_command memory port.commands (view_of d port).slots next.0) command → d ≡ dev → IsData port dev offset len command
-data_found port memory d dev offset len command due is =
-    let own = (view_of d port).slots in
-    let both = sound_stands memory (own_issue own due.next.0) (last_command port.commands due.next.0) command due.sound in
-    record {
-      next = due.next;
-      is = subst (λ (m : ℕ). payload (context_of port.slots m) ≡ Some due.next) is due.is;
-      offset_is = due.offset_is;
-      len_is = due.len_is;
-      filled = subst (λ (m : ℕ). is_some (own_issue (slots_of m port.slots) due.next.0) ≡ true) is both.0;
-      stands = both.1;
-    }
-
-data_is_by : (port : Port) (memory : Memory) (b : Bool) (r s : Option ℕ) (dev offset len : ℕ) (command : Command)
-    → (if b then Nothing else match_some r (match_some s Nothing (order_due port)) (data_due port memory)) ≡ Data dev offset len command → IsData port dev offset len command
-data_is_by port memory true r s dev offset len command h = cc
-data_is_by port memory false None None dev offset len command h = cc
-data_is_by port memory false None (Some slot) dev offset len command h =
-    absurd (order_no_data slot dev offset len (issue_at port.slots slot) (last_command port.commands slot) command h)
-data_is_by port memory false (Some d) s dev offset len command h =
-    let due = due_data_is d dev offset len (payload (context_of port.slots d)) (λ next. sound_command memory port.commands (view_of d port).slots next.0) command h in
-    data_found port memory d dev offset len command due due.is_dev
-
-pub data_is : (port : Port) (memory : Memory) (dev offset len : ℕ) (command : Command) → outgoing port memory ≡ Data dev offset len command → IsData port dev offset len command
-data_is port memory dev offset len command h = data_is_by port memory (not (is_running port)) (next_receiver port) (next_to_send port) dev offset len command h
