@@ -8,3 +8,16 @@ pub mod IsolationLemmas
 pub mod GoingLemmas
 pub mod TableLemmas
 pub mod SoundLemmas
+pub mod OnceLemmas
+pub mod StandLemmas
+pub mod ViewLemmas
+pub mod AgreeLemmas
+pub mod CarryLemmas
+pub mod StepLemmas
+pub mod DataLemmas
+pub mod HearLemmas
+pub mod IssueLemmas
+pub mod EventLemmas
+pub mod WithinLemmas
+pub mod ClientLemmas
+pub mod DoneLemmas

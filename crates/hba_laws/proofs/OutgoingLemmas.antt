@@ -12,7 +12,7 @@ use Rattle.slots.specs.Data.{payload}
 use Rattle.slots.specs.Slots.{Issue, context_of, has_bit, holds, is_control, issue_at, mask_below, match_some, own_issue, slots_of, waiting}
 use Rattle.slots.proofs.MaskLemmas.{MaskBelow, lowest_before, lowest_found, lowest_is, mask_none, mask_same, mask_set, none_below}
 use Rattle.slots.proofs.TableLemmas.{Owns, own_at, owned_same, owns_where}
-use Rattle.hba_fbs.specs.Sending.{Data, Nothing, Order, data_due, data_with, faulty_devices, is_ready, next_receiver, next_to_send, order_due, outgoing, ready_devices, wants_data_of}
+use Rattle.hba_fbs.specs.Sending.{Data, Nothing, Order, data_due, data_with, faulty_devices, is_ready, next_receiver, next_to_send, order_due, outgoing, ready_devices, is_due}
 use Rattle.hba_fbs.specs.Tables.{is_readable, sound_command}
 use Rattle.hba_fbs.specs.Taking.{is_running}
 use Rattle.hba_fbs.specs.Views.{Port, last_command, state_at, view_of}
@@ -247,7 +247,7 @@ order_no_payload port n slot lt long owns h none =
     let test : ℕ → Bool = λ s. holds (may_go (ready_devices port) (faulty_devices port) port.slots) (issue_at port.slots s) in
     let is = lowest_is test 32 slot h in
     let here : holds (may_leave (view_of n port)) (issue_at port.slots slot) ≡ true = sym (holds_alike port n (issue_at port.slots slot) lt owns) ∙ is.passes in
-    none_if_healthy (is_some (payload (context_of port.slots n))) (cause_of port.errors n) (none_below (wants_data_of port) 16 none n lt) (healthy port n (issue_at port.slots slot) here)
+    none_if_healthy (is_some (payload (context_of port.slots n))) (cause_of port.errors n) (none_below (is_due port.slots port.errors) 16 none n lt) (healthy port n (issue_at port.slots slot) here)
 
 -- ---- something is issued in the slot
 

@@ -1,16 +1,15 @@
 -- What happens at a host port and in the memory beside it, as a list of events: AHCI 1.3.1, chapter 5 (what the port does) and
 -- chapter 9 (FIS-based Switching).
-use Rattle.std.specs.Prelude.{ℕ, ◌≡◌, ◌+◌, ◌*◌, ◌-◌, ◌<◌, true, false, List, [], ◌∷◌, length, Option, None}
+use Rattle.std.specs.Prelude.{ℕ, ◌≡◌, ◌+◌, ◌*◌, ◌-◌, ◌<◌, ◌≤◌, true, false, List, [], ◌∷◌, length, Option, None}
 use Rattle.fis_view.specs.Frames.{Stamped}
 use Rattle.host_memory.specs.Memory.{Memory, client_start, overwritten}
 use Rattle.host_memory.specs.Place.{LiesInClient}
-use Rattle.port_errors.specs.Errors.{without}
 use Rattle.hba_fbs.specs.declared.register.Register.{Register}
 use Rattle.hba_fbs.specs.declared.report.TakeReport.{TakeReport}
 use Rattle.hba_fbs.specs.Posting.{area_at}
 use Rattle.hba_fbs.specs.Sending.{Gives, outgoing}
 use Rattle.hba_fbs.specs.Taking.{Hears, Ignores, ignores, port_of}
-use Rattle.hba_fbs.specs.Views.{LeavesOtherViews, Port, flushed_view, view_of}
+use Rattle.hba_fbs.specs.Views.{Flushes, Port}
 use Rattle.hba_fbs.specs.Writing.{Accepts, refusal_of}
 
 -- a port, and the memory that it shares with its software
@@ -42,16 +41,6 @@ pub record TakesFrame (old : Host) (frame : List ℕ) (report : TakeReport) (new
   pub ignored : ignores (port_of frame) old.port frame ≡ true → Ignores (port_of frame) old.port old.memory report new.port new.memory
   pub heard : ignores (port_of frame) old.port frame ≡ false → Hears (port_of frame) old.port old.memory frame report new.port new.memory
 
--- a device is flushed
-pub record Flushes (old : Port) (dev : ℕ) (new : Port) : Type 0 where
-  pub dev_below : dev < 16
-  pub own : view_of dev new ≡ flushed_view
-  pub others : LeavesOtherViews dev old new
-  pub registers : new.registers ≡ old.registers
-  pub errors : new.errors ≡ without old.errors dev
-  pub commands : new.commands ≡ old.commands
-  pub number : new.number ≡ old.number
-
 -- the structure area is written, as long as it is, and the received area stays
 pub record StoresStructure (fb : ℕ) (old : Memory) (structure : List ℕ) (new : Memory) : Type 0 where
   pub as_long : length structure ≡ length old.structure
@@ -62,6 +51,7 @@ pub record StoresStructure (fb : ℕ) (old : Memory) (structure : List ℕ) (new
 pub record WritesRow (fb : ℕ) (old : Memory) (dev : ℕ) (row : List ℕ) (new : Memory) : Type 0 where
   pub dev_below : dev < 16
   pub as_long : length row ≡ 256
+  pub inside : fb + 256 * dev + 256 ≤ length old.structure
   pub after : new ≡ record old { structure = overwritten old.structure (fb + 256 * dev) row }
 
 -- bytes of the client area are written

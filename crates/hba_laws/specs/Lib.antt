@@ -3,3 +3,7 @@ pub mod Sound
 pub mod Parts
 pub mod Isolation
 pub mod Tables
+pub mod History
+pub mod Client
+pub mod Agreement
+pub mod Delivering

@@ -5,10 +5,12 @@
 //! list of its calls and of what its software writes between them. None does anything when it runs.
 #![tactic(auto)]
 
+mod delivering;
 mod devices;
 mod sound;
 mod tables;
 
+pub use delivering::delivers;
 pub use devices::isolated;
 pub use sound::stays_sound;
 pub use tables::tables_stay;

@@ -1,0 +1,170 @@
+-- What happened to the commands of one device, and what that comes to: what is issued, which bytes of it are filled and with
+-- what, and which event completes it (AHCI 1.3.1, 5.3 and 9.3; Serial ATA 3.x, 10.5, FIS types; ACS-3, NCQ and PIO data-in
+-- commands). These words read a history back to the issue of a slot, and know no flag, no cursor and no running sum.
+use Rattle.std.specs.Prelude.{ℕ, ◌+◌, ◌-◌, ◌≤◌, ◌==◌, ◌&&◌, ◌||◌, nat_le, nat_lt, not, Bool, false, if◌then◌else◌}
+use Rattle.std.specs.Prelude.{List, [], ◌∷◌, length, slice_get, Option, Some, None, is_some}
+use Rattle.std.specs.List.{range_with_len, list_all}
+use Rattle.host_memory.specs.declared.table.Prd.{Prd}
+use Rattle.slots.specs.Slots.{has_bit, is_pio, match_some}
+use Rattle.slots.specs.Work.{is_queued}
+use Rattle.slots.specs.declared.work.Work.{Work}
+use Rattle.hba_fbs.specs.Status.{is_quiet}
+
+-- what a command moves: its kind and how many bytes, and the PRDs that say where they lie, as they stand at its issue
+pub record Transfer : Type 0 where
+  pub work : Work
+  pub table : List Prd
+
+-- One event of a device. A FIS that was ignored, or that had a fault, is none, but for two: a Set Device Bits FIS that names
+-- slots of which bytes are missing beside whole ones, and Data whose one fault is the last status of its block.
+pub data Event : Type 0 where
+  -- a command is issued in a slot
+  Issued : (slot : ℕ) → Transfer → Event
+  -- the command of a slot goes out, or the Control there
+  Sent : (slot : ℕ) → Event
+  SentControl : (slot : ℕ) → Event
+  -- a DMA Setup is accepted
+  SetUp : (tag offset count : ℕ) → (to_host : Bool) → Event
+  -- a PIO Setup is accepted, with the Status at the end of its block
+  PioSetUp : (count : ℕ) → (to_host : Bool) → (ends : ℕ) → Event
+  -- the payload of a Data FIS came or went
+  Carried : (bytes : List ℕ) → Event
+  -- a Register Device to Host FIS answers the command that waits
+  Answered : Event
+  -- a Set Device Bits FIS says that these slots are done
+  Named : (mask : ℕ) → Event
+  -- the device is flushed, or ST falls
+  Emptied : Event
+
+-- The functions below go back through a history: the latest event stands first.
+abbrev pub History : Type 0
+History = List Event
+
+-- an accepted setup, and of a PIO Setup the Status at its end
+pub record Setup : Type 0 where
+  pub slot : ℕ
+  pub offset : ℕ
+  pub count : ℕ
+  pub to_host : Bool
+  pub ends : Option ℕ
+
+-- the option, where the test does not hold
+abbrev pub unless : {A : Type 0} → Bool → Option A → Option A
+unless test o = if test then None else o
+
+abbrev pub is_at : ℕ → Option ℕ → Bool
+is_at s None = false
+is_at s (Some k) = k == s
+
+-- ---- setups
+
+-- the slot whose command went out last and was not answered
+abbrev pub waiting_in : History → Option ℕ
+waiting_in [] = None
+waiting_in (Sent slot ∷ past) = Some slot
+waiting_in (Issued slot t ∷ past) = unless (is_at slot (waiting_in past)) (waiting_in past)
+waiting_in (Answered ∷ past) = None
+waiting_in (_ ∷ past) = waiting_in past
+
+-- Whether the last setup since the issue of s is for s. A PIO Setup is for the slot that waits.
+abbrev pub is_set_up : ℕ → History → Bool
+is_set_up s [] = false
+is_set_up s (Issued slot t ∷ past) = if slot == s then false else is_set_up s past
+is_set_up s (SetUp tag offset count to_host ∷ past) = tag == s
+is_set_up s (PioSetUp count to_host ends ∷ past) = is_at s (waiting_in past)
+is_set_up s (_ ∷ past) = is_set_up s past
+
+-- how many bytes of s came or went since its issue
+abbrev pub bytes_of : ℕ → History → ℕ
+bytes_of s [] = 0
+bytes_of s (Issued slot t ∷ past) = if slot == s then 0 else bytes_of s past
+bytes_of s (Carried bytes ∷ past) = if is_set_up s past then bytes_of s past + length bytes else bytes_of s past
+bytes_of s (_ ∷ past) = bytes_of s past
+
+-- the setup of a PIO Setup goes on where the bytes of its slot end
+abbrev pub pio_setup : (slot offset count : ℕ) → (to_host : Bool) → (ends : ℕ) → Setup
+pio_setup slot offset count to_host ends =
+    record { slot = slot; offset = offset; count = count; to_host = to_host; ends = Some ends }
+
+-- the last setup
+abbrev pub last_setup : History → Option Setup
+last_setup [] = None
+last_setup (SetUp tag offset count to_host ∷ past) =
+    Some (record { slot = tag; offset = offset; count = count; to_host = to_host; ends = None })
+last_setup (PioSetUp count to_host ends ∷ past) =
+    match_some (waiting_in past) None (λ s. Some (pio_setup s (bytes_of s past) count to_host ends))
+last_setup (_ ∷ past) = last_setup past
+
+-- how many bytes of Data came or went since the last setup
+abbrev pub carried : History → ℕ
+carried [] = 0
+carried (SetUp tag offset count to_host ∷ past) = 0
+carried (PioSetUp count to_host ends ∷ past) = 0
+carried (Carried bytes ∷ past) = carried past + length bytes
+carried (_ ∷ past) = carried past
+
+-- the number of the next byte: the last setup's offset, and the bytes since
+abbrev pub next_number : History → ℕ
+next_number past = match_some (last_setup past) 0 (λ g. g.offset + carried past)
+
+-- ---- what is filled
+
+abbrev pub none_filled : ℕ → Option ℕ
+none_filled k = None
+
+-- these bytes too, from this number on
+abbrev pub filled_from : ℕ → List ℕ → (ℕ → Option ℕ) → ℕ → Option ℕ
+filled_from from bytes filled k =
+    if nat_le from k && nat_lt k (from + length bytes) then slice_get bytes (k - from) else filled k
+
+-- The bytes of s by their numbers. Data fills s where the last setup since the issue of s is for s.
+abbrev pub filled : ℕ → History → ℕ → Option ℕ
+filled s [] = none_filled
+filled s (Issued slot t ∷ past) = if slot == s then none_filled else filled s past
+filled s (Carried bytes ∷ past) =
+    if is_set_up s past then filled_from (next_number past) bytes (filled s past) else filled s past
+filled s (_ ∷ past) = filled s past
+
+-- a transfer of so many bytes is whole: each of them is filled
+abbrev pub is_all_filled : (ℕ → Option ℕ) → ℕ → Bool
+is_all_filled bytes len = list_all (λ k. is_some (bytes k)) (range_with_len 0 len)
+
+-- ---- what completes
+
+-- the last status of a block that Data of so many bytes ends
+abbrev pub block_end : Setup → ℕ → Option ℕ
+block_end g gone = if gone == g.count then g.ends else None
+
+-- so many bytes end a block with a Status that says that the command may be done
+abbrev pub ends_well : Setup → ℕ → Bool
+ends_well g gone = match_some (block_end g gone) false is_quiet
+
+-- Whether this completes what is issued in s, where that is this work: for a queued command a Set Device Bits FIS that names
+-- it while it is whole, for any other an answer of the device, and for a PIO data-in also the end of its last block.
+abbrev pub completes : ℕ → Event → History → Work → Bool
+completes s (Named mask) past w = has_bit mask s && (is_queued w.kind && is_all_filled (filled s past) w.len)
+completes s Answered past w =
+    is_at s (waiting_in past) && not (is_queued w.kind) && (not (is_pio w.kind) || is_all_filled (filled s past) w.len)
+completes s (Carried bytes) past w =
+    is_set_up s past && is_pio w.kind && match_some (last_setup past) false (λ g. ends_well g (carried past + length bytes))
+    && is_all_filled (filled s (Carried bytes ∷ past)) w.len
+completes s _ past w = false
+
+-- what is issued in each slot, and did not complete; a Control has no answer, and its slot is free as it goes out
+abbrev pub issued : ℕ → History → Option Transfer
+issued s [] = None
+issued s (Issued slot t ∷ past) = if slot == s then Some t else issued s past
+issued s (SentControl slot ∷ past) = unless (slot == s) (issued s past)
+issued s (Emptied ∷ past) = None
+issued s (e ∷ past) = match_some (issued s past) None (λ t. unless (completes s e past t.work) (Some t))
+
+-- how often the last issue of s completed
+abbrev pub completions : ℕ → History → ℕ
+completions s [] = 0
+completions s (Issued slot t ∷ past) = if slot == s then 0 else completions s past
+completions s (e ∷ past) =
+    match_some (issued s past) 0 (λ t. if completes s e past t.work then 1 else 0) + completions s past
+
+-- Each issue completes at most once, and not while it is still issued.
+abbrev pub CompletesOnce : Type 0
+CompletesOnce = (s : ℕ) (past : History) → completions s past + match_some (issued s past) 0 (λ t. 1) ≤ 1
