@@ -1,10 +1,11 @@
-//! The registers of an AHCI host port with FIS-based switching: what the host's software reads and
-//! writes, the slots that it issues, and the errors of the devices behind the port.
+//! An AHCI host port with FIS-based switching: what the host's software reads and writes, the slots that it issues, what the
+//! FISes of the devices behind the port do, and what goes out to them.
 //!
-//! A [`HostPort`] is known by its value: its own registers, the slots, the errors, the task file of
-//! each device and the commands of the issued slots. From it comes the view of one device, which is
-//! all that the device's own FISes may look at and change. [`HostPort::read`] shows a register, and
-//! [`HostPort::write`] takes all bits of a value or none. No call takes memory.
+//! A [`HostPort`] is known by its value: its own registers, the slots, the errors, the task file of each device, the
+//! commands of the issued slots and the running number of its frames. From it comes the view of one device, which is all
+//! that the device's own FISes may look at and change. [`HostPort::read`] shows a register, [`HostPort::write`] takes all
+//! bits of a value or none, [`HostPort::take`] takes a FIS, and [`HostPort::next_out`] gives the next frame, which is the one
+//! call that asks for memory.
 #![tactic(auto)]
 
 mod bits;
