@@ -11,6 +11,7 @@ use Rattle.pm_world.proofs.Law.{nothing_lost}
 use Rattle.pm_world.proofs.Delivery.{delivers_reads, run-append}
 use Rattle.pm_world.proofs.Openings.{nothing_stands}
 use Rattle.pm_world.proofs.Units.{units_live_on, units_lived_on}
+use Rattle.pm_world.proofs.LinksPass.{keeps_links}
 
 taken_is_prefix : (old : Places) (steps : List Step) (answers : List Answer) (new : Places) → Run old steps answers new → TakenIsPrefix old answers
 taken_is_prefix old steps answers new run config units before told made n c =
@@ -25,6 +26,7 @@ obeys old steps answers new run = record {
   delivers = delivers_reads old steps answers new run;
   live_on = units_live_on old steps answers new run;
   lived_on = units_lived_on old steps answers new run;
+  links = keeps_links old steps answers new run;
 }
 
 -- one step is a run

@@ -18,4 +18,5 @@ pub mod Delivery
 pub mod Fanouts
 pub mod Risen
 pub mod Units
+pub mod LinksPass
 pub mod Laws

@@ -126,7 +126,7 @@ port_keeps ports n m port left there same =
       | inr other ↦ ap held (slice_get-set_other ports n m left other)
     ]
 
-recorded_up : (port : PortState) (conn : ℕ) → (recorded port conn).up ≡ port.up
+pub recorded_up : (port : PortState) (conn : ℕ) → (recorded port conn).up ≡ port.up
 recorded_up port conn = by_test (is_none (port_came_refusal port conn))
   where
     by_test : (b : Bool) → (if b then with_connection port conn else port).up ≡ port.up

@@ -1,5 +1,5 @@
--- The laws of a run: nothing is lost, what was taken is a prefix of what was sent, reads are delivered, and each unit is
--- what its own history makes of it (Serial ATA 3.x, port multiplier: frame transmission, PM Port; native command queuing).
+-- The laws of a run: nothing is lost, what was taken is a prefix of what was sent, reads are delivered, each unit is what its
+-- own history makes of it, and each link is a link (Serial ATA 3.x, port multiplier: frame transmission, PM Port; native command queuing).
 use Rattle.std.specs.Prelude.{ℕ, ◌≡◌, ◌==◌, if◌then◌else◌, List, [], ◌∷◌, ◌++◌, Some, None, slice_get, IsSomeAnd, MatchOption}
 use Rattle.disk_model.specs.Histories.{Happening, Received, Sent, Plugged, Plan}
 use Rattle.disk_model.specs.Units.{plan_of, StandsFor, MaySend}
@@ -7,6 +7,7 @@ use Rattle.disk_model.specs.declared.unit.Unit.{Unit}
 use Rattle.pm_world.specs.Places.{Places}
 use Rattle.pm_world.specs.Traffic.{sent, taken, all_marked, IsPrefixOf, NothingLost}
 use Rattle.pm_world.specs.Delivery.{AfterEveryRun, DeliversReads}
+use Rattle.pm_world.specs.Links.{KeepsLinks}
 use Rattle.pm_world.specs.declared.step.Step.{Step}
 use Rattle.pm_world.specs.declared.step.Step.TheVariants as step
 use Rattle.pm_world.specs.declared.step.Answer.{Answer}
@@ -68,3 +69,4 @@ pub record ObeysLaws (old : Places) (steps : List Step) (answers : List Answer) 
   pub delivers : DeliversReads old steps answers new
   pub live_on : UnitsLiveOn old steps answers new
   pub lived_on : UnitsLivedOn old steps answers new
+  pub links : KeepsLinks old answers new

@@ -10,4 +10,5 @@ pub mod Host
 pub mod Deeds
 pub mod Counting
 pub mod Delivery
+pub mod Links
 pub mod Laws

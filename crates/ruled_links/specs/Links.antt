@@ -1,6 +1,17 @@
--- A link and its seats, as contracts see them.
-use Rattle.std.specs.Prelude.{ℕ, Bool, false, nat_le, ◌&&◌, List, length, drop}
+-- What a bounded link is, and a link between threads and its seats, as contracts see them.
+use Rattle.std.specs.Prelude.{◌≡◌, ◌≤◌, ℕ, Bool, false, nat_le, ◌&&◌, List, ◌++◌, length, drop}
 use Rattle.atomic_table.specs.Seated.{TableId}
+
+module _ {T : Type 0} where
+  -- nothing is lost, made or put out of order: what was taken and then what is there is what was sent
+  abbrev pub IsWhole : List T → List T → List T → Type 0
+  IsWhole sent taken content = taken ++ content ≡ sent
+
+  -- A link with room for so many items: whatever was sent over it is taken off it in the same order, or still on it, and
+  -- it never holds more than it has room for.
+  pub record IsLink (capacity : ℕ) (sent taken content : List T) : Type 0 where
+    pub whole : IsWhole sent taken content
+    pub bounded : length content ≤ capacity
 
 -- how many items a link may be made for
 abbrev pub is_capacity : ℕ → Bool

@@ -1,12 +1,14 @@
 -- The rule of a link: what was taken and then what the link holds is what was sent, and that is in the order that the
 -- item type names. There is one pass at most that may send; it knows all that was sent, and a beginning of what was
 -- taken. There is one at most that may take; it knows all that was taken, and a beginning of what was sent. A pass that
--- may do neither is spent, and nothing is said of it.
+-- may do neither is spent, and nothing is said of it. The rule of a queue does not see how many items it has room for: that
+-- a link never holds more, so that it is an IsLink, is said where its seats meet.
 use Rattle.std.specs.Prelude.{◌≡◌, ℕ, Bool, true, false, List, [], ◌∷◌, ◌++◌}
 use mathlib.Core.Option.{some}
 use lib.ListN.{get_elem?}
 use Rattle.crossbeam_queue.specs.Passes.{Pass, view}
 use Rattle.ruled_links.specs.declared.rule.View.{View}
+use Rattle.ruled_links.specs.Links.{IsWhole}
 use Rattle.ruled_links.specs.Lists.{IsPrefixOf, Agree}
 
 module _ {T : Type 0} where
@@ -43,7 +45,7 @@ module _ {T : Type 0} where
     pub reader : ℕ
     pub sent : List T
     pub taken : List T
-    pub whole : taken ++ items ≡ sent
+    pub whole : IsWhole sent taken items
     pub ordered : in_order sent
     pub each : (pass : ℕ) (v : View T) → get_elem? views pass ≡ some v → Fits writer reader sent taken pass v
 
@@ -67,5 +69,5 @@ module _ {T : Type 0} where
 
   -- to a pass that may do both
   pub record Met (in_order : List T → Type 0) (v : View T) (items : List T) : Type 0 where
-    pub whole : v.taken ++ items ≡ v.sent
+    pub whole : IsWhole v.sent v.taken items
     pub ordered : in_order v.sent

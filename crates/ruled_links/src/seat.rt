@@ -1,7 +1,7 @@
 //! The two seats of a link.
 
 ghost use Rattle.std.specs.Prelude.{◌≡◌, ◌+◌, ◌≤◌, [], ◌∷◌, ◌++◌, length, OnOk, IfErr, IfNone, IfSome};
-ghost use Rattle.ruled_links.specs.Links.{content};
+ghost use Rattle.ruled_links.specs.Links.{IsLink, content};
 ghost use Rattle.ruled_links.specs.Lists.{Agree, IsPrefixOf};
 
 use crate::item::Item;
@@ -101,8 +101,7 @@ impl<'a, T: Item> Rx<'a, T> {
 pub fn meet<'a, T: Item, R: Wait>(rt: &R, tx: Tx<'a, T>, rx: Rx<'a, T>) -> (Tx<'a, T>, Rx<'a, T>)
     requires { tx.link ≡ rx.link }
     ensures seats { (result.0 ≡ record tx.entry { taken = rx.entry.taken }) × (result.1 ≡ result.0) }
-    ensures whole { rx.entry.taken ++ content result.0 ≡ tx.entry.sent }
-    ensures room { length (content result.0) ≤ tx.entry.room }
+    ensures link { IsLink tx.entry.room tx.entry.sent rx.entry.taken (content result.0) }
     ensures ordered { T.in_order tx.entry.sent }
 {
     let Tx { queue, mut pass } = tx;

@@ -1,0 +1,132 @@
+-- What goes over the links of a world: from each device to its port, from each port on to the host's link, and off that link
+-- (Serial ATA 3.x, port multiplier: frame transmission, presence of a device on a port). A link of a world and a link between
+-- two threads are links by one definition, IsLink of ruled_links.
+use Rattle.std.specs.Prelude.{ℕ, ◌≡◌, ◌≤◌, ◌==◌, if◌then◌else◌, Bool, false, List, [], ◌∷◌, ◌++◌}
+use Rattle.std.specs.Prelude.{length, map, filter, Option, Some, None, slice_get, MatchOption}
+use Rattle.std.specs.List.{flat_map}
+use Rattle.fis_view.specs.Frames.{Stamped}
+use Rattle.ruled_links.specs.Links.{IsLink}
+use Rattle.pm_world.specs.Delivery.{AfterEveryRun}
+use Rattle.pm_world.specs.Places.{Places, Place, nothing_shown, rising}
+use Rattle.pm_world.specs.Traffic.{held, on_link}
+use Rattle.pm_world.specs.declared.step.Answer.{Answer}
+use Rattle.pm_world.specs.declared.step.Answer.TheVariants as answer
+
+-- ---- what an answer tells
+
+-- the frame of which an answer with these parts tells
+abbrev pub told_frame : (port conn number : ℕ) → List ℕ → Stamped
+told_frame port conn number bytes = record {
+  bytes = bytes;
+  stamp = record { port = port; conn = conn; number = number; shown = nothing_shown };
+}
+
+-- all that answers tell of a frame
+abbrev pub told_of : Stamped → Stamped
+told_of f = told_frame f.stamp.port f.stamp.conn f.stamp.number f.bytes
+
+-- the frame that entered the link of the device at port n, if one did
+abbrev pub entered_by : ℕ → Answer → List Stamped
+entered_by n (answer.Sent port conn number bytes) =
+    if port == n then told_frame port conn number bytes ∷ [] else []
+entered_by n _ = []
+
+-- whether a frame left that link
+abbrev pub is_offered : ℕ → Answer → Bool
+is_offered n (answer.Offered port dropped) = port == n
+is_offered n _ = false
+
+-- the connection that entered the presence link of that device, if one did
+abbrev pub came_by : ℕ → Answer → List ℕ
+came_by n (answer.Came port conn) = if port == n then conn ∷ [] else []
+came_by n _ = []
+
+-- whether a connection left that link
+abbrev pub is_recorded : ℕ → Answer → Bool
+is_recorded n (answer.Presence port) = port == n
+is_recorded n _ = false
+
+-- the port from which a frame entered the link to the host, if one did
+abbrev pub rose_by : Answer → List ℕ
+rose_by (answer.Up port) = port ∷ []
+rose_by _ = []
+
+-- the frame that left that link, if one did
+abbrev pub took_by : Answer → List Stamped
+took_by (answer.Took port conn number bytes report) = told_frame port conn number bytes ∷ []
+took_by _ = []
+
+-- how many of these answers say so
+abbrev pub times : (Answer → Bool) → List Answer → ℕ
+times says answers = length (filter says answers)
+
+-- ---- what went over the links
+
+-- the connections on a device's presence link
+abbrev pub on_presence : Option Place → List ℕ
+on_presence None = []
+on_presence (Some place) = place.presence.conns
+
+-- the frames of port n
+abbrev pub from_port : ℕ → List Stamped → List Stamped
+from_port n frames = filter (λ f. f.stamp.port == n) frames
+
+-- What went over the links at port n, each with room for so many items, while what its port held became what it holds.
+-- What a link held before, and then what entered it, is what left it, and then what it holds.
+pub record PortPasses (capacity n : ℕ) (was : Option Place) (held_was : List Stamped)
+    (answers : List Answer) (now : Option Place) (held_now : List Stamped) : Type 0 where
+  -- what left the device's link, and then the place of the port on the way up
+  pub passed : List Stamped
+  pub risen : List Stamped
+  -- what left the presence link
+  pub recorded : List ℕ
+  pub link : IsLink capacity (on_link was ++ flat_map (entered_by n) answers) passed (on_link now)
+  pub passed_is : length passed ≡ times (is_offered n) answers
+  -- that place is a link with room for one frame, and what left the device's link entered it
+  pub hold : IsLink 1 (held_was ++ passed) risen held_now
+  pub presence :
+      IsLink capacity (on_presence was ++ flat_map (came_by n) answers) recorded (on_presence now)
+  pub recorded_is : length recorded ≡ times (is_recorded n) answers
+
+-- What went over the link to the host.
+pub record HostPasses (capacity : ℕ) (was : List Stamped) (answers : List Answer)
+    (now : List Stamped) : Type 0 where
+  pub rose : List Stamped
+  pub took : List Stamped
+  pub link : IsLink capacity (was ++ rose) took now
+  pub rose_is : map (λ f. f.stamp.port) rose ≡ flat_map rose_by answers
+  pub took_is : map told_of took ≡ flat_map took_by answers
+
+-- What went over all links of a world.
+pub record LinksPass (capacity : ℕ) (old : Places) (answers : List Answer) (new : Places) : Type 0 where
+  pub ports : (n : ℕ) → PortPasses capacity n
+      (slice_get old.devices n) (held (slice_get old.ports n)) answers
+      (slice_get new.devices n) (held (slice_get new.ports n))
+  pub host : HostPasses capacity old.upward.frames answers new.upward.frames
+  -- what entered the link to the host from port n is what left the place of that port, marked with it, in the same order
+  pub rises : (n : ℕ) → from_port n host.rose ≡ map (rising n) (ports n).risen
+
+-- ---- the law
+
+-- the links of a device have room for so many items, and hold no more
+pub record HasRoom (capacity : ℕ) (place : Place) : Type 0 where
+  pub up : place.up.capacity ≡ capacity
+  pub up_within : length place.up.frames ≤ capacity
+  pub presence : place.presence.capacity ≡ capacity
+  pub presence_within : length place.presence.conns ≤ capacity
+
+-- so have all links of a world
+pub record HaveRoom (capacity : ℕ) (now : Places) : Type 0 where
+  pub devices :
+      (n : ℕ) → MatchOption (slice_get now.devices n) (Prim.Unit {0}) (HasRoom capacity)
+  pub upward : now.upward.capacity ≡ capacity
+  pub upward_within : length now.upward.frames ≤ capacity
+
+-- The links of a world go on as links through steps with these answers.
+pub record KeepsLinks (old : Places) (answers : List Answer) (new : Places) : Type 0 where
+  -- from any world whose links have room for one number of items
+  pub goes_on : (capacity : ℕ) → HaveRoom capacity old
+      → LinksPass capacity old answers new × HaveRoom capacity new
+  -- so from each world that a run from a new one leads to, with the capacity of its configuration
+  pub reached : AfterEveryRun old (λ config units before told.
+      LinksPass config.capacity old answers new)
