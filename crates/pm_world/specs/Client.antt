@@ -1,5 +1,6 @@
 -- The client bytes of a run (AHCI 1.3.1, data transfer; Serial ATA 3.x, first party DMA).
-use Rattle.std.specs.Prelude.{ℕ, ◌+◌, ◌-◌, ◌==◌, ◌&&◌, nat_le, nat_lt, if◌then◌else◌, List, [], ◌∷◌, length, slice_index, Option, Some, None}
+use Rattle.std.specs.Prelude.{ℕ, ◌+◌, ◌-◌, ◌==◌, ◌&&◌, nat_le, nat_lt, if◌then◌else◌, List, [], ◌∷◌}
+use Rattle.std.specs.Prelude.{length, slice_index, Option, Some, None}
 use Rattle.host_memory.specs.declared.table.Prd.{Prd}
 use Rattle.host_memory.specs.Place.{place}
 use Rattle.pm_world.specs.Events.{Command, Event, Carried, History, match_some}
@@ -28,18 +29,25 @@ pub record Filling : Type 0 where
 
 abbrev pub filling : History → Option Filling
 filling past = match_some (last_setup past) None (λ g.
-    if is_set_up g.slot past then match_some (issued g.slot past) None (λ c. Some (record { slot = g.slot; command = c; from = next_number past }))
+    if is_set_up g.slot past
+    then match_some (issued g.slot past) None
+    (λ c. Some (record { slot = g.slot; command = c; from = next_number past }))
     else None)
 
 -- the bytes at the places of the transfer's bytes from a number on, and each other byte as it was
 abbrev pub written : List Prd → ℕ → List ℕ → (ℕ → ℕ) → ℕ → ℕ
 written table from [] old k = old k
-written table from (b ∷ bytes) old k = (if k == place table from then b else written table (from + 1) bytes old k)
+written table from (b ∷ bytes) old k =
+    (if k == place table from then b else written table (from + 1) bytes old k)
 
--- the byte of client memory at an address: each Put and each byte that Data fills, in order, and nothing else
+-- the byte of client memory at an address: each Put and each byte that Data fills, in order, and
+-- nothing else
 abbrev pub client : (ℕ → ℕ) → Touches → ℕ → ℕ
 client opening [] k = opening k
-client opening (Puts at bytes ∷ past) k = (if nat_le at k && nat_lt k (at + length bytes) then slice_index bytes (k - at) else client opening past k)
+client opening (Puts at bytes ∷ past) k =
+    (if nat_le at k && nat_lt k (at + length bytes) then slice_index bytes (k - at)
+    else client opening past k)
 client opening (By dev (Carried bytes) ∷ past) k =
-    match_some (filling (own dev past)) (client opening past k) (λ f. written f.command.table f.from bytes (client opening past) k)
+    match_some (filling (own dev past)) (client opening past k)
+    (λ f. written f.command.table f.from bytes (client opening past) k)
 client opening (By dev e ∷ past) k = client opening past k

@@ -1,6 +1,8 @@
--- How many FISes were sent and taken on each connection, and in which order they are told. No standard speaks of these
--- counts.
-use Rattle.std.specs.Prelude.{ℕ, ◌+◌, ◌≡◌, ◌<◌, ◌≤◌, ◌==◌, ◌&&◌, min, Bool, false, if◌then◌else◌, List, [], ◌∷◌, ◌++◌, length, find, HoldsAt, Option, Some, None, AllPairs, ◌⊎◌}
+-- How many FISes were sent and taken on each connection, and in which order they are told. No
+-- standard speaks of these counts.
+use Rattle.std.specs.Prelude.{ℕ, ◌+◌, ◌≡◌, ◌<◌, ◌≤◌, ◌==◌, ◌&&◌, min, Bool, false, if◌then◌else◌}
+use Rattle.std.specs.Prelude.{List, [], ◌∷◌, ◌++◌, length, find, HoldsAt, Option, Some, None}
+use Rattle.std.specs.Prelude.{AllPairs, ◌⊎◌}
 use Rattle.std.specs.List.{list_any, AllWithin}
 use Rattle.std.specs.Option.{option_map, option_or}
 use Rattle.disk_model.specs.declared.unit.Unit.{Unit}
@@ -28,7 +30,8 @@ is_of n c row = row.port == n && row.conn == c
 abbrev pub row_of : ℕ → ℕ → List ConnCount → Option ConnCount
 row_of n c rows = find (is_of n c) rows
 
--- the first row stands before the second: lower ports first, and of one port earlier connections first
+-- the first row stands before the second: lower ports first, and of one port earlier connections
+-- first
 abbrev pub Precedes : ConnCount → ConnCount → Type 0
 Precedes row later = (row.port < later.port) ⊎ ((row.port ≡ later.port) × (row.conn < later.conn))
 
@@ -51,27 +54,36 @@ pub record IsGapFor (rows : List ConnCount) (port conn i : ℕ) : Type 0 where
   pub after : AllWithin (λ row. Precedes (first_row port conn) row) rows i (length rows)
 
 abbrev pub sent_more : ConnCount → ConnCount
-sent_more row = record { port = row.port; conn = row.conn; sent = capped (row.sent + 1); taken = row.taken }
+sent_more row =
+    record { port = row.port; conn = row.conn; sent = capped (row.sent + 1); taken = row.taken }
 
 abbrev pub taken_more : ConnCount → ConnCount
-taken_more row = record { port = row.port; conn = row.conn; sent = row.sent; taken = capped (row.taken + 1) }
+taken_more row =
+    record { port = row.port; conn = row.conn; sent = row.sent; taken = capped (row.taken + 1) }
 
 -- the row of connection c of port n after an answer: what has no row is not counted
 abbrev pub noted : ℕ → ℕ → Answer → Option ConnCount → Option ConnCount
-noted n c (answer.Came port conn) row = if port == n && conn == c then option_or row (Some (first_row n c)) else row
-noted n c (answer.Sent port conn number bytes) row = if port == n && conn == c then option_map sent_more row else row
-noted n c (answer.Took port conn number bytes report) row = if port == n && conn == c then option_map taken_more row else row
+noted n c (answer.Came port conn) row =
+    if port == n && conn == c then option_or row (Some (first_row n c)) else row
+noted n c (answer.Sent port conn number bytes) row =
+    if port == n && conn == c then option_map sent_more row else row
+noted n c (answer.Took port conn number bytes report) row =
+    if port == n && conn == c then option_map taken_more row else row
 noted n c _ row = row
 
 -- the connection has a row, a first one where it had none; every other row is as it was
 abbrev pub HasRowFor : List ConnCount → (port conn : ℕ) → List ConnCount → Type 0
 HasRowFor old port conn new =
-    (n c : ℕ) → row_of n c new ≡ (if port == n && conn == c then option_or (row_of n c old) (Some (first_row n c)) else row_of n c old)
+    (n c : ℕ) → row_of n c new
+    ≡ (if port == n && conn == c then option_or (row_of n c old) (Some (first_row n c))
+    else row_of n c old)
 
 -- the connection's row is changed so, where it has one; every other row is as it was
-abbrev pub ChangesRow : (ConnCount → ConnCount) → List ConnCount → (port conn : ℕ) → List ConnCount → Type 0
+abbrev pub ChangesRow : (ConnCount → ConnCount) → List ConnCount → (port conn : ℕ) → List ConnCount
+    → Type 0
 ChangesRow change old port conn new =
-    (n c : ℕ) → row_of n c new ≡ (if port == n && conn == c then option_map change (row_of n c old) else row_of n c old)
+    (n c : ℕ) → row_of n c new
+    ≡ (if port == n && conn == c then option_map change (row_of n c old) else row_of n c old)
 
 -- every row is what the answer makes of it
 abbrev pub CountsAnswer : List ConnCount → Answer → List ConnCount → Type 0
@@ -90,11 +102,17 @@ says_came n c _ = false
 abbrev pub has_come : ℕ → ℕ → List Answer → Bool
 has_come n c answers = list_any (says_came n c) answers
 
--- The rows tell what the answers say: a row for each connection that came and for no other, with the numbers of FISes that were sent and taken on it.
+-- The rows tell what the answers say: a row for each connection that came and for no other, with
+-- the numbers of FISes that were sent and taken on it.
 pub record Tell (rows : List ConnCount) (answers : List Answer) : Type 0 where
   pub row_is : (n c : ℕ) → row_of n c rows ≡
       (if has_come n c answers
-      then Some (record { port = n; conn = c; sent = capped (length (sent n c answers)); taken = capped (length (taken n c answers)) })
+      then Some (record {
+        port = n;
+        conn = c;
+        sent = capped (length (sent n c answers));
+        taken = capped (length (taken n c answers));
+      })
       else None)
 
 -- these answers are those of a run from a new world
@@ -108,4 +126,5 @@ pub record AreOfARun (answers : List Answer) : Type 0 where
 -- rows that told what the answers of a run say tell it with one more answer
 abbrev pub GoesOnTelling : List ConnCount → Answer → List ConnCount → Type 0
 GoesOnTelling old answer new =
-    (answers : List Answer) → AreOfARun (answers ++ answer ∷ []) → Tell old answers → Tell new (answers ++ answer ∷ [])
+    (answers : List Answer) → AreOfARun (answers ++ answer ∷ []) → Tell old answers
+    → Tell new (answers ++ answer ∷ [])

@@ -1,12 +1,16 @@
--- What the host's part of a world does, and what its reads come to over a whole run (AHCI 1.3.1, command list and data
--- transfer; Serial ATA 3.x, native command queuing).
-use Rattle.std.specs.Prelude.{ℕ, ◌+◌, ◌-◌, ◌*◌, ◌%◌, ◌≡◌, ◌<◌, ◌==◌, ◌&&◌, ◌||◌, nat_lt, Bool, true, false, if◌then◌else◌, List, [], ◌∷◌, ◌++◌, length, slice_index, Option, Some, None, AllPairs}
+-- What the host's part of a world does, and what its reads come to over a whole run (AHCI 1.3.1,
+-- command list and data transfer; Serial ATA 3.x, native command queuing).
+use Rattle.std.specs.Prelude.{ℕ, ◌+◌, ◌-◌, ◌*◌, ◌%◌, ◌≡◌, ◌<◌, ◌==◌, ◌&&◌, ◌||◌, nat_lt, Bool, true}
+use Rattle.std.specs.Prelude.{false, if◌then◌else◌, List, [], ◌∷◌, ◌++◌, length, slice_index}
+use Rattle.std.specs.Prelude.{Option, Some, None, AllPairs}
 use Rattle.std.specs.List.{list_any}
 use Rattle.fis_view.specs.Frames.{IsFrame}
 use Rattle.host_memory.specs.declared.table.Prd.{Prd}
 use Rattle.host_memory.specs.Memory.{client_start, overwritten}
 use Rattle.host_memory.specs.Place.{place, LiesInClient}
-use Rattle.pm_world.specs.Events.{Command, QueuedRead, Event, Issued, SetUp, Carried, Named, Told, SetupFis, DataFis, BitsFis, OtherFis, told, History, has_bit, match_some}
+use Rattle.pm_world.specs.Events.{Command, QueuedRead, Event, Issued, SetUp, Carried, Named, Told}
+use Rattle.pm_world.specs.Events.{SetupFis, DataFis, BitsFis, OtherFis, told, History, has_bit}
+use Rattle.pm_world.specs.Events.{match_some}
 use Rattle.pm_world.specs.History.{issued, filled, completes, fits_setup, fits_data}
 use Rattle.pm_world.specs.Client.{Touches, By, Puts, own, client}
 use Rattle.pm_world.specs.Reads.{Read}
@@ -45,21 +49,27 @@ prds_of slot.Free = []
 prds_of (slot.Issued read) = read.prds
 prds_of (slot.Ended read) = read.prds
 
--- whether one of these bytes is in use: of the driver's buffer, 100000h to 1001FFh, or of a request that is not polled
+-- whether one of these bytes is in use: of the driver's buffer, 100000h to 1001FFh, or of a request
+-- that is not polled
 abbrev pub in_use : Slot → ℕ → ℕ → Bool
-in_use now at len = nat_lt 0 len && (share_bytes at len client_start 512 || list_any (λ prd. share_bytes at len prd.address prd.bytes) (prds_of now))
+in_use now at len =
+    nat_lt 0 len && (share_bytes at len client_start 512
+    || list_any (λ prd. share_bytes at len prd.address prd.bytes) (prds_of now))
 
 -- what a FIS of device 0, or of another, does to a slot and to the client bytes
 abbrev pub Acts : Slot → Bool → List ℕ → TakeReport → List ℕ → Slot → List ℕ → Type 0
-Acts (slot.Issued read) true frame report bytes new after = Hears (told frame) (pm_port_of frame) read bytes report new after
-Acts now is_own frame report bytes new after = (report ≡ nothing_done (pm_port_of frame)) × (new ≡ now) × (after ≡ bytes)
+Acts (slot.Issued read) true frame report bytes new after =
+    Hears (told frame) (pm_port_of frame) read bytes report new after
+Acts now is_own frame report bytes new after =
+    (report ≡ nothing_done (pm_port_of frame)) × (new ≡ now) × (after ≡ bytes)
 
 -- a FIS is taken
 pub record Takes (old : Host) (frame : List ℕ) (report : TakeReport) (new : Host) : Type 0 where
   pub framed : IsFrame frame
   pub given : new.given ≡ old.given
   pub structure : new.memory.structure ≡ old.memory.structure
-  pub acts : Acts old.slot (pm_port_of frame == 0) frame report old.memory.client new.slot new.memory.client
+  pub acts : Acts old.slot
+      (pm_port_of frame == 0) frame report old.memory.client new.slot new.memory.client
 
 -- why bytes are not put: not all of them lie in the client area, or one is in use
 abbrev pub put_refusal : Host → ℕ → ℕ → Option StepError
@@ -70,7 +80,8 @@ put_refusal host at len =
 
 -- what a poll gives, and what it leaves
 abbrev pub completion_of : Slot → Option Completion
-completion_of (slot.Ended read) = Some (record { ticket = record { 0 = read.ticket }; slot = 0; outcome = Done })
+completion_of (slot.Ended read) =
+    Some (record { ticket = record { 0 = read.ticket }; slot = 0; outcome = Done })
 completion_of now = None
 
 abbrev pub slot_after_poll : Slot → Slot
@@ -78,13 +89,16 @@ slot_after_poll (slot.Ended read) = slot.Free
 slot_after_poll now = now
 
 abbrev pub after_poll : Host → Host
-after_poll host = record { memory = host.memory; given = host.given; slot = slot_after_poll host.slot }
+after_poll host =
+    record { memory = host.memory; given = host.given; slot = slot_after_poll host.slot }
 
 -- bytes are put
 pub record PutsBytes (old : Host) (at : ℕ) (bytes : List ℕ) (new : Host) : Type 0 where
   pub inside : LiesInClient (length old.memory.client) at (length bytes)
   pub unused : in_use old.slot at (length bytes) ≡ false
-  pub new_is : new ≡ record old { memory = record old.memory { client = overwritten old.memory.client (at - client_start) bytes } }
+  pub new_is : new ≡ record old {
+    memory = record old.memory { client = overwritten old.memory.client (at - client_start) bytes };
+  }
 
 -- an ended read is polled
 pub record Polls (old new : Host) : Type 0 where
@@ -93,7 +107,8 @@ pub record Polls (old new : Host) : Type 0 where
   pub new_is : new ≡ record old { slot = slot.Free }
 
 abbrev pub Does : Host → Deed → Host → Type 0
-Does old (Submitted request ticket) new = (submit_refusal old true request ≡ None) × TakesRequest old request ticket new
+Does old (Submitted request ticket) new =
+    (submit_refusal old true request ≡ None) × TakesRequest old request ticket new
 Does old Polled new = Polls old new
 Does old (Put at bytes) new = PutsBytes old at bytes new
 Does old (Took frame report) new = Takes old frame report new
@@ -107,12 +122,15 @@ DoesAll old (deed ∷ deeds) new = (mid : Host) × Does old deed mid × DoesAll 
 
 -- the command of a request
 abbrev pub command_of : Request → Command
-command_of request = record { kind = QueuedRead; len = request.sectors * 512; table = request.prds.items }
+command_of request =
+    record { kind = QueuedRead; len = request.sectors * 512; table = request.prds.items }
 
 -- the event that a device's FIS is after a history, if it fits
 abbrev pub heard : History → Told → Option Event
-heard past (SetupFis tag offset count to_host) = if fits_setup past tag offset count to_host then Some (SetUp tag offset count) else None
-heard past (DataFis payload) = if fits_data past (length payload) then Some (Carried payload) else None
+heard past (SetupFis tag offset count to_host) =
+    if fits_setup past tag offset count to_host then Some (SetUp tag offset count) else None
+heard past (DataFis payload) =
+    if fits_data past (length payload) then Some (Carried payload) else None
 heard past (BitsFis status sactive) = if has_bit status 0 then None else Some (Named sactive)
 heard past OtherFis = None
 
@@ -121,7 +139,9 @@ abbrev pub touched : Touches → Deed → Touches
 touched past (Submitted request ticket) = By 0 (Issued 0 (command_of request)) ∷ past
 touched past Polled = past
 touched past (Put at bytes) = Puts at bytes ∷ past
-touched past (Took frame report) = match_some (heard (own (pm_port_of frame) past) (told frame)) past (λ e. By (pm_port_of frame) e ∷ past)
+touched past (Took frame report) =
+    match_some (heard (own (pm_port_of frame) past) (told frame)) past
+    (λ e. By (pm_port_of frame) e ∷ past)
 
 -- the touches after deeds, the latest first
 abbrev pub touches : Touches → List Deed → Touches
@@ -142,7 +162,8 @@ opening_of bytes at = slice_index bytes (at - client_start)
 abbrev pub completes_now : Touches → ℕ → List ℕ → Bool
 completes_now past s frame =
     let before = own (pm_port_of frame) past in
-    match_some (issued s before) false (λ c. match_some (heard before (told frame)) false (λ e. completes s e before c))
+    match_some (issued s before) false
+    (λ c. match_some (heard before (told frame)) false (λ e. completes s e before c))
 
 -- the deeds have this Took after those before it
 pub record IsTook (deeds before : List Deed) (frame : List ℕ) (report : TakeReport) : Type 0 where
@@ -155,7 +176,8 @@ issues dev s (Submitted request ticket) = 0 == dev && 0 == s
 issues dev s _ = false
 
 -- the deeds have two Took with these reports, and these deeds between them
-pub record AreTooks (deeds : List Deed) (first : TakeReport) (between : List Deed) (second : TakeReport) : Type 0 where
+pub record AreTooks (deeds : List Deed) (first : TakeReport) (between : List Deed)
+    (second : TakeReport) : Type 0 where
   pub before : List Deed
   pub frame : List ℕ
   pub later : List ℕ
@@ -164,20 +186,30 @@ pub record AreTooks (deeds : List Deed) (first : TakeReport) (between : List Dee
 
 -- What holds of the reads and of the client bytes over all deeds since the world was made.
 pub record Delivers (opened : List ℕ) (deeds : List Deed) (now : Host) : Type 0 where
-  -- each client byte is as it was at the opening, but for what accepted Puts wrote and for what Data filled at its place
-  pub bytes : (k : ℕ) → k < length now.memory.client → slice_index now.memory.client k ≡ client (opening_of opened) (touches [] deeds) (client_start + k)
+  -- each client byte is as it was at the opening, but for what accepted Puts wrote and for what
+  -- Data filled at its place
+  pub bytes : (k : ℕ) → k < length now.memory.client
+      → slice_index now.memory.client k
+      ≡ client (opening_of opened) (touches [] deeds) (client_start + k)
   -- a bit of done is set exactly where the FIS completes that slot of its own device
-  pub done : (before : List Deed) (frame : List ℕ) (report : TakeReport) → IsTook deeds before frame report
+  pub done : (before : List Deed) (frame : List ℕ) (report : TakeReport)
+      → IsTook deeds before frame report
       → (s : ℕ) → s < 32 → has_bit report.done s ≡ completes_now (touches [] before) s frame
-  pub by_device : (before : List Deed) (frame : List ℕ) (report : TakeReport) → IsTook deeds before frame report → report.dev ≡ pm_port_of frame
+  pub by_device : (before : List Deed) (frame : List ℕ) (report : TakeReport)
+      → IsTook deeds before frame report → report.dev ≡ pm_port_of frame
   -- between two reports of one device that both have the bit of a slot, the slot is issued again
-  pub done_once : (first : TakeReport) (between : List Deed) (second : TakeReport) → AreTooks deeds first between second
-      → first.dev ≡ second.dev → (s : ℕ) → s < 32 → has_bit first.done s ≡ true → has_bit second.done s ≡ true
+  pub done_once : (first : TakeReport) (between : List Deed) (second : TakeReport)
+      → AreTooks deeds first between second
+      → first.dev ≡ second.dev → (s : ℕ) → s < 32 → has_bit first.done s ≡ true
+      → has_bit second.done s ≡ true
       → list_any (issues first.dev s) between ≡ true
   -- at that step every byte of the read is filled, and stands at its place in client memory
-  pub in_place : (before : List Deed) (frame : List ℕ) (report : TakeReport) → IsTook deeds before frame report → (s : ℕ) (c : Command) →
-      issued s (own (pm_port_of frame) (touches [] before)) ≡ Some c → completes_now (touches [] before) s frame ≡ true → (i : ℕ) → i < c.len →
+  pub in_place : (before : List Deed) (frame : List ℕ) (report : TakeReport)
+      → IsTook deeds before frame report → (s : ℕ) (c : Command) →
+      issued s (own (pm_port_of frame) (touches [] before)) ≡ Some c
+      → completes_now (touches [] before) s frame ≡ true → (i : ℕ) → i < c.len →
       (b : ℕ) × (filled s (own (pm_port_of frame) (touches [] before)) i ≡ Some b)
-      × (client (opening_of opened) (touches [] (before ++ Took frame report ∷ [])) (place c.table i) ≡ b)
+      × (client (opening_of opened) (touches [] (before ++ Took frame report ∷ []))
+      (place c.table i) ≡ b)
   -- each ticket is given once
   pub tickets_once : AllPairs (λ earlier later. earlier < later) (tickets deeds)

@@ -1,6 +1,7 @@
--- What happens to a slot of the host port, as far as its bytes and its completion turn on it (Serial ATA 3.x, DMA Setup,
--- Data and Set Device Bits FIS; native command queuing).
-use Rattle.std.specs.Prelude.{ℕ, ◌+◌, ◌-◌, ◌%◌, ◌==◌, ◌&&◌, nat_le, nat_lt, Bool, if◌then◌else◌, List, length, drop, slice_get, Option, Some, None, Result, Ok}
+-- What happens to a slot of the host port, as far as its bytes and its completion turn on it
+-- (Serial ATA 3.x, DMA Setup, Data and Set Device Bits FIS; native command queuing).
+use Rattle.std.specs.Prelude.{ℕ, ◌+◌, ◌-◌, ◌%◌, ◌==◌, ◌&&◌, nat_le, nat_lt, Bool, if◌then◌else◌}
+use Rattle.std.specs.Prelude.{List, length, drop, slice_get, Option, Some, None, Result, Ok}
 use Rattle.std.specs.Int.{bit_at}
 use Rattle.fis_view.specs.Table as table
 use Rattle.fis_view.specs.Table.{field}
@@ -14,7 +15,8 @@ use Rattle.host_memory.specs.declared.table.Prd.{Prd}
 pub data Kind : Type 0 where
   QueuedRead : Kind
 
--- what a slot's header and table say: the kind, the length of the transfer in bytes, and where its bytes lie
+-- what a slot's header and table say: the kind, the length of the transfer in bytes, and where its
+-- bytes lie
 pub record Command : Type 0 where
   pub kind : Kind
   pub len : ℕ
@@ -39,9 +41,12 @@ pub data Told : Type 0 where
   OtherFis : Told
 
 abbrev pub told_by : Result Fis FisFault → Told
-told_by (Ok (fis.DmaSetup f)) = SetupFis (field table.Setup table.BufferId f % 32) (field table.Setup table.Offset f) (field table.Setup table.Count f) (field table.Setup table.D f == 1)
+told_by (Ok (fis.DmaSetup f)) =
+    SetupFis (field table.Setup table.BufferId f % 32) (field table.Setup table.Offset f)
+    (field table.Setup table.Count f) (field table.Setup table.D f == 1)
 told_by (Ok (fis.Payload f)) = DataFis (drop 4 f)
-told_by (Ok (fis.SetBits f)) = BitsFis (field table.Bits table.Status f) (field table.Bits table.SActive f)
+told_by (Ok (fis.SetBits f)) =
+    BitsFis (field table.Bits table.Status f) (field table.Bits table.SActive f)
 told_by _ = OtherFis
 
 -- what a frame says: the tag is in bits 4:0 of the buffer identifier
@@ -74,4 +79,6 @@ none_filled k = None
 
 -- these bytes too, from this number on
 abbrev pub filled_from : ℕ → List ℕ → (ℕ → Option ℕ) → ℕ → Option ℕ
-filled_from from bytes filled k = (if nat_le from k && nat_lt k (from + length bytes) then slice_get bytes (k - from) else filled k)
+filled_from from bytes filled k =
+    (if nat_le from k && nat_lt k (from + length bytes) then slice_get bytes (k - from)
+    else filled k)

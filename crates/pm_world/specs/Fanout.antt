@@ -1,5 +1,7 @@
--- The fan-out ports of the world's multiplier, as its other parts see them (Serial ATA 3.x, port multiplier).
-use Rattle.std.specs.Prelude.{ℕ, ◌≡◌, List, map, Option, Some, None, slice_get, slice_set, slice_index_or}
+-- The fan-out ports of the world's multiplier, as its other parts see them (Serial ATA 3.x, port
+-- multiplier).
+use Rattle.std.specs.Prelude.{ℕ, ◌≡◌, List, map, Option, Some, None, slice_get, slice_set}
+use Rattle.std.specs.Prelude.{slice_index_or}
 use Rattle.fis_view.specs.Frames.{Stamped}
 use Rattle.disk_model.specs.declared.unit.Unit.{Unit}
 use Rattle.pm_ports.specs.Port.{PortState, empty_port, with_up}

@@ -1,6 +1,9 @@
--- The host's part of a world: one read of device 0 in slot 0, and the driver's refusals (AHCI 1.3.1, command list and
--- command table, data transfer; Serial ATA 3.x, first party DMA and native command queuing).
-use Rattle.std.specs.Prelude.{ℕ, ◌+◌, ◌*◌, ◌/◌, ◌%◌, ◌≡◌, ◌≤◌, ◌==◌, ◌&&◌, ◌||◌, not, nat_lt, nat_le, Bool, true, false, if◌then◌else◌, List, ◌++◌, length, take, drop, replicate, Option, Some, None, All, MatchBool}
+-- The host's part of a world: one read of device 0 in slot 0, and the driver's refusals (AHCI
+-- 1.3.1, command list and command table, data transfer; Serial ATA 3.x, first party DMA and native
+-- command queuing).
+use Rattle.std.specs.Prelude.{ℕ, ◌+◌, ◌*◌, ◌/◌, ◌%◌, ◌≡◌, ◌≤◌, ◌==◌, ◌&&◌, ◌||◌, not, nat_lt}
+use Rattle.std.specs.Prelude.{nat_le, Bool, true, false, if◌then◌else◌, List, ◌++◌, length, take}
+use Rattle.std.specs.Prelude.{drop, replicate, Option, Some, None, All, MatchBool}
 use Rattle.std.specs.List.{list_any, list_all}
 use Rattle.host_memory.specs.declared.table.Prd.{Prd}
 use Rattle.host_memory.specs.Memory.{Memory, client_start, overwritten}
@@ -33,22 +36,28 @@ pub record Host : Type 0 where
 abbrev pub end_of : Memory → ℕ
 end_of memory = client_start + length memory.client
 
--- a PRD that no request may have: odd, empty, above 4 MiB, or not within 100200h to the end of memory
+-- a PRD that no request may have: odd, empty, above 4 MiB, or not within 100200h to the end of
+-- memory
 abbrev pub is_bad_prd : ℕ → Prd → Bool
 is_bad_prd end prd =
-    prd.address % 2 == 1 || prd.bytes % 2 == 1 || prd.bytes == 0 || nat_lt 4194304 prd.bytes || nat_lt prd.address 1049088 || nat_lt end (prd.address + prd.bytes)
+    prd.address % 2 == 1 || prd.bytes % 2 == 1 || prd.bytes == 0 || nat_lt 4194304 prd.bytes
+    || nat_lt prd.address 1049088 || nat_lt end (prd.address + prd.bytes)
 
 abbrev pub is_free : Slot → Bool
 is_free Free = true
 is_free _ = false
 
 abbrev pub is_bad_count : Request → Bool
-is_bad_count request = request.sectors == 0 || nat_lt 256 request.sectors || nat_le 281474976710656 request.lba
+is_bad_count request =
+    request.sectors == 0 || nat_lt 256 request.sectors || nat_le 281474976710656 request.lba
 
 abbrev pub is_mismatch : Request → Bool
-is_mismatch request = nat_lt 248 (length request.prds.items) || not (total_of request.prds.items == request.sectors * 512)
+is_mismatch request =
+    nat_lt 248 (length request.prds.items)
+    || not (total_of request.prds.items == request.sectors * 512)
 
--- Why a request is refused: the first of these that applies. The device is there where it is device 0 and plugged in.
+-- Why a request is refused: the first of these that applies. The device is there where it is device
+-- 0 and plugged in.
 abbrev pub submit_refusal : Host → (is_there : Bool) → Request → Option SubmitError
 submit_refusal host is_there request =
     if not is_there then Some refusal.NoDevice
@@ -72,9 +81,13 @@ new_read ticket request = record {
 
 -- a memory with the entries' bytes at the table's address; every other byte is as it was
 abbrev pub with_table : Memory → List Prd → Memory
-with_table memory prds = record { structure = overwritten memory.structure table_at (table_bytes prds); client = memory.client }
+with_table memory prds = record {
+  structure = overwritten memory.structure table_at (table_bytes prds);
+  client = memory.client;
+}
 
--- The request is taken: its read stands in the slot under the next ticket, and its table in the structure area.
+-- The request is taken: its read stands in the slot under the next ticket, and its table in the
+-- structure area.
 pub record Submits (old : Host) (request : Request) (new : Host) : Type 0 where
   pub given : new.given ≡ old.given + 1
   pub slot : new.slot ≡ Issued (new_read (old.given + 1) request)
@@ -99,7 +112,8 @@ is_whole read = list_all (λ came. came) read.over
 -- whether a DMA Setup fits
 abbrev pub takes_setup : Read → (tag offset count : ℕ) → (to_host : Bool) → Bool
 takes_setup read tag offset count to_host =
-    tag == 0 && to_host && offset % 4 == 0 && count % 4 == 0 && not (count == 0) && nat_le (offset + count) read.len
+    tag == 0 && to_host && offset % 4 == 0 && count % 4 == 0 && not (count == 0)
+    && nat_le (offset + count) read.len
     && have_not_come read.over (offset / 4) (count / 4)
 
 -- whether so many bytes of Data fit
@@ -116,7 +130,8 @@ abbrev pub nothing_done : ℕ → TakeReport
 nothing_done dev = record { dev = dev; wrote = None; done = 0 }
 
 abbrev pub with_setup : Read → ℕ → ℕ → Read
-with_setup read offset count = record read { transfer = Some (record { offset = offset; count = count; came = 0 }) }
+with_setup read offset count =
+    record read { transfer = Some (record { offset = offset; count = count; came = 0 }) }
 
 -- the read after a DMA Setup that fits, or does not
 abbrev pub after_setup : Read → (tag offset count : ℕ) → (to_host : Bool) → Read
@@ -130,21 +145,31 @@ with_data read t bytes = record read {
   transfer = Some (record { offset = t.offset; count = t.count; came = t.came + bytes });
 }
 
--- what Data does to a read and to the client bytes, and from which byte of the transfer on it is written, if it is
-abbrev pub Carries : Option Transfer → Read → (payload client : List ℕ) → Option ℕ → Read → List ℕ → Type 0
+-- what Data does to a read and to the client bytes, and from which byte of the transfer on it is
+-- written, if it is
+abbrev pub Carries : Option Transfer → Read → (payload client : List ℕ) → Option ℕ → Read → List ℕ
+    → Type 0
 Carries None read payload client from new after = (from ≡ None) × (new ≡ read) × (after ≡ client)
-Carries (Some t) read payload client from new after = MatchBool (nat_le (t.came + length payload) t.count)
-    ((from ≡ Some (t.offset + t.came)) × (new ≡ with_data read t (length payload)) × Scatters read.prds (t.offset + t.came) payload client after)
+Carries (Some t) read payload client from new after =
+    MatchBool (nat_le (t.came + length payload) t.count)
+    ((from ≡ Some (t.offset + t.came)) × (new ≡ with_data read t (length payload))
+    × Scatters read.prds (t.offset + t.came) payload client after)
     ((from ≡ None) × (new ≡ read) × (after ≡ client))
 
 -- Data came for this transfer: its bytes are at their places, and nothing else changed.
-pub record Comes (read : Read) (t : Transfer) (payload client : List ℕ) (dev : ℕ) (report : TakeReport) (slot : Slot) (after : List ℕ) : Type 0 where
-  pub reported : report ≡ record { dev = dev; wrote = Some (record { 0 = 0; 1 = t.offset + t.came; 2 = length payload }); done = 0 }
+pub record Comes (read : Read) (t : Transfer) (payload client : List ℕ) (dev : ℕ)
+    (report : TakeReport) (slot : Slot) (after : List ℕ) : Type 0 where
+  pub reported : report ≡ record {
+    dev = dev;
+    wrote = Some (record { 0 = 0; 1 = t.offset + t.came; 2 = length payload });
+    done = 0;
+  }
   pub written : Scatters read.prds (t.offset + t.came) payload client after
   pub slot_is : slot ≡ Issued (with_data read t (length payload))
 
 -- What a FIS does to an issued read and to the client bytes, and what the host reports of it.
-abbrev pub Hears : Told → ℕ → Read → (client : List ℕ) → TakeReport → Slot → (after : List ℕ) → Type 0
+abbrev pub Hears : Told → ℕ → Read → (client : List ℕ) → TakeReport → Slot → (after : List ℕ)
+    → Type 0
 Hears (SetupFis tag offset count to_host) dev read client report slot after =
     (report ≡ nothing_done dev) × (after ≡ client)
     × (slot ≡ Issued (after_setup read tag offset count to_host))
@@ -152,12 +177,17 @@ Hears (DataFis payload) dev read client report slot after = HearsData read.trans
   where
     HearsData : Option Transfer → Type 0
     HearsData None = (report ≡ nothing_done dev) × (after ≡ client) × (slot ≡ Issued read)
-    HearsData (Some t) = MatchBool (nat_le (t.came + length payload) t.count) (Comes read t payload client dev report slot after) ((report ≡ nothing_done dev) × (after ≡ client) × (slot ≡ Issued read))
+    HearsData (Some t) =
+        MatchBool (nat_le (t.came + length payload) t.count)
+        (Comes read t payload client dev report slot after)
+        ((report ≡ nothing_done dev) × (after ≡ client) × (slot ≡ Issued read))
 Hears (BitsFis status sactive) dev read client report slot after =
     (after ≡ client)
-    × (report ≡ (if takes_bits read status sactive then record { dev = dev; wrote = None; done = 1 } else nothing_done dev))
+    × (report ≡ (if takes_bits read status sactive then record { dev = dev; wrote = None; done = 1 }
+    else nothing_done dev))
     × (slot ≡ (if takes_bits read status sactive then Ended read else Issued read))
-Hears OtherFis dev read client report slot after = (report ≡ nothing_done dev) × (after ≡ client) × (slot ≡ Issued read)
+Hears OtherFis dev read client report slot after =
+    (report ≡ nothing_done dev) × (after ≡ client) × (slot ≡ Issued read)
 
 -- ---- what keeps the table of an issued read readable
 

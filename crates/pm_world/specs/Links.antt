@@ -1,6 +1,7 @@
--- What goes over the links of a world: from each device to its port, from each port on to the host's link, and off that link
--- (Serial ATA 3.x, port multiplier: frame transmission, presence of a device on a port). A link of a world and a link between
--- two threads are links by one definition, IsLink of ruled_links.
+-- What goes over the links of a world: from each device to its port, from each port on to the
+-- host's link, and off that link (Serial ATA 3.x, port multiplier: frame transmission, presence of
+-- a device on a port). A link of a world and a link between two threads are links by one
+-- definition, IsLink of ruled_links.
 use Rattle.std.specs.Prelude.{ℕ, ◌≡◌, ◌≤◌, ◌==◌, if◌then◌else◌, Bool, false, List, [], ◌∷◌, ◌++◌}
 use Rattle.std.specs.Prelude.{length, map, filter, Option, Some, None, slice_get, MatchOption}
 use Rattle.std.specs.List.{flat_map}
@@ -71,8 +72,9 @@ on_presence (Some place) = place.presence.conns
 abbrev pub from_port : ℕ → List Stamped → List Stamped
 from_port n frames = filter (λ f. f.stamp.port == n) frames
 
--- What went over the links at port n, each with room for so many items, while what its port held became what it holds.
--- What a link held before, and then what entered it, is what left it, and then what it holds.
+-- What went over the links at port n, each with room for so many items, while what its port held
+-- became what it holds. What a link held before, and then what entered it, is what left it, and
+-- then what it holds.
 pub record PortPasses (capacity n : ℕ) (was : Option Place) (held_was : List Stamped)
     (answers : List Answer) (now : Option Place) (held_now : List Stamped) : Type 0 where
   -- what left the device's link, and then the place of the port on the way up
@@ -98,12 +100,14 @@ pub record HostPasses (capacity : ℕ) (was : List Stamped) (answers : List Answ
   pub took_is : map told_of took ≡ flat_map took_by answers
 
 -- What went over all links of a world.
-pub record LinksPass (capacity : ℕ) (old : Places) (answers : List Answer) (new : Places) : Type 0 where
+pub record LinksPass (capacity : ℕ) (old : Places) (answers : List Answer)
+    (new : Places) : Type 0 where
   pub ports : (n : ℕ) → PortPasses capacity n
       (slice_get old.devices n) (held (slice_get old.ports n)) answers
       (slice_get new.devices n) (held (slice_get new.ports n))
   pub host : HostPasses capacity old.upward.frames answers new.upward.frames
-  -- what entered the link to the host from port n is what left the place of that port, marked with it, in the same order
+  -- what entered the link to the host from port n is what left the place of that port, marked with
+  -- it, in the same order
   pub rises : (n : ℕ) → from_port n host.rose ≡ map (rising n) (ports n).risen
 
 -- ---- the law

@@ -1,6 +1,7 @@
--- Where frames stand in a world, as its callers see it (Serial ATA 3.x, port multiplier: device ports, frame transmission,
--- presence of a device on a port).
-use Rattle.std.specs.Prelude.{ℕ, ◌+◌, ◌≡◌, ◌%◌, ◌==◌, ◌&&◌, nat_le, Bool, false, List, [], ◌∷◌, ◌++◌, length, map, Option, Some, None, slice_set, replicate}
+-- Where frames stand in a world, as its callers see it (Serial ATA 3.x, port multiplier: device
+-- ports, frame transmission, presence of a device on a port).
+use Rattle.std.specs.Prelude.{ℕ, ◌+◌, ◌≡◌, ◌%◌, ◌==◌, ◌&&◌, nat_le, Bool, false, List, [], ◌∷◌}
+use Rattle.std.specs.Prelude.{◌++◌, length, map, Option, Some, None, slice_set, replicate}
 use Rattle.fis_view.specs.Frames.{Stamped, marked}
 use Rattle.fis_view.specs.declared.frame.Stamp.{Stamp}
 use Rattle.pm_ports.specs.Port.{PortState, empty_port}
@@ -27,7 +28,8 @@ abbrev pub FirstLeaves : Queue → Option Stamped → Queue → Type 0
 FirstLeaves old None new = (old.frames ≡ []) × (new ≡ old)
 FirstLeaves old (Some frame) new = (old.frames ≡ frame ∷ new.frames) × (new.capacity ≡ old.capacity)
 
--- a presence link: the connections that came and are not recorded yet, oldest first, and how many it can hold
+-- a presence link: the connections that came and are not recorded yet, oldest first, and how many
+-- it can hold
 pub record Comings : Type 0 where
   pub conns : List ℕ
   pub capacity : ℕ
@@ -43,8 +45,8 @@ abbrev pub FirstIsRead : Comings → Option ℕ → Comings → Type 0
 FirstIsRead old None new = (old.conns ≡ []) × (new ≡ old)
 FirstIsRead old (Some conn) new = (old.conns ≡ conn ∷ new.conns) × (new.capacity ≡ old.capacity)
 
--- The place of a device: the unit, whether it is plugged in, its connection (0 before the first), the
--- number of its next FIS on it, its link to the multiplier, and its presence link.
+-- The place of a device: the unit, whether it is plugged in, its connection (0 before the first),
+-- the number of its next FIS on it, its link to the multiplier, and its presence link.
 pub record Place : Type 0 where
   pub unit : Unit
   pub plugged : Bool
@@ -53,8 +55,8 @@ pub record Place : Type 0 where
   pub up : Queue
   pub presence : Comings
 
--- a world: the place at each fan-out port, the multiplier's fan-out ports, the place that was served last, the link to
--- the host, and the host
+-- a world: the place at each fan-out port, the multiplier's fan-out ports, the place that was
+-- served last, the link to the host, and the host
 pub record Places : Type 0 where
   pub devices : List Place
   pub ports : List PortState
@@ -68,7 +70,8 @@ nothing_shown = replicate 15 0
 
 -- the stamp of what is sent from a place at this port
 abbrev pub stamp_of : ℕ → Place → Stamp
-stamp_of port place = record { port = port; conn = place.conn; number = place.number; shown = nothing_shown }
+stamp_of port place =
+    record { port = port; conn = place.conn; number = place.number; shown = nothing_shown }
 
 -- the frame that is sent with these bytes from a place at this port
 abbrev pub frame_of : ℕ → Place → List ℕ → Stamped
@@ -96,7 +99,12 @@ after_sending port place bytes unit = record {
 abbrev pub rising : ℕ → Stamped → Stamped
 rising port frame = record {
   bytes = marked frame.bytes port;
-  stamp = record { port = port; conn = frame.stamp.conn; number = frame.stamp.number; shown = frame.stamp.shown };
+  stamp = record {
+    port = port;
+    conn = frame.stamp.conn;
+    number = frame.stamp.number;
+    shown = frame.stamp.shown;
+  };
 }
 
 abbrev pub with_device : Places → ℕ → Place → Places
@@ -142,9 +150,11 @@ new_world config units = record {
   host = record { memory = zeroed config.memory; given = 0; slot = Free };
 }
 
--- Whether a world may be so large, with so many units: 1 to 15 ports and a unit for each, links of 1 to
--- 64 frames, and an even number of bytes of memory from 2 MiB to 16 MiB.
+-- Whether a world may be so large, with so many units: 1 to 15 ports and a unit for each, links of
+-- 1 to 64 frames, and an even number of bytes of memory from 2 MiB to 16 MiB.
 abbrev pub is_config : Config → ℕ → Bool
 is_config config units =
-    nat_le 1 config.ports && nat_le config.ports 15 && nat_le 1 config.capacity && nat_le config.capacity 64
-    && nat_le 2097152 config.memory && nat_le config.memory 16777216 && config.memory % 2 == 0 && units == config.ports
+    nat_le 1 config.ports && nat_le config.ports 15 && nat_le 1 config.capacity
+    && nat_le config.capacity 64
+    && nat_le 2097152 config.memory && nat_le config.memory 16777216 && config.memory % 2 == 0
+    && units == config.ports

@@ -1,17 +1,23 @@
--- The rules of the steps: when a step is refused, and what it does where it is not (Serial ATA 3.x, port multiplier: frame
--- transmission, presence; AHCI 1.3.1, command list).
+-- The rules of the steps: when a step is refused, and what it does where it is not (Serial ATA 3.x,
+-- port multiplier: frame transmission, presence; AHCI 1.3.1, command list).
 --
--- Of each step the refusals are tested first, in their order; then it is Idle where it reads from an
--- empty link or from a unit that is not plugged in; then Blocked where the place it writes to is full;
--- and only then may it want memory, or find that its source has nothing.
-use Rattle.std.specs.Prelude.{ℕ, ◌+◌, ◌≡◌, ◌≢◌, ◌<◌, ◌==◌, ◌&&◌, length, not, Bool, true, false, IsTrue, if◌then◌else◌, List, [], ◌∷◌, Option, Some, None, is_some, is_none, MatchOption, Result, Ok, Err, IsSomeAnd, slice_get, slice_set, take}
+-- Of each step the refusals are tested first, in their order; then it is Idle where it reads from
+-- an empty link or from a unit that is not plugged in; then Blocked where the place it writes to is
+-- full; and only then may it want memory, or find that its source has nothing.
+use Rattle.std.specs.Prelude.{ℕ, ◌+◌, ◌≡◌, ◌≢◌, ◌<◌, ◌==◌, ◌&&◌, length, not, Bool, true, false}
+use Rattle.std.specs.Prelude.{IsTrue, if◌then◌else◌, List, [], ◌∷◌, Option, Some, None, is_some}
+use Rattle.std.specs.Prelude.{is_none, MatchOption, Result, Ok, Err, IsSomeAnd, slice_get}
+use Rattle.std.specs.Prelude.{slice_set, take}
 use Rattle.std.specs.Option.{option_map_or}
 use Rattle.fis_view.specs.Frames.{Stamped, is_frame}
 use Rattle.disk_model.specs.Histories.{Plugged}
 use Rattle.disk_model.specs.Units.{UnitGoesOn, UnitSends, UnitIsSilent}
-use Rattle.pm_ports.specs.Port.{PortState, came_refusal as port_came_refusal, next_up, with_connection, with_up}
+use Rattle.pm_ports.specs.Port.{PortState, came_refusal as port_came_refusal, next_up}
+use Rattle.pm_ports.specs.Port.{with_connection, with_up}
 use Rattle.multiplier.specs.Arbiter.{next_served}
-use Rattle.pm_world.specs.Places.{Places, Place, Queue, IsFull, AreFull, IsTold, pushed, posted, after_sending, rising, with_device, with_port, with_ports, with_served, with_upward, with_host}
+use Rattle.pm_world.specs.Places.{Places, Place, Queue, IsFull, AreFull, IsTold, pushed, posted}
+use Rattle.pm_world.specs.Places.{after_sending, rising, with_device, with_port, with_ports}
+use Rattle.pm_world.specs.Places.{with_served, with_upward, with_host}
 use Rattle.pm_world.specs.Fanout.{port_at}
 use Rattle.pm_world.specs.Host.{Host, submit_refusal, TakesRequest}
 use Rattle.pm_world.specs.Deeds.{Takes, PutsBytes, completion_of, after_poll, put_refusal}
@@ -38,7 +44,9 @@ Refuses first e = first ≡ Some e
 
 -- A device comes.
 abbrev pub came_refusal : Place → Option StepError
-came_refusal place = if place.plugged then Some error.AlreadyThere else if place.conn == largest then Some error.Spent else None
+came_refusal place =
+    if place.plugged then Some error.AlreadyThere
+    else if place.conn == largest then Some error.Spent else None
 
 abbrev pub CameActs : ℕ → Place → Answer → Place → Type 0
 CameActs port old answer.Blocked new = AreFull old.presence × (new ≡ old)
@@ -73,10 +81,12 @@ abbrev pub CanSend : Place → Type 0
 CanSend place = IsTrue place.plugged × ¬ IsFull place.up
 
 abbrev pub DiskSendActs : ℕ → Place → Answer → Place → Type 0
-DiskSendActs port old answer.Idle new = (IsTrue old.plugged → (¬ IsFull old.up) × UnitIsSilent old.unit) × (new ≡ old)
+DiskSendActs port old answer.Idle new =
+    (IsTrue old.plugged → (¬ IsFull old.up) × UnitIsSilent old.unit) × (new ≡ old)
 DiskSendActs port old answer.Blocked new = IsTrue old.plugged × IsFull old.up × (new ≡ old)
 DiskSendActs port old (answer.Sent p conn number bytes) new =
-    CanSend old × (p ≡ port) × (conn ≡ old.conn) × (number ≡ old.number) × UnitSends old.unit bytes new.unit
+    CanSend old × (p ≡ port) × (conn ≡ old.conn) × (number ≡ old.number)
+    × UnitSends old.unit bytes new.unit
     × (new ≡ after_sending port old bytes new.unit)
 DiskSendActs port old _ new = ⊥
 
@@ -100,20 +110,25 @@ inject_refusal bytes place =
 abbrev pub InjectActs : ℕ → List ℕ → Place → Answer → Place → Type 0
 InjectActs port given old answer.Blocked new = IsFull old.up × (new ≡ old)
 InjectActs port given old (answer.Sent p conn number bytes) new =
-    CanSend old × (p ≡ port) × (conn ≡ old.conn) × (number ≡ old.number) × (bytes ≡ given) × (new ≡ after_sending port old given old.unit)
+    CanSend old × (p ≡ port) × (conn ≡ old.conn) × (number ≡ old.number) × (bytes ≡ given)
+    × (new ≡ after_sending port old given old.unit)
 InjectActs port given old _ new = ⊥
 
 abbrev pub InjectRule : ℕ → List ℕ → Place → Outcome → Place → Type 0
-InjectRule port given old (Ok a) new = (inject_refusal given old ≡ None) × InjectActs port given old a new
-InjectRule port given old (Err e) new = Refuses (inject_refusal given old) e × SendWants old e × (new ≡ old)
+InjectRule port given old (Ok a) new =
+    (inject_refusal given old ≡ None) × InjectActs port given old a new
+InjectRule port given old (Err e) new =
+    Refuses (inject_refusal given old) e × SendWants old e × (new ≡ old)
 
 -- a port after a connection was read off its presence link; one that it refuses changes nothing
 abbrev pub recorded : PortState → ℕ → PortState
-recorded port conn = if is_none (port_came_refusal port conn) then with_connection port conn else port
+recorded port conn =
+    if is_none (port_came_refusal port conn) then with_connection port conn else port
 
 -- The first connection on a presence link is recorded by its port.
 abbrev pub PmPresenceRule : ℕ → Place → PortState → Outcome → Place → PortState → Type 0
-PmPresenceRule n old port (Ok answer.Idle) new after = (old.presence.conns ≡ []) × (new ≡ old) × (after ≡ port)
+PmPresenceRule n old port (Ok answer.Idle) new after =
+    (old.presence.conns ≡ []) × (new ≡ old) × (after ≡ port)
 PmPresenceRule n old port (Ok (answer.Presence p)) new after =
     (p ≡ n)
     × (new ≡ record old { presence = record old.presence { conns = new.presence.conns } })
@@ -122,16 +137,19 @@ PmPresenceRule n old port _ new after = ⊥
 
 -- The first frame of a device's link goes into the empty upward place of its port.
 abbrev pub PmFromDeviceRule : ℕ → Place → PortState → Outcome → Place → PortState → Type 0
-PmFromDeviceRule n old port (Ok answer.Idle) new after = (old.up.frames ≡ []) × (new ≡ old) × (after ≡ port)
+PmFromDeviceRule n old port (Ok answer.Idle) new after =
+    (old.up.frames ≡ []) × (new ≡ old) × (after ≡ port)
 PmFromDeviceRule n old port (Ok answer.Blocked) new after =
     (old.up.frames ≢ []) × (port.up ≢ None) × (new ≡ old) × (after ≡ port)
 PmFromDeviceRule n old port (Ok (answer.Offered p dropped)) new after =
     (p ≡ n) × (dropped ≡ false) × (port.up ≡ None)
     × (new ≡ record old { up = record old.up { frames = new.up.frames } })
-    × ((frame : Stamped) × (old.up.frames ≡ frame ∷ new.up.frames) × (after ≡ with_up port (Some frame)))
+    × ((frame : Stamped) × (old.up.frames ≡ frame ∷ new.up.frames)
+    × (after ≡ with_up port (Some frame)))
 PmFromDeviceRule n old port _ new after = ⊥
 
--- whether a port has a frame for the host: every port forwards, and the frame is of the connection that is present
+-- whether a port has a frame for the host: every port forwards, and the frame is of the connection
+-- that is present
 abbrev pub is_ready : List PortState → ℕ → Bool
 is_ready ports n = is_some (next_up true (port_at ports n))
 
@@ -142,12 +160,14 @@ next_port ports served = next_served served (is_ready ports)
 -- The frame of the port that is served next goes on the link to the host.
 abbrev pub PmUpRule : List PortState → ℕ → Queue → Outcome → List PortState → ℕ → Queue → Type 0
 PmUpRule ports served upward (Ok answer.Idle) after last new =
-    (¬ IsFull upward) × (next_port ports served ≡ None) × (after ≡ ports) × (last ≡ served) × (new ≡ upward)
+    (¬ IsFull upward) × (next_port ports served ≡ None) × (after ≡ ports) × (last ≡ served)
+    × (new ≡ upward)
 PmUpRule ports served upward (Ok answer.Blocked) after last new =
     IsFull upward × (after ≡ ports) × (last ≡ served) × (new ≡ upward)
 PmUpRule ports served upward (Ok (answer.Up n)) after last new =
     (¬ IsFull upward) × (next_port ports served ≡ Some n) × (last ≡ n)
-    × ((port : PortState) × (frame : Stamped) × (slice_get ports n ≡ Some port) × (port.up ≡ Some frame)
+    × ((port : PortState) × (frame : Stamped) × (slice_get ports n ≡ Some port)
+    × (port.up ≡ Some frame)
     × (after ≡ slice_set ports n (with_up port None)) × (new ≡ pushed upward (rising n frame)))
 PmUpRule ports served upward _ after last new = ⊥
 
@@ -155,7 +175,8 @@ PmUpRule ports served upward _ after last new = ⊥
 abbrev pub HostTakeRule : Queue → Host → Outcome → Queue → Host → Type 0
 HostTakeRule old host (Ok answer.Idle) new after = (old.frames ≡ []) × (new ≡ old) × (after ≡ host)
 HostTakeRule old host (Ok (answer.Took port conn number bytes report)) new after =
-    ((frame : Stamped) × (old.frames ≡ frame ∷ new.frames) × IsTold frame port conn number bytes) × (new.capacity ≡ old.capacity)
+    ((frame : Stamped) × (old.frames ≡ frame ∷ new.frames) × IsTold frame port conn number bytes)
+    × (new.capacity ≡ old.capacity)
     × Takes host bytes report after
 HostTakeRule old host _ new after = ⊥
 
@@ -169,36 +190,46 @@ is_there now dev = dev == 0 && is_plugged (slice_get now.devices 0)
 
 -- A request is given to the driver.
 abbrev pub SubmitRule : Bool → Request → Host → Outcome → Host → Type 0
-SubmitRule there request host (Ok (answer.Refused e)) after = (submit_refusal host there request ≡ Some e) × (after ≡ host)
-SubmitRule there request host (Ok (answer.Submitted ticket)) after = (submit_refusal host there request ≡ None) × TakesRequest host request ticket.0 after
-SubmitRule there request host (Err error.OutOfMemory) after = (submit_refusal host there request ≡ None) × (after ≡ host)
+SubmitRule there request host (Ok (answer.Refused e)) after =
+    (submit_refusal host there request ≡ Some e) × (after ≡ host)
+SubmitRule there request host (Ok (answer.Submitted ticket)) after =
+    (submit_refusal host there request ≡ None) × TakesRequest host request ticket.0 after
+SubmitRule there request host (Err error.OutOfMemory) after =
+    (submit_refusal host there request ≡ None) × (after ≡ host)
 SubmitRule there request host _ after = ⊥
 
 -- The ended request of the lowest slot is polled.
 abbrev pub PollRule : Host → Outcome → Host → Type 0
 PollRule host (Ok answer.Idle) after = (completion_of host.slot ≡ None) × (after ≡ host)
-PollRule host (Ok (answer.Polled completion)) after = (completion_of host.slot ≡ Some completion) × (after ≡ after_poll host)
+PollRule host (Ok (answer.Polled completion)) after =
+    (completion_of host.slot ≡ Some completion) × (after ≡ after_poll host)
 PollRule host _ after = ⊥
 
 -- Bytes are put into the client area.
 abbrev pub PutRule : ℕ → List ℕ → Host → Outcome → Host → Type 0
-PutRule at bytes host (Ok answer.Put) after = (put_refusal host at (length bytes) ≡ None) × PutsBytes host at bytes after
+PutRule at bytes host (Ok answer.Put) after =
+    (put_refusal host at (length bytes) ≡ None) × PutsBytes host at bytes after
 PutRule at bytes host (Err e) after = (put_refusal host at (length bytes) ≡ Some e) × (after ≡ host)
 PutRule at bytes host _ after = ⊥
 
 -- a step at port n, where there is one
 abbrev pub AtPort : Places → ℕ → Outcome → Places → (Place → Type 0) → Type 0
-AtPort old n outcome new R = MatchOption (slice_get old.devices n) ((outcome ≡ Err error.NoSuchPort) × (new ≡ old)) R
+AtPort old n outcome new R =
+    MatchOption (slice_get old.devices n) ((outcome ≡ Err error.NoSuchPort) × (new ≡ old)) R
 
 -- a step of device n alone
 abbrev pub OnDevice : Places → ℕ → Outcome → Places → (Place → Outcome → Place → Type 0) → Type 0
-OnDevice old n outcome new R = AtPort old n outcome new (λ place. (after : Place) × R place outcome after × (new ≡ with_device old n after))
+OnDevice old n outcome new R =
+    AtPort old n outcome new
+    (λ place. (after : Place) × R place outcome after × (new ≡ with_device old n after))
 
 -- a step of device n and its port of the multiplier
-abbrev pub OnDeviceAndPort : Places → ℕ → Outcome → Places → (Place → PortState → Outcome → Place → PortState → Type 0) → Type 0
+abbrev pub OnDeviceAndPort : Places → ℕ → Outcome → Places
+    → (Place → PortState → Outcome → Place → PortState → Type 0) → Type 0
 OnDeviceAndPort old n outcome new R =
     AtPort old n outcome new (λ place. MatchOption (slice_get old.ports n) ⊥ (λ port.
-    (after : Place) × (left : PortState) × R place port outcome after left × (new ≡ with_port (with_device old n after) n left)))
+    (after : Place) × (left : PortState) × R place port outcome after left
+    × (new ≡ with_port (with_device old n after) n left)))
 
 -- what a step may give, and what it leaves
 abbrev pub Rule : Places → Step → Outcome → Places → Type 0
@@ -210,10 +241,14 @@ Rule old (step.PmFromDevice n) outcome new = OnDeviceAndPort old n outcome new (
 Rule old step.PmUp outcome new =
     PmUpRule old.ports old.served old.upward outcome new.ports new.served new.upward
     × (new ≡ with_upward (with_served (with_ports old new.ports) new.served) new.upward)
-Rule old step.HostTake outcome new = HostTakeRule old.upward old.host outcome new.upward new.host × (new ≡ with_host (with_upward old new.upward) new.host)
-Rule old (step.Submit dev request) outcome new = SubmitRule (is_there old dev) request old.host outcome new.host × (new ≡ with_host old new.host)
+Rule old step.HostTake outcome new =
+    HostTakeRule old.upward old.host outcome new.upward new.host
+    × (new ≡ with_host (with_upward old new.upward) new.host)
+Rule old (step.Submit dev request) outcome new =
+    SubmitRule (is_there old dev) request old.host outcome new.host × (new ≡ with_host old new.host)
 Rule old step.Poll outcome new = PollRule old.host outcome new.host × (new ≡ with_host old new.host)
-Rule old (step.Put at bytes) outcome new = PutRule at bytes old.host outcome new.host × (new ≡ with_host old new.host)
+Rule old (step.Put at bytes) outcome new =
+    PutRule at bytes old.host outcome new.host × (new ≡ with_host old new.host)
 
 -- no refusal of a step at a port
 abbrev pub no_refusal : Place → Option StepError
@@ -239,14 +274,17 @@ refusal now (step.Put at bytes) = put_refusal now.host at (length bytes)
 -- a whole run, one step after another
 abbrev pub Run : Places → List Step → List Answer → Places → Type 0
 Run old [] [] new = new ≡ old
-Run old (s ∷ steps) (a ∷ answers) new = (mid : Places) × Rule old s (Ok a) mid × Run mid steps answers new
+Run old (s ∷ steps) (a ∷ answers) new =
+    (mid : Places) × Rule old s (Ok a) mid × Run mid steps answers new
 Run old [] (a ∷ answers) new = ⊥
 Run old (s ∷ steps) [] new = ⊥
 
--- The run of these steps stops at step i with an error. The steps before it made answers, and the world is the one that they
--- leave. The error is the first refusal of step i there, or want of memory where none applies. After the first step it is one
--- that step i itself gives; before the first step the room for the answers may be what wants memory.
-pub record Stops (old : Places) (steps : List Step) (i : ℕ) (e : StepError) (answers : List Answer) (new : Places) : Type 0 where
+-- The run of these steps stops at step i with an error. The steps before it made answers, and the
+-- world is the one that they leave. The error is the first refusal of step i there, or want of
+-- memory where none applies. After the first step it is one that step i itself gives; before the
+-- first step the room for the answers may be what wants memory.
+pub record Stops (old : Places) (steps : List Step) (i : ℕ) (e : StepError) (answers : List Answer)
+    (new : Places) : Type 0 where
   pub run : Run old (take i steps) answers new
   pub refused : IsSomeAnd (slice_get steps i) (λ s. Refuses (refusal new s) e)
   pub gives : 0 < i → IsSomeAnd (slice_get steps i) (λ s. Rule new s (Err e) new)

@@ -1,5 +1,7 @@
--- What was sent, what was taken, and what stands between (Serial ATA 3.x, port multiplier: frame transmission, PM Port).
-use Rattle.std.specs.Prelude.{ℕ, ◌≡◌, ◌==◌, ◌&&◌, if◌then◌else◌, List, [], ◌∷◌, ◌++◌, map, filter, Option, Some, None, slice_get, option_to_list}
+-- What was sent, what was taken, and what stands between (Serial ATA 3.x, port multiplier: frame
+-- transmission, PM Port).
+use Rattle.std.specs.Prelude.{ℕ, ◌≡◌, ◌==◌, ◌&&◌, if◌then◌else◌, List, [], ◌∷◌, ◌++◌, map, filter}
+use Rattle.std.specs.Prelude.{Option, Some, None, slice_get, option_to_list}
 use Rattle.std.specs.List.{flat_map}
 use Rattle.fis_view.specs.Frames.{Stamped, marked}
 use Rattle.pm_ports.specs.Port.{PortState}
@@ -14,7 +16,8 @@ sent_by n c _ = []
 
 -- the same for what was taken
 abbrev pub taken_by : ℕ → ℕ → Answer → List (List ℕ)
-taken_by n c (answer.Took port conn number bytes report) = if port == n && conn == c then bytes ∷ [] else []
+taken_by n c (answer.Took port conn number bytes report) =
+    if port == n && conn == c then bytes ∷ [] else []
 taken_by n c _ = []
 
 -- what was sent on connection c of port n, in order
@@ -31,7 +34,8 @@ all_marked n lists = map (λ bytes. marked bytes n) lists
 
 -- the bytes of the frames that are stamped with this port and connection
 abbrev pub stamped : ℕ → ℕ → List Stamped → List (List ℕ)
-stamped n c frames = map (λ f. f.bytes) (filter (λ f. f.stamp.port == n && f.stamp.conn == c) frames)
+stamped n c frames =
+    map (λ f. f.bytes) (filter (λ f. f.stamp.port == n && f.stamp.conn == c) frames)
 
 -- the bytes of the frames of this connection, where all frames are of one port
 abbrev pub of_conn : ℕ → List Stamped → List (List ℕ)
@@ -51,7 +55,8 @@ on_link (Some place) = place.up.frames
 abbrev pub waiting : ℕ → Places → List Stamped
 waiting n places = held (slice_get places.ports n) ++ on_link (slice_get places.devices n)
 
--- what is on its way from connection c of port n to the host, oldest first: on the host's link, and then at the port, marked
+-- what is on its way from connection c of port n to the host, oldest first: on the host's link, and
+-- then at the port, marked
 abbrev pub transit : ℕ → ℕ → Places → List (List ℕ)
 transit n c places = stamped n c places.upward.frames ++ all_marked n (of_conn c (waiting n places))
 
@@ -59,9 +64,12 @@ transit n c places = stamped n c places.upward.frames ++ all_marked n (of_conn c
 abbrev pub IsPrefixOf : List (List ℕ) → List (List ℕ) → Type 0
 IsPrefixOf front whole = (rest : List (List ℕ)) × (front ++ rest ≡ whole)
 
--- Nothing is dropped, made or put out of order on the way from old to new. What stood at the beginning counts as sent before it.
+-- Nothing is dropped, made or put out of order on the way from old to new. What stood at the
+-- beginning counts as sent before it.
 pub record NothingLost (old : Places) (answers : List Answer) (new : Places) : Type 0 where
   -- what the host took of a connection, and then what is on its way, is what was sent on it
-  pub conserved : (n c : ℕ) → taken n c answers ++ transit n c new ≡ transit n c old ++ all_marked n (sent n c answers)
+  pub conserved : (n c : ℕ)
+      → taken n c answers ++ transit n c new ≡ transit n c old ++ all_marked n (sent n c answers)
   -- so what the host took is a prefix of what was sent
-  pub prefix : (n c : ℕ) → IsPrefixOf (taken n c answers) (transit n c old ++ all_marked n (sent n c answers))
+  pub prefix : (n c : ℕ)
+      → IsPrefixOf (taken n c answers) (transit n c old ++ all_marked n (sent n c answers))
