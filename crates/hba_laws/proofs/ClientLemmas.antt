@@ -335,7 +335,7 @@ module _ (old : Host) (host : IsHost old) (past : Touches) (hist : AreHistoriesO
   stays_is touches new same before none is k lt =
       ap (λ (l : List ℕ). slice_index l k) same ∙ is k (subst (λ (l : List ℕ). k < length l) same lt) ∙ sym (none (client_start + k))
 
-  event_is : (event : HostEvent) (new : Host) → Does old event new → IsReadAsIssued past old event → (before : ℕ → ℕ) → IsClient before past old → IsClient before (touched old event ++ past) new
+  pub event_is : (event : HostEvent) (new : Host) → Does old event new → IsReadAsIssued past old event → (before : ℕ → ℕ) → IsClient before past old → IsClient before (touched old event ++ past) new
   event_is (Took frame report) new does reads before is = took_is frame report new does reads before is
   event_is (WroteRegister register value) new does reads before is =
       stays_is (touched_by_write register old value) new (ap (λ (m : Memory). m.client) does.2) before (λ k. write_touches_none before register value k) is
@@ -347,7 +347,7 @@ module _ (old : Host) (host : IsHost old) (past : Touches) (hist : AreHistoriesO
   event_is (Rewrote dev row) new does reads before is = stays_is [] new (ap (λ (m : Memory). m.client) does.0.after) before (λ k. refl) is
   event_is (Put at bytes) new does reads before is = put_is at bytes new does.0 before is
 
-  event_within : (event : HostEvent) → AreWithin past → AreWithin (touched old event ++ past)
+  pub event_within : (event : HostEvent) → AreWithin past → AreWithin (touched old event ++ past)
   event_within (Took frame report) w = took_within frame w
   event_within (WroteRegister register value) w = write_within register value w
   event_within (Flushed dev) w = w

@@ -21,3 +21,5 @@ pub mod EventLemmas
 pub mod WithinLemmas
 pub mod ClientLemmas
 pub mod DoneLemmas
+pub mod SpareLemmas
+pub mod ReadLemmas

@@ -1,6 +1,8 @@
--- When a device's view and a history say the same: what is issued, which bytes went over, which slot waits, and the last setup
--- with what is left of it (AHCI 1.3.1, 9.3, FIS-based Switching; Serial ATA 3.x, 10.5).
-use Rattle.std.specs.Prelude.{ℕ, ◌≡◌, ◌+◌, ◌<◌, ◌==◌, Bool, false, true, Option, Some, None, is_some, MatchOption}
+-- When a device's view and a history say the same: what is issued, which bytes went over, which
+-- slot waits, and the last setup with what is left of it (AHCI 1.3.1, 9.3, FIS-based Switching;
+-- Serial ATA 3.x, 10.5).
+use Rattle.std.specs.Prelude.{ℕ, ◌≡◌, ◌+◌, ◌<◌, ◌==◌, Bool, false, true, Option, Some, None}
+use Rattle.std.specs.Prelude.{is_some, MatchOption}
 use Rattle.std.specs.Option.{option_map}
 use Rattle.slots.specs.Bytes.{is_over}
 use Rattle.slots.specs.Setup.{came}
@@ -10,7 +12,8 @@ use Rattle.slots.specs.declared.work.Work.{Work}
 use Rattle.hba_fbs.specs.Views.{DeviceView, view_of}
 use Rattle.hba_fbs.specs.declared.status.Block.{Block}
 use Rattle.hba_laws.specs.Client.{Touches, own}
-use Rattle.hba_laws.specs.History.{History, Setup, Transfer, bytes_of, carried, filled, is_at, is_set_up, issued, last_setup}
+use Rattle.hba_laws.specs.History.{History, Setup, Transfer, bytes_of, carried, filled, is_at}
+use Rattle.hba_laws.specs.History.{is_set_up, issued, last_setup}
 use Rattle.hba_laws.specs.History.{waiting_in}
 use Rattle.hba_laws.specs.Hosts.{Host}
 
@@ -22,21 +25,24 @@ work_of_issue issue = issue.work
 
 -- the same is issued, by slot
 abbrev pub AreIssued : (ℕ → Option Issue) → History → Type 0
-AreIssued issues past = (s : ℕ) → option_map work_of_transfer (issued s past) ≡ option_map work_of_issue (issues s)
+AreIssued issues past =
+    (s : ℕ) → option_map work_of_transfer (issued s past) ≡ option_map work_of_issue (issues s)
 
 -- the context is for the slot
 abbrev pub is_for : ℕ → Option Context → Bool
 is_for s None = false
 is_for s (Some c) = c.slot == s
 
--- what is issued in s has the bytes that the history fills, waits where it does, and is set up where it is
+-- what is issued in s has the bytes that the history fills, waits where it does, and is set up
+-- where it is
 pub record IssueAgrees (s : ℕ) (issue : Issue) (context : Option Context) (past : History) : Type 0 where
   pub over_is : (k : ℕ) → is_over issue.over k ≡ is_some (filled s past k)
   pub came_is : came issue ≡ bytes_of s past
   pub waits_is : is_at s (waiting_in past) ≡ is_waiting issue
   pub set_up_is : is_set_up s past ≡ is_for s context
 
--- a context is what is left of a setup, and the Status at the end of its block is the one that is kept
+-- a context is what is left of a setup, and the Status at the end of its block is the one that is
+-- kept
 pub record SetupAgrees (c : Context) (ends : Option ℕ) (past : History) (g : Setup) : Type 0 where
   pub slot_is : g.slot ≡ c.slot
   pub way_is : g.to_host ≡ c.to_host
@@ -47,13 +53,15 @@ pub record SetupAgrees (c : Context) (ends : Option ℕ) (past : History) (g : S
 abbrev pub is_pio_issue : Issue → Bool
 is_pio_issue issue = is_pio issue.work.kind
 
--- a context is that of the last setup, for a slot in which something is issued: PIO data-in where there is a block
+-- a context is that of the last setup, for a slot in which something is issued: PIO data-in where
+-- there is a block
 pub record ContextAgrees (issues : ℕ → Option Issue) (c : Context) (ends : Option ℕ) (past : History) : Type 0 where
   pub of_setup : MatchOption (last_setup past) ⊥ (SetupAgrees c ends past)
   pub of_issue : is_some (issues c.slot) ≡ true
   pub of_kind : holds is_pio_issue (issues c.slot) ≡ is_some ends
 
--- issues by slot, a context and the Status at the end of its block, if it has one, are what a history says
+-- issues by slot, a context and the Status at the end of its block, if it has one, are what a
+-- history says
 pub record Agrees (issues : ℕ → Option Issue) (context : Option Context) (ends : Option ℕ) (past : History) : Type 0 where
   pub issues_agree : (s : ℕ) (i : Issue) → issues s ≡ Some i → IssueAgrees s i context past
   pub context_agrees : (c : Context) → context ≡ Some c → ContextAgrees issues c ends past

@@ -1,6 +1,8 @@
--- The client bytes of a host of many devices, and what a completed read finds there (AHCI 1.3.1, 4.2.3.3, Physical Region
--- Descriptor Table, and 5.3, data transfer; Serial ATA 3.x, 10.5, Data FIS).
-use Rattle.std.specs.Prelude.{ℕ, ◌≡◌, ◌+◌, ◌-◌, ◌<◌, ◌≤◌, ◌==◌, ◌&&◌, nat_le, nat_lt, Bool, true, false, if◌then◌else◌}
+-- The client bytes of a host of many devices, and what a completed read finds there (AHCI 1.3.1,
+-- 4.2.3.3, Physical Region Descriptor Table, and 5.3, data transfer; Serial ATA 3.x, 10.5, Data
+-- FIS).
+use Rattle.std.specs.Prelude.{ℕ, ◌≡◌, ◌+◌, ◌-◌, ◌<◌, ◌≤◌, ◌==◌, ◌&&◌, nat_le, nat_lt, Bool, true}
+use Rattle.std.specs.Prelude.{false, if◌then◌else◌}
 use Rattle.std.specs.Prelude.{List, [], ◌∷◌, length, slice_index, Option, Some, None, MatchOption}
 use Rattle.host_memory.specs.Place.{place, written}
 use Rattle.slots.specs.Slots.{match_some}
@@ -8,7 +10,8 @@ use Rattle.slots.specs.Work.{is_read}
 use Rattle.hba_laws.specs.History.{Event, Carried, Emptied, History, Setup, Transfer}
 use Rattle.hba_laws.specs.History.{completes, filled, is_set_up, issued, last_setup, next_number}
 
--- what touches the devices or the client bytes: an event of one device, one of all as ST falls, and bytes that software puts
+-- what touches the devices or the client bytes: an event of one device, one of all as ST falls, and
+-- bytes that software puts
 pub data Touch : Type 0 where
   By : (dev : ℕ) → Event → Touch
   Stops : Touch
@@ -27,17 +30,21 @@ own n (Puts at bytes ∷ past) = own n past
 
 -- ---- client bytes
 
--- what Data towards the host that comes now fills: a slot, its transfer, and the number of its first byte
+-- what Data towards the host that comes now fills: a slot, its transfer, and the number of its
+-- first byte
 pub record Filling : Type 0 where
   pub slot : ℕ
   pub transfer : Transfer
   pub from : ℕ
 
+abbrev pub filling_at : ℕ → Transfer → ℕ → Filling
+filling_at slot transfer from = record { slot = slot; transfer = transfer; from = from }
+
 -- the slot that was set up last, where it is issued, and the setup is towards the host
 abbrev pub filling_by : History → Setup → Option Filling
 filling_by past g =
     if g.to_host && is_set_up g.slot past
-    then match_some (issued g.slot past) None (λ t. Some (record { slot = g.slot; transfer = t; from = next_number past }))
+    then match_some (issued g.slot past) None (λ t. Some (filling_at g.slot t (next_number past)))
     else None
 
 abbrev pub filling : History → Option Filling
@@ -47,13 +54,15 @@ filling past = match_some (last_setup past) None (filling_by past)
 abbrev pub is_in : ℕ → ℕ → ℕ → Bool
 is_in at len k = nat_le at k && nat_lt k (at + len)
 
--- the byte of client memory at an address: each Put and each byte that Data fills, in order, and nothing else
+-- the byte of client memory at an address: each Put and each byte that Data fills, in order, and
+-- nothing else
 abbrev pub client : (ℕ → ℕ) → Touches → ℕ → ℕ
 client opening [] k = opening k
 client opening (Puts at bytes ∷ past) k =
     if is_in at (length bytes) k then slice_index bytes (k - at) else client opening past k
 client opening (By dev (Carried bytes) ∷ past) k =
-    match_some (filling (own dev past)) (client opening past k) (λ f. written f.transfer.table f.from bytes (client opening past) k)
+    match_some (filling (own dev past)) (client opening past k)
+    (λ f. written f.transfer.table f.from bytes (client opening past) k)
 client opening (_ ∷ past) k = client opening past k
 
 -- ---- what keeps a read's bytes
@@ -71,14 +80,18 @@ pub record AreOne (n s i m r j : ℕ) : Type 0 where
 
 -- no two bytes of issued reads have one place
 abbrev pub AreApart : Touches → Type 0
-AreApart past = (n s m r i j : ℕ) (t u : Transfer) → IsReading n s t past → IsReading m r u past
+AreApart past =
+    (n s m r i j : ℕ) (t u : Transfer) → IsReading n s t past → IsReading m r u past
     → i < t.work.len → j < u.work.len → place t.table i ≡ place u.table j → AreOne n s i m r j
 
 -- bytes that are put spare the places of issued reads
 abbrev pub IsSpared : ℕ → ℕ → Touches → Type 0
-IsSpared at len past = (n s i : ℕ) (t : Transfer) → IsReading n s t past → i < t.work.len → is_in at len (place t.table i) ≡ false
+IsSpared at len past =
+    (n s i : ℕ) (t : Transfer) → IsReading n s t past → i < t.work.len
+    → is_in at len (place t.table i) ≡ false
 
--- what the software keeps: where Data comes, issued reads are apart, and what it puts spares their places
+-- what the software keeps: where Data comes, issued reads are apart, and what it puts spares their
+-- places
 abbrev pub IsKept : Touches → Type 0
 IsKept [] = Unit {0}
 IsKept (Puts at bytes ∷ past) = IsSpared at (length bytes) past × IsKept past
@@ -90,11 +103,12 @@ pub record FillsWithin (len : ℕ) (f : Filling) : Type 0 where
   pub fits : f.from + len ≤ f.transfer.work.len
   pub reads : is_read f.transfer.work.kind ≡ true
 
--- Data of so many bytes fills an issued read within its length, and a read is set up towards the host
+-- Data of so many bytes fills an issued read within its length, and a read is set up towards the
+-- host
 pub record IsWithin (past : History) (len : ℕ) : Type 0 where
   pub fills : MatchOption (filling past) (Unit {0}) (FillsWithin len)
-  pub way : (g : Setup) (t : Transfer) → last_setup past ≡ Some g → issued g.slot past ≡ Some t → is_read t.work.kind ≡ true
-      → is_set_up g.slot past ≡ true → g.to_host ≡ true
+  pub way : (g : Setup) (t : Transfer) → last_setup past ≡ Some g → issued g.slot past ≡ Some t
+      → is_read t.work.kind ≡ true → is_set_up g.slot past ≡ true → g.to_host ≡ true
 
 -- so it was with all Data
 abbrev pub AreWithin : Touches → Type 0
@@ -106,8 +120,10 @@ AreWithin (_ ∷ past) = AreWithin past
 
 -- As long as a read is issued, each byte of it that is filled stands at its place.
 abbrev pub StandsInPlace : Type 0
-StandsInPlace = (opening : ℕ → ℕ) (past : Touches) → IsKept past → AreWithin past → (n s i b : ℕ) (t : Transfer)
-    → IsReading n s t past → i < t.work.len → filled s (own n past) i ≡ Some b → client opening past (place t.table i) ≡ b
+StandsInPlace =
+    (opening : ℕ → ℕ) (past : Touches) → IsKept past → AreWithin past → (n s i b : ℕ) (t : Transfer)
+    → IsReading n s t past → i < t.work.len → filled s (own n past) i ≡ Some b
+    → client opening past (place t.table i) ≡ b
 
 -- a byte of a read is filled with this, and it stands at its place
 pub record IsInPlace (opening : ℕ → ℕ) (past : Touches) (n s i : ℕ) (t : Transfer) : Type 0 where
@@ -117,6 +133,8 @@ pub record IsInPlace (opening : ℕ → ℕ) (past : Touches) (n s i : ℕ) (t :
 
 -- At the event that completes a read, each byte of it is filled and stands at its place.
 abbrev pub CompletesInPlace : Type 0
-CompletesInPlace = (opening : ℕ → ℕ) (past : Touches) (n : ℕ) (e : Event) → IsKept (By n e ∷ past) → AreWithin (By n e ∷ past)
-    → (s i : ℕ) (t : Transfer) → IsReading n s t past → completes s e (own n past) t.work ≡ true → i < t.work.len
+CompletesInPlace =
+    (opening : ℕ → ℕ) (past : Touches) (n : ℕ) (e : Event) → IsKept (By n e ∷ past)
+    → AreWithin (By n e ∷ past) → (s i : ℕ) (t : Transfer) → IsReading n s t past
+    → completes s e (own n past) t.work ≡ true → i < t.work.len
     → IsInPlace opening (By n e ∷ past) n s i t

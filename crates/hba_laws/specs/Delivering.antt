@@ -1,10 +1,13 @@
--- What is delivered at a host port: the history of each device over a list of events, and what it says of the slots that
--- become free and of the client bytes (AHCI 1.3.1, 5.3 and 9.3; Serial ATA 3.x, 10.5; ACS-3, NCQ and PIO data-in commands).
-use Rattle.std.specs.Prelude.{ℕ, ◌≡◌, ◌+◌, ◌<◌, Bool, false, if◌then◌else◌, List, [], ◌∷◌, ◌++◌, length, drop}
+-- What is delivered at a host port: the history of each device over a list of events, and what it
+-- says of the slots that become free and of the client bytes (AHCI 1.3.1, 5.3 and 9.3; Serial ATA
+-- 3.x, 10.5; ACS-3, NCQ and PIO data-in commands).
+use Rattle.std.specs.Prelude.{ℕ, ◌≡◌, ◌+◌, ◌<◌, Bool, false, true, if◌then◌else◌, List, [], ◌∷◌}
+use Rattle.std.specs.Prelude.{◌++◌, length, drop, is_some}
 use Rattle.std.specs.Prelude.{slice_index, Option, Some, None, MatchOption, zero, suc}
 use Rattle.fis_view.specs.Frames.{IsFrame}
 use Rattle.fis_view.specs.Seen.{seen}
 use Rattle.host_memory.specs.Memory.{Memory, client_start}
+use Rattle.host_memory.specs.Place.{place}
 use Rattle.hba_commands.specs.declared.command.Command.{Command}
 use Rattle.slots.specs.Slots.{Issue, Slots, has_bit, holds, is_control, issue_at, match_some}
 use Rattle.slots.specs.declared.answer.Answered.{Answered}
@@ -24,11 +27,13 @@ use Rattle.hba_fbs.specs.Tables.{prds_of}
 use Rattle.hba_fbs.specs.Taking.{admitted, heard_now, ignores, port_of}
 use Rattle.hba_fbs.specs.Views.{last_command, opening_port}
 use Rattle.hba_laws.specs.Agreement.{AreHistoriesOf, IsHistoryOf}
-use Rattle.hba_laws.specs.Client.{AreWithin, By, Filling, Puts, Stops, Touches, client, filling, own}
+use Rattle.hba_laws.specs.Client.{AreWithin, By, Filling, IsKept, IsReading, Puts, Stops, Touches}
+use Rattle.hba_laws.specs.Client.{client, filling, own}
 use Rattle.hba_laws.specs.History as event
-use Rattle.hba_laws.specs.History.{CompletesOnce, Event, History, Transfer, completes, issued}
-use Rattle.hba_laws.specs.Hosts.{Flushed, Gave, Host, HostEvent, Put, Rewrote, Runs, Stored, TakesFrame, Took, Wrote}
-use Rattle.hba_laws.specs.Sound.{AreHosts}
+use Rattle.hba_laws.specs.History.{Event, History, Transfer, completes, filled, issued}
+use Rattle.hba_laws.specs.Hosts.{Flushed, Gave, Host, HostEvent, Put, Rewrote, Runs, Stored}
+use Rattle.hba_laws.specs.Hosts.{TakesFrame, Took, Wrote}
+use Rattle.hba_laws.specs.Sound.{AreHosts, IsHost}
 
 -- ---- a frame is taken
 
@@ -44,7 +49,8 @@ abbrev pub event_of_block : ℕ → Bool → Option Block → Option Event
 event_of_block count to_host None = None
 event_of_block count to_host (Some block) = Some (event.PioSetUp count to_host block.ends)
 
--- the event that a happening is, with the block that the device has then, and the payload of its frame
+-- the event that a happening is, with the block that the device has then, and the payload of its
+-- frame
 abbrev pub event_of : Happening → Option Block → List ℕ → Option Event
 event_of happening.Nothing block payload = None
 event_of (happening.Answered a) block payload = event_of_answer a
@@ -57,12 +63,13 @@ event_of (happening.Carried wrote finishes) block payload = Some (event.Carried 
 abbrev pub event_heard : Heard → List ℕ → Option Event
 event_heard h payload = event_of h.happening h.state.block payload
 
--- The event that a frame is to its device, as the host stands: what it is heard as by the device's view, and never what is
--- reported. A frame that is ignored is none.
+-- The event that a frame is to its device, as the host stands: what it is heard as by the device's
+-- view, and never what is reported. A frame that is ignored is none.
 abbrev pub event_taken : Host → List ℕ → Option Event
 event_taken host frame =
-    if ignores (port_of frame) host.port frame then None
-    else event_heard (heard_now host.port host.memory (port_of frame) (admitted (port_of frame) (seen frame))) (drop 4 frame)
+    let dev = port_of frame in
+    if ignores dev host.port frame then None
+    else event_heard (heard_now host.port host.memory dev (admitted dev (seen frame))) (drop 4 frame)
 
 abbrev pub by_device : ℕ → Option Event → Touches
 by_device dev None = []
@@ -79,13 +86,14 @@ issued_in dev memory slot (Some command) =
 -- commands are issued in slots below a number, the lowest first; so the highest stands first here
 unfoldable pub issued_below : ℕ → Memory → (ℕ → Option Command) → ℕ → Touches
 issued_below dev memory commands zero = []
-issued_below dev memory commands (suc slot) = issued_in dev memory slot (commands slot) ++ issued_below dev memory commands slot
+issued_below dev memory commands (suc slot) =
+    issued_in dev memory slot (commands slot) ++ issued_below dev memory commands slot
 
 -- a write issues commands, or takes ST to 0
 abbrev pub touched_by_write : Register → Host → ℕ → Touches
 touched_by_write Cmd host value = if falls host.port.registers value then Stops ∷ [] else []
 touched_by_write Ci host value =
-    issued_below host.port.registers.chosen host.memory (asked host.port.registers host.memory value) 32
+    let r = host.port.registers in issued_below r.chosen host.memory (asked r host.memory value) 32
 touched_by_write register host value = []
 
 abbrev pub is_control_issue : Issue → Bool
@@ -93,13 +101,15 @@ is_control_issue issue = is_control issue.work.kind
 
 -- the frame of a slot goes out
 abbrev pub event_sent : Slots → ℕ → Event
-event_sent slots slot = if holds is_control_issue (issue_at slots slot) then event.SentControl slot else event.Sent slot
+event_sent slots slot =
+    if holds is_control_issue (issue_at slots slot) then event.SentControl slot else event.Sent slot
 
 abbrev pub touched_by_out : Host → Outgoing → Touches
 touched_by_out host out.Nothing = []
 touched_by_out host (out.Unreadable dev) = []
 touched_by_out host (out.Data dev offset len command) =
-    By dev (event.Carried (gathered (prds_of host.memory command) offset len host.memory.client)) ∷ []
+    let prds = prds_of host.memory command in
+    By dev (event.Carried (gathered prds offset len host.memory.client)) ∷ []
 touched_by_out host (out.Order dev slot command) = By dev (event_sent host.port.slots slot) ∷ []
 
 -- ---- over events
@@ -115,14 +125,18 @@ touched host (Rewrote dev row) = []
 touched host (Put at bytes) = Puts at bytes ∷ []
 
 -- what was touched after these events, the latest first
-abbrev pub touches_after : Touches → (old new : Host) → (events : List HostEvent) → Runs old events new → Touches
+abbrev pub touches_after : Touches → (old new : Host) → (events : List HostEvent)
+    → Runs old events new → Touches
 touches_after past old new [] run = past
-touches_after past old new (event ∷ events) run = touches_after (touched old event ++ past) run.0 new events run.2
+touches_after past old new (event ∷ events) run =
+    touches_after (touched old event ++ past) run.0 new events run.2
 
 -- and the history of one device
-abbrev pub history_after : ℕ → History → (old new : Host) → (events : List HostEvent) → Runs old events new → History
+abbrev pub history_after : ℕ → History → (old new : Host) → (events : List HostEvent)
+    → Runs old events new → History
 history_after n past old new [] run = past
-history_after n past old new (event ∷ events) run = history_after n (own n (touched old event) ++ past) run.0 new events run.2
+history_after n past old new (event ∷ events) run =
+    history_after n (own n (touched old event) ++ past) run.0 new events run.2
 
 -- what is taken is a frame
 abbrev pub IsFramed : HostEvent → Type 0
@@ -140,41 +154,51 @@ pub record IsSound (old new : Host) (events : List HostEvent) (run : Runs old ev
 
 -- ---- laws
 
--- A view is what its device's history says, after every list of events, from any sound host and any history of it.
+-- A view is what its device's history says, after every list of events, from any sound host and any
+-- history of it.
 abbrev pub ViewsAreTold : Type 0
-ViewsAreTold = (n : ℕ) → n < 16 → (old new : Host) (events : List HostEvent) (run : Runs old events new) → IsSound old new events run
-    → (past : History) → IsHistoryOf n old past → IsHistoryOf n new (history_after n past old new events run)
+ViewsAreTold =
+    (n : ℕ) → n < 16 → (old new : Host) (events : List HostEvent) (run : Runs old events new)
+    → IsSound old new events run → (past : History) → IsHistoryOf n old past
+    → IsHistoryOf n new (history_after n past old new events run)
 
 -- nothing happened to a device of a port that opens
 abbrev pub OpensUntold : Type 0
-OpensUntold = (n : ℕ) (memory : Memory) → IsHistoryOf n (record { port = opening_port; memory = memory }) []
+OpensUntold =
+    (n : ℕ) (memory : Memory) → IsHistoryOf n (record { port = opening_port; memory = memory }) []
 
 -- the history of a device is its part of all touches
 abbrev pub HistoriesAreParts : Type 0
-HistoriesAreParts = (n : ℕ) (past : Touches) (old new : Host) (events : List HostEvent) (run : Runs old events new)
+HistoriesAreParts =
+    (n : ℕ) (past : Touches) (old new : Host) (events : List HostEvent) (run : Runs old events new)
     → own n (touches_after past old new events run) ≡ history_after n (own n past) old new events run
 
 -- the frame completes what is issued in slot s of its device after this history
 abbrev pub completes_now : ℕ → Host → List ℕ → History → Bool
 completes_now s host frame past =
-    match_some (issued s past) false (λ t. match_some (event_taken host frame) false (λ e. completes s e past t.work))
+    match_some (issued s past) false (λ t.
+    match_some (event_taken host frame) false (λ e. completes s e past t.work))
 
--- a report names the device of its frame, and its done has the bit of each slot that the frame completes, and no other
+-- a report names the device of its frame, and its done has the bit of each slot that the frame
+-- completes, and no other
 pub record ReportsDone (host : Host) (frame : List ℕ) (report : TakeReport) (past : History) : Type 0 where
   pub own_device : report.dev ≡ port_of frame
   pub done : (s : ℕ) → s < 32 → has_bit report.done s ≡ completes_now s host frame past
 
 -- so it is at each frame that is taken, after every list of events
 abbrev pub DoneIsCompleted : Type 0
-DoneIsCompleted = (old host new : Host) (events : List HostEvent) (run : Runs old events host) → IsSound old host events run
-    → (frame : List ℕ) (report : TakeReport) (past : History) → IsFrame frame → IsHistoryOf (port_of frame) old past
-    → TakesFrame host frame report new
+DoneIsCompleted =
+    (old host new : Host) (events : List HostEvent) (run : Runs old events host)
+    → IsSound old host events run → (frame : List ℕ) (report : TakeReport) (past : History)
+    → IsFrame frame → IsHistoryOf (port_of frame) old past → TakesFrame host frame report new
     → ReportsDone host frame report (history_after (port_of frame) past old host events run)
 
 -- Data that is heard, or that goes out, is within its setup's issue, after every list of events.
 abbrev pub DataIsWithin : Type 0
-DataIsWithin = (old new : Host) (events : List HostEvent) (run : Runs old events new) → IsSound old new events run
-    → (past : Touches) → AreHistoriesOf old past → AreWithin past → AreWithin (touches_after past old new events run)
+DataIsWithin =
+    (old new : Host) (events : List HostEvent) (run : Runs old events new)
+    → IsSound old new events run → (past : Touches) → AreHistoriesOf old past → AreWithin past
+    → AreWithin (touches_after past old new events run)
 
 -- ---- client bytes
 
@@ -184,28 +208,90 @@ ReadsAsIssued host f = MatchOption (last_command host.port.commands f.slot) (Uni
     prds_of host.memory command ≡ f.transfer.table)
 
 abbrev pub DataReadsAsIssued : Host → History → Event → Type 0
-DataReadsAsIssued host past (event.Carried bytes) = MatchOption (filling past) (Unit {0}) (ReadsAsIssued host)
+DataReadsAsIssued host past (event.Carried bytes) =
+    MatchOption (filling past) (Unit {0}) (ReadsAsIssued host)
 DataReadsAsIssued host past e = Unit {0}
 
 -- where a frame that is taken is Data, and is heard
 abbrev pub IsReadAsIssued : Touches → Host → HostEvent → Type 0
 IsReadAsIssued past host (Took frame report) =
-    MatchOption (event_taken host frame) (Unit {0}) (DataReadsAsIssued host (own (port_of frame) past))
+    MatchOption (event_taken host frame) (Unit {0})
+    (DataReadsAsIssued host (own (port_of frame) past))
 IsReadAsIssued past host event = Unit {0}
 
 -- so it is at each event of a run
-abbrev pub AreReadAsIssued : Touches → (old new : Host) → (events : List HostEvent) → Runs old events new → Type 0
+abbrev pub AreReadAsIssued : Touches → (old new : Host) → (events : List HostEvent)
+    → Runs old events new → Type 0
 AreReadAsIssued past old new [] run = Unit {0}
 AreReadAsIssued past old new (event ∷ events) run =
-    IsReadAsIssued past old event × AreReadAsIssued (touched old event ++ past) run.0 new events run.2
+    IsReadAsIssued past old event
+    × AreReadAsIssued (touched old event ++ past) run.0 new events run.2
 
 -- the client bytes of a host are what these touches make of the bytes before
 abbrev pub IsClient : (ℕ → ℕ) → Touches → Host → Type 0
 IsClient before past host = (k : ℕ) → k < length host.memory.client
     → slice_index host.memory.client k ≡ client before past (client_start + k)
 
--- Client memory is what the touches make of it, after every list of events over which tables read as at the issues.
+-- Client memory is what the touches make of it, after every list of events over which tables read
+-- as at the issues.
 abbrev pub ClientIsTouched : Type 0
-ClientIsTouched = (old new : Host) (events : List HostEvent) (run : Runs old events new) → IsSound old new events run
-    → (before : ℕ → ℕ) (past : Touches) → AreHistoriesOf old past → AreReadAsIssued past old new events run
+ClientIsTouched =
+    (old new : Host) (events : List HostEvent) (run : Runs old events new)
+    → IsSound old new events run → (before : ℕ → ℕ) (past : Touches) → AreHistoriesOf old past
+    → AreReadAsIssued past old new events run
     → IsClient before past old → IsClient before (touches_after past old new events run) new
+
+-- ---- tables that stay
+
+-- what the history of device n issues in a slot has the PRDs of the slot's command as they stand
+-- now
+abbrev pub HasTables : ℕ → Host → History → Type 0
+HasTables n host past = (s : ℕ) (t : Transfer) (command : Command) → issued s past ≡ Some t
+    → last_command host.port.commands s ≡ Some command → prds_of host.memory command ≡ t.table
+
+abbrev pub HaveTables : Host → Touches → Type 0
+HaveTables host past = (n : ℕ) → n < 16 → HasTables n host (own n past)
+
+-- the PRDs of each command that is issued stay
+abbrev pub SparesTables : Host → Host → Type 0
+SparesTables old new =
+    (s : ℕ) (command : Command) → is_some (issue_at old.port.slots s) ≡ true
+    → last_command old.port.commands s ≡ Some command
+    → prds_of new.memory command ≡ prds_of old.memory command
+
+-- over each event of a run
+abbrev pub AreSpared : (old new : Host) → (events : List HostEvent) → Runs old events new → Type 0
+AreSpared old new [] run = Unit {0}
+AreSpared old new (event ∷ events) run = SparesTables old run.0 × AreSpared run.0 new events run.2
+
+-- Where no event changes the PRDs of a command while it is issued, all Data is written by the
+-- tables as at the issues.
+abbrev pub SparedTablesRead : Type 0
+SparedTablesRead =
+    (old new : Host) (events : List HostEvent) (run : Runs old events new)
+    → IsSound old new events run → (past : Touches) → AreHistoriesOf old past → HaveTables old past
+    → AreSpared old new events run
+    → AreReadAsIssued past old new events run
+    × HaveTables new (touches_after past old new events run)
+
+-- ---- a read that is done
+
+-- a byte of what was issued in slot s of device n is filled, and stands so far behind the beginning of
+-- client memory
+pub record IsDelivered (n s i : ℕ) (touches : Touches) (client_bytes : List ℕ) (k : ℕ) : Type 0 where
+  pub byte : ℕ
+  pub is_filled : filled s (own n touches) i ≡ Some byte
+  pub stands : slice_index client_bytes k ≡ byte
+
+-- Where a report says that a read is done, each byte of the read is filled, and stands in client memory
+-- at the place that the read's table named at its issue.
+abbrev pub DoneReadsStand : Type 0
+DoneReadsStand =
+    (host new : Host) (frame : List ℕ) (report : TakeReport) → IsHost host → IsFrame frame
+    → TakesFrame host frame report new → (before : ℕ → ℕ) (past : Touches) → AreHistoriesOf host past
+    → AreWithin past → IsClient before past host → IsReadAsIssued past host (Took frame report)
+    → IsKept (touched host (Took frame report) ++ past)
+    → (s i k : ℕ) (t : Transfer) → s < 32 → has_bit report.done s ≡ true
+    → IsReading (port_of frame) s t past → i < t.work.len → place t.table i ≡ client_start + k
+    → k < length new.memory.client
+    → IsDelivered (port_of frame) s i (touched host (Took frame report) ++ past) new.memory.client k

@@ -1,7 +1,9 @@
--- What happened to the commands of one device, and what that comes to: what is issued, which bytes of it are filled and with
--- what, and which event completes it (AHCI 1.3.1, 5.3 and 9.3; Serial ATA 3.x, 10.5, FIS types; ACS-3, NCQ and PIO data-in
--- commands). These words read a history back to the issue of a slot, and know no flag, no cursor and no running sum.
-use Rattle.std.specs.Prelude.{ℕ, ◌+◌, ◌-◌, ◌≤◌, ◌==◌, ◌&&◌, ◌||◌, nat_le, nat_lt, not, Bool, false, if◌then◌else◌}
+-- What happened to the commands of one device, and what that comes to: what is issued, which bytes
+-- of it are filled and with what, and which event completes it (AHCI 1.3.1, 5.3 and 9.3; Serial ATA
+-- 3.x, 10.5, FIS types; ACS-3, NCQ and PIO data-in commands). These words read a history back to
+-- the issue of a slot, and know no flag, no cursor and no running sum.
+use Rattle.std.specs.Prelude.{ℕ, ◌+◌, ◌-◌, ◌≤◌, ◌==◌, ◌&&◌, ◌||◌, nat_le, nat_lt, not, Bool, false}
+use Rattle.std.specs.Prelude.{if◌then◌else◌}
 use Rattle.std.specs.Prelude.{List, [], ◌∷◌, length, slice_get, Option, Some, None, is_some}
 use Rattle.std.specs.List.{range_with_len, list_all}
 use Rattle.host_memory.specs.declared.table.Prd.{Prd}
@@ -10,13 +12,15 @@ use Rattle.slots.specs.Work.{is_queued}
 use Rattle.slots.specs.declared.work.Work.{Work}
 use Rattle.hba_fbs.specs.Status.{is_quiet}
 
--- what a command moves: its kind and how many bytes, and the PRDs that say where they lie, as they stand at its issue
+-- what a command moves: its kind and how many bytes, and the PRDs that say where they lie, as they
+-- stand at its issue
 pub record Transfer : Type 0 where
   pub work : Work
   pub table : List Prd
 
--- One event of a device. A FIS that was ignored, or that had a fault, is none, but for two: a Set Device Bits FIS that names
--- slots of which bytes are missing beside whole ones, and Data whose one fault is the last status of its block.
+-- One event of a device. A FIS that was ignored, or that had a fault, is none, but for two: a Set
+-- Device Bits FIS that names slots of which bytes are missing beside whole ones, and Data whose one
+-- fault is the last status of its block.
 pub data Event : Type 0 where
   -- a command is issued in a slot
   Issued : (slot : ℕ) → Transfer → Event
@@ -78,7 +82,8 @@ is_set_up s (_ ∷ past) = is_set_up s past
 abbrev pub bytes_of : ℕ → History → ℕ
 bytes_of s [] = 0
 bytes_of s (Issued slot t ∷ past) = if slot == s then 0 else bytes_of s past
-bytes_of s (Carried bytes ∷ past) = if is_set_up s past then bytes_of s past + length bytes else bytes_of s past
+bytes_of s (Carried bytes ∷ past) =
+    if is_set_up s past then bytes_of s past + length bytes else bytes_of s past
 bytes_of s (_ ∷ past) = bytes_of s past
 
 -- the setup of a PIO Setup goes on where the bytes of its slot end
@@ -139,32 +144,40 @@ block_end g gone = if gone == g.count then g.ends else None
 abbrev pub ends_well : Setup → ℕ → Bool
 ends_well g gone = match_some (block_end g gone) false is_quiet
 
--- Whether this completes what is issued in s, where that is this work: for a queued command a Set Device Bits FIS that names
--- it while it is whole, for any other an answer of the device, and for a PIO data-in also the end of its last block.
+-- Whether this completes what is issued in s, where that is this work: for a queued command a Set
+-- Device Bits FIS that names it while it is whole, for any other an answer of the device, and for a
+-- PIO data-in also the end of its last block.
 abbrev pub completes : ℕ → Event → History → Work → Bool
-completes s (Named mask) past w = has_bit mask s && (is_queued w.kind && is_all_filled (filled s past) w.len)
+completes s (Named mask) past w =
+    has_bit mask s && (is_queued w.kind && is_all_filled (filled s past) w.len)
 completes s Answered past w =
-    is_at s (waiting_in past) && not (is_queued w.kind) && (not (is_pio w.kind) || is_all_filled (filled s past) w.len)
+    is_at s (waiting_in past) && not (is_queued w.kind)
+    && (not (is_pio w.kind) || is_all_filled (filled s past) w.len)
 completes s (Carried bytes) past w =
-    is_set_up s past && is_pio w.kind && match_some (last_setup past) false (λ g. ends_well g (carried past + length bytes))
+    is_set_up s past && is_pio w.kind
+    && match_some (last_setup past) false (λ g. ends_well g (carried past + length bytes))
     && is_all_filled (filled s (Carried bytes ∷ past)) w.len
 completes s _ past w = false
 
--- what is issued in each slot, and did not complete; a Control has no answer, and its slot is free as it goes out
+-- what is issued in each slot, and did not complete; a Control has no answer, and its slot is free
+-- as it goes out
 abbrev pub issued : ℕ → History → Option Transfer
 issued s [] = None
 issued s (Issued slot t ∷ past) = if slot == s then Some t else issued s past
 issued s (SentControl slot ∷ past) = unless (slot == s) (issued s past)
 issued s (Emptied ∷ past) = None
-issued s (e ∷ past) = match_some (issued s past) None (λ t. unless (completes s e past t.work) (Some t))
+issued s (e ∷ past) =
+    match_some (issued s past) None (λ t. unless (completes s e past t.work) (Some t))
 
 -- how often the last issue of s completed
 abbrev pub completions : ℕ → History → ℕ
 completions s [] = 0
 completions s (Issued slot t ∷ past) = if slot == s then 0 else completions s past
 completions s (e ∷ past) =
-    match_some (issued s past) 0 (λ t. if completes s e past t.work then 1 else 0) + completions s past
+    match_some (issued s past) 0 (λ t. if completes s e past t.work then 1 else 0)
+    + completions s past
 
 -- Each issue completes at most once, and not while it is still issued.
 abbrev pub CompletesOnce : Type 0
-CompletesOnce = (s : ℕ) (past : History) → completions s past + match_some (issued s past) 0 (λ t. 1) ≤ 1
+CompletesOnce =
+    (s : ℕ) (past : History) → completions s past + match_some (issued s past) 0 (λ t. 1) ≤ 1

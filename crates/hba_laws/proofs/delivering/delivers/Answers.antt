@@ -2,6 +2,8 @@ use Rattle.hba_laws.proofs.ClientLemmas.{client_is_touched, data_is_within}
 use Rattle.hba_laws.proofs.DoneLemmas.{done_is_completed, opens_untold}
 use Rattle.hba_laws.proofs.EventLemmas.{histories_are_parts, views_are_told}
 use Rattle.hba_laws.proofs.OnceLemmas.{completes_once}
+use Rattle.hba_laws.proofs.ReadLemmas.{done_reads_stand}
+use Rattle.hba_laws.proofs.SpareLemmas.{spared_tables_read}
 use Rattle.hba_laws.proofs.StandLemmas.{completes_in_place, stands_in_place}
 use Rattle.hba_laws.proofs.delivering.delivers.Goals as goal
 
@@ -23,6 +25,9 @@ returns-clause-once c = completes_once
 pub returns-clause-client : goal.returns-clause-client
 returns-clause-client c = client_is_touched
 
+pub returns-clause-tables : goal.returns-clause-tables
+returns-clause-tables c = spared_tables_read
+
 pub returns-clause-standing : goal.returns-clause-standing
 returns-clause-standing c = stands_in_place
 
@@ -31,3 +36,6 @@ returns-clause-placed c = completes_in_place
 
 pub returns-clause-within : goal.returns-clause-within
 returns-clause-within c = data_is_within
+
+pub returns-clause-stands : goal.returns-clause-stands
+returns-clause-stands c = done_reads_stand
