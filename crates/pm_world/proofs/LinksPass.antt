@@ -96,29 +96,30 @@ record PlaceStep (capacity n : ℕ) (place : Place) (held_was : List Stamped) (a
   none_rose : rose_by a ≡ []
   none_taken : took_by a ≡ []
 
-idle_at : (capacity n : ℕ) (place : Place) (holds : List Stamped) (after : Place) (left : List Stamped) → HasRoom capacity place → length holds ≤ 1 → after ≡ place → left ≡ holds
-    → PlaceStep capacity n place holds answer.Idle after left
-idle_at capacity n place holds after left room fits same held_same = rw (same, held_same) (record {
-  here = quiet capacity n (Some place) holds answer.Idle [] room fits (record { entered = refl; offered = refl; came = refl; recorded = refl }) refl;
-  room = room;
-  elsewhere = λ m other. record { entered = refl; offered = refl; came = refl; recorded = refl };
-  none_rose = refl;
-  none_taken = refl;
-})
+-- an answer that tells nothing of any port
+abbrev TellsNothing : Answer → Type 0
+TellsNothing a = ((m : ℕ) → IsElsewhere m a) × (rose_by a ≡ []) × (took_by a ≡ [])
 
-blocked_at : (capacity n : ℕ) (place : Place) (holds : List Stamped) (after : Place) (left : List Stamped) → HasRoom capacity place → length holds ≤ 1 → after ≡ place → left ≡ holds
-    → PlaceStep capacity n place holds answer.Blocked after left
-blocked_at capacity n place holds after left room fits same held_same = rw (same, held_same) (record {
-  here = quiet capacity n (Some place) holds answer.Blocked [] room fits (record { entered = refl; offered = refl; came = refl; recorded = refl }) refl;
+idle_tells : TellsNothing answer.Idle
+idle_tells = (λ m. record { entered = refl; offered = refl; came = refl; recorded = refl }, refl, refl)
+
+blocked_tells : TellsNothing answer.Blocked
+blocked_tells = (λ m. record { entered = refl; offered = refl; came = refl; recorded = refl }, refl, refl)
+
+-- nothing changes
+same_at : (capacity n : ℕ) (place : Place) (holds : List Stamped) (a : Answer) (after : Place) (left : List Stamped) → HasRoom capacity place → length holds ≤ 1 → TellsNothing a → after ≡ place → left ≡ holds
+    → PlaceStep capacity n place holds a after left
+same_at capacity n place holds a after left room fits tells same held_same = rw (same, held_same) (record {
+  here = quiet capacity n (Some place) holds a [] room fits (tells.0 n) refl;
   room = room;
-  elsewhere = λ m other. record { entered = refl; offered = refl; came = refl; recorded = refl };
-  none_rose = refl;
-  none_taken = refl;
+  elsewhere = λ m other. tells.0 m;
+  none_rose = tells.1;
+  none_taken = tells.2;
 })
 
 came_at : (capacity n : ℕ) (place : Place) (holds : List Stamped) (a : Answer) (after : Place) → HasRoom capacity place → length holds ≤ 1 → CameActs n place a after
     → PlaceStep capacity n place holds a after holds
-came_at capacity n place holds answer.Blocked after room fits acts = blocked_at capacity n place holds after holds room fits acts.1 refl
+came_at capacity n place holds answer.Blocked after room fits acts = same_at capacity n place holds answer.Blocked after holds room fits blocked_tells acts.1 refl
 came_at capacity n place holds (answer.Came port conn) after room fits acts =
     let up : after.up ≡ place.up = ap (λ (p : Place). p.up) acts.3 in
     let more : after.presence.conns ≡ place.presence.conns ++ (place.conn + 1) ∷ [] = ap (λ (p : Place). p.presence.conns) acts.3 in
@@ -202,15 +203,15 @@ sent_at capacity n place holds port conn number bytes unit after room fits free 
 
 sends_at : (capacity n : ℕ) (place : Place) (holds : List Stamped) (a : Answer) (after : Place) → HasRoom capacity place → length holds ≤ 1 → DiskSendActs n place a after
     → PlaceStep capacity n place holds a after holds
-sends_at capacity n place holds answer.Idle after room fits acts = idle_at capacity n place holds after holds room fits acts.1 refl
-sends_at capacity n place holds answer.Blocked after room fits acts = blocked_at capacity n place holds after holds room fits acts.2 refl
+sends_at capacity n place holds answer.Idle after room fits acts = same_at capacity n place holds answer.Idle after holds room fits idle_tells acts.1 refl
+sends_at capacity n place holds answer.Blocked after room fits acts = same_at capacity n place holds answer.Blocked after holds room fits blocked_tells acts.2 refl
 sends_at capacity n place holds (answer.Sent port conn number bytes) after room fits acts =
     sent_at capacity n place holds port conn number bytes after.unit after room fits acts.0.1 acts.1 acts.2 acts.3 acts.5
 sends_at capacity n place holds _ after room fits acts = absurd acts
 
 inject_at : (capacity n : ℕ) (given : List ℕ) (place : Place) (holds : List Stamped) (a : Answer) (after : Place) → HasRoom capacity place → length holds ≤ 1 → InjectActs n given place a after
     → PlaceStep capacity n place holds a after holds
-inject_at capacity n given place holds answer.Blocked after room fits acts = blocked_at capacity n place holds after holds room fits acts.1 refl
+inject_at capacity n given place holds answer.Blocked after room fits acts = same_at capacity n place holds answer.Blocked after holds room fits blocked_tells acts.1 refl
 inject_at capacity n given place holds (answer.Sent port conn number bytes) after room fits acts =
     sent_at capacity n place holds port conn number bytes place.unit after room fits acts.0.1 acts.1 acts.2 acts.3
     (acts.5 ∙ ap (λ (b : List ℕ). after_sending n place b place.unit) (sym acts.4))
@@ -219,7 +220,7 @@ inject_at capacity n given place holds _ after room fits acts = absurd acts
 presence_at : (capacity n : ℕ) (place : Place) (port : PortState) (a : Answer) (after : Place) (left : PortState) → HasRoom capacity place → PmPresenceRule n place port (Ok a) after left
     → PlaceStep capacity n place (held (Some port)) a after (held (Some left))
 presence_at capacity n place port answer.Idle after left room acts =
-    idle_at capacity n place (held (Some port)) after (held (Some left)) room (held_fits (Some port)) acts.1 (ap (λ (p : PortState). option_to_list p.up) acts.2)
+    same_at capacity n place (held (Some port)) answer.Idle after (held (Some left)) room (held_fits (Some port)) idle_tells acts.1 (ap (λ (p : PortState). option_to_list p.up) acts.2)
 presence_at capacity n place port (answer.Presence p) after left room acts =
     let up : after.up ≡ place.up = ap (λ (q : Place). q.up) acts.1 in
     let size : after.presence.capacity ≡ place.presence.capacity = ap (λ (q : Place). q.presence.capacity) acts.1 in
@@ -259,9 +260,9 @@ presence_at capacity n place port _ after left room acts = absurd acts
 from_device_at : (capacity n : ℕ) (place : Place) (port : PortState) (a : Answer) (after : Place) (left : PortState) → HasRoom capacity place → PmFromDeviceRule n place port (Ok a) after left
     → PlaceStep capacity n place (held (Some port)) a after (held (Some left))
 from_device_at capacity n place port answer.Idle after left room acts =
-    idle_at capacity n place (held (Some port)) after (held (Some left)) room (held_fits (Some port)) acts.1 (ap (λ (p : PortState). option_to_list p.up) acts.2)
+    same_at capacity n place (held (Some port)) answer.Idle after (held (Some left)) room (held_fits (Some port)) idle_tells acts.1 (ap (λ (p : PortState). option_to_list p.up) acts.2)
 from_device_at capacity n place port answer.Blocked after left room acts =
-    blocked_at capacity n place (held (Some port)) after (held (Some left)) room (held_fits (Some port)) acts.2 (ap (λ (p : PortState). option_to_list p.up) acts.3)
+    same_at capacity n place (held (Some port)) answer.Blocked after (held (Some left)) room (held_fits (Some port)) blocked_tells acts.2 (ap (λ (p : PortState). option_to_list p.up) acts.3)
 from_device_at capacity n place port (answer.Offered p dropped) after left room acts =
     let presence : after.presence ≡ place.presence = ap (λ (q : Place). q.presence) acts.3 in
     let size : after.up.capacity ≡ place.up.capacity = ap (λ (q : Place). q.up.capacity) acts.3 in
@@ -359,12 +360,12 @@ at_port_goes capacity old n a new place port after left room is is_port new_is s
     (rw (is_port, slice_get-set_same old.ports n port left is_port) s))
 
 -- a step that moves nothing
-none_goes : (capacity : ℕ) (old : Places) (a : Answer) (new : Places) → HaveRoom capacity old → ((n : ℕ) → IsElsewhere n a) → rose_by a ≡ [] → took_by a ≡ []
+none_goes : (capacity : ℕ) (old : Places) (a : Answer) (new : Places) → HaveRoom capacity old → TellsNothing a
     → new.devices ≡ old.devices → new.ports ≡ old.ports → new.upward ≡ old.upward → Goes capacity old a new
-none_goes capacity old a new room none rose took devices ports upward = (
+none_goes capacity old a new room tells devices ports upward = (
   record {
     ports = λ n. (port n).passes;
-    host = rw upward (host_still capacity old.upward.frames a room.upward_within rose took);
+    host = rw upward (host_still capacity old.upward.frames a room.upward_within tells.1 tells.2);
     rises = λ n. (port n).rises;
   },
   record {
@@ -375,15 +376,15 @@ none_goes capacity old a new room none rose took devices ports upward = (
 )
   where
     port : (n : ℕ) → PortStep capacity n (slice_get old.devices n) (held (slice_get old.ports n)) a (slice_get new.devices n) (held (slice_get new.ports n)) []
-    port n = rw (devices, ports) (quiet capacity n (slice_get old.devices n) (held (slice_get old.ports n)) a [] (room.devices n) (held_fits (slice_get old.ports n)) (none n) refl)
+    port n = rw (devices, ports) (quiet capacity n (slice_get old.devices n) (held (slice_get old.ports n)) a [] (room.devices n) (held_fits (slice_get old.ports n)) (tells.0 n) refl)
 
 -- the frame of the port that is served next goes up
 up_goes : (capacity : ℕ) (old : Places) (a : Answer) (ports : List PortState) (last : ℕ) (upward : Queue) → HaveRoom capacity old → PmUpRule old.ports old.served old.upward (Ok a) ports last upward
     → Goes capacity old a (with_upward (with_served (with_ports old ports) last) upward)
 up_goes capacity old answer.Idle ports last upward room acts =
-    none_goes capacity old answer.Idle (with_upward (with_served (with_ports old ports) last) upward) room (λ n. record { entered = refl; offered = refl; came = refl; recorded = refl }) refl refl refl acts.2 acts.4
+    none_goes capacity old answer.Idle (with_upward (with_served (with_ports old ports) last) upward) room idle_tells refl acts.2 acts.4
 up_goes capacity old answer.Blocked ports last upward room acts =
-    none_goes capacity old answer.Blocked (with_upward (with_served (with_ports old ports) last) upward) room (λ n. record { entered = refl; offered = refl; came = refl; recorded = refl }) refl refl refl acts.1 acts.3
+    none_goes capacity old answer.Blocked (with_upward (with_served (with_ports old ports) last) upward) room blocked_tells refl acts.1 acts.3
 up_goes capacity old (answer.Up n) ports last upward room acts = (
   record {
     ports = λ m. (at_port m).passes;
@@ -443,7 +444,7 @@ up_goes capacity old _ ports last upward room acts = absurd acts
 take_goes : (capacity : ℕ) (old : Places) (a : Answer) (upward : Queue) (host : Host) → HaveRoom capacity old → HostTakeRule old.upward old.host (Ok a) upward host
     → Goes capacity old a (with_host (with_upward old upward) host)
 take_goes capacity old answer.Idle upward host room acts =
-    none_goes capacity old answer.Idle (with_host (with_upward old upward) host) room (λ n. record { entered = refl; offered = refl; came = refl; recorded = refl }) refl refl refl refl acts.1
+    none_goes capacity old answer.Idle (with_host (with_upward old upward) host) room idle_tells refl refl acts.1
 take_goes capacity old (answer.Took port conn number bytes report) upward host room acts = (
   record {
     ports = λ n. (at_port n).passes;
@@ -477,21 +478,21 @@ take_goes capacity old _ upward host room acts = absurd acts
 -- what the host does with its driver moves nothing
 submit_goes : (capacity : ℕ) (old : Places) (at : Bool) (request : Request) (a : Answer) (host : Host) → HaveRoom capacity old → SubmitRule at request old.host (Ok a) host → Goes capacity old a (with_host old host)
 submit_goes capacity old at request (answer.Submitted ticket) host room acts =
-    none_goes capacity old (answer.Submitted ticket) (with_host old host) room (λ n. record { entered = refl; offered = refl; came = refl; recorded = refl }) refl refl refl refl refl
+    none_goes capacity old (answer.Submitted ticket) (with_host old host) room (λ n. record { entered = refl; offered = refl; came = refl; recorded = refl }, refl, refl) refl refl refl
 submit_goes capacity old at request (answer.Refused e) host room acts =
-    none_goes capacity old (answer.Refused e) (with_host old host) room (λ n. record { entered = refl; offered = refl; came = refl; recorded = refl }) refl refl refl refl refl
+    none_goes capacity old (answer.Refused e) (with_host old host) room (λ n. record { entered = refl; offered = refl; came = refl; recorded = refl }, refl, refl) refl refl refl
 submit_goes capacity old at request _ host room acts = absurd acts
 
 poll_goes : (capacity : ℕ) (old : Places) (a : Answer) (host : Host) → HaveRoom capacity old → PollRule old.host (Ok a) host → Goes capacity old a (with_host old host)
 poll_goes capacity old answer.Idle host room acts =
-    none_goes capacity old answer.Idle (with_host old host) room (λ n. record { entered = refl; offered = refl; came = refl; recorded = refl }) refl refl refl refl refl
+    none_goes capacity old answer.Idle (with_host old host) room idle_tells refl refl refl
 poll_goes capacity old (answer.Polled completion) host room acts =
-    none_goes capacity old (answer.Polled completion) (with_host old host) room (λ n. record { entered = refl; offered = refl; came = refl; recorded = refl }) refl refl refl refl refl
+    none_goes capacity old (answer.Polled completion) (with_host old host) room (λ n. record { entered = refl; offered = refl; came = refl; recorded = refl }, refl, refl) refl refl refl
 poll_goes capacity old _ host room acts = absurd acts
 
 put_goes : (capacity : ℕ) (old : Places) (at : ℕ) (bytes : List ℕ) (a : Answer) (host : Host) → HaveRoom capacity old → PutRule at bytes old.host (Ok a) host → Goes capacity old a (with_host old host)
 put_goes capacity old at bytes answer.Put host room acts =
-    none_goes capacity old answer.Put (with_host old host) room (λ n. record { entered = refl; offered = refl; came = refl; recorded = refl }) refl refl refl refl refl
+    none_goes capacity old answer.Put (with_host old host) room (λ n. record { entered = refl; offered = refl; came = refl; recorded = refl }, refl, refl) refl refl refl
 put_goes capacity old at bytes _ host room acts = absurd acts
 
 rule_goes : (capacity : ℕ) (old : Places) (s : Step) (a : Answer) (new : Places) → HaveRoom capacity old → Rule old s (Ok a) new → Goes capacity old a new
