@@ -1,6 +1,7 @@
 -- The steps of a world are deeds of its host's part.
 use Rattle.std.proofs.Common.{◌≡◌, ℕ, Bool, true, false, List, [], ◌∷◌, ◌++◌, Some, refl, ap, subst, ◌∙◌}
 use Rattle.std.specs.Prelude.{Ok}
+use Rattle.hba_laws.proofs.OnceLemmas.{completes_once}
 use Rattle.pm_world.specs.Host.{Host}
 use Rattle.pm_world.specs.Deeds.{Deed, Submitted, Polled, Put, Took, Does, DoesAll, Polls, completion_of, after_poll}
 use Rattle.pm_world.specs.Delivery.{deed_of, deeds_of, DeliversReads}
@@ -14,7 +15,7 @@ use Rattle.pm_world.specs.declared.step.Step.TheVariants as step
 use Rattle.pm_world.specs.declared.step.Answer.{Answer}
 use Rattle.pm_world.specs.declared.step.Answer.TheVariants as answer
 use Rattle.pm_world.proofs.Moves.{there, at_both}
-use Rattle.pm_world.proofs.ReadLaws.{completes_once, delivers}
+use Rattle.pm_world.proofs.ReadLaws.{delivers}
 use Rattle.pm_world.proofs.Risen.{run_rises, opening_risen}
 
 -- deeds, and then deeds

@@ -11,7 +11,7 @@ use Rattle.host_memory.specs.Memory.{Memory}
 use Rattle.host_memory.specs.Place.{total_of}
 use Rattle.host_memory.specs.Reading.{prds_at, read_fault, have_overlap}
 use Rattle.host_memory.specs.Writing.{CanBeWritten, IsUsable}
-use Rattle.pm_world.specs.Events.{has_bit}
+use Rattle.slots.specs.Slots.{has_bit}
 use Rattle.pm_world.specs.Host.{Host, HasTable, IsGoodFor, CanBeRead, with_table, submit_refusal, is_bad_count, is_mismatch, is_bad_prd, is_free, end_of, table_at, new_read, TransferIsWithin}
 use Rattle.pm_world.specs.Reads.{Read}
 use Rattle.pm_world.specs.declared.request.Request.{Request}

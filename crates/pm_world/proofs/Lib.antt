@@ -5,7 +5,6 @@ pub mod Refusals
 pub mod Openings
 pub mod Refused
 pub mod HostLemmas
-pub mod ReadsOnce
 pub mod ReadsFlags
 pub mod ReadsBytes
 pub mod ReadsHeld

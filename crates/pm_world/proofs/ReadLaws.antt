@@ -1,27 +1,23 @@
--- The laws of reads: each issue completes at most once; and over all deeds of the host's part of a world its client
+-- The laws of reads: over all deeds of the host's part of a world its client
 -- bytes, its reports and its tickets are what they should be.
 use Rattle.std.proofs.Common.{◌≡◌, ℕ, zero, suc, ◌+◌, ◌<◌, ◌≤◌, Bool, true, false, cond, eqb, append_assoc, List, [], ◌∷◌, ◌++◌, length, get_or, refl, sym, ap, subst, ◌∙◌, inl, inr, Option, Some, None, arith}
 use Rattle.std.specs.Prelude.{AllPairs, ◌&&◌}
 use Rattle.std.specs.List.{list_any}
-use Rattle.std.proofs.lemmas.Bool.{cases_eq, eq-eqb, eqb-true, eqb-false, or_parts, false≢true}
+use Rattle.std.proofs.lemmas.Bool.{cases_eq, eqb-true, eqb-false, or_parts, false≢true}
 use Rattle.fis_view.specs.Frames.{IsFrame}
 use Rattle.host_memory.specs.Memory.{Memory}
 use Rattle.host_memory.specs.Place.{place}
-use Rattle.pm_world.specs.Events.{Command, Event, Issued, SetUp, Carried, Named, History, Told, SetupFis, DataFis, BitsFis, OtherFis, told, has_bit, match_some}
-use Rattle.pm_world.specs.History.{CompletesOnce, issued, completes, fits_setup, fits_data}
-use Rattle.pm_world.specs.Client.{Touches, By, own, client}
+use Rattle.slots.specs.Slots.{has_bit, match_some}
+use Rattle.hba_laws.specs.Client.{Touches, By, own, client}
+use Rattle.hba_laws.specs.History.{Event, Issued, SentControl, SetUp, Carried, Named, Emptied, History, Transfer, issued, completes, unless}
+use Rattle.pm_world.specs.Told.{Told, SetupFis, DataFis, BitsFis, OtherFis, told, fits_setup, fits_data, heard}
 use Rattle.pm_world.specs.Host.{Host}
-use Rattle.pm_world.specs.Deeds.{Deed, Submitted, Polled, Put, Took, Acts, Takes, Does, DoesAll, Delivers, IsTook, AreTooks, issues, command_of, completes_now, heard, touched, touches, tickets, opening_of, pm_port_of}
+use Rattle.pm_world.specs.Deeds.{Deed, Submitted, Polled, Put, Took, Acts, Takes, Does, DoesAll, Delivers, IsTook, AreTooks, issues, transfer_of, completes_now, touched, touches, tickets, opening_of, pm_port_of}
 use Rattle.pm_world.specs.declared.host.Slot.{Slot}
 use Rattle.pm_world.specs.declared.host.Slot.TheVariants as slot
 use Rattle.pm_world.specs.declared.request.TakeReport.{TakeReport}
-use Rattle.pm_world.proofs.ReadsOnce.{once}
-use Rattle.pm_world.proofs.ReadsAgree.{Agrees, at_start, good_from, submitted, polled, put}
+use Rattle.pm_world.proofs.ReadsAgree.{Agrees, at_start, good_from, own_same, submitted, polled, put}
 use Rattle.pm_world.proofs.ReadsTaken.{IsTaken, quiet_taken, heard_taken, told_whole, hears_dev, completed_in_place}
-
--- each issue completes at most once
-pub completes_once : CompletesOnce
-completes_once = once
 
 -- ---- one deed
 
@@ -134,14 +130,12 @@ rising old (Took frame report ∷ deeds) new h i j d lt below = rising h.0 deeds
 -- ---- a slot completes once in an issue
 
 -- a completion frees its slot
-freed_by : (s : ℕ) (e : Event) (past : History) (c : Command) → issued s past ≡ Some c → completes s e past c ≡ true → issued s (e ∷ past) ≡ None
-freed_by s (Issued slot command) past c is done = absurd (false≢true done)
-freed_by s (SetUp tag offset count) past c is done = absurd (false≢true done)
-freed_by s (Carried bytes) past c is done = absurd (false≢true done)
-freed_by s (Named mask) past c is done = rw (is, done) refl
-
-own_same : (dev : ℕ) (e : Event) (past : Touches) → own dev (By dev e ∷ past) ≡ e ∷ own dev past
-own_same dev e past = let same : eqb dev dev ≡ true = eq-eqb dev dev refl in rw same refl
+freed_by : (s : ℕ) (e : Event) (past : History) (t : Transfer) → issued s past ≡ Some t → completes s e past t.work ≡ true → issued s (e ∷ past) ≡ None
+freed_by s (Issued slot u) past t is done = absurd (false≢true done)
+freed_by s (SentControl slot) past t is done = absurd (false≢true done)
+freed_by s Emptied past t is done = refl
+freed_by s e past t is done =
+    ap (λ o. match_some o None (λ u. unless (completes s e past u.work) (Some u))) is ∙ ap (λ b. unless b (Some t)) done
 
 module _ (past : Touches) (frame : List ℕ) (report : TakeReport) (s : ℕ) where
   freed_now : completes_now past s frame ≡ true → issued s (own (pm_port_of frame) (touched past (Took frame report))) ≡ None
@@ -150,15 +144,15 @@ module _ (past : Touches) (frame : List ℕ) (report : TakeReport) (s : ℕ) whe
       before : History
       before = own (pm_port_of frame) past
 
-      by_event : (c : Command) → issued s before ≡ Some c → (o : Option Event) → match_some o false (λ e. completes s e before c) ≡ true
+      by_event : (t : Transfer) → issued s before ≡ Some t → (o : Option Event) → match_some o false (λ e. completes s e before t.work) ≡ true
           → issued s (own (pm_port_of frame) (match_some o past (λ e. By (pm_port_of frame) e ∷ past))) ≡ None
-      by_event c is None h = absurd (false≢true h)
-      by_event c is (Some e) h = ap (issued s) (own_same (pm_port_of frame) e past) ∙ freed_by s e before c is h
+      by_event t is None h = absurd (false≢true h)
+      by_event t is (Some e) h = ap (issued s) (own_same (pm_port_of frame) e past) ∙ freed_by s e before t is h
 
-      by_issue : (o : Option Command) → issued s before ≡ o → match_some o false (λ c. match_some (heard before (told frame)) false (λ e. completes s e before c)) ≡ true
+      by_issue : (o : Option Transfer) → issued s before ≡ o → match_some o false (λ t. match_some (heard before (told frame)) false (λ e. completes s e before t.work)) ≡ true
           → issued s (own (pm_port_of frame) (touched past (Took frame report))) ≡ None
       by_issue None is h = absurd (false≢true h)
-      by_issue (Some c) is h = by_event c is (heard before (told frame)) h
+      by_issue (Some t) is h = by_event t is (heard before (told frame)) h
 
 -- where nothing is issued in a slot, only an issue of it changes that
 module _ (dev s : ℕ) (past : Touches) (free : issued s (own dev past) ≡ None) where
@@ -175,7 +169,7 @@ module _ (dev s : ℕ) (past : Touches) (free : issued s (own dev past) ≡ None
   if_it_fits port e false h = free
 
   free_after_took : (port : ℕ) (t : Told) → issued s (own dev (match_some (heard (own port past) t) past (λ e. By port e ∷ past))) ≡ None
-  free_after_took port (SetupFis tag offset count to_host) = if_it_fits port (SetUp tag offset count) (fits_setup (own port past) tag offset count to_host) (rw free refl)
+  free_after_took port (SetupFis tag offset count to_host) = if_it_fits port (SetUp tag offset count to_host) (fits_setup (own port past) tag offset count to_host) (rw free refl)
   free_after_took port (DataFis payload) = if_it_fits port (Carried payload) (fits_data (own port past) (length payload)) (rw free refl)
   free_after_took port (BitsFis status sactive) = by_error (has_bit status 0)
     where
@@ -187,11 +181,11 @@ module _ (dev s : ℕ) (past : Touches) (free : issued s (own dev past) ≡ None
   free_after : (deed : Deed) → issues dev s deed ≡ false → issued s (own dev (touched past deed)) ≡ None
   free_after (Submitted request ticket) other = by_device (eqb 0 dev) other
     where
-      by_slot : (b : Bool) → b ≡ false → cond b (Some (command_of request)) (issued s (own dev past)) ≡ None
+      by_slot : (b : Bool) → b ≡ false → cond b (Some (transfer_of request)) (issued s (own dev past)) ≡ None
       by_slot true e = absurd (false≢true (sym e))
       by_slot false e = free
 
-      by_device : (b : Bool) → (b && eqb 0 s) ≡ false → issued s (cond b (Issued 0 (command_of request) ∷ own dev past) (own dev past)) ≡ None
+      by_device : (b : Bool) → (b && eqb 0 s) ≡ false → issued s (cond b (Issued 0 (transfer_of request) ∷ own dev past) (own dev past)) ≡ None
       by_device true e = by_slot (eqb 0 s) e
       by_device false e = free
   free_after Polled other = free
@@ -268,10 +262,10 @@ delivers old deeds now free none_given run = record {
   done = done_is old deeds now free run;
   done_once = once_only old deeds now free run;
   by_device = dev_is old deeds now free run;
-  in_place = λ before frame report took s c is completes i lt.
+  in_place = λ before frame report took s v is completes i lt.
       let t = taking old deeds now free run before frame report took in
-      let r = completed_in_place (opening_of old.memory.client) (touches [] before) t.from.memory.client t.from.slot t.agrees (pm_port_of frame) s c
+      let r = completed_in_place (opening_of old.memory.client) (touches [] before) t.from.memory.client t.from.slot t.agrees (pm_port_of frame) s v
       (heard (own (pm_port_of frame) (touches [] before)) (told frame)) is completes i lt in
-      (r.0, r.1, ap (λ (past : Touches). client (opening_of old.memory.client) past (place c.table i)) (touches_push [] before (Took frame report)) ∙ r.2);
+      (r.0, r.1, ap (λ (past : Touches). client (opening_of old.memory.client) past (place v.table i)) (touches_push [] before (Took frame report)) ∙ r.2);
   tickets_once = rising old deeds now run;
 }

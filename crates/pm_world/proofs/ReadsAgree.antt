@@ -1,41 +1,41 @@
 -- The host's part of a world agrees with what its deeds come to: what agrees, and that it does so after a submit, a poll and a Put.
-use Rattle.std.proofs.Common.{◌≡◌, ◌≢◌, ℕ, ◌+◌, ◌-◌, ◌*◌, ◌<◌, ◌≤◌, Bool, true, false, cond, eqb, List, [], ◌∷◌, length, refl, sym, ap, ◌∙◌, Option, Some, None, arith}
+use Rattle.std.proofs.Common.{◌≡◌, ◌≢◌, ℕ, ◌+◌, ◌-◌, ◌*◌, ◌<◌, ◌≤◌, Bool, true, false, cond, eqb, List, [], ◌∷◌, length, refl, sym, ap, ◌∙◌, inl, inr, Option, Some, None, arith}
 use Rattle.std.specs.Prelude.{not, ◌&&◌, ◌||◌, nat_le, nat_lt, slice_index}
 use Rattle.std.specs.List.{list_any}
-use Rattle.std.proofs.lemmas.Bool.{ne_eqb, eqb-true, ltb-true, ltb-false, leb-true, lt-ltb, and_parts, and_from, or_parts, or_right, not-false, cond-false, false≢true, false_from_ne_true}
+use Rattle.std.proofs.lemmas.Bool.{cases_eq, eq-eqb, ne_eqb, eqb-true, ltb-true, ltb-false, leb-true, lt-ltb, and_parts, and_from, or_parts, or_right, not-false, cond-false, false≢true, false_from_ne_true}
 use Rattle.std.proofs.lemmas.List.{length-replicate}
+use Rattle.std.proofs.lemmas.Option.{same_Some}
 use Rattle.host_memory.specs.declared.table.Prd.{Prd}
 use Rattle.host_memory.specs.Memory.{client_start, overwritten}
 use Rattle.host_memory.specs.Place.{total_of, place, LiesInClient, AreInside, AreApart}
 use Rattle.host_memory.specs.Reading.{have_overlap}
 use Rattle.host_memory.proofs.PlaceLemmas.{place_has}
 use Rattle.host_memory.proofs.OverlapLemmas.{list_any-true, apart_from_overlap}
-use Rattle.pm_world.specs.Events.{Event, Issued}
-use Rattle.pm_world.specs.History.{issued, filled}
-use Rattle.pm_world.specs.Client.{Touches, By, Puts, own, client}
+use Rattle.slots.specs.declared.work.Kind.TheVariants.{QueuedRead}
+use Rattle.hba_laws.specs.Client.{Touches, By, Puts, own, client, is_in, IsSpared, IsKept, AreWithin}
+use Rattle.hba_laws.specs.History.{Event, Issued, Transfer, issued}
 use Rattle.pm_world.specs.Reads.{Read}
 use Rattle.pm_world.specs.Host.{Host, submit_refusal, is_bad_prd, is_bad_count, is_mismatch, end_of, new_read}
-use Rattle.pm_world.specs.Deeds.{command_of, opening_of, in_use, share_bytes}
+use Rattle.pm_world.specs.Deeds.{transfer_of, opening_of, in_use, share_bytes}
 use Rattle.pm_world.specs.declared.host.Slot.{Slot}
 use Rattle.pm_world.specs.declared.host.Slot.TheVariants as slot
 use Rattle.pm_world.specs.declared.request.Request.{Request}
 use Rattle.pm_world.proofs.ReadsFlags.{tells_none}
 use Rattle.pm_world.proofs.ReadsBytes.{put_is, put_long}
-use Rattle.pm_world.proofs.ReadsHeld.{IsHeld}
+use Rattle.pm_world.proofs.ReadsHeld.{IsHeld, transfer_of_read}
 
--- an issued read agrees with its device's history, and each of its filled bytes stands at its place
-pub record IsRead (opening : ℕ → ℕ) (past : Touches) (len : ℕ) (read : Read) : Type 0 where
+-- an issued read agrees with its device's history, and each of its bytes has a place of its own
+pub record IsRead (past : Touches) (len : ℕ) (read : Read) : Type 0 where
   pub held : IsHeld (own 0 past) read
   pub inside : AreInside len read.prds
   pub apart : AreApart read.prds
   pub whole : total_of read.prds ≡ read.len
-  pub stands : (i b : ℕ) → i < read.len → filled 0 (own 0 past) i ≡ Some b → client opening past (place read.prds i) ≡ b
 
 -- what a slot says of the history: an issued read agrees with it, and otherwise nothing is issued
-abbrev pub SlotIs : (ℕ → ℕ) → Touches → ℕ → Slot → Type 0
-SlotIs opening past len slot.Free = issued 0 (own 0 past) ≡ None
-SlotIs opening past len (slot.Issued read) = IsRead opening past len read
-SlotIs opening past len (slot.Ended read) = issued 0 (own 0 past) ≡ None
+abbrev pub SlotIs : Touches → ℕ → Slot → Type 0
+SlotIs past len slot.Free = issued 0 (own 0 past) ≡ None
+SlotIs past len (slot.Issued read) = IsRead past len read
+SlotIs past len (slot.Ended read) = issued 0 (own 0 past) ≡ None
 
 -- client bytes and a slot agree with the touches
 pub record Agrees (opening : ℕ → ℕ) (past : Touches) (bytes : List ℕ) (now : Slot) : Type 0 where
@@ -43,7 +43,14 @@ pub record Agrees (opening : ℕ → ℕ) (past : Touches) (bytes : List ℕ) (n
   -- nothing else is ever issued
   pub elsewhere : (n s : ℕ) → n ≢ 0 → issued s (own n past) ≡ None
   pub others : (s : ℕ) → s ≢ 0 → issued s (own 0 past) ≡ None
-  pub slot : SlotIs opening past (length bytes) now
+  pub slot : SlotIs past (length bytes) now
+  -- bytes that were put spared the reads, and Data came for a read and within it
+  pub kept : IsKept past
+  pub within : AreWithin past
+
+-- an event of a device is one of its history
+pub own_same : (dev : ℕ) (e : Event) (past : Touches) → own dev (By dev e ∷ past) ≡ e ∷ own dev past
+own_same dev e past = let same : eqb dev dev ≡ true = eq-eqb dev dev refl in rw same refl
 
 -- an event of one device is none of another
 pub own_other : (port n : ℕ) (e : Event) (past : Touches) → port ≢ n → own n (By port e ∷ past) ≡ own n past
@@ -56,7 +63,48 @@ at_start opened = record {
   elsewhere = λ n s ne. refl;
   others = λ s ne. refl;
   slot = refl;
+  kept = tt;
+  within = tt;
 }
+
+-- ---- the one read
+
+-- what is issued in slot s of device n is the read
+pub record IsTheRead (read : Read) (n s : ℕ) (t : Transfer) : Type 0 where
+  pub device : n ≡ 0
+  pub number : s ≡ 0
+  pub transfer : t ≡ transfer_of_read read
+
+-- it is so where the slot has an issued read, and else nothing is issued
+abbrev pub IsReadOf : Slot → ℕ → ℕ → Transfer → Type 0
+IsReadOf slot.Free n s t = ⊥
+IsReadOf (slot.Issued read) n s t = IsTheRead read n s t
+IsReadOf (slot.Ended read) n s t = ⊥
+
+pub one_read : (opening : ℕ → ℕ) (past : Touches) (bytes : List ℕ) (now : Slot) → Agrees opening past bytes now → (n s : ℕ) (t : Transfer) → issued s (own n past) ≡ Some t → IsReadOf now n s t
+one_read opening past bytes now a n s t is =
+    elim (cases_eq n 0) [
+      | inl p ↦ elim (cases_eq s 0) [
+        | inl z ↦ by_slot now a.slot p z (sym (ap (λ m. issued s (own m past)) p ∙ ap (λ k. issued k (own 0 past)) z) ∙ is)
+        | inr ne ↦ let none = a.others s ne in let at = ap (λ m. issued s (own m past)) p in cc
+      ]
+      | inr ne ↦ let none = a.elsewhere n s ne in cc
+    ]
+  where
+    by_slot : (now : Slot) → SlotIs past (length bytes) now → n ≡ 0 → s ≡ 0 → issued 0 (own 0 past) ≡ Some t → IsReadOf now n s t
+    by_slot slot.Free x p z is = cc
+    by_slot (slot.Ended read) x p z is = cc
+    by_slot (slot.Issued read) x p z is = record {
+      device = p;
+      number = z;
+      transfer = sym (same_Some (transfer_of_read read) t (sym x.held.issue ∙ is));
+    }
+
+-- whatever is issued is a queued read
+pub queued_read : (now : Slot) (n s : ℕ) (t : Transfer) → IsReadOf now n s t → t.work.kind ≡ QueuedRead
+queued_read slot.Free n s t r = absurd r
+queued_read (slot.Issued read) n s t r = ap (λ (v : Transfer). v.work.kind) r.transfer
+queued_read (slot.Ended read) n s t r = absurd r
 
 -- ---- a submit
 
@@ -98,11 +146,11 @@ good_from host request e =
 
 -- it agrees once it is issued
 pub submitted : (opening : ℕ → ℕ) (past : Touches) (bytes : List ℕ) (now : Slot) (request : Request) (ticket : ℕ) → IsGood (length bytes) request → Agrees opening past bytes now
-    → Agrees opening (By 0 (Issued 0 (command_of request)) ∷ past) bytes (slot.Issued (new_read ticket request))
+    → Agrees opening (By 0 (Issued 0 (transfer_of request)) ∷ past) bytes (slot.Issued (new_read ticket request))
 submitted opening past bytes now request ticket good a = record {
   same = a.same;
-  elsewhere = λ n s ne. ap (issued s) (own_other 0 n (Issued 0 (command_of request)) past (λ e. ne (sym e))) ∙ a.elsewhere n s ne;
-  others = λ s ne. cond-false (eqb 0 s) (Some (command_of request)) (issued s (own 0 past)) (ne_eqb 0 s (λ e. ne (sym e))) ∙ a.others s ne;
+  elsewhere = λ n s ne. ap (issued s) (own_other 0 n (Issued 0 (transfer_of request)) past (λ e. ne (sym e))) ∙ a.elsewhere n s ne;
+  others = λ s ne. cond-false (eqb 0 s) (Some (transfer_of request)) (issued s (own 0 past)) (ne_eqb 0 s (λ e. ne (sym e))) ∙ a.others s ne;
   slot = record {
     held = record {
       issue = refl;
@@ -113,15 +161,16 @@ submitted opening past bytes now request ticket good a = record {
     inside = good.inside;
     apart = good.apart;
     whole = good.whole;
-    stands = λ i b lt e. cc;
   };
+  kept = a.kept;
+  within = a.within;
 }
 
 -- ---- a poll
 
 -- an ended read has nothing issued any more
 pub polled : (opening : ℕ → ℕ) (past : Touches) (bytes : List ℕ) (read : Read) → Agrees opening past bytes (slot.Ended read) → Agrees opening past bytes slot.Free
-polled opening past bytes read a = record { same = a.same; elsewhere = a.elsewhere; others = a.others; slot = a.slot }
+polled opening past bytes read a = record { same = a.same; elsewhere = a.elsewhere; others = a.others; slot = a.slot; kept = a.kept; within = a.within }
 
 -- ---- a Put
 
@@ -143,6 +192,16 @@ put_misses at len i prds mine unused below = false_from_ne_true (nat_le at (plac
         let some : nat_lt 0 len ≡ true = lt-ltb 0 len (omega arith) in
         false≢true (sym unused ∙ and_from (nat_lt 0 len) (mine || list_any (λ prd. share_bytes at len prd.address prd.bytes) prds) some (or_right mine (list_any (λ prd. share_bytes at len prd.address prd.bytes) prds) one))
 
+-- a Put spares the places of what is issued
+spared : (opening : ℕ → ℕ) (past : Touches) (bytes : List ℕ) (now : Slot) (at len : ℕ) → in_use now at len ≡ false → Agrees opening past bytes now → IsSpared at len past
+spared opening past bytes slot.Free at len unused a n s i t reading lt = absurd (one_read opening past bytes slot.Free a n s t reading.is)
+spared opening past bytes (slot.Ended read) at len unused a n s i t reading lt = absurd (one_read opening past bytes (slot.Ended read) a n s t reading.is)
+spared opening past bytes (slot.Issued read) at len unused a n s i t reading lt =
+    let same = (one_read opening past bytes (slot.Issued read) a n s t reading.is).transfer in
+    let long : t.work.len ≡ read.len = ap (λ (v : Transfer). v.work.len) same in
+    ap (λ (v : Transfer). is_in at len (place v.table i)) same
+    ∙ put_misses at len i read.prds (share_bytes at len client_start 512) unused (omega (arith, a.slot.whole))
+
 -- a Put changes just its bytes, and none of an issued read's
 pub put : (opening : ℕ → ℕ) (past : Touches) (bytes : List ℕ) (now : Slot) (at : ℕ) (news : List ℕ) → LiesInClient (length bytes) at (length news) → in_use now at (length news) ≡ false
     → Agrees opening past bytes now → Agrees opening (Puts at news ∷ past) (overwritten bytes (at - client_start) news) now
@@ -152,17 +211,12 @@ put opening past bytes now at news lies unused a =
       same = λ k lt. put_is bytes news at lies (client opening past) a.same k (omega arith);
       elsewhere = a.elsewhere;
       others = a.others;
-      slot = rw long (by_slot now unused a.slot);
+      slot = rw long (by_slot now a.slot);
+      kept = (spared opening past bytes now at (length news) unused a, a.kept);
+      within = a.within;
     }
   where
-    by_slot : (now : Slot) → in_use now at (length news) ≡ false → SlotIs opening past (length bytes) now → SlotIs opening (Puts at news ∷ past) (length bytes) now
-    by_slot slot.Free unused x = x
-    by_slot (slot.Ended read) unused x = x
-    by_slot (slot.Issued read) unused x = record {
-      held = x.held;
-      inside = x.inside;
-      apart = x.apart;
-      whole = x.whole;
-      stands = λ i b lt e.
-          rw (put_misses at (length news) i read.prds (share_bytes at (length news) client_start 512) unused (omega (arith, x.whole))) (x.stands i b lt e);
-    }
+    by_slot : (now : Slot) → SlotIs past (length bytes) now → SlotIs (Puts at news ∷ past) (length bytes) now
+    by_slot slot.Free x = x
+    by_slot (slot.Ended read) x = x
+    by_slot (slot.Issued read) x = record { held = x.held; inside = x.inside; apart = x.apart; whole = x.whole }

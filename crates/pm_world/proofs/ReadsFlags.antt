@@ -7,8 +7,7 @@ use Rattle.std.proofs.lemmas.List.{length-append, length-take-le, length-drop, l
 use Rattle.std.proofs.lemmas.List.Folds.{list_all_at, list_any_at}
 use Rattle.std.proofs.lemmas.List.FromFn.{get_or-range_with_len, length-range_with_len}
 use Rattle.std.proofs.lemmas.Option.{slice_get-get_or}
-use Rattle.pm_world.specs.Events.{none_filled, filled_from}
-use Rattle.pm_world.specs.History.{is_all_filled}
+use Rattle.hba_laws.specs.History.{none_filled, filled_from, is_all_filled}
 use Rattle.pm_world.specs.Host.{with_come, have_not_come}
 
 -- ---- tests of whole lists

@@ -3,21 +3,24 @@ use Rattle.std.proofs.Common.{◌≡◌, ◌≢◌, ℕ, ◌+◌, ◌*◌, ◌/�
 use Rattle.std.specs.Prelude.{is_some, not, ◌&&◌, nat_le}
 use Rattle.std.specs.List.{range_with_len, list_any}
 use Rattle.std.proofs.lemmas.Bool.{cases_eq, ne_eqb, eqb-true, leb-true, and_parts}
-use Rattle.pm_world.specs.Events.{Command, QueuedRead, SetUp, Carried, Named, History, Setup, has_bit, match_some, filled_from}
-use Rattle.pm_world.specs.History.{issued, filled, is_set_up, last_setup, carried, completes, fits_setup, fits_data}
-use Rattle.pm_world.specs.Client.{filling}
+use Rattle.slots.specs.Slots.{has_bit, match_some}
+use Rattle.slots.specs.declared.work.Kind.TheVariants.{QueuedRead}
+use Rattle.hba_laws.specs.Client.{filling}
+use Rattle.hba_laws.specs.History as history
+use Rattle.hba_laws.specs.History.{SetUp, Carried, Named, History, Setup, filled_from, issued, filled, is_set_up, last_setup, carried, completes}
+use Rattle.pm_world.specs.Told.{fits_setup, fits_data}
 use Rattle.pm_world.specs.Reads.{Read}
 use Rattle.pm_world.specs.Host.{takes_setup, takes_data, is_whole, with_setup, with_data, have_not_come}
 use Rattle.pm_world.specs.declared.host.Transfer.{Transfer}
 use Rattle.pm_world.proofs.ReadsFlags.{Tells, whole_is, not_come_is, tells_more, come_long}
 
--- the command of an issued read
-abbrev pub command_of_read : Read → Command
-command_of_read read = record { kind = QueuedRead; len = read.len; table = read.prds }
+-- the transfer of an issued read
+abbrev pub transfer_of_read : Read → history.Transfer
+transfer_of_read read = record { work = record { kind = QueuedRead; len = read.len }; table = read.prds }
 
 -- the transfer is the last setup, and so many bytes came since
 pub record IsLast (past : History) (len : ℕ) (t : Transfer) : Type 0 where
-  pub last : last_setup past ≡ Some (record { slot = 0; offset = t.offset; count = t.count })
+  pub last : last_setup past ≡ Some (record { slot = 0; offset = t.offset; count = t.count; to_host = true; ends = None })
   pub up : is_set_up 0 past ≡ true
   pub came : carried past ≡ t.came
   pub offset_dwords : t.offset % 4 ≡ 0
@@ -32,7 +35,7 @@ TransferIs past len (Some t) = IsLast past len t
 
 -- what an issued read has of its device's history
 pub record IsHeld (past : History) (read : Read) : Type 0 where
-  pub issue : issued 0 past ≡ Some (command_of_read read)
+  pub issue : issued 0 past ≡ Some (transfer_of_read read)
   pub long : 4 * length read.over ≡ read.len
   pub tells : Tells read.over (filled 0 past) read.len
   pub transfer : TransferIs past read.len read.transfer
@@ -45,13 +48,14 @@ same_and true b c h = h refl
 same_and false b c h = refl
 
 -- what a setup that fits says
-pub record IsFit (read : Read) (tag offset count : ℕ) : Type 0 where
+pub record IsFit (read : Read) (tag offset count : ℕ) (to_host : Bool) : Type 0 where
   pub tag_is : tag ≡ 0
+  pub way_is : to_host ≡ true
   pub offset_dwords : offset % 4 ≡ 0
   pub inside : offset + count ≤ read.len
 
 -- a setup that fits says so
-pub fit_from : (read : Read) (tag offset count : ℕ) (to_host : Bool) → takes_setup read tag offset count to_host ≡ true → IsFit read tag offset count
+pub fit_from : (read : Read) (tag offset count : ℕ) (to_host : Bool) → takes_setup read tag offset count to_host ≡ true → IsFit read tag offset count to_host
 fit_from read tag offset count to_host e =
     let a = and_parts _ (have_not_come read.over (offset / 4) (count / 4)) e in
     let b = and_parts _ (nat_le (offset + count) read.len) a.0 in
@@ -59,7 +63,7 @@ fit_from read tag offset count to_host e =
     let d = and_parts _ (eqb (count % 4) 0) c.0 in
     let f = and_parts (eqb tag 0 && to_host) (eqb (offset % 4) 0) d.0 in
     let g = and_parts (eqb tag 0) to_host f.0 in
-    record { tag_is = eqb-true tag 0 g.0; offset_dwords = eqb-true (offset % 4) 0 f.1; inside = leb-true (offset + count) read.len b.1 }
+    record { tag_is = eqb-true tag 0 g.0; way_is = g.1; offset_dwords = eqb-true (offset % 4) 0 f.1; inside = leb-true (offset + count) read.len b.1 }
 
 module _ (past : History) (read : Read) (h : IsHeld past read) (others : (s : ℕ) → s ≢ 0 → issued s past ≡ None) where
   -- a setup fits the history exactly where it fits the read
@@ -102,27 +106,27 @@ module _ (past : History) (read : Read) (h : IsHeld past read) (others : (s : �
 
 module _ (past : History) (read : Read) (h : IsHeld past read) where
   -- what Data fills
-  pub fills : (t : Transfer) → IsLast past read.len t → filling past ≡ Some (record { slot = 0; command = command_of_read read; from = t.offset + t.came })
-  fills t x = rw (x.last, x.up, h.issue, x.came) refl
+  pub fills : (t : Transfer) → IsLast past read.len t → filling past ≡ Some (record { slot = 0; transfer = transfer_of_read read; from = t.offset + t.came })
+  fills t x = rw (x.last, x.up, h.issue, x.last, x.came) refl
 
   -- and the read's bytes after it
   pub filled_is : (t : Transfer) (payload : List ℕ) → IsLast past read.len t → filled 0 (Carried payload ∷ past) ≡ filled_from (t.offset + t.came) payload (filled 0 past)
   filled_is t payload x = rw (x.last, x.up, x.came) refl
 
   -- a Set Device Bits FIS that names the slot completes the read exactly where all of its dwords came
-  pub whole_completes : (mask : ℕ) → completes 0 (Named mask) past (command_of_read read) ≡ (has_bit mask 0 && is_whole read)
+  pub whole_completes : (mask : ℕ) → completes 0 (Named mask) past (transfer_of_read read).work ≡ (has_bit mask 0 && is_whole read)
   whole_completes mask = ap (λ b. has_bit mask 0 && b) (whole_is read.over (filled 0 past) read.len h.long h.tells)
 
   -- ---- what keeps the read
 
   -- a setup that fits
-  pub held_set_up : (tag offset count : ℕ) → IsFit read tag offset count → IsHeld (SetUp tag offset count ∷ past) (with_setup read offset count)
-  held_set_up tag offset count fit = record {
+  pub held_set_up : (tag offset count : ℕ) (to_host : Bool) → IsFit read tag offset count to_host → IsHeld (SetUp tag offset count to_host ∷ past) (with_setup read offset count)
+  held_set_up tag offset count to_host fit = record {
     issue = rw h.issue refl;
     long = h.long;
     tells = h.tells;
     transfer = record {
-      last = rw fit.tag_is refl;
+      last = rw (fit.tag_is, fit.way_is) refl;
       up = rw fit.tag_is refl;
       came = refl;
       offset_dwords = fit.offset_dwords;
@@ -141,7 +145,7 @@ module _ (past : History) (read : Read) (h : IsHeld past read) where
       let fits : t.offset + t.came + length payload ≤ read.len = omega arith in
       let in_flags : (t.offset + t.came) / 4 + length payload / 4 ≤ length read.over = omega arith in
       record {
-        issue = rw h.issue refl;
+        issue = rw (h.issue, x.up) refl;
         long = omega (arith, come_long read.over ((t.offset + t.came) / 4) (length payload / 4) in_flags);
         tells = rw (filled_is t payload x) (tells_more read.over (filled 0 past) read.len (t.offset + t.came) payload h.long h.tells from_dwords dwords fits);
         transfer = record {

@@ -1,11 +1,8 @@
 -- What comes of a FIS that is taken: the host's part of a world still agrees, and its report tells what completed.
-use Rattle.std.proofs.Common.{◌≡◌, ◌≢◌, ℕ, ◌+◌, ◌-◌, ◌%◌, ◌<◌, ◌≤◌, Bool, true, false, cond, eqb, List, ◌∷◌, length, refl, sym, ap, subst, ◌∙◌, inl, inr, Option, Some, None, arith}
-use Rattle.std.specs.Prelude.{Ok, Err, is_some, not, ◌&&◌, nat_le, MatchBool}
-use Rattle.std.specs.List.{range_with_len}
-use Rattle.std.proofs.lemmas.Bool.{cases_eq, leb-true, and_parts, false≢true, MatchBool-at_true, MatchBool-at_false}
-use Rattle.std.proofs.lemmas.Option.{same_Some}
+use Rattle.std.proofs.Common.{◌≡◌, ◌≢◌, ℕ, ◌+◌, ◌%◌, ◌<◌, ◌≤◌, Bool, true, false, cond, eqb, List, ◌∷◌, length, refl, sym, ap, subst, ◌∙◌, inl, inr, Option, Some, None, arith}
+use Rattle.std.specs.Prelude.{Ok, Err, is_some, not, ◌&&◌, nat_le, MatchBool, MatchOption}
+use Rattle.std.proofs.lemmas.Bool.{cases_eq, leb-true, false≢true, MatchBool-at_true, MatchBool-at_false}
 use Rattle.std.proofs.lemmas.List.{length-drop}
-use Rattle.std.proofs.lemmas.List.FromFn.{get_or-range_with_len, length-range_with_len}
 use Rattle.std.proofs.lemmas.Nat.Bits.{bit_at-zero, bit_at-pow_other}
 use Rattle.fis_view.specs.Frames.{IsFrame}
 use Rattle.fis_view.specs.Seen.{seen, kind_of, view_as, may_have}
@@ -15,26 +12,30 @@ use Rattle.fis_view.proofs.FrameLemmas.{frame_bounds}
 use Rattle.host_memory.specs.declared.table.Prd.{Prd}
 use Rattle.host_memory.specs.Place.{total_of, place}
 use Rattle.host_memory.proofs.PlaceLemmas.{place_injective}
-use Rattle.pm_world.specs.Events.{Command, Event, Issued, SetUp, Carried, Named, Told, SetupFis, DataFis, BitsFis, OtherFis, told, told_by, History, has_bit, match_some, filled_from}
-use Rattle.pm_world.specs.Events as events
-use Rattle.pm_world.specs.History.{issued, filled, is_set_up, last_setup, carried, completes, is_all_filled}
-use Rattle.pm_world.specs.Client.{Touches, By, own, filling, client, written}
+use Rattle.host_memory.proofs.WrittenLemmas.{scattered}
+use Rattle.slots.specs.Slots.{has_bit, match_some}
+use Rattle.slots.specs.Work.{is_read}
+use Rattle.slots.specs.declared.work.Kind.{Kind as WorkKind}
+use Rattle.slots.specs.declared.work.Kind.TheVariants.{QueuedRead}
+use Rattle.hba_laws.specs.Client as shared
+use Rattle.hba_laws.specs.Client.{Touches, By, own, filling, client, FillsWithin, IsWithin}
+use Rattle.hba_laws.specs.History as history
+use Rattle.hba_laws.specs.History.{Event, SetUp, Carried, Named, Answered, History, issued, filled, is_set_up, last_setup, carried, completes, is_all_filled, is_at, waiting_in}
+use Rattle.hba_laws.proofs.StandLemmas.{completes_in_place}
+use Rattle.pm_world.specs.Told.{Told, SetupFis, DataFis, BitsFis, OtherFis, told, told_by, heard}
 use Rattle.pm_world.specs.Reads.{Read}
 use Rattle.pm_world.specs.Host.{Hears, Comes, nothing_done, takes_setup, takes_data, takes_bits, is_whole, with_setup}
-use Rattle.pm_world.specs.Deeds.{heard}
 use Rattle.pm_world.specs.declared.host.Transfer.{Transfer}
 use Rattle.pm_world.specs.declared.host.Slot.{Slot}
 use Rattle.pm_world.specs.declared.host.Slot.TheVariants as slot
 use Rattle.pm_world.specs.declared.request.TakeReport.{TakeReport}
-use Rattle.pm_world.proofs.ReadsFlags.{all_at}
-use Rattle.pm_world.proofs.ReadsBytes.{written_elsewhere, written_at, filled_cases, scattered}
-use Rattle.pm_world.proofs.ReadsHeld.{IsLast, TransferIs, IsHeld, command_of_read, fit_from, setup_fits, data_fits, fills, filled_is, whole_completes, held_set_up, held_carried, held_named}
-use Rattle.pm_world.proofs.ReadsAgree.{SlotIs, Agrees, own_other}
+use Rattle.pm_world.proofs.ReadsHeld.{IsLast, TransferIs, IsHeld, transfer_of_read, fit_from, setup_fits, data_fits, fills, whole_completes, held_set_up, held_carried, held_named}
+use Rattle.pm_world.proofs.ReadsAgree.{SlotIs, Agrees, one_read, own_other, own_same, queued_read}
 
 -- what comes of a FIS of a device that was heard as an event, or as none
 pub record IsTaken (opening : ℕ → ℕ) (past : Touches) (port : ℕ) (as_event : Option Event) (bytes : List ℕ) (now : Slot) (report : TakeReport) : Type 0 where
   pub agrees : Agrees opening (match_some as_event past (λ e. By port e ∷ past)) bytes now
-  pub done : (s : ℕ) → s < 32 → has_bit report.done s ≡ match_some (issued s (own port past)) false (λ c. match_some as_event false (λ e. completes s e (own port past) c))
+  pub done : (s : ℕ) → s < 32 → has_bit report.done s ≡ match_some (issued s (own port past)) false (λ t. match_some as_event false (λ e. completes s e (own port past) t.work))
 
 -- ---- bits of done
 
@@ -47,9 +48,9 @@ other_bit : (s : ℕ) → s ≢ 0 → has_bit 1 s ≡ false
 other_bit s ne = ap (λ b. eqb b 1) (bit_at-pow_other 0 s ne)
 
 -- an event that completes nothing
-never : (o : Option Command) → false ≡ match_some o false (λ c. false)
+never : (o : Option history.Transfer) → false ≡ match_some o false (λ t. false)
 never None = refl
-never (Some c) = refl
+never (Some t) = refl
 
 -- ---- a FIS where nothing is issued
 
@@ -68,7 +69,7 @@ quiet_heard past none (DataFis payload) = by_setup (last_setup past)
     by_test true fits = tt
     by_test false fits = tt
 
-    by_setup : (o : Option events.Setup) → IsQuiet (cond (match_some o false (λ g. is_set_up g.slot past && is_some (issued g.slot past) && nat_le (carried past + length payload) g.count)) (Some (Carried payload)) None)
+    by_setup : (o : Option history.Setup) → IsQuiet (cond (match_some o false (λ g. is_set_up g.slot past && is_some (issued g.slot past) && nat_le (carried past + length payload) g.count)) (Some (Carried payload)) None)
     by_setup None = tt
     by_setup (Some g) = rw (none g.slot) (by_test (is_set_up g.slot past) (nat_le (carried past + length payload) g.count))
 quiet_heard past none (BitsFis status sactive) = by_test (has_bit status 0)
@@ -94,27 +95,28 @@ module _ (opening : ℕ → ℕ) (past : Touches) (port : ℕ) (bytes : List ℕ
     elsewhere = λ n s ne. still_none mask n s (a.elsewhere n s ne);
     others = λ s ne. still_none mask 0 s (a.others s ne);
     slot = by_slot now a.slot;
+    kept = a.kept;
+    within = a.within;
   }
     where
-      by_slot : (now : Slot) → SlotIs opening past (length bytes) now → SlotIs opening (By port (Named mask) ∷ past) (length bytes) now
+      by_slot : (now : Slot) → SlotIs past (length bytes) now → SlotIs (By port (Named mask) ∷ past) (length bytes) now
       by_slot slot.Free x = still_none mask 0 0 x
       by_slot (slot.Ended read) x = still_none mask 0 0 x
       by_slot (slot.Issued read) x =
-          let ne : port ≢ 0 = λ e. let is : issued 0 (own port past) ≡ Some (command_of_read read) = ap (λ n. issued 0 (own n past)) e ∙ x.held.issue in let no_one = none 0 in cc in
+          let ne : port ≢ 0 = λ e. let is : issued 0 (own port past) ≡ Some (transfer_of_read read) = ap (λ n. issued 0 (own n past)) e ∙ x.held.issue in let no_one = none 0 in cc in
           let kept : own 0 (By port (Named mask) ∷ past) ≡ own 0 past = own_other port 0 (Named mask) past ne in
           record {
             held = subst (λ (h : History). IsHeld h read) (sym kept) x.held;
             inside = x.inside;
             apart = x.apart;
             whole = x.whole;
-            stands = λ i b lt e. x.stands i b lt (ap (λ (h : History). filled 0 h i) (sym kept) ∙ e);
           }
 
   -- nor does any other FIS of it
   pub quiet_taken : (f : Told) (report : TakeReport) → report.done ≡ 0 → IsTaken opening past port (heard (own port past) f) bytes now report
   quiet_taken f report undone = by_event (heard (own port past) f) (quiet_heard (own port past) none f)
     where
-      done : (o : Option Event) (s : ℕ) → s < 32 → has_bit report.done s ≡ match_some (issued s (own port past)) false (λ c. match_some o false (λ e. completes s e (own port past) c))
+      done : (o : Option Event) (s : ℕ) → s < 32 → has_bit report.done s ≡ match_some (issued s (own port past)) false (λ t. match_some o false (λ e. completes s e (own port past) t.work))
       done o s lt = rw (none s) (ap (λ n. has_bit n s) undone ∙ no_bit s)
 
       by_event : (o : Option Event) → IsQuiet o → IsTaken opening past port o bytes now report
@@ -187,19 +189,20 @@ module _ (opening : ℕ → ℕ) (past : Touches) (bytes : List ℕ) (read : Rea
 
   -- a setup is accepted
   set_up : (tag offset count : ℕ) (to_host : Bool) → takes_setup read tag offset count to_host ≡ true → (report : TakeReport) → report.done ≡ 0
-      → IsTaken opening past 0 (Some (SetUp tag offset count)) bytes (slot.Issued (with_setup read offset count)) report
+      → IsTaken opening past 0 (Some (SetUp tag offset count to_host)) bytes (slot.Issued (with_setup read offset count)) report
   set_up tag offset count to_host fits report undone = record {
     agrees = record {
       same = a.same;
-      elsewhere = elsewhere_too (SetUp tag offset count);
+      elsewhere = elsewhere_too (SetUp tag offset count to_host);
       others = λ s ne. rw (a.others s ne) refl;
       slot = record {
-        held = held_set_up (own 0 past) read a.slot.held tag offset count (fit_from read tag offset count to_host fits);
+        held = held_set_up (own 0 past) read a.slot.held tag offset count to_host (fit_from read tag offset count to_host fits);
         inside = a.slot.inside;
         apart = a.slot.apart;
         whole = a.slot.whole;
-        stands = a.slot.stands;
       };
+      kept = a.kept;
+      within = a.within;
     };
     done = λ s lt. ap (λ n. has_bit n s) undone ∙ no_bit s ∙ never (issued s (own 0 past));
   }
@@ -214,25 +217,26 @@ module _ (opening : ℕ → ℕ) (past : Touches) (bytes : List ℕ) (read : Rea
       elsewhere = elsewhere_too (Named mask);
       others = λ s ne. rw (a.others s ne) refl;
       slot = rw (same_bytes, now_is) (by_test b e);
+      kept = a.kept;
+      within = a.within;
     };
     done = λ s lt. ap (λ (r : TakeReport). has_bit r.done s) report_is ∙ bit b e s;
   }
     where
-      completes_is : completes 0 (Named mask) (own 0 past) (command_of_read read) ≡ (has_bit mask 0 && is_whole read)
+      completes_is : completes 0 (Named mask) (own 0 past) (transfer_of_read read).work ≡ (has_bit mask 0 && is_whole read)
       completes_is = whole_completes (own 0 past) read a.slot.held mask
 
-      by_test : (b : Bool) → (has_bit mask 0 && is_whole read) ≡ b → SlotIs opening (By 0 (Named mask) ∷ past) (length bytes) (cond b (slot.Ended read) (slot.Issued read))
+      by_test : (b : Bool) → (has_bit mask 0 && is_whole read) ≡ b → SlotIs (By 0 (Named mask) ∷ past) (length bytes) (cond b (slot.Ended read) (slot.Issued read))
       by_test true e = rw (a.slot.held.issue, completes_is ∙ e) refl
       by_test false e = record {
         held = held_named (own 0 past) read a.slot.held mask e;
         inside = a.slot.inside;
         apart = a.slot.apart;
         whole = a.slot.whole;
-        stands = a.slot.stands;
       }
 
       bit : (b : Bool) → (has_bit mask 0 && is_whole read) ≡ b → (s : ℕ)
-          → has_bit (cond b (record { dev = dev; wrote = None; done = 1 }) (nothing_done dev)).done s ≡ match_some (issued s (own 0 past)) false (λ c. completes s (Named mask) (own 0 past) c)
+          → has_bit (cond b (record { dev = dev; wrote = None; done = 1 }) (nothing_done dev)).done s ≡ match_some (issued s (own 0 past)) false (λ t. completes s (Named mask) (own 0 past) t.work)
       bit b e s =
           elim (cases_eq s 0) [
             | inl z ↦ rw z (first b e)
@@ -240,7 +244,7 @@ module _ (opening : ℕ → ℕ) (past : Touches) (bytes : List ℕ) (read : Rea
           ]
         where
           first : (b : Bool) → (has_bit mask 0 && is_whole read) ≡ b
-              → has_bit (cond b (record { dev = dev; wrote = None; done = 1 }) (nothing_done dev)).done 0 ≡ match_some (issued 0 (own 0 past)) false (λ c. completes 0 (Named mask) (own 0 past) c)
+              → has_bit (cond b (record { dev = dev; wrote = None; done = 1 }) (nothing_done dev)).done 0 ≡ match_some (issued 0 (own 0 past)) false (λ t. completes 0 (Named mask) (own 0 past) t.work)
           first true e = rw (a.slot.held.issue, completes_is ∙ e) refl
           first false e = rw (a.slot.held.issue, completes_is ∙ e) refl
 
@@ -248,13 +252,27 @@ module _ (opening : ℕ → ℕ) (past : Touches) (bytes : List ℕ) (read : Rea
           later true ne = other_bit s ne
           later false ne = no_bit s
 
+  -- the bytes of what is issued have places of their own
+  reads_apart : shared.AreApart past
+  reads_apart n s m r i j t u first second lt below at =
+      let p = one_read opening past bytes (slot.Issued read) a n s t first.is in
+      let q = one_read opening past bytes (slot.Issued read) a m r u second.is in
+      let long : t.work.len ≡ read.len = ap (λ (v : history.Transfer). v.work.len) p.transfer in
+      let long2 : u.work.len ≡ read.len = ap (λ (v : history.Transfer). v.work.len) q.transfer in
+      record {
+        devices = p.device ∙ sym q.device;
+        slots = p.number ∙ sym q.number;
+        numbers = place_injective read.prds i j a.slot.apart (omega (arith, a.slot.whole)) (omega (arith, a.slot.whole))
+            (ap (λ (v : history.Transfer). place v.table i) (sym p.transfer) ∙ at ∙ ap (λ (v : history.Transfer). place v.table j) q.transfer);
+      }
+
   -- Data comes
   came : (t : Transfer) (payload : List ℕ) (dev : ℕ) (after : List ℕ) (now : Slot) (report : TakeReport) → IsLast (own 0 past) read.len t → length payload % 4 ≡ 0
       → t.came + length payload ≤ t.count → Comes read t payload bytes dev report now after → IsTaken opening past 0 (Some (Carried payload)) after now report
   came t payload dev after now report x dwords room c = record {
     agrees = record {
       same = λ k lt. rw filling_is
-          (scattered read.prds (length bytes) (t.offset + t.came) payload bytes after (client opening past) a.slot.inside a.slot.apart fits c.written a.same k (omega (arith, c.written.as_long)));
+          (scattered read.prds (t.offset + t.came) payload bytes after (client opening past) a.slot.inside a.slot.apart fits c.written a.same k (omega (arith, c.written.as_long)));
       elsewhere = elsewhere_too (Carried payload);
       others = λ s ne. rw (a.others s ne) refl;
       slot = rw (c.slot_is, c.written.as_long) (record {
@@ -262,44 +280,44 @@ module _ (opening : ℕ → ℕ) (past : Touches) (bytes : List ℕ) (read : Rea
         inside = a.slot.inside;
         apart = a.slot.apart;
         whole = a.slot.whole;
-        stands = stands;
       });
+      kept = (reads_apart, a.kept);
+      within = (is_within, a.within);
     };
-    done = λ s lt. ap (λ (r : TakeReport). has_bit r.done s) c.reported ∙ no_bit s ∙ never (issued s (own 0 past));
+    done = λ s lt. ap (λ (r : TakeReport). has_bit r.done s) c.reported ∙ no_bit s ∙ no_block s;
   }
     where
-      filling_is : filling (own 0 past) ≡ Some (record { slot = 0; command = command_of_read read; from = t.offset + t.came })
+      filling_is : filling (own 0 past) ≡ Some (record { slot = 0; transfer = transfer_of_read read; from = t.offset + t.came })
       filling_is = fills (own 0 past) read a.slot.held t x
 
-      fits : t.offset + t.came + length payload ≤ total_of read.prds
-      fits = omega (arith, x.inside, a.slot.whole)
+      inside : t.offset + t.came + length payload ≤ read.len
+      inside = omega (arith, x.inside)
 
-      stands : (i b : ℕ) → i < read.len → filled 0 (Carried payload ∷ own 0 past) i ≡ Some b → client opening (By 0 (Carried payload) ∷ past) (place read.prds i) ≡ b
-      stands i b lt e =
-          let whole = a.slot.whole in
-          let e2 : filled_from (t.offset + t.came) payload (filled 0 (own 0 past)) i ≡ Some b = ap (λ (g : ℕ → Option ℕ). g i) (sym (filled_is (own 0 past) read a.slot.held t payload x)) ∙ e in
-          rw filling_is (elim (filled_cases (t.offset + t.came) payload (filled 0 (own 0 past)) i b e2) [
-            | inl p ↦
-                let low = p.0 in let high = p.1 in
-                let at : t.offset + t.came + (i - (t.offset + t.came)) ≡ i = omega arith in
-                ap (λ k. written read.prds (t.offset + t.came) payload (client opening past) (place read.prds k)) (sym at)
-                ∙ written_at read.prds (t.offset + t.came) payload (client opening past) (i - (t.offset + t.came)) b (λ j below same.
-                let n : t.offset + t.came + (i - (t.offset + t.came)) ≡ t.offset + t.came + j = place_injective read.prds (t.offset + t.came + (i - (t.offset + t.came))) (t.offset + t.came + j) a.slot.apart (omega arith) (omega arith) same in absurd (omega arith)) p.2
-            | inr q ↦
-                written_elsewhere read.prds (t.offset + t.came) payload (client opening past) (place read.prds i) (λ j below same.
-                q.0 j below (place_injective read.prds i (t.offset + t.came + j) a.slot.apart (omega arith) (omega (arith, fits)) same))
-                ∙ a.slot.stands i b lt q.1
-          ])
+      fits : t.offset + t.came + length payload ≤ total_of read.prds
+      fits = omega (arith, inside, a.slot.whole)
+
+      is_within : IsWithin (own 0 past) (length payload)
+      is_within = record {
+        fills = subst (λ (o : Option shared.Filling). MatchOption o (Unit {0}) (FillsWithin (length payload))) (sym filling_is) (record { fits = inside; reads = refl });
+        way = λ g u last is reads up. ap (λ (o : Option history.Setup). match_some o true (λ v. v.to_host)) (sym last ∙ x.last);
+      }
+
+      no_block : (s : ℕ) → false ≡ match_some (issued s (own 0 past)) false (λ u. completes s (Carried payload) (own 0 past) u.work)
+      no_block s =
+          elim (cases_eq s 0) [
+            | inl z ↦ rw z (rw (a.slot.held.issue, x.up) refl)
+            | inr ne ↦ rw (a.others s ne) refl
+          ]
 
   -- what is heard agrees
   pub heard_taken : (f : Told) → IsWhole f → (dev : ℕ) (after : List ℕ) (now : Slot) (report : TakeReport) → Hears f dev read bytes report now after
       → IsTaken opening past 0 (heard (own 0 past) f) after now report
   heard_taken (SetupFis tag offset count to_host) w dev after now report h =
-      subst (λ (b : Bool). IsTaken opening past 0 (cond b (Some (SetUp tag offset count)) None) after now report) (sym (setup_fits (own 0 past) read a.slot.held a.others tag offset count to_host))
+      subst (λ (b : Bool). IsTaken opening past 0 (cond b (Some (SetUp tag offset count to_host)) None) after now report) (sym (setup_fits (own 0 past) read a.slot.held a.others tag offset count to_host))
       (go (takes_setup read tag offset count to_host) refl h.2)
     where
       go : (b : Bool) → takes_setup read tag offset count to_host ≡ b → now ≡ slot.Issued (cond b (with_setup read offset count) read)
-          → IsTaken opening past 0 (cond b (Some (SetUp tag offset count)) None) after now report
+          → IsTaken opening past 0 (cond b (Some (SetUp tag offset count to_host)) None) after now report
       go true e now_is = rw (h.1, now_is) (set_up tag offset count to_host e report (ap (λ (r : TakeReport). r.done) h.0))
       go false e now_is = nothing after now report (ap (λ (r : TakeReport). r.done) h.0) h.1 now_is
   heard_taken (DataFis payload) w dev after now report h =
@@ -328,53 +346,35 @@ module _ (opening : ℕ → ℕ) (past : Touches) (bytes : List ℕ) (read : Rea
 
 -- ---- at completion
 
--- what is there
-the : {A : Type 0} (o : Option A) → is_some o ≡ true → (x : A) × (o ≡ Some x)
-the None e = absurd (false≢true e)
-the (Some x) e = (x, refl)
+-- a queued command completes neither with a block nor with an answer
+no_block : (up ends whole : Bool) → (up && false && ends && whole) ≡ true → ⊥
+no_block true ends whole e = false≢true e
+no_block false ends whole e = false≢true e
 
--- each byte of a whole transfer is filled
-filled_at : (g : ℕ → Option ℕ) (len i : ℕ) → is_all_filled g len ≡ true → i < len → (b : ℕ) × (g i ≡ Some b)
-filled_at g len i all lt =
-    let number : 0 + i ≡ i = omega arith in
-    let in_range : i < length (range_with_len 0 len) = omega (arith, length-range_with_len 0 len) in
-    the (g i) (ap (λ k. is_some (g k)) (sym number ∙ sym (get_or-range_with_len 0 len i 0 lt)) ∙ all_at (λ k. is_some (g k)) (range_with_len 0 len) i 0 in_range all)
+no_answer : (waits whole : Bool) → (waits && false && whole) ≡ true → ⊥
+no_answer true whole e = false≢true e
+no_answer false whole e = false≢true e
 
--- each filled byte of what is issued stands at its place
-read_in_place : (opening : ℕ → ℕ) (past : Touches) (bytes : List ℕ) (now : Slot) → Agrees opening past bytes now → (port s i b : ℕ) (c : Command)
-    → issued s (own port past) ≡ Some c → i < c.len → filled s (own port past) i ≡ Some b → client opening past (place c.table i) ≡ b
-read_in_place opening past bytes now a port s i b c is lt e =
-    elim (cases_eq port 0) [
-      | inl p ↦ elim (cases_eq s 0) [
-        | inl z ↦
-            let at : own port past ≡ own 0 past = ap (λ n. own n past) p in
-            let same : issued s (own port past) ≡ issued 0 (own 0 past) = ap (λ n. issued n (own port past)) z ∙ ap (issued 0) at in
-            let fills : filled s (own port past) i ≡ filled 0 (own 0 past) i = ap (λ n. filled n (own port past) i) z ∙ ap (λ (h : History). filled 0 h i) at in
-            by_slot now a.slot (sym same ∙ is) (sym fills ∙ e)
-        | inr ne ↦ let none = a.others s ne in let at = ap (λ n. issued s (own n past)) p in cc
-      ]
-      | inr ne ↦ let none = a.elsewhere port s ne in cc
-    ]
+-- where a FIS completes a transfer, each of its bytes is filled and stands at its place
+pub completed_in_place : (opening : ℕ → ℕ) (past : Touches) (bytes : List ℕ) (now : Slot) → Agrees opening past bytes now → (port s : ℕ) (t : history.Transfer) (o : Option Event)
+    → issued s (own port past) ≡ Some t → match_some (issued s (own port past)) false (λ t. match_some o false (λ e. completes s e (own port past) t.work)) ≡ true → (i : ℕ) → i < t.work.len
+    → (b : ℕ) × (filled s (own port past) i ≡ Some b) × (client opening (match_some o past (λ e. By port e ∷ past)) (place t.table i) ≡ b)
+completed_in_place opening past bytes now a port s t o is done i lt =
+    by_event o (ap (λ (q : Option history.Transfer). match_some q false (λ t. match_some o false (λ e. completes s e (own port past) t.work))) (sym is) ∙ done)
   where
-    by_slot : (now : Slot) → SlotIs opening past (length bytes) now → issued 0 (own 0 past) ≡ Some c → filled 0 (own 0 past) i ≡ Some b → client opening past (place c.table i) ≡ b
-    by_slot slot.Free x is e = cc
-    by_slot (slot.Ended read) x is e = cc
-    by_slot (slot.Issued read) x is e =
-        let same : command_of_read read ≡ c = same_Some (command_of_read read) c (sym x.held.issue ∙ is) in
-        let long : read.len ≡ c.len = ap (λ (v : Command). v.len) same in
-        ap (λ (v : Command). client opening past (place v.table i)) (sym same) ∙ x.stands i b (omega arith) e
+    kind : t.work.kind ≡ QueuedRead
+    kind = queued_read now port s t (one_read opening past bytes now a port s t is)
 
--- and where a FIS completes it, each of its bytes is filled
-pub completed_in_place : (opening : ℕ → ℕ) (past : Touches) (bytes : List ℕ) (now : Slot) → Agrees opening past bytes now → (port s : ℕ) (c : Command) (o : Option Event)
-    → issued s (own port past) ≡ Some c → match_some (issued s (own port past)) false (λ c. match_some o false (λ e. completes s e (own port past) c)) ≡ true → (i : ℕ) → i < c.len
-    → (b : ℕ) × (filled s (own port past) i ≡ Some b) × (client opening (match_some o past (λ e. By port e ∷ past)) (place c.table i) ≡ b)
-completed_in_place opening past bytes now a port s c o is done i lt =
-    by_event o (ap (λ (q : Option Command). match_some q false (λ c. match_some o false (λ e. completes s e (own port past) c))) (sym is) ∙ done)
-  where
-    by_event : (o : Option Event) → match_some o false (λ e. completes s e (own port past) c) ≡ true
-        → (b : ℕ) × (filled s (own port past) i ≡ Some b) × (client opening (match_some o past (λ e. By port e ∷ past)) (place c.table i) ≡ b)
+    -- what completes it completes a queued command
+    queued : (e : Event) → completes s e (own port past) t.work ≡ true → completes s e (own port past) (record { kind = QueuedRead; len = t.work.len }) ≡ true
+    queued e d = sym (ap (λ (k : WorkKind). completes s e (own port past) (record { kind = k; len = t.work.len })) kind) ∙ d
+
+    by_event : (o : Option Event) → match_some o false (λ e. completes s e (own port past) t.work) ≡ true
+        → (b : ℕ) × (filled s (own port past) i ≡ Some b) × (client opening (match_some o past (λ e. By port e ∷ past)) (place t.table i) ≡ b)
     by_event None d = absurd (false≢true d)
     by_event (Some (Named mask)) d =
-        let at = filled_at (filled s (own port past)) c.len i ((and_parts (has_bit mask s) (is_all_filled (filled s (own port past)) c.len) d).1) lt in
-        (at.0, at.1, read_in_place opening past bytes now a port s i at.0 c is lt at.1)
+        let r = completes_in_place opening past port (Named mask) a.kept a.within s i t (record { is = is; reads = ap is_read kind }) d lt in
+        (r.byte, ap (λ (h : History). filled s h i) (sym (own_same port (Named mask) past)) ∙ r.is_filled, r.stands)
+    by_event (Some (Carried payload)) d = absurd (no_block (is_set_up s (own port past)) _ _ (queued (Carried payload) d))
+    by_event (Some Answered) d = absurd (no_answer (is_at s (waiting_in (own port past))) _ (queued Answered d))
     by_event (Some e) d = absurd (false≢true d)

@@ -8,11 +8,11 @@ use Rattle.fis_view.specs.Frames.{IsFrame}
 use Rattle.host_memory.specs.declared.table.Prd.{Prd}
 use Rattle.host_memory.specs.Memory.{client_start, overwritten}
 use Rattle.host_memory.specs.Place.{place, LiesInClient}
-use Rattle.pm_world.specs.Events.{Command, QueuedRead, Event, Issued, SetUp, Carried, Named, Told}
-use Rattle.pm_world.specs.Events.{SetupFis, DataFis, BitsFis, OtherFis, told, History, has_bit}
-use Rattle.pm_world.specs.Events.{match_some}
-use Rattle.pm_world.specs.History.{issued, filled, completes, fits_setup, fits_data}
-use Rattle.pm_world.specs.Client.{Touches, By, Puts, own, client}
+use Rattle.slots.specs.Slots.{has_bit, match_some}
+use Rattle.slots.specs.declared.work.Kind.TheVariants.{QueuedRead}
+use Rattle.hba_laws.specs.Client.{Touches, By, Puts, own, client}
+use Rattle.hba_laws.specs.History.{Issued, Transfer, issued, filled, completes}
+use Rattle.pm_world.specs.Told.{told, heard}
 use Rattle.pm_world.specs.Reads.{Read}
 use Rattle.pm_world.specs.Host.{Host, end_of, submit_refusal, TakesRequest, Hears, nothing_done}
 use Rattle.pm_world.specs.declared.host.Slot.{Slot}
@@ -120,23 +120,16 @@ DoesAll old (deed ∷ deeds) new = (mid : Host) × Does old deed mid × DoesAll 
 
 -- ---- what it comes to
 
--- the command of a request
-abbrev pub command_of : Request → Command
-command_of request =
-    record { kind = QueuedRead; len = request.sectors * 512; table = request.prds.items }
-
--- the event that a device's FIS is after a history, if it fits
-abbrev pub heard : History → Told → Option Event
-heard past (SetupFis tag offset count to_host) =
-    if fits_setup past tag offset count to_host then Some (SetUp tag offset count) else None
-heard past (DataFis payload) =
-    if fits_data past (length payload) then Some (Carried payload) else None
-heard past (BitsFis status sactive) = if has_bit status 0 then None else Some (Named sactive)
-heard past OtherFis = None
+-- the transfer of a request
+abbrev pub transfer_of : Request → Transfer
+transfer_of request = record {
+  work = record { kind = QueuedRead; len = request.sectors * 512 };
+  table = request.prds.items;
+}
 
 -- the touches after one more deed; a submitted command is issued in slot 0 of device 0
 abbrev pub touched : Touches → Deed → Touches
-touched past (Submitted request ticket) = By 0 (Issued 0 (command_of request)) ∷ past
+touched past (Submitted request ticket) = By 0 (Issued 0 (transfer_of request)) ∷ past
 touched past Polled = past
 touched past (Put at bytes) = Puts at bytes ∷ past
 touched past (Took frame report) =
@@ -163,7 +156,7 @@ abbrev pub completes_now : Touches → ℕ → List ℕ → Bool
 completes_now past s frame =
     let before = own (pm_port_of frame) past in
     match_some (issued s before) false
-    (λ c. match_some (heard before (told frame)) false (λ e. completes s e before c))
+    (λ t. match_some (heard before (told frame)) false (λ e. completes s e before t.work))
 
 -- the deeds have this Took after those before it
 pub record IsTook (deeds before : List Deed) (frame : List ℕ) (report : TakeReport) : Type 0 where
@@ -205,11 +198,11 @@ pub record Delivers (opened : List ℕ) (deeds : List Deed) (now : Host) : Type 
       → list_any (issues first.dev s) between ≡ true
   -- at that step every byte of the read is filled, and stands at its place in client memory
   pub in_place : (before : List Deed) (frame : List ℕ) (report : TakeReport)
-      → IsTook deeds before frame report → (s : ℕ) (c : Command) →
-      issued s (own (pm_port_of frame) (touches [] before)) ≡ Some c
-      → completes_now (touches [] before) s frame ≡ true → (i : ℕ) → i < c.len →
+      → IsTook deeds before frame report → (s : ℕ) (t : Transfer) →
+      issued s (own (pm_port_of frame) (touches [] before)) ≡ Some t
+      → completes_now (touches [] before) s frame ≡ true → (i : ℕ) → i < t.work.len →
       (b : ℕ) × (filled s (own (pm_port_of frame) (touches [] before)) i ≡ Some b)
       × (client (opening_of opened) (touches [] (before ++ Took frame report ∷ []))
-      (place c.table i) ≡ b)
+      (place t.table i) ≡ b)
   -- each ticket is given once
   pub tickets_once : AllPairs (λ earlier later. earlier < later) (tickets deeds)

@@ -2,9 +2,9 @@
 -- list; Serial ATA 3.x, native command queuing).
 use Rattle.std.specs.Prelude.{◌≡◌, List, [], ◌∷◌, ◌++◌, All}
 use Rattle.host_memory.specs.Memory.{zeroed}
+use Rattle.hba_laws.specs.History.{CompletesOnce}
 use Rattle.disk_model.specs.declared.unit.Unit.{Unit}
 use Rattle.pm_world.specs.Deeds.{Deed, Submitted, Polled, Put, Took, Delivers, pm_port_of}
-use Rattle.pm_world.specs.History.{CompletesOnce}
 use Rattle.pm_world.specs.Places.{Places, new_world}
 use Rattle.pm_world.specs.Rules.{Run}
 use Rattle.pm_world.specs.declared.step.Config.{Config}

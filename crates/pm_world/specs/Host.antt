@@ -10,7 +10,8 @@ use Rattle.host_memory.specs.Memory.{Memory, client_start, overwritten}
 use Rattle.host_memory.specs.Place.{total_of, Scatters}
 use Rattle.host_memory.specs.Reading.{prds_at, read_fault, have_overlap}
 use Rattle.host_memory.specs.Writing.{IsUsable, table_bytes}
-use Rattle.pm_world.specs.Events.{Told, SetupFis, DataFis, BitsFis, OtherFis, has_bit}
+use Rattle.slots.specs.Slots.{has_bit}
+use Rattle.pm_world.specs.Told.{Told, SetupFis, DataFis, BitsFis, OtherFis}
 use Rattle.pm_world.specs.Reads.{Read}
 use Rattle.pm_world.specs.declared.host.Transfer.{Transfer}
 use Rattle.pm_world.specs.declared.host.Slot.{Slot}

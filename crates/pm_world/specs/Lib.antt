@@ -2,9 +2,7 @@ pub mod Places
 pub mod Fanout
 pub mod Rules
 pub mod Traffic
-pub mod Events
-pub mod History
-pub mod Client
+pub mod Told
 pub mod Reads
 pub mod Host
 pub mod Deeds

@@ -8,7 +8,7 @@ ghost use Rattle.fis_view.specs.Table.{Bits, BufferId, Count, D, Offset, SActive
 ghost use Rattle.fis_view.specs.Table.{Status, field};
 ghost use Rattle.host_memory.specs.Place.{Scatters, total_of as total};
 ghost use Rattle.host_memory.specs.Writing.{CanBeWritten};
-ghost use Rattle.pm_world.specs.Events.{told};
+ghost use Rattle.pm_world.specs.Told.{told};
 ghost use Rattle.pm_world.specs.Deeds.{in_use, pm_port_of, put_refusal, share_bytes};
 ghost use Rattle.pm_world.specs.Host.{CanBeRead, Carries, HasTable, Hears, IsGoodFor, IsHost};
 ghost use Rattle.pm_world.specs.Host.{TransferIsWithin, after_setup, have_not_come, new_read};
