@@ -23,3 +23,4 @@ pub mod ClientLemmas
 pub mod DoneLemmas
 pub mod SpareLemmas
 pub mod ReadLemmas
+pub mod KeepingLemmas

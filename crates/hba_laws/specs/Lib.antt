@@ -7,3 +7,4 @@ pub mod History
 pub mod Client
 pub mod Agreement
 pub mod Delivering
+pub mod Keeping

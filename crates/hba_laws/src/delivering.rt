@@ -3,6 +3,7 @@
 ghost use Rattle.hba_laws.specs.Client.{CompletesInPlace, StandsInPlace};
 ghost use Rattle.hba_laws.specs.Delivering.{ClientIsTouched, DataIsWithin, DoneIsCompleted, DoneReadsStand, HistoriesAreParts, OpensUntold, SparedTablesRead, ViewsAreTold};
 ghost use Rattle.hba_laws.specs.History.{CompletesOnce};
+ghost use Rattle.hba_laws.specs.Keeping.{KeptTablesStay};
 
 /// A law, which does nothing when it runs: what is delivered over every list of events, from every
 /// sound host and with every history of its devices, which nothing has of a port that opens. A
@@ -20,6 +21,7 @@ pub fn delivers()
     ensures once { CompletesOnce }
     ensures client { ClientIsTouched }
     ensures tables { SparedTablesRead }
+    ensures kept { KeptTablesStay }
     ensures within { DataIsWithin }
     ensures standing { StandsInPlace }
     ensures placed { CompletesInPlace }

@@ -1,6 +1,7 @@
 use Rattle.hba_laws.proofs.ClientLemmas.{client_is_touched, data_is_within}
 use Rattle.hba_laws.proofs.DoneLemmas.{done_is_completed, opens_untold}
 use Rattle.hba_laws.proofs.EventLemmas.{histories_are_parts, views_are_told}
+use Rattle.hba_laws.proofs.KeepingLemmas.{kept_tables_stay}
 use Rattle.hba_laws.proofs.OnceLemmas.{completes_once}
 use Rattle.hba_laws.proofs.ReadLemmas.{done_reads_stand}
 use Rattle.hba_laws.proofs.SpareLemmas.{spared_tables_read}
@@ -39,3 +40,6 @@ returns-clause-within c = data_is_within
 
 pub returns-clause-stands : goal.returns-clause-stands
 returns-clause-stands c = done_reads_stand
+
+pub returns-clause-kept : goal.returns-clause-kept
+returns-clause-kept c = kept_tables_stay

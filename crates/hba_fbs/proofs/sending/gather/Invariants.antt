@@ -1,0 +1,7 @@
+use Rattle.std.proofs.Common.{◌≡◌, ◌++◌}
+use Rattle.std.specs.List.{concat}
+use Rattle.hba_fbs.proofs.sending.gather.Given as goal
+
+-- what was copied, and then what is left, is the whole
+abbrev pub invariant-loop-part : goal.invariant-loop-part
+invariant-loop-part l = l.bytes.items ++ concat l.part-iterator ≡ concat l.initial.part-iterator

@@ -1,0 +1,11 @@
+use Rattle.std.proofs.Common.{arith, sym, ◌∙◌}
+use Rattle.slots.proofs.MaskLemmas.{lowest_found, lowest_none}
+use Rattle.hba_fbs.specs.Sending.{is_due}
+use Rattle.hba_fbs.proofs.sending.lowest_due.Goals as goal
+
+pub returns-then-is_due-clause-value : goal.returns-then-is_due-clause-value
+returns-then-is_due-clause-value c =
+    sym (lowest_found (is_due c.args.slots.now c.args.errors.now) 16 c.loop-dev.dev c.loop-dev-test.true (sym c.is_due.ensures ∙ c.if-is_due.true) c.loop-dev.invariant)
+
+pub returns-clause-value : goal.returns-clause-value
+returns-clause-value c = sym (lowest_none (is_due c.args.slots.now c.args.errors.now) 16 (λ k below. c.loop-dev.invariant k (omega arith)))
