@@ -1,0 +1,11 @@
+pub mod ScanLemmas
+pub mod EffectLemmas
+pub mod SightLemmas
+pub mod RestLemmas
+pub mod SubmitLemmas
+pub mod LifeLemmas
+pub mod RequestLemmas
+pub mod HistoryLemmas
+pub mod ServeLemmas
+pub mod StandLemmas
+pub mod DoneLemmas

@@ -1,0 +1,5 @@
+use Rattle.hba_driver.proofs.StandLemmas.{commands_stand}
+use Rattle.hba_driver.proofs.laws.commands_stand.Goals as goal
+
+pub returns : goal.returns
+returns c = commands_stand

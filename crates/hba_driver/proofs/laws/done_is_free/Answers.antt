@@ -1,0 +1,5 @@
+use Rattle.hba_driver.proofs.DoneLemmas.{done_is_free}
+use Rattle.hba_driver.proofs.laws.done_is_free.Goals as goal
+
+pub returns : goal.returns
+returns c = done_is_free

@@ -1,0 +1,5 @@
+use Rattle.hba_driver.proofs.ServeLemmas.{ticks_serve}
+use Rattle.hba_driver.proofs.laws.ticks_serve.Goals as goal
+
+pub returns : goal.returns
+returns c = ticks_serve

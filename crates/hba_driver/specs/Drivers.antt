@@ -1,0 +1,148 @@
+-- The driver as its callers see it. It drives one AHCI host port (AHCI 1.3.1) with a port multiplier behind it (Serial ATA
+-- 3.x, port multipliers): requests stand in the slots 0 to 29, commands of its own go through slot 30 to a device and
+-- through slot 31 to the control port of the multiplier, port Fh.
+use Rattle.std.specs.Prelude.{ℕ, ◌≡◌, ◌≢◌, ◌<◌, ◌≤◌, ◌||◌, Bool, true, false, if◌then◌else◌, List, map, replicate, length, slice_index_or, slice_set, Option, Some, None}
+use Rattle.std.specs.Option.{option_map}
+use Rattle.std.specs.List.{range_with_len}
+use Rattle.host_memory.specs.Reading.{share_with}
+use Rattle.host_memory.specs.declared.table.Prd.{Prd}
+use Rattle.hba_driver.specs.declared.order.Order.{Order}
+use Rattle.hba_driver.specs.declared.order.Order.TheVariants.{ResetOn, Open, Clear, Detect}
+use Rattle.hba_driver.specs.declared.plan.Device.{Device}
+use Rattle.hba_driver.specs.declared.plan.Device.TheVariants.{Absent}
+use Rattle.hba_driver.specs.declared.plan.Plan.{Plan}
+use Rattle.hba_driver.specs.declared.request.Work.{Work}
+use Rattle.hba_driver.specs.declared.request.Work.TheVariants as work
+use Rattle.hba_driver.specs.declared.slot.Head.{Head}
+use Rattle.hba_driver.specs.declared.slot.Phase.{Phase}
+use Rattle.hba_driver.specs.declared.slot.Phase.TheVariants.{Waits, Issued, Ended}
+
+-- a request that was taken and not polled: its head, and where its bytes lie
+pub record Entry : Type 0 where
+  pub head : Head
+  pub prds : List Prd
+
+pub record Driver : Type 0 where
+  -- what is known of the port, of the multiplier and of each device
+  pub plan : Plan
+  -- the last ticket that was given, 0 for none
+  pub given : ℕ
+  -- by slot, 0 to 29
+  pub entries : List (Option Entry)
+
+-- the entry with this head, if there is one
+abbrev pub entry_of : Option Head → List Prd → Option Entry
+entry_of None prds = None
+entry_of (Some head) prds = Some (record { head = head; prds = prds })
+
+-- ---- a new driver
+
+abbrev pub opening_plan : Plan
+opening_plan = record {
+  opened = 0;
+  order = ResetOn;
+  asked = false;
+  ports = 0;
+  found = 0;
+  identifying = None;
+  devices = replicate 15 Absent;
+}
+
+-- nothing is done yet, and this was the last ticket
+abbrev pub new_driver : (given : ℕ) → Driver
+new_driver given = record { plan = opening_plan; given = given; entries = replicate 30 None }
+
+-- ---- devices
+
+abbrev pub device_at : Plan → ℕ → Device
+device_at plan dev = slice_index_or plan.devices dev Absent
+
+abbrev pub with_device : ℕ → Device → Plan → Plan
+with_device dev device plan = record plan { devices = slice_set plan.devices dev device }
+
+-- ---- requests
+
+abbrev pub entry_at : List (Option Entry) → ℕ → Option Entry
+entry_at entries slot = slice_index_or entries slot None
+
+-- an entry is there, and the test holds of its head
+abbrev pub holds : (Head → Bool) → Option Entry → Bool
+holds test None = false
+holds test (Some entry) = test entry.head
+
+abbrev pub waits_in : Phase → Bool
+waits_in Waits = true
+waits_in Issued = false
+waits_in (Ended outcome) = false
+
+abbrev pub waits : Head → Bool
+waits head = waits_in head.phase
+
+abbrev pub is_issued_in : Phase → Bool
+is_issued_in Waits = false
+is_issued_in Issued = true
+is_issued_in (Ended outcome) = false
+
+abbrev pub is_issued : Head → Bool
+is_issued head = is_issued_in head.phase
+
+abbrev pub has_ended_in : Phase → Bool
+has_ended_in Waits = false
+has_ended_in Issued = false
+has_ended_in (Ended outcome) = true
+
+abbrev pub has_ended : Head → Bool
+has_ended head = has_ended_in head.phase
+
+-- the request of an entry has come to this
+abbrev pub rephased : Phase → Entry → Entry
+rephased phase entry = record entry { head = record entry.head { phase = phase } }
+
+-- so has it where the test holds of its head, and else it stays
+abbrev pub rephase : (Head → Bool) → Phase → Option Entry → Option Entry
+rephase test phase entry = if holds test entry then option_map (rephased phase) entry else entry
+
+-- so have the requests in all slots, where the test holds of slot and head
+unfoldable pub rephase_all : (ℕ → Head → Bool) → Phase → List (Option Entry) → List (Option Entry)
+rephase_all test phase entries =
+    map (λ slot. rephase (test slot) phase (entry_at entries slot)) (range_with_len 0 (length entries))
+
+-- ---- soundness
+
+-- a read writes to memory
+abbrev pub is_read : Work → Bool
+is_read work.Read = true
+is_read work.Write = false
+is_read work.Flush = false
+
+-- an order is to a fan-out port of the multiplier, 0 to 14
+abbrev pub IsOrder : Order → Type 0
+IsOrder (Open port) = port < 15
+IsOrder (Clear port) = port < 15
+IsOrder (Detect port) = port < 15
+IsOrder order = Unit {0}
+
+abbrev pub IsPort : Option ℕ → Type 0
+IsPort None = Unit {0}
+IsPort (Some port) = port < 15
+
+-- what every plan keeps
+pub record IsSoundPlan (plan : Plan) : Type 0 where
+  pub opened : plan.opened ≤ 7
+  pub order : IsOrder plan.order
+  pub ports : plan.ports < 16
+  pub identifying : IsPort plan.identifying
+
+-- the requests of every driver, of which this was the last ticket that was given
+pub record AreRequests (last : ℕ) (entries : List (Option Entry)) : Type 0 where
+  pub slots : length entries ≡ 30
+  -- each has a ticket that was given, and no other request has it
+  pub given : (s : ℕ) (e : Entry) → entry_at entries s ≡ Some e → e.head.ticket ≤ last
+  pub own : (s t : ℕ) (e f : Entry) → entry_at entries s ≡ Some e → entry_at entries t ≡ Some f → e.head.ticket ≡ f.head.ticket → s ≡ t
+  -- two of which one reads share no byte
+  pub apart : (s t : ℕ) (e f : Entry) → entry_at entries s ≡ Some e → entry_at entries t ≡ Some f → s ≢ t
+      → (is_read e.head.work || is_read f.head.work) ≡ true → share_with e.prds f.prds ≡ false
+
+pub record IsSound (d : Driver) : Type 0 where
+  pub plan : IsSoundPlan d.plan
+  pub requests : AreRequests d.given d.entries

@@ -1,0 +1,101 @@
+-- What an act does to port and memory: writes of registers (AHCI 1.3.1, section 3.3), commands (4.2.2, 4.2.3), the flush of a
+-- device and its row of the received area (4.2.1).
+use Rattle.std.specs.Prelude.{ℕ, ◌≡◌, ◌+◌, ◌*◌, ◌^◌, Bool, true, false, nat_lt, List, [], ◌∷◌, replicate, slice_index_or, Some, None}
+use Rattle.fis_view.specs.declared.build.H2dFields.{H2dFields}
+use Rattle.host_memory.specs.Memory.{Memory, overwritten}
+use Rattle.host_memory.specs.declared.table.Prd.{Prd}
+use Rattle.slots.specs.Slots.{match_some}
+use Rattle.hba_commands.specs.Writing.{IsWritten}
+use Rattle.hba_fbs.specs.declared.error.WriteError.{WriteError}
+use Rattle.hba_fbs.specs.Views.{Flushes, Port}
+use Rattle.hba_fbs.specs.Writing.{Writes, write_refusal}
+use Rattle.hba_driver.specs.declared.effect.Effect.{Effect}
+use Rattle.hba_driver.specs.declared.effect.Effect.TheVariants as effect
+use Rattle.hba_driver.specs.declared.order.Order.{Order}
+use Rattle.hba_driver.specs.declared.order.Order.TheVariants.{Scan, Clear}
+use Rattle.hba_driver.specs.declared.turn.Act.{Act}
+use Rattle.hba_driver.specs.declared.turn.Act.TheVariants as act
+use Rattle.hba_driver.specs.Orders.{control_port, identify_fields, order_fields}
+use Rattle.hba_driver.specs.Sights.{px_ci, px_clb, px_clbu, px_cmd, px_fb, px_fbs, px_fbu, px_sact, px_sntf}
+
+-- ---- the effects of an act
+
+-- The command list begins at 0 and the received area at 1000h; FBS.EN is set, then FRE, then ST with FRE and PMA.
+abbrev pub opening_writes : List Effect
+opening_writes =
+    effect.Writes px_clb 0 ∷ effect.Writes px_clbu 0 ∷ effect.Writes px_fb 0x1000 ∷ effect.Writes px_fbu 0
+    ∷ effect.Writes px_fbs 1 ∷ effect.Writes px_cmd 0x10 ∷ effect.Writes px_cmd 0x20011 ∷ []
+
+unfoldable pub opening_write : ℕ → Effect
+opening_write k = slice_index_or opening_writes k (effect.Writes px_cmd 0x20011)
+
+-- the device and EN in PxFBS, the slot's bit in PxSACT where the command is queued, and in PxCI
+abbrev pub issuing : (slot dev : ℕ) → (queued : Bool) → List Effect
+issuing slot dev true = effect.Writes px_fbs (256 * dev + 1) ∷ effect.Writes px_sact (2 ^ slot) ∷ effect.Writes px_ci (2 ^ slot) ∷ []
+issuing slot dev false = effect.Writes px_fbs (256 * dev + 1) ∷ effect.Writes px_ci (2 ^ slot) ∷ []
+
+-- a command of the driver's own is written into its slot and issued; buffer says that its data go to the driver's buffer
+abbrev pub sending : (slot dev : ℕ) → H2dFields → (buffer : Bool) → List Effect
+sending slot dev fields buffer = effect.Commands slot fields buffer ∷ issuing slot dev false
+
+abbrev pub order_command : Order → List Effect
+order_command order = match_some (order_fields order) [] (λ fields. sending 31 control_port fields false)
+
+-- before a scan PxSNTF is cleared; a port that a scan found is flushed, and its row is emptied
+unfoldable pub order_effects : Order → List Effect
+order_effects Scan = effect.Writes px_sntf 0x8000 ∷ order_command Scan
+order_effects (Clear port) = effect.Flushes port ∷ effect.Empties port ∷ order_command (Clear port)
+order_effects order = order_command order
+
+unfoldable pub effects_of : Act → List Effect
+effects_of (act.Opens k) = opening_write k ∷ []
+effects_of (act.Orders order) = order_effects order
+effects_of (act.Identifies dev) = sending 30 dev (identify_fields dev) true
+effects_of (act.Issues slot dev queued) = issuing slot dev queued
+
+-- ---- what an effect leaves of port and memory
+
+-- where the command table of a slot lies
+abbrev pub table_of : ℕ → ℕ
+table_of slot = 8192 + 4096 * slot
+
+-- the driver's buffer: the first 512 bytes of the client area
+abbrev pub buffer_prd : Prd
+buffer_prd = record { address = 1048576; bytes = 512 }
+
+abbrev pub prds_with : (buffer : Bool) → List Prd
+prds_with true = buffer_prd ∷ []
+prds_with false = []
+
+-- a value is written, where the port takes it
+pub record Tries (old : Port) (memory : Memory) (offset value : ℕ) (new : Port) : Type 0 where
+  pub accepted : write_refusal old memory offset value ≡ None → Writes old memory offset value new
+  pub refused : (e : WriteError) → write_refusal old memory offset value ≡ Some e → new ≡ old
+
+-- a row of the received area is emptied
+abbrev pub emptied : ℕ → Memory → Memory
+emptied dev memory = record memory { structure = overwritten memory.structure (4096 + 256 * dev) (replicate 256 0) }
+
+-- a command stands in its slot
+pub record Commands (old : Memory) (slot : ℕ) (fields : H2dFields) (prds : List Prd) (new : Memory) : Type 0 where
+  pub structure : IsWritten 0 slot (table_of slot) fields prds old.structure new.structure
+  pub client : new.client ≡ old.client
+
+abbrev pub Acts : Effect → Port → Memory → Port → Memory → Type 0
+Acts (effect.Writes offset value) old before new after = Tries old before offset value new × (after ≡ before)
+Acts (effect.Flushes dev) old before new after = Flushes old dev new × (after ≡ before)
+Acts (effect.Empties dev) old before new after = (new ≡ old) × (after ≡ emptied dev before)
+Acts (effect.Commands slot fields buffer) old before new after = (new ≡ old) × Commands before slot fields (prds_with buffer) after
+
+-- one effect after another
+unfoldable pub ActsAll : List Effect → Port → Memory → Port → Memory → Type 0
+ActsAll [] old before new after = (new ≡ old) × (after ≡ before)
+ActsAll (first ∷ rest) old before new after =
+    (port : Port) × (memory : Memory) × Acts first old before port memory × ActsAll rest port memory new after
+
+-- the slot, or the device, is there
+abbrev pub is_effect : Effect → Bool
+is_effect (effect.Writes offset value) = true
+is_effect (effect.Flushes dev) = nat_lt dev 16
+is_effect (effect.Empties dev) = nat_lt dev 16
+is_effect (effect.Commands slot fields buffer) = nat_lt slot 32

@@ -1,0 +1,149 @@
+-- What the host does, turn by turn: host port, driver and memory together. A frame that is taken or pushed leaves the driver
+-- as it is; whatever the driver does between two ticks leaves the port as it is.
+use Rattle.std.specs.Prelude.{ℕ, ◌≡◌, ◌-◌, Bool, true, false, List, [], ◌∷◌, ◌++◌, length, Option, Some, None}
+use Rattle.std.specs.List.{list_all}
+use Rattle.host_memory.specs.Memory.{IsHostMemory, Memory, client_start, overwritten}
+use Rattle.host_memory.specs.Place.{LiesInClient}
+use Rattle.hba_fbs.specs.declared.report.TakeReport.{TakeReport}
+use Rattle.hba_fbs.specs.Taking.{Hears, Ignores, ignores, port_of}
+use Rattle.hba_fbs.specs.Views.{Port}
+use Rattle.hba_driver.specs.declared.request.Completion.{Completion}
+use Rattle.hba_driver.specs.declared.request.Request.{Request}
+use Rattle.hba_driver.specs.declared.sight.Sight.{Sight}
+use Rattle.hba_driver.specs.declared.turn.Act.{Act}
+use Rattle.hba_driver.specs.declared.turn.Act.TheVariants as act
+use Rattle.hba_driver.specs.Drivers.{Driver, Entry, entry_at}
+use Rattle.hba_driver.specs.Effects.{ActsAll, is_effect}
+use Rattle.hba_driver.specs.Requests.{in_use}
+use Rattle.hba_driver.specs.Sights.{sight_of}
+use Rattle.hba_driver.specs.Submits.{Takes, after_poll, completion_of, submit_refusal}
+use Rattle.hba_driver.specs.Ticks.{acts, after_tick, due, effects, seen}
+
+pub record Host : Type 0 where
+  pub port : Port
+  pub driver : Driver
+  pub memory : Memory
+
+pub data HostTurn : Type 0 where
+  -- the port takes a frame
+  Took : (frame : List ℕ) → (report : TakeReport) → HostTurn
+  -- the port gives a frame
+  Pushed : (frame : List ℕ) → HostTurn
+  -- the driver ticks, and says whether it acted
+  Ticked : (acted : Bool) → HostTurn
+  -- a request for a device is taken under this ticket
+  Submitted : (dev : ℕ) → (request : Request) → (ticket : ℕ) → HostTurn
+  -- an ended request is polled
+  Polled : (completion : Completion) → HostTurn
+  -- a client writes bytes that are not in use
+  Put : (at : ℕ) → (bytes : List ℕ) → HostTurn
+
+pub record Tooks (old : Host) (frame : List ℕ) (report : TakeReport) (new : Host) : Type 0 where
+  pub driver : new.driver ≡ old.driver
+  pub ignored : ignores (port_of frame) old.port frame ≡ true
+      → Ignores (port_of frame) old.port old.memory report new.port new.memory
+  pub heard : ignores (port_of frame) old.port frame ≡ false
+      → Hears (port_of frame) old.port old.memory frame report new.port new.memory
+
+-- which frame comes, and what it leaves of the port, is not said here
+pub record Pushes (old new : Host) : Type 0 where
+  pub driver : new.driver ≡ old.driver
+  pub memory : new.memory ≡ old.memory
+
+abbrev pub sight_in : Host → Sight
+sight_in h = sight_of h.port h.memory
+
+pub record Ticks (old : Host) (acted : Bool) (new : Host) : Type 0 where
+  pub driver : new.driver ≡ after_tick (sight_in old) old.driver
+  pub does : ActsAll (effects (sight_in old) old.driver) old.port old.memory new.port new.memory
+  pub answer : acted ≡ acts (sight_in old) old.driver
+  pub possible : list_all is_effect (effects (sight_in old) old.driver) ≡ true
+
+pub record Submits (old : Host) (dev : ℕ) (request : Request) (ticket : ℕ) (new : Host) : Type 0 where
+  pub accepted : submit_refusal old.driver old.memory dev request ≡ None
+  pub taken : Takes old.driver old.memory dev request ticket new.driver new.memory
+  pub port : new.port ≡ old.port
+
+pub record Polls (old : Host) (completion : Completion) (new : Host) : Type 0 where
+  pub polled : completion_of old.driver ≡ Some completion
+  pub driver : new.driver ≡ after_poll old.driver
+  pub port : new.port ≡ old.port
+  pub memory : new.memory ≡ old.memory
+
+pub record Puts (old : Host) (at : ℕ) (bytes : List ℕ) (new : Host) : Type 0 where
+  pub inside : LiesInClient (length old.memory.client) at (length bytes)
+  pub unused : in_use old.driver at (length bytes) ≡ false
+  pub memory : new.memory ≡ record old.memory { client = overwritten old.memory.client (at - client_start) bytes }
+  pub driver : new.driver ≡ old.driver
+  pub port : new.port ≡ old.port
+
+-- what a turn does
+abbrev pub Does : Host → HostTurn → Host → Type 0
+Does old (Took frame report) new = Tooks old frame report new
+Does old (Pushed frame) new = Pushes old new
+Does old (Ticked acted) new = Ticks old acted new
+Does old (Submitted dev request ticket) new = Submits old dev request ticket new
+Does old (Polled completion) new = Polls old completion new
+Does old (Put at bytes) new = Puts old at bytes new
+
+-- one turn after another
+abbrev pub DoesAll : Host → List HostTurn → Host → Type 0
+DoesAll old [] new = new ≡ old
+DoesAll old (turn ∷ turns) new = (mid : Host) × Does old turn mid × DoesAll mid turns new
+
+-- ---- tickets
+
+-- that are given in these turns
+abbrev pub given_in : List HostTurn → List ℕ
+given_in [] = []
+given_in (Took frame report ∷ turns) = given_in turns
+given_in (Pushed frame ∷ turns) = given_in turns
+given_in (Ticked acted ∷ turns) = given_in turns
+given_in (Submitted dev request ticket ∷ turns) = ticket ∷ given_in turns
+given_in (Polled completion ∷ turns) = given_in turns
+given_in (Put at bytes ∷ turns) = given_in turns
+
+-- that are polled
+abbrev pub polled_by : HostTurn → List ℕ
+polled_by (Polled completion) = completion.ticket.0 ∷ []
+polled_by _ = []
+
+abbrev pub polled_in : List HostTurn → List ℕ
+polled_in [] = []
+polled_in (turn ∷ turns) = polled_by turn ++ polled_in turns
+
+-- that a tick issues
+abbrev pub ticket_of : Option Entry → List ℕ
+ticket_of None = []
+ticket_of (Some entry) = entry.head.ticket ∷ []
+
+abbrev pub issued_by_act : Option Act → List (Option Entry) → List ℕ
+issued_by_act None entries = []
+issued_by_act (Some (act.Opens k)) entries = []
+issued_by_act (Some (act.Orders order)) entries = []
+issued_by_act (Some (act.Identifies dev)) entries = []
+issued_by_act (Some (act.Issues slot dev queued)) entries = ticket_of (entry_at entries slot)
+
+abbrev pub issued_in_tick : Sight → Driver → List ℕ
+issued_in_tick v d = issued_by_act (due v d) (seen v d).entries
+
+abbrev pub issued_by : Host → HostTurn → List ℕ
+issued_by old (Ticked acted) = issued_in_tick (sight_in old) old.driver
+issued_by old _ = []
+
+-- and over the turns
+abbrev pub issued_over : (old new : Host) → (turns : List HostTurn) → DoesAll old turns new → List ℕ
+issued_over old new [] run = []
+issued_over old new (turn ∷ turns) run = issued_by old turn ++ issued_over run.0 new turns run.2
+
+-- ---- hosts as they come
+
+-- What is true of the hosts of a run: what their port, driver and memory keep by themselves, and that the received area
+-- of a port that runs is the driver's.
+pub record IsHost (h : Host) : Type 0 where
+  pub memory : IsHostMemory h.memory
+  pub area : h.port.registers.started ≡ true → h.port.registers.fb ≡ 4096
+
+abbrev pub AreHosts : (old new : Host) → (turns : List HostTurn) → DoesAll old turns new → Type 0
+AreHosts old new [] run = IsHost old
+AreHosts old new (turn ∷ turns) run = IsHost old × AreHosts run.0 new turns run.2

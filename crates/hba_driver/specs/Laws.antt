@@ -1,0 +1,125 @@
+-- What is true of the driver over any list of turns of the host, from any sound state, whatever the devices send.
+use Rattle.std.specs.Prelude.{ℕ, ◌≡◌, ◌+◌, ◌==◌, ◌&&◌, ◌⊎◌, Bool, true, false, List, [], ◌∷◌, length, Option, Some, None}
+use Rattle.std.specs.List.{list_any, range_with_len}
+use Rattle.host_memory.specs.Memory.{Memory}
+use Rattle.host_memory.specs.Reading.{AgreeFrom}
+use Rattle.hba_commands.specs.Headers.{header_place}
+use Rattle.slots.specs.Slots.{issue_at}
+use Rattle.slots.specs.Table.{IsTable}
+use Rattle.hba_fbs.specs.Views.{Port}
+use Rattle.hba_driver.specs.declared.request.Outcome.TheVariants.{Done}
+use Rattle.hba_driver.specs.Effects.{table_of}
+use Rattle.hba_driver.specs.Sights.{sight_of}
+use Rattle.hba_driver.specs.declared.plan.Device.TheVariants.{Absent}
+use Rattle.hba_driver.specs.declared.sight.Sight.{Sight}
+use Rattle.hba_driver.specs.declared.slot.Phase.{Phase}
+use Rattle.hba_driver.specs.declared.slot.Phase.TheVariants.{Waits, Issued, Ended}
+use Rattle.hba_driver.specs.declared.effect.Effect.{Effect}
+use Rattle.hba_driver.specs.declared.effect.Effect.TheVariants as effect
+use Rattle.hba_driver.specs.declared.turn.Act.TheVariants as act
+use Rattle.hba_driver.specs.Drivers.{AreRequests, Driver, Entry, device_at, entry_at, has_ended, is_issued, rephased, waits_in}
+use Rattle.hba_driver.specs.HostTurns.{AreHosts, DoesAll, Host, HostTurn, Took, Pushed, Ticked, Submitted, Polled, Put, given_in, issued_over, polled_in}
+use Rattle.hba_driver.specs.Ticks.{after_tick, due, effects, seen, turn}
+use Rattle.hba_driver.specs.Turns.{may_issue}
+
+-- ---- the life of a request
+
+-- from waiting to issued, from both to its end, and then no further
+abbrev pub Goes : Phase → Phase → Type 0
+Goes Waits later = Unit {0}
+Goes Issued later = waits_in later ≡ false
+Goes (Ended outcome) later = later ≡ Ended outcome
+
+-- of a request only the phase may be another later
+pub record GoesOn (e later : Entry) : Type 0 where
+  pub same : later ≡ rephased later.head.phase e
+  pub goes : Goes e.head.phase later.head.phase
+
+-- it stands there still
+pub record Kept (e : Entry) (later : Option Entry) : Type 0 where
+  pub entry : Entry
+  pub is : later ≡ Some entry
+  pub on : GoesOn e entry
+
+-- no request comes, and none goes
+abbrev pub Keeps : Option Entry → Option Entry → Type 0
+Keeps None later = later ≡ None
+Keeps (Some e) later = Kept e later
+
+-- a tick takes no request and gives none away, gives no ticket, and ends nothing twice
+pub record TicksKeep : Type 0 where
+  pub entries : (v : Sight) (d : Driver) (s : ℕ) → Keeps (entry_at d.entries s) (entry_at (after_tick v d).entries s)
+  pub given : (v : Sight) (d : Driver) → (after_tick v d).given ≡ d.given
+
+-- an effect flushes this device
+abbrev pub flushes : ℕ → Effect → Bool
+flushes dev (effect.Writes offset value) = false
+flushes dev (effect.Flushes other) = other == dev
+flushes dev (effect.Empties other) = false
+flushes dev (effect.Commands slot fields buffer) = false
+
+-- what a tick does to devices
+pub record TicksServe : Type 0 where
+  -- a request is issued only where it waits and its device is ready
+  pub ready : (v : Sight) (d : Driver) (slot dev : ℕ) (queued : Bool) → due v d ≡ Some (act.Issues slot dev queued)
+      → may_issue (turn v d).plan (entry_at (seen v d).entries slot) ≡ true
+  -- in the tick of its flush a device is taken to be absent, and none of its requests is left open
+  pub leaves : (v : Sight) (d : Driver) (dev : ℕ) → list_any (flushes dev) (effects v d) ≡ true → device_at (after_tick v d).plan dev ≡ Absent
+  pub ends : (v : Sight) (d : Driver) (dev s : ℕ) (e : Entry) → list_any (flushes dev) (effects v d) ≡ true
+      → entry_at (after_tick v d).entries s ≡ Some e → e.head.dev ≡ dev → has_ended e.head ≡ true
+
+-- ---- over lists of turns
+
+-- no number stands twice in the list
+abbrev pub AreOnce : List ℕ → Type 0
+AreOnce [] = Unit {0}
+AreOnce (x ∷ xs) = (list_any (λ y. y == x) xs ≡ false) × AreOnce xs
+
+-- the turn polls this request out of this slot
+abbrev pub gives : ℕ → Entry → HostTurn → Bool
+gives s e (Took frame report) = false
+gives s e (Pushed frame) = false
+gives s e (Ticked acted) = false
+gives s e (Submitted dev request ticket) = false
+gives s e (Polled completion) = (completion.ticket.0 == e.head.ticket) && (completion.slot == s)
+gives s e (Put at bytes) = false
+
+-- a request stands in its slot, and goes on, until it is polled there
+abbrev pub Lives : ℕ → Entry → List HostTurn → Host → Type 0
+Lives s e turns new = Kept e (entry_at new.driver.entries s) ⊎ (list_any (gives s e) turns ≡ true)
+
+pub record TurnsKeep (old : Host) (turns : List HostTurn) (new : Host) (run : DoesAll old turns new) : Type 0 where
+  -- requests stay sound: tickets are each one's own, and where one of two reads they share no byte
+  pub sound : AreRequests new.driver.given new.driver.entries
+  -- tickets are given one after another
+  pub given : given_in turns ≡ range_with_len (old.driver.given + 1) (length (given_in turns))
+  pub last : new.driver.given ≡ old.driver.given + length (given_in turns)
+  -- each is polled at most once, and issued at most once
+  pub polled : AreOnce (polled_in turns)
+  pub issued : AreOnce (issued_over old new turns run)
+  pub lives : (s : ℕ) (e : Entry) → entry_at old.driver.entries s ≡ Some e → Lives s e turns new
+
+abbrev pub EachRunKeeps : Type 0
+EachRunKeeps = (old : Host) (turns : List HostTurn) (new : Host) (run : DoesAll old turns new) → AreRequests old.driver.given old.driver.entries → TurnsKeep old turns new run
+
+-- ---- the structure area
+
+-- header and table of a slot stand as they were
+pub record Stands (s : ℕ) (old new : Memory) : Type 0 where
+  pub header : AgreeFrom (header_place 0 s) 32 old.structure new.structure
+  pub table : AgreeFrom (table_of s) 4096 old.structure new.structure
+
+-- What a request has written into the structure area stands there until it is polled: nothing else is written but
+-- received FISes, the rows of devices that are flushed, and the commands of other slots.
+abbrev pub CommandsStand : Type 0
+CommandsStand =
+    (old : Host) (turns : List HostTurn) (new : Host) (run : DoesAll old turns new) → AreHosts old new turns run → AreRequests old.driver.given old.driver.entries
+    → (s : ℕ) (e : Entry) → entry_at old.driver.entries s ≡ Some e → list_any (gives s e) turns ≡ false → Stands s old.memory new.memory
+
+-- ---- requests that are done
+
+-- A tick ends a request as Done only where it was issued and nothing is issued in its slot of the port any more.
+abbrev pub DoneIsFree : Type 0
+DoneIsFree =
+    (port : Port) (memory : Memory) (d : Driver) (s : ℕ) (e f : Entry) → IsTable port.slots → AreRequests d.given d.entries → entry_at d.entries s ≡ Some e → has_ended e.head ≡ false
+    → entry_at (after_tick (sight_of port memory) d).entries s ≡ Some f → f.head.phase ≡ Ended Done → (is_issued e.head ≡ true) × (issue_at port.slots s ≡ None)

@@ -1,0 +1,10 @@
+pub mod Drivers
+pub mod Orders
+pub mod Sights
+pub mod Turns
+pub mod Effects
+pub mod Ticks
+pub mod Requests
+pub mod Submits
+pub mod HostTurns
+pub mod Laws

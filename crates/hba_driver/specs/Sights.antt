@@ -1,0 +1,90 @@
+-- What a tick sees of the port and of memory: AHCI 1.3.1, section 3.3 (registers) and 4.2.1 (received FISes); Serial ATA 3.x,
+-- 10.5.6 (signatures); ACS-3, IDENTIFY DEVICE.
+use Rattle.std.specs.Prelude.{ℕ, ◌+◌, ◌*◌, ◌/◌, ◌%◌, ◌^◌, ◌==◌, ◌&&◌, ◌||◌, Bool, false, bit_or, List, map, take, drop, slice_index, Result, Ok}
+use Rattle.std.specs.List.{range_with_len}
+use Rattle.std.specs.Result.{result_unwrap_or}
+use Rattle.fis_view.specs.Seen.{seen}
+use Rattle.fis_view.specs.Table as table
+use Rattle.fis_view.specs.Table.{field}
+use Rattle.fis_view.specs.declared.view.Fis.{Fis}
+use Rattle.fis_view.specs.declared.view.Fis.TheVariants as view
+use Rattle.fis_view.specs.declared.view.FisFault.{FisFault}
+use Rattle.host_memory.specs.Memory.{Memory}
+use Rattle.slots.specs.Slots.{has_bit}
+use Rattle.hba_fbs.specs.Posting.{is_signature}
+use Rattle.hba_fbs.specs.Reading.{read_at}
+use Rattle.hba_fbs.specs.Views.{Port, view_of}
+use Rattle.hba_driver.specs.declared.sight.Sight.{Sight}
+
+-- the value of the register at an offset
+unfoldable pub shown : Port → ℕ → ℕ
+shown port offset = result_unwrap_or (read_at port offset) 0
+
+-- the last Register Device to Host FIS of a PM Port: at 40h of its row of the received area, which begins at 1000h
+abbrev pub last_d2h : List ℕ → ℕ → List ℕ
+last_d2h structure dev = take 20 (drop (4160 + 256 * dev) structure)
+
+-- a register's value in the answer of the multiplier: Count 7:0, LBA 7:0, LBA 15:8 and LBA 23:16, the first lowest
+abbrev pub answer_in : Result Fis FisFault → ℕ
+answer_in (Ok (view.RegD2H f)) = field table.D2h table.Lba f % 2 ^ 24 * 256 + field table.D2h table.Count f % 2 ^ 8
+answer_in _ = 0
+
+-- a signature, of an ATA device: LBA 23:8 is 0
+abbrev pub is_ata : Result Fis FisFault → Bool
+is_ata (Ok (view.RegD2H f)) = is_signature f && (field table.D2h table.Lba f / 2 ^ 8 % 2 ^ 16 == 0)
+is_ata _ = false
+
+-- the identify data in the driver's buffer, which begins the client area, are those of a device for queued commands:
+-- word 76 has bit 8, and word 75 says a queue of 32
+abbrev pub is_usable : List ℕ → Bool
+is_usable client = (slice_index client 153 % 2 == 1) && (slice_index client 150 % 32 == 31)
+
+-- the offsets of registers of the port
+abbrev pub px_clb : ℕ
+px_clb = 0x00
+
+abbrev pub px_clbu : ℕ
+px_clbu = 0x04
+
+abbrev pub px_fb : ℕ
+px_fb = 0x08
+
+abbrev pub px_fbu : ℕ
+px_fbu = 0x0C
+
+abbrev pub px_is : ℕ
+px_is = 0x10
+
+abbrev pub px_cmd : ℕ
+px_cmd = 0x18
+
+abbrev pub px_sig : ℕ
+px_sig = 0x24
+
+abbrev pub px_sact : ℕ
+px_sact = 0x34
+
+abbrev pub px_ci : ℕ
+px_ci = 0x38
+
+abbrev pub px_sntf : ℕ
+px_sntf = 0x3C
+
+abbrev pub px_fbs : ℕ
+px_fbs = 0x40
+
+-- PxIS.HBFS, or PxFBS.SDE: a fault of the port, or one of a device
+abbrev pub has_fault : (is fbs : ℕ) → Bool
+has_fault is fbs = has_bit is 29 || has_bit fbs 2
+
+unfoldable pub sight_of : Port → Memory → Sight
+sight_of port memory = record {
+  issued = bit_or (shown port px_ci) (shown port px_sact);
+  faulted = has_fault (shown port px_is) (shown port px_fbs);
+  resetting = (view_of 15 port).state.resetting;
+  signature = shown port px_sig;
+  notified = has_bit (shown port px_sntf) 15;
+  answer = answer_in (seen (last_d2h memory.structure 15));
+  signed = map (λ dev. is_ata (seen (last_d2h memory.structure dev))) (range_with_len 0 16);
+  usable = is_usable memory.client;
+}

@@ -1,0 +1,238 @@
+//! The driver.
+
+ghost use Rattle.std.specs.Prelude.{◌≡◌, ◌-◌, false, true, IfOk, IfSome, None, OnErr, Some};
+ghost use Rattle.std.specs.List.{list_all};
+ghost use Rattle.std.specs.Result.{result_err};
+ghost use Rattle.hba_driver.specs.Drivers.{IsSound, new_driver};
+ghost use Rattle.hba_driver.specs.Effects.{ActsAll, is_effect};
+ghost use Rattle.hba_driver.specs.Requests.{in_use as in_use_of, room_refusal as room_refusal_of};
+ghost use Rattle.hba_driver.specs.Sights.{sight_of};
+ghost use Rattle.hba_driver.specs.Submits.{Takes, after_poll, completion_of, end_of as end_of_memory, submit_refusal};
+ghost use Rattle.hba_driver.specs.Ticks.{Rests, acted as acted_of, acts, after_tick, due as due_of, effects, effects_due};
+ghost use Rattle.hba_driver.specs.Turns.{IsAct};
+
+use crate::effect::table_of;
+use crate::plan::Plan;
+use crate::refusal::shape_refusal;
+use crate::request::{Completion, Request, SubmitError, Ticket};
+use crate::scan::{
+    any_done, apply, are_blocked, are_used, end_done, have_conflict, lowest_ended, lowest_free,
+};
+use crate::sight::Sight;
+use crate::slot::{Head, Phase, Slot, share_bytes};
+use crate::turn::Act;
+use hba_commands::write_command;
+use hba_fbs::HostPort;
+use host_memory::{CLIENT_START, HostMemory, have_overlap};
+use std::marker::Model;
+
+/// How many bytes the driver's own buffer has. It begins the client area.
+const BUFFER_LEN: u32 = 0x200;
+
+/// A driver.
+#[derive(Drop)]
+pub struct Driver {
+    plan: Plan,
+    /// The last ticket that was given.
+    given: u32,
+    slots: [Slot; 30],
+}
+
+impl Model for Driver {
+    ghost use Rattle.hba_driver.specs.Drivers.{Driver, IsSound};
+
+    ghost Value = { Driver };
+
+    ghost view = { λ d. record { plan = d.plan; given = d.given; entries = d.slots } };
+
+    ghost invariant = { λ d. IsSound (record { plan = d.plan; given = d.given; entries = d.slots }) };
+}
+
+impl Driver {
+    /// A driver that has done nothing yet, whose first ticket is 1.
+    pub fn new() -> Driver
+        ensures { result ≡ new_driver 0 }
+    {
+        Driver::with_next_ticket(1)
+    }
+
+    /// The same, but that its first ticket is this one, or 1 for 0.
+    pub fn with_next_ticket(ticket: u32) -> Driver
+        ensures { result ≡ new_driver (ticket - 1) }
+    {
+        Driver {
+            plan: Plan::new(),
+            given: ticket.saturating_sub(1),
+            slots: Default::default(),
+        }
+    }
+
+    /// What is true of every driver. It does nothing when it runs.
+    pub fn keeps_rules(&self)
+        ensures { IsSound self.now }
+    {
+        let _ = &self.plan;
+    }
+
+    // What an act leaves of it.
+    fn act(&mut self, act: Act)
+        requires { IsAct act }
+        ensures { self.new ≡ acted_of (Some act) self.old }
+    {
+        self.plan = self.plan.after(act);
+        apply(&mut self.slots, act);
+    }
+
+    // The driver's part of a tick: what it is to do to port and memory, and whether it acted.
+    #[tactic(auto, unfolding(crate::specs::Ticks::after_tick, crate::specs::Ticks::acts))]
+    fn step(&mut self, sight: Sight) -> (Option<Act>, bool)
+        ensures driver { self.new ≡ after_tick sight self.old }
+        ensures due { result.0 ≡ due_of sight self.old }
+        ensures act { IfSome result.0 IsAct }
+        ensures answer { result.1 ≡ acts sight self.old }
+        ensures rests { result.1 ≡ false → (result.0 ≡ None) × (self.new ≡ self.old) }
+    {
+        if sight.faulted {
+            return (None, false);
+        }
+        let ended = any_done(&self.slots, sight.issued);
+        end_done(&mut self.slots, sight.issued);
+        let turn = self.plan.turn(sight, &self.slots);
+        self.plan = turn.plan;
+        let Some(act) = turn.act else {
+            return (None, ended || turn.news);
+        };
+        self.act(act);
+        (Some(act), true)
+    }
+
+    /// Does the next thing that is due, and says whether something was. Each request that its device
+    /// has done has ended first. While a fault of the port or of a device stands nothing is due.
+    pub fn tick(&mut self, port: &mut HostPort, memory: &mut HostMemory) -> bool
+        ensures driver { self.new ≡ after_tick (sight_of port.old memory.old) self.old }
+        ensures effects { ActsAll (effects (sight_of port.old memory.old) self.old)
+            port.old memory.old port.new memory.new }
+        ensures possible { list_all is_effect (effects (sight_of port.old memory.old) self.old)
+            ≡ true }
+        ensures answer { result ≡ acts (sight_of port.old memory.old) self.old }
+        ensures rests { result ≡ false
+            → Rests self.old port.old memory.old self.new port.new memory.new }
+    {
+        let sight = Sight::of(port, memory);
+        let (act, acted) = self.step(sight);
+        perform(act, port, memory);
+        acted
+    }
+
+    // Why a request is refused by what the driver has taken.
+    fn room_refusal(&self, request: &Request) -> Option<SubmitError>
+        ensures { result ≡ room_refusal_of self.now request.now }
+    {
+        if have_overlap(&request.prds) || have_conflict(&self.slots, request.work, &request.prds) {
+            return Some(SubmitError::Overlap);
+        }
+        if lowest_free(&self.slots).is_none() {
+            return Some(SubmitError::NoSlot);
+        }
+        (self.given == u32::MAX).then_some(SubmitError::TicketsSpent)
+    }
+
+    // Why a request is refused: the first refusal that applies.
+    #[tactic(auto, unfolding(crate::specs::Submits::submit_refusal))]
+    fn refusal(&self, memory: &HostMemory, dev: u8, request: &Request) -> Option<SubmitError>
+        ensures { result ≡ submit_refusal self.now memory.now dev request.now }
+    {
+        if let Some(refusal) = self.plan.device(dev).refusal() {
+            return Some(refusal);
+        }
+        if are_blocked(&self.slots, dev, request.work) {
+            return Some(SubmitError::QueueBusy);
+        }
+        if let Some(refusal) = shape_refusal(end_of(memory), request) {
+            return Some(refusal);
+        }
+        self.room_refusal(request)
+    }
+
+    /// Takes a request for a device: its command stands in the lowest free slot, and it waits there
+    /// for its issue. Its ticket is the next one.
+    pub fn submit(
+        &mut self,
+        memory: &mut HostMemory,
+        dev: u8,
+        request: &Request,
+    ) -> Result<Ticket, SubmitError>
+        ensures refusal { result_err result ≡ submit_refusal self.old memory.old dev request.now }
+        ensures refused { OnErr result ((self.new ≡ self.old) × (memory.new ≡ memory.old)) }
+        ensures taken { IfOk result (λ ticket.
+            Takes self.old memory.old dev request.now ticket.0 self.new memory.new) }
+    {
+        if let Some(refusal) = self.refusal(memory, dev, request) {
+            return Err(refusal);
+        }
+        let Some(slot) = lowest_free(&self.slots) else {
+            unreachable!()
+        };
+        let ticket = self.given + 1;
+        let head = Head {
+            ticket,
+            dev,
+            work: request.work,
+            lba: request.lba,
+            sectors: request.sectors,
+            phase: Phase::Waits,
+        };
+        write_command(
+            memory,
+            0,
+            slot,
+            table_of(slot),
+            &head.fields(slot),
+            &request.prds,
+        );
+        self.slots[slot as usize].fill(head, &request.prds);
+        self.given = ticket;
+        Ok(Ticket(ticket))
+    }
+
+    /// The ended request of the lowest slot, which is free then.
+    #[tactic(auto, unfolding(crate::specs::Submits::completion_of, crate::specs::Submits::after_poll))]
+    pub fn poll(&mut self) -> Option<Completion>
+        ensures polled { result ≡ completion_of self.old }
+        ensures after { self.new ≡ after_poll self.old }
+    {
+        let Some(slot) = lowest_ended(&self.slots) else {
+            return None;
+        };
+        let completion = self.slots[slot as usize].completion(slot);
+        self.slots[slot as usize].clear();
+        completion
+    }
+
+    /// Whether one of so many bytes from an address on is in use: it is one of the driver's own
+    /// buffer, or of a request that is not polled.
+    pub fn in_use(&self, at: u32, len: u32) -> bool
+        ensures { result ≡ in_use_of self.now at len }
+    {
+        len > 0
+            && (share_bytes(at, len, CLIENT_START, BUFFER_LEN) || are_used(&self.slots, at, len))
+    }
+}
+
+// The first address past the client area.
+fn end_of(memory: &HostMemory) -> u32
+    ensures { result ≡ end_of_memory memory.now }
+{
+    CLIENT_START + memory.client().len() as u32
+}
+
+// Does what is due to port and memory, if something is.
+fn perform(act: Option<Act>, port: &mut HostPort, memory: &mut HostMemory)
+    requires { IfSome act IsAct }
+    ensures acts { ActsAll (effects_due act) port.old memory.old port.new memory.new }
+    ensures possible { list_all is_effect (effects_due act) ≡ true }
+{
+    if let Some(act) = act {
+        act.perform(port, memory);
+    }
+}

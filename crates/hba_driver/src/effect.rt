@@ -1,0 +1,210 @@
+//! What a tick does to port and memory.
+
+ghost use Rattle.std.specs.Prelude.{◌≡◌, ◌+◌, ◌*◌, ◌^◌, ◌<◌, ◌≤◌, true, length, replicate};
+ghost use Rattle.std.specs.List.{list_all};
+ghost use Rattle.host_memory.specs.Memory.{overwritten};
+ghost use Rattle.hba_driver.specs.Effects.{Acts, ActsAll, Commands, Tries, effects_of, emptied, is_effect, opening_write as opening_write_of, order_effects, prds_with, table_of as table_of_slot};
+ghost use Rattle.hba_driver.specs.Turns.{IsAct};
+ghost use Rattle.hba_driver.specs.Drivers.{IsOrder};
+ghost use Rattle.hba_driver.specs.Orders.{identify_fields};
+
+use crate::order::{CONTROL_PORT, Order, command};
+use crate::sight::{CI, CLB, CLBU, CMD, FB, FBS, FBU, SACT, SNTF};
+use crate::turn::Act;
+use fis_view::H2dFields;
+use hba_commands::write_command;
+use hba_fbs::HostPort;
+use host_memory::{HostMemory, Prd};
+
+/// One thing that a tick does to port or memory.
+#[derive(Clone, Copy, Debug, PartialEq, Eq)]
+pub(crate) enum Effect {
+    /// A value is written to the register at an offset.
+    Writes(u32, u32),
+    /// A device is flushed.
+    Flushes(u8),
+    /// The row of a device in the received area becomes 0.
+    Empties(u8),
+    /// A command is written into a slot, and whether its data go to the driver's buffer.
+    Commands(u8, H2dFields, bool),
+}
+
+/// The driver's buffer.
+const BUFFER: Prd = Prd {
+    address: 0x10_0000,
+    bytes: 0x200,
+};
+/// The slot of commands to the multiplier.
+const CONTROL_SLOT: u8 = 31;
+/// The slot of the driver's own commands to devices.
+const DEVICE_SLOT: u8 = 30;
+
+fn bit(k: u8) -> u32
+    requires { k < 32 }
+    ensures { result ≡ 2 ^ k }
+{
+    1 << k
+}
+
+/// Where the command table of a slot lies.
+pub(crate) fn table_of(slot: u8) -> u32
+    ensures { result ≡ table_of_slot slot }
+{
+    0x2000 + 0x1000 * u32::from(slot)
+}
+
+fn put(structure: &mut [u8], at: usize, bytes: &[u8])
+    requires { at + length bytes.now ≤ length structure.old }
+    ensures { structure.new ≡ overwritten structure.old at bytes.now }
+{
+    structure[at..at + bytes.len()].copy_from_slice(bytes);
+}
+
+fn empty_row(memory: &mut HostMemory, dev: u8)
+    requires { dev < 16 }
+    ensures { memory.new ≡ emptied dev memory.old }
+{
+    put(
+        memory.structure_mut(),
+        0x1000 + 0x100 * dev as usize,
+        &[0; 256],
+    );
+}
+
+fn write_own(memory: &mut HostMemory, slot: u8, fields: H2dFields, buffer: bool)
+    requires { slot < 32 }
+    ensures { Commands memory.old slot fields (prds_with buffer) memory.new }
+{
+    if buffer {
+        write_command(memory, 0, slot, table_of(slot), &fields, &[BUFFER]);
+    } else {
+        write_command(memory, 0, slot, table_of(slot), &fields, &[]);
+    }
+}
+
+fn try_write(port: &mut HostPort, memory: &HostMemory, offset: u32, value: u32)
+    ensures { Tries port.old memory.now offset value port.new }
+{
+    match port.write(offset, value, memory) {
+        Ok(()) => {}
+        Err(_) => {}
+    }
+}
+
+impl Effect {
+    fn perform(self, port: &mut HostPort, memory: &mut HostMemory)
+        requires { is_effect self ≡ true }
+        ensures { Acts self port.old memory.old port.new memory.new }
+    {
+        match self {
+            Effect::Writes(offset, value) => try_write(port, memory, offset, value),
+            Effect::Flushes(dev) => {
+                let _ = port.flush_device(dev);
+            }
+            Effect::Empties(dev) => empty_row(memory, dev),
+            Effect::Commands(slot, fields, buffer) => write_own(memory, slot, fields, buffer),
+        }
+    }
+}
+
+// One after another.
+#[tactic(auto, unfolding(crate::specs::Effects::ActsAll))]
+fn perform_all(effects: &[Effect], port: &mut HostPort, memory: &mut HostMemory)
+    requires { list_all is_effect effects.now ≡ true }
+    ensures { ActsAll effects.now port.old memory.old port.new memory.new }
+{
+    if let [first, rest @ ..] = effects {
+        first.perform(port, memory);
+        perform_all(rest, port, memory);
+    }
+}
+
+#[tactic(auto, unfolding(crate::specs::Effects::opening_write))]
+fn opening_write(k: u8) -> Effect
+    requires { k < 7 }
+    ensures value { result ≡ opening_write_of k }
+    ensures possible { is_effect result ≡ true }
+{
+    match k {
+        0 => Effect::Writes(CLB, 0),
+        1 => Effect::Writes(CLBU, 0),
+        2 => Effect::Writes(FB, 0x1000),
+        3 => Effect::Writes(FBU, 0),
+        4 => Effect::Writes(FBS, 1),
+        5 => Effect::Writes(CMD, 0x10),
+        _ => Effect::Writes(CMD, 0x2_0011),
+    }
+}
+
+// The device and EN in PxFBS.
+fn choose(dev: u8) -> Effect
+    ensures { result ≡ Effect.Writes 64 (256 * dev + 1) }
+{
+    Effect::Writes(FBS, 0x100 * u32::from(dev) + 1)
+}
+
+// The slot's bit in PxCI.
+fn issue(slot: u8) -> Effect
+    requires { slot < 32 }
+    ensures { result ≡ Effect.Writes 56 (2 ^ slot) }
+{
+    Effect::Writes(CI, bit(slot))
+}
+
+impl Order {
+    // What its issue does.
+    #[tactic(auto, unfolding(crate::specs::Effects::order_effects))]
+    fn perform(self, port: &mut HostPort, memory: &mut HostMemory)
+        requires { IsOrder self }
+        ensures { ActsAll (order_effects self) port.old memory.old port.new memory.new }
+    {
+        let Some(fields) = self.fields() else {
+            return;
+        };
+        let own = Effect::Commands(CONTROL_SLOT, fields, false);
+        let (chosen, issued) = (choose(CONTROL_PORT), issue(CONTROL_SLOT));
+        match self {
+            Order::Scan => {
+                let noticed = Effect::Writes(SNTF, 0x8000);
+                perform_all(&[noticed, own, chosen, issued], port, memory);
+            }
+            Order::Clear(dev) => {
+                let (flush, empty) = (Effect::Flushes(dev), Effect::Empties(dev));
+                perform_all(&[flush, empty, own, chosen, issued], port, memory);
+            }
+            _ => perform_all(&[own, chosen, issued], port, memory),
+        }
+    }
+}
+
+impl Act {
+    /// What it does to port and memory.
+    #[tactic(auto, unfolding(crate::specs::Effects::effects_of))]
+    pub(crate) fn perform(self, port: &mut HostPort, memory: &mut HostMemory)
+        requires { IsAct self }
+        ensures { ActsAll (effects_of self) port.old memory.old port.new memory.new }
+    {
+        match self {
+            Act::Opens(k) => perform_all(&[opening_write(k)], port, memory),
+            Act::Orders(order) => order.perform(port, memory),
+            Act::Identifies(dev) => {
+                let own = Effect::Commands(DEVICE_SLOT, identify(dev), true);
+                perform_all(&[own, choose(dev), issue(DEVICE_SLOT)], port, memory);
+            }
+            Act::Issues(slot, dev, true) => {
+                let armed = Effect::Writes(SACT, bit(slot));
+                perform_all(&[choose(dev), armed, issue(slot)], port, memory);
+            }
+            Act::Issues(slot, dev, false) => {
+                perform_all(&[choose(dev), issue(slot)], port, memory);
+            }
+        }
+    }
+}
+
+// IDENTIFY DEVICE.
+fn identify(dev: u8) -> H2dFields
+    ensures { result ≡ identify_fields dev }
+{
+    command(dev, 0xEC, 0, 0, 0, 0)
+}

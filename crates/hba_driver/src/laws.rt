@@ -1,0 +1,34 @@
+//! What is true of the driver over ticks and over lists of turns.
+
+ghost use Rattle.hba_driver.specs.Laws.{CommandsStand, DoneIsFree, EachRunKeeps, TicksKeep, TicksServe};
+
+/// A tick takes no request and gives none away, gives no ticket, and ends no request twice. It does
+/// nothing when it runs.
+pub fn ticks_keep()
+    ensures { TicksKeep }
+{}
+
+/// A request is issued only where it waits for a device that is ready, and in the tick of its flush a
+/// device is no longer ready and has no open request. It does nothing when it runs.
+pub fn ticks_serve()
+    ensures { TicksServe }
+{}
+
+/// Over every list of turns of the host, from any sound state: tickets are given one after another,
+/// each is issued and polled at most once, a request stands in its slot and only goes on until it is
+/// polled there, and two requests of which one reads share no byte. It does nothing when it runs.
+pub fn turns_keep()
+    ensures { EachRunKeeps }
+{}
+
+/// Over every list of turns of the host what a request has written into the structure area, header
+/// and table, stands there until it is polled. It does nothing when it runs.
+pub fn commands_stand()
+    ensures { CommandsStand }
+{}
+
+/// A tick ends a request as [`Done`](crate::Outcome::Done) only where it was issued and nothing is
+/// issued in its slot of the port any more. It does nothing when it runs.
+pub fn done_is_free()
+    ensures { DoneIsFree }
+{}

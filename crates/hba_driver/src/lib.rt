@@ -1,0 +1,25 @@
+//! A small driver of one AHCI host port with a port multiplier behind it.
+//!
+//! [`Driver::tick`] does the next thing that is due: it opens the port, brings up the multiplier and the devices behind it,
+//! and issues the requests that wait. [`Driver::submit`] takes a request or says why not, and [`Driver::poll`] gives an
+//! ended one. All room lies in fixed fields: no call takes memory.
+#![tactic(auto)]
+
+mod driver;
+mod effect;
+mod laws;
+mod order;
+mod plan;
+mod refusal;
+mod request;
+mod scan;
+mod sight;
+mod slot;
+mod turn;
+
+pub use driver::Driver;
+pub use laws::{commands_stand, done_is_free, ticks_keep, ticks_serve, turns_keep};
+pub use request::{Completion, Outcome, Request, SubmitError, Ticket, Work};
+
+#[cfg(test)]
+mod tests;

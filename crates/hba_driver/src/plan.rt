@@ -1,0 +1,314 @@
+//! What the driver knows of the port, of the multiplier and of the devices behind it.
+
+ghost use Rattle.std.specs.Prelude.{◌≡◌, ◌<◌, IfSome, length, slice_index_or, false, ◌&&◌};
+ghost use Rattle.slots.specs.Slots.{lowest_below};
+ghost use Rattle.hba_driver.specs.Drivers.{IsOrder, IsSoundPlan, device_at, opening_plan, with_device as with_device_of};
+ghost use Rattle.hba_driver.specs.Turns.{answered as answered_by, awaits as awaits_of, control_news as control_news_of, control_seen as control_seen_by, detected as detected_by, device_news as device_news_of, device_seen as device_seen_by, identified as identified_by, is_out as is_out_of, is_ready as is_ready_of, is_starting as is_starting_of, may_identify as may_identify_of, met_order as met_order_by, noted as noted_by, signed_order as signed_order_by, with_next as with_next_of};
+
+use crate::order::Order;
+use crate::sight::{Sight, has_bit};
+
+/// What is known of a device.
+#[derive(Clone, Copy, Debug, PartialEq, Eq)]
+pub(crate) enum Device {
+    /// None is there.
+    Absent,
+    /// It is there, and is not identified.
+    Starting,
+    /// It takes requests.
+    Ready,
+    /// It takes no queued commands.
+    Unusable,
+    /// It recovers from a fault, and takes requests again once it has.
+    Recovering,
+}
+
+/// PxSIG of a port multiplier.
+const MULTIPLIER: u32 = 0x9669_0101;
+/// The slot of commands to the multiplier.
+const CONTROL_SLOT: u8 = 31;
+/// The slot of the driver's own commands to devices.
+const DEVICE_SLOT: u8 = 30;
+
+/// What the driver knows, but for its requests.
+#[derive(Clone, Copy, Debug, PartialEq, Eq)]
+pub(crate) struct Plan {
+    /// How many of the seven writes that open the port were done.
+    pub(crate) opened: u8,
+    /// What slot 31 does next.
+    pub(crate) order: Order,
+    /// Its command was issued.
+    pub(crate) asked: bool,
+    /// How many ports the multiplier has.
+    pub(crate) ports: u8,
+    /// GSCR[32] as the last scan read it: the ports with an error.
+    pub(crate) found: u32,
+    /// The device whose identify data slot 30 reads.
+    pub(crate) identifying: Option<u8>,
+    /// By port.
+    pub(crate) devices: [Device; 15],
+}
+
+impl Device {
+    /// Whether it takes requests.
+    pub(crate) fn is_ready(self) -> bool
+        ensures { result ≡ is_ready_of self }
+    {
+        match self {
+            Device::Ready => true,
+            Device::Absent | Device::Starting | Device::Unusable | Device::Recovering => false,
+        }
+    }
+
+    fn is_starting(self) -> bool
+        ensures { result ≡ is_starting_of self }
+    {
+        match self {
+            Device::Starting => true,
+            Device::Absent | Device::Ready | Device::Unusable | Device::Recovering => false,
+        }
+    }
+}
+
+fn detected(status: u32) -> Device
+    ensures { result ≡ detected_by status }
+{
+    if status % 16 == 3 {
+        Device::Starting
+    } else {
+        Device::Absent
+    }
+}
+
+fn is_at(signed: &[bool; 16], dev: u8) -> bool
+    ensures { result ≡ slice_index_or signed.now dev false }
+{
+    match signed.get(dev as usize) {
+        Some(is) => *is,
+        None => false,
+    }
+}
+
+impl Plan {
+    /// Nothing is done yet.
+    pub(crate) fn new() -> Plan
+        ensures value { result ≡ opening_plan }
+        ensures sound { IsSoundPlan result }
+    {
+        Plan {
+            opened: 0,
+            order: Order::ResetOn,
+            asked: false,
+            ports: 0,
+            found: 0,
+            identifying: None,
+            devices: [Device::Absent; 15],
+        }
+    }
+
+    /// What is known of a device.
+    pub(crate) fn device(&self, dev: u8) -> Device
+        ensures { result ≡ device_at self.now dev }
+    {
+        match self.devices.get(dev as usize) {
+            Some(device) => *device,
+            None => Device::Absent,
+        }
+    }
+
+    /// A device is known to be so.
+    pub(crate) fn with_device(self, dev: u8, device: Device) -> Plan
+        requires { dev < 15 }
+        ensures { result ≡ with_device_of dev device self }
+    {
+        let mut devices = self.devices;
+        devices[dev as usize] = device;
+        Plan { devices, ..self }
+    }
+
+    // What the answer of an order tells.
+    #[tactic(auto, unfolding(crate::specs::Turns::noted))]
+    fn noted(self, sight: Sight, order: Order) -> Plan
+        requires order { IsOrder order }
+        requires sound { IsSoundPlan self }
+        ensures value { result ≡ noted_by sight order self }
+        ensures sound { IsSoundPlan result }
+    {
+        match order {
+            Order::CountPorts => Plan {
+                ports: (sight.answer % 16) as u8,
+                ..self
+            },
+            Order::Scan => Plan {
+                found: sight.answer,
+                ..self
+            },
+            Order::Detect(port) => self.with_device(port, detected(sight.answer)),
+            Order::ResetOn
+            | Order::ResetOff
+            | Order::AwaitSignature
+            | Order::SetMask
+            | Order::Enable
+            | Order::Open(_)
+            | Order::Clear(_)
+            | Order::Watch
+            | Order::NoMultiplier => self,
+        }
+    }
+
+    fn with_next(self, order: Order) -> Plan
+        requires order { IsOrder order }
+        requires sound { IsSoundPlan self }
+        ensures value { result ≡ with_next_of order self }
+        ensures sound { IsSoundPlan result }
+    {
+        Plan {
+            order: order.next(self.ports, self.found),
+            asked: false,
+            ..self
+        }
+    }
+
+    fn is_out(self, sight: Sight) -> bool
+        ensures { result ≡ is_out_of sight self }
+    {
+        has_bit(sight.issued, CONTROL_SLOT)
+    }
+
+    // The answer of the order, if it came, is noted.
+    fn answered(self, sight: Sight) -> Plan
+        requires { IsSoundPlan self }
+        ensures value { result ≡ answered_by sight self }
+        ensures sound { IsSoundPlan result }
+    {
+        if self.asked && !self.is_out(sight) {
+            let order = self.order;
+            self.noted(sight, order).with_next(order)
+        } else {
+            self
+        }
+    }
+
+    /// What slot 31 shows is noted.
+    pub(crate) fn control_seen(self, sight: Sight) -> Plan
+        requires { IsSoundPlan self }
+        ensures value { result ≡ control_seen_by sight self }
+        ensures sound { IsSoundPlan result }
+    {
+        let plan = self.answered(sight);
+        if plan.asked {
+            plan
+        } else {
+            Plan {
+                order: plan.order.met(sight),
+                ..plan
+            }
+        }
+    }
+
+    /// Whether an answer or a signature came.
+    pub(crate) fn control_news(self, sight: Sight) -> bool
+        ensures { result ≡ control_news_of sight self }
+    {
+        if self.asked {
+            !self.is_out(sight)
+        } else {
+            self.order.awaits() && !sight.resetting
+        }
+    }
+
+    fn identified(self, sight: Sight, dev: u8) -> Plan
+        requires dev { dev < 15 }
+        requires sound { IsSoundPlan self }
+        ensures value { result ≡ identified_by sight dev self }
+        ensures sound { IsSoundPlan result }
+    {
+        let device = if sight.usable {
+            Device::Ready
+        } else {
+            Device::Unusable
+        };
+        Plan {
+            identifying: None,
+            ..self.with_device(dev, device)
+        }
+    }
+
+    /// What slot 30 shows is noted.
+    pub(crate) fn device_seen(self, sight: Sight) -> Plan
+        requires { IsSoundPlan self }
+        ensures value { result ≡ device_seen_by sight self }
+        ensures sound { IsSoundPlan result }
+    {
+        match self.identifying {
+            Some(dev) => {
+                if has_bit(sight.issued, DEVICE_SLOT) {
+                    self
+                } else {
+                    self.identified(sight, dev)
+                }
+            }
+            None => self,
+        }
+    }
+
+    /// Whether identify data came.
+    pub(crate) fn device_news(self, sight: Sight) -> bool
+        ensures { result ≡ device_news_of sight self }
+    {
+        self.identifying.is_some() && !has_bit(sight.issued, DEVICE_SLOT)
+    }
+
+    fn may_identify(self, sight: Sight, dev: u8) -> bool
+        ensures { result ≡ may_identify_of sight self dev }
+    {
+        self.device(dev).is_starting() && is_at(&sight.signed, dev)
+    }
+
+    /// The lowest device that starts and has sent its signature.
+    pub(crate) fn lowest_signed(self, sight: Sight) -> Option<u8>
+        ensures value { result ≡ lowest_below (may_identify_of sight self) 15 }
+        ensures below { IfSome result (λ dev. dev < 15) }
+    {
+        for dev in 0..15_u8 {
+            if self.may_identify(sight, dev) {
+                return Some(dev);
+            }
+        }
+        None
+    }
+}
+
+impl Order {
+    fn awaits(self) -> bool
+        ensures { result ≡ awaits_of self }
+    {
+        matches!(self, Order::AwaitSignature)
+    }
+
+    fn signed(sight: Sight) -> Order
+        ensures { result ≡ signed_order_by sight }
+    {
+        if sight.resetting {
+            Order::AwaitSignature
+        } else if sight.signature == MULTIPLIER {
+            Order::CountPorts
+        } else {
+            Order::NoMultiplier
+        }
+    }
+
+    // The order that is due where this one waited.
+    #[tactic(auto, unfolding(crate::specs::Turns::met_order))]
+    fn met(self, sight: Sight) -> Order
+        requires { IsOrder self }
+        ensures value { result ≡ met_order_by sight self }
+        ensures order { IsOrder result }
+    {
+        match self {
+            Order::AwaitSignature => Order::signed(sight),
+            Order::Watch if sight.notified => Order::Scan,
+            _ => self,
+        }
+    }
+}

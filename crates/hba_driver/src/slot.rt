@@ -1,0 +1,370 @@
+//! One slot: a request that was taken and not polled, or none.
+
+ghost use Rattle.std.specs.Prelude.{◌≡◌, ◌≤◌, ◌<◌, Some, None, if◌then◌else◌, length, take};
+ghost use Rattle.std.specs.Option.{option_map};
+ghost use Rattle.host_memory.specs.Reading.{shares_with as shares_with_of, share_byte as share_byte_of, share_with as share_with_of};
+ghost use Rattle.hba_driver.specs.Drivers.{has_ended as has_ended_head, holds, is_issued as is_issued_head, is_read as is_read_of, rephased, waits as waits_head};
+ghost use Rattle.hba_driver.specs.Orders.{is_flush as is_flush_of, is_queued as is_queued_of, request_fields, work_fields};
+ghost use Rattle.hba_driver.specs.Requests.{blocks as blocks_of, conflicts as conflicts_of, is_among as is_among_of, is_free as is_free_entry, is_used_by, share_bytes as share_bytes_of};
+ghost use Rattle.hba_driver.specs.Submits.{completed, completion_at};
+ghost use Rattle.hba_driver.specs.Ticks.{is_done as is_done_head, is_open_of};
+ghost use Rattle.hba_driver.specs.Turns.{issue_of, may_issue as may_issue_entry};
+
+use crate::order::command;
+use crate::plan::Plan;
+use crate::request::{Completion, Outcome, Ticket, Work};
+use crate::sight::has_bit;
+use crate::turn::Act;
+use fis_view::H2dFields;
+use host_memory::Prd;
+use std::marker::Model;
+
+/// How far a request is.
+#[derive(Clone, Copy, Debug, PartialEq, Eq)]
+pub(crate) enum Phase {
+    /// It waits for its issue.
+    Waits,
+    /// Its command is issued.
+    Issued,
+    /// It has ended so, and waits for its poll.
+    Ended(Outcome),
+}
+
+/// What is known of a request beside where its bytes lie.
+#[derive(Clone, Copy, Debug, PartialEq, Eq)]
+pub(crate) struct Head {
+    pub(crate) ticket: u32,
+    pub(crate) dev: u8,
+    pub(crate) work: Work,
+    pub(crate) lba: u64,
+    pub(crate) sectors: u16,
+    pub(crate) phase: Phase,
+}
+
+/// The most entries of a request.
+const MAX_PRDS: usize = 248;
+/// What stands where no entry is.
+const NO_PRD: Prd = Prd {
+    address: 0,
+    bytes: 0,
+};
+
+/// A request with the entries that say where its bytes lie, or none.
+#[derive(Drop)]
+pub(crate) struct Slot {
+    head: Option<Head>,
+    prds: [Prd; 248],
+    count: usize,
+}
+
+impl Model for Slot {
+    ghost use Rattle.std.specs.Prelude.{Option, take, ◌≤◌};
+    ghost use Rattle.hba_driver.specs.Drivers.{Entry, entry_of};
+
+    ghost Value = { Option Entry };
+
+    ghost view = { λ s. entry_of s.head (take s.count s.prds) };
+
+    ghost invariant = { λ s. s.count ≤ 248 };
+}
+
+impl Default for Slot {
+    ghost use Rattle.std.specs.Prelude.{None, ◌≡◌};
+
+    ghost is_default = { λ s. s ≡ None };
+
+    fn default() -> Self {
+        Slot::new()
+    }
+}
+
+impl Work {
+    /// Whether the command is queued.
+    pub(crate) fn is_queued(self) -> bool
+        ensures { result ≡ is_queued_of self }
+    {
+        match self {
+            Work::Read | Work::Write => true,
+            Work::Flush => false,
+        }
+    }
+
+    /// Whether it is a Flush.
+    pub(crate) fn is_flush(self) -> bool
+        ensures { result ≡ is_flush_of self }
+    {
+        match self {
+            Work::Flush => true,
+            Work::Read | Work::Write => false,
+        }
+    }
+
+    /// Whether it writes to memory.
+    pub(crate) fn is_read(self) -> bool
+        ensures { result ≡ is_read_of self }
+    {
+        match self {
+            Work::Read => true,
+            Work::Write | Work::Flush => false,
+        }
+    }
+}
+
+impl Head {
+    /// Whether it waits for its issue.
+    pub(crate) fn waits(self) -> bool
+        ensures { result ≡ waits_head self }
+    {
+        match self.phase {
+            Phase::Waits => true,
+            Phase::Issued | Phase::Ended(_) => false,
+        }
+    }
+
+    /// Whether its command is issued.
+    pub(crate) fn is_issued(self) -> bool
+        ensures { result ≡ is_issued_head self }
+    {
+        match self.phase {
+            Phase::Issued => true,
+            Phase::Waits | Phase::Ended(_) => false,
+        }
+    }
+
+    /// Whether it has ended.
+    pub(crate) fn has_ended(self) -> bool
+        ensures { result ≡ has_ended_head self }
+    {
+        match self.phase {
+            Phase::Ended(_) => true,
+            Phase::Waits | Phase::Issued => false,
+        }
+    }
+
+    /// Its command, in this slot.
+    #[tactic(auto, unfolding(crate::specs::Orders::request_fields))]
+    pub(crate) fn fields(self, slot: u8) -> H2dFields
+        requires { slot < 32 }
+        ensures { result ≡ request_fields slot self }
+    {
+        let tag = 8 * u16::from(slot);
+        match self.work {
+            Work::Read => command(self.dev, 0x60, self.sectors, self.lba, 0x40, tag),
+            Work::Write => command(self.dev, 0x61, self.sectors, self.lba, 0x40, tag),
+            Work::Flush => command(self.dev, 0xEA, 0, 0, 0, 0),
+        }
+    }
+
+    /// How it ended, if it has.
+    fn completed(self, slot: u8) -> Option<Completion>
+        ensures { result ≡ completed slot self self.phase }
+    {
+        match self.phase {
+            Phase::Ended(outcome) => Some(Completion {
+                ticket: Ticket(self.ticket),
+                slot,
+                outcome,
+            }),
+            Phase::Waits | Phase::Issued => None,
+        }
+    }
+}
+
+// Whether so many bytes from one address on and so many from another share one.
+pub(crate) fn share_bytes(at: u32, len: u32, other: u32, bytes: u32) -> bool
+    ensures { result ≡ share_bytes_of at len other bytes }
+{
+    u64::from(at) < u64::from(other) + u64::from(bytes)
+        && u64::from(other) < u64::from(at) + u64::from(len)
+}
+
+fn is_among(at: u32, len: u32, prds: &[Prd]) -> bool
+    ensures { result ≡ is_among_of at len prds.now }
+{
+    prds.iter()
+        .any(|prd| share_bytes(at, len, prd.address, prd.bytes))
+}
+
+fn share_byte(p: Prd, q: Prd) -> bool
+    ensures { result ≡ share_byte_of p q }
+{
+    let p_end = u64::from(p.address) + u64::from(p.bytes);
+    let q_end = u64::from(q.address) + u64::from(q.bytes);
+    u64::from(p.address.max(q.address)) < p_end.min(q_end)
+}
+
+fn shares_with(prd: Prd, others: &[Prd]) -> bool
+    ensures { result ≡ shares_with_of prd others.now }
+{
+    others.iter().any(|other| share_byte(prd, *other))
+}
+
+fn share_with(prds: &[Prd], others: &[Prd]) -> bool
+    ensures { result ≡ share_with_of prds.now others.now }
+{
+    prds.iter().any(|prd| shares_with(*prd, others))
+}
+
+// These entries, and then none.
+fn filled(prds: &[Prd]) -> [Prd; 248]
+    requires { length prds.now ≤ 248 }
+    ensures { take (length prds.now) result ≡ prds.now }
+{
+    let mut room = [NO_PRD; MAX_PRDS];
+    room[..prds.len()].copy_from_slice(prds);
+    room
+}
+
+impl Slot {
+    ghost use Rattle.hba_driver.specs.Drivers.{Entry};
+
+    /// With no request.
+    pub(crate) fn new() -> Self
+        ensures { result ≡ None }
+    {
+        Slot {
+            head: None,
+            prds: [NO_PRD; MAX_PRDS],
+            count: 0,
+        }
+    }
+
+    /// A request stands in it.
+    pub(crate) fn fill(&mut self, head: Head, prds: &[Prd])
+        requires { length prds.now ≤ 248 }
+        ensures { self.new ≡ Some (record { head = head; prds = prds.now }) }
+    {
+        *self = Slot {
+            head: Some(head),
+            prds: filled(prds),
+            count: prds.len(),
+        };
+    }
+
+    /// Its request is gone.
+    pub(crate) fn clear(&mut self)
+        ensures { self.new ≡ None }
+    {
+        self.head = None;
+    }
+
+    pub(crate) fn is_free(&self) -> bool
+        ensures { result ≡ is_free_entry self.now }
+    {
+        self.head.is_none()
+    }
+
+    /// Whether its request is issued, and its bit is not among these.
+    pub(crate) fn is_done(&self, issued: u32, slot: u8) -> bool
+        requires { slot < 32 }
+        ensures { result ≡ holds (is_done_head issued slot) self.now }
+    {
+        match self.head {
+            Some(head) => head.is_issued() && !has_bit(issued, slot),
+            None => false,
+        }
+    }
+
+    /// Whether its request is one of the device and has not ended.
+    pub(crate) fn is_open_of(&self, dev: u8, slot: u8) -> bool
+        ensures { result ≡ holds (is_open_of dev slot) self.now }
+    {
+        match self.head {
+            Some(head) => head.dev == dev && !head.has_ended(),
+            None => false,
+        }
+    }
+
+    pub(crate) fn has_ended(&self) -> bool
+        ensures { result ≡ holds has_ended_head self.now }
+    {
+        match self.head {
+            Some(head) => head.has_ended(),
+            None => false,
+        }
+    }
+
+    /// Whether its request keeps this work for the device from being taken.
+    pub(crate) fn blocks(&self, dev: u8, work: Work) -> bool
+        ensures { result ≡ holds (blocks_of dev work) self.now }
+    {
+        match self.head {
+            Some(head) => {
+                head.dev == dev && !head.has_ended() && (work.is_flush() || head.work.is_flush())
+            }
+            None => false,
+        }
+    }
+
+    /// Whether its request has one of these bytes, where one of the two reads.
+    pub(crate) fn conflicts(&self, work: Work, prds: &[Prd]) -> bool
+        ensures { result ≡ conflicts_of work prds.now self.now }
+    {
+        match self.head {
+            Some(head) => {
+                (work.is_read() || head.work.is_read())
+                    && share_with(prds, &self.prds[..self.count])
+            }
+            None => false,
+        }
+    }
+
+    /// Whether its request has one of these bytes.
+    pub(crate) fn is_used(&self, at: u32, len: u32) -> bool
+        ensures { result ≡ is_used_by at len self.now }
+    {
+        match self.head {
+            Some(_) => is_among(at, len, &self.prds[..self.count]),
+            None => false,
+        }
+    }
+
+    /// How its request ended, if it has.
+    pub(crate) fn completion(&self, slot: u8) -> Option<Completion>
+        ensures { result ≡ completion_at slot self.now }
+    {
+        match self.head {
+            Some(head) => head.completed(slot),
+            None => None,
+        }
+    }
+
+    /// Its request has come to this.
+    pub(crate) fn set_phase(&mut self, phase: Phase)
+        ensures { self.new ≡ option_map (rephased phase) self.old }
+    {
+        if let Some(head) = self.head {
+            self.head = Some(Head { phase, ..head });
+        }
+    }
+
+    /// Its request has ended so, where it does.
+    pub(crate) fn end_if(&mut self, ends: bool, outcome: Outcome)
+        ensures { self.new
+            ≡ (if ends then option_map (rephased (Phase.Ended outcome)) self.old else self.old) }
+    {
+        if ends {
+            self.set_phase(Phase::Ended(outcome));
+        }
+    }
+
+    /// Whether its request waits, and its device is ready.
+    pub(crate) fn may_issue(&self, plan: &Plan) -> bool
+        ensures { result ≡ may_issue_entry plan.now self.now }
+    {
+        match self.head {
+            Some(head) => head.waits() && plan.device(head.dev).is_ready(),
+            None => false,
+        }
+    }
+
+    /// Its issue.
+    pub(crate) fn issue(&self, slot: u8) -> Option<Act>
+        ensures { result ≡ issue_of slot self.now }
+    {
+        match self.head {
+            Some(head) => Some(Act::Issues(slot, head.dev, head.work.is_queued())),
+            None => None,
+        }
+    }
+}
