@@ -5,5 +5,6 @@ pub mod PartsLemmas
 pub mod PlaceLemmas
 pub mod PrdLemmas
 pub mod ScatterLemmas
+pub mod SpotLemmas
 pub mod WriteLemmas
 pub mod WrittenLemmas

@@ -1,10 +1,10 @@
 -- What the tests for shared bytes tell.
-use Rattle.std.proofs.Common.{◌≡◌, ℕ, zero, suc, ◌+◌, ◌<◌, min, max, Bool, true, false, List, [], ◌∷◌, Some, slice_get, refl, sym, ap, ◌∙◌, arith, inl, inr}
+use Rattle.std.proofs.Common.{◌≡◌, ℕ, zero, suc, ◌+◌, ◌<◌, min, max, Bool, true, false, nat_lt, ◌≤◌, List, [], ◌∷◌, Some, slice_get, refl, sym, ap, ◌∙◌, arith, inl, inr}
 use Rattle.std.specs.List.{list_any}
-use Rattle.std.proofs.lemmas.Bool.{or_cases, or_left, or_right, ltb-true, lt-ltb, both_ways}
+use Rattle.std.proofs.lemmas.Bool.{cases_lt, or_cases, or_left, or_right, ltb-true, lt-ltb, le-ltb, both_ways}
 use Rattle.host_memory.specs.declared.table.Prd.{Prd}
 use Rattle.host_memory.specs.Place.{place, ShareByte, HaveOverlap, AreApart, ShareAPlace}
-use Rattle.host_memory.specs.Reading.{share_byte, shares_with, share_with, have_overlap}
+use Rattle.host_memory.specs.Reading.{share_byte, shares_with, share_with, have_overlap, lie_in_order}
 use Rattle.host_memory.proofs.PlaceLemmas.{place_has, place_from}
 
 -- two entries share a byte exactly where the later begin lies before the earlier end
@@ -83,3 +83,36 @@ share_with-true ps qs h =
 
 pub share_with_tells : (b : Bool) (ps qs : List Prd) → b ≡ share_with ps qs → (b ≡ true → ShareAPlace ps qs) × (ShareAPlace ps qs → b ≡ true)
 share_with_tells b ps qs is = (λ h. ShareAPlace-from ps qs (sym is ∙ h), λ h. is ∙ share_with-true ps qs h)
+
+-- ---- entries in the order of their addresses
+
+-- the first begins at or after the end, and those after it lie so from its own end on
+record InOrder (end : ℕ) (p : Prd) (ps : List Prd) : Type 0 where
+  begins : end ≤ p.address
+  rest : lie_in_order (p.address + p.bytes) ps ≡ true
+
+in_order : (end : ℕ) (p : Prd) (ps : List Prd) → lie_in_order end (p ∷ ps) ≡ true → InOrder end p ps
+in_order end p ps h =
+    elim (cases_lt p.address end) [
+      | inl lt ↦ let is : nat_lt p.address end ≡ true = lt-ltb p.address end lt in absurd (let no = rw is at h in cc)
+      | inr ge ↦ let is : nat_lt p.address end ≡ false = le-ltb p.address end ge in record { begins = ge; rest = rw is at h }
+    ]
+
+-- an entry that ends before them shares no byte with them
+before_all : (q : Prd) (end : ℕ) (ps : List Prd) → q.address + q.bytes ≤ end → lie_in_order end ps ≡ true → shares_with q ps ≡ false
+before_all q end [] low h = refl
+before_all q end (p ∷ ps) low h =
+    let o = in_order end p ps h in
+    let begins = o.begins in
+    let here : share_byte q p ≡ false = le-ltb (max q.address p.address) (min (q.address + q.bytes) (p.address + p.bytes)) (omega arith) in
+    let later = before_all q (p.address + p.bytes) ps (omega arith) o.rest in
+    rw (here, later) refl
+
+-- so entries in order share none
+pub in_order_apart : (end : ℕ) (ps : List Prd) → lie_in_order end ps ≡ true → have_overlap ps ≡ false
+in_order_apart end [] h = refl
+in_order_apart end (p ∷ ps) h =
+    let o = in_order end p ps h in
+    let here = before_all p (p.address + p.bytes) ps (omega arith) o.rest in
+    let later = in_order_apart (p.address + p.bytes) ps o.rest in
+    rw (here, later) refl

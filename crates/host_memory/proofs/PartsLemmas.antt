@@ -193,25 +193,6 @@ parts_are client ps offset len inside fits =
 
 -- ---- the state of the iterator
 
--- an entry is skipped
-pub parts_skip : (client s : List ℕ) (at count k offset len bytes : ℕ) (whole : List (List ℕ)) → k < count → bytes ≡ (prd_at s (at + 16 * k)).bytes → bytes ≤ offset
-    → parts_of client (prds_at s (at + 16 * k) (count - k)) offset len ≡ whole → parts_of client (prds_at s (at + 16 * (k + 1)) (count - (k + 1))) (offset - bytes) len ≡ whole
-parts_skip client s at count k offset len bytes whole below is later h =
-    let next = prds_next s at count k below in
-    rw is (sym (parts_later client (prd_at s (at + 16 * k)) (prds_at s (at + 16 * (k + 1)) (count - (k + 1))) offset len (omega arith)) ∙ (rw next at h))
-
-pub total_skip : (s : List ℕ) (at count k offset len bytes : ℕ) → k < count → bytes ≡ (prd_at s (at + 16 * k)).bytes → bytes ≤ offset
-    → offset + len ≤ total_of (prds_at s (at + 16 * k) (count - k)) → offset - bytes + len ≤ total_of (prds_at s (at + 16 * (k + 1)) (count - (k + 1)))
-total_skip s at count k offset len bytes below is later h = omega (arith, ap total_of (prds_next s at count k below))
-
-pub inside_skip : (client_len : ℕ) (s : List ℕ) (at count k : ℕ) → k < count → AreInside client_len (prds_at s (at + 16 * k) (count - k)) → AreInside client_len (prds_at s (at + 16 * (k + 1)) (count - (k + 1)))
-inside_skip client_len s at count k below h = (rw (prds_next s at count k below) at h).1
-
--- none is left once all entries are skipped
-pub parts_end : (client s : List ℕ) (at other count offset len : ℕ) (whole : List (List ℕ)) → count ≡ 0 → parts_of client (prds_at s at count) offset len ≡ whole → parts_of client (prds_at s other 0) 0 0 ≡ whole
-unfolding parts_of
-parts_end client s at other count offset len whole none h = rw none at h
-
 -- the entry in which the run begins
 pub record Begins (s client : List ℕ) (at count offset : ℕ) : Type 0 where
   pub some : 0 < count

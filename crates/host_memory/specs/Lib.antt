@@ -1,3 +1,4 @@
+pub mod Ends
 pub mod Lent
 pub mod Memory
 pub mod Parts

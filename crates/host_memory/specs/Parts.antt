@@ -3,6 +3,7 @@
 use Rattle.std.specs.Prelude.{◌≡◌, ℕ, ◌+◌, ◌-◌, ◌*◌, ◌<◌, ◌≤◌, min, max, Bool, nat_lt, if◌then◌else◌, List, [], ◌∷◌, slice_index, length, take, drop, map, zero, suc}
 use Rattle.std.specs.List.{concat, filter, range_with_len}
 use Rattle.host_memory.specs.declared.table.Prd.{Prd}
+use Rattle.host_memory.specs.declared.table.Run.{Run}
 use Rattle.host_memory.specs.Memory.{client_start}
 use Rattle.host_memory.specs.Place.{total_of, place, AreInside}
 use Rattle.host_memory.specs.Reading.{prd_at, prds_at}
@@ -10,6 +11,18 @@ use Rattle.host_memory.specs.Reading.{prd_at, prds_at}
 -- so many bytes of the client area, from byte from of an entry on
 abbrev pub stretch_of : List ℕ → Prd → ℕ → ℕ → List ℕ
 stretch_of client prd from count = take count (drop (prd.address - client_start + from) client)
+
+-- how many bytes of its entry there are from this byte of a transfer on; past the end none
+abbrev pub left_at : List Prd → ℕ → ℕ
+left_at [] i = 0
+left_at (prd ∷ rest) i = (if nat_lt i prd.bytes then prd.bytes - i else left_at rest (i - prd.bytes))
+
+-- the run of the client area that has the bytes of an entry from this byte of a transfer on
+pub record IsRun (prds : List Prd) (client_len i : ℕ) (run : Run) : Type 0 where
+  pub below : i < total_of prds
+  pub there : client_start + run.start ≡ place prds i
+  pub left : run.len ≡ left_at prds i
+  pub inside : run.start + run.len ≤ client_len
 
 -- where in a transfer the bytes of entry k begin: after those of the entries before it
 abbrev pub begin_of : List Prd → ℕ → ℕ

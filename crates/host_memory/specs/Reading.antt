@@ -1,11 +1,12 @@
 -- The bytes of a table: AHCI 1.3.1, section 4.2.3.3, Physical Region Descriptor Table.
-use Rattle.std.specs.Prelude.{◌≡◌, ℕ, ◌+◌, ◌*◌, ◌%◌, ◌^◌, ◌<◌, ◌≤◌, ◌⊎◌, ◌↔◌, min, max, Bool, false, not, ◌||◌, ◌==◌, nat_lt, if◌then◌else◌, List, [], ◌∷◌, length, drop, slice_index, Option, Some, None, zero, suc}
+use Rattle.std.specs.Prelude.{◌≡◌, ℕ, ◌+◌, ◌*◌, ◌%◌, ◌^◌, ◌<◌, ◌≤◌, ◌⊎◌, ◌↔◌, min, max, Bool, true, false, not, ◌||◌, ◌==◌, nat_lt, if◌then◌else◌, List, [], ◌∷◌, length, drop, slice_index, Option, Some, None, zero, suc}
 use Rattle.std.specs.List.{list_any}
 use Rattle.std.specs.Option.{option_or}
 use Rattle.byteorder.specs.Endian.{little_number}
 use Rattle.host_memory.specs.declared.table.Prd.{Prd}
 use Rattle.host_memory.specs.declared.table.PrdError.{PrdError}
 use Rattle.host_memory.specs.declared.table.PrdError.TheVariants.{OutsideStructure, BadEntry, OutsideClient, Overlap}
+use Rattle.host_memory.specs.Ends.{ends_from}
 use Rattle.host_memory.specs.Memory.{client_start, overwritten}
 use Rattle.host_memory.specs.Place.{AreInside, AreApart}
 
@@ -60,18 +61,24 @@ abbrev pub have_overlap : List Prd → Bool
 have_overlap [] = false
 have_overlap (prd ∷ rest) = shares_with prd rest || have_overlap rest
 
+-- whether each of these entries begins at or after the end of the one before it, and the first at or after this address
+abbrev pub lie_in_order : ℕ → List Prd → Bool
+lie_in_order end [] = true
+lie_in_order end (prd ∷ rest) = (if nat_lt prd.address end then false else lie_in_order (prd.address + prd.bytes) rest)
+
 -- why a table is not read: the first of these that applies
 abbrev pub read_fault : List ℕ → ℕ → ℕ → ℕ → Option PrdError
 read_fault structure client_len at count =
     (if nat_lt (length structure) (at + 16 * count) || nat_lt 248 count then Some OutsideStructure else
     option_or (first_fault structure client_len at count) (if have_overlap (prds_at structure at count) then Some Overlap else None))
 
--- what every table keeps: it lies in the structure area, its entries in the client area and apart
-pub record IsPrdTable (structure : List ℕ) (client_len at count : ℕ) : Type 0 where
+-- what every table keeps: it lies in the structure area, its entries in the client area and apart, and where they end
+pub record IsPrdTable (structure : List ℕ) (client_len at count : ℕ) (ends : List ℕ) : Type 0 where
   pub lies : at + 16 * count ≤ length structure
   pub few : count ≤ 248
   pub inside : AreInside client_len (prds_at structure at count)
   pub apart : AreApart (prds_at structure at count)
+  pub sums : ends ≡ ends_from 0 (prds_at structure at count)
 
 -- the two areas have the same bytes at these so many addresses, from at on
 abbrev pub AgreeFrom : ℕ → ℕ → List ℕ → List ℕ → Type 0

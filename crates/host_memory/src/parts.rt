@@ -1,8 +1,8 @@
 //! A run of a transfer's bytes, as slices of the client area.
 
-ghost use Rattle.std.specs.Prelude.{◌≡◌, ◌+◌, ◌*◌, ◌≤◌, length};
-ghost use Rattle.host_memory.specs.Parts.{parts_of, stretch_of};
-ghost use Rattle.host_memory.specs.Place.{AreInside, LiesInClient, total_of};
+ghost use Rattle.std.specs.Prelude.{◌≡◌, ◌+◌, ◌≤◌, length};
+ghost use Rattle.host_memory.specs.Parts.{HoldParts, parts_of, stretch_of};
+ghost use Rattle.host_memory.specs.Place.{LiesInClient};
 ghost use Rattle.host_memory.specs.Reading.{prds_at};
 
 use crate::CLIENT_START;
@@ -47,42 +47,25 @@ fn stretch(client: &[u8], prd: Prd, offset: usize, len: usize) -> &[u8]
 }
 
 impl<'m, 'c> Parts<'m, 'c> {
-    // The parts of the run of `len` bytes from byte `offset` of these entries on.
+    // The parts of a run of `len` bytes that begins at byte `offset` of the first of these entries.
     pub(crate) fn of(
         structure: &'m [u8],
         client: &'c [u8],
         at: usize,
         count: usize,
-        mut offset: usize,
+        offset: usize,
         len: usize,
     ) -> Parts<'m, 'c>
-        requires table { at + 16 * count ≤ length structure.now }
-        requires inside { AreInside (length client.now) (prds_at structure.now at count) }
-        requires fits { offset + len ≤ total_of (prds_at structure.now at count) }
+        requires { HoldParts structure.now client.now at count offset len }
         ensures { result ≡ parts_of client.now (prds_at structure.now at count) offset len }
     {
-        for k in 0..count {
-            let prd = read_prd(structure, at + 16 * k);
-            let bytes = prd.bytes as usize;
-            if offset < bytes {
-                return Parts {
-                    structure,
-                    client,
-                    at: at + 16 * k,
-                    count: count - k,
-                    offset,
-                    len,
-                };
-            }
-            offset -= bytes;
-        }
         Parts {
             structure,
             client,
             at,
-            count: 0,
-            offset: 0,
-            len: 0,
+            count,
+            offset,
+            len,
         }
     }
 }

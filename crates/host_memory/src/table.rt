@@ -1,14 +1,16 @@
 //! The table that says where the bytes of a transfer lie.
 
-ghost use Rattle.std.specs.Prelude.{◌≡◌, ℕ, ◌+◌, ◌*◌, ◌<◌, ◌≤◌, ◌↔◌, length, IsTrue, IfOk};
+ghost use Rattle.std.specs.Prelude.{◌≡◌, ℕ, ◌+◌, ◌-◌, ◌*◌, ◌<◌, ◌≤◌, ◌↔◌, length, min, take, slice_index, IsTrue, IfOk, IsNone, IfSome};
 ghost use Rattle.std.specs.Result.{result_err, IsErrOf};
+ghost use Rattle.host_memory.specs.Ends.{begin_in, ends_from, IsSpot};
 ghost use Rattle.host_memory.specs.Place.{AreApart, AreInside, HasOwnPlaces, HaveOverlap, Scatters, ShareAPlace, place, total_of};
-ghost use Rattle.host_memory.specs.Memory.{client_start};
-ghost use Rattle.host_memory.specs.Parts.{AreParts};
-ghost use Rattle.host_memory.specs.Reading.{dword_at, prd_at, prds_at, entry_fault, first_fault as first_fault_of, share_byte as share_byte_of, shares_with as shares_with_of, share_with as share_with_of, have_overlap as have_overlap_of, read_fault};
+ghost use Rattle.host_memory.specs.Memory.{client_start, overwritten};
+ghost use Rattle.host_memory.specs.Parts.{AreParts, IsRun, left_at};
+ghost use Rattle.host_memory.specs.Reading.{dword_at, prd_at, prds_at, entry_fault, first_fault as first_fault_of, share_byte as share_byte_of, shares_with as shares_with_of, share_with as share_with_of, have_overlap as have_overlap_of, lie_in_order as lie_in_order_of, read_fault};
 
 use crate::parts::Parts;
 use crate::{CLIENT_START, MAX_PRDS};
+use arrayvec::ArrayVec;
 use byteorder::{ByteOrder, LittleEndian};
 use std::marker::Model;
 use thiserror::Error;
@@ -42,13 +44,15 @@ pub enum PrdError {
 }
 
 /// A table in the structure area, the Physical Region Descriptor Table of a command (AHCI 1.3.1,
-/// section 4.2.3.3). It borrows the structure area and copies nothing.
+/// section 4.2.3.3). It borrows the structure area, and keeps of its entries only where each ends.
 #[derive(Drop)]
 pub struct PrdTable<'m> {
     structure: &'m [u8],
     client_len: u32,
     at: usize,
     count: usize,
+    // Where in the transfer the bytes of each entry end: the running sums of the byte counts.
+    ends: ArrayVec<u32, 248>,
 }
 
 impl<'m> Model for PrdTable<'m> {
@@ -63,7 +67,8 @@ impl<'m> Model for PrdTable<'m> {
       client_len = t.client_len;
     } };
 
-    ghost invariant = { λ t. IsPrdTable t.structure.now t.client_len t.at t.count };
+    ghost invariant = { λ t.
+        IsPrdTable t.structure.now t.client_len t.at t.count t.ends.items };
 }
 
 fn dword(structure: &[u8], at: usize) -> u32
@@ -135,9 +140,26 @@ fn shares_with(prd: Prd, structure: &[u8], at: usize, count: usize) -> bool
     false
 }
 
-// Whether two of the entries that lie there share a byte.
+// Whether each of the entries that lie there begins where the one before it ends, or after.
 #[tactic(auto, using(crate::proofs::PrdLemmas::prds_next))]
-fn have_overlap(structure: &[u8], at: usize, count: usize) -> bool
+fn lie_in_order(structure: &[u8], at: usize, count: usize) -> bool
+    requires { at + 16 * count ≤ length structure.now }
+    ensures { result ≡ lie_in_order_of 0 (prds_at structure.now at count) }
+{
+    let mut end = 0;
+    for i in 0..count {
+        let prd = read_prd(structure, at + 16 * i);
+        if u64::from(prd.address) < end {
+            return false;
+        }
+        end = u64::from(prd.address) + u64::from(prd.bytes);
+    }
+    true
+}
+
+// Whether one of the entries that lie there shares a byte with a later one, pair by pair.
+#[tactic(auto, using(crate::proofs::PrdLemmas::prds_next))]
+fn some_pair_overlaps(structure: &[u8], at: usize, count: usize) -> bool
     requires { at + 16 * count ≤ length structure.now }
     ensures { result ≡ have_overlap_of (prds_at structure.now at count) }
 {
@@ -148,6 +170,17 @@ fn have_overlap(structure: &[u8], at: usize, count: usize) -> bool
         }
     }
     false
+}
+
+// Whether two of the entries that lie there share a byte. Where they lie in order, none do.
+fn have_overlap(structure: &[u8], at: usize, count: usize) -> bool
+    requires { at + 16 * count ≤ length structure.now }
+    ensures { result ≡ have_overlap_of (prds_at structure.now at count) }
+{
+    if lie_in_order(structure, at, count) {
+        return false;
+    }
+    some_pair_overlaps(structure, at, count)
 }
 
 // Whether one of the entries that lie there shares a byte with one of the other table.
@@ -165,39 +198,71 @@ fn share_with(structure: &[u8], at: usize, count: usize, other: &PrdTable<'_>) -
     false
 }
 
-// The sum of the byte counts of the entries that lie there.
+// Where in the transfer the bytes of each of the entries that lie there end.
 #[tactic(auto, using(crate::proofs::PrdLemmas::prds_next))]
-fn sum_of_counts(structure: &[u8], at: usize, count: usize) -> u32
+fn ends_of(structure: &[u8], at: usize, count: usize) -> ArrayVec<u32, 248>
     requires table { at + 16 * count ≤ length structure.now }
     requires few { count ≤ MAX_PRDS }
-    ensures { result ≡ total_of (prds_at structure.now at count) }
+    ensures { result.items ≡ ends_from 0 (prds_at structure.now at count) }
 {
-    let mut total = 0;
+    let mut ends = ArrayVec::new();
+    let mut end = 0;
     for i in 0..count {
-        total += read_prd(structure, at + 16 * i).bytes;
+        let prd = read_prd(structure, at + 16 * i);
+        end += prd.bytes;
+        ends.push(end);
     }
-    total
+    ends
 }
 
-// Where in the client area byte i of the transfer lies.
-#[tactic(auto, using(crate::proofs::PrdLemmas::prds_next))]
-fn index_of(structure: &[u8], client_len: u32, at: usize, count: usize, i: usize) -> usize
-    requires table { at + 16 * count ≤ length structure.now }
-    requires inside { AreInside client_len (prds_at structure.now at count) }
-    requires below { i < total_of (prds_at structure.now at count) }
-    ensures place { client_start + result ≡ place (prds_at structure.now at count) i }
-    ensures inside { result < client_len }
+// Where the bytes of an entry begin: where those of the one before it end.
+fn begin_of(ends: &[u32], entry: usize) -> u32
+    requires { entry ≤ length ends.now }
+    ensures { result ≡ begin_in ends.now entry }
 {
-    let mut rest = i;
-    for k in 0..count {
-        let prd = read_prd(structure, at + 16 * k);
-        let bytes = prd.bytes as usize;
-        if rest < bytes {
-            return prd.address as usize - CLIENT_START as usize + rest;
+    if entry == 0 { 0 } else { ends[entry - 1] }
+}
+
+// The entry that ends after byte `i`, and none before it does, by halving: as many as there are where none does.
+fn entry_of(ends: &[u32], i: u32) -> usize
+    ensures there { result ≤ length ends.now }
+    ensures begins { begin_in ends.now result ≤ i }
+    ensures ends_after { result < length ends.now → i < slice_index ends.now result }
+{
+    let mut from = 0;
+    let mut to = ends.len();
+    'halving: while from < to {
+        let middle = from + (to - from) / 2;
+        if ends[middle] <= i {
+            from = middle + 1;
+        } else {
+            to = middle;
         }
-        rest -= bytes;
     }
-    unreachable!()
+    from
+}
+
+// A byte of a transfer: the entry in which it lies, and its number there.
+#[derive(Clone, Copy)]
+struct Spot {
+    entry: usize,
+    byte: u32,
+}
+
+// A run of the client area: where it begins, and how many bytes it has.
+#[derive(Clone, Copy)]
+struct Run {
+    start: usize,
+    len: usize,
+}
+
+// Where byte `i` of the transfer lies, of which the entries end there.
+fn spot_of(ends: &[u32], i: u32) -> Spot
+    ensures { IsSpot ends.now i result }
+{
+    let entry = entry_of(ends, i);
+    let byte = i - begin_of(ends, entry);
+    Spot { entry, byte }
 }
 
 impl<'m> PrdTable<'m> {
@@ -234,6 +299,7 @@ impl<'m> PrdTable<'m> {
             client_len,
             at,
             count,
+            ends: ends_of(structure, at, count),
         })
     }
 
@@ -241,7 +307,7 @@ impl<'m> PrdTable<'m> {
     pub fn total(&self) -> u32
         ensures { result ≡ total_of self.now.prds }
     {
-        sum_of_counts(self.structure, self.at, self.count)
+        begin_of(self.ends.as_slice(), self.count)
     }
 
     /// The slices of the client area that hold `len` bytes of the transfer, from byte `offset` on.
@@ -250,12 +316,13 @@ impl<'m> PrdTable<'m> {
         requires fits { offset + len ≤ total_of self.now.prds }
         ensures { AreParts self.now.prds offset len client.now result }
     {
+        let spot = spot_of(self.ends.as_slice(), offset);
         Parts::of(
             self.structure,
             client,
-            self.at,
-            self.count,
-            offset as usize,
+            self.at + 16 * spot.entry,
+            self.count - spot.entry,
+            spot.byte as usize,
             len as usize,
         )
     }
@@ -266,17 +333,43 @@ impl<'m> PrdTable<'m> {
         requires fits { offset + length bytes.now ≤ total_of self.now.prds }
         ensures { Scatters self.now.prds offset bytes.now client.old client.new }
     {
-        let offset = offset as usize;
-        for (k, byte) in bytes.iter().enumerate() {
-            let at = index_of(
-                self.structure,
-                self.client_len,
-                self.at,
-                self.count,
-                offset + k,
-            );
-            client[at] = *byte;
+        let _opened = &self.count;
+        let mut done = 0;
+        'stretches: while done < bytes.len() {
+            done += self.put_part(client, offset + done as u32, &bytes[done..]);
         }
+    }
+
+    // Writes as many of the bytes as the entry in which byte `i` of the transfer lies has from there on, and answers how
+    // many these are.
+    fn put_part(&self, client: &mut [u8], i: u32, bytes: &[u8]) -> usize
+        requires client { self.now.client_len ≡ length client.old }
+        requires below { i < total_of self.now.prds }
+        ensures count { result ≡ min (left_at self.now.prds i) (length bytes.now) }
+        ensures written { client.new
+            ≡ overwritten client.old (place self.now.prds i - client_start) (take result bytes.now) }
+    {
+        let Some(run) = self.run_from(i) else {
+            unreachable!()
+        };
+        let count = run.len.min(bytes.len());
+        client[run.start..run.start + count].copy_from_slice(&bytes[..count]);
+        count
+    }
+
+    // Where the bytes of its entry lie from byte `i` of the transfer on.
+    fn run_from(&self, i: u32) -> Option<Run>
+        ensures none { IsNone result ↔ (total_of self.now.prds ≤ i) }
+        ensures some { IfSome result (λ run. IsRun self.now.prds self.now.client_len i run) }
+    {
+        let spot = spot_of(self.ends.as_slice(), i);
+        if spot.entry == self.count {
+            return None;
+        }
+        let prd = read_prd(self.structure, self.at + 16 * spot.entry);
+        let start = prd.address as usize - CLIENT_START as usize + spot.byte as usize;
+        let len = (prd.bytes - spot.byte) as usize;
+        Some(Run { start, len })
     }
 
     /// Whether the two transfers have a byte of memory in common.

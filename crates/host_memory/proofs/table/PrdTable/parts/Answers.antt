@@ -1,8 +1,22 @@
-use Rattle.std.proofs.Common.{◌≡◌, ◌+◌, ◌≤◌, length}
+use Rattle.std.proofs.Common.{◌≡◌, ◌+◌, ◌≤◌, length, arith, sym, ◌∙◌}
 use Rattle.host_memory.specs.Place.{AreInside, total_of}
 use Rattle.host_memory.specs.Reading.{prds_at}
 use Rattle.host_memory.proofs.PartsLemmas.{parts_are}
+use Rattle.host_memory.proofs.SpotLemmas.{lies_at, hold_from, parts_lie}
 use Rattle.host_memory.proofs.table.PrdTable.parts.Goals as goal
+
+pub overflow_sub-self-inside : goal.overflow_sub-self-inside
+overflow_sub-self-inside c =
+    let lies = lies_at _ _ _ _ _ _ (c.as_slice.ensures.value ∙ c.self.invariant.sums) c.spot_of-spot.ensures in
+    lies.there
+
+pub of-requires : goal.of-requires
+of-requires c =
+    let prds = prds_at c.self.inside.structure.now c.self.inside.at c.self.inside.count in
+    let sized : c.self.inside.client_len ≡ length c.args.client.now = rw (← c.self.view_is) at c.requires.client in
+    let fits : c.args.offset + c.args.len ≤ total_of prds = rw (← c.self.view_is) at c.requires.fits in
+    let inside : AreInside (length c.args.client.now) prds = rw (← sized) c.self.invariant.inside in
+    hold_from _ _ _ _ _ _ _ _ c.self.invariant.lies inside fits (lies_at _ _ _ _ _ _ (c.as_slice.ensures.value ∙ c.self.invariant.sums) c.spot_of-spot.ensures)
 
 pub returns : goal.returns
 returns c =
@@ -11,4 +25,6 @@ returns c =
     let sized : c.self.inside.client_len ≡ length client = rw (← c.self.view_is) at c.requires.client in
     let fits : c.args.offset + c.args.len ≤ total_of prds = rw (← c.self.view_is) at c.requires.fits in
     let inside : AreInside (length client) prds = rw (← sized) c.self.invariant.inside in
-    rw (← c.self.view_is) (rw c.of.ensures (parts_are client prds c.args.offset c.args.len inside fits))
+    let lies = lies_at _ _ _ _ _ _ (c.as_slice.ensures.value ∙ c.self.invariant.sums) c.spot_of-spot.ensures in
+    let whole = c.of.ensures ∙ parts_lie client _ _ _ _ c.args.len _ _ lies in
+    rw (← c.self.view_is) (rw whole (parts_are client prds c.args.offset c.args.len inside fits))

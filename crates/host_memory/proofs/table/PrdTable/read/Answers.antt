@@ -17,6 +17,7 @@ invariant_of-result c = record {
   few = omega arith;
   inside = inside_from_faults _ _ _ _ (sym c.first_fault.ensures ∙ c.in_default.is);
   apart = apart_from_overlap _ (sym c.have_overlap.ensures ∙ c.if-have_overlap.false);
+  sums = c.ends_of.ensures;
 }
 
 pub returns-clause-inside : goal.returns-clause-inside

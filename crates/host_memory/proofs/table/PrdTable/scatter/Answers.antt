@@ -1,14 +1,43 @@
-use Rattle.std.proofs.Common.{◌≡◌, ◌+◌, sym, ◌∙◌}
-use Rattle.host_memory.specs.Memory.{client_start}
-use Rattle.host_memory.specs.Place.{AreInside, AreApart, place}
-use Rattle.host_memory.proofs.ScatterLemmas.{scatters_more}
+use Rattle.std.proofs.Common.{◌≡◌, ◌+◌, ◌-◌, ◌<◌, ◌≤◌, length, take, drop, arith, sym, ◌∙◌}
+use Rattle.std.proofs.lemmas.List.{take_rest}
+use Rattle.host_memory.specs.Place.{AreInside, AreApart, total_of}
+use Rattle.host_memory.specs.Reading.{prds_at}
+use Rattle.host_memory.proofs.PrdLemmas.{total_fits}
+use Rattle.host_memory.proofs.ScatterLemmas.{scatters_more, some_more}
 use Rattle.host_memory.proofs.table.PrdTable.scatter.Goals as goal
 
-pub loop-k-preserved : goal.loop-k-preserved
-loop-k-preserved c =
+pub overflow_cast-done : goal.overflow_cast-done
+overflow_cast-done c =
+    let prds = prds_at c.self.inside.structure.now c.self.inside.at c.self.inside.count in
+    let fits : c.args.offset + length c.args.bytes.now ≤ total_of prds = rw (← c.self.view_is) at c.requires.fits in
+    let most = total_fits c.self.inside.structure.now c.self.inside.at c.self.inside.count in
+    record { fits = omega (arith, c.self.invariant.few, c.stretches.invariant.few) }
+
+pub overflow_add-offset : goal.overflow_add-offset
+overflow_add-offset c =
+    let prds = prds_at c.self.inside.structure.now c.self.inside.at c.self.inside.count in
+    let fits : c.args.offset + length c.args.bytes.now ≤ total_of prds = rw (← c.self.view_is) at c.requires.fits in
+    let most = total_fits c.self.inside.structure.now c.self.inside.at c.self.inside.count in
+    record { fits = omega (arith, c.self.invariant.few, c.stretches.invariant.few) }
+
+pub stretches-smaller : goal.stretches-smaller
+stretches-smaller c =
+    let bytes = c.args.bytes.now in
+    let done = c.stretches.done in
+    let more = some_more c.args.self.now.prds c.args.offset bytes (take (length bytes - done) (drop done bytes)) done c.put_part-done.result c.requires.fits c.stretches-test.true (take_rest bytes done) c.put_part-done.ensures.count in
+    omega (arith, more.0, more.1)
+
+pub stretches-preserved : goal.stretches-preserved
+stretches-preserved c =
     let table = c.args.self.now in
+    let bytes = c.args.bytes.now in
+    let done = c.stretches.done in
+    let rest = take (length bytes - done) (drop done bytes) in
     let inside : AreInside table.client_len table.prds = rw (← c.self.view_is) c.self.invariant.inside in
     let apart : AreApart table.prds = rw (← c.self.view_is) c.self.invariant.apart in
-    let at_place : client_start + c.index_of-at.result ≡ place table.prds (c.args.offset + c.loop-k.k) = rw (← c.self.view_is) c.index_of-at.ensures.place in
-    scatters_more table.client_len table.prds c.args.offset c.args.bytes.now c.loop-k.k c.index_of-at.result c.args.client.now c.loop-k.client
-    inside apart c.requires.fits c.loop-k-test.true (c.loop-k.auto.client ∙ sym c.requires.client) at_place c.loop-k.invariant
+    let more = some_more table.prds c.args.offset bytes rest done c.put_part-done.result c.requires.fits c.stretches-test.true (take_rest bytes done) c.put_part-done.ensures.count in
+    record {
+      few = more.1;
+      written = scatters_more table.client_len table.prds c.args.offset bytes rest done c.put_part-done.result c.args.client.now c.stretches.client c.put_part-done.new.client
+          inside apart c.requires.fits c.stretches-test.true (c.stretches.auto.client ∙ sym c.requires.client) (take_rest bytes done) c.put_part-done.ensures.count c.put_part-done.ensures.written c.stretches.invariant.written;
+    }
