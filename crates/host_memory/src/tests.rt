@@ -108,28 +108,30 @@ fn scatters_a_transfer(rt: HostRuntime) -> Result<(), Fail> {
     Ok(())
 }
 
-// How many parts there are of these bytes of the transfer whose table lies at 2000h, and what they are together.
+// How long the parts are of these bytes of the transfer whose table of so many entries lies at 2000h, and what they are
+// together.
 fn parts_of(
     alloc: Global,
     memory: &HostMemory,
+    count: u16,
     offset: u32,
     len: u32,
-) -> Result<(usize, Vec<u8>), Fail> {
+) -> Result<(Vec<usize>, Vec<u8>), Fail> {
     let client = memory.client();
     if client.len() != 0x10_0000 {
         return Err(Fail::from("not 2 MiB"));
     }
-    let table = PrdTable::read(memory.structure(), 0x10_0000, 0x2000, 2)?;
+    let table = PrdTable::read(memory.structure(), 0x10_0000, 0x2000, count)?;
     let mut joined = Vec::new(alloc);
-    if u64::from(offset) + u64::from(len) > u64::from(table.total()) {
-        return Ok((0, joined));
-    }
     let mut sizes = Vec::new(alloc);
+    if u64::from(offset) + u64::from(len) > u64::from(table.total()) {
+        return Ok((sizes, joined));
+    }
     for part in table.parts(client, offset, len) {
         sizes.push(part.len())?;
         joined.extend_from_slice(part)?;
     }
-    Ok((sizes.len(), joined))
+    Ok((sizes, joined))
 }
 
 #[test]
@@ -151,13 +153,34 @@ fn gives_parts(rt: HostRuntime) -> Result<(), Fail> {
         (512, 0, 0, [].as_slice()),
         (300, 0, 0, [].as_slice()),
     ] {
-        let (parts, joined) = parts_of(rt.alloc(), &memory, offset, len)?;
-        assert_eq!(rt; parts, count, "{offset} {len}");
+        let (parts, joined) = parts_of(rt.alloc(), &memory, 2, offset, len)?;
+        assert_eq!(rt; parts.len(), count, "{offset} {len}");
         assert_eq!(rt; joined.as_slice(), first, "{offset} {len}");
     }
-    let (parts, joined) = parts_of(rt.alloc(), &memory, 0, 512)?;
-    assert_eq!(rt; parts, 2);
+    let (parts, joined) = parts_of(rt.alloc(), &memory, 2, 0, 512)?;
+    assert_eq!(rt; parts.len(), 2);
     assert_eq!(rt; joined.len(), 512);
+    Ok(())
+}
+
+#[test]
+fn gives_a_part_for_each_entry(rt: HostRuntime) -> Result<(), Fail> {
+    let mut memory = HostMemory::new(rt.alloc(), 0x20_0000)?;
+    let first = table([0x10_1000, 0, 1], [0x10_2000, 0, 5]);
+    let last = table([0x10_3000, 0, 503], [0, 0, 0]);
+    memory.structure_mut()[0x2000..0x2020].copy_from_slice(&first);
+    memory.structure_mut()[0x2020..0x2040].copy_from_slice(&last);
+    for (offset, len, want) in [
+        (0, 12, [2, 6, 4].as_slice()),
+        (1, 7, [1, 6].as_slice()),
+        (2, 510, [6, 504].as_slice()),
+        (8, 504, [504].as_slice()),
+        (512, 0, [].as_slice()),
+    ] {
+        let (sizes, joined) = parts_of(rt.alloc(), &memory, 3, offset, len)?;
+        assert_eq!(rt; sizes.as_slice(), want, "{offset} {len}");
+        assert_eq!(rt; joined.len(), len as usize, "{offset} {len}");
+    }
     Ok(())
 }
 
