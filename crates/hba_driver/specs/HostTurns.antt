@@ -2,9 +2,11 @@
 -- as it is; whatever the driver does between two ticks leaves the port as it is.
 use Rattle.std.specs.Prelude.{ℕ, ◌≡◌, ◌-◌, Bool, true, false, List, [], ◌∷◌, ◌++◌, length, Option, Some, None}
 use Rattle.std.specs.List.{list_all}
+use Rattle.fis_view.specs.Frames.{Stamped}
 use Rattle.host_memory.specs.Memory.{IsHostMemory, Memory, client_start, overwritten}
 use Rattle.host_memory.specs.Place.{LiesInClient}
 use Rattle.hba_fbs.specs.declared.report.TakeReport.{TakeReport}
+use Rattle.hba_fbs.specs.Sending.{Gives, outgoing}
 use Rattle.hba_fbs.specs.Taking.{Hears, Ignores, ignores, port_of}
 use Rattle.hba_fbs.specs.Views.{Port}
 use Rattle.hba_driver.specs.declared.request.Completion.{Completion}
@@ -28,7 +30,7 @@ pub data HostTurn : Type 0 where
   -- the port takes a frame
   Took : (frame : List ℕ) → (report : TakeReport) → HostTurn
   -- the port gives a frame
-  Pushed : (frame : List ℕ) → HostTurn
+  Pushed : (frame : Stamped) → HostTurn
   -- the driver ticks, and says whether it acted
   Ticked : (acted : Bool) → HostTurn
   -- a request for a device is taken under this ticket
@@ -45,8 +47,8 @@ pub record Tooks (old : Host) (frame : List ℕ) (report : TakeReport) (new : Ho
   pub heard : ignores (port_of frame) old.port frame ≡ false
       → Hears (port_of frame) old.port old.memory frame report new.port new.memory
 
--- which frame comes, and what it leaves of the port, is not said here
-pub record Pushes (old new : Host) : Type 0 where
+pub record Pushes (old : Host) (frame : Stamped) (new : Host) : Type 0 where
+  pub gives : Gives (outgoing old.port old.memory) old.port old.memory (Some frame) new.port
   pub driver : new.driver ≡ old.driver
   pub memory : new.memory ≡ old.memory
 
@@ -80,7 +82,7 @@ pub record Puts (old : Host) (at : ℕ) (bytes : List ℕ) (new : Host) : Type 0
 -- what a turn does
 abbrev pub Does : Host → HostTurn → Host → Type 0
 Does old (Took frame report) new = Tooks old frame report new
-Does old (Pushed frame) new = Pushes old new
+Does old (Pushed frame) new = Pushes old frame new
 Does old (Ticked acted) new = Ticks old acted new
 Does old (Submitted dev request ticket) new = Submits old dev request ticket new
 Does old (Polled completion) new = Polls old completion new
