@@ -1,1 +1,7 @@
-//! Tests.
+//! What no clause says: values from outside, and that calls succeed.
+
+mod rig;
+mod rows;
+mod starting;
+mod submitting;
+mod vectors;
