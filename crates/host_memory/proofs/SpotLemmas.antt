@@ -8,7 +8,7 @@ use Rattle.host_memory.specs.Ends.{ends_from, begin_in, IsSpot}
 use Rattle.host_memory.specs.Memory.{client_start}
 use Rattle.host_memory.specs.Parts.{parts_of, left_at, IsRun, HoldParts}
 use Rattle.host_memory.specs.Place.{total_of, place, LiesInClient, AreInside}
-use Rattle.host_memory.specs.Reading.{prd_at, prds_at, IsPrdTable}
+use Rattle.host_memory.specs.Reading.{prd_at, prds_at}
 use Rattle.host_memory.proofs.PlaceLemmas.{place_here, place_later}
 use Rattle.host_memory.proofs.PrdLemmas.{prds_next}
 use Rattle.host_memory.proofs.PartsLemmas.{parts_later}

@@ -1,4 +1,4 @@
-use Rattle.std.proofs.Common.{◌+◌, ◌-◌, ◌*◌, arith, ap}
+use Rattle.std.proofs.Common.{◌+◌, arith, ap}
 use Rattle.host_memory.specs.declared.table.Prd.{Prd}
 use Rattle.host_memory.specs.Place.{total_of}
 use Rattle.host_memory.proofs.PrdLemmas.{prds_next, total_fits}

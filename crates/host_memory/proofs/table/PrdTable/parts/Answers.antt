@@ -1,4 +1,4 @@
-use Rattle.std.proofs.Common.{◌≡◌, ◌+◌, ◌≤◌, length, arith, sym, ◌∙◌}
+use Rattle.std.proofs.Common.{◌≡◌, ◌+◌, ◌≤◌, length, ◌∙◌}
 use Rattle.host_memory.specs.Place.{AreInside, total_of}
 use Rattle.host_memory.specs.Reading.{prds_at}
 use Rattle.host_memory.proofs.PartsLemmas.{parts_are}

@@ -1,4 +1,4 @@
-use Rattle.std.proofs.Common.{◌≡◌, ◌+◌, ◌-◌, ◌<◌, ◌≤◌, arith, refl, ◌∙◌}
+use Rattle.std.proofs.Common.{◌+◌, ◌-◌, ◌<◌, arith, refl, ◌∙◌}
 use Rattle.host_memory.specs.Place.{total_of}
 use Rattle.host_memory.specs.Reading.{prds_at}
 use Rattle.host_memory.proofs.SpotLemmas.{lies_at, in_entry, is_run, past_all}
