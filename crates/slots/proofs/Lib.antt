@@ -1,6 +1,8 @@
 pub mod FlagLemmas
 pub mod ByteLemmas
+pub mod ApartLemmas
 pub mod StretchLemmas
+pub mod MergeLemmas
 pub mod MaskLemmas
 pub mod TableLemmas
 pub mod FreeLemmas

@@ -76,6 +76,16 @@ moved_context dev n c i r g within dwords =
       activates = λ h. absurd (false≢true h);
     }
 
+-- they are 64 stretches at most then
+pub few_moved : (dev n : ℕ) (c : Context) (t : Slots) (i : Issue) (d : Option Issue) → IsTable t → context_of t dev ≡ Some c → n ≤ c.left → n % 4 ≡ 0 → get_or t.issues c.slot d ≡ Some i
+    → stretches_of (with_bytes i.over c.next n) i.work.len ≤ 64
+few_moved dev n c t i d is e within dwords at =
+    let lt : c.slot < length t.issues = omega (arith, slot_of_context dev c t is e, is.slots) in
+    let there : issue_at t c.slot ≡ Some i = sym (get_or_default t.issues c.slot d None lt) ∙ at in
+    let r : IsIssue i = subst (λ (x : Option Issue). MatchOption x (Unit {0}) IsIssue) there (is.issues c.slot) in
+    let g : IsContextOf dev c i = subst (λ (x : Option Issue). MatchOption x ⊥ (IsContextOf dev c)) there (context_some t dev c is e).1 in
+    (moved_issue dev n c i r g within dwords).few
+
 waits_still : (d s n : ℕ) (c : Context) (t : Slots) (i : Issue) → issue_at t s ≡ Some i → holds is_waiting (owned_by d (Some (moved_over c.next n i))) ≡ true → waits_for d t s ≡ true
 waits_still d s n c t i at h =
     let own : i.dev ≡ d = owns_where is_waiting d (Some (moved_over c.next n i)) h in

@@ -1,11 +1,16 @@
 -- Bytes that go over where none did: they begin one stretch at most, and what is left of them did not go over.
-use Rattle.std.proofs.Common.{◌≡◌, ◌≢◌, ℕ, zero, suc, ◌+◌, ◌-◌, ◌*◌, ◌%◌, ◌<◌, ◌≤◌, Bool, true, false, not, ◌&&◌, ◌||◌, nat_eq, nat_lt, nat_le, cond, List, length, refl, sym, ◌∙◌, ap, arith, inl, inr, count_by}
+use Rattle.std.proofs.Common.{◌≡◌, ◌≢◌, ℕ, zero, suc, ◌+◌, ◌-◌, ◌*◌, ◌%◌, ◌<◌, ◌≤◌, Bool, true, false, not, ◌&&◌, ◌||◌, nat_eq, nat_lt, nat_le, cond, List, length, refl, sym, ◌∙◌, ap, arith, inl, inr, count_by, subst, Option, Some, None}
+use Rattle.std.specs.Prelude.{IsSome, is_some}
+use Rattle.std.specs.Option.{ForSome}
 use Rattle.std.specs.List.{range_with_len, list_any}
 use Rattle.std.proofs.lemmas.Bool.{cases_Bool, cases_eq, cases_lt, and_parts, eqb-true, le-leb, lt-leb, lt-ltb, le-ltb, not-true, or_cases, or_right, false≢true, false_from_ne_true}
 use Rattle.std.proofs.lemmas.List.FromFn.{length-range_with_len, get_or-range_with_len}
 use Rattle.std.proofs.lemmas.List.Folds.{Any-from_list_any}
+use Rattle.slots.specs.declared.slot.Issued.{Issued}
+use Rattle.slots.specs.Issued.{HasRoom, issue_in, with_flags}
+use Rattle.slots.specs.Slots.{Issue}
 use Rattle.slots.specs.Bytes.{any_over, begins, ends_at, is_over, is_within, none_over, stretches_of, with_bytes}
-use Rattle.slots.proofs.ByteLemmas.{any_at, count_more, marked_with_bytes, over_none, over_with_bytes}
+use Rattle.slots.proofs.ByteLemmas.{any_at, count_more, marked_with_bytes, over_none, over_with_bytes, whole_dwords}
 
 -- ---- counts
 
@@ -208,3 +213,10 @@ room_then over o n left len o4 n4 within inside fresh room some = elim (cases_lt
       let same : with_bytes over o n ≡ over = ap (with_bytes over o) e ∙ with_none over o o4 in
       ap (λ (x : List Bool). nat_le 64 (stretches_of x len) && not (ends_at x (o + n))) same ∙ ap (λ (x : ℕ). nat_le 64 (stretches_of over len) && not (ends_at over x)) at ∙ room (omega arith)
 ]
+
+-- the flags of an issue have 64 stretches at most where the issue has
+pub few_flags : (issued : Option Issued) (over : List Bool) (o n : ℕ) (now : Option Issue) → issue_in issued over ≡ now → IsSome now → HasRoom issued over
+    → ForSome now (λ issue. stretches_of (with_bytes issue.over o n) issue.work.len ≤ 64) → stretches_of (with_bytes over o n) (4 * length over) ≤ 64
+few_flags None over o n now is some room few = absurd (false≢true (ap is_some is ∙ some))
+few_flags (Some i) over o n now is some room few =
+    subst (λ (m : ℕ). stretches_of (with_bytes over o n) m ≤ 64) (sym (whole_dwords over i.work.len room.0 room.1.0)) (few (with_flags i over) (sym is))

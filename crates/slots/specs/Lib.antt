@@ -5,6 +5,6 @@ pub mod Issued
 pub mod Laws
 pub mod Setup
 pub mod Slots
+pub mod Stretches
 pub mod Table
-pub mod Words
 pub mod Work

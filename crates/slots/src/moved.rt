@@ -1,26 +1,37 @@
 //! Which bytes of a transfer went over.
 
-ghost use Rattle.std.specs.Prelude.{◌≡◌, ◌+◌, ◌*◌, ◌%◌, ◌≤◌, ◌<◌, false, true, length, replicate, slice_index_or, slice_set};
+ghost use Rattle.std.specs.Prelude.{◌≡◌, ◌+◌, ◌*◌, ◌%◌, ◌≤◌, ◌<◌, false, length, slice_index_or};
+ghost use Rattle.std.specs.List.{list_any};
 ghost use Rattle.slots.specs.Bytes.{any_over as any_over_of, came_of, ends_at as ends_at_of, is_whole as is_whole_of, none_over, stretches_of, with_bytes};
+ghost use Rattle.slots.specs.Stretches.{AreApart, dwords_of, in_one, joined as joined_of, meets, merged_with};
 
+use arrayvec::ArrayVec;
 use std::marker::Model;
 
-/// Which dwords of a transfer of up to 128 KiB went over, one bit for each.
+/// Dwords that follow one another: those from `start` on, below `end`.
+#[derive(Clone, Copy, Default)]
+pub(crate) struct Stretch {
+    start: u32,
+    end: u32,
+}
+
+/// Which dwords of a transfer of up to 128 KiB went over: stretches in order, with a gap between
+/// each two.
 #[derive(Drop)]
 pub(crate) struct Moved {
-    words: [u64; 512],
-    dwords: usize,
+    stretches: ArrayVec<Stretch, 64>,
+    dwords: u32,
 }
 
 impl Model for Moved {
-    ghost use Rattle.std.specs.Prelude.{List, Bool, ◌≤◌, ◌≡◌, length};
-    ghost use Rattle.slots.specs.Words.{flags_below, flag_in};
+    ghost use Rattle.std.specs.Prelude.{List, Bool, ◌≤◌};
+    ghost use Rattle.slots.specs.Stretches.{AreApart, over_of};
 
     ghost Value = { List Bool };
 
-    ghost view = { λ m. flags_below (flag_in m.words) m.dwords };
+    ghost view = { λ m. over_of m.dwords m.stretches.items };
 
-    ghost invariant = { λ m. (m.dwords ≤ 32768) × (length m.words ≡ 512) };
+    ghost invariant = { λ m. (m.dwords ≤ 32768) × AreApart 0 m.dwords m.stretches.items };
 }
 
 impl Moved {
@@ -30,26 +41,19 @@ impl Moved {
         ensures { result ≡ none_over len }
     {
         Moved {
-            words: [0; 512],
-            dwords: len as usize / 4,
+            stretches: ArrayVec::new(),
+            dwords: len / 4,
         }
     }
 
-    fn get(&self, k: usize) -> bool
+    fn get(&self, k: u32) -> bool
         requires { k < length self.now }
         ensures { result ≡ slice_index_or self.now k false }
     {
-        self.words[k / 64] >> (k % 64) & 1 == 1
+        has_dword(self.stretches.as_slice(), k)
     }
 
-    fn set(&mut self, k: usize)
-        requires { k < length self.old }
-        ensures { self.new ≡ slice_set self.old k true }
-    {
-        self.words[k / 64] |= 1 << (k % 64);
-    }
-
-    fn dwords(&self) -> usize
+    fn dwords(&self) -> u32
         ensures value { result ≡ length self.now }
         ensures few { result ≤ 32768 }
     {
@@ -60,41 +64,21 @@ impl Moved {
     pub(crate) fn is_whole(&self) -> bool
         ensures { result ≡ is_whole_of self.now (4 * length self.now) }
     {
-        for k in 0..self.dwords() {
-            if !self.get(k) {
-                return false;
-            }
-        }
-        true
+        self.came() == 4 * self.dwords()
     }
 
     /// How many of its bytes did.
     pub(crate) fn came(&self) -> u32
         ensures { result ≡ came_of self.now (4 * length self.now) }
     {
-        let mut came = 0;
-        for k in 0..self.dwords() {
-            if self.get(k) {
-                came += 4;
-            }
-        }
-        came
+        4 * count_dwords(self.stretches.as_slice())
     }
 
     /// How many stretches there are.
     pub(crate) fn stretches(&self) -> u32
         ensures { result ≡ stretches_of self.now (4 * length self.now) }
     {
-        let mut stretches = 0;
-        let mut before = false;
-        for k in 0..self.dwords() {
-            let over = self.get(k);
-            if over && !before {
-                stretches += 1;
-            }
-            before = over;
-        }
-        stretches
+        self.stretches.len() as u32
     }
 
     /// Whether a stretch ends before the byte `offset`.
@@ -102,7 +86,7 @@ impl Moved {
         requires { offset ≤ 4 * length self.now }
         ensures { result ≡ ends_at_of self.now offset }
     {
-        let dword = offset as usize / 4;
+        let dword = offset / 4;
         offset % 4 == 0
             && dword > 0
             && self.get(dword - 1)
@@ -117,14 +101,9 @@ impl Moved {
         if count == 0 {
             return false;
         }
-        let from = offset as usize / 4;
-        let to = (offset as usize + count as usize - 1) / 4 + 1;
-        for k in from..to {
-            if self.get(k) {
-                return true;
-            }
-        }
-        false
+        let start = offset as usize / 4;
+        let end = (offset as usize + count as usize - 1) / 4 + 1;
+        have_between(self.stretches.as_slice(), start, end)
     }
 
     /// These bytes go over.
@@ -132,12 +111,77 @@ impl Moved {
         requires within { offset + count ≤ 4 * length self.old }
         requires offset { offset % 4 ≡ 0 }
         requires count { count % 4 ≡ 0 }
+        requires few { stretches_of (with_bytes self.old offset count) (4 * length self.old) ≤ 64 }
         ensures { self.new ≡ with_bytes self.old offset count }
     {
-        let from = offset as usize / 4;
-        let to = from + count as usize / 4;
-        for k in from..to {
-            self.set(k);
+        if count == 0 {
+            return;
+        }
+        let start = offset / 4;
+        let end = start + count / 4;
+        self.stretches = merge(self.stretches.as_slice(), Stretch { start, end });
+    }
+}
+
+// Whether the dword is one of these stretches.
+fn has_dword(stretches: &[Stretch], k: u32) -> bool
+    ensures { result ≡ in_one stretches.now k }
+{
+    stretches
+        .iter()
+        .any(|stretch| stretch.start <= k && k < stretch.end)
+}
+
+// Whether one of the dwords from `start` on, below `end`, is.
+fn have_between(stretches: &[Stretch], start: usize, end: usize) -> bool
+    ensures { result ≡ list_any (meets start end) stretches.now }
+{
+    stretches.iter().any(|stretch| (stretch.start as usize) < end && start < stretch.end as usize)
+}
+
+// How many dwords they have.
+fn count_dwords(stretches: &[Stretch]) -> u32
+    requires { AreApart 0 32768 stretches.now }
+    ensures value { result ≡ dwords_of stretches.now }
+    ensures few { result ≤ 32768 }
+{
+    let mut dwords = 0;
+    for stretch in stretches {
+        dwords += stretch.end - stretch.start;
+    }
+    dwords
+}
+
+fn join(left: Stretch, right: Stretch) -> Stretch
+    ensures { result ≡ joined_of left right }
+{
+    Stretch {
+        start: left.start.min(right.start),
+        end: left.end.max(right.end),
+    }
+}
+
+// These stretches, with one more that is joined with those that it meets or touches.
+fn merge(stretches: &[Stretch], more: Stretch) -> ArrayVec<Stretch, 64>
+    requires { length (merged_with more stretches.now) ≤ 64 }
+    ensures { result.items ≡ merged_with more stretches.now }
+{
+    let mut kept = ArrayVec::new();
+    let mut waiting = Some(more);
+    for stretch in stretches {
+        match waiting {
+            None => kept.push(*stretch),
+            Some(grown) if stretch.end < grown.start => kept.push(*stretch),
+            Some(grown) if grown.end < stretch.start => {
+                kept.push(grown);
+                kept.push(*stretch);
+                waiting = None;
+            }
+            Some(grown) => waiting = Some(join(grown, *stretch)),
         }
     }
+    if let Some(grown) = waiting {
+        kept.push(grown);
+    }
+    kept
 }

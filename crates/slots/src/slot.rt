@@ -2,6 +2,7 @@
 
 ghost use Rattle.std.specs.Prelude.{◌≡◌, ◌+◌, ◌/◌, ◌%◌, ◌≤◌, ◌<◌, Some, None, not, ◌&&◌, length, IfSome, IsSome, MatchOption};
 ghost use Rattle.std.specs.Option.{ForSome, option_map};
+ghost use Rattle.slots.specs.Bytes.{stretches_of, with_bytes};
 ghost use Rattle.slots.specs.Work.{IsWork};
 ghost use Rattle.slots.specs.Commands.{IsSlotAnswer, answer_for as answer_for_issue, answered_issue, is_unanswered as is_unanswered_issue, sent_issue};
 ghost use Rattle.slots.specs.Data.{moved_over};
@@ -127,6 +128,8 @@ impl Slot {
         requires some { IsSome self.old }
         requires offset { offset % 4 ≡ 0 }
         requires count { count % 4 ≡ 0 }
+        requires few { ForSome self.old (λ issue.
+            stretches_of (with_bytes issue.over offset count) issue.work.len ≤ 64) }
         ensures { self.new ≡ option_map (moved_over offset count) self.old }
     {
         self.moved.add(offset, count);

@@ -216,6 +216,11 @@ fn sixty_four_stretches_at_most(rt: HostRuntime) {
 }
 
 #[test]
+fn a_table_is_small(rt: HostRuntime) {
+    assert!(rt; size_of::<SlotTable>() < 65536);
+}
+
+#[test]
 fn setups_are_refused_in_order(rt: HostRuntime) {
     let mut table = SlotTable::new();
     assert!(rt; issue_read(&mut table, 0, 0, 2));

@@ -1,18 +1,13 @@
-use Rattle.std.proofs.Common.{◌+◌, ◌*◌, cond, Bool, ℕ, arith, sym, ap, ◌∙◌}
-use Rattle.slots.specs.Bytes.{came_of}
-use Rattle.slots.proofs.ByteLemmas.{came_none, came_more}
+use Rattle.std.proofs.Common.{◌*◌, ℕ, sym, ap, ◌∙◌, subst}
+use Rattle.slots.specs.Stretches.{AreApart, dwords_of}
+use Rattle.slots.proofs.ApartLemmas.{total_seen, wider}
 use Rattle.slots.proofs.moved.Moved.came.Goals as goal
-use Rattle.slots.proofs.moved.Moved.came.Goals.{then-get, else-get}
 
-pub loop-k-init : goal.loop-k-init
-loop-k-init c = record { counted = sym (came_none c.args.self.now); few = omega arith }
+pub count_dwords-requires : goal.count_dwords-requires
+count_dwords-requires c =
+    subst (AreApart 0 32768) (sym c.as_slice.ensures.value) (wider 0 c.self.inside.dwords 32768 c.self.inside.stretches.items c.self.invariant.1 c.self.invariant.0)
 
-pub loop-k-preserved : goal.loop-k-preserved
-loop-k-preserved c =
-    let over = c.args.self.now in
-    let k = c.loop-k.k in
-    let more = came_more over k c.get.result (sym c.get.ensures) in
-    elim c.if-get.branch [
-      | then-get w ↦ record { counted = w.came-is ∙ ap (λ (x : ℕ). x + 4) c.loop-k.invariant.counted ∙ sym (more ∙ ap (λ (b : Bool). came_of over (4 * k) + cond b 4 0) w.if-get.true); few = omega arith }
-      | else-get w ↦ record { counted = w.came-is ∙ c.loop-k.invariant.counted ∙ sym (more ∙ ap (λ (b : Bool). came_of over (4 * k) + cond b 4 0) w.if-get.false ∙ omega arith); few = omega arith }
-    ]
+pub returns : goal.returns
+returns c =
+    ap (λ (x : ℕ). 4 * x) (c.count_dwords.ensures.value ∙ ap dwords_of c.as_slice.ensures.value)
+    ∙ total_seen c.self.inside.dwords c.self.inside.stretches.items c.args.self.now c.self.view_is c.self.invariant.1

@@ -1,6 +1,7 @@
-use Rattle.std.proofs.Common.{◌/◌}
-use Rattle.slots.proofs.FlagLemmas.{flags_none, no_flag}
+use Rattle.std.proofs.Common.{◌/◌, ap, ◌∙◌}
+use Rattle.slots.specs.Stretches.{over_of}
+use Rattle.slots.proofs.FlagLemmas.{over_nothing}
 use Rattle.slots.proofs.moved.Moved.new.Goals as goal
 
 pub returns : goal.returns
-returns c = flags_none _ (c.args.len / 4) (λ j. no_flag 512 j)
+returns c = ap (over_of (c.args.len / 4)) c.new.ensures ∙ over_nothing (c.args.len / 4)

@@ -2,8 +2,14 @@ use Rattle.std.proofs.Common.{◌≡◌, Some, arith, refl}
 use Rattle.slots.specs.Data.{moved_on, moved_over}
 use Rattle.slots.specs.Slots.{Slots, context_of}
 use Rattle.slots.proofs.TableLemmas.{with_issue, others_changed, others_with_context, others_both}
-use Rattle.slots.proofs.MoveLemmas.{table_moved, slot_of_context, owns_context, own_moved}
+use Rattle.slots.proofs.MoveLemmas.{few_moved, table_moved, slot_of_context, owns_context, own_moved}
 use Rattle.slots.proofs.table.SlotTable.go_over.Goals as goal
+
+pub add-requires-clause-few : goal.add-requires-clause-few
+add-requires-clause-few c issue there =
+    let t : Slots = record { issues = c.self.inside.slots; contexts = c.self.inside.contexts } in
+    let at : context_of t c.args.dev ≡ Some c.args.context = rw (← c.self.view_is) at c.requires.context in
+    few_moved c.args.dev c.args.count c.args.context t issue _ c.self.invariant at c.requires.within c.requires.dwords there
 
 pub invariant_of-self : goal.invariant_of-self
 invariant_of-self c =
