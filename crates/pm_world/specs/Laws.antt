@@ -1,15 +1,19 @@
--- The laws of a run: nothing is lost, what was taken is a prefix of what was sent, reads are
--- delivered, each unit is what its own history makes of it, and each link is a link (Serial ATA
--- 3.x, port multiplier: frame transmission, PM Port; native command queuing).
-use Rattle.std.specs.Prelude.{ℕ, ◌≡◌, ◌==◌, if◌then◌else◌, List, [], ◌∷◌, ◌++◌, Some, None}
-use Rattle.std.specs.Prelude.{slice_get, IsSomeAnd, MatchOption}
+-- The laws of a run: nothing is lost, upward or downward, what was taken is a prefix of what was sent,
+-- the host and each unit are what their own turns make of them, and each link is a link (Serial ATA
+-- 3.x, 16.3, port multiplier: frame transmission, PM Port; AHCI 1.3.1, chapter 5).
+use Rattle.std.specs.Prelude.{ℕ, ◌≡◌, ◌≢◌, ◌==◌, if◌then◌else◌, false, List, [], ◌∷◌, ◌++◌, Some, None}
+use Rattle.std.specs.Prelude.{map, take, slice_get, IsSomeAnd, MatchOption}
 use Rattle.disk_model.specs.Histories.{Happening, Received, Sent, Plugged, Plan}
 use Rattle.disk_model.specs.Units.{plan_of, StandsFor, MaySend}
 use Rattle.disk_model.specs.declared.unit.Unit.{Unit}
-use Rattle.pm_world.specs.Places.{Places}
-use Rattle.pm_world.specs.Traffic.{sent, taken, all_marked, IsPrefixOf, NothingLost}
-use Rattle.pm_world.specs.Delivery.{AfterEveryRun, DeliversReads}
+use Rattle.multiplier.specs.Arbiter.{control_port}
+use Rattle.pm_world.specs.Downward.{NothingLostDown, on_down_link}
 use Rattle.pm_world.specs.Links.{KeepsLinks}
+use Rattle.pm_world.specs.Places.{Places}
+use Rattle.pm_world.specs.Rules.{Run}
+use Rattle.pm_world.specs.Runs.{AfterEveryRun, Telling, over}
+use Rattle.pm_world.specs.Traffic.{sent, taken, all_marked, IsPrefixOf, NothingLost}
+use Rattle.pm_world.specs.Turns.{AreOfTheirPorts, HostIsFold}
 use Rattle.pm_world.specs.declared.step.Step.{Step}
 use Rattle.pm_world.specs.declared.step.Step.TheVariants as step
 use Rattle.pm_world.specs.declared.step.Answer.{Answer}
@@ -20,24 +24,22 @@ use Rattle.pm_world.specs.declared.step.Answer.TheVariants as answer
 -- Over all answers since the world was made, whichever run from a new world leads to these steps:
 -- what the host took of a connection is a prefix of what was sent on it, each marked with its port.
 abbrev pub TakenIsPrefix : Places → List Answer → Type 0
-TakenIsPrefix old answers = AfterEveryRun old (λ config units before told.
-    (n c : ℕ) → IsPrefixOf (taken n c (told ++ answers))
+TakenIsPrefix old answers = AfterEveryRun old (λ config units before told made.
+    (n c : ℕ) → n ≢ control_port → IsPrefixOf (taken n c (told ++ answers))
     (all_marked n (sent n c (told ++ answers))))
 
 -- ---- the units
 
--- what a step with this answer is to the unit at port n: it was plugged in, or it sent; what is
--- injected is not the unit's
-abbrev pub happens : ℕ → Step → Answer → List Happening
-happens n (step.Came m) (answer.Came port conn) = if port == n then Plugged ∷ [] else []
-happens n (step.DiskSend m) (answer.Sent port conn number bytes) =
+-- What a step with this answer is to the unit at port n: it was plugged in, it took a FIS that was
+-- for it, or it sent one. What is injected is not the unit's.
+abbrev pub happens : ℕ → Telling Happening
+happens n old (step.Came m) (answer.Came port conn) new = if port == n then Plugged ∷ [] else []
+happens n old (step.DiskTake m) (answer.DiskTook port false) new =
+    if port == n then map (λ frame. Received frame.bytes) (take 1 (on_down_link (slice_get old.devices n)))
+    else []
+happens n old (step.DiskSend m) (answer.Sent port conn number bytes) new =
     if port == n then Sent bytes ∷ [] else []
-happens n _ _ = []
-
--- what these steps with these answers are to it, in order
-abbrev pub own_history : ℕ → List Step → List Answer → List Happening
-own_history n (s ∷ steps) (a ∷ answers) = happens n s a ++ own_history n steps answers
-own_history n _ _ = []
+happens n old s a new = []
 
 -- each FIS that these events send may be sent after the history before it
 abbrev pub MaySendAll : Plan → List Happening → List Happening → Type 0
@@ -59,28 +61,39 @@ pub record LivesOn (old : Unit) (events : List Happening) (new : Unit) : Type 0 
 
 -- the unit at a port lives on through its own history, and there is a unit at a port afterwards
 -- where there was one
-abbrev pub UnitsLiveOn : Places → List Step → List Answer → Places → Type 0
-UnitsLiveOn old steps answers new =
+abbrev pub UnitsLiveOn : (old : Places) → (steps : List Step) → (answers : List Answer)
+    → (new : Places) → Run old steps answers new → Type 0
+UnitsLiveOn old steps answers new run =
     (n : ℕ) → MatchOption (slice_get old.devices n) (slice_get new.devices n ≡ None)
     (λ was. IsSomeAnd (slice_get new.devices n)
-    (λ now. LivesOn was.unit (own_history n steps answers) now.unit))
+    (λ now. LivesOn was.unit (over (happens n) old steps answers new run) now.unit))
 
 -- whichever run from a new world leads to these steps, each unit of that world lived on through all
 -- its own history
-abbrev pub UnitsLivedOn : Places → List Step → List Answer → Places → Type 0
-UnitsLivedOn old steps answers new = AfterEveryRun old (λ config units before told.
+abbrev pub UnitsLivedOn : (old : Places) → (steps : List Step) → (answers : List Answer)
+    → (new : Places) → Run old steps answers new → Type 0
+UnitsLivedOn old steps answers new run = AfterEveryRun old (λ config units before told made.
     (n : ℕ) (unit : Unit) → slice_get units n ≡ Some unit
     → IsSomeAnd (slice_get new.devices n) (λ now.
-    LivesOn unit (own_history n (before ++ steps) (told ++ answers)) now.unit))
+    LivesOn unit (over (happens n) _ before told old made
+    ++ over (happens n) old steps answers new run) now.unit))
 
 -- ---- all of it
 
 -- The laws of these steps, which with these answers lead from old to new.
 pub record ObeysLaws (old : Places) (steps : List Step) (answers : List Answer)
-    (new : Places) : Type 0 where
+    (new : Places) (run : Run old steps answers new) : Type 0 where
   pub nothing_lost : NothingLost old answers new
+  pub nothing_lost_down : NothingLostDown old steps answers new run
   pub prefix : TakenIsPrefix old answers
-  pub delivers : DeliversReads old steps answers new
-  pub live_on : UnitsLiveOn old steps answers new
-  pub lived_on : UnitsLivedOn old steps answers new
+  pub own_port : AreOfTheirPorts old answers
+  pub host : HostIsFold old steps answers new run
+  pub live_on : UnitsLiveOn old steps answers new run
+  pub lived_on : UnitsLivedOn old steps answers new run
   pub links : KeepsLinks old answers new
+
+-- They hold of each run of these steps with these answers.
+abbrev pub AreLawful : (old : Places) → (steps : List Step) → (answers : List Answer)
+    → (new : Places) → Type 0
+AreLawful old steps answers new =
+    (run : Run old steps answers new) → ObeysLaws old steps answers new run

@@ -1,12 +1,9 @@
 pub mod Places
-pub mod Fanout
 pub mod Rules
+pub mod Runs
 pub mod Traffic
-pub mod Told
-pub mod Reads
-pub mod Host
-pub mod Deeds
 pub mod Counting
-pub mod Delivery
+pub mod Downward
+pub mod Turns
 pub mod Links
 pub mod Laws

@@ -1,14 +1,17 @@
 -- What goes over the links of a world: from each device to its port, from each port on to the
--- host's link, and off that link (Serial ATA 3.x, port multiplier: frame transmission, presence of
--- a device on a port). A link of a world and a link between two threads are links by one
+-- host's link, and off that link; and the same way down (Serial ATA 3.x, 16.3, port multiplier: frame
+-- transmission, presence of a device on a port). A link of a world and a link between two threads are links by one
 -- definition, IsLink of ruled_links.
-use Rattle.std.specs.Prelude.{ℕ, ◌≡◌, ◌≤◌, ◌==◌, if◌then◌else◌, Bool, false, List, [], ◌∷◌, ◌++◌}
+use Rattle.std.specs.Prelude.{ℕ, ◌≡◌, ◌≢◌, ◌≤◌, option_to_list, ◌==◌, if◌then◌else◌, Bool, false, List, [], ◌∷◌, ◌++◌}
 use Rattle.std.specs.Prelude.{length, map, filter, Option, Some, None, slice_get, MatchOption}
 use Rattle.std.specs.List.{flat_map}
 use Rattle.fis_view.specs.Frames.{Stamped}
 use Rattle.ruled_links.specs.Links.{IsLink}
-use Rattle.pm_world.specs.Delivery.{AfterEveryRun}
-use Rattle.pm_world.specs.Places.{Places, Place, nothing_shown, rising}
+use Rattle.multiplier.specs.Arbiter.{control_port}
+use Rattle.multiplier.specs.State.{PmState, port_at, rising, stamped}
+use Rattle.pm_world.specs.Runs.{AfterEveryRun}
+use Rattle.pm_world.specs.Downward.{is_down_to, is_passed, is_pushed, is_taken_at, on_down_link, times}
+use Rattle.pm_world.specs.Places.{Places, Place, nothing_shown}
 use Rattle.pm_world.specs.Traffic.{held, on_link}
 use Rattle.pm_world.specs.declared.step.Answer.{Answer}
 use Rattle.pm_world.specs.declared.step.Answer.TheVariants as answer
@@ -57,9 +60,10 @@ abbrev pub took_by : Answer → List Stamped
 took_by (answer.Took port conn number bytes report) = told_frame port conn number bytes ∷ []
 took_by _ = []
 
--- how many of these answers say so
-abbrev pub times : (Answer → Bool) → List Answer → ℕ
-times says answers = length (filter says answers)
+-- whether a frame left the place of port n for the link to its device
+abbrev pub is_down : ℕ → Answer → Bool
+is_down n (answer.Down port) = port == n
+is_down n _ = false
 
 -- ---- what went over the links
 
@@ -84,8 +88,9 @@ pub record PortPasses (capacity n : ℕ) (was : Option Place) (held_was : List S
   pub recorded : List ℕ
   pub link : IsLink capacity (on_link was ++ flat_map (entered_by n) answers) passed (on_link now)
   pub passed_is : length passed ≡ times (is_offered n) answers
-  -- that place is a link with room for one frame, and what left the device's link entered it
-  pub hold : IsLink 1 (held_was ++ passed) risen held_now
+  -- that place is a link with room for one frame, and what left the device's link entered it, with
+  -- the port in its stamp
+  pub hold : IsLink 1 (held_was ++ map (stamped n) passed) risen held_now
   pub presence :
       IsLink capacity (on_presence was ++ flat_map (came_by n) answers) recorded (on_presence now)
   pub recorded_is : length recorded ≡ times (is_recorded n) answers
@@ -99,16 +104,47 @@ pub record HostPasses (capacity : ℕ) (was : List Stamped) (answers : List Answ
   pub rose_is : map (λ f. f.stamp.port) rose ≡ flat_map rose_by answers
   pub took_is : map told_of took ≡ flat_map took_by answers
 
+-- what waits in the place of port n on the way down
+abbrev pub held_down : ℕ → PmState → List Stamped
+held_down n pm = option_to_list (port_at pm n).down
+
+-- What went through the downward place of port n, which is a link with room for one frame, and then
+-- over the link to its device.
+pub record PortPassesDown (capacity n : ℕ) (was : Option Place) (held_was : List Stamped)
+    (answers : List Answer) (now : Option Place) (held_now : List Stamped) : Type 0 where
+  pub fell : List Stamped
+  pub left : List Stamped
+  pub took : List Stamped
+  pub hold : IsLink 1 (held_was ++ fell) left held_now
+  pub link : IsLink capacity (on_down_link was ++ left) took (on_down_link now)
+  pub fell_is : length fell ≡ times (is_down_to n) answers
+  pub left_is : length left ≡ times (is_down n) answers
+  pub took_is : length took ≡ times (is_taken_at n) answers
+
+-- What went over the link from the host.
+pub record HostPassesDown (capacity : ℕ) (was : List Stamped) (answers : List Answer)
+    (now : List Stamped) : Type 0 where
+  pub pushed : List Stamped
+  pub passed : List Stamped
+  pub link : IsLink capacity (was ++ pushed) passed now
+  pub pushed_is : length pushed ≡ times is_pushed answers
+  pub passed_is : length passed ≡ times is_passed answers
+
 -- What went over all links of a world.
 pub record LinksPass (capacity : ℕ) (old : Places) (answers : List Answer)
     (new : Places) : Type 0 where
   pub ports : (n : ℕ) → PortPasses capacity n
-      (slice_get old.devices n) (held (slice_get old.ports n)) answers
-      (slice_get new.devices n) (held (slice_get new.ports n))
+      (slice_get old.devices n) (held n old.multiplier) answers
+      (slice_get new.devices n) (held n new.multiplier)
   pub host : HostPasses capacity old.upward.frames answers new.upward.frames
   -- what entered the link to the host from port n is what left the place of that port, marked with
   -- it, in the same order
-  pub rises : (n : ℕ) → from_port n host.rose ≡ map (rising n) (ports n).risen
+  pub rises : (n : ℕ) → n ≢ control_port
+      → from_port n host.rose ≡ map (rising n) (ports n).risen
+  pub ports_down : (n : ℕ) → PortPassesDown capacity n
+      (slice_get old.devices n) (held_down n old.multiplier) answers
+      (slice_get new.devices n) (held_down n new.multiplier)
+  pub host_down : HostPassesDown capacity old.downward.frames answers new.downward.frames
 
 -- ---- the law
 
@@ -116,6 +152,8 @@ pub record LinksPass (capacity : ℕ) (old : Places) (answers : List Answer)
 pub record HasRoom (capacity : ℕ) (place : Place) : Type 0 where
   pub up : place.up.capacity ≡ capacity
   pub up_within : length place.up.frames ≤ capacity
+  pub down : place.down.capacity ≡ capacity
+  pub down_within : length place.down.frames ≤ capacity
   pub presence : place.presence.capacity ≡ capacity
   pub presence_within : length place.presence.conns ≤ capacity
 
@@ -125,6 +163,8 @@ pub record HaveRoom (capacity : ℕ) (now : Places) : Type 0 where
       (n : ℕ) → MatchOption (slice_get now.devices n) (Prim.Unit {0}) (HasRoom capacity)
   pub upward : now.upward.capacity ≡ capacity
   pub upward_within : length now.upward.frames ≤ capacity
+  pub downward : now.downward.capacity ≡ capacity
+  pub downward_within : length now.downward.frames ≤ capacity
 
 -- The links of a world go on as links through steps with these answers.
 pub record KeepsLinks (old : Places) (answers : List Answer) (new : Places) : Type 0 where
@@ -132,5 +172,5 @@ pub record KeepsLinks (old : Places) (answers : List Answer) (new : Places) : Ty
   pub goes_on : (capacity : ℕ) → HaveRoom capacity old
       → LinksPass capacity old answers new × HaveRoom capacity new
   -- so from each world that a run from a new one leads to, with the capacity of its configuration
-  pub reached : AfterEveryRun old (λ config units before told.
+  pub reached : AfterEveryRun old (λ config units before told made.
       LinksPass config.capacity old answers new)

@@ -1,15 +1,16 @@
--- Where frames stand in a world, as its callers see it (Serial ATA 3.x, port multiplier: device
--- ports, frame transmission, presence of a device on a port).
-use Rattle.std.specs.Prelude.{ℕ, ◌+◌, ◌≡◌, ◌%◌, ◌==◌, ◌&&◌, nat_le, Bool, false, List, [], ◌∷◌}
+-- Where frames stand in a world, as its callers see it (Serial ATA 3.x, 16.3, port multiplier:
+-- device ports, frame transmission, presence of a device on a port).
+use Rattle.std.specs.Prelude.{ℕ, ◌+◌, ◌≡◌, ◌≤◌, ◌%◌, ◌==◌, ◌&&◌, nat_le, Bool, false, List, [], ◌∷◌}
 use Rattle.std.specs.Prelude.{◌++◌, length, map, Option, Some, None, slice_set, replicate}
-use Rattle.fis_view.specs.Frames.{Stamped, marked}
+use Rattle.fis_view.specs.Frames.{Stamped}
 use Rattle.fis_view.specs.declared.frame.Stamp.{Stamp}
-use Rattle.pm_ports.specs.Port.{PortState, empty_port}
 use Rattle.multiplier.specs.Arbiter.{control_port}
+use Rattle.multiplier.specs.State.{PmState, opening as opening_multiplier}
 use Rattle.disk_model.specs.declared.unit.Unit.{Unit}
 use Rattle.host_memory.specs.Memory.{zeroed}
-use Rattle.pm_world.specs.Host.{Host}
-use Rattle.pm_world.specs.declared.host.Slot.TheVariants.{Free}
+use Rattle.hba_fbs.specs.Views.{opening_port}
+use Rattle.hba_driver.specs.Drivers.{new_driver}
+use Rattle.hba_driver.specs.HostTurns.{Host}
 use Rattle.pm_world.specs.declared.step.Config.{Config}
 
 -- a link: the frames on it, oldest first, and how many it can hold
@@ -46,23 +47,31 @@ FirstIsRead old None new = (old.conns ≡ []) × (new ≡ old)
 FirstIsRead old (Some conn) new = (old.conns ≡ conn ∷ new.conns) × (new.capacity ≡ old.capacity)
 
 -- The place of a device: the unit, whether it is plugged in, its connection (0 before the first),
--- the number of its next FIS on it, its link to the multiplier, and its presence link.
+-- the number of its next FIS on it, its links from and to the multiplier, and its presence link.
 pub record Place : Type 0 where
   pub unit : Unit
   pub plugged : Bool
   pub conn : ℕ
   pub number : ℕ
   pub up : Queue
+  pub down : Queue
   pub presence : Comings
 
--- a world: the place at each fan-out port, the multiplier's fan-out ports, the place that was
--- served last, the link to the host, and the host
+-- a world: the place at each fan-out port, the port multiplier, the links between it and the host,
+-- and the host: its port, its driver and its memory
 pub record Places : Type 0 where
   pub devices : List Place
-  pub ports : List PortState
-  pub served : ℕ
+  pub multiplier : PmState
   pub upward : Queue
+  pub downward : Queue
   pub host : Host
+
+-- What is true of every world: its multiplier has a port for each device, and what waits as the
+-- answer of the control port is stamped so.
+pub record AreThere (devices : ℕ) (pm : PmState) : Type 0 where
+  pub ports : devices ≡ pm.registers.ports
+  pub most : devices ≤ control_port
+  pub answer : (frame : Stamped) → pm.answer ≡ Some frame → frame.stamp.port ≡ control_port
 
 -- a device shows no removals
 abbrev pub nothing_shown : List ℕ
@@ -86,44 +95,29 @@ pub record IsTold (frame : Stamped) (port conn number : ℕ) (bytes : List ℕ) 
 
 -- the place after these bytes were sent from it, the unit being as given
 abbrev pub after_sending : ℕ → Place → List ℕ → Unit → Place
-after_sending port place bytes unit = record {
+after_sending port place bytes unit = record place {
   unit = unit;
-  plugged = place.plugged;
-  conn = place.conn;
   number = place.number + 1;
   up = pushed place.up (frame_of port place bytes);
-  presence = place.presence;
-}
-
--- the frame as it goes on to the host: its PM Port is the port's, and so is the port of its stamp
-abbrev pub rising : ℕ → Stamped → Stamped
-rising port frame = record {
-  bytes = marked frame.bytes port;
-  stamp = record {
-    port = port;
-    conn = frame.stamp.conn;
-    number = frame.stamp.number;
-    shown = frame.stamp.shown;
-  };
 }
 
 abbrev pub with_device : Places → ℕ → Place → Places
 with_device old n place = record old { devices = slice_set old.devices n place }
 
-abbrev pub with_ports : Places → List PortState → Places
-with_ports old ports = record old { ports = ports }
-
-abbrev pub with_port : Places → ℕ → PortState → Places
-with_port old n port = with_ports old (slice_set old.ports n port)
-
-abbrev pub with_served : Places → ℕ → Places
-with_served old served = record old { served = served }
+abbrev pub with_multiplier : Places → PmState → Places
+with_multiplier old pm = record old { multiplier = pm }
 
 abbrev pub with_upward : Places → Queue → Places
 with_upward old upward = record old { upward = upward }
 
+abbrev pub with_downward : Places → Queue → Places
+with_downward old downward = record old { downward = downward }
+
 abbrev pub with_host : Places → Host → Places
 with_host old host = record old { host = host }
+
+abbrev pub empty_queue : ℕ → Queue
+empty_queue capacity = record { frames = []; capacity = capacity }
 
 -- the place of a unit in a new world
 abbrev pub opening : ℕ → Unit → Place
@@ -132,22 +126,25 @@ opening capacity unit = record {
   plugged = false;
   conn = 0;
   number = 0;
-  up = record { frames = []; capacity = capacity };
+  up = empty_queue capacity;
+  down = empty_queue capacity;
   presence = record { conns = []; capacity = capacity };
 }
 
--- and its port
-abbrev pub opening_port : Unit → PortState
-opening_port unit = empty_port
+-- the host of a new world: a port that was not started, a driver that did nothing, and memory of so
+-- many bytes, all 0
+abbrev pub opening_host : ℕ → Host
+opening_host memory =
+    record { port = opening_port; driver = new_driver 0; memory = zeroed memory }
 
 -- a new world of these units, in which port 0 is served first
 abbrev pub new_world : Config → List Unit → Places
 new_world config units = record {
   devices = map (opening config.capacity) units;
-  ports = map opening_port units;
-  served = control_port;
-  upward = record { frames = []; capacity = config.capacity };
-  host = record { memory = zeroed config.memory; given = 0; slot = Free };
+  multiplier = opening_multiplier config.ports;
+  upward = empty_queue config.capacity;
+  downward = empty_queue config.capacity;
+  host = opening_host config.memory;
 }
 
 -- Whether a world may be so large, with so many units: 1 to 15 ports and a unit for each, links of

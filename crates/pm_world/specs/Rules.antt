@@ -1,27 +1,36 @@
 -- The rules of the steps: when a step is refused, and what it does where it is not (Serial ATA 3.x,
--- port multiplier: frame transmission, presence; AHCI 1.3.1, command list).
+-- 16.3, port multiplier: frame transmission, presence; AHCI 1.3.1, chapter 5, command list).
 --
 -- Of each step the refusals are tested first, in their order; then it is Idle where it reads from
 -- an empty link or from a unit that is not plugged in; then Blocked where the place it writes to is
 -- full; and only then may it want memory, or find that its source has nothing.
 use Rattle.std.specs.Prelude.{ℕ, ◌+◌, ◌≡◌, ◌≢◌, ◌<◌, ◌==◌, ◌&&◌, length, not, Bool, true, false}
-use Rattle.std.specs.Prelude.{IsTrue, if◌then◌else◌, List, [], ◌∷◌, Option, Some, None, is_some}
-use Rattle.std.specs.Prelude.{is_none, MatchOption, Result, Ok, Err, IsSomeAnd, slice_get}
-use Rattle.std.specs.Prelude.{slice_set, take}
+use Rattle.std.specs.Prelude.{IsTrue, if◌then◌else◌, List, [], ◌∷◌, Option, Some, None}
+use Rattle.std.specs.Prelude.{is_none, MatchOption, MatchBool, Result, Ok, Err, IsSomeAnd, slice_get}
+use Rattle.std.specs.Prelude.{take, nat_lt, ◌||◌}
 use Rattle.std.specs.Option.{option_map_or}
+use Rattle.std.specs.declared.alloc.AllocError.{AllocError}
 use Rattle.fis_view.specs.Frames.{Stamped, is_frame}
-use Rattle.disk_model.specs.Histories.{Plugged}
-use Rattle.disk_model.specs.Units.{UnitGoesOn, UnitSends, UnitIsSilent}
-use Rattle.pm_ports.specs.Port.{PortState, came_refusal as port_came_refusal, next_up}
-use Rattle.pm_ports.specs.Port.{with_connection, with_up}
-use Rattle.multiplier.specs.Arbiter.{next_served}
+use Rattle.host_memory.specs.Memory.{client_start}
+use Rattle.disk_model.specs.Histories.{Plugged, Received}
+use Rattle.disk_model.specs.Units.{UnitGoesOn, UnitSends, UnitIsSilent, UnitWantsRoom}
+use Rattle.pm_ports.specs.Port.{came_refusal as port_came_refusal}
+use Rattle.pm_ports.specs.declared.port.Offered.{Offered}
+use Rattle.pm_ports.specs.declared.port.Offered.TheVariants.{Held, Dropped}
+use Rattle.multiplier.specs.Arbiter.{control_port}
+use Rattle.multiplier.specs.Rules.{DropsOnly, FromDeviceRule, FromHostRule, NextDownRule, NextUpRule}
+use Rattle.multiplier.specs.Rules.{with_device as connected}
+use Rattle.multiplier.specs.State.{PmState, next_place, port_at}
+use Rattle.multiplier.specs.declared.multiplier.PmRefusal.TheVariants as pm_refusal
+use Rattle.hba_fbs.specs.Sending.{MayRest, is_sent, outgoing}
+use Rattle.hba_driver.specs.HostTurns.{Host, Polls, Pushes, Puts, Submits, Ticks, Tooks, sight_in}
+use Rattle.hba_driver.specs.Requests.{in_use}
+use Rattle.hba_driver.specs.Submits.{completion_of, end_of, submit_refusal}
+use Rattle.hba_driver.specs.Ticks.{acts}
+use Rattle.hba_driver.specs.declared.request.Request.{Request}
 use Rattle.pm_world.specs.Places.{Places, Place, Queue, IsFull, AreFull, IsTold, pushed, posted}
-use Rattle.pm_world.specs.Places.{after_sending, rising, with_device, with_port, with_ports}
-use Rattle.pm_world.specs.Places.{with_served, with_upward, with_host}
-use Rattle.pm_world.specs.Fanout.{port_at}
-use Rattle.pm_world.specs.Host.{Host, submit_refusal, TakesRequest}
-use Rattle.pm_world.specs.Deeds.{Takes, PutsBytes, completion_of, after_poll, put_refusal}
-use Rattle.pm_world.specs.declared.request.Request.{Request}
+use Rattle.pm_world.specs.Places.{after_sending, with_device, with_multiplier, with_upward}
+use Rattle.pm_world.specs.Places.{with_downward, with_host}
 use Rattle.pm_world.specs.declared.step.Step.{Step}
 use Rattle.pm_world.specs.declared.step.Step.TheVariants as step
 use Rattle.pm_world.specs.declared.step.Answer.{Answer}
@@ -52,12 +61,11 @@ abbrev pub CameActs : ℕ → Place → Answer → Place → Type 0
 CameActs port old answer.Blocked new = AreFull old.presence × (new ≡ old)
 CameActs port old (answer.Came p conn) new =
     (p ≡ port) × (conn ≡ old.conn + 1) × UnitGoesOn old.unit Plugged new.unit
-    × (new ≡ record {
+    × (new ≡ record old {
       unit = new.unit;
       plugged = true;
       conn = old.conn + 1;
       number = 0;
-      up = old.up;
       presence = posted old.presence (old.conn + 1);
     })
     × (¬ AreFull old.presence)
@@ -120,56 +128,115 @@ InjectRule port given old (Ok a) new =
 InjectRule port given old (Err e) new =
     Refuses (inject_refusal given old) e × SendWants old e × (new ≡ old)
 
--- a port after a connection was read off its presence link; one that it refuses changes nothing
-abbrev pub recorded : PortState → ℕ → PortState
-recorded port conn =
-    if is_none (port_came_refusal port conn) then with_connection port conn else port
+-- A device takes the first FIS of its link. It is for the device where the device is plugged in
+-- under the connection to which the FIS was passed down; any other is dropped.
+abbrev pub is_for : Place → Stamped → Bool
+is_for place frame = place.plugged && frame.stamp.conn == place.conn
+
+abbrev pub DiskTakeActs : ℕ → Place → Answer → Place → Type 0
+DiskTakeActs port old answer.Idle new = (old.down.frames ≡ []) × (new ≡ old)
+DiskTakeActs port old (answer.DiskTook p dropped) new =
+    (p ≡ port) × ((frame : Stamped) × (old.down.frames ≡ frame ∷ new.down.frames)
+    × (dropped ≡ not (is_for old frame))
+    × MatchBool dropped (new.unit ≡ old.unit)
+      (UnitGoesOn old.unit (Received frame.bytes) new.unit))
+    × (new ≡ record old {
+      unit = new.unit;
+      down = record old.down { frames = new.down.frames };
+    })
+DiskTakeActs port old _ new = ⊥
+
+-- a unit may want memory for a FIS that is for it
+abbrev pub TakeWants : Place → StepError → Type 0
+TakeWants place error.OutOfMemory = (frame : Stamped) × (rest : List Stamped)
+    × (place.down.frames ≡ frame ∷ rest) × IsTrue (is_for place frame)
+    × UnitWantsRoom place.unit (Received frame.bytes)
+TakeWants place _ = ⊥
+
+abbrev pub DiskTakeRule : ℕ → Place → Outcome → Place → Type 0
+DiskTakeRule port old (Ok a) new = DiskTakeActs port old a new
+DiskTakeRule port old (Err e) new = TakeWants old e × (new ≡ old)
+
+-- the multiplier after a connection was read off port n's presence link; one that the port refuses
+-- changes nothing
+abbrev pub recorded : PmState → ℕ → ℕ → PmState
+recorded pm n conn =
+    if is_none (port_came_refusal (port_at pm n) conn) then connected pm n conn else pm
 
 -- The first connection on a presence link is recorded by its port.
-abbrev pub PmPresenceRule : ℕ → Place → PortState → Outcome → Place → PortState → Type 0
-PmPresenceRule n old port (Ok answer.Idle) new after =
-    (old.presence.conns ≡ []) × (new ≡ old) × (after ≡ port)
-PmPresenceRule n old port (Ok (answer.Presence p)) new after =
+abbrev pub PmPresenceRule : ℕ → Place → PmState → Outcome → Place → PmState → Type 0
+PmPresenceRule n old pm (Ok answer.Idle) new after =
+    (old.presence.conns ≡ []) × (new ≡ old) × (after ≡ pm)
+PmPresenceRule n old pm (Ok (answer.Presence p)) new after =
     (p ≡ n)
     × (new ≡ record old { presence = record old.presence { conns = new.presence.conns } })
-    × ((conn : ℕ) × (old.presence.conns ≡ conn ∷ new.presence.conns) × (after ≡ recorded port conn))
-PmPresenceRule n old port _ new after = ⊥
+    × ((conn : ℕ) × (old.presence.conns ≡ conn ∷ new.presence.conns) × (after ≡ recorded pm n conn))
+PmPresenceRule n old pm _ new after = ⊥
 
--- The first frame of a device's link goes into the empty upward place of its port.
-abbrev pub PmFromDeviceRule : ℕ → Place → PortState → Outcome → Place → PortState → Type 0
-PmFromDeviceRule n old port (Ok answer.Idle) new after =
-    (old.up.frames ≡ []) × (new ≡ old) × (after ≡ port)
-PmFromDeviceRule n old port (Ok answer.Blocked) new after =
-    (old.up.frames ≢ []) × (port.up ≢ None) × (new ≡ old) × (after ≡ port)
-PmFromDeviceRule n old port (Ok (answer.Offered p dropped)) new after =
-    (p ≡ n) × (dropped ≡ false) × (port.up ≡ None)
+-- what becomes of a frame that was offered
+abbrev pub offered : Bool → Offered
+offered true = Dropped
+offered false = Held
+
+-- The first frame of a device's link goes into the empty upward place of its port, or is dropped
+-- since the removal of its connection was recorded.
+abbrev pub PmFromDeviceRule : ℕ → Place → PmState → Outcome → Place → PmState → Type 0
+PmFromDeviceRule n old pm (Ok answer.Idle) new after =
+    (old.up.frames ≡ []) × (new ≡ old) × (after ≡ pm)
+PmFromDeviceRule n old pm (Ok answer.Blocked) new after =
+    (old.up.frames ≢ []) × ((port_at pm n).up ≢ None) × (new ≡ old) × (after ≡ pm)
+PmFromDeviceRule n old pm (Ok (answer.Offered p dropped)) new after =
+    (p ≡ n)
     × (new ≡ record old { up = record old.up { frames = new.up.frames } })
     × ((frame : Stamped) × (old.up.frames ≡ frame ∷ new.up.frames)
-    × (after ≡ with_up port (Some frame)))
-PmFromDeviceRule n old port _ new after = ⊥
+    × FromDeviceRule pm n frame (Ok (offered dropped)) after)
+PmFromDeviceRule n old pm _ new after = ⊥
 
--- whether a port has a frame for the host: every port forwards, and the frame is of the connection
--- that is present
-abbrev pub is_ready : List PortState → ℕ → Bool
-is_ready ports n = is_some (next_up true (port_at ports n))
+-- The frame that waits for the device at port n goes on the device's link.
+abbrev pub PmDownRule : ℕ → Place → PmState → Outcome → Place → PmState → Type 0
+PmDownRule n old pm (Ok answer.Idle) new after =
+    (¬ IsFull old.down) × ((port_at pm n).down ≡ None) × (new ≡ old) × (after ≡ pm)
+PmDownRule n old pm (Ok answer.Blocked) new after = IsFull old.down × (new ≡ old) × (after ≡ pm)
+PmDownRule n old pm (Ok (answer.Down p)) new after =
+    (p ≡ n) × (¬ IsFull old.down)
+    × ((frame : Stamped) × NextDownRule pm n (Some frame) after
+    × (new ≡ record old { down = pushed old.down frame }))
+PmDownRule n old pm _ new after = ⊥
 
--- the port that is served next
-abbrev pub next_port : List PortState → ℕ → Option ℕ
-next_port ports served = next_served served (is_ready ports)
+-- The multiplier takes the first frame of the host's link: to its control port, which answers it, or
+-- into the downward place of a port that forwards, or drops it where its port is absent or does not
+-- forward.
+abbrev pub PmFromHostRule : Queue → PmState → Outcome → Queue → PmState → Type 0
+PmFromHostRule old pm (Ok answer.Idle) new after =
+    (old.frames ≡ []) × (new ≡ old) × (after ≡ pm)
+PmFromHostRule old pm (Ok answer.Blocked) new after =
+    ((frame : Stamped) × (rest : List Stamped) × (old.frames ≡ frame ∷ rest)
+    × FromHostRule pm frame (Err (frame, pm_refusal.HoldFull)) after)
+    × (new ≡ old) × (after ≡ pm)
+PmFromHostRule old pm (Ok (answer.Passed passed)) new after =
+    ((frame : Stamped) × (old.frames ≡ frame ∷ new.frames)
+    × FromHostRule pm frame (Ok passed) after × DropsOnly pm frame (Ok passed))
+    × (new.capacity ≡ old.capacity)
+PmFromHostRule old pm (Err error.OutOfMemory) new after =
+    ((frame : Stamped) × (rest : List Stamped) × (old.frames ≡ frame ∷ rest)
+    × FromHostRule pm frame (Err (frame, pm_refusal.OutOfMemory)) after)
+    × (new ≡ old) × (after ≡ pm)
+PmFromHostRule old pm _ new after = ⊥
 
--- The frame of the port that is served next goes on the link to the host.
-abbrev pub PmUpRule : List PortState → ℕ → Queue → Outcome → List PortState → ℕ → Queue → Type 0
-PmUpRule ports served upward (Ok answer.Idle) after last new =
-    (¬ IsFull upward) × (next_port ports served ≡ None) × (after ≡ ports) × (last ≡ served)
-    × (new ≡ upward)
-PmUpRule ports served upward (Ok answer.Blocked) after last new =
-    IsFull upward × (after ≡ ports) × (last ≡ served) × (new ≡ upward)
-PmUpRule ports served upward (Ok (answer.Up n)) after last new =
-    (¬ IsFull upward) × (next_port ports served ≡ Some n) × (last ≡ n)
-    × ((port : PortState) × (frame : Stamped) × (slice_get ports n ≡ Some port)
-    × (port.up ≡ Some frame)
-    × (after ≡ slice_set ports n (with_up port None)) × (new ≡ pushed upward (rising n frame)))
-PmUpRule ports served upward _ after last new = ⊥
+-- The frame of the place that is served next goes on the link to the host. Memory is wanted for a
+-- notification alone.
+abbrev pub PmUpRule : PmState → Queue → Outcome → PmState → Queue → Type 0
+PmUpRule pm upward (Ok answer.Idle) after new =
+    (¬ IsFull upward) × (next_place pm ≡ None) × (after ≡ pm) × (new ≡ upward)
+PmUpRule pm upward (Ok answer.Blocked) after new =
+    IsFull upward × (after ≡ pm) × (new ≡ upward)
+PmUpRule pm upward (Ok (answer.Up n)) after new =
+    (¬ IsFull upward) × ((frame : Stamped) × (frame.stamp.port ≡ n)
+    × NextUpRule pm (Ok (Some frame)) after × (new ≡ pushed upward frame))
+PmUpRule pm upward (Err error.OutOfMemory) after new =
+    (¬ IsFull upward) × (next_place pm ≡ Some control_port) × (pm.registers.due ≡ true)
+    × (after ≡ pm) × (new ≡ upward)
+PmUpRule pm upward _ after new = ⊥
 
 -- The host takes the first frame of its link.
 abbrev pub HostTakeRule : Queue → Host → Outcome → Queue → Host → Type 0
@@ -177,38 +244,60 @@ HostTakeRule old host (Ok answer.Idle) new after = (old.frames ≡ []) × (new �
 HostTakeRule old host (Ok (answer.Took port conn number bytes report)) new after =
     ((frame : Stamped) × (old.frames ≡ frame ∷ new.frames) × IsTold frame port conn number bytes)
     × (new.capacity ≡ old.capacity)
-    × Takes host bytes report after
+    × Tooks host bytes report after
 HostTakeRule old host _ new after = ⊥
 
--- whether this is device 0, and it is plugged in
-abbrev pub is_plugged : Option Place → Bool
-is_plugged None = false
-is_plugged (Some place) = place.plugged
+-- The host port is asked for its next frame. Where it gives none, nothing may go, or a table was
+-- found spoilt, and the port is stopped since.
+abbrev pub HostPushes : Host → Result (Option Stamped) AllocError → Host → Type 0
+HostPushes old (Ok frame) new =
+    Pushes old frame new × ((frame ≡ None) × (new ≡ old) → MayRest old.port)
+HostPushes old (Err e) new = (is_sent (outgoing old.port old.memory) ≡ true) × (new ≡ old)
 
-abbrev pub is_there : Places → ℕ → Bool
-is_there now dev = dev == 0 && is_plugged (slice_get now.devices 0)
+-- The next frame of the host port goes on its link.
+abbrev pub HostPushRule : Host → Queue → Outcome → Host → Queue → Type 0
+HostPushRule host link (Ok answer.Idle) after new =
+    (¬ IsFull link) × HostPushes host (Ok None) after × (new ≡ link)
+HostPushRule host link (Ok answer.Blocked) after new = IsFull link × (after ≡ host) × (new ≡ link)
+HostPushRule host link (Ok answer.Pushed) after new =
+    (¬ IsFull link)
+    × ((frame : Stamped) × Pushes host (Some frame) after × (new ≡ pushed link frame))
+HostPushRule host link (Err error.OutOfMemory) after new =
+    (¬ IsFull link) × (is_sent (outgoing host.port host.memory) ≡ true) × (after ≡ host)
+    × (new ≡ link)
+HostPushRule host link _ after new = ⊥
+
+-- The driver does the next thing that is due.
+abbrev pub TickRule : Host → Outcome → Host → Type 0
+TickRule host (Ok answer.Idle) after = (acts (sight_in host) host.driver ≡ false) × (after ≡ host)
+TickRule host (Ok answer.Ticked) after = Ticks host true after
+TickRule host _ after = ⊥
 
 -- A request is given to the driver.
-abbrev pub SubmitRule : Bool → Request → Host → Outcome → Host → Type 0
-SubmitRule there request host (Ok (answer.Refused e)) after =
-    (submit_refusal host there request ≡ Some e) × (after ≡ host)
-SubmitRule there request host (Ok (answer.Submitted ticket)) after =
-    (submit_refusal host there request ≡ None) × TakesRequest host request ticket.0 after
-SubmitRule there request host (Err error.OutOfMemory) after =
-    (submit_refusal host there request ≡ None) × (after ≡ host)
-SubmitRule there request host _ after = ⊥
+abbrev pub SubmitRule : ℕ → Request → Host → Outcome → Host → Type 0
+SubmitRule dev request host (Ok (answer.Refused e)) after =
+    (submit_refusal host.driver host.memory dev request ≡ Some e) × (after ≡ host)
+SubmitRule dev request host (Ok (answer.Submitted ticket)) after =
+    Submits host dev request ticket.0 after
+SubmitRule dev request host _ after = ⊥
 
 -- The ended request of the lowest slot is polled.
 abbrev pub PollRule : Host → Outcome → Host → Type 0
-PollRule host (Ok answer.Idle) after = (completion_of host.slot ≡ None) × (after ≡ host)
-PollRule host (Ok (answer.Polled completion)) after =
-    (completion_of host.slot ≡ Some completion) × (after ≡ after_poll host)
+PollRule host (Ok answer.Idle) after = (completion_of host.driver ≡ None) × (after ≡ host)
+PollRule host (Ok (answer.Polled completion)) after = Polls host completion after
 PollRule host _ after = ⊥
+
+-- why bytes are not put: not all of them lie in the client area, or one is in use
+abbrev pub put_refusal : Host → ℕ → ℕ → Option StepError
+put_refusal host at len =
+    if nat_lt at client_start || nat_lt (end_of host.memory) (at + len) then Some error.Outside
+    else if in_use host.driver at len then Some error.InUse
+    else None
 
 -- Bytes are put into the client area.
 abbrev pub PutRule : ℕ → List ℕ → Host → Outcome → Host → Type 0
 PutRule at bytes host (Ok answer.Put) after =
-    (put_refusal host at (length bytes) ≡ None) × PutsBytes host at bytes after
+    (put_refusal host at (length bytes) ≡ None) × Puts host at bytes after
 PutRule at bytes host (Err e) after = (put_refusal host at (length bytes) ≡ Some e) × (after ≡ host)
 PutRule at bytes host _ after = ⊥
 
@@ -223,32 +312,45 @@ OnDevice old n outcome new R =
     AtPort old n outcome new
     (λ place. (after : Place) × R place outcome after × (new ≡ with_device old n after))
 
--- a step of device n and its port of the multiplier
-abbrev pub OnDeviceAndPort : Places → ℕ → Outcome → Places
-    → (Place → PortState → Outcome → Place → PortState → Type 0) → Type 0
-OnDeviceAndPort old n outcome new R =
-    AtPort old n outcome new (λ place. MatchOption (slice_get old.ports n) ⊥ (λ port.
-    (after : Place) × (left : PortState) × R place port outcome after left
-    × (new ≡ with_port (with_device old n after) n left)))
+-- a step of device n and the multiplier
+abbrev pub OnDeviceAndMultiplier : Places → ℕ → Outcome → Places
+    → (Place → PmState → Outcome → Place → PmState → Type 0) → Type 0
+OnDeviceAndMultiplier old n outcome new R =
+    AtPort old n outcome new (λ place. (after : Place) × (left : PmState)
+    × R place old.multiplier outcome after left
+    × (new ≡ with_multiplier (with_device old n after) left))
+
+-- a step of the host alone
+abbrev pub OnHost : Places → Outcome → Places → (Host → Outcome → Host → Type 0) → Type 0
+OnHost old outcome new R = R old.host outcome new.host × (new ≡ with_host old new.host)
 
 -- what a step may give, and what it leaves
 abbrev pub Rule : Places → Step → Outcome → Places → Type 0
 Rule old (step.Came n) outcome new = OnDevice old n outcome new (CameRule n)
 Rule old (step.DiskSend n) outcome new = OnDevice old n outcome new (DiskSendRule n)
 Rule old (step.Inject n bytes) outcome new = OnDevice old n outcome new (InjectRule n bytes)
-Rule old (step.PmPresence n) outcome new = OnDeviceAndPort old n outcome new (PmPresenceRule n)
-Rule old (step.PmFromDevice n) outcome new = OnDeviceAndPort old n outcome new (PmFromDeviceRule n)
+Rule old (step.DiskTake n) outcome new = OnDevice old n outcome new (DiskTakeRule n)
+Rule old (step.PmPresence n) outcome new =
+    OnDeviceAndMultiplier old n outcome new (PmPresenceRule n)
+Rule old (step.PmFromDevice n) outcome new =
+    OnDeviceAndMultiplier old n outcome new (PmFromDeviceRule n)
+Rule old (step.PmDown n) outcome new = OnDeviceAndMultiplier old n outcome new (PmDownRule n)
+Rule old step.PmFromHost outcome new =
+    PmFromHostRule old.downward old.multiplier outcome new.downward new.multiplier
+    × (new ≡ with_multiplier (with_downward old new.downward) new.multiplier)
 Rule old step.PmUp outcome new =
-    PmUpRule old.ports old.served old.upward outcome new.ports new.served new.upward
-    × (new ≡ with_upward (with_served (with_ports old new.ports) new.served) new.upward)
+    PmUpRule old.multiplier old.upward outcome new.multiplier new.upward
+    × (new ≡ with_upward (with_multiplier old new.multiplier) new.upward)
 Rule old step.HostTake outcome new =
     HostTakeRule old.upward old.host outcome new.upward new.host
     × (new ≡ with_host (with_upward old new.upward) new.host)
-Rule old (step.Submit dev request) outcome new =
-    SubmitRule (is_there old dev) request old.host outcome new.host × (new ≡ with_host old new.host)
-Rule old step.Poll outcome new = PollRule old.host outcome new.host × (new ≡ with_host old new.host)
-Rule old (step.Put at bytes) outcome new =
-    PutRule at bytes old.host outcome new.host × (new ≡ with_host old new.host)
+Rule old step.HostPush outcome new =
+    HostPushRule old.host old.downward outcome new.host new.downward
+    × (new ≡ with_downward (with_host old new.host) new.downward)
+Rule old step.Tick outcome new = OnHost old outcome new TickRule
+Rule old (step.Submit dev request) outcome new = OnHost old outcome new (SubmitRule dev request)
+Rule old step.Poll outcome new = OnHost old outcome new PollRule
+Rule old (step.Put at bytes) outcome new = OnHost old outcome new (PutRule at bytes)
 
 -- no refusal of a step at a port
 abbrev pub no_refusal : Place → Option StepError
@@ -263,13 +365,12 @@ abbrev pub refusal : Places → Step → Option StepError
 refusal now (step.Came n) = port_refusal now n came_refusal
 refusal now (step.DiskSend n) = port_refusal now n send_refusal
 refusal now (step.Inject n bytes) = port_refusal now n (inject_refusal bytes)
+refusal now (step.DiskTake n) = port_refusal now n no_refusal
 refusal now (step.PmPresence n) = port_refusal now n no_refusal
 refusal now (step.PmFromDevice n) = port_refusal now n no_refusal
-refusal now step.PmUp = None
-refusal now step.HostTake = None
-refusal now (step.Submit dev request) = None
-refusal now step.Poll = None
+refusal now (step.PmDown n) = port_refusal now n no_refusal
 refusal now (step.Put at bytes) = put_refusal now.host at (length bytes)
+refusal now _ = None
 
 -- a whole run, one step after another
 abbrev pub Run : Places → List Step → List Answer → Places → Type 0

@@ -1,10 +1,11 @@
--- What was sent, what was taken, and what stands between (Serial ATA 3.x, port multiplier: frame
+-- What was sent, what was taken, and what stands between (Serial ATA 3.x, 16.3, port multiplier: frame
 -- transmission, PM Port).
-use Rattle.std.specs.Prelude.{ℕ, ◌≡◌, ◌==◌, ◌&&◌, if◌then◌else◌, List, [], ◌∷◌, ◌++◌, map, filter}
+use Rattle.std.specs.Prelude.{ℕ, ◌≡◌, ◌≢◌, ◌==◌, ◌&&◌, if◌then◌else◌, List, [], ◌∷◌, ◌++◌, map, filter}
 use Rattle.std.specs.Prelude.{Option, Some, None, slice_get, option_to_list}
 use Rattle.std.specs.List.{flat_map}
 use Rattle.fis_view.specs.Frames.{Stamped, marked}
-use Rattle.pm_ports.specs.Port.{PortState}
+use Rattle.multiplier.specs.Arbiter.{control_port}
+use Rattle.multiplier.specs.State.{PmState, port_at}
 use Rattle.pm_world.specs.Places.{Places, Place}
 use Rattle.pm_world.specs.declared.step.Answer.{Answer}
 use Rattle.pm_world.specs.declared.step.Answer.TheVariants as answer
@@ -41,10 +42,9 @@ stamped n c frames =
 abbrev pub of_conn : ℕ → List Stamped → List (List ℕ)
 of_conn c frames = map (λ f. f.bytes) (filter (λ f. f.stamp.conn == c) frames)
 
--- what a port of the multiplier holds on its way up
-abbrev pub held : Option PortState → List Stamped
-held None = []
-held (Some port) = option_to_list port.up
+-- what port n of the multiplier holds on its way up
+abbrev pub held : ℕ → PmState → List Stamped
+held n pm = option_to_list (port_at pm n).up
 
 -- what is on a device's link
 abbrev pub on_link : Option Place → List Stamped
@@ -53,7 +53,7 @@ on_link (Some place) = place.up.frames
 
 -- what waits at port n, oldest first: what it holds, and then the device's link
 abbrev pub waiting : ℕ → Places → List Stamped
-waiting n places = held (slice_get places.ports n) ++ on_link (slice_get places.devices n)
+waiting n places = held n places.multiplier ++ on_link (slice_get places.devices n)
 
 -- what is on its way from connection c of port n to the host, oldest first: on the host's link, and
 -- then at the port, marked
@@ -65,11 +65,11 @@ abbrev pub IsPrefixOf : List (List ℕ) → List (List ℕ) → Type 0
 IsPrefixOf front whole = (rest : List (List ℕ)) × (front ++ rest ≡ whole)
 
 -- Nothing is dropped, made or put out of order on the way from old to new. What stood at the
--- beginning counts as sent before it.
+-- beginning counts as sent before it. What the control port, Fh, says is sent by no device.
 pub record NothingLost (old : Places) (answers : List Answer) (new : Places) : Type 0 where
   -- what the host took of a connection, and then what is on its way, is what was sent on it
-  pub conserved : (n c : ℕ)
+  pub conserved : (n c : ℕ) → n ≢ control_port
       → taken n c answers ++ transit n c new ≡ transit n c old ++ all_marked n (sent n c answers)
   -- so what the host took is a prefix of what was sent
-  pub prefix : (n c : ℕ)
+  pub prefix : (n c : ℕ) → n ≢ control_port
       → IsPrefixOf (taken n c answers) (transit n c old ++ all_marked n (sent n c answers))

@@ -74,7 +74,9 @@ impl Counts {
             Answer::Sent { port, conn, .. } => self.sent(*port, *conn),
             Answer::Took { port, conn, .. } => self.took(*port, *conn),
             Answer::Idle | Answer::Blocked => {}
-            Answer::Presence(_) | Answer::Offered { .. } | Answer::Up(_) => {}
+            Answer::DiskTook { .. } | Answer::Presence(_) | Answer::Offered { .. } => {}
+            Answer::Passed(_) | Answer::Up(_) | Answer::Down(_) => {}
+            Answer::Pushed | Answer::Ticked => {}
             Answer::Submitted(_) | Answer::Refused(_) | Answer::Polled(_) | Answer::Put => {}
         }
         Ok(())

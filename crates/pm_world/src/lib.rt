@@ -1,21 +1,20 @@
 //! A world of devices, a port multiplier and a host, in which one step is one action of one actor.
 //!
 //! `World::run` takes any list of steps, in any order, and its contract says that nothing is lost,
-//! made up or put out of order on the way: what the host took from each device on each connection
-//! is a prefix of what that device sent on it, marked with its port.
+//! made up or put out of order on the way, upward or downward: what the host took from each device
+//! on each connection is a prefix of what that device sent on it, marked with its port; and what a
+//! device took is a prefix of what the host's frames passed down to it.
 #![tactic(auto)]
 
 mod counts;
-mod fanout;
 mod host;
 mod link;
-mod request;
+mod passing;
 mod seat;
 mod step;
 mod world;
 
 pub use counts::{ConnCount, Counts};
-pub use request::{Completion, Outcome, Request, SubmitError, TakeReport, Ticket, Work};
 pub use step::{Answer, Config, Step, StepError, WorldError};
 pub use world::World;
 

@@ -1,7 +1,7 @@
 ghost use Rattle.std.specs.Prelude.{◌≡◌, ◌↔◌, ◌≤◌, [], IsTrue, IfOk, false, length, vec_capacity};
 ghost use Rattle.fis_view.specs.Frames.{IsFrame};
-ghost use Rattle.pm_world.specs.Places.{FirstIsRead, FirstLeaves, opening, stamp_of};
-ghost use Rattle.pm_world.specs.Rules.{CameRule, DiskSendRule, InjectRule};
+ghost use Rattle.pm_world.specs.Places.{FirstIsRead, FirstLeaves, IsFull, opening, pushed, stamp_of};
+ghost use Rattle.pm_world.specs.Rules.{CameRule, DiskSendRule, DiskTakeRule, InjectRule, is_for};
 ghost use Rattle.pm_world.specs.Rules.{came_refusal, send_refusal, inject_refusal};
 
 use crate::link::{Link, PresenceLink};
@@ -11,8 +11,8 @@ use fis_view::{Bytes, Frame, FrameError, Stamp, is_frame_length};
 use std::alloc::{AllocError, Global};
 use std::marker::Model;
 
-/// The place of a device: the unit, its connection, its link to the multiplier, and the presence
-/// link, on which connections that came wait to be recorded.
+/// The place of a device: the unit, its connection, its links to the multiplier and from it, and the
+/// presence link, on which connections that came wait to be recorded.
 #[derive(Drop)]
 pub struct Seat {
     unit: Unit,
@@ -20,6 +20,7 @@ pub struct Seat {
     conn: u32,
     number: u32,
     up: Link,
+    down: Link,
     presence: PresenceLink,
 }
 
@@ -34,6 +35,7 @@ impl Model for Seat {
       conn = s.conn;
       number = s.number;
       up = s.up;
+      down = s.down;
       presence = s.presence;
     } };
 }
@@ -49,14 +51,16 @@ impl Seat {
             conn: 0,
             number: 0,
             up: Link::new(alloc, capacity)?,
+            down: Link::new(alloc, capacity)?,
             presence: PresenceLink::new(alloc, capacity)?,
         })
     }
 
-    pub fn is_plugged(&self) -> bool
-        ensures { result ≡ self.now.plugged }
+    /// The unit.
+    pub fn unit(&self) -> &Unit
+        ensures { result.now ≡ self.now.unit }
     {
-        self.plugged
+        &self.unit
     }
 
     pub fn is_empty(&self) -> bool
@@ -168,6 +172,43 @@ impl Seat {
             number: stamp.number,
             bytes: sent,
         })
+    }
+
+    /// Lets the unit take the first frame of its link, where the frame is for it; any other is dropped.
+    pub fn disk_take(&mut self, alloc: Global, port: u8) -> Result<Answer, StepError>
+        ensures { DiskTakeRule port self.old result self.new }
+    {
+        let Some(frame) = self.down.take() else {
+            return Ok(Answer::Idle);
+        };
+        let dropped = !self.is_for(&frame);
+        if !dropped && self.unit.on_frame(alloc, &frame).is_err() {
+            self.down.put_back(frame);
+            return Err(StepError::OutOfMemory);
+        }
+        Ok(Answer::DiskTook { port, dropped })
+    }
+
+    // Whether a frame is for the unit: it is plugged in under the frame's connection.
+    fn is_for(&self, frame: &Frame) -> bool
+        ensures { result ≡ is_for self.now frame.now }
+    {
+        self.plugged && frame.stamp().conn == self.conn
+    }
+
+    /// Whether the link to the unit is full.
+    pub fn is_full_down(&self) -> bool
+        ensures { IsTrue result ↔ IsFull self.now.down }
+    {
+        self.down.is_full()
+    }
+
+    /// Puts a frame on the link to the unit.
+    pub fn push_down(&mut self, frame: Frame)
+        requires { ¬ IsFull self.old.down }
+        ensures { self.new ≡ record self.old { down = pushed self.old.down frame } }
+    {
+        self.down.push(frame);
     }
 
     /// Takes the first connection off the presence link.

@@ -1,5 +1,7 @@
-use crate::request::{Completion, Request, SubmitError, TakeReport, Ticket};
 use fis_view::Bytes;
+use hba_driver::{Completion, Request, SubmitError, Ticket};
+use hba_fbs::TakeReport;
+use multiplier::Passed;
 use std::alloc::AllocError;
 
 /// How large a world is.
@@ -30,15 +32,26 @@ pub enum Step {
     DiskSend(u8),
     /// This frame is sent as the device at this port.
     Inject(u8, Bytes),
+    /// The device at this port takes the first FIS of its link.
+    DiskTake(u8),
     /// The multiplier's port records the first connection on its device's presence link.
     PmPresence(u8),
     /// The multiplier's port takes the first frame of its device's link into its hold.
     PmFromDevice(u8),
-    /// The multiplier puts a held frame on the link to the host.
+    /// The multiplier takes the first frame of the host's link.
+    PmFromHost,
+    /// The multiplier puts the next frame for the host on the link to it: one that a port holds, a
+    /// notification, or an answer of the control port.
     PmUp,
-    /// The host takes the first frame of its link.
+    /// The multiplier puts the frame that waits at this port on the link to its device.
+    PmDown(u8),
+    /// The host port takes the first frame of its link.
     HostTake,
-    /// A request to read from the device at this port is given to the driver.
+    /// The host port puts the next frame that it has to send on its link.
+    HostPush,
+    /// The driver does the next thing that is due.
+    Tick,
+    /// A request to the device at this port is given to the driver.
     Submit(u8, Request),
     /// An ended request is asked for.
     Poll,
@@ -63,6 +76,11 @@ pub enum Answer {
         number: u32,
         bytes: Bytes,
     },
+    DiskTook {
+        port: u8,
+        /// Whether the frame was not for the device that is there, which did not see it.
+        dropped: bool,
+    },
     /// The port that recorded a connection.
     Presence(u8),
     Offered {
@@ -70,8 +88,12 @@ pub enum Answer {
         /// Whether the frame's connection was gone.
         dropped: bool,
     },
-    /// The port whose frame went up.
+    /// Where the multiplier passed a frame of the host.
+    Passed(Passed),
+    /// The port whose frame went up, 15 for the control port.
     Up(u8),
+    /// The port whose frame went down to its device.
+    Down(u8),
     Took {
         port: u8,
         conn: u32,
@@ -80,6 +102,10 @@ pub enum Answer {
         /// What the host port did with it.
         report: TakeReport,
     },
+    /// The host port sent a frame.
+    Pushed,
+    /// The driver did something.
+    Ticked,
     Submitted(Ticket),
     /// The driver refused the request.
     Refused(SubmitError),

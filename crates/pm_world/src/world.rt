@@ -1,51 +1,54 @@
-ghost use Rattle.std.specs.Prelude.{◌≡◌, ◌↔◌, ◌<◌, ℕ, true, false, List, [], ◌∷◌};
-ghost use Rattle.std.specs.Prelude.{IfErr, IfOk, OnErr, length, map, take};
-ghost use Rattle.host_memory.specs.Memory.{is_memory_size, zeroed};
-ghost use Rattle.pm_world.specs.Fanout.{port_at, with_port_at};
-ghost use Rattle.pm_world.specs.Laws.{ObeysLaws};
-ghost use Rattle.pm_world.specs.Places.{Places, opening, new_world, is_config};
-ghost use Rattle.pm_world.specs.Rules.{PmFromDeviceRule, PmPresenceRule, Rule, Run, Stops};
-ghost use Rattle.pm_world.specs.Rules.{is_there, refusal};
+ghost use Rattle.std.specs.Prelude.{◌≡◌, ◌≢◌, ◌↔◌, ◌<◌, ℕ, true, false, List, [], ◌∷◌};
+ghost use Rattle.std.specs.Prelude.{IfErr, IfOk, OnErr, IfSome, IfNone, length, map, take, slice_get, option_map};
+ghost use Rattle.host_memory.specs.Memory.{is_memory_size};
+ghost use Rattle.multiplier.specs.Arbiter.{control_port};
+ghost use Rattle.pm_world.specs.Laws.{AreLawful};
+ghost use Rattle.pm_world.specs.Downward.{falling_to};
+ghost use Rattle.pm_world.specs.Places.{Places, Place, opening, new_world, is_config};
+ghost use Rattle.pm_world.specs.Rules.{Rule, Run, Stops, refusal};
 ghost use Rattle.pm_world.specs.Traffic.{transit};
 ghost use Rattle.pm_world.specs.declared.step.Answer.{Answer};
 ghost use Rattle.pm_world.specs.declared.step.Step.TheVariants as step;
 
-use crate::fanout::Fanout;
 use crate::host::Host;
 use crate::link::Link;
-use crate::request::{Request, TakeReport};
+use crate::passing;
 use crate::seat::Seat;
 use crate::step::{Answer, Config, Step, StepError, WorldError};
 use disk_model::Unit;
 use fis_view::{Bytes, Frame};
-use host_memory::{HostMemory, MemoryError};
+use hba_driver::Request;
+use hba_fbs::{HostPort, TakeReport};
+use host_memory::HostMemory;
+use multiplier::Multiplier;
 use std::alloc::{AllocError, Global};
 use std::marker::Model;
 
-/// Devices, a multiplier and a host.
+/// Devices, a port multiplier and a host.
 #[derive(Drop)]
 pub struct World {
     seats: Vec<Seat>,
-    fanout: Fanout,
+    multiplier: Multiplier,
     upward: Link,
+    downward: Link,
     host: Host,
 }
 
 impl Model for World {
     ghost use Rattle.std.specs.Prelude.{◌≡◌, ◌≤◌, length};
-    ghost use Rattle.pm_world.specs.Places.{Places};
+    ghost use Rattle.pm_world.specs.Places.{AreThere, Places};
 
     ghost Value = { Places };
 
     ghost view = { λ w. record {
       devices = w.seats.items;
-      ports = w.fanout.ports;
-      served = w.fanout.served;
+      multiplier = w.multiplier;
       upward = w.upward;
+      downward = w.downward;
       host = w.host;
     } };
 
-    ghost invariant = { λ w. length w.fanout.ports ≡ length w.seats.items };
+    ghost invariant = { λ w. AreThere (length w.seats.items) w.multiplier };
 }
 
 impl World {
@@ -53,21 +56,23 @@ impl World {
     pub fn new(alloc: Global, config: Config, units: Vec<Unit>) -> Result<Self, WorldError>
         ensures ok { IfOk result (λ world. world ≡ new_world config units.items) }
         ensures nothing_stands { IfOk result (λ world. (n c : ℕ) → transit n c world ≡ []) }
+        ensures nothing_falls { IfOk result (λ world. (n : ℕ) → falling_to n world ≡ []) }
         ensures bad_config { let fits = is_config config (length units.items) in
             (result ≡ Err WorldError.BadConfig) ↔ (fits ≡ false) }
     {
         if !is_config(config, units.len()) {
             return Err(WorldError::BadConfig);
         }
-        let memory = memory_of(alloc, config.memory)?;
+        let host = Host::new(alloc, config.memory)?;
         let upward = Link::new(alloc, config.capacity)?;
-        let fanout = Fanout::new(alloc, &units)?;
+        let downward = Link::new(alloc, config.capacity)?;
         let seats = seats_of(alloc, config.capacity, units)?;
         Ok(World {
             seats,
-            fanout,
+            multiplier: Multiplier::new(config.ports),
             upward,
-            host: Host::new(memory),
+            downward,
+            host,
         })
     }
 
@@ -75,7 +80,7 @@ impl World {
     pub fn step(&mut self, alloc: Global, step: &Step) -> Result<Answer, StepError>
         ensures rule { Rule self.old step.now result self.new }
         ensures laws { let steps = step.now ∷ [] in
-            IfOk result (λ answer. ObeysLaws self.old steps (answer ∷ []) self.new) }
+            IfOk result (λ answer. AreLawful self.old steps (answer ∷ []) self.new) }
         ensures refused { OnErr result (self.new ≡ self.old) }
     {
         self.act(alloc, step)
@@ -88,11 +93,16 @@ impl World {
             Step::Came(n) => self.came(alloc, *n),
             Step::DiskSend(n) => self.disk_send(alloc, *n),
             Step::Inject(n, bytes) => self.inject(alloc, *n, bytes),
+            Step::DiskTake(n) => self.disk_take(alloc, *n),
             Step::PmPresence(n) => self.pm_presence(*n),
             Step::PmFromDevice(n) => self.pm_from_device(*n),
-            Step::PmUp => Ok(self.pm_up()),
+            Step::PmFromHost => self.pm_from_host(alloc),
+            Step::PmUp => self.pm_up(alloc),
+            Step::PmDown(n) => self.pm_down(*n),
             Step::HostTake => Ok(self.host_take()),
-            Step::Submit(dev, request) => self.submit(alloc, *dev, request),
+            Step::HostPush => self.host_push(alloc),
+            Step::Tick => Ok(self.tick()),
+            Step::Submit(dev, request) => Ok(self.submit(*dev, request)),
             Step::Poll => Ok(self.poll()),
             Step::Put(at, bytes) => self.put(*at, bytes),
         }
@@ -101,10 +111,10 @@ impl World {
     /// Steps in order, until one is refused.
     pub fn run(&mut self, alloc: Global, steps: &[Step]) -> Result<Vec<Answer>, (usize, StepError)>
         ensures run { IfOk result (λ answers. Run self.old steps.now answers.items self.new) }
-        ensures laws { IfOk result (λ all. ObeysLaws self.old steps.now all.items self.new) }
+        ensures laws { IfOk result (λ all. AreLawful self.old steps.now all.items self.new) }
         ensures stops { IfErr result (λ e. (answers : List Answer)
             × Stops self.old steps.now e.0 e.1 answers self.new
-            × ObeysLaws self.old (take e.0 steps.now) answers self.new) }
+            × AreLawful self.old (take e.0 steps.now) answers self.new) }
     {
         let Some(first) = steps.first() else {
             return Ok(Vec::new(alloc));
@@ -139,11 +149,15 @@ impl World {
                 None => Some(StepError::NoSuchPort),
                 Some(seat) => seat.inject_refusal(bytes.as_slice()),
             },
-            Step::PmPresence(n) | Step::PmFromDevice(n) => match self.seats.get(*n as usize) {
+            Step::DiskTake(n)
+            | Step::PmPresence(n)
+            | Step::PmFromDevice(n)
+            | Step::PmDown(n) => match self.seats.get(*n as usize) {
                 None => Some(StepError::NoSuchPort),
                 Some(_) => None,
             },
-            Step::PmUp | Step::HostTake | Step::Submit(..) | Step::Poll => None,
+            Step::PmFromHost | Step::PmUp | Step::HostTake | Step::HostPush => None,
+            Step::Tick | Step::Submit(..) | Step::Poll => None,
             Step::Put(at, bytes) => self.host.put_refusal(*at, bytes.as_slice()),
         }
     }
@@ -181,6 +195,17 @@ impl World {
         seat.inject(alloc, n, bytes.as_slice())
     }
 
+    fn disk_take(&mut self, alloc: Global, n: u8) -> Result<Answer, StepError>
+        ensures { Rule self.old (step.DiskTake n) result self.new }
+    {
+        let i = n as usize;
+        if i >= self.seats.len() {
+            return Err(StepError::NoSuchPort);
+        }
+        let seat = &mut self.seats[i];
+        seat.disk_take(alloc, n)
+    }
+
     fn pm_presence(&mut self, n: u8) -> Result<Answer, StepError>
         ensures { Rule self.old (step.PmPresence n) result self.new }
     {
@@ -189,7 +214,7 @@ impl World {
             return Err(StepError::NoSuchPort);
         }
         let seat = &mut self.seats[i];
-        Ok(record(n, seat, &mut self.fanout))
+        Ok(passing::record(n, seat, &mut self.multiplier))
     }
 
     fn pm_from_device(&mut self, n: u8) -> Result<Answer, StepError>
@@ -200,22 +225,30 @@ impl World {
             return Err(StepError::NoSuchPort);
         }
         let seat = &mut self.seats[i];
-        Ok(pass_up(n, seat, &mut self.fanout))
+        Ok(passing::pass_up(n, seat, &mut self.multiplier))
     }
 
-    fn pm_up(&mut self) -> Answer
-        ensures { Rule self.old step.PmUp (Ok result) self.new }
+    fn pm_down(&mut self, n: u8) -> Result<Answer, StepError>
+        ensures { Rule self.old (step.PmDown n) result self.new }
     {
-        if self.upward.is_full() {
-            return Answer::Blocked;
+        let i = n as usize;
+        if i >= self.seats.len() {
+            return Err(StepError::NoSuchPort);
         }
-        match self.fanout.next_up() {
-            None => Answer::Idle,
-            Some((port, frame)) => {
-                self.upward.push(frame);
-                Answer::Up(port)
-            }
-        }
+        let seat = &mut self.seats[i];
+        Ok(passing::pass_down(n, seat, &mut self.multiplier))
+    }
+
+    fn pm_from_host(&mut self, alloc: Global) -> Result<Answer, StepError>
+        ensures { Rule self.old step.PmFromHost result self.new }
+    {
+        passing::hear(alloc, &mut self.downward, &mut self.multiplier)
+    }
+
+    fn pm_up(&mut self, alloc: Global) -> Result<Answer, StepError>
+        ensures { Rule self.old step.PmUp result self.new }
+    {
+        passing::rise(alloc, &mut self.multiplier, &mut self.upward)
     }
 
     fn host_take(&mut self) -> Answer
@@ -224,49 +257,49 @@ impl World {
         match self.upward.take() {
             None => Answer::Idle,
             Some(frame) => {
-                let report = self.host.hear(frame.bytes());
+                let report = self.host.take(&frame);
                 took(frame, report)
             }
         }
     }
 
-    fn submit(&mut self, alloc: Global, dev: u8, request: &Request) -> Result<Answer, StepError>
-        ensures { Rule self.old (step.Submit dev request.now) result self.new }
+    fn host_push(&mut self, alloc: Global) -> Result<Answer, StepError>
+        ensures { Rule self.old step.HostPush result self.new }
     {
-        if let Some(e) = self.host.submit_refusal(self.is_there(dev), request) {
-            return Ok(Answer::Refused(e));
+        if self.downward.is_full() {
+            return Ok(Answer::Blocked);
         }
-        let ticket = self.host.submit(alloc, request)?;
-        Ok(Answer::Submitted(ticket))
+        match self.host.next_out(alloc)? {
+            None => Ok(Answer::Idle),
+            Some(frame) => {
+                self.downward.push(frame);
+                Ok(Answer::Pushed)
+            }
+        }
     }
 
-    // Whether this is device 0, and it is plugged in.
-    fn is_there(&self, dev: u8) -> bool
-        ensures { result ≡ is_there self.now dev }
+    fn tick(&mut self) -> Answer
+        ensures { Rule self.old step.Tick (Ok result) self.new }
     {
-        match self.seats.get(0) {
-            None => false,
-            Some(seat) => dev == 0 && seat.is_plugged(),
-        }
+        self.host.tick()
+    }
+
+    fn submit(&mut self, dev: u8, request: &Request) -> Answer
+        ensures { Rule self.old (step.Submit dev request.now) (Ok result) self.new }
+    {
+        self.host.submit(dev, request)
     }
 
     fn poll(&mut self) -> Answer
         ensures { Rule self.old step.Poll (Ok result) self.new }
     {
-        match self.host.poll() {
-            None => Answer::Idle,
-            Some(completion) => Answer::Polled(completion),
-        }
+        self.host.poll()
     }
 
     fn put(&mut self, at: u32, bytes: &Bytes) -> Result<Answer, StepError>
         ensures { Rule self.old (step.Put at bytes.now) result self.new }
     {
-        if let Some(e) = self.host.put_refusal(at, bytes.as_slice()) {
-            return Err(e);
-        }
-        self.host.put(at, bytes.as_slice());
-        Ok(Answer::Put)
+        self.host.put(at, bytes)
     }
 
     /// The host's memory.
@@ -275,17 +308,26 @@ impl World {
     {
         self.host.memory()
     }
-}
 
-// A memory of so many bytes.
-fn memory_of(alloc: Global, len: u32) -> Result<HostMemory, AllocError>
-    requires { is_memory_size len ≡ true }
-    ensures { IfOk result (λ memory. memory ≡ zeroed len) }
-{
-    match HostMemory::new(alloc, len) {
-        Ok(memory) => Ok(memory),
-        Err(MemoryError::OutOfMemory) => Err(AllocError),
-        Err(MemoryError::BadSize) => unreachable!(),
+    /// The host port.
+    pub fn host(&self) -> &HostPort
+        ensures { result.now ≡ self.now.host.port }
+    {
+        self.host.port()
+    }
+
+    /// The port multiplier.
+    pub fn multiplier(&self) -> &Multiplier
+        ensures { result.now ≡ self.now.multiplier }
+    {
+        &self.multiplier
+    }
+
+    /// The unit at port `n`, if there is such a port.
+    pub fn unit(&self, n: u8) -> Option<&Unit>
+        ensures { option_copied result ≡ option_map (λ place. place.unit) (slice_get self.now.devices n) }
+    {
+        self.seats.get(n as usize).map(|seat| seat.unit())
     }
 }
 
@@ -311,47 +353,6 @@ fn seats_of(alloc: Global, capacity: usize, mut units: Vec<Unit>) -> Result<Vec<
         seats.push(Seat::new(alloc, capacity, unit)?)?;
     }
     Ok(seats)
-}
-
-/// Has port n record the first connection on its presence link.
-fn record(n: u8, seat: &mut Seat, fanout: &mut Fanout) -> Answer
-    requires { n < length fanout.old.ports }
-    ensures rule { let port = port_at fanout.old.ports n in
-        PmPresenceRule n seat.old port (Ok result) seat.new (port_at fanout.new.ports n) }
-    ensures others { fanout.new ≡ with_port_at fanout.old n (port_at fanout.new.ports n) }
-{
-    match seat.next_coming() {
-        None => Answer::Idle,
-        Some(conn) => {
-            fanout.came(n, conn);
-            Answer::Presence(n)
-        }
-    }
-}
-
-/// Moves the first frame of a device's link into the hold of port n.
-fn pass_up(n: u8, seat: &mut Seat, fanout: &mut Fanout) -> Answer
-    requires { n < length fanout.old.ports }
-    ensures rule { let port = port_at fanout.old.ports n in
-        PmFromDeviceRule n seat.old port (Ok result) seat.new (port_at fanout.new.ports n) }
-    ensures others { fanout.new ≡ with_port_at fanout.old n (port_at fanout.new.ports n) }
-{
-    if seat.is_empty() {
-        return Answer::Idle;
-    }
-    if !fanout.wants(n) {
-        return Answer::Blocked;
-    }
-    match seat.take() {
-        None => Answer::Idle,
-        Some(frame) => {
-            fanout.hold(n, frame);
-            Answer::Offered {
-                port: n,
-                dropped: false,
-            }
-        }
-    }
 }
 
 /// The answer to a frame that was taken.

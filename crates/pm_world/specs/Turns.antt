@@ -1,0 +1,48 @@
+-- What a world's steps are to its host: turns of port, driver and memory (AHCI 1.3.1, chapter 5).
+use Rattle.std.specs.Prelude.{ℕ, ◌≡◌, List, [], ◌∷◌, ◌++◌, map, length, drop, Some, None, All}
+use Rattle.std.specs.Prelude.{slice_index, ◌%◌}
+use Rattle.disk_model.specs.declared.unit.Unit.{Unit}
+use Rattle.hba_driver.specs.HostTurns.{HostTurn, Took, Pushed, Ticked, Submitted, Polled, Put}
+use Rattle.hba_driver.specs.HostTurns.{DoesAll}
+use Rattle.hba_driver.specs.declared.request.Ticket.{Ticket}
+use Rattle.pm_world.specs.Places.{Places, opening_host}
+use Rattle.pm_world.specs.Rules.{Run}
+use Rattle.pm_world.specs.Runs.{AfterEveryRun, Telling, over}
+use Rattle.pm_world.specs.declared.step.Step.{Step}
+use Rattle.pm_world.specs.declared.step.Step.TheVariants as step
+use Rattle.pm_world.specs.declared.step.Answer.{Answer}
+use Rattle.pm_world.specs.declared.step.Answer.TheVariants as answer
+
+-- The turn of the host that a step with this answer is, or none. The frame that it pushed is what
+-- its link has more than before.
+abbrev pub turn_of : Telling HostTurn
+turn_of old s (answer.Took port conn number bytes report) new = Took bytes report ∷ []
+turn_of old step.HostPush answer.Idle new = Pushed None ∷ []
+turn_of old step.HostPush answer.Pushed new =
+    map (λ frame. Pushed (Some frame)) (drop (length old.downward.frames) new.downward.frames)
+turn_of old s answer.Ticked new = Ticked true ∷ []
+turn_of old (step.Submit dev request) (answer.Submitted ticket) new =
+    Submitted dev request ticket.0 ∷ []
+turn_of old s (answer.Polled completion) new = Polled completion ∷ []
+turn_of old (step.Put at bytes) answer.Put new = Put at bytes ∷ []
+turn_of old s a new = []
+
+-- The host is what these turns make of it: from the world before these steps, and from every new
+-- world that leads to it.
+pub record HostIsFold (old : Places) (steps : List Step) (answers : List Answer) (new : Places)
+    (run : Run old steps answers new) : Type 0 where
+  pub does : DoesAll old.host (over turn_of old steps answers new run) new.host
+  pub reached : AfterEveryRun old (λ config units before told made.
+      DoesAll (opening_host config.memory)
+      (over turn_of _ before told old made ++ over turn_of old steps answers new run) new.host)
+
+-- The FIS of which a Took answer tells has the PM Port of the answer's port, and the report is of
+-- that device.
+abbrev pub IsOfItsPort : Answer → Type 0
+IsOfItsPort (answer.Took port conn number bytes report) =
+    (slice_index bytes 1 % 16 ≡ port) × (report.dev ≡ port)
+IsOfItsPort _ = Prim.Unit {0}
+
+abbrev pub AreOfTheirPorts : Places → List Answer → Type 0
+AreOfTheirPorts old answers = AfterEveryRun old (λ config units before told made.
+    All IsOfItsPort answers)
