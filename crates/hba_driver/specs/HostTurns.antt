@@ -1,4 +1,4 @@
--- What the host does, turn by turn: host port, driver and memory together. A frame that is taken or pushed leaves the driver
+-- What the host does, turn by turn: host port, driver and memory together. A frame that is taken or asked for leaves the driver
 -- as it is; whatever the driver does between two ticks leaves the port as it is.
 use Rattle.std.specs.Prelude.{ℕ, ◌≡◌, ◌-◌, Bool, true, false, List, [], ◌∷◌, ◌++◌, length, Option, Some, None}
 use Rattle.std.specs.List.{list_all}
@@ -29,8 +29,8 @@ pub record Host : Type 0 where
 pub data HostTurn : Type 0 where
   -- the port takes a frame
   Took : (frame : List ℕ) → (report : TakeReport) → HostTurn
-  -- the port gives a frame
-  Pushed : (frame : Stamped) → HostTurn
+  -- the port is asked for a frame, and gives this one, or none: where a table that it needs is found spoilt, that stops it
+  Pushed : (frame : Option Stamped) → HostTurn
   -- the driver ticks, and says whether it acted
   Ticked : (acted : Bool) → HostTurn
   -- a request for a device is taken under this ticket
@@ -47,8 +47,8 @@ pub record Tooks (old : Host) (frame : List ℕ) (report : TakeReport) (new : Ho
   pub heard : ignores (port_of frame) old.port frame ≡ false
       → Hears (port_of frame) old.port old.memory frame report new.port new.memory
 
-pub record Pushes (old : Host) (frame : Stamped) (new : Host) : Type 0 where
-  pub gives : Gives (outgoing old.port old.memory) old.port old.memory (Some frame) new.port
+pub record Pushes (old : Host) (frame : Option Stamped) (new : Host) : Type 0 where
+  pub gives : Gives (outgoing old.port old.memory) old.port old.memory frame new.port
   pub driver : new.driver ≡ old.driver
   pub memory : new.memory ≡ old.memory
 
