@@ -1,12 +1,12 @@
 -- How many FISes were sent and taken on each connection, and in which order they are told. No
 -- standard speaks of these counts.
-use Rattle.std.specs.Prelude.{ℕ, ◌+◌, ◌≡◌, ◌<◌, ◌≤◌, ◌==◌, ◌&&◌, min, Bool, false, if◌then◌else◌}
+use Rattle.std.specs.Prelude.{ℕ, ◌+◌, ◌≡◌, ◌<◌, ◌≤◌, ◌==◌, ◌&&◌, min, Bool, false, true, if◌then◌else◌}
 use Rattle.std.specs.Prelude.{List, [], ◌∷◌, ◌++◌, length, find, HoldsAt, Option, Some, None}
 use Rattle.std.specs.Prelude.{AllPairs, ◌⊎◌}
 use Rattle.std.specs.List.{list_any, AllWithin}
 use Rattle.std.specs.Option.{option_map, option_or}
 use Rattle.disk_model.specs.declared.unit.Unit.{Unit}
-use Rattle.pm_world.specs.Places.{Places, new_world}
+use Rattle.pm_world.specs.Places.{Places, is_config, new_world}
 use Rattle.pm_world.specs.Rules.{Run}
 use Rattle.pm_world.specs.Traffic.{sent, taken}
 use Rattle.pm_world.specs.declared.counts.ConnCount.{ConnCount}
@@ -119,6 +119,7 @@ pub record Tell (rows : List ConnCount) (answers : List Answer) : Type 0 where
 pub record AreOfARun (answers : List Answer) : Type 0 where
   pub config : Config
   pub units : List Unit
+  pub fits : is_config config (length units) ≡ true
   pub steps : List Step
   pub now : Places
   pub run : Run (new_world config units) steps answers now

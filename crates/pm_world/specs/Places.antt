@@ -66,12 +66,13 @@ pub record Places : Type 0 where
   pub downward : Queue
   pub host : Host
 
--- What is true of every world: its multiplier has a port for each device, and what waits as the
--- answer of the control port is stamped so.
-pub record AreThere (devices : ℕ) (pm : PmState) : Type 0 where
-  pub ports : devices ≡ pm.registers.ports
-  pub most : devices ≤ control_port
-  pub answer : (frame : Stamped) → pm.answer ≡ Some frame → frame.stamp.port ≡ control_port
+-- What is true of every world: it has at most fifteen devices, its multiplier has a place for each
+-- fan-out port, and what waits there as the answer of the control port is stamped so.
+pub record IsOrderly (now : Places) : Type 0 where
+  pub most : length now.devices ≤ 15
+  pub room : length now.multiplier.ports ≡ 15
+  pub answer : (frame : Stamped) → now.multiplier.answer ≡ Some frame
+      → frame.stamp.port ≡ control_port
 
 -- a device shows no removals
 abbrev pub nothing_shown : List ℕ

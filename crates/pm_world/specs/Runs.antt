@@ -1,7 +1,7 @@
 -- What is said over a whole run, step by step, and of the runs that lead to a world.
-use Rattle.std.specs.Prelude.{List, [], ◌∷◌, ◌++◌}
+use Rattle.std.specs.Prelude.{◌≡◌, true, List, [], ◌∷◌, ◌++◌, length}
 use Rattle.disk_model.specs.declared.unit.Unit.{Unit}
-use Rattle.pm_world.specs.Places.{Places, new_world}
+use Rattle.pm_world.specs.Places.{Places, is_config, new_world}
 use Rattle.pm_world.specs.Rules.{Run}
 use Rattle.pm_world.specs.declared.step.Config.{Config}
 use Rattle.pm_world.specs.declared.step.Step.{Step}
@@ -24,5 +24,6 @@ abbrev pub AfterEveryRun : (now : Places)
     → ((config : Config) → (units : List Unit) → (before : List Step) → (told : List Answer)
     → Run (new_world config units) before told now → Type 0) → Type 0
 AfterEveryRun now Holds =
-    (config : Config) (units : List Unit) (before : List Step) (told : List Answer)
+    (config : Config) (units : List Unit) → is_config config (length units) ≡ true
+    → (before : List Step) (told : List Answer)
     (made : Run (new_world config units) before told now) → Holds config units before told made

@@ -1,5 +1,5 @@
 -- What a world's steps are to its host: turns of port, driver and memory (AHCI 1.3.1, chapter 5).
-use Rattle.std.specs.Prelude.{ℕ, ◌≡◌, List, [], ◌∷◌, ◌++◌, map, length, drop, Some, None, All}
+use Rattle.std.specs.Prelude.{ℕ, ◌≡◌, true, List, [], ◌∷◌, ◌++◌, map, length, drop, Some, None, All}
 use Rattle.std.specs.Prelude.{slice_index, ◌%◌}
 use Rattle.disk_model.specs.declared.unit.Unit.{Unit}
 use Rattle.hba_driver.specs.HostTurns.{HostTurn, Took, Pushed, Ticked, Submitted, Polled, Put}

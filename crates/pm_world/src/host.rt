@@ -1,6 +1,6 @@
 //! The host of a world: its port, its driver and its memory.
 
-ghost use Rattle.std.specs.Prelude.{◌≡◌, ◌×◌, Ok, Err, true, false, length, MatchResult, None, Some};
+ghost use Rattle.std.specs.Prelude.{◌≡◌, IfOk, Ok, true, length};
 ghost use Rattle.hba_driver.specs.HostTurns.{Tooks};
 ghost use Rattle.pm_world.specs.Places.{opening_host};
 ghost use Rattle.pm_world.specs.Rules.{HostPushes, PollRule, PutRule, SubmitRule, TickRule, put_refusal};

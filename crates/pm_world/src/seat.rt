@@ -97,7 +97,6 @@ impl Seat {
     }
 
     /// Plugs the unit, under the next connection.
-    #[tactic(auto, using(crate::proofs::Refused::came_refuses))]
     pub fn came(&mut self, alloc: Global, port: u8) -> Result<Answer, StepError>
         ensures { CameRule port self.old result self.new }
     {
@@ -119,7 +118,6 @@ impl Seat {
     }
 
     /// Lets the unit send its next frame.
-    #[tactic(auto, using(crate::proofs::Refused::send_refuses))]
     pub fn disk_send(&mut self, alloc: Global, port: u8) -> Result<Answer, StepError>
         ensures { DiskSendRule port self.old result self.new }
     {
@@ -151,7 +149,6 @@ impl Seat {
     }
 
     /// Sends these bytes as the unit.
-    #[tactic(auto, using(crate::proofs::Refused::inject_refuses))]
     pub fn inject(&mut self, alloc: Global, port: u8, bytes: &[u8]) -> Result<Answer, StepError>
         ensures { InjectRule port bytes.now self.old result self.new }
     {

@@ -1,10 +1,8 @@
-ghost use Rattle.std.specs.Prelude.{◌≡◌, ◌≢◌, ◌↔◌, ◌<◌, ℕ, true, false, List, [], ◌∷◌};
-ghost use Rattle.std.specs.Prelude.{IfErr, IfOk, OnErr, IfSome, IfNone, length, map, take, slice_get, option_map};
-ghost use Rattle.host_memory.specs.Memory.{is_memory_size};
-ghost use Rattle.multiplier.specs.Arbiter.{control_port};
+ghost use Rattle.std.specs.Prelude.{◌≡◌, ◌↔◌, ℕ, false, List, [], ◌∷◌, Ok};
+ghost use Rattle.std.specs.Prelude.{IfErr, IfOk, OnErr, length, map, take, slice_get, option_copied, option_map};
 ghost use Rattle.pm_world.specs.Laws.{AreLawful};
 ghost use Rattle.pm_world.specs.Downward.{falling_to};
-ghost use Rattle.pm_world.specs.Places.{Places, Place, opening, new_world, is_config};
+ghost use Rattle.pm_world.specs.Places.{opening, new_world, is_config};
 ghost use Rattle.pm_world.specs.Rules.{Rule, Run, Stops, refusal};
 ghost use Rattle.pm_world.specs.Traffic.{transit};
 ghost use Rattle.pm_world.specs.declared.step.Answer.{Answer};
@@ -35,8 +33,8 @@ pub struct World {
 }
 
 impl Model for World {
-    ghost use Rattle.std.specs.Prelude.{◌≡◌, ◌≤◌, length};
-    ghost use Rattle.pm_world.specs.Places.{AreThere, Places};
+    ghost use Rattle.std.specs.Prelude.{◌≡◌, length};
+    ghost use Rattle.pm_world.specs.Places.{IsOrderly, Places};
 
     ghost Value = { Places };
 
@@ -48,7 +46,13 @@ impl Model for World {
       host = w.host;
     } };
 
-    ghost invariant = { λ w. AreThere (length w.seats.items) w.multiplier };
+    ghost invariant = { λ w. IsOrderly (record {
+      devices = w.seats.items;
+      multiplier = w.multiplier;
+      upward = w.upward;
+      downward = w.downward;
+      host = w.host;
+    }) × (length w.seats.items ≡ w.multiplier.registers.ports) };
 }
 
 impl World {
@@ -327,7 +331,10 @@ impl World {
     pub fn unit(&self, n: u8) -> Option<&Unit>
         ensures { option_copied result ≡ option_map (λ place. place.unit) (slice_get self.now.devices n) }
     {
-        self.seats.get(n as usize).map(|seat| seat.unit())
+        match self.seats.get(n as usize) {
+            None => None,
+            Some(seat) => Some(seat.unit()),
+        }
     }
 }
 
