@@ -138,7 +138,7 @@ same_acts at count own (e ∷ es) old new before after is l h long =
     let effect_is = both (is_effect e) (list_all is_effect es) is in
     let late_is = both (late e) (list_all late es) l in
     let first : Same at count before.structure h.1.structure = same_act at count own e old h.0 before h.1 effect_is.0 late_is.0 h.2 long in
-    same_then at count before.structure h.1.structure after.structure first (same_acts at count own es h.0 new h.1 after effect_is.1 late_is.1 h.3 first.long)
+    same_then at count before.structure h.1.structure after.structure first (same_acts at count own es h.0 new h.1 after effect_is.1 late_is.1 h.4 first.long)
 
 -- each act writes commands into the slots 30 and 31 alone
 late_issuing : (slot dev : ℕ) (queued : Bool) → list_all late (issuing slot dev queued) ≡ true

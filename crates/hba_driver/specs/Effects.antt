@@ -4,10 +4,12 @@ use Rattle.std.specs.Prelude.{ℕ, ◌≡◌, ◌+◌, ◌*◌, ◌^◌, Bool, t
 use Rattle.fis_view.specs.declared.build.H2dFields.{H2dFields}
 use Rattle.host_memory.specs.Memory.{Memory, overwritten}
 use Rattle.host_memory.specs.declared.table.Prd.{Prd}
+use Rattle.port_errors.specs.Errors.{AreErrors}
 use Rattle.slots.specs.Slots.{match_some}
+use Rattle.slots.specs.Table.{IsTable}
 use Rattle.hba_commands.specs.Writing.{IsWritten}
 use Rattle.hba_fbs.specs.declared.error.WriteError.{WriteError}
-use Rattle.hba_fbs.specs.Views.{Flushes, Port}
+use Rattle.hba_fbs.specs.Views.{Flushes, IsPort, Port}
 use Rattle.hba_fbs.specs.Writing.{Writes, write_refusal}
 use Rattle.hba_driver.specs.declared.effect.Effect.{Effect}
 use Rattle.hba_driver.specs.declared.effect.Effect.TheVariants as effect
@@ -87,11 +89,18 @@ Acts (effect.Flushes dev) old before new after = Flushes old dev new × (after �
 Acts (effect.Empties dev) old before new after = (new ≡ old) × (after ≡ emptied dev before)
 Acts (effect.Commands slot fields buffer) old before new after = (new ≡ old) × Commands before slot fields (prds_with buffer) after
 
--- one effect after another
+-- what every port keeps by itself: its registers, the commands of its slots, the slots and the errors
+pub record IsRuled (port : Port) : Type 0 where
+  pub rules : IsPort port
+  pub table : IsTable port.slots
+  pub faults : AreErrors port.errors
+
+-- one effect after another, and between them a port keeps what every port does
 unfoldable pub ActsAll : List Effect → Port → Memory → Port → Memory → Type 0
 ActsAll [] old before new after = (new ≡ old) × (after ≡ before)
 ActsAll (first ∷ rest) old before new after =
-    (port : Port) × (memory : Memory) × Acts first old before port memory × ActsAll rest port memory new after
+    (port : Port) × (memory : Memory) × Acts first old before port memory × IsRuled port
+    × ActsAll rest port memory new after
 
 -- the slot, or the device, is there
 abbrev pub is_effect : Effect → Bool

@@ -115,6 +115,7 @@ fn perform_all(effects: &[Effect], port: &mut HostPort, memory: &mut HostMemory)
 {
     if let [first, rest @ ..] = effects {
         first.perform(port, memory);
+        port.keeps_rules();
         perform_all(rest, port, memory);
     }
 }
