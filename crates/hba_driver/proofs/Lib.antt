@@ -9,3 +9,7 @@ pub mod HistoryLemmas
 pub mod ServeLemmas
 pub mod StandLemmas
 pub mod DoneLemmas
+pub mod DrivenLemmas
+pub mod EventLemmas
+pub mod SoundLemmas
+pub mod TurnLemmas

@@ -46,7 +46,7 @@ no_entry = None
 -- ---- areas that agree
 
 -- both are as long as ever, and agree there
-record Same (at count : ℕ) (old new : List ℕ) : Type 0 where
+pub record Same (at count : ℕ) (old new : List ℕ) : Type 0 where
   pub long : length new ≡ 1048576
   pub agree : AgreeFrom at count old new
 
@@ -56,7 +56,7 @@ same_here at count s long = record { long = long; agree = λ i h. refl }
 same_then : (at count : ℕ) (a b c : List ℕ) → Same at count a b → Same at count b c → Same at count a c
 same_then at count a b c h k = record { long = k.long; agree = λ i below. h.agree i below ∙ k.agree i below }
 
-same_beside : (at count : ℕ) (old : List ℕ) (place : ℕ) (bytes : List ℕ) (room : ℕ) → length old ≡ 1048576 → length bytes ≤ room → place + room ≤ 1048576 → LieApart at count place room
+pub same_beside : (at count : ℕ) (old : List ℕ) (place : ℕ) (bytes : List ℕ) (room : ℕ) → length old ≡ 1048576 → length bytes ≤ room → place + room ≤ 1048576 → LieApart at count place room
     → Same at count old (overwritten old place bytes)
 same_beside at count old place bytes room long few fits apart = record {
   long = length-overwritten old place bytes (omega (arith, long)) ∙ long;
@@ -70,7 +70,7 @@ unfolding command_table
 table_few cfis prds short few =
     rw (length-append (cfis ++ zeros 108) (table_bytes prds), length-append cfis (zeros 108), length-zeros 108, length-table_bytes prds) (omega (arith, short, few))
 
-same_written : (at count slot : ℕ) (fields : H2dFields) (prds : List Prd) (old new : List ℕ) → length old ≡ 1048576 → slot < 32 → length prds ≤ 248
+pub same_written : (at count slot : ℕ) (fields : H2dFields) (prds : List Prd) (old new : List ℕ) → length old ≡ 1048576 → slot < 32 → length prds ≤ 248
     → LieApart at count (header_place 0 slot) 32 → LieApart at count (table_of slot) 4096 → IsWritten 0 slot (table_of slot) fields prds old new → Same at count old new
 same_written at count slot fields prds old new long below few header table written =
     let hb : List ℕ = header_bytes (header_for (request_of fields) (table_of slot) (length prds)) in
@@ -100,13 +100,13 @@ within : (at count place room from n : ℕ) → LieApart at count place room →
 within at count place room from n (inl before) low high = inl (omega (arith, before, low))
 within at count place room from n (inr after) low high = inr (omega (arith, after, high))
 
-lt_of : (n m : ℕ) → nat_lt n m ≡ true → n < m
+pub lt_of : (n m : ℕ) → nat_lt n m ≡ true → n < m
 lt_of n m h = grind (arith, nat_tests)
 
 le_of : (n m : ℕ) → nat_le n m ≡ true → n ≤ m
 le_of n m h = grind (arith, nat_tests)
 
-few_prds : (buffer : Bool) → length (prds_with buffer) ≤ 248
+pub few_prds : (buffer : Bool) → length (prds_with buffer) ≤ 248
 few_prds true = omega arith
 few_prds false = omega arith
 
@@ -126,7 +126,7 @@ same_act at count own (effect.Commands slot fields buffer) old new before after 
     (within at count 131072 8192 (table_of slot) 4096 own.tables (omega (arith, least)) (omega (arith, below)))
     h.1.structure
 
-both : (a b : Bool) → (a && b) ≡ true → (a ≡ true) × (b ≡ true)
+pub both : (a b : Bool) → (a && b) ≡ true → (a ≡ true) × (b ≡ true)
 both true b h = (refl, h)
 both false b h = absurd (false≢true h)
 
@@ -203,7 +203,7 @@ not_or_or : (a b c : Bool) → ((not a || b) || c) ≡ false → a ≡ true
 not_or_or true b c h = refl
 not_or_or false b c h = absurd (true≢false h)
 
-runs : (port : Port) (frame : List ℕ) → ignores (port_of frame) port frame ≡ false → port.registers.started ≡ true
+pub runs : (port : Port) (frame : List ℕ) → ignores (port_of frame) port frame ≡ false → port.registers.started ≡ true
 runs port frame h = and_first port.registers.started _ (not_or_or (is_running port) _ _ h)
 
 -- ---- one turn

@@ -8,3 +8,4 @@ pub mod Requests
 pub mod Submits
 pub mod HostTurns
 pub mod Laws
+pub mod Events

@@ -1,5 +1,6 @@
 //! What is true of the driver over ticks and over lists of turns.
 
+ghost use Rattle.hba_driver.specs.Events.{EachRunTells, HostsAreSound, TurnsAreEvents};
 ghost use Rattle.hba_driver.specs.Laws.{CommandsStand, DoneIsFree, EachRunKeeps, TicksKeep, TicksServe};
 
 /// A tick takes no request and gives none away, gives no ticket, and ends no request twice. It does
@@ -31,4 +32,19 @@ pub fn commands_stand()
 /// issued in its slot of the port any more. It does nothing when it runs.
 pub fn done_is_free()
     ensures { DoneIsFree }
+{}
+
+/// Port, driver and memory together are sound as they open, whatever the first ticket and the size of
+/// memory, and stay so over every list of turns. It does nothing when it runs.
+pub fn hosts_stay_sound()
+    ensures { HostsAreSound }
+{}
+
+/// Every list of turns of the host, from any sound one, is a list of events of its port and memory,
+/// which run from both before it to both after it. The frames that are taken and given and the bytes
+/// that clients write are in it what they are in the turns, in their order. It does nothing when it
+/// runs.
+pub fn turns_are_events()
+    ensures runs { TurnsAreEvents }
+    ensures tells { EachRunTells }
 {}

@@ -1,0 +1,273 @@
+-- What is true of port, driver and memory together as they open, and after each turn.
+use Rattle.std.proofs.Common.{◌≡◌, ℕ, ◌+◌, ◌-◌, ◌*◌, ◌<◌, ◌≤◌, ◌⊎◌, Bool, true, false, nat_lt, List, [], ◌∷◌, length, take, drop, replicate, get_or, refl, sym, ◌∙◌, ap, subst, inl, inr, arith, Option, Some, None}
+use Rattle.std.specs.Prelude.{is_none, not}
+use Rattle.std.specs.List.{list_all}
+use Rattle.std.specs.Option.{option_or}
+use Rattle.std.proofs.lemmas.Bool.{cases_Bool, cases_lt, false≢true, true≢false}
+use Rattle.std.proofs.lemmas.List.{get_or-replicate, get_or_past, length-drop, length-replicate}
+use Rattle.fis_view.specs.Frames.{Stamped}
+use Rattle.fis_view.specs.Seen.{seen}
+use Rattle.fis_view.specs.declared.view.Fis.{Fis}
+use Rattle.fis_view.specs.declared.view.Fis.TheVariants as view
+use Rattle.host_memory.specs.Memory.{IsHostMemory, Memory}
+use Rattle.slots.specs.Slots.{match_some}
+use Rattle.hba_fbs.specs.declared.hearing.Heard.{Heard}
+use Rattle.hba_fbs.specs.declared.registers.Registers.{Registers}
+use Rattle.hba_fbs.specs.declared.report.TakeReport.{TakeReport}
+use Rattle.hba_fbs.specs.Posting.{posted}
+use Rattle.hba_fbs.specs.Sending.{Data, Gives, Nothing, Order, Outgoing, Unreadable, outgoing}
+use Rattle.hba_fbs.specs.Taking.{PostsOf, admitted, heard_now, ignores, port_of, posted_of, settled}
+use Rattle.hba_fbs.specs.Views.{Port, view_of}
+use Rattle.hba_laws.specs.Hosts as event
+use Rattle.hba_laws.proofs.KeptLemmas.{client_lens}
+use Rattle.hba_laws.proofs.SoundLemmas.{opens_sound}
+use Rattle.hba_driver.specs.declared.effect.Effect.{Effect}
+use Rattle.hba_driver.specs.declared.plan.Device.{Device}
+use Rattle.hba_driver.specs.declared.plan.Device.TheVariants.{Absent}
+use Rattle.hba_driver.specs.declared.plan.Plan.{Plan}
+use Rattle.hba_driver.specs.declared.request.Request.{Request}
+use Rattle.hba_driver.specs.declared.request.SubmitError.{SubmitError}
+use Rattle.hba_driver.specs.Drivers.{AreRequests, Driver, Entry, device_at, entry_at}
+use Rattle.hba_driver.specs.Effects.{ActsAll, is_effect, opening_write}
+use Rattle.hba_driver.specs.Events.{AreDriven, HostsAreSound, IsSoundHost, KnowsNone, opening_host, shared_by}
+use Rattle.hba_driver.specs.HostTurns.{AreHosts, Does, DoesAll, Host, HostTurn, IsHost, Took, Pushed, Ticked, Submitted, Polled, Put, sight_in}
+use Rattle.hba_driver.specs.Requests.{device_refusal}
+use Rattle.hba_driver.specs.Submits.{after_poll, lowest_ended, next_slot, submit_refusal}
+use Rattle.hba_driver.specs.Ticks.{after_tick, effects}
+use Rattle.hba_driver.proofs.DrivenLemmas.{Going, Opening, Resting, driven_open, driven_opens, none_ticked, past, tick_is}
+use Rattle.hba_driver.proofs.EffectLemmas.{none_acts}
+use Rattle.hba_driver.proofs.EventLemmas.{Left, beside_area, left_effects, same_sizes, sized, sized_effect}
+use Rattle.hba_driver.proofs.HistoryLemmas.{free_below, requests_turn}
+use Rattle.hba_driver.proofs.StandLemmas.{both, runs}
+use Rattle.hba_driver.proofs.SubmitLemmas.{is_taken}
+
+-- ---- what a frame leaves of the registers
+
+-- the places of command list and received area stay, and FRE and ST
+record Kept (r s : Registers) : Type 0 where
+  pub list : s.clb ≡ r.clb
+  pub area : s.fb ≡ r.fb
+  pub receives : s.receives ≡ r.receives
+  pub starts : s.started ≡ r.started
+
+kept_same : (r s : Registers) → s ≡ r → Kept r s
+kept_same r s is = record {
+  list = ap (λ (x : Registers). x.clb) is;
+  area = ap (λ (x : Registers). x.fb) is;
+  receives = ap (λ (x : Registers). x.receives) is;
+  starts = ap (λ (x : Registers). x.started) is;
+}
+
+kept_port : (p q : Port) → q ≡ p → Kept p.registers q.registers
+kept_port p q is = kept_same p.registers q.registers (ap (λ (x : Port). x.registers) is)
+
+kept_driven : (n : ℕ) (r s : Registers) → Kept r s → AreDriven n r → AreDriven n s
+kept_driven n r s k d = record { commands = k.list ∙ d.commands; area = λ h. k.area ∙ d.area h; closed = λ h. k.receives ∙ d.closed h; stopped = λ h. k.starts ∙ d.stopped h }
+
+kept_posted : (r : Registers) (dev : ℕ) (b : Bool) (fis : Option Fis) → Kept r (posted_of r dev b fis)
+unfolding posted
+kept_posted r dev b None = record { list = refl; area = refl; receives = refl; starts = refl }
+kept_posted r dev b (Some (view.RegH2D f)) = record { list = refl; area = refl; receives = refl; starts = refl }
+kept_posted r dev b (Some (view.RegD2H f)) = record { list = refl; area = refl; receives = refl; starts = refl }
+kept_posted r dev b (Some (view.SetBits f)) = record { list = refl; area = refl; receives = refl; starts = refl }
+kept_posted r dev b (Some (view.DmaActivate f)) = record { list = refl; area = refl; receives = refl; starts = refl }
+kept_posted r dev b (Some (view.DmaSetup f)) = record { list = refl; area = refl; receives = refl; starts = refl }
+kept_posted r dev b (Some (view.PioSetup f)) = record { list = refl; area = refl; receives = refl; starts = refl }
+kept_posted r dev b (Some (view.Payload f)) = record { list = refl; area = refl; receives = refl; starts = refl }
+kept_posted r dev b (Some (view.Unknown f)) = record { list = refl; area = refl; receives = refl; starts = refl }
+
+kept_settled : (r : Registers) (dev : ℕ) (b : Bool) (fis : Option Fis) (h : Heard) → Kept r (settled (posted_of r dev b fis) h)
+unfolding settled
+kept_settled r dev b fis h =
+    let k : Kept r (posted_of r dev b fis) = kept_posted r dev b fis in
+    record { list = k.list; area = k.area; receives = k.receives; starts = k.starts }
+
+kept_gives : (o : Outgoing) (old : Port) (memory : Memory) (frame : Option Stamped) (new : Port) → Gives o old memory frame new → Kept old.registers new.registers
+kept_gives Nothing old memory frame new gives = kept_port old new gives.1
+kept_gives (Unreadable dev) old memory frame new gives =
+    subst (Kept old.registers) (sym (ap (λ (p : Port). p.registers) gives.1)) (record { list = refl; area = refl; receives = refl; starts = refl })
+kept_gives (Data dev offset len command) old memory None new gives = absurd gives
+kept_gives (Data dev offset len command) old memory (Some f) new gives = kept_same old.registers new.registers gives.registers
+kept_gives (Order dev slot command) old memory None new gives = absurd gives
+kept_gives (Order dev slot command) old memory (Some f) new gives = kept_same old.registers new.registers gives.registers
+
+kept_took : (old new : Host) (frame : List ℕ) (report : TakeReport) → Does old (Took frame report) new → Kept old.port.registers new.port.registers
+kept_took old new frame report h =
+    let dev : ℕ = port_of frame in
+    let fis : Option Fis = admitted dev (seen frame) in
+    elim (cases_Bool (ignores dev old.port frame)) [
+      | inl skip ↦ kept_port old.port new.port (h.ignored skip).port
+      | inr heard ↦
+          subst (Kept old.port.registers) (sym (h.heard heard).registers) (kept_settled old.port.registers dev (view_of dev old.port).state.resetting fis (heard_now old.port old.memory dev fis))
+    ]
+
+-- ---- what a frame leaves of memory
+
+posted_len : (fb dev : ℕ) (fis : Option Fis) (s t : List ℕ) → fb ≡ 4096 → length s ≡ 1048576 → PostsOf fb dev fis s t → length t ≡ length s
+posted_len fb dev None s t at long h = ap (λ (x : List ℕ). length x) h
+posted_len fb dev (Some fis) s t at long h =
+    let behind : length (drop (fb + 4096) t) ≡ length (drop (fb + 4096) s) = ap (λ (x : List ℕ). length x) h.behind in
+    omega (arith, behind, length-drop (fb + 4096) t, length-drop (fb + 4096) s, at, long)
+
+-- the received area of a port that runs is the driver's
+pub started_area : (n : ℕ) (r : Registers) → AreDriven n r → r.started ≡ true → r.fb ≡ 4096
+started_area n r d starts = elim (cases_lt n 7) [
+  | inl less ↦ absurd (false≢true (sym (d.stopped (omega (arith, less))) ∙ starts))
+  | inr least ↦ d.area (omega (arith, least))
+]
+
+took_structure : (old new : Host) (frame : List ℕ) (report : TakeReport) → Does old (Took frame report) new → IsSoundHost old → length new.memory.structure ≡ length old.memory.structure
+took_structure old new frame report h s = elim (cases_Bool (ignores (port_of frame) old.port frame)) [
+  | inl skip ↦ ap (λ (m : Memory). length m.structure) (h.ignored skip).memory
+  | inr heard ↦
+      posted_len old.port.registers.fb (port_of frame) (admitted (port_of frame) (seen frame)) old.memory.structure new.memory.structure
+      (started_area old.driver.plan.opened old.port.registers s.registers (runs old.port frame heard)) s.memory.structure_len (h.heard heard).structure
+]
+
+took_client : (old new : Host) (frame : List ℕ) (report : TakeReport) → Does old (Took frame report) new → length new.memory.client ≡ length old.memory.client
+took_client old new frame report h =
+    client_lens (shared_by old) (shared_by new) (event.Took frame report ∷ []) (shared_by new, record { ignored = h.ignored; heard = h.heard }, refl)
+
+put_client : (old new : Host) (at : ℕ) (bytes : List ℕ) → Does old (Put at bytes) new → length new.memory.client ≡ length old.memory.client
+put_client old new at bytes h =
+    client_lens (shared_by old) (shared_by new) (event.Put at bytes ∷ []) (shared_by new, (record { inside = h.inside; after = h.memory }, h.port), refl)
+
+-- ---- a turn that is no tick
+
+-- it leaves the plan
+sound_by : (old : Host) (t : HostTurn) (new : Host) → Does old t new → IsSoundHost old → IsHostMemory new.memory → Kept old.port.registers new.port.registers → new.driver.plan ≡ old.driver.plan → IsSoundHost new
+sound_by old t new h s memory kept plan = record {
+  memory = memory;
+  requests = requests_turn old t new h s.requests;
+  registers = subst (λ (p : Plan). AreDriven p.opened new.port.registers) (sym plan) (kept_driven old.driver.plan.opened old.port.registers new.port.registers kept s.registers);
+  devices = subst KnowsNone (sym plan) s.devices;
+}
+
+plan_is : (d e : Driver) → e ≡ d → e.plan ≡ d.plan
+plan_is d e is = ap (λ (x : Driver). x.plan) is
+
+polled_plan : (d : Driver) → (after_poll d).plan ≡ d.plan
+unfolding after_poll
+polled_plan d = by_slot (lowest_ended d.entries)
+  where
+    by_slot : (o : Option ℕ) → (match_some o d (λ slot. record d { entries = Rattle.std.specs.Prelude.slice_set d.entries slot None })).plan ≡ d.plan
+    by_slot None = refl
+    by_slot (Some slot) = refl
+
+-- ---- a tick
+
+-- the lists of effects of which the first is this
+acts_of : (es fs : List Effect) (old new : Port) (before after : Memory) → es ≡ fs → ActsAll es old before new after → ActsAll fs old before new after
+acts_of es fs old new before after is h = subst (λ (x : List Effect). ActsAll x old before new after) is h
+
+opened_sound : (k : ℕ) → k < 7 → (old new : Port) (before after : Memory) → list_all is_effect (opening_write k ∷ []) ≡ true → ActsAll (opening_write k ∷ []) old before new after → IsHostMemory before → AreDriven k old.registers
+    → IsHostMemory after × AreDriven (k + 1) new.registers
+unfolding ActsAll
+opened_sound k less old new before after is h m d = (
+  same_sizes h.1 after h.4.1 (sized_effect (opening_write k) old h.0 before h.1 (both (is_effect (opening_write k)) true is).0 h.2 m),
+  subst (λ (p : Port). AreDriven (k + 1) p.registers) (sym h.4.0) (driven_opens k less old h.0 before h.1 h.2 d),
+)
+
+sound_tick : (old : Host) (a : Bool) (new : Host) → Does old (Ticked a) new → IsSoundHost old → IsSoundHost new
+sound_tick old a new h s =
+    let v = sight_in old in
+    let d : Driver = old.driver in
+    let plan : new.driver.plan ≡ (after_tick v d).plan = plan_is (after_tick v d) new.driver h.driver in
+    let known : KnowsNone new.driver.plan = subst KnowsNone (sym plan) (none_ticked v d s.devices) in
+    elim (tick_is v d) [
+      | inl rest ↦
+          let same = none_acts old.port new.port old.memory new.memory (acts_of (effects v d) [] old.port new.port old.memory new.memory rest.none h.does) in
+          sound_by old (Ticked a) new h s (same_sizes old.memory new.memory same.1 s.memory) (kept_port old.port new.port same.0) (plan ∙ rest.plan_is)
+      | inr some ↦ elim some [
+        | inl first ↦
+            let k : ℕ = d.plan.opened in
+            let both_are = opened_sound k first.less old.port new.port old.memory new.memory (subst (λ (es : List Effect). list_all is_effect es ≡ true) first.one h.possible)
+            (acts_of (effects v d) (opening_write k ∷ []) old.port new.port old.memory new.memory first.one h.does) s.memory s.registers in
+            record {
+              memory = both_are.0;
+              requests = requests_turn old (Ticked a) new h s.requests;
+              registers = subst (λ (p : Plan). AreDriven p.opened new.port.registers) (sym (plan ∙ first.plan_is)) both_are.1;
+              devices = known;
+            }
+        | inr going ↦
+            let left : Left old.port new.port new.memory = left_effects (effects v d) old.port new.port old.memory new.memory h.possible going.quiet s.memory h.does in
+            record {
+              memory = left.sizes;
+              requests = requests_turn old (Ticked a) new h s.requests;
+              registers = subst (λ (n : ℕ). AreDriven n new.port.registers) (sym (ap (λ (p : Plan). p.opened) plan ∙ going.opened_is))
+                  (driven_open d.plan.opened old.port.registers new.port.registers going.least left.place s.registers);
+              devices = known;
+            }
+      ]
+    ]
+
+-- ---- each turn
+
+submit_sizes : (old new : Host) (dev : ℕ) (request : Request) (ticket : ℕ) → Does old (Submitted dev request ticket) new → IsSoundHost old → IsHostMemory new.memory
+submit_sizes old new dev request ticket h s =
+    let below : next_slot old.driver < 30 = free_below old.driver old.memory dev request h.accepted in
+    let same = beside_area (next_slot old.driver) _ request.prds.items old.memory.structure new.memory.structure s.memory.structure_len (omega (arith, below)) (is_taken old.driver old.memory dev request h.accepted).few h.taken.command in
+    sized old.memory new.memory s.memory (same.long ∙ sym s.memory.structure_len) (ap (λ (c : List ℕ). length c) h.taken.client)
+
+pub sound_turn : (old : Host) (t : HostTurn) (new : Host) → Does old t new → IsSoundHost old → IsSoundHost new
+sound_turn old (Took frame report) new h s =
+    sound_by old (Took frame report) new h s (sized old.memory new.memory s.memory (took_structure old new frame report h s) (took_client old new frame report h)) (kept_took old new frame report h) (plan_is old.driver new.driver h.driver)
+sound_turn old (Pushed frame) new h s =
+    sound_by old (Pushed frame) new h s (same_sizes old.memory new.memory h.memory s.memory) (kept_gives (outgoing old.port old.memory) old.port old.memory frame new.port h.gives) (plan_is old.driver new.driver h.driver)
+sound_turn old (Ticked a) new h s = sound_tick old a new h s
+sound_turn old (Submitted dev request ticket) new h s =
+    sound_by old (Submitted dev request ticket) new h s (submit_sizes old new dev request ticket h s) (kept_port old.port new.port h.port) (ap (λ (x : Driver). x.plan) h.taken.driver)
+sound_turn old (Polled c) new h s =
+    sound_by old (Polled c) new h s (same_sizes old.memory new.memory h.memory s.memory) (kept_port old.port new.port h.port) (plan_is (after_poll old.driver) new.driver h.driver ∙ polled_plan old.driver)
+sound_turn old (Put at bytes) new h s =
+    sound_by old (Put at bytes) new h s (sized old.memory new.memory s.memory (ap (λ (m : Memory). length m.structure) h.memory) (put_client old new at bytes h)) (kept_port old.port new.port h.port) (plan_is old.driver new.driver h.driver)
+
+pub sound_over : (old : Host) (turns : List HostTurn) (new : Host) → DoesAll old turns new → IsSoundHost old → IsSoundHost new
+sound_over old [] new run s = subst IsSoundHost (sym run) s
+sound_over old (t ∷ turns) new run s = sound_over run.0 turns new run.2 (sound_turn old t run.0 run.1 s)
+
+sound_host : (h : Host) → IsSoundHost h → IsHost h
+sound_host h s = record { memory = s.memory; area = started_area h.driver.plan.opened h.port.registers s.registers }
+
+sound_hosts : (old : Host) (turns : List HostTurn) (new : Host) (run : DoesAll old turns new) → IsSoundHost old → AreHosts old new turns run
+sound_hosts old [] new run s = sound_host old s
+sound_hosts old (t ∷ turns) new run s = (sound_host old s, sound_hosts run.0 turns new run.2 (sound_turn old t run.0 run.1 s))
+
+-- ---- a host as it opens
+
+abbrev no_entry : Option Entry
+no_entry = None
+
+entry_none : (s : ℕ) → entry_at (replicate 30 no_entry) s ≡ None
+entry_none s = elim (cases_lt s 30) [
+  | inl less ↦ get_or-replicate 30 s no_entry None less
+  | inr least ↦ get_or_past (replicate 30 no_entry) s None (rw (length-replicate 30 no_entry) least)
+]
+
+no_request : (s : ℕ) (e : Entry) {P : Type 0} → entry_at (replicate 30 no_entry) s ≡ Some e → P
+no_request s e h = let bad : no_entry ≡ Some e = sym (entry_none s) ∙ h in cc
+
+no_requests : (given : ℕ) → AreRequests given (replicate 30 no_entry)
+no_requests given = record {
+  slots = length-replicate 30 no_entry;
+  given = λ s e h. no_request s e h;
+  own = λ s t e f h k is. no_request s e h;
+  apart = λ s t e f h k other reads. no_request s e h;
+}
+
+absent : (dev : ℕ) → Rattle.std.specs.Prelude.slice_index_or (replicate 15 Absent) dev Absent ≡ Absent
+absent dev = elim (cases_lt dev 15) [
+  | inl less ↦ get_or-replicate 15 dev Absent Absent less
+  | inr least ↦ get_or_past (replicate 15 Absent) dev Absent (rw (length-replicate 15 Absent) least)
+]
+
+opens : (given len : ℕ) → Rattle.host_memory.specs.Memory.is_memory_size len ≡ true → IsSoundHost (opening_host given len)
+opens given len h = record {
+  memory = (opens_sound len h).memory;
+  requests = no_requests given;
+  registers = record { commands = refl; area = past 3 0 refl; closed = λ k. refl; stopped = λ k. refl };
+  devices = λ less dev. absent dev;
+}
+
+pub hosts_stay_sound : HostsAreSound
+hosts_stay_sound = record { opens = opens; stays = sound_turn; last = sound_over; each = sound_hosts }
