@@ -1,12 +1,10 @@
 -- What is true of port, driver and memory together: what each turn keeps of it.
-use Rattle.std.proofs.Common.{◌≡◌, ℕ, zero, suc, ◌+◌, ◌-◌, ◌*◌, ◌<◌, ◌≤◌, ◌⊎◌, Bool, true, false, ◌&&◌, nat_lt, nat_le, List, [], ◌∷◌, length, take, drop, replicate, get_or, refl, sym, ◌∙◌, ap, subst, inl, inr, arith, Option, Some, None, length-drop}
-use Rattle.std.specs.Prelude.{if◌then◌else◌, not, is_some, MatchOption}
+use Rattle.std.proofs.Common.{◌≡◌, ℕ, zero, suc, ◌+◌, ◌<◌, ◌≤◌, ◌⊎◌, Bool, true, false, nat_lt, nat_le, List, [], ◌∷◌, refl, sym, ◌∙◌, ap, subst, inl, inr, arith, Option, Some, None}
+use Rattle.std.specs.Prelude.{if◌then◌else◌, is_some, MatchOption}
 use Rattle.std.specs.List.{list_all}
 use Rattle.std.specs.Option.{option_map, option_or}
-use Rattle.std.proofs.lemmas.Bool.{cases_Bool, false≢true, true≢false}
+use Rattle.std.proofs.lemmas.Bool.{cases_Bool, false≢true}
 use Rattle.std.proofs.lemmas.Bool.Decides.{nat_tests}
-use Rattle.std.proofs.lemmas.List.{get_or-replicate, get_or_past, length-replicate}
-use Rattle.std.proofs.lemmas.Bool.{cases_lt}
 use Rattle.fis_view.specs.declared.build.H2dFields.{H2dFields}
 use Rattle.host_memory.specs.Memory.{Memory}
 use Rattle.hba_fbs.specs.declared.error.WriteError.{WriteError}
@@ -14,24 +12,22 @@ use Rattle.hba_fbs.specs.declared.error.WriteError.TheVariants as refusal
 use Rattle.hba_fbs.specs.declared.register.Register.{Register}
 use Rattle.hba_fbs.specs.declared.register.Register.TheVariants.{Clb, Clbu, Fb, Fbu, Is, Ie, Cmd, Tfd, Sig, Serr, Sact, Ci, Sntf, Fbs}
 use Rattle.hba_fbs.specs.declared.registers.Registers.{Registers}
-use Rattle.hba_fbs.specs.Bits.{fre, st}
 use Rattle.hba_fbs.specs.Offsets.{register_at}
 use Rattle.hba_fbs.specs.Registers.{own_refusal, running_if, written}
 use Rattle.hba_fbs.specs.Views.{Port}
-use Rattle.hba_fbs.specs.Writing.{Accepts, Writes, refusal_of, slots_refusal, write_refusal}
+use Rattle.hba_fbs.specs.Writing.{Accepts, refusal_of, slots_refusal, write_refusal}
 use Rattle.slots.specs.Slots.{has_bit, match_some}
 use Rattle.hba_driver.specs.declared.effect.Effect.{Effect}
 use Rattle.hba_driver.specs.declared.effect.Effect.TheVariants as effect
 use Rattle.hba_driver.specs.declared.order.Order.{Order}
 use Rattle.hba_driver.specs.declared.order.Order.TheVariants.{ResetOn, ResetOff, AwaitSignature, CountPorts, SetMask, Enable, Open, Scan, Clear, Detect, Watch, NoMultiplier}
-use Rattle.hba_driver.specs.declared.plan.Device.TheVariants.{Absent}
 use Rattle.hba_driver.specs.declared.plan.Plan.{Plan}
 use Rattle.hba_driver.specs.declared.sight.Sight.{Sight}
 use Rattle.hba_driver.specs.declared.turn.Act.{Act}
 use Rattle.hba_driver.specs.declared.turn.Act.TheVariants as act
 use Rattle.hba_driver.specs.declared.turn.Turn.{Turn}
-use Rattle.hba_driver.specs.Drivers.{Driver, Entry, device_at, entry_at}
-use Rattle.hba_driver.specs.Effects.{Acts, ActsAll, Tries, effects_of, issuing, opening_write, order_effects}
+use Rattle.hba_driver.specs.Drivers.{Driver, Entry, entry_at}
+use Rattle.hba_driver.specs.Effects.{Acts, Tries, effects_of, issuing, opening_write, order_effects}
 use Rattle.hba_driver.specs.Events.{AreDriven, KnowsNone}
 use Rattle.hba_driver.specs.Orders.{is_queued, order_fields}
 use Rattle.hba_driver.specs.Ticks.{acted, after_tick, done_ended, due, effects, effects_due, plan_after, seen, turn}

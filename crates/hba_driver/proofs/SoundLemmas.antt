@@ -1,9 +1,9 @@
 -- What is true of port, driver and memory together as they open, and after each turn.
-use Rattle.std.proofs.Common.{◌≡◌, ℕ, ◌+◌, ◌-◌, ◌*◌, ◌<◌, ◌≤◌, ◌⊎◌, Bool, true, false, nat_lt, List, [], ◌∷◌, length, take, drop, replicate, get_or, refl, sym, ◌∙◌, ap, subst, inl, inr, arith, Option, Some, None}
+use Rattle.std.proofs.Common.{◌≡◌, ℕ, ◌+◌, ◌<◌, Bool, true, List, [], ◌∷◌, length, drop, replicate, get_or, refl, sym, ◌∙◌, ap, subst, inl, inr, arith, Option, Some, None}
 use Rattle.std.specs.Prelude.{is_none, not}
 use Rattle.std.specs.List.{list_all}
 use Rattle.std.specs.Option.{option_or}
-use Rattle.std.proofs.lemmas.Bool.{cases_Bool, cases_lt, false≢true, true≢false}
+use Rattle.std.proofs.lemmas.Bool.{cases_Bool, cases_lt, false≢true}
 use Rattle.std.proofs.lemmas.List.{get_or-replicate, get_or_past, length-drop, length-replicate}
 use Rattle.fis_view.specs.Frames.{Stamped}
 use Rattle.fis_view.specs.Seen.{seen}
@@ -22,19 +22,16 @@ use Rattle.hba_laws.specs.Hosts as event
 use Rattle.hba_laws.proofs.KeptLemmas.{client_lens}
 use Rattle.hba_laws.proofs.SoundLemmas.{opens_sound}
 use Rattle.hba_driver.specs.declared.effect.Effect.{Effect}
-use Rattle.hba_driver.specs.declared.plan.Device.{Device}
 use Rattle.hba_driver.specs.declared.plan.Device.TheVariants.{Absent}
 use Rattle.hba_driver.specs.declared.plan.Plan.{Plan}
 use Rattle.hba_driver.specs.declared.request.Request.{Request}
-use Rattle.hba_driver.specs.declared.request.SubmitError.{SubmitError}
-use Rattle.hba_driver.specs.Drivers.{AreRequests, Driver, Entry, device_at, entry_at}
+use Rattle.hba_driver.specs.Drivers.{AreRequests, Driver, Entry, entry_at}
 use Rattle.hba_driver.specs.Effects.{ActsAll, is_effect, opening_write}
 use Rattle.hba_driver.specs.Events.{AreDriven, HostsAreSound, IsSoundHost, KnowsNone, opening_host, shared_by}
 use Rattle.hba_driver.specs.HostTurns.{AreHosts, Does, DoesAll, Host, HostTurn, IsHost, Took, Pushed, Ticked, Submitted, Polled, Put, sight_in}
-use Rattle.hba_driver.specs.Requests.{device_refusal}
-use Rattle.hba_driver.specs.Submits.{after_poll, lowest_ended, next_slot, submit_refusal}
+use Rattle.hba_driver.specs.Submits.{after_poll, lowest_ended, next_slot}
 use Rattle.hba_driver.specs.Ticks.{after_tick, effects}
-use Rattle.hba_driver.proofs.DrivenLemmas.{Going, Opening, Resting, driven_open, driven_opens, none_ticked, past, tick_is}
+use Rattle.hba_driver.proofs.DrivenLemmas.{driven_open, driven_opens, none_ticked, past, tick_is}
 use Rattle.hba_driver.proofs.EffectLemmas.{none_acts}
 use Rattle.hba_driver.proofs.EventLemmas.{Left, beside_area, left_effects, same_sizes, sized, sized_effect}
 use Rattle.hba_driver.proofs.HistoryLemmas.{free_below, requests_turn}

@@ -1,16 +1,14 @@
 -- Each list of turns is a list of events, and tells the same.
-use Rattle.std.proofs.Common.{◌≡◌, ℕ, ◌+◌, ◌*◌, ◌<◌, ◌≤◌, ◌⊎◌, Bool, true, false, ◌&&◌, List, [], ◌∷◌, ◌++◌, length, replicate, refl, sym, ◌∙◌, ap, subst, inl, inr, arith, Option, Some, None}
+use Rattle.std.proofs.Common.{◌≡◌, ℕ, ◌<◌, ◌≤◌, Bool, true, false, ◌&&◌, List, [], ◌∷◌, ◌++◌, length, replicate, refl, sym, ◌∙◌, ap, subst, inl, inr, arith, Option, Some, None}
 use Rattle.std.specs.Prelude.{not}
 use Rattle.std.specs.List.{flat_map, list_all}
 use Rattle.std.specs.Option.{option_or}
 use Rattle.std.proofs.lemmas.Bool.{cases_lt}
 use Rattle.std.proofs.lemmas.Grind.{flat_map-append}
-use Rattle.fis_view.specs.Frames.{Stamped}
 use Rattle.host_memory.specs.Memory.{IsHostMemory, Memory}
 use Rattle.slots.specs.Slots.{match_some}
 use Rattle.hba_fbs.specs.declared.error.WriteError.{WriteError}
 use Rattle.hba_fbs.specs.declared.register.Register.{Register}
-use Rattle.hba_fbs.specs.declared.report.TakeReport.{TakeReport}
 use Rattle.hba_fbs.specs.Offsets.{register_at}
 use Rattle.hba_fbs.specs.Views.{Port}
 use Rattle.hba_fbs.specs.Writing.{write_refusal}
@@ -20,21 +18,20 @@ use Rattle.hba_laws.specs.Hosts.{HostEvent, Runs}
 use Rattle.hba_laws.specs.Sound as sound
 use Rattle.hba_driver.specs.declared.effect.Effect.{Effect}
 use Rattle.hba_driver.specs.declared.effect.Effect.TheVariants as effect
-use Rattle.hba_driver.specs.declared.plan.Device.{Device}
 use Rattle.hba_driver.specs.declared.plan.Device.TheVariants.{Absent}
 use Rattle.hba_driver.specs.declared.request.Request.{Request}
 use Rattle.hba_driver.specs.declared.request.SubmitError.{SubmitError}
 use Rattle.hba_driver.specs.declared.request.SubmitError.TheVariants as refusal
 use Rattle.hba_driver.specs.Drivers.{Driver, device_at}
 use Rattle.hba_driver.specs.Effects.{ActsAll, IsRuled, is_effect, opening_write, opening_writes}
-use Rattle.hba_driver.specs.Events.{AreRuled, EachRunTells, IsSoundHost, KnowsNone, TakeFrames, TurnsAreEvents, TurnsTell, events_of, events_of_effect, events_of_effects, events_over, gave, pushed_by, put, put_by, shared_by, taken_by, took, wrote_to}
+use Rattle.hba_driver.specs.Events.{AreRuled, EachRunTells, IsSoundHost, KnowsNone, TakeFrames, TurnsAreEvents, events_of, events_of_effect, events_of_effects, events_over, gave, pushed_by, put, put_by, shared_by, taken_by, took, wrote_to}
 use Rattle.hba_driver.specs.HostTurns.{Does, DoesAll, Host, HostTurn, Took, Pushed, Ticked, Submitted, Polled, Put, sight_in}
 use Rattle.hba_driver.specs.Requests.{device_refusal}
 use Rattle.hba_driver.specs.Submits.{next_slot, submit_refusal}
-use Rattle.hba_driver.specs.Ticks.{after_tick, effects}
-use Rattle.hba_driver.proofs.DrivenLemmas.{Going, Opening, Resting, tick_is}
+use Rattle.hba_driver.specs.Ticks.{effects}
+use Rattle.hba_driver.proofs.DrivenLemmas.{tick_is}
 use Rattle.hba_driver.proofs.EffectLemmas.{all_at}
-use Rattle.hba_driver.proofs.EventLemmas.{Good, beside, beside_area, beside_same, does_store, good_by, good_effect, good_effects, good_none, good_one, good_then, same_sizes, sized_effect, sound_beside, wants_area}
+use Rattle.hba_driver.proofs.EventLemmas.{Good, beside, beside_area, beside_same, does_store, good_by, good_effect, good_effects, good_none, good_one, good_then, sized_effect, sound_beside, wants_area}
 use Rattle.hba_driver.proofs.HistoryLemmas.{free_below}
 use Rattle.hba_driver.proofs.SoundLemmas.{sound_turn}
 use Rattle.hba_driver.proofs.StandLemmas.{both}

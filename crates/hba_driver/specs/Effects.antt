@@ -89,7 +89,7 @@ Acts (effect.Flushes dev) old before new after = Flushes old dev new × (after �
 Acts (effect.Empties dev) old before new after = (new ≡ old) × (after ≡ emptied dev before)
 Acts (effect.Commands slot fields buffer) old before new after = (new ≡ old) × Commands before slot fields (prds_with buffer) after
 
--- what every port keeps by itself: its registers, the commands of its slots, the slots and the errors
+-- what every port keeps by itself: its registers, the commands of its slots, its slots and errors
 pub record IsRuled (port : Port) : Type 0 where
   pub rules : IsPort port
   pub table : IsTable port.slots

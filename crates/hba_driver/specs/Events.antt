@@ -1,6 +1,8 @@
--- The turns of a host as events of its port and memory: each turn is a list of them, and a list of turns the lists of its
--- turns, one after another (AHCI 1.3.1, 3.3, registers, 4.2, memory structures, and chapters 5 and 9).
-use Rattle.std.specs.Prelude.{ℕ, ◌≡◌, ◌<◌, ◌≤◌, true, false, List, [], ◌∷◌, ◌++◌, replicate, Option, Some, None}
+-- The turns of a host as events of its port and memory: each turn is a list of them, and a list of
+-- turns the lists of its turns, one after another (AHCI 1.3.1, 3.3, registers, 4.2, memory
+-- structures, and chapters 5 and 9).
+use Rattle.std.specs.Prelude.{ℕ, ◌≡◌, ◌<◌, ◌≤◌, true, false, List, [], ◌∷◌, ◌++◌, replicate}
+use Rattle.std.specs.Prelude.{Option, Some, None}
 use Rattle.std.specs.List.{flat_map}
 use Rattle.fis_view.specs.Frames.{IsFrame, Stamped}
 use Rattle.host_memory.specs.Memory.{IsHostMemory, Memory, is_memory_size, zeroed}
@@ -21,7 +23,8 @@ use Rattle.hba_driver.specs.declared.plan.Device.TheVariants.{Absent}
 use Rattle.hba_driver.specs.declared.plan.Plan.{Plan}
 use Rattle.hba_driver.specs.Drivers.{AreRequests, device_at, new_driver}
 use Rattle.hba_driver.specs.Effects.{ActsAll, IsRuled}
-use Rattle.hba_driver.specs.HostTurns.{AreHosts, Does, DoesAll, Host, HostTurn, Took, Pushed, Ticked, Submitted, Polled, Put, sight_in}
+use Rattle.hba_driver.specs.HostTurns.{AreHosts, Does, DoesAll, Host, HostTurn, sight_in}
+use Rattle.hba_driver.specs.HostTurns.{Took, Pushed, Ticked, Submitted, Polled, Put}
 use Rattle.hba_driver.specs.Ticks.{effects}
 
 -- ---- the events of a turn
@@ -38,41 +41,47 @@ wrote_to (Some register) value = event.Wrote register value ∷ []
 -- a write that the port takes; one that it refuses leaves all as it was, and is no event
 abbrev pub tried : Port → Memory → (offset value : ℕ) → List HostEvent
 tried port memory offset value =
-    match_some (write_refusal port memory offset value) (wrote_to (register_at offset) value) (λ e. [])
+    match_some (write_refusal port memory offset value)
+    (wrote_to (register_at offset) value) (λ e. [])
 
 -- an effect, from port and memory before it, and the memory after it
 abbrev pub events_of_effect : Effect → Port → (before after : Memory) → List HostEvent
 events_of_effect (effect.Writes offset value) port before after = tried port before offset value
 events_of_effect (effect.Flushes dev) port before after = event.Flushed dev ∷ []
 events_of_effect (effect.Empties dev) port before after = event.Rewrote dev (replicate 256 0) ∷ []
-events_of_effect (effect.Commands slot fields buffer) port before after = event.Stored after.structure ∷ []
+events_of_effect (effect.Commands slot fields buffer) port before after =
+    event.Stored after.structure ∷ []
 
 -- effects, one after another
-unfoldable pub events_of_effects : (es : List Effect) (old : Port) (before : Memory) (new : Port) (after : Memory)
-    → ActsAll es old before new after → List HostEvent
+unfoldable pub events_of_effects : (es : List Effect) (old : Port) (before : Memory)
+    (new : Port) (after : Memory) → ActsAll es old before new after → List HostEvent
 unfolding ActsAll
 events_of_effects [] old before new after acts = []
 events_of_effects (e ∷ es) old before new after acts =
     events_of_effect e old before acts.1 ++ events_of_effects es acts.0 acts.1 new after acts.4
 
-abbrev pub events_of : (old : Host) (turn : HostTurn) (new : Host) → Does old turn new → List HostEvent
+abbrev pub events_of : (old : Host) (turn : HostTurn) (new : Host) → Does old turn new
+    → List HostEvent
 events_of old (Took frame report) new does = event.Took frame report ∷ []
 events_of old (Pushed frame) new does = event.Gave frame ∷ []
 events_of old (Ticked acted) new does =
-    events_of_effects (effects (sight_in old) old.driver) old.port old.memory new.port new.memory does.does
+    events_of_effects (effects (sight_in old) old.driver) old.port old.memory
+    new.port new.memory does.does
 events_of old (Submitted dev request ticket) new does = event.Stored new.memory.structure ∷ []
 events_of old (Polled completion) new does = []
 events_of old (Put at bytes) new does = event.Put at bytes ∷ []
 
 -- and of turns, one after another
-abbrev pub events_over : (old new : Host) (turns : List HostTurn) → DoesAll old turns new → List HostEvent
+abbrev pub events_over : (old new : Host) (turns : List HostTurn) → DoesAll old turns new
+    → List HostEvent
 events_over old new [] run = []
 events_over old new (turn ∷ turns) run =
     events_of old turn run.0 run.1 ++ events_over run.0 new turns run.2
 
 -- ---- port, driver and memory together
 
--- The registers of a port whose driver has done so many of the seven writes that open it. The driver alone writes them.
+-- The registers of a port whose driver has done so many of the seven writes that open it. The driver
+-- alone writes them.
 pub record AreDriven (opened : ℕ) (r : Registers) : Type 0 where
   -- the command list begins at 0
   pub commands : r.clb ≡ 0
@@ -95,10 +104,15 @@ pub record IsSoundHost (h : Host) : Type 0 where
 
 -- a new port and a new driver, beside a memory of so many zeros
 abbrev pub opening_host : (given len : ℕ) → Host
-opening_host given len = record { port = opening_port; driver = new_driver given; memory = zeroed len }
+opening_host given len = record {
+  port = opening_port;
+  driver = new_driver given;
+  memory = zeroed len;
+}
 
--- What a turn says of the slots is said of the views of the devices, which are not all that there is of them. But at each
--- host of a run the port keeps what every port does, and whoever has a port knows it.
+-- What a turn says of the slots is said of the views of the devices, which are not all that there is
+-- of them. But at each host of a run the port keeps what every port does, and whoever has a port
+-- knows it.
 abbrev pub AreRuled : (old new : Host) (turns : List HostTurn) → DoesAll old turns new → Type 0
 AreRuled old new [] run = IsRuled old.port
 AreRuled old new (turn ∷ turns) run = IsRuled old.port × AreRuled run.0 new turns run.2
@@ -107,17 +121,20 @@ AreRuled old new (turn ∷ turns) run = IsRuled old.port × AreRuled run.0 new t
 
 pub record HostsAreSound : Type 0 where
   pub opens : (given len : ℕ) → is_memory_size len ≡ true → IsSoundHost (opening_host given len)
-  pub stays : (old : Host) (turn : HostTurn) (new : Host) → Does old turn new → IsSoundHost old → IsSoundHost new
-  -- so it does over turns, and at each of them the received area of a port that runs is the driver's
-  pub last : (old : Host) (turns : List HostTurn) (new : Host) → DoesAll old turns new → IsSoundHost old → IsSoundHost new
-  pub each : (old : Host) (turns : List HostTurn) (new : Host) (run : DoesAll old turns new) → IsSoundHost old
-      → AreHosts old new turns run
+  pub stays : (old : Host) (turn : HostTurn) (new : Host) → Does old turn new
+      → IsSoundHost old → IsSoundHost new
+  -- so it does over turns, and at each of them a port that runs has the driver's received area
+  pub last : (old : Host) (turns : List HostTurn) (new : Host) → DoesAll old turns new
+      → IsSoundHost old → IsSoundHost new
+  pub each : (old : Host) (turns : List HostTurn) (new : Host) (run : DoesAll old turns new)
+      → IsSoundHost old → AreHosts old new turns run
 
 -- ---- laws: turns are events
 
--- The events of turns run from port and memory before them to port and memory after them, and each host among them is
--- sound where the ports keep their rules.
-pub record AreEvents (old new : Host) (turns : List HostTurn) (run : DoesAll old turns new) : Type 0 where
+-- The events of turns run from port and memory before them to port and memory after them, and each
+-- host among them is sound where the ports keep their rules.
+pub record AreEvents (old new : Host) (turns : List HostTurn) (run : DoesAll old turns new)
+    : Type 0 where
   pub runs : Runs (shared_by old) (events_over old new turns run) (shared_by new)
   pub hosts : AreRuled old new turns run
       → sound.AreHosts (shared_by old) (shared_by new) (events_over old new turns run) runs
@@ -165,13 +182,16 @@ abbrev pub TakeFrames : List HostTurn → Type 0
 TakeFrames [] = Unit {0}
 TakeFrames (turn ∷ turns) = TakesFrames turn × TakeFrames turns
 
--- The frames that are taken, those that are given and the bytes that clients write are in the events what they are in the
--- turns, in their order: no tick and no request adds one.
-pub record TurnsTell (old new : Host) (turns : List HostTurn) (run : DoesAll old turns new) : Type 0 where
+-- The frames that are taken, those that are given and the bytes that clients write are in the events
+-- what they are in the turns, in their order: no tick and no request adds one.
+pub record TurnsTell (old new : Host) (turns : List HostTurn) (run : DoesAll old turns new)
+    : Type 0 where
   pub taken : flat_map took (events_over old new turns run) ≡ flat_map taken_by turns
   pub given : flat_map gave (events_over old new turns run) ≡ flat_map pushed_by turns
   pub clients : flat_map put (events_over old new turns run) ≡ flat_map put_by turns
   pub framed : TakeFrames turns → AreFramed (events_over old new turns run)
 
 abbrev pub EachRunTells : Type 0
-EachRunTells = (old new : Host) (turns : List HostTurn) (run : DoesAll old turns new) → TurnsTell old new turns run
+EachRunTells =
+    (old new : Host) (turns : List HostTurn) (run : DoesAll old turns new)
+    → TurnsTell old new turns run

@@ -29,7 +29,8 @@ pub record Host : Type 0 where
 pub data HostTurn : Type 0 where
   -- the port takes a frame
   Took : (frame : List ℕ) → (report : TakeReport) → HostTurn
-  -- the port is asked for a frame, and gives this one, or none: where a table that it needs is found spoilt, that stops it
+  -- the port is asked for a frame, and gives this one, or none; a table that is found spoilt then
+  -- stops it
   Pushed : (frame : Option Stamped) → HostTurn
   -- the driver ticks, and says whether it acted
   Ticked : (acted : Bool) → HostTurn
