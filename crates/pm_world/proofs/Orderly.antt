@@ -1,0 +1,215 @@
+-- Every world is orderly: a new one is, and no step makes it otherwise.
+use Rattle.std.proofs.Common.{◌≡◌, ◌≢◌, ℕ, ◌<◌, ◌≤◌, ◌==◌, Bool, true, false, List, [], ◌∷◌, length, map, replicate, Option, Some, None, refl, sym, ap, ◌∙◌, subst, arith, inl, inr}
+use Rattle.std.specs.Prelude.{slice_get, slice_set, is_none, nat_le, if◌then◌else◌, Ok, Err, MatchOption, MatchBool, ◌&&◌, ◌%◌}
+use Rattle.std.proofs.lemmas.Bool.{eqb-true, leb-true}
+use Rattle.std.proofs.lemmas.List.{length-set, length-map, length-replicate}
+use Rattle.fis_view.specs.Frames.{Stamped}
+use Rattle.fis_view.specs.declared.frame.Stamp.{Stamp}
+use Rattle.fis_view.specs.declared.build.D2hFields.{D2hFields}
+use Rattle.disk_model.specs.declared.unit.Unit.{Unit}
+use Rattle.pm_ports.specs.Port.{PortState, empty_port, with_up, came_refusal as port_came_refusal}
+use Rattle.pm_control.specs.Answers.{IsAnswer, IsNotice, answer_to}
+use Rattle.pm_registers.specs.RegisterMap.{after_notice}
+use Rattle.multiplier.specs.Arbiter.{control_port}
+use Rattle.multiplier.specs.State.{PmState, control_stamp, counted, held, passes_to, pm_port, port_at, next_place, rising, with_port}
+use Rattle.multiplier.specs.Rules.{FromDeviceRule, FromHostRule, NextUpRule, PlaceGives, PortGives, ControlGives, ToControl, ToDevice, ToNobody, held_source, may_go_back}
+use Rattle.multiplier.specs.Rules.{with_device as connected}
+use Rattle.multiplier.specs.declared.given.Source.TheVariants as source
+use Rattle.multiplier.specs.declared.multiplier.Passed.{Passed}
+use Rattle.multiplier.specs.declared.multiplier.Passed.TheVariants as passed
+use Rattle.multiplier.proofs.Ports as ports
+use Rattle.pm_world.specs.Places.{Places, Place, Queue, IsOrderly, is_config, new_world, opening, with_device, with_multiplier, with_upward, with_downward, with_host}
+use Rattle.pm_world.specs.Rules.{AtPort, OnDevice, OnDeviceAndMultiplier, PmPresenceRule, PmFromDeviceRule, PmDownRule, PmFromHostRule, PmUpRule, CameRule, DiskSendRule, InjectRule, DiskTakeRule, Rule, Run, Outcome, recorded}
+use Rattle.pm_world.specs.declared.step.Config.{Config}
+use Rattle.pm_world.specs.declared.step.Step.{Step}
+use Rattle.pm_world.specs.declared.step.Step.TheVariants as step
+use Rattle.pm_world.specs.declared.step.Answer.{Answer}
+use Rattle.pm_world.specs.declared.step.Answer.TheVariants as answer
+use Rattle.pm_world.proofs.Steps.{AtDevice, AtBoth, at_device, at_both}
+
+-- ---- a port of the multiplier after a write to one
+
+pub port_same : (pm : PmState) (n : ℕ) (p : PortState) → length pm.ports ≡ 15 → n < 15 → port_at (with_port pm n p) n ≡ p
+port_same pm n p room lt = ports.this_port pm.ports n p (omega arith)
+
+pub port_other : (pm : PmState) (n : ℕ) (p : PortState) (m : ℕ) → m ≢ n → port_at (with_port pm n p) m ≡ port_at pm m
+port_other pm n p m other = ports.other_port pm.ports n m p other
+
+-- ---- the multiplier
+
+-- what the world asks of its multiplier
+pub record IsRoomy (pm : PmState) : Type 0 where
+  pub room : length pm.ports ≡ 15
+  pub answer : (frame : Stamped) → pm.answer ≡ Some frame → frame.stamp.port ≡ control_port
+
+-- where nothing waits as the answer of the control port, or what waited before
+same_answer : (old new : PmState) → length new.ports ≡ length old.ports → new.answer ≡ old.answer → IsRoomy old → IsRoomy new
+same_answer old new size same is = record { room = size ∙ is.room; answer = λ frame e. is.answer frame (sym same ∙ e) }
+
+no_answer : (old new : PmState) → length new.ports ≡ length old.ports → new.answer ≡ None → IsRoomy old → IsRoomy new
+no_answer old new size none is = record { room = size ∙ is.room; answer = λ frame e. let wrong : None ≡ Some frame = sym none ∙ e in absurd (cc) }
+
+ports_as : (old new : PmState) (n : ℕ) (p : PortState) → new.ports ≡ slice_set old.ports n p → length new.ports ≡ length old.ports
+ports_as old new n p e = ap length e ∙ length-set old.ports n p
+
+equal_roomy : {old new : PmState} → new ≡ old → IsRoomy old → IsRoomy new
+equal_roomy e is = subst IsRoomy (sym e) is
+
+recorded_roomy : (pm : PmState) (n conn : ℕ) → IsRoomy pm → IsRoomy (recorded pm n conn)
+recorded_roomy pm n conn is = by_test (is_none (port_came_refusal (port_at pm n) conn))
+  where
+    by_test : (b : Bool) → IsRoomy (if b then connected pm n conn else pm)
+    by_test true = record { room = length-set pm.ports n _ ∙ is.room; answer = is.answer }
+    by_test false = is
+
+presence_roomy : (n : ℕ) (old : Place) (pm : PmState) (a : Answer) (new : Place) (after : PmState) → PmPresenceRule n old pm (Ok a) new after → IsRoomy pm → IsRoomy after
+presence_roomy n old pm answer.Idle new after rule is = equal_roomy rule.2 is
+presence_roomy n old pm (answer.Presence p) new after rule is = equal_roomy rule.2.2 (recorded_roomy pm n rule.2.0 is)
+presence_roomy n old pm _ new after rule is = absurd rule
+
+device_roomy : (n : ℕ) (old : Place) (pm : PmState) (a : Answer) (new : Place) (after : PmState) → PmFromDeviceRule n old pm (Ok a) new after → IsRoomy pm → IsRoomy after
+device_roomy n old pm answer.Idle new after rule is = equal_roomy rule.2 is
+device_roomy n old pm answer.Blocked new after rule is = equal_roomy rule.3 is
+device_roomy n old pm (answer.Offered p true) new after rule is = equal_roomy rule.2.2.1 is
+device_roomy n old pm (answer.Offered p false) new after rule is =
+    same_answer pm after (ports_as pm after n _ (ap (λ (m : PmState). m.ports) rule.2.2.2)) (ap (λ (m : PmState). m.answer) rule.2.2.2) is
+device_roomy n old pm _ new after rule is = absurd rule
+
+down_roomy : (n : ℕ) (old : Place) (pm : PmState) (a : Answer) (new : Place) (after : PmState) → PmDownRule n old pm (Ok a) new after → IsRoomy pm → IsRoomy after
+down_roomy n old pm answer.Idle new after rule is = equal_roomy rule.3 is
+down_roomy n old pm answer.Blocked new after rule is = equal_roomy rule.2 is
+down_roomy n old pm (answer.Down p) new after rule is =
+    same_answer pm after (ports_as pm after n _ (ap (λ (m : PmState). m.ports) rule.2.1.1)) (ap (λ (m : PmState). m.answer) rule.2.1.1) is
+down_roomy n old pm _ new after rule is = absurd rule
+
+-- ---- a frame of the host
+
+-- an answer is stamped as it is to be
+stamped_so : (fields : Option D2hFields) (stamp : Stamp) (given : Option Stamped) → IsAnswer fields stamp given → (frame : Stamped) → given ≡ Some frame → frame.stamp ≡ stamp
+stamped_so None stamp None made frame e = absurd (cc)
+stamped_so None stamp (Some g) made frame e = absurd made
+stamped_so (Some fields) stamp None made frame e = absurd made
+stamped_so (Some fields) stamp (Some g) made frame e = subst (λ (o : Option Stamped). MatchOption o (Prim.Unit {0}) (λ f. f.stamp ≡ stamp)) e made.1
+
+control_roomy : (pm : PmState) (frame : Stamped) (p : Passed) (after : PmState) → ToControl pm frame (Ok p) after → IsRoomy pm → IsRoomy after
+control_roomy pm frame passed.Control after rule is = record {
+  room = ap (λ (m : PmState). length m.ports) rule.2 ∙ is.room;
+  answer = λ given e. ap (λ (s : Stamp). s.port) (stamped_so (answer_to pm.resetting pm.registers frame.bytes) (control_stamp pm) after.answer rule.1 given e);
+}
+control_roomy pm frame _ after rule is = absurd rule
+
+port_roomy : (pm : PmState) (frame : Stamped) (o : Option ℕ) (p : Passed) (after : PmState) → MatchOption o (ToNobody pm (Ok p) after) (λ conn. ToDevice pm (pm_port frame) conn frame (Ok p) after) → IsRoomy pm → IsRoomy after
+port_roomy pm frame None passed.Dropped after rule is = equal_roomy rule (record { room = is.room; answer = is.answer })
+port_roomy pm frame None _ after rule is = absurd rule
+port_roomy pm frame (Some conn) (passed.Down m) after rule is =
+    same_answer pm after (ports_as pm after (pm_port frame) _ (ap (λ (q : PmState). q.ports) rule.2)) (ap (λ (q : PmState). q.answer) rule.2) is
+port_roomy pm frame (Some conn) _ after rule is = absurd rule
+
+passed_roomy : (pm : PmState) (frame : Stamped) (p : Passed) (after : PmState) → FromHostRule pm frame (Ok p) after → IsRoomy pm → IsRoomy after
+passed_roomy pm frame p after rule is = by_test (pm_port frame == control_port) rule
+  where
+    by_test : (b : Bool) → MatchBool b (ToControl pm frame (Ok p) after) (MatchOption (passes_to pm (pm_port frame)) (ToNobody pm (Ok p) after) (λ conn. ToDevice pm (pm_port frame) conn frame (Ok p) after)) → IsRoomy after
+    by_test true rule = control_roomy pm frame p after rule is
+    by_test false rule = port_roomy pm frame (passes_to pm (pm_port frame)) p after rule is
+
+-- ---- a frame for the host
+
+gives_roomy : (pm : PmState) (place : ℕ) (frame : Stamped) (after : PmState) → PlaceGives pm place frame after → IsRoomy pm → IsRoomy after
+gives_roomy pm place frame after rule is = by_test (place == control_port) rule
+  where
+    control : (due : Bool) → MatchBool due
+        (IsNotice true (control_stamp pm) (Some frame) × (after ≡ record pm { registers = after_notice pm.registers; number = counted pm.number; served = control_port; given = may_go_back pm source.Notice frame }))
+        ((pm.answer ≡ Some frame) × (after ≡ record pm { answer = None; served = control_port; given = may_go_back pm source.Answer frame })) → IsRoomy after
+    control true rule = same_answer pm after (ap (λ (m : PmState). length m.ports) rule.1) (ap (λ (m : PmState). m.answer) rule.1) is
+    control false rule = no_answer pm after (ap (λ (m : PmState). length m.ports) rule.1) (ap (λ (m : PmState). m.answer) rule.1) is
+
+    port : (o : Option Stamped) → MatchOption o ⊥ (λ was. (was.stamp.port ≡ place) × (frame ≡ rising place was)
+        × (after ≡ record (with_port pm place (with_up (port_at pm place) None)) { served = place; given = may_go_back pm (held_source was) frame })) → IsRoomy after
+    port None rule = absurd rule
+    port (Some was) rule = same_answer pm after (ports_as pm after place _ (ap (λ (m : PmState). m.ports) rule.2)) (ap (λ (m : PmState). m.answer) rule.2) is
+
+    by_test : (b : Bool) → MatchBool b (ControlGives pm frame after) (PortGives pm place frame after) → IsRoomy after
+    by_test true rule = control pm.registers.due rule
+    by_test false rule = port (held pm place) rule
+
+next_roomy : (pm : PmState) (o : Option ℕ) (frame : Stamped) (after : PmState) → MatchOption o ⊥ (λ place. PlaceGives pm place frame after) → IsRoomy pm → IsRoomy after
+next_roomy pm None frame after rule is = absurd rule
+next_roomy pm (Some place) frame after rule is = gives_roomy pm place frame after rule is
+
+up_roomy : (pm : PmState) (upward : Queue) (a : Answer) (after : PmState) (new : Queue) → PmUpRule pm upward (Ok a) after new → IsRoomy pm → IsRoomy after
+up_roomy pm upward answer.Idle after new rule is = equal_roomy rule.2 is
+up_roomy pm upward answer.Blocked after new rule is = equal_roomy rule.1 is
+up_roomy pm upward (answer.Up n) after new rule is = next_roomy pm (next_place pm) rule.1.0 after rule.1.2 is
+up_roomy pm upward _ after new rule is = absurd rule
+
+heard_roomy : (old : Queue) (pm : PmState) (a : Answer) (new : Queue) (after : PmState) → PmFromHostRule old pm (Ok a) new after → IsRoomy pm → IsRoomy after
+heard_roomy old pm answer.Idle new after rule is = equal_roomy rule.2 is
+heard_roomy old pm answer.Blocked new after rule is = equal_roomy rule.2 is
+heard_roomy old pm (answer.Passed p) new after rule is = passed_roomy pm rule.0.0 p after rule.0.2 is
+heard_roomy old pm _ new after rule is = absurd rule
+
+-- ---- the world
+
+roomy : {now : Places} → IsOrderly now → IsRoomy now.multiplier
+roomy orderly = record { room = orderly.room; answer = orderly.answer }
+
+-- as many devices, and a multiplier with room
+orderly_with : (old new : Places) → length new.devices ≡ length old.devices → IsRoomy new.multiplier → IsOrderly old → IsOrderly new
+orderly_with old new size is orderly = let most : length old.devices ≤ 15 = orderly.most in record { most = omega (arith, size, most); room = is.room; answer = is.answer }
+
+module _ (old : Places) (n : ℕ) (a : Answer) (new : Places) (orderly : IsOrderly old) where
+  alone : (R : Place → Outcome → Place → Type 0) → OnDevice old n (Ok a) new R → IsOrderly new
+  alone R rule =
+      let at : AtDevice old n (Ok a) new R = at_device old n a new R rule in
+      subst IsOrderly (sym at.new_is) (orderly_with old (with_device old n at.after) (length-set old.devices n at.after) (roomy orderly) orderly)
+
+  both : (R : Place → PmState → Outcome → Place → PmState → Type 0) → ((place : Place) (after : Place) (left : PmState) → R place old.multiplier (Ok a) after left → IsRoomy old.multiplier → IsRoomy left)
+      → OnDeviceAndMultiplier old n (Ok a) new R → IsOrderly new
+  both R keeps rule =
+      let at : AtBoth old n (Ok a) new R = at_both old n a new R rule in
+      subst IsOrderly (sym at.new_is)
+      (orderly_with old (with_multiplier (with_device old n at.after) at.left) (length-set old.devices n at.after) (keeps at.place at.after at.left at.rule (roomy orderly)) orderly)
+
+pub orderly_after : (old : Places) (s : Step) (a : Answer) (new : Places) → IsOrderly old → Rule old s (Ok a) new → IsOrderly new
+orderly_after old (step.Came n) a new orderly rule = alone old n a new orderly (CameRule n) rule
+orderly_after old (step.DiskSend n) a new orderly rule = alone old n a new orderly (DiskSendRule n) rule
+orderly_after old (step.Inject n bytes) a new orderly rule = alone old n a new orderly (InjectRule n bytes) rule
+orderly_after old (step.DiskTake n) a new orderly rule = alone old n a new orderly (DiskTakeRule n) rule
+orderly_after old (step.PmPresence n) a new orderly rule = both old n a new orderly (PmPresenceRule n) (λ place after left. presence_roomy n place old.multiplier a after left) rule
+orderly_after old (step.PmFromDevice n) a new orderly rule = both old n a new orderly (PmFromDeviceRule n) (λ place after left. device_roomy n place old.multiplier a after left) rule
+orderly_after old (step.PmDown n) a new orderly rule = both old n a new orderly (PmDownRule n) (λ place after left. down_roomy n place old.multiplier a after left) rule
+orderly_after old step.PmFromHost a new orderly rule =
+    orderly_with old new (ap (λ (w : Places). length w.devices) rule.1) (heard_roomy old.downward old.multiplier a new.downward new.multiplier rule.0 (roomy orderly)) orderly
+orderly_after old step.PmUp a new orderly rule =
+    orderly_with old new (ap (λ (w : Places). length w.devices) rule.1) (up_roomy old.multiplier old.upward a new.multiplier new.upward rule.0 (roomy orderly)) orderly
+orderly_after old step.HostTake a new orderly rule = subst IsOrderly (sym rule.1) (orderly_with old (with_host (with_upward old new.upward) new.host) refl (roomy orderly) orderly)
+orderly_after old step.HostPush a new orderly rule = subst IsOrderly (sym rule.1) (orderly_with old (with_downward (with_host old new.host) new.downward) refl (roomy orderly) orderly)
+orderly_after old step.Tick a new orderly rule = subst IsOrderly (sym rule.1) (orderly_with old (with_host old new.host) refl (roomy orderly) orderly)
+orderly_after old (step.Submit dev request) a new orderly rule = subst IsOrderly (sym rule.1) (orderly_with old (with_host old new.host) refl (roomy orderly) orderly)
+orderly_after old step.Poll a new orderly rule = subst IsOrderly (sym rule.1) (orderly_with old (with_host old new.host) refl (roomy orderly) orderly)
+orderly_after old (step.Put at bytes) a new orderly rule = subst IsOrderly (sym rule.1) (orderly_with old (with_host old new.host) refl (roomy orderly) orderly)
+
+pub run_orderly : (old : Places) (steps : List Step) (answers : List Answer) (new : Places) → IsOrderly old → Run old steps answers new → IsOrderly new
+run_orderly old [] [] new orderly run = subst IsOrderly (sym run) orderly
+run_orderly old (s ∷ steps) (a ∷ answers) new orderly run = run_orderly run.0 steps answers new (orderly_after old s a run.0 orderly run.1) run.2
+run_orderly old [] (a ∷ answers) new orderly run = absurd run
+run_orderly old (s ∷ steps) [] new orderly run = absurd run
+
+-- as many units as ports, and at most 15 ports
+at_most : (config : Config) (units : ℕ) → is_config config units ≡ true → units ≤ 15
+at_most config units fits = cases (nat_le 1 config.ports) (nat_le config.ports 15) (nat_le 1 config.capacity) (nat_le config.capacity 64) (nat_le 2097152 config.memory) (nat_le config.memory 16777216) (config.memory % 2 == 0) (units == config.ports) refl refl fits
+  where
+    cases : (a b c d e f g h : Bool) → nat_le config.ports 15 ≡ b → (units == config.ports) ≡ h → (a && b && c && d && e && f && g && h) ≡ true → units ≤ 15
+    cases true true true true true true true true most same fits =
+        let le : config.ports ≤ 15 = leb-true config.ports 15 most in
+        let eq : units ≡ config.ports = eqb-true units config.ports same in
+        omega arith
+    cases _ _ _ _ _ _ _ _ most same fits = absurd (cc)
+
+pub opening_orderly : (config : Config) (units : List Unit) → is_config config (length units) ≡ true → IsOrderly (new_world config units)
+opening_orderly config units fits = record {
+  most = let size : length (map (opening config.capacity) units) ≡ length units = length-map units (opening config.capacity) in
+      let le : length units ≤ 15 = at_most config (length units) fits in omega arith;
+  room = length-replicate 15 empty_port;
+  answer = λ frame e. absurd (cc);
+}
