@@ -15,7 +15,7 @@ use std::alloc::Global;
 pub fn record(n: u8, seat: &mut Seat, pm: &mut Multiplier) -> Answer
     requires { n < pm.old.registers.ports }
     ensures rule { PmPresenceRule n seat.old pm.old (Ok result) seat.new pm.new }
-    ensures ports { KeepsPorts pm.old pm.new }
+    ensures ports { pm.new.registers.ports ≡ pm.old.registers.ports }
 {
     match seat.next_coming() {
         None => Answer::Idle,

@@ -3,7 +3,7 @@ ghost use Rattle.std.specs.Prelude.{IfErr, IfOk, OnErr, length, map, take, slice
 ghost use Rattle.pm_world.specs.Laws.{AreLawful};
 ghost use Rattle.pm_world.specs.Downward.{falling_to};
 ghost use Rattle.pm_world.specs.Places.{opening, new_world, is_config};
-ghost use Rattle.pm_world.specs.Rules.{Rule, Run, Stops, refusal};
+ghost use Rattle.pm_world.specs.Rules.{Rule, Run, Stops, no_refusal, port_refusal, refusal};
 ghost use Rattle.pm_world.specs.Traffic.{transit};
 ghost use Rattle.pm_world.specs.declared.step.Answer.{Answer};
 ghost use Rattle.pm_world.specs.declared.step.Step.TheVariants as step;
@@ -156,13 +156,20 @@ impl World {
             Step::DiskTake(n)
             | Step::PmPresence(n)
             | Step::PmFromDevice(n)
-            | Step::PmDown(n) => match self.seats.get(*n as usize) {
-                None => Some(StepError::NoSuchPort),
-                Some(_) => None,
-            },
+            | Step::PmDown(n) => self.no_port(*n),
             Step::PmFromHost | Step::PmUp | Step::HostTake | Step::HostPush => None,
             Step::Tick | Step::Submit(..) | Step::Poll => None,
             Step::Put(at, bytes) => self.host.put_refusal(*at, bytes.as_slice()),
+        }
+    }
+
+    /// The refusal of a step at port `n` that has none where there is such a port.
+    fn no_port(&self, n: u8) -> Option<StepError>
+        ensures { result ≡ port_refusal self.now n no_refusal }
+    {
+        match self.seats.get(n as usize) {
+            None => Some(StepError::NoSuchPort),
+            Some(_) => None,
         }
     }
 

@@ -1,0 +1,22 @@
+use Rattle.std.proofs.Common.{◌≡◌, Result, Ok, Err, true, sym, ◌∙◌, subst}
+use Rattle.std.specs.Prelude.{OnErr}
+use Rattle.std.specs.Result.{is_err}
+use Rattle.std.specs.declared.alloc.AllocError.{AllocError}
+use Rattle.pm_world.specs.Places.{Place}
+use Rattle.pm_world.specs.Rules.{TakeWants}
+use Rattle.pm_world.specs.contracts.seat.Seat.{the_view}
+use Rattle.pm_world.specs.declared.step.StepError.TheVariants.{OutOfMemory}
+use Rattle.pm_world.proofs.Doing.{wants_room}
+use Rattle.pm_world.proofs.seat.Seat.disk_take.Goals as goal
+
+-- what an error ensures
+failed : {P : Type 0} (r : Result (Unit {0}) AllocError) → is_err r ≡ true → OnErr r P → P
+failed (Ok u) e h = absurd (cc)
+failed (Err x) e h = h
+
+pub returns-then-is_err : goal.returns-then-is_err
+returns-then-is_err c =
+    let error : is_err c.on_frame.result ≡ true = sym c.is_err.ensures.value ∙ c.if-is_err.true in
+    subst (λ (p : Place). TakeWants p OutOfMemory × ((let left : Place = record (the_view c.self.inside) { unit = c.on_frame.new.self; down = c.put_back.new.self } in left) ≡ p)) c.self.view_is
+    (wants_room (the_view c.self.inside) c.on_frame.new.self c.put_back.new.self c.take.new.self c.in-Some.frame c.in-Some.ensures.first c.put_back.ensures
+    (sym c.is_for-dropped.ensures ∙ c.if-not-dropped.true) (failed c.on_frame.result error c.on_frame.ensures.no_memory) (failed c.on_frame.result error c.on_frame.ensures.err))
