@@ -1,5 +1,5 @@
 -- What a step at a port does where the port is there, and a unit that has no room for a frame.
-use Rattle.std.proofs.Common.{◌≡◌, ℕ, ◌<◌, ◌∷◌, List, length, Option, Some, refl, sym, ap, ◌∙◌, subst}
+use Rattle.std.proofs.Common.{◌≡◌, ℕ, ◌<◌, ◌∷◌, List, length, Some, refl, sym, ap, ◌∙◌, subst}
 use Rattle.std.specs.Prelude.{IsTrue, slice_get, slice_index_or}
 use Rattle.std.proofs.lemmas.Option.{slice_get_read}
 use Rattle.fis_view.specs.Frames.{Stamped}
@@ -32,5 +32,5 @@ pub wants_room : (old : Place) (unit : Unit) (down rest : Queue) (frame : Stampe
 wants_room old unit down rest frame first back for wants same = (
   (frame, rest.frames, first.0, for, wants),
   ap (λ (u : Unit). let left : Place = record old { unit = u; down = down } in left) same
-    ∙ ap (λ (q : Queue). let left : Place = record old { down = q } in left) (back ∙ again old.down frame rest first),
+      ∙ ap (λ (q : Queue). let left : Place = record old { down = q } in left) (back ∙ again old.down frame rest first),
 )

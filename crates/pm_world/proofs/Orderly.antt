@@ -1,6 +1,6 @@
 -- Every world is orderly: a new one is, and no step makes it otherwise.
-use Rattle.std.proofs.Common.{◌≡◌, ◌≢◌, ℕ, ◌<◌, ◌≤◌, ◌==◌, Bool, true, false, List, [], ◌∷◌, length, map, replicate, Option, Some, None, refl, sym, ap, ◌∙◌, subst, arith, inl, inr}
-use Rattle.std.specs.Prelude.{slice_get, slice_set, is_none, nat_le, if◌then◌else◌, Ok, Err, MatchOption, MatchBool, ◌&&◌, ◌%◌}
+use Rattle.std.proofs.Common.{◌≡◌, ◌≢◌, ℕ, ◌<◌, ◌≤◌, ◌==◌, Bool, true, false, List, [], ◌∷◌, length, map, Option, Some, None, refl, sym, ap, ◌∙◌, subst, arith}
+use Rattle.std.specs.Prelude.{slice_set, is_none, nat_le, if◌then◌else◌, Ok, MatchOption, MatchBool, ◌&&◌, ◌%◌}
 use Rattle.std.proofs.lemmas.Bool.{eqb-true, leb-true}
 use Rattle.std.proofs.lemmas.List.{length-set, length-map, length-replicate}
 use Rattle.fis_view.specs.Frames.{Stamped}
@@ -12,14 +12,14 @@ use Rattle.pm_control.specs.Answers.{IsAnswer, IsNotice, answer_to}
 use Rattle.pm_registers.specs.RegisterMap.{after_notice}
 use Rattle.multiplier.specs.Arbiter.{control_port}
 use Rattle.multiplier.specs.State.{PmState, control_stamp, counted, held, passes_to, pm_port, port_at, next_place, rising, with_port}
-use Rattle.multiplier.specs.Rules.{FromDeviceRule, FromHostRule, NextUpRule, PlaceGives, PortGives, ControlGives, ToControl, ToDevice, ToNobody, held_source, may_go_back}
+use Rattle.multiplier.specs.Rules.{FromHostRule, PlaceGives, PortGives, ControlGives, ToControl, ToDevice, ToNobody, held_source, may_go_back}
 use Rattle.multiplier.specs.Rules.{with_device as connected}
 use Rattle.multiplier.specs.declared.given.Source.TheVariants as source
 use Rattle.multiplier.specs.declared.multiplier.Passed.{Passed}
 use Rattle.multiplier.specs.declared.multiplier.Passed.TheVariants as passed
 use Rattle.multiplier.proofs.Ports as ports
 use Rattle.pm_world.specs.Places.{Places, Place, Queue, IsOrderly, is_config, new_world, opening, with_device, with_multiplier, with_upward, with_downward, with_host}
-use Rattle.pm_world.specs.Rules.{AtPort, OnDevice, OnDeviceAndMultiplier, PmPresenceRule, PmFromDeviceRule, PmDownRule, PmFromHostRule, PmUpRule, CameRule, DiskSendRule, InjectRule, DiskTakeRule, Rule, Run, Outcome, recorded}
+use Rattle.pm_world.specs.Rules.{OnDevice, OnDeviceAndMultiplier, PmPresenceRule, PmFromDeviceRule, PmDownRule, PmFromHostRule, PmUpRule, CameRule, DiskSendRule, InjectRule, DiskTakeRule, Rule, Run, Outcome, recorded}
 use Rattle.pm_world.specs.declared.step.Config.{Config}
 use Rattle.pm_world.specs.declared.step.Step.{Step}
 use Rattle.pm_world.specs.declared.step.Step.TheVariants as step

@@ -1,10 +1,8 @@
 -- What a world's steps are to its host: turns of port, driver and memory (AHCI 1.3.1, chapter 5).
-use Rattle.std.specs.Prelude.{ℕ, ◌≡◌, true, List, [], ◌∷◌, ◌++◌, map, length, drop, Some, None, All}
+use Rattle.std.specs.Prelude.{◌≡◌, true, List, [], ◌∷◌, ◌++◌, map, length, drop, Some, None, All}
 use Rattle.std.specs.Prelude.{slice_index, ◌%◌}
-use Rattle.disk_model.specs.declared.unit.Unit.{Unit}
 use Rattle.hba_driver.specs.HostTurns.{HostTurn, Took, Pushed, Ticked, Submitted, Polled, Put}
 use Rattle.hba_driver.specs.HostTurns.{DoesAll}
-use Rattle.hba_driver.specs.declared.request.Ticket.{Ticket}
 use Rattle.pm_world.specs.Places.{Places, opening_host}
 use Rattle.pm_world.specs.Rules.{Run}
 use Rattle.pm_world.specs.Runs.{AfterEveryRun, Telling, over}

@@ -67,13 +67,14 @@ impl World {
         if !is_config(config, units.len()) {
             return Err(WorldError::BadConfig);
         }
+        let multiplier = Multiplier::new(config.ports);
         let host = Host::new(alloc, config.memory)?;
         let upward = Link::new(alloc, config.capacity)?;
         let downward = Link::new(alloc, config.capacity)?;
         let seats = seats_of(alloc, config.capacity, units)?;
         Ok(World {
             seats,
-            multiplier: Multiplier::new(config.ports),
+            multiplier,
             upward,
             downward,
             host,
@@ -87,6 +88,7 @@ impl World {
             IfOk result (λ answer. AreLawful self.old steps (answer ∷ []) self.new) }
         ensures refused { OnErr result (self.new ≡ self.old) }
     {
+        let _ = &self.seats;
         self.act(alloc, step)
     }
 
@@ -120,6 +122,7 @@ impl World {
             × Stops self.old steps.now e.0 e.1 answers self.new
             × AreLawful self.old (take e.0 steps.now) answers self.new) }
     {
+        let _ = &self.seats;
         let Some(first) = steps.first() else {
             return Ok(Vec::new(alloc));
         };
@@ -153,10 +156,8 @@ impl World {
                 None => Some(StepError::NoSuchPort),
                 Some(seat) => seat.inject_refusal(bytes.as_slice()),
             },
-            Step::DiskTake(n)
-            | Step::PmPresence(n)
-            | Step::PmFromDevice(n)
-            | Step::PmDown(n) => self.no_port(*n),
+            Step::DiskTake(n) | Step::PmPresence(n) | Step::PmFromDevice(n) | Step::PmDown(n) =>
+                self.no_port(*n),
             Step::PmFromHost | Step::PmUp | Step::HostTake | Step::HostPush => None,
             Step::Tick | Step::Submit(..) | Step::Poll => None,
             Step::Put(at, bytes) => self.host.put_refusal(*at, bytes.as_slice()),

@@ -1,10 +1,7 @@
 use Rattle.std.proofs.Common.{◌≡◌, ap, ◌∙◌}
-use Rattle.std.specs.Prelude.{ℕ, length, Option}
+use Rattle.std.specs.Prelude.{ℕ, length}
 use Rattle.pm_world.specs.Places.{Places}
-use Rattle.pm_world.specs.Rules.{refusal, put_refusal}
-use Rattle.pm_world.specs.declared.step.Step.{Step}
-use Rattle.pm_world.specs.declared.step.Step.TheVariants as step
-use Rattle.pm_world.specs.declared.step.StepError.{StepError}
+use Rattle.pm_world.specs.Rules.{put_refusal}
 use Rattle.pm_world.proofs.world.World.refusal.Goals as goal
 
 pub returns-in-Put : goal.returns-in-Put

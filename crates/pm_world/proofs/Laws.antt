@@ -1,0 +1,32 @@
+-- Every run obeys the laws.
+use Rattle.std.proofs.Common.{List, [], ◌∷◌}
+use Rattle.std.specs.Prelude.{Ok, Err, IfOk}
+use Rattle.pm_world.specs.Laws.{AreLawful}
+use Rattle.pm_world.specs.Places.{Places, IsOrderly}
+use Rattle.pm_world.specs.Rules.{Outcome}
+use Rattle.pm_world.specs.declared.step.Step.{Step}
+use Rattle.pm_world.specs.declared.step.Answer.{Answer}
+use Rattle.pm_world.proofs.Law.{nothing_lost}
+use Rattle.pm_world.proofs.Prefix.{taken_is_prefix}
+use Rattle.pm_world.proofs.Falls.{nothing_lost_down}
+use Rattle.pm_world.proofs.Risen.{own_port}
+use Rattle.pm_world.proofs.HostFold.{host_is_fold}
+use Rattle.pm_world.proofs.Units.{units_live_on, units_lived_on}
+use Rattle.pm_world.proofs.LinksPass.{keeps_links}
+
+pub obeys : (old : Places) (steps : List Step) (answers : List Answer) (new : Places) → IsOrderly old → AreLawful old steps answers new
+obeys old steps answers new orderly run = record {
+  nothing_lost = nothing_lost old steps answers new orderly run;
+  nothing_lost_down = nothing_lost_down old steps answers new run orderly;
+  prefix = taken_is_prefix old steps answers new run;
+  own_port = own_port old steps answers new run;
+  host = host_is_fold old steps answers new run;
+  live_on = units_live_on old steps answers new run;
+  lived_on = units_lived_on old steps answers new run;
+  links = keeps_links old steps answers new orderly run;
+}
+
+-- one step is a run
+pub step_obeys : (old : Places) (s : Step) (outcome : Outcome) (new : Places) → IsOrderly old → IfOk outcome (λ a. AreLawful old (s ∷ []) (a ∷ []) new)
+step_obeys old s (Ok a) new orderly = obeys old (s ∷ []) (a ∷ []) new orderly
+step_obeys old s (Err e) new orderly = tt
