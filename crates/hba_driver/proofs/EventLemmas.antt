@@ -28,25 +28,22 @@ use Rattle.hba_driver.proofs.StandLemmas.{Same, both, few_prds, lt_of, same_writ
 
 -- ---- lists of events that run
 
--- these events run, and where the premise holds each host among them is sound
-pub record Good (P : Type 0) (a : event.Host) (es : List HostEvent) (b : event.Host) : Type 0 where
+-- these events run, and each host among them is sound
+pub record Good (a : event.Host) (es : List HostEvent) (b : event.Host) : Type 0 where
   pub runs : Runs a es b
-  pub hosts : P → sound.AreHosts a b es runs
+  pub hosts : sound.AreHosts a b es runs
 
-pub good_none : (P : Type 0) (a b : event.Host) → b ≡ a → (P → sound.IsHost a) → Good P a [] b
-good_none P a b is host = record { runs = is; hosts = host }
+pub good_none : (a b : event.Host) → b ≡ a → sound.IsHost a → Good a [] b
+good_none a b is host = record { runs = is; hosts = host }
 
-pub good_one : (P : Type 0) (a : event.Host) (e : HostEvent) (b : event.Host) → event.Does a e b → (P → sound.IsHost a) → (P → sound.IsHost b) → Good P a (e ∷ []) b
-good_one P a e b does first last = record { runs = (b, does, refl); hosts = λ p. (first p, last p) }
+pub good_one : (a : event.Host) (e : HostEvent) (b : event.Host) → event.Does a e b → sound.IsHost a → sound.IsHost b → Good a (e ∷ []) b
+good_one a e b does first last = record { runs = (b, does, refl); hosts = (first, last) }
 
-pub good_then : (P : Type 0) (es fs : List HostEvent) (a b c : event.Host) → Good P a es b → Good P b fs c → Good P a (es ++ fs) c
-good_then P [] fs a b c g k = subst (λ (h : event.Host). Good P h fs c) g.runs k
-good_then P (e ∷ es) fs a b c g k =
-    let rest : Good P g.runs.0 (es ++ fs) c = good_then P es fs g.runs.0 b c (record { runs = g.runs.2; hosts = λ p. (g.hosts p).1 }) k in
-    record { runs = (g.runs.0, g.runs.1, rest.runs); hosts = λ p. ((g.hosts p).0, rest.hosts p) }
-
-pub good_by : (P Q : Type 0) (es : List HostEvent) (a b : event.Host) → (P → Q) → Good Q a es b → Good P a es b
-good_by P Q es a b h g = record { runs = g.runs; hosts = λ p. g.hosts (h p) }
+pub good_then : (es fs : List HostEvent) (a b c : event.Host) → Good a es b → Good b fs c → Good a (es ++ fs) c
+good_then [] fs a b c g k = subst (λ (h : event.Host). Good h fs c) g.runs k
+good_then (e ∷ es) fs a b c g k =
+    let rest : Good g.runs.0 (es ++ fs) c = good_then es fs g.runs.0 b c (record { runs = g.runs.2; hosts = g.hosts.1 }) k in
+    record { runs = (g.runs.0, g.runs.1, rest.runs); hosts = (g.hosts.0, rest.hosts) }
 
 -- port and memory
 abbrev pub beside : Port → Memory → event.Host
@@ -116,16 +113,16 @@ sized_effect (effect.Commands slot fields buffer) old new before after is h m =
 
 -- ---- the events of an effect
 
-good_write : (P : Type 0) (o : Option WriteError) (r : Option Register) (offset value : ℕ) (old new : Port) (before after : Memory) → write_refusal old before offset value ≡ o → register_at offset ≡ r
-    → Tries old before offset value new → after ≡ before → (P → sound.IsHost (beside old before)) → (P → sound.IsHost (beside new after))
-    → Good P (beside old before) (match_some o (wrote_to r value) (λ e. [])) (beside new after)
-good_write P (Some e) r offset value old new before after is at tries stays first last =
-    good_none P (beside old before) (beside new after) (beside_same old new before after (tries.refused e is) stays) first
-good_write P None None offset value old new before after is at tries stays first last =
+good_write : (o : Option WriteError) (r : Option Register) (offset value : ℕ) (old new : Port) (before after : Memory) → write_refusal old before offset value ≡ o → register_at offset ≡ r
+    → Tries old before offset value new → after ≡ before → sound.IsHost (beside old before) → sound.IsHost (beside new after)
+    → Good (beside old before) (match_some o (wrote_to r value) (λ e. [])) (beside new after)
+good_write (Some e) r offset value old new before after is at tries stays first last =
+    good_none (beside old before) (beside new after) (beside_same old new before after (tries.refused e is) stays) first
+good_write None None offset value old new before after is at tries stays first last =
     absurd (subst (λ (x : Option Register). MatchOption x ⊥ (λ (g : Register). Accepts old before g value new)) at (tries.accepted is))
-good_write P None (Some register) offset value old new before after is at tries stays first last =
+good_write None (Some register) offset value old new before after is at tries stays first last =
     let accepts : Accepts old before register value new = subst (λ (x : Option Register). MatchOption x ⊥ (λ (g : Register). Accepts old before g value new)) at (tries.accepted is) in
-    good_one P (beside old before) (event.Wrote register value) (beside new after) (sym (refusal_is register offset value old before at) ∙ is, accepts, stays) first last
+    good_one (beside old before) (event.Wrote register value) (beside new after) (sym (refusal_is register offset value old before at) ∙ is, accepts, stays) first last
 
 -- the received area has to be the driver's
 abbrev pub wants_area : Effect → Bool
@@ -134,12 +131,12 @@ wants_area (effect.Flushes dev) = false
 wants_area (effect.Empties dev) = true
 wants_area (effect.Commands slot fields buffer) = true
 
-pub good_effect : (P : Type 0) (e : Effect) (old new : Port) (before after : Memory) → is_effect e ≡ true → (wants_area e ≡ true → old.registers.fb ≡ 4096) → IsHostMemory before → Acts e old before new after
-    → (P → sound.IsHost (beside old before)) → (P → sound.IsHost (beside new after)) → Good P (beside old before) (events_of_effect e old before after) (beside new after)
-good_effect P (effect.Writes offset value) old new before after is area m h first last =
-    good_write P (write_refusal old before offset value) (register_at offset) offset value old new before after refl refl h.0 h.1 first last
-good_effect P (effect.Flushes dev) old new before after is area m h first last = good_one P (beside old before) (event.Flushed dev) (beside new after) h first last
-good_effect P (effect.Empties dev) old new before after is area m h first last =
+pub good_effect : (e : Effect) (old new : Port) (before after : Memory) → is_effect e ≡ true → (wants_area e ≡ true → old.registers.fb ≡ 4096) → IsHostMemory before → Acts e old before new after
+    → sound.IsHost (beside old before) → sound.IsHost (beside new after) → Good (beside old before) (events_of_effect e old before after) (beside new after)
+good_effect (effect.Writes offset value) old new before after is area m h first last =
+    good_write (write_refusal old before offset value) (register_at offset) offset value old new before after refl refl h.0 h.1 first last
+good_effect (effect.Flushes dev) old new before after is area m h first last = good_one (beside old before) (event.Flushed dev) (beside new after) h first last
+good_effect (effect.Empties dev) old new before after is area m h first last =
     let below : dev < 16 = lt_of dev 16 is in
     let row : event.WritesRow old.registers.fb before dev (replicate 256 0) after =
     subst (λ (n : ℕ). event.WritesRow n before dev (replicate 256 0) after) (sym (area refl)) (record {
@@ -148,10 +145,10 @@ good_effect P (effect.Empties dev) old new before after is area m h first last =
       inside = omega (arith, below, m.structure_len);
       after = h.1;
     }) in
-    good_one P (beside old before) (event.Rewrote dev (replicate 256 0)) (beside new after) (row, h.0) first last
-good_effect P (effect.Commands slot fields buffer) old new before after is area m h first last =
+    good_one (beside old before) (event.Rewrote dev (replicate 256 0)) (beside new after) (row, h.0) first last
+good_effect (effect.Commands slot fields buffer) old new before after is area m h first last =
     let same : Same 4096 4096 before.structure after.structure = beside_area slot fields (prds_with buffer) before.structure after.structure m.structure_len (lt_of slot 32 is) (few_prds buffer) h.1.structure in
-    good_one P (beside old before) (event.Stored after.structure) (beside new after) (does_store (beside old before) (beside new after) (area refl) m.structure_len same h.1.client h.0) first last
+    good_one (beside old before) (event.Stored after.structure) (beside new after) (does_store (beside old before) (beside new after) (area refl) m.structure_len same h.1.client h.0) first last
 
 -- ---- the events of effects, one after another
 
@@ -169,18 +166,18 @@ left_effects (e ∷ es) old new before after is quiet m h =
     let rest : Left h.0 new after = left_effects es h.0 new h.1 after effect_is.1 calm_is.1 (sized_effect e old h.0 before h.1 effect_is.0 h.2 m) h.4 in
     record { place = place_then old.registers h.0.registers new.registers (place_effect e old h.0 before h.1 calm_is.0 h.2) rest.place; sizes = rest.sizes }
 
-pub good_effects : (P : Type 0) (es : List Effect) (old new : Port) (before after : Memory) → list_all is_effect es ≡ true → list_all calm_effect es ≡ true → old.registers.fb ≡ 4096 → IsHostMemory before
-    → (acts : ActsAll es old before new after) → (P → IsRuled old) → (P → IsRuled new) → Good P (beside old before) (events_of_effects es old before new after acts) (beside new after)
+pub good_effects : (es : List Effect) (old new : Port) (before after : Memory) → list_all is_effect es ≡ true → list_all calm_effect es ≡ true → old.registers.fb ≡ 4096 → IsHostMemory before
+    → (acts : ActsAll es old before new after) → IsRuled old → IsRuled new → Good (beside old before) (events_of_effects es old before new after acts) (beside new after)
 unfolding ActsAll events_of_effects
-good_effects P [] old new before after is quiet at m h first last =
-    good_none P (beside old before) (beside new after) (beside_same old new before after h.0 h.1) (λ p. sound_beside old before (first p) m)
-good_effects P (e ∷ es) old new before after is quiet at m h first last =
+good_effects [] old new before after is quiet at m h first last =
+    good_none (beside old before) (beside new after) (beside_same old new before after h.0 h.1) (sound_beside old before first m)
+good_effects (e ∷ es) old new before after is quiet at m h first last =
     let effect_is = both (is_effect e) (list_all is_effect es) is in
     let calm_is = both (calm_effect e) (list_all calm_effect es) quiet in
     let later : IsHostMemory h.1 = sized_effect e old h.0 before h.1 effect_is.0 h.2 m in
     let there : h.0.registers.fb ≡ 4096 = (place_effect e old h.0 before h.1 calm_is.0 h.2).area ∙ at in
-    let one : Good P (beside old before) (events_of_effect e old before h.1) (beside h.0 h.1) =
-    good_effect P e old h.0 before h.1 effect_is.0 (λ w. at) m h.2 (λ p. sound_beside old before (first p) m) (λ p. sound_beside h.0 h.1 h.3 later) in
-    let rest : Good P (beside h.0 h.1) (events_of_effects es h.0 h.1 new after h.4) (beside new after) =
-    good_effects P es h.0 new h.1 after effect_is.1 calm_is.1 there later h.4 (λ p. h.3) last in
-    good_then P (events_of_effect e old before h.1) (events_of_effects es h.0 h.1 new after h.4) (beside old before) (beside h.0 h.1) (beside new after) one rest
+    let one : Good (beside old before) (events_of_effect e old before h.1) (beside h.0 h.1) =
+    good_effect e old h.0 before h.1 effect_is.0 (λ w. at) m h.2 (sound_beside old before first m) (sound_beside h.0 h.1 h.3 later) in
+    let rest : Good (beside h.0 h.1) (events_of_effects es h.0 h.1 new after h.4) (beside new after) =
+    good_effects es h.0 new h.1 after effect_is.1 calm_is.1 there later h.4 h.3 last in
+    good_then (events_of_effect e old before h.1) (events_of_effects es h.0 h.1 new after h.4) (beside old before) (beside h.0 h.1) (beside new after) one rest

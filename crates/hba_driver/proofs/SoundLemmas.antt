@@ -26,7 +26,7 @@ use Rattle.hba_driver.specs.declared.plan.Device.TheVariants.{Absent}
 use Rattle.hba_driver.specs.declared.plan.Plan.{Plan}
 use Rattle.hba_driver.specs.declared.request.Request.{Request}
 use Rattle.hba_driver.specs.Drivers.{AreRequests, Driver, Entry, entry_at}
-use Rattle.hba_driver.specs.Effects.{ActsAll, is_effect, opening_write}
+use Rattle.hba_driver.specs.Effects.{ActsAll, IsRuled, is_effect, opening_write}
 use Rattle.hba_driver.specs.Events.{AreDriven, HostsAreSound, IsSoundHost, KnowsNone, opening_host, shared_by}
 use Rattle.hba_driver.specs.HostTurns.{AreHosts, Does, DoesAll, Host, HostTurn, IsHost, Took, Pushed, Ticked, Submitted, Polled, Put, sight_in}
 use Rattle.hba_driver.specs.Submits.{after_poll, lowest_ended, next_slot}
@@ -131,9 +131,13 @@ put_client old new at bytes h =
 
 -- ---- a turn that is no tick
 
+same_ruled : (old new : Host) → new.port ≡ old.port → IsSoundHost old → IsRuled new.port
+same_ruled old new is s = subst IsRuled (sym is) s.ruled
+
 -- it leaves the plan
-sound_by : (old : Host) (t : HostTurn) (new : Host) → Does old t new → IsSoundHost old → IsHostMemory new.memory → Kept old.port.registers new.port.registers → new.driver.plan ≡ old.driver.plan → IsSoundHost new
-sound_by old t new h s memory kept plan = record {
+sound_by : (old : Host) (t : HostTurn) (new : Host) → Does old t new → IsSoundHost old → IsRuled new.port → IsHostMemory new.memory → Kept old.port.registers new.port.registers → new.driver.plan ≡ old.driver.plan → IsSoundHost new
+sound_by old t new h s ruled memory kept plan = record {
+  ruled = ruled;
   memory = memory;
   requests = requests_turn old t new h s.requests;
   registers = subst (λ (p : Plan). AreDriven p.opened new.port.registers) (sym plan) (kept_driven old.driver.plan.opened old.port.registers new.port.registers kept s.registers);
@@ -174,13 +178,14 @@ sound_tick old a new h s =
     elim (tick_is v d) [
       | inl rest ↦
           let same = none_acts old.port new.port old.memory new.memory (acts_of (effects v d) [] old.port new.port old.memory new.memory rest.none h.does) in
-          sound_by old (Ticked a) new h s (same_sizes old.memory new.memory same.1 s.memory) (kept_port old.port new.port same.0) (plan ∙ rest.plan_is)
+          sound_by old (Ticked a) new h s h.ruled (same_sizes old.memory new.memory same.1 s.memory) (kept_port old.port new.port same.0) (plan ∙ rest.plan_is)
       | inr some ↦ elim some [
         | inl first ↦
             let k : ℕ = d.plan.opened in
             let both_are = opened_sound k first.less old.port new.port old.memory new.memory (subst (λ (es : List Effect). list_all is_effect es ≡ true) first.one h.possible)
             (acts_of (effects v d) (opening_write k ∷ []) old.port new.port old.memory new.memory first.one h.does) s.memory s.registers in
             record {
+              ruled = h.ruled;
               memory = both_are.0;
               requests = requests_turn old (Ticked a) new h s.requests;
               registers = subst (λ (p : Plan). AreDriven p.opened new.port.registers) (sym (plan ∙ first.plan_is)) both_are.1;
@@ -189,6 +194,7 @@ sound_tick old a new h s =
         | inr going ↦
             let left : Left old.port new.port new.memory = left_effects (effects v d) old.port new.port old.memory new.memory h.possible going.quiet s.memory h.does in
             record {
+              ruled = h.ruled;
               memory = left.sizes;
               requests = requests_turn old (Ticked a) new h s.requests;
               registers = subst (λ (n : ℕ). AreDriven n new.port.registers) (sym (ap (λ (p : Plan). p.opened) plan ∙ going.opened_is))
@@ -208,16 +214,16 @@ submit_sizes old new dev request ticket h s =
 
 pub sound_turn : (old : Host) (t : HostTurn) (new : Host) → Does old t new → IsSoundHost old → IsSoundHost new
 sound_turn old (Took frame report) new h s =
-    sound_by old (Took frame report) new h s (sized old.memory new.memory s.memory (took_structure old new frame report h s) (took_client old new frame report h)) (kept_took old new frame report h) (plan_is old.driver new.driver h.driver)
+    sound_by old (Took frame report) new h s h.ruled (sized old.memory new.memory s.memory (took_structure old new frame report h s) (took_client old new frame report h)) (kept_took old new frame report h) (plan_is old.driver new.driver h.driver)
 sound_turn old (Pushed frame) new h s =
-    sound_by old (Pushed frame) new h s (same_sizes old.memory new.memory h.memory s.memory) (kept_gives (outgoing old.port old.memory) old.port old.memory frame new.port h.gives) (plan_is old.driver new.driver h.driver)
+    sound_by old (Pushed frame) new h s h.ruled (same_sizes old.memory new.memory h.memory s.memory) (kept_gives (outgoing old.port old.memory) old.port old.memory frame new.port h.gives) (plan_is old.driver new.driver h.driver)
 sound_turn old (Ticked a) new h s = sound_tick old a new h s
 sound_turn old (Submitted dev request ticket) new h s =
-    sound_by old (Submitted dev request ticket) new h s (submit_sizes old new dev request ticket h s) (kept_port old.port new.port h.port) (ap (λ (x : Driver). x.plan) h.taken.driver)
+    sound_by old (Submitted dev request ticket) new h s (same_ruled old new h.port s) (submit_sizes old new dev request ticket h s) (kept_port old.port new.port h.port) (ap (λ (x : Driver). x.plan) h.taken.driver)
 sound_turn old (Polled c) new h s =
-    sound_by old (Polled c) new h s (same_sizes old.memory new.memory h.memory s.memory) (kept_port old.port new.port h.port) (plan_is (after_poll old.driver) new.driver h.driver ∙ polled_plan old.driver)
+    sound_by old (Polled c) new h s (same_ruled old new h.port s) (same_sizes old.memory new.memory h.memory s.memory) (kept_port old.port new.port h.port) (plan_is (after_poll old.driver) new.driver h.driver ∙ polled_plan old.driver)
 sound_turn old (Put at bytes) new h s =
-    sound_by old (Put at bytes) new h s (sized old.memory new.memory s.memory (ap (λ (m : Memory). length m.structure) h.memory) (put_client old new at bytes h)) (kept_port old.port new.port h.port) (plan_is old.driver new.driver h.driver)
+    sound_by old (Put at bytes) new h s (same_ruled old new h.port s) (sized old.memory new.memory s.memory (ap (λ (m : Memory). length m.structure) h.memory) (put_client old new at bytes h)) (kept_port old.port new.port h.port) (plan_is old.driver new.driver h.driver)
 
 pub sound_over : (old : Host) (turns : List HostTurn) (new : Host) → DoesAll old turns new → IsSoundHost old → IsSoundHost new
 sound_over old [] new run s = subst IsSoundHost (sym run) s
@@ -260,6 +266,7 @@ absent dev = elim (cases_lt dev 15) [
 
 opens : (given len : ℕ) → Rattle.host_memory.specs.Memory.is_memory_size len ≡ true → IsSoundHost (opening_host given len)
 opens given len h = record {
+  ruled = record { rules = (opens_sound len h).port; table = (opens_sound len h).slots; faults = (opens_sound len h).errors };
   memory = (opens_sound len h).memory;
   requests = no_requests given;
   registers = record { commands = refl; area = past 3 0 refl; closed = λ k. refl; stopped = λ k. refl };

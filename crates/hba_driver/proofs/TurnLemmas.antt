@@ -24,14 +24,14 @@ use Rattle.hba_driver.specs.declared.request.SubmitError.{SubmitError}
 use Rattle.hba_driver.specs.declared.request.SubmitError.TheVariants as refusal
 use Rattle.hba_driver.specs.Drivers.{Driver, device_at}
 use Rattle.hba_driver.specs.Effects.{ActsAll, IsRuled, is_effect, opening_write, opening_writes}
-use Rattle.hba_driver.specs.Events.{AreRuled, EachRunTells, IsSoundHost, KnowsNone, TakeFrames, TurnsAreEvents, events_of, events_of_effect, events_of_effects, events_over, gave, pushed_by, put, put_by, shared_by, taken_by, took, wrote_to}
+use Rattle.hba_driver.specs.Events.{EachRunTells, IsSoundHost, KnowsNone, TurnsAreEvents, events_of, events_of_effect, events_of_effects, events_over, gave, pushed_by, put, put_by, shared_by, taken_by, took, wrote_to}
 use Rattle.hba_driver.specs.HostTurns.{Does, DoesAll, Host, HostTurn, Took, Pushed, Ticked, Submitted, Polled, Put, sight_in}
 use Rattle.hba_driver.specs.Requests.{device_refusal}
 use Rattle.hba_driver.specs.Submits.{next_slot, submit_refusal}
 use Rattle.hba_driver.specs.Ticks.{effects}
 use Rattle.hba_driver.proofs.DrivenLemmas.{tick_is}
 use Rattle.hba_driver.proofs.EffectLemmas.{all_at}
-use Rattle.hba_driver.proofs.EventLemmas.{Good, beside, beside_area, beside_same, does_store, good_by, good_effect, good_effects, good_none, good_one, good_then, sized_effect, sound_beside, wants_area}
+use Rattle.hba_driver.proofs.EventLemmas.{Good, beside, beside_area, beside_same, does_store, good_effect, good_effects, good_none, good_one, good_then, sized_effect, sound_beside, wants_area}
 use Rattle.hba_driver.proofs.HistoryLemmas.{free_below}
 use Rattle.hba_driver.proofs.SoundLemmas.{sound_turn}
 use Rattle.hba_driver.proofs.StandLemmas.{both}
@@ -48,38 +48,38 @@ not_wanted true h k = let bad : false ≡ true = h in cc
 not_wanted false h k = let bad : false ≡ true = k in cc
 
 -- no effect, or one
-good_few : (P : Type 0) (es : List Effect) (old new : Port) (before after : Memory) → length es ≤ 1 → list_all is_effect es ≡ true → list_all spares_area es ≡ true → IsHostMemory before
-    → (acts : ActsAll es old before new after) → (P → IsRuled old) → Good P (beside old before) (events_of_effects es old before new after acts) (beside new after)
+good_few : (es : List Effect) (old new : Port) (before after : Memory) → length es ≤ 1 → list_all is_effect es ≡ true → list_all spares_area es ≡ true → IsHostMemory before
+    → (acts : ActsAll es old before new after) → IsRuled old → Good (beside old before) (events_of_effects es old before new after acts) (beside new after)
 unfolding ActsAll events_of_effects
-good_few P [] old new before after few is spares m h first =
-    good_none P (beside old before) (beside new after) (beside_same old new before after h.0 h.1) (λ p. sound_beside old before (first p) m)
-good_few P (e ∷ []) old new before after few is spares m h first =
+good_few [] old new before after few is spares m h first =
+    good_none (beside old before) (beside new after) (beside_same old new before after h.0 h.1) (sound_beside old before first m)
+good_few (e ∷ []) old new before after few is spares m h first =
     let effect_is : is_effect e ≡ true = (both (is_effect e) true is).0 in
     let spared : spares_area e ≡ true = (both (spares_area e) true spares).0 in
     let later : IsHostMemory h.1 = sized_effect e old h.0 before h.1 effect_is h.2 m in
-    good_then P (events_of_effect e old before h.1) [] (beside old before) (beside h.0 h.1) (beside new after)
-    (good_effect P e old h.0 before h.1 effect_is (λ w. not_wanted (wants_area e) spared w) m h.2 (λ p. sound_beside old before (first p) m) (λ p. sound_beside h.0 h.1 h.3 later))
-    (good_none P (beside h.0 h.1) (beside new after) (beside_same h.0 new h.1 after h.4.0 h.4.1) (λ p. sound_beside h.0 h.1 h.3 later))
-good_few P (e ∷ f ∷ es) old new before after few is spares m h first = absurd (omega (arith, few))
+    good_then (events_of_effect e old before h.1) [] (beside old before) (beside h.0 h.1) (beside new after)
+    (good_effect e old h.0 before h.1 effect_is (λ w. not_wanted (wants_area e) spared w) m h.2 (sound_beside old before first m) (sound_beside h.0 h.1 h.3 later))
+    (good_none (beside h.0 h.1) (beside new after) (beside_same h.0 new h.1 after h.4.0 h.4.1) (sound_beside h.0 h.1 h.3 later))
+good_few (e ∷ f ∷ es) old new before after few is spares m h first = absurd (omega (arith, few))
 
 spares_opening : (k : ℕ) → spares_area (opening_write k) ≡ true
 unfolding opening_write
 spares_opening k = all_at spares_area opening_writes k _ refl refl
 
-good_tick : (P : Type 0) (old : Host) (a : Bool) (new : Host) (h : Does old (Ticked a) new) → IsSoundHost old → (P → IsRuled old.port) → (P → IsRuled new.port)
-    → Good P (shared_by old) (events_of old (Ticked a) new h) (shared_by new)
-good_tick P old a new h s first last =
+good_tick : (old : Host) (a : Bool) (new : Host) (h : Does old (Ticked a) new) → IsSoundHost old → IsRuled old.port → IsRuled new.port
+    → Good (shared_by old) (events_of old (Ticked a) new h) (shared_by new)
+good_tick old a new h s first last =
     let v = sight_in old in
     let d : Driver = old.driver in
     elim (tick_is v d) [
       | inl rest ↦
-          good_few P (effects v d) old.port new.port old.memory new.memory (subst (λ (es : List Effect). length es ≤ 1) (sym rest.none) (omega arith)) h.possible
+          good_few (effects v d) old.port new.port old.memory new.memory (subst (λ (es : List Effect). length es ≤ 1) (sym rest.none) (omega arith)) h.possible
           (subst (λ (es : List Effect). list_all spares_area es ≡ true) (sym rest.none) refl) s.memory h.does first
       | inr some ↦ elim some [
         | inl one ↦
-            good_few P (effects v d) old.port new.port old.memory new.memory (subst (λ (es : List Effect). length es ≤ 1) (sym one.one) (omega arith)) h.possible
+            good_few (effects v d) old.port new.port old.memory new.memory (subst (λ (es : List Effect). length es ≤ 1) (sym one.one) (omega arith)) h.possible
             (subst (λ (es : List Effect). list_all spares_area es ≡ true) (sym one.one) (ap (λ (b : Bool). b && true) (spares_opening d.plan.opened))) s.memory h.does first
-        | inr going ↦ good_effects P (effects v d) old.port new.port old.memory new.memory h.possible going.quiet (s.registers.area (omega (arith, going.least))) s.memory h.does first last
+        | inr going ↦ good_effects (effects v d) old.port new.port old.memory new.memory h.possible going.quiet (s.registers.area (omega (arith, going.least))) s.memory h.does first last
       ]
     ]
 
@@ -102,48 +102,33 @@ submit_open d memory dev request known h = elim (cases_lt d.plan.opened 7) [
 
 -- ---- each turn
 
-sound_shared : (h : Host) → IsRuled h.port → IsSoundHost h → sound.IsHost (shared_by h)
-sound_shared h ruled s = sound_beside h.port h.memory ruled s.memory
+pub sound_shared : (h : Host) → IsSoundHost h → sound.IsHost (shared_by h)
+sound_shared h s = sound_beside h.port h.memory s.ruled s.memory
 
-abbrev BothRuled : Host → Host → Type 0
-BothRuled old new = IsRuled old.port × IsRuled new.port
-
-good_turn : (old : Host) (t : HostTurn) (new : Host) (h : Does old t new) → IsSoundHost old → IsSoundHost new → Good (BothRuled old new) (shared_by old) (events_of old t new h) (shared_by new)
+good_turn : (old : Host) (t : HostTurn) (new : Host) (h : Does old t new) → IsSoundHost old → IsSoundHost new → Good (shared_by old) (events_of old t new h) (shared_by new)
 good_turn old (Took frame report) new h s n =
-    good_one (BothRuled old new) (shared_by old) (event.Took frame report) (shared_by new) (record { ignored = h.ignored; heard = h.heard }) (λ p. sound_shared old p.0 s) (λ p. sound_shared new p.1 n)
+    good_one (shared_by old) (event.Took frame report) (shared_by new) (record { ignored = h.ignored; heard = h.heard }) (sound_shared old s) (sound_shared new n)
 good_turn old (Pushed frame) new h s n =
-    good_one (BothRuled old new) (shared_by old) (event.Gave frame) (shared_by new) (h.gives, h.memory) (λ p. sound_shared old p.0 s) (λ p. sound_shared new p.1 n)
-good_turn old (Ticked a) new h s n = good_tick (BothRuled old new) old a new h s (λ p. p.0) (λ p. p.1)
+    good_one (shared_by old) (event.Gave frame) (shared_by new) (h.gives, h.memory) (sound_shared old s) (sound_shared new n)
+good_turn old (Ticked a) new h s n = good_tick old a new h s s.ruled n.ruled
 good_turn old (Submitted dev request ticket) new h s n =
     let below : next_slot old.driver < 30 = free_below old.driver old.memory dev request h.accepted in
     let same = beside_area (next_slot old.driver) _ request.prds.items old.memory.structure new.memory.structure s.memory.structure_len (omega (arith, below)) (is_taken old.driver old.memory dev request h.accepted).few h.taken.command in
     let area : old.port.registers.fb ≡ 4096 = s.registers.area (omega (arith, submit_open old.driver old.memory dev request s.devices h.accepted)) in
-    good_one (BothRuled old new) (shared_by old) (event.Stored new.memory.structure) (shared_by new) (does_store (shared_by old) (shared_by new) area s.memory.structure_len same h.taken.client h.port)
-    (λ p. sound_shared old p.0 s) (λ p. sound_shared new p.1 n)
+    good_one (shared_by old) (event.Stored new.memory.structure) (shared_by new) (does_store (shared_by old) (shared_by new) area s.memory.structure_len same h.taken.client h.port)
+    (sound_shared old s) (sound_shared new n)
 good_turn old (Polled c) new h s n =
-    good_none (BothRuled old new) (shared_by old) (shared_by new) (beside_same old.port new.port old.memory new.memory h.port h.memory) (λ p. sound_shared old p.0 s)
+    good_none (shared_by old) (shared_by new) (beside_same old.port new.port old.memory new.memory h.port h.memory) (sound_shared old s)
 good_turn old (Put at bytes) new h s n =
-    good_one (BothRuled old new) (shared_by old) (event.Put at bytes) (shared_by new) (record { inside = h.inside; after = h.memory }, h.port) (λ p. sound_shared old p.0 s) (λ p. sound_shared new p.1 n)
+    good_one (shared_by old) (event.Put at bytes) (shared_by new) (record { inside = h.inside; after = h.memory }, h.port) (sound_shared old s) (sound_shared new n)
 
 -- ---- over turns
 
-first_ruled : (turns : List HostTurn) (old new : Host) (run : DoesAll old turns new) → AreRuled old new turns run → IsRuled old.port
-first_ruled [] old new run h = h
-first_ruled (t ∷ turns) old new run h = h.0
-
-good_turns : (turns : List HostTurn) (old new : Host) (run : DoesAll old turns new) → IsSoundHost old → Good (AreRuled old new turns run) (shared_by old) (events_over old new turns run) (shared_by new)
-good_turns [] old new run s = good_none (IsRuled old.port) (shared_by old) (shared_by new) (ap shared_by run) (λ p. sound_shared old p s)
+good_turns : (turns : List HostTurn) (old new : Host) (run : DoesAll old turns new) → IsSoundHost old → Good (shared_by old) (events_over old new turns run) (shared_by new)
+good_turns [] old new run s = good_none (shared_by old) (shared_by new) (ap shared_by run) (sound_shared old s)
 good_turns (t ∷ turns) old new run s =
     let n : IsSoundHost run.0 = sound_turn old t run.0 run.1 s in
-    let P : Type 0 = AreRuled old new (t ∷ turns) run in
-    let one : Good P (shared_by old) (events_of old t run.0 run.1) (shared_by run.0) =
-    good_by P (BothRuled old run.0) (events_of old t run.0 run.1) (shared_by old) (shared_by run.0) (λ p. (p.0, first_ruled turns run.0 new run.2 p.1)) (good_turn old t run.0 run.1 s n) in
-    let rest : Good P (shared_by run.0) (events_over run.0 new turns run.2) (shared_by new) =
-    good_by P (AreRuled run.0 new turns run.2) (events_over run.0 new turns run.2) (shared_by run.0) (shared_by new) (λ p. p.1) (good_turns turns run.0 new run.2 n) in
-    good_then P (events_of old t run.0 run.1) (events_over run.0 new turns run.2) (shared_by old) (shared_by run.0) (shared_by new) one rest
-
-pub turns_are_events : TurnsAreEvents
-turns_are_events old new turns run s = let g = good_turns turns old new run s in record { runs = g.runs; hosts = g.hosts }
+    good_then (events_of old t run.0 run.1) (events_over run.0 new turns run.2) (shared_by old) (shared_by run.0) (shared_by new) (good_turn old t run.0 run.1 s n) (good_turns turns run.0 new run.2 n)
 
 -- ---- what the events tell
 
@@ -242,23 +227,27 @@ framed_effects [] old new before after acts = tt
 framed_effects (e ∷ es) old new before after acts =
     framed_then (events_of_effect e old before acts.1) (events_of_effects es acts.0 acts.1 new after acts.4) (framed_effect e old before acts.1) (framed_effects es acts.0 new acts.1 after acts.4)
 
-framed_turn : (old : Host) (t : HostTurn) (new : Host) (h : Does old t new) → TakeFrames (t ∷ []) → AreFramed (events_of old t new h)
-framed_turn old (Took frame report) new h is = (is.0, tt)
-framed_turn old (Pushed frame) new h is = (tt, tt)
-framed_turn old (Ticked a) new h is = framed_effects (effects (sight_in old) old.driver) old.port new.port old.memory new.memory h.does
-framed_turn old (Submitted dev request ticket) new h is = (tt, tt)
-framed_turn old (Polled c) new h is = tt
-framed_turn old (Put at bytes) new h is = (tt, tt)
+framed_turn : (old : Host) (t : HostTurn) (new : Host) (h : Does old t new) → AreFramed (events_of old t new h)
+framed_turn old (Took frame report) new h = (h.framed, tt)
+framed_turn old (Pushed frame) new h = (tt, tt)
+framed_turn old (Ticked a) new h = framed_effects (effects (sight_in old) old.driver) old.port new.port old.memory new.memory h.does
+framed_turn old (Submitted dev request ticket) new h = (tt, tt)
+framed_turn old (Polled c) new h = tt
+framed_turn old (Put at bytes) new h = (tt, tt)
 
-framed_over : (turns : List HostTurn) (old new : Host) (run : DoesAll old turns new) → TakeFrames turns → AreFramed (events_over old new turns run)
-framed_over [] old new run is = tt
-framed_over (t ∷ turns) old new run is =
-    framed_then (events_of old t run.0 run.1) (events_over run.0 new turns run.2) (framed_turn old t run.0 run.1 (is.0, tt)) (framed_over turns run.0 new run.2 is.1)
+framed_over : (turns : List HostTurn) (old new : Host) (run : DoesAll old turns new) → AreFramed (events_over old new turns run)
+framed_over [] old new run = tt
+framed_over (t ∷ turns) old new run =
+    framed_then (events_of old t run.0 run.1) (events_over run.0 new turns run.2) (framed_turn old t run.0 run.1) (framed_over turns run.0 new run.2)
+
+pub turns_are_events : TurnsAreEvents
+turns_are_events old new turns run s =
+    let g = good_turns turns old new run s in
+    record { runs = g.runs; sound = record { hosts = g.hosts; frames = framed_over turns old new run } }
 
 pub each_run_tells : EachRunTells
 each_run_tells old new turns run = record {
   taken = tell_over took taken_by tell_taken turns old new run;
   given = tell_over gave pushed_by tell_given turns old new run;
   clients = tell_over put put_by tell_put turns old new run;
-  framed = framed_over turns old new run;
 }

@@ -4,7 +4,7 @@
 use Rattle.std.specs.Prelude.{ℕ, ◌≡◌, ◌<◌, ◌≤◌, true, false, List, [], ◌∷◌, ◌++◌, replicate}
 use Rattle.std.specs.Prelude.{Option, Some, None}
 use Rattle.std.specs.List.{flat_map}
-use Rattle.fis_view.specs.Frames.{IsFrame, Stamped}
+use Rattle.fis_view.specs.Frames.{Stamped}
 use Rattle.host_memory.specs.Memory.{IsHostMemory, Memory, is_memory_size, zeroed}
 use Rattle.slots.specs.Slots.{match_some}
 use Rattle.hba_fbs.specs.declared.register.Register.{Register}
@@ -13,10 +13,9 @@ use Rattle.hba_fbs.specs.declared.report.TakeReport.{TakeReport}
 use Rattle.hba_fbs.specs.Offsets.{register_at}
 use Rattle.hba_fbs.specs.Views.{Port, opening_port}
 use Rattle.hba_fbs.specs.Writing.{write_refusal}
-use Rattle.hba_laws.specs.Delivering.{AreFramed}
+use Rattle.hba_laws.specs.Delivering.{IsSound}
 use Rattle.hba_laws.specs.Hosts as event
 use Rattle.hba_laws.specs.Hosts.{HostEvent, Runs}
-use Rattle.hba_laws.specs.Sound as sound
 use Rattle.hba_driver.specs.declared.effect.Effect.{Effect}
 use Rattle.hba_driver.specs.declared.effect.Effect.TheVariants as effect
 use Rattle.hba_driver.specs.declared.plan.Device.TheVariants.{Absent}
@@ -97,6 +96,7 @@ KnowsNone plan = plan.opened < 7 → (dev : ℕ) → device_at plan dev ≡ Abse
 
 -- What is true of a host, from its opening on, after each of its turns.
 pub record IsSoundHost (h : Host) : Type 0 where
+  pub ruled : IsRuled h.port
   pub memory : IsHostMemory h.memory
   pub requests : AreRequests h.driver.given h.driver.entries
   pub registers : AreDriven h.driver.plan.opened h.port.registers
@@ -109,13 +109,6 @@ opening_host given len = record {
   driver = new_driver given;
   memory = zeroed len;
 }
-
--- What a turn says of the slots is said of the views of the devices, which are not all that there is
--- of them. But at each host of a run the port keeps what every port does, and whoever has a port
--- knows it.
-abbrev pub AreRuled : (old new : Host) (turns : List HostTurn) → DoesAll old turns new → Type 0
-AreRuled old new [] run = IsRuled old.port
-AreRuled old new (turn ∷ turns) run = IsRuled old.port × AreRuled run.0 new turns run.2
 
 -- ---- laws: sound hosts
 
@@ -131,13 +124,12 @@ pub record HostsAreSound : Type 0 where
 
 -- ---- laws: turns are events
 
--- The events of turns run from port and memory before them to port and memory after them, and each
--- host among them is sound where the ports keep their rules.
+-- The events of turns run from port and memory before them to port and memory after them; each host
+-- among them keeps what every port and every memory does, and what is taken is a frame.
 pub record AreEvents (old new : Host) (turns : List HostTurn) (run : DoesAll old turns new)
     : Type 0 where
   pub runs : Runs (shared_by old) (events_over old new turns run) (shared_by new)
-  pub hosts : AreRuled old new turns run
-      → sound.AreHosts (shared_by old) (shared_by new) (events_over old new turns run) runs
+  pub sound : IsSound (shared_by old) (shared_by new) (events_over old new turns run) runs
 
 abbrev pub TurnsAreEvents : Type 0
 TurnsAreEvents =
@@ -173,15 +165,6 @@ abbrev pub put : HostEvent → List (ℕ × List ℕ)
 put (event.Put at bytes) = (at, bytes) ∷ []
 put e = []
 
--- what is taken in a turn is a frame
-abbrev pub TakesFrames : HostTurn → Type 0
-TakesFrames (Took frame report) = IsFrame frame
-TakesFrames turn = Unit {0}
-
-abbrev pub TakeFrames : List HostTurn → Type 0
-TakeFrames [] = Unit {0}
-TakeFrames (turn ∷ turns) = TakesFrames turn × TakeFrames turns
-
 -- The frames that are taken, those that are given and the bytes that clients write are in the events
 -- what they are in the turns, in their order: no tick and no request adds one.
 pub record TurnsTell (old new : Host) (turns : List HostTurn) (run : DoesAll old turns new)
@@ -189,7 +172,6 @@ pub record TurnsTell (old new : Host) (turns : List HostTurn) (run : DoesAll old
   pub taken : flat_map took (events_over old new turns run) ≡ flat_map taken_by turns
   pub given : flat_map gave (events_over old new turns run) ≡ flat_map pushed_by turns
   pub clients : flat_map put (events_over old new turns run) ≡ flat_map put_by turns
-  pub framed : TakeFrames turns → AreFramed (events_over old new turns run)
 
 abbrev pub EachRunTells : Type 0
 EachRunTells =

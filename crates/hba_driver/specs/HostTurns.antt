@@ -1,8 +1,9 @@
 -- What the host does, turn by turn: host port, driver and memory together. A frame that is taken or asked for leaves the driver
--- as it is; whatever the driver does between two ticks leaves the port as it is.
+-- as it is; whatever the driver does between two ticks leaves the port as it is. What every port keeps by itself a turn leaves
+-- kept.
 use Rattle.std.specs.Prelude.{ℕ, ◌≡◌, ◌-◌, Bool, true, false, List, [], ◌∷◌, ◌++◌, length, Option, Some, None}
 use Rattle.std.specs.List.{list_all}
-use Rattle.fis_view.specs.Frames.{Stamped}
+use Rattle.fis_view.specs.Frames.{IsFrame, Stamped}
 use Rattle.host_memory.specs.Memory.{IsHostMemory, Memory, client_start, overwritten}
 use Rattle.host_memory.specs.Place.{LiesInClient}
 use Rattle.hba_fbs.specs.declared.report.TakeReport.{TakeReport}
@@ -15,7 +16,7 @@ use Rattle.hba_driver.specs.declared.sight.Sight.{Sight}
 use Rattle.hba_driver.specs.declared.turn.Act.{Act}
 use Rattle.hba_driver.specs.declared.turn.Act.TheVariants as act
 use Rattle.hba_driver.specs.Drivers.{Driver, Entry, entry_at}
-use Rattle.hba_driver.specs.Effects.{ActsAll, is_effect}
+use Rattle.hba_driver.specs.Effects.{ActsAll, IsRuled, is_effect}
 use Rattle.hba_driver.specs.Requests.{in_use}
 use Rattle.hba_driver.specs.Sights.{sight_of}
 use Rattle.hba_driver.specs.Submits.{Takes, after_poll, completion_of, submit_refusal}
@@ -42,16 +43,19 @@ pub data HostTurn : Type 0 where
   Put : (at : ℕ) → (bytes : List ℕ) → HostTurn
 
 pub record Tooks (old : Host) (frame : List ℕ) (report : TakeReport) (new : Host) : Type 0 where
+  pub framed : IsFrame frame
   pub driver : new.driver ≡ old.driver
   pub ignored : ignores (port_of frame) old.port frame ≡ true
       → Ignores (port_of frame) old.port old.memory report new.port new.memory
   pub heard : ignores (port_of frame) old.port frame ≡ false
       → Hears (port_of frame) old.port old.memory frame report new.port new.memory
+  pub ruled : IsRuled new.port
 
 pub record Pushes (old : Host) (frame : Option Stamped) (new : Host) : Type 0 where
   pub gives : Gives (outgoing old.port old.memory) old.port old.memory frame new.port
   pub driver : new.driver ≡ old.driver
   pub memory : new.memory ≡ old.memory
+  pub ruled : IsRuled new.port
 
 abbrev pub sight_in : Host → Sight
 sight_in h = sight_of h.port h.memory
@@ -61,6 +65,7 @@ pub record Ticks (old : Host) (acted : Bool) (new : Host) : Type 0 where
   pub does : ActsAll (effects (sight_in old) old.driver) old.port old.memory new.port new.memory
   pub answer : acted ≡ acts (sight_in old) old.driver
   pub possible : list_all is_effect (effects (sight_in old) old.driver) ≡ true
+  pub ruled : IsRuled new.port
 
 pub record Submits (old : Host) (dev : ℕ) (request : Request) (ticket : ℕ) (new : Host) : Type 0 where
   pub accepted : submit_refusal old.driver old.memory dev request ≡ None
