@@ -337,7 +337,7 @@ take_rises pm link host (answer.Took port conn number bytes report) new after ri
     let frame = acts.0.0 in
     let all : All HasRisen (frame ∷ new.frames) = subst (All HasRisen) acts.0.1 risen.frames in
     let told = acts.0.2 in
-    let framed : IsFrame frame.bytes = subst IsFrame (sym told.bytes_are) acts.3 in
+    let framed : IsFrame frame.bytes = subst IsFrame (sym told.bytes_are) acts.2.framed in
     let here : port_of bytes ≡ port = ap port_of (sym told.bytes_are) ∙ (all_first frame new.frames all).pm_port framed ∙ told.port_is in
     let dev : report.dev ≡ port_of bytes = reported host bytes report after acts.2 in
     ((here, dev ∙ here), record { rising = risen.rising; frames = all_rest frame new.frames all })

@@ -10,7 +10,7 @@ use Rattle.std.specs.Prelude.{is_none, MatchOption, MatchBool, Result, Ok, Err, 
 use Rattle.std.specs.Prelude.{take, nat_lt, ◌||◌}
 use Rattle.std.specs.Option.{option_map_or}
 use Rattle.std.specs.declared.alloc.AllocError.{AllocError}
-use Rattle.fis_view.specs.Frames.{IsFrame, Stamped, is_frame}
+use Rattle.fis_view.specs.Frames.{Stamped, is_frame}
 use Rattle.host_memory.specs.Memory.{client_start}
 use Rattle.disk_model.specs.Histories.{Plugged, Received}
 use Rattle.disk_model.specs.Units.{UnitGoesOn, UnitSends, UnitIsSilent, UnitWantsRoom}
@@ -245,7 +245,6 @@ HostTakeRule old host (Ok (answer.Took port conn number bytes report)) new after
     ((frame : Stamped) × (old.frames ≡ frame ∷ new.frames) × IsTold frame port conn number bytes)
     × (new.capacity ≡ old.capacity)
     × Tooks host bytes report after
-    × IsFrame bytes
 HostTakeRule old host _ new after = ⊥
 
 -- The host port is asked for its next frame. Where it gives none, nothing may go, or a table was

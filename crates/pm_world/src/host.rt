@@ -63,21 +63,28 @@ impl Host {
     pub fn take(&mut self, frame: &Frame) -> TakeReport
         ensures { Tooks self.old frame.now.bytes result self.new }
     {
-        self.port.take(frame, &mut self.memory)
+        let _ = frame.bytes();
+        let report = self.port.take(frame, &mut self.memory);
+        self.port.keeps_rules();
+        report
     }
 
     /// Gives the next frame that the port has to send.
     pub fn next_out(&mut self, alloc: Global) -> Result<Option<Frame>, AllocError>
         ensures { HostPushes self.old result self.new }
     {
-        self.port.next_out(alloc, &self.memory)
+        let frame = self.port.next_out(alloc, &self.memory);
+        self.port.keeps_rules();
+        frame
     }
 
     /// Lets the driver do the next thing that is due.
     pub fn tick(&mut self) -> Answer
         ensures { TickRule self.old (Ok result) self.new }
     {
-        if self.driver.tick(&mut self.port, &mut self.memory) {
+        let acted = self.driver.tick(&mut self.port, &mut self.memory);
+        self.port.keeps_rules();
+        if acted {
             Answer::Ticked
         } else {
             Answer::Idle
