@@ -1,10 +1,11 @@
 //! What a scenario says of its world before the world is built.
 
 ghost use Rattle.std.specs.Prelude.{◌≡◌, ◌*◌, ◌≤◌, IfOk, length, true};
+ghost use Rattle.disk_model.specs.Runs.{is_size};
 ghost use Rattle.pm_world.specs.Places.{is_config};
 
 use crate::scenario::parse::Setting;
-use disk_model::{Scripted, Unit};
+use disk_model::{Disk, DiskError, DiskPlan, Scripted, Unit};
 use fis_view::Bytes;
 use pm_world::Config;
 use std::alloc::{AllocError, Global};
@@ -46,12 +47,64 @@ impl Sizes {
     }
 }
 
+/// A disk that is not built yet.
+#[derive(Drop)]
+pub struct Shape {
+    /// Sectors, 1 to 65,536.
+    pub sectors: u32,
+    /// How it goes about its commands. A chunk is a multiple of 512 bytes, from 512 to 8,192.
+    pub plan: DiskPlan,
+    pub ghost has_size: { is_size sectors plan.chunk ≡ true },
+}
+
+impl Shape {
+    /// A disk of which the scenario says nothing.
+    pub fn plain() -> Shape {
+        Shape {
+            sectors: 16,
+            plan: DiskPlan::plain(),
+        }
+    }
+
+    /// The disk.
+    fn into_unit(self, alloc: Global) -> Result<Unit, AllocError> {
+        let Shape { sectors, plan } = self;
+        match Disk::new(alloc, sectors, plan) {
+            Ok(disk) => Ok(Unit::Disk(disk)),
+            Err(DiskError::OutOfMemory) => Err(AllocError),
+            Err(DiskError::BadSize) => unreachable!(),
+        }
+    }
+}
+
+/// What lines have said of the device at a port.
+#[derive(Drop)]
+enum Said {
+    /// Nothing: it is a plain disk.
+    Nothing,
+    /// It is this disk.
+    Disk(Shape),
+    /// It sends these frames.
+    Script(Vec<Bytes>),
+}
+
+impl Said {
+    /// The device.
+    fn into_unit(self, alloc: Global) -> Result<Unit, AllocError> {
+        match self {
+            Said::Nothing => Shape::plain().into_unit(alloc),
+            Said::Disk(shape) => shape.into_unit(alloc),
+            Said::Script(frames) => Ok(Unit::Scripted(Scripted::new(frames))),
+        }
+    }
+}
+
 /// A world that is not built yet.
 #[derive(Drop)]
 pub struct Opening {
     sizes: Sizes,
-    /// The frames of each port's script. Ports past the last script have none.
-    scripts: Vec<Vec<Bytes>>,
+    /// What was said of each port's device. Of ports past the last of them nothing was.
+    devices: Vec<Said>,
     is_begun: bool,
 }
 
@@ -60,7 +113,7 @@ impl Opening {
     pub fn new(alloc: Global) -> Opening {
         Opening {
             sizes: Sizes::PLAIN,
-            scripts: Vec::new(alloc),
+            devices: Vec::new(alloc),
             is_begun: false,
         }
     }
@@ -77,35 +130,56 @@ impl Opening {
         self.sizes
     }
 
+    /// Whether a line has said which disk stands at this port.
+    pub fn has_disk(&self, port: u8) -> bool {
+        matches!(self.devices.get(usize::from(port)), Some(Said::Disk(_)))
+    }
+
+    /// Whether a line has given the device at this port a frame to send.
+    pub fn has_script(&self, port: u8) -> bool {
+        matches!(self.devices.get(usize::from(port)), Some(Said::Script(_)))
+    }
+
     /// Takes in what one more line says.
     pub fn set(&mut self, alloc: Global, setting: Setting) -> Result<(), AllocError> {
         self.is_begun = true;
         match setting {
             Setting::Ports(sizes) => self.sizes = sizes,
-            Setting::Script(port, frame) => {
-                let port = usize::from(port);
-                if self.scripts.len() <= port {
-                    self.scripts.resize_with(port + 1, || Vec::new(alloc))?;
+            Setting::Disk(port, shape) => *self.device(port)? = Said::Disk(shape),
+            Setting::Script(port, frame) => match self.device(port)? {
+                Said::Script(frames) => frames.push(frame)?,
+                said => {
+                    let mut frames = Vec::new(alloc);
+                    frames.push(frame)?;
+                    *said = Said::Script(frames);
                 }
-                self.scripts[port].push(frame)?;
-            }
+            },
         }
         Ok(())
     }
 
-    /// The devices of the world, one for each port. A port without a script has an empty one.
+    /// What was said of the device at this port.
+    fn device(&mut self, port: u8) -> Result<&mut Said, AllocError> {
+        let port = usize::from(port);
+        if self.devices.len() <= port {
+            self.devices.resize_with(port + 1, || Said::Nothing)?;
+        }
+        Ok(&mut self.devices[port])
+    }
+
+    /// The devices of the world, one for each port.
     pub fn into_units(self, alloc: Global) -> Result<Vec<Unit>, AllocError>
         ensures { IfOk result (λ units. length units.items ≡ self.sizes.ports) }
     {
         let Opening {
             sizes,
-            mut scripts,
+            mut devices,
             is_begun: _,
         } = self;
-        scripts.resize_with(usize::from(sizes.ports), || Vec::new(alloc))?;
-        scripts
+        devices.resize_with(usize::from(sizes.ports), || Said::Nothing)?;
+        devices
             .into_iter()
-            .map(|script| Unit::Scripted(Scripted::new(script)))
-            .collect(alloc)
+            .map(|said| said.into_unit(alloc))
+            .try_collect(alloc)
     }
 }

@@ -1,20 +1,29 @@
 //! What a line of a scenario asks for.
 
+ghost use Rattle.std.specs.Prelude.{◌≡◌, ◌%◌, ◌≤◌, ◌×◌, IfOk};
+
 use crate::failure::{Failure, Refusal};
-use crate::scenario::opening::{Opening, Sizes};
+use crate::scenario::opening::{Opening, Shape, Sizes};
 use crate::scenario::words::Words;
+use disk_model::{DiskPlan, Order};
 use fis_view::Bytes;
-use pm_world::{Request, Step, Work};
+use hba_driver::{Request, Work};
+use pm_world::Step;
 use std::alloc::Global;
 
 /// The largest address, and the largest number of bytes.
 const LARGEST: u64 = 0xFFFF_FFFF;
 
+/// The most rounds of one line.
+const MOST_ROUNDS: u64 = 1_000_000;
+
 /// What a line says of the world before it is built.
-#[derive(Debug, Drop)]
+#[derive(Drop)]
 pub enum Setting {
     /// The world is to be so large.
     Ports(Sizes),
+    /// The device at this port is to be this disk.
+    Disk(u8, Shape),
     /// The script of this port is to have this frame after those that it has.
     Script(u8, Bytes),
 }
@@ -24,6 +33,8 @@ pub enum Setting {
 pub enum Action {
     /// One step of one actor.
     Step(Step),
+    /// To have all actors step, round by round, at most so many rounds.
+    Settle(u64),
     /// To show what each connection sent and what was taken of it.
     Counts,
     /// To show so many bytes of client memory, from this address on.
@@ -41,7 +52,8 @@ impl Setting {
         let setting = match name {
             b"ports" if opening.is_begun() => return Err(words.refused(Refusal::Order)),
             b"ports" => Setting::Ports(sizes(words)?),
-            b"script" => script(alloc, words, opening.sizes().ports)?,
+            b"disk" => disk(words, opening)?,
+            b"script" => script(alloc, words, opening)?,
             _ => return Ok(None),
         };
         words.end()?;
@@ -56,12 +68,15 @@ impl Action {
             b"came" => Action::Step(Step::Came(words.port()?)),
             b"inject" => Action::Step(inject(alloc, words)?),
             b"step" => Action::Step(step(words)?),
-            b"read" => Action::Step(read(alloc, words)?),
+            b"read" => Action::Step(transfer(alloc, Work::Read, words)?),
+            b"write" => Action::Step(transfer(alloc, Work::Write, words)?),
+            b"flush" => Action::Step(flush(alloc, words)?),
             b"poll" => Action::Step(Step::Poll),
             b"put" => Action::Step(put(alloc, words)?),
+            b"settle" => Action::Settle(words.number(1, MOST_ROUNDS)?),
             b"counts" => Action::Counts,
             b"show" => Action::Show(words.address()?, words.number(0, LARGEST)? as u32),
-            b"ports" | b"script" => return Err(words.refused(Refusal::Order)),
+            b"ports" | b"disk" | b"script" => return Err(words.refused(Refusal::Order)),
             _ => return Err(words.refused(Refusal::Command)),
         };
         words.end()?;
@@ -83,12 +98,70 @@ fn sizes(words: &mut Words<'_>) -> Result<Sizes, Failure> {
     })
 }
 
-/// The words after `script`, in a world with so many ports.
-fn script(alloc: Global, words: &mut Words<'_>, ports: u8) -> Result<Setting, Failure> {
+/// The words after `disk`.
+fn disk(words: &mut Words<'_>, opening: &Opening) -> Result<Setting, Failure> {
     let port = words.port()?;
-    if port >= ports {
+    if opening.has_disk(port) || opening.has_script(port) {
+        return Err(words.refused(Refusal::Order));
+    }
+    has_port(words, opening, port)?;
+    words.keyword(b"sectors")?;
+    let sectors = words.number(1, 65_536)? as u32;
+    let mut plan = DiskPlan::plain();
+    if words.takes(b"order") {
+        plan.order = order(words)?;
+    }
+    if words.takes(b"chunk") {
+        plan.chunk = chunk(words)?;
+    }
+    plan.last_first = words.takes(b"lastfirst");
+    for _ in 0..17 {
+        if !words.takes(b"bad") {
+            break;
+        }
+        let sector = words.number(0, LARGEST)? as u32;
+        if plan.bad.try_push(sector).is_err() {
+            return Err(words.refused(Refusal::Range));
+        }
+    }
+    Ok(Setting::Disk(port, Shape { sectors, plan }))
+}
+
+/// The word after `order`.
+fn order(words: &mut Words<'_>) -> Result<Order, Failure> {
+    match words.next_word() {
+        Some(b"oldest") => Ok(Order::Oldest),
+        Some(b"newest") => Ok(Order::Newest),
+        _ => Err(words.refused(Refusal::Number)),
+    }
+}
+
+/// The word after `chunk`.
+fn chunk(words: &mut Words<'_>) -> Result<u16, Failure>
+    ensures { IfOk result (λ n. (512 ≤ n) × (n ≤ 8192) × (n % 512 ≡ 0)) }
+{
+    let chunk = words.number(512, 8192)? as u16;
+    if chunk % 512 != 0 {
         return Err(words.refused(Refusal::Range));
     }
+    Ok(chunk)
+}
+
+/// Sees that the world has this port.
+fn has_port(words: &Words<'_>, opening: &Opening, port: u8) -> Result<(), Failure> {
+    if port >= opening.sizes().ports {
+        return Err(words.refused(Refusal::Range));
+    }
+    Ok(())
+}
+
+/// The words after `script`.
+fn script(alloc: Global, words: &mut Words<'_>, opening: &Opening) -> Result<Setting, Failure> {
+    let port = words.port()?;
+    if opening.has_disk(port) {
+        return Err(words.refused(Refusal::Order));
+    }
+    has_port(words, opening, port)?;
     Ok(Setting::Script(port, words.bytes(alloc)?))
 }
 
@@ -98,17 +171,29 @@ fn inject(alloc: Global, words: &mut Words<'_>) -> Result<Step, Failure> {
     Ok(Step::Inject(port, words.bytes(alloc)?))
 }
 
-/// The words after `read`: a device, its first sector, how many, and where their bytes go.
-fn read(alloc: Global, words: &mut Words<'_>) -> Result<Step, Failure> {
+/// The words after `read` or `write`: a device, its first sector, how many, and where their bytes lie.
+fn transfer(alloc: Global, work: Work, words: &mut Words<'_>) -> Result<Step, Failure> {
     let device = words.port()?;
     let lba = words.number(0, u64::MAX)?;
     let sectors = words.number(0, 65_535)? as u16;
     let prds = words.prds(alloc)?;
     let request = Request {
-        work: Work::Read,
+        work,
         lba,
         sectors,
         prds,
+    };
+    Ok(Step::Submit(device, request))
+}
+
+/// The words after `flush`: a device.
+fn flush(alloc: Global, words: &mut Words<'_>) -> Result<Step, Failure> {
+    let device = words.port()?;
+    let request = Request {
+        work: Work::Flush,
+        lba: 0,
+        sectors: 0,
+        prds: Vec::new(alloc),
     };
     Ok(Step::Submit(device, request))
 }
@@ -125,11 +210,16 @@ fn step(words: &mut Words<'_>) -> Result<Step, Failure> {
         return Err(words.refused(Refusal::Number));
     };
     match name {
-        b"disksend" => Ok(Step::DiskSend(words.port()?)),
         b"pmpresence" => Ok(Step::PmPresence(words.port()?)),
+        b"disktake" => Ok(Step::DiskTake(words.port()?)),
+        b"disksend" => Ok(Step::DiskSend(words.port()?)),
         b"pmfromdevice" => Ok(Step::PmFromDevice(words.port()?)),
+        b"pmdown" => Ok(Step::PmDown(words.port()?)),
+        b"pmfromhost" => Ok(Step::PmFromHost),
         b"pmup" => Ok(Step::PmUp),
         b"hosttake" => Ok(Step::HostTake),
+        b"tick" => Ok(Step::Tick),
+        b"hostpush" => Ok(Step::HostPush),
         _ => Err(words.refused(Refusal::Command)),
     }
 }

@@ -7,7 +7,7 @@ use crate::scenario::parse::{Action, Setting};
 use crate::scenario::text::Reply;
 use crate::scenario::words::Words;
 use host_memory::CLIENT_START;
-use pm_world::{Counts, Step, StepError, World, WorldError};
+use pm_world::{Answer, Counts, Step, StepError, World, WorldError};
 use std::alloc::{AllocError, Global};
 use std::io::Write;
 use std::mem;
@@ -83,6 +83,8 @@ impl Scenario {
 #[derive(Drop)]
 struct Scene {
     world: World,
+    /// Fan-out ports of the world.
+    ports: u8,
     counts: Counts,
 }
 
@@ -99,6 +101,7 @@ impl Scene {
         writeln!(out, "{}", Reply::World(sizes))?;
         Ok(Scene {
             world,
+            ports: sizes.ports,
             counts: Counts::new(alloc),
         })
     }
@@ -114,6 +117,10 @@ impl Scene {
         match Action::read(alloc, name, &mut words)? {
             Action::Step(step) => {
                 let reply = self.step(alloc, &step)?;
+                writeln!(out, "{reply}")?;
+            }
+            Action::Settle(rounds) => {
+                let reply = self.settle(alloc, rounds)?;
                 writeln!(out, "{reply}")?;
             }
             Action::Show(at, len) => match self.shown(alloc, at, len)? {
@@ -146,15 +153,58 @@ impl Scene {
         Ok(Some(Reply::Shown { at, digits }))
     }
 
-    /// Does one step, counts its answer, and gives what is printed of it.
+    /// Does one step, and gives what is printed of it.
     fn step(&mut self, alloc: Global, step: &Step) -> Result<Reply, Failure> {
+        match self.act(alloc, step)? {
+            Ok(answer) => Ok(Reply::of(alloc, &answer)?),
+            Err(error) => Ok(Reply::Refused(error)),
+        }
+    }
+
+    /// Does rounds, at most so many, up to the first in which no step did anything.
+    fn settle(&mut self, alloc: Global, rounds: u64) -> Result<Reply, Failure> {
+        for _ in 0..rounds {
+            if !self.round(alloc)? {
+                return Ok(Reply::Settled);
+            }
+        }
+        Ok(Reply::Unsettled)
+    }
+
+    /// Does the steps of a round: those of each device and its port, upwards, and then those of the
+    /// multiplier and the host. Says whether one of them did something.
+    fn round(&mut self, alloc: Global) -> Result<bool, Failure> {
+        let mut is_moved = false;
+        for n in 0..self.ports {
+            is_moved |= self.moves(alloc, &Step::PmPresence(n))?;
+            is_moved |= self.moves(alloc, &Step::DiskTake(n))?;
+            is_moved |= self.moves(alloc, &Step::DiskSend(n))?;
+            is_moved |= self.moves(alloc, &Step::PmFromDevice(n))?;
+            is_moved |= self.moves(alloc, &Step::PmDown(n))?;
+        }
+        is_moved |= self.moves(alloc, &Step::PmFromHost)?;
+        is_moved |= self.moves(alloc, &Step::PmUp)?;
+        is_moved |= self.moves(alloc, &Step::HostTake)?;
+        is_moved |= self.moves(alloc, &Step::Tick)?;
+        is_moved |= self.moves(alloc, &Step::HostPush)?;
+        Ok(is_moved)
+    }
+
+    /// Does one step, and says whether it was neither idle nor blocked.
+    fn moves(&mut self, alloc: Global, step: &Step) -> Result<bool, Failure> {
+        let answer = self.act(alloc, step)?;
+        Ok(!matches!(answer, Ok(Answer::Idle | Answer::Blocked)))
+    }
+
+    /// Does one step and counts its answer. Want of memory ends the scenario.
+    fn act(&mut self, alloc: Global, step: &Step) -> Result<Result<Answer, StepError>, Failure> {
         match self.world.step(alloc, step) {
             Ok(answer) => {
                 self.counts.note(&answer)?;
-                Ok(Reply::of(alloc, &answer)?)
+                Ok(Ok(answer))
             }
             Err(StepError::OutOfMemory) => Err(Failure::OutOfMemory),
-            Err(error) => Ok(Reply::Refused(error)),
+            Err(error) => Ok(Err(error)),
         }
     }
 }

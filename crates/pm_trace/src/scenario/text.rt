@@ -1,7 +1,8 @@
 //! The lines that a scenario prints.
 
 use crate::scenario::opening::Sizes;
-use pm_world::{Answer, Completion, ConnCount, Outcome, StepError, SubmitError, Ticket};
+use hba_driver::{Completion, Outcome, SubmitError, Ticket};
+use pm_world::{Answer, ConnCount, StepError};
 use std::alloc::{AllocError, Global};
 use std::fmt;
 
@@ -13,12 +14,16 @@ pub enum Reply {
     Came { port: u8, conn: u32 },
     Sent(FrameText),
     Took(FrameText),
-    /// A step moved a frame, or recorded a connection.
+    /// A step moved a frame or recorded a connection, or the driver did something.
     Moved,
     /// A step found nothing to move.
     Nothing,
     /// A step found the next place full.
     Blocked,
+    /// A round came in which no step did anything.
+    Settled,
+    /// All rounds went by, and none of them was such a round.
+    Unsettled,
     Refused(StepError),
     /// A request was taken under this ticket.
     Submitted(Ticket),
@@ -63,7 +68,9 @@ impl Reply {
                 number: *number,
                 digits: hex::encode(alloc, bytes.as_slice())?,
             }),
-            Answer::Presence(_) | Answer::Offered { .. } | Answer::Up(_) => Reply::Moved,
+            Answer::DiskTook { .. } | Answer::Presence(_) | Answer::Offered { .. } => Reply::Moved,
+            Answer::Passed(_) | Answer::Up(_) | Answer::Down(_) => Reply::Moved,
+            Answer::Pushed | Answer::Ticked => Reply::Moved,
             Answer::Took {
                 port,
                 conn,
@@ -95,6 +102,8 @@ impl fmt::Display for Reply {
             Reply::Moved => write!(f, "moved"),
             Reply::Nothing => write!(f, "nothing"),
             Reply::Blocked => write!(f, "blocked"),
+            Reply::Settled => write!(f, "settled"),
+            Reply::Unsettled => write!(f, "unsettled"),
             Reply::Refused(error) => {
                 let number = *error as u8;
                 write!(f, "step refused {number} {error:?}")
@@ -118,6 +127,7 @@ impl fmt::Display for Reply {
 fn write_ended<W: fmt::Write>(completion: &Completion, f: &mut fmt::Formatter<W>) -> fmt::Result {
     let result = match completion.outcome {
         Outcome::Done => "done",
+        Outcome::Removed => "removed",
     };
     write!(
         f,

@@ -117,6 +117,16 @@ impl<'a> Words<'a> {
         }
     }
 
+    /// Takes the next word if it is this one, and says whether it was.
+    pub fn takes(&mut self, keyword: &[u8]) -> bool {
+        let rest = self.rest;
+        let is_there = self.next_word() == Some(keyword);
+        if !is_there {
+            self.rest = rest;
+        }
+        is_there
+    }
+
     /// All words that are left as the digits of bytes. No word at all is `number`.
     pub fn bytes(&mut self, alloc: Global) -> Result<Bytes, Failure> {
         if self.is_at_end() {
