@@ -4,9 +4,12 @@ use crate::serve::serve;
 use std::process::Abort;
 use std::test::Fail;
 
+mod by_hand;
 mod decoding;
 mod failing;
+mod lines;
 mod scenarios;
+mod steps;
 
 /// Sees that the program, called with this word on this input, writes this and ends so.
 fn assert_run<R: Abort + AllocGlobal>(rt: &R, word: &str, input: &[u8], status: u8, output: &str) {

@@ -1,10 +1,11 @@
 //! What a line of a scenario asks for.
 
-ghost use Rattle.std.specs.Prelude.{◌≡◌, ◌%◌, ◌≤◌, ◌×◌, IfOk};
+ghost use Rattle.std.specs.Prelude.{◌≡◌, ◌%◌, ◌≤◌, IfOk};
 
 use crate::failure::{Failure, Refusal};
 use crate::scenario::opening::{Opening, Shape, Sizes};
 use crate::scenario::words::Words;
+use arrayvec::ArrayVec;
 use disk_model::{DiskPlan, Order};
 use fis_view::Bytes;
 use hba_driver::{Request, Work};
@@ -107,28 +108,20 @@ fn disk(words: &mut Words<'_>, opening: &Opening) -> Result<Setting, Failure> {
     has_port(words, opening, port)?;
     words.keyword(b"sectors")?;
     let sectors = words.number(1, 65_536)? as u32;
-    let mut plan = DiskPlan::plain();
-    if words.takes(b"order") {
-        plan.order = order(words)?;
-    }
-    if words.takes(b"chunk") {
-        plan.chunk = chunk(words)?;
-    }
-    plan.last_first = words.takes(b"lastfirst");
-    for _ in 0..17 {
-        if !words.takes(b"bad") {
-            break;
-        }
-        let sector = words.number(0, LARGEST)? as u32;
-        if plan.bad.try_push(sector).is_err() {
-            return Err(words.refused(Refusal::Range));
-        }
-    }
+    let plan = DiskPlan {
+        order: order(words)?,
+        chunk: chunk(words)?,
+        last_first: words.takes(b"lastfirst"),
+        bad: bad_sectors(words)?,
+    };
     Ok(Setting::Disk(port, Shape { sectors, plan }))
 }
 
-/// The word after `order`.
+/// The words `order ..`, if they come next.
 fn order(words: &mut Words<'_>) -> Result<Order, Failure> {
+    if !words.takes(b"order") {
+        return Ok(Order::Oldest);
+    }
     match words.next_word() {
         Some(b"oldest") => Ok(Order::Oldest),
         Some(b"newest") => Ok(Order::Newest),
@@ -136,15 +129,33 @@ fn order(words: &mut Words<'_>) -> Result<Order, Failure> {
     }
 }
 
-/// The word after `chunk`.
+/// The words `chunk ..`, if they come next.
 fn chunk(words: &mut Words<'_>) -> Result<u16, Failure>
     ensures { IfOk result (λ n. (512 ≤ n) × (n ≤ 8192) × (n % 512 ≡ 0)) }
 {
+    if !words.takes(b"chunk") {
+        return Ok(8192);
+    }
     let chunk = words.number(512, 8192)? as u16;
     if chunk % 512 != 0 {
         return Err(words.refused(Refusal::Range));
     }
     Ok(chunk)
+}
+
+/// All words `bad ..` that come next, at most 16 times.
+fn bad_sectors(words: &mut Words<'_>) -> Result<ArrayVec<u32, 16>, Failure> {
+    let mut sectors = ArrayVec::new();
+    for _ in 0..17 {
+        if !words.takes(b"bad") {
+            break;
+        }
+        let sector = words.number(0, LARGEST)? as u32;
+        if sectors.try_push(sector).is_err() {
+            return Err(words.refused(Refusal::Range));
+        }
+    }
+    Ok(sectors)
 }
 
 /// Sees that the world has this port.

@@ -1,0 +1,67 @@
+use crate::serve::serve;
+use std::alloc::{AllocError, Global};
+use std::test::Fail;
+
+/// The command was received.
+const ANSWER: &str = "inject 0 34 00 50 00 00000000000000000000000000000000";
+
+const SETUP: &str = "inject 0 4120 000000000000000000000000000000000000 00020000 00000000";
+
+const DONE: &str = "inject 0 A1 40 50 00 01 00 00 00";
+
+/// A Data FIS of 512 bytes, byte i being i mod 256.
+fn data(alloc: Global) -> Result<String, AllocError> {
+    let mut line = "inject 0 46000000".to_string(alloc)?;
+    for _ in 0..2 {
+        for byte in 0..=255u8 {
+            line.push_str(format!(in alloc; "{byte:02x}")?.as_str())?;
+        }
+    }
+    Ok(line)
+}
+
+/// What a scenario prints in which one sector is read, these lines put FISes on the device's link in place
+/// of the device, which does not see the command, and each goes up to the host.
+fn read_with(alloc: Global, frames: &[&str]) -> Result<Vec<u8>, AllocError> {
+    let mut input = "came 0\nsettle 1000\nread 0 0 1 101000:300 102000:212\n".to_string(alloc)?;
+    input.push_str("step tick\nstep hostpush\n")?;
+    for frame in frames {
+        input.push_str(frame)?;
+        input.push_str("\nstep pmfromdevice 0\nstep pmup\nstep hosttake\n")?;
+    }
+    input.push_str("step tick\npoll\nshow 10112a 4\nshow 102000 2\nshow 1020d2 3")?;
+    let mut written = Vec::new(alloc);
+    let _ = serve(alloc, &["run"], input.as_bytes(), &mut written);
+    Ok(written)
+}
+
+#[test]
+fn a_read_lands_in_its_places(rt: HostRuntime) -> Result<(), Fail> {
+    let alloc = rt.alloc();
+    let data = data(alloc)?;
+    let whole = read_with(alloc, &[ANSWER, SETUP, data.as_str(), DONE])?;
+    let end = b"\nmoved\nticket 1 slot 0 done\n10112a 2a2b0000\n102000 2c2d\n1020d2 feff00\n";
+    assert!(rt; whole.ends_with(end.as_slice()));
+    let begin =
+        b"ports 1 capacity 4 memory 2\ncame 0 conn 1\nsettled\nsubmitted 1\nmoved\nmoved\nsent 0 1 3 34005000000";
+    assert!(rt; whole.starts_with(begin.as_slice()));
+    Ok(())
+}
+
+#[test]
+fn what_does_not_fit_writes_nothing(rt: HostRuntime) -> Result<(), Fail> {
+    let alloc = rt.alloc();
+    let data = data(alloc)?;
+    let data = data.as_str();
+    for frames in [
+        // the end before the data, data without a setup, an end without an answer
+        [ANSWER, SETUP, DONE, data].as_slice(),
+        [ANSWER, data, SETUP, DONE].as_slice(),
+        [DONE, SETUP, data].as_slice(),
+    ] {
+        let written = read_with(alloc, frames)?;
+        let end = b"\nnothing\nnothing\n10112a 00000000\n102000 0000\n1020d2 000000\n";
+        assert!(rt; written.ends_with(end.as_slice()));
+    }
+    Ok(())
+}
