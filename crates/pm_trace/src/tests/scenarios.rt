@@ -99,10 +99,10 @@ port 0 conn 1 sent 12 taken 12
 
 #[test]
 fn a_script_beside_disks(rt: HostRuntime) {
-    // device 1 sends no signature, and ends a command of no one; device 3 sends one, and never says what it is
+    // device 1 sends no signature, and ends commands of no one; device 3 sends one, and never says what it is
     let input = "ports 4 capacity 4 memory 2
 script 1 A1 00 50 00 01 00 00 00
-script 1 39 00 00 00
+script 1 A1 00 50 00 02 00 00 00
 script 3 34 00 50 01 01 00 00 00 00 00 00 00 01 00 00 00 00 00 00 00
 came 0
 came 1
