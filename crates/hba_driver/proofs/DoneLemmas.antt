@@ -58,7 +58,7 @@ none_issued : (o : Option Issue) → MatchOption o (Unit {0}) IsIssue → issue_
 none_issued None h a q = refl
 none_issued (Some i) h a q = absurd (true≢false (sym (h.answers (not_false i.answered a)).0 ∙ q))
 
-free_slot : (port : Port) (memory : Memory) (s : ℕ) → IsTable port.slots → s < 32 → has_bit (sight_of port memory).issued s ≡ false → issue_at port.slots s ≡ None
+pub free_slot : (port : Port) (memory : Memory) (s : ℕ) → IsTable port.slots → s < 32 → has_bit (sight_of port memory).issued s ≡ false → issue_at port.slots s ≡ None
 unfolding sight_of
 free_slot port memory s table below h =
     let bits = or_false (shown port px_ci) (shown port px_sact) s h in

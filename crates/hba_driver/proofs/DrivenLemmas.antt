@@ -328,7 +328,7 @@ unfolding turn_of
 turn_open v plan entries h =
     rw h (subst (λ (n : ℕ). CalmTurn n (control_turn v (control_news v plan) (control_seen v plan) entries)) (opened_seen v plan) (calm_control v (control_news v plan) (control_seen v plan) entries))
 
-turn_opens : (v : Sight) (plan : Plan) (entries : List (Option Entry)) → nat_lt plan.opened 7 ≡ true → turn_of v plan entries ≡ record { plan = plan; act = Some (act.Opens plan.opened); news = false }
+pub turn_opens : (v : Sight) (plan : Plan) (entries : List (Option Entry)) → nat_lt plan.opened 7 ≡ true → turn_of v plan entries ≡ record { plan = plan; act = Some (act.Opens plan.opened); news = false }
 unfolding turn_of
 turn_opens v plan entries h = rw h refl
 
@@ -349,7 +349,7 @@ quiet_after v d h = ap (λ (b : Bool). if b then d else acted (turn v d).act (se
 below : (n m : ℕ) → nat_lt n m ≡ true → n < m
 below n m h = grind (arith, nat_tests)
 
-not_below : (n m : ℕ) → nat_lt n m ≡ false → m ≤ n
+pub not_below : (n m : ℕ) → nat_lt n m ≡ false → m ≤ n
 not_below n m h = grind (arith, nat_tests)
 
 rests : (v : Sight) (d : Driver) → v.faulted ≡ true → Resting v d

@@ -36,7 +36,7 @@ none_some e h = cc
 
 -- ---- what is polled
 
-record PollFacts (d : Driver) (c : Completion) : Type 0 where
+pub record PollFacts (d : Driver) (c : Completion) : Type 0 where
   pub place : ℕ
   pub entry : Entry
   pub lowest : lowest_ended d.entries ≡ Some place
@@ -62,12 +62,12 @@ poll_lowest : (d : Driver) (c : Completion) (o : Option ℕ) → lowest_ended d.
 poll_lowest d c None low h = cc
 poll_lowest d c (Some n) low h = poll_at d c n (entry_at d.entries n) low refl h
 
-poll_facts : (d : Driver) (c : Completion) → completion_of d ≡ Some c → PollFacts d c
+pub poll_facts : (d : Driver) (c : Completion) → completion_of d ≡ Some c → PollFacts d c
 unfolding completion_of
 poll_facts d c h = poll_lowest d c (lowest_ended d.entries) refl h
 
 -- what it leaves
-freed : (d : Driver) (c : Completion) (f : PollFacts d c) → after_poll d ≡ record d { entries = set d.entries f.place None }
+pub freed : (d : Driver) (c : Completion) (f : PollFacts d c) → after_poll d ≡ record d { entries = set d.entries f.place None }
 unfolding after_poll
 freed d c f = ap (λ (o : Option ℕ). match_some o d (λ slot. let x : Driver = record d { entries = set d.entries slot None } in x)) f.lowest
 
@@ -80,10 +80,10 @@ ComesOf old s f = ((e : Entry) × (entry_at old.entries s ≡ Some e) × GoesOn 
 on_same : (e : Entry) → GoesOn e e
 on_same e = record { same = refl; goes = goes_same e.head.phase }
 
-some_same : (e f : Entry) → Some e ≡ Some f → e ≡ f
+pub some_same : (e f : Entry) → Some e ≡ Some f → e ≡ f
 some_same e f h = cc
 
-back_of : (o n : Option Entry) → Keeps o n → (f : Entry) → n ≡ Some f → (e : Entry) × (o ≡ Some e) × GoesOn e f
+pub back_of : (o n : Option Entry) → Keeps o n → (f : Entry) → n ≡ Some f → (e : Entry) × (o ≡ Some e) × GoesOn e f
 back_of None n h f is = absurd (none_some f (sym h ∙ is))
 back_of (Some e) n h f is = (e, refl, subst (λ (x : Entry). GoesOn e x) (some_same h.entry f (sym h.is ∙ is)) h.on)
 

@@ -13,3 +13,10 @@ pub mod DrivenLemmas
 pub mod EventLemmas
 pub mod SoundLemmas
 pub mod TurnLemmas
+pub mod IssueLemmas
+pub mod IssuingLemmas
+pub mod DueLemmas
+pub mod ServingLemmas
+pub mod ApartLemmas
+pub mod TickingLemmas
+pub mod ServedLemmas

@@ -108,7 +108,7 @@ keeps_rephased test phase entries h s = subst (λ (x : Option Entry). Keeps (ent
 pub keeps_done : (issued : ℕ) (entries : List (Option Entry)) (s : ℕ) → Keeps (entry_at entries s) (entry_at (done_ended issued entries) s)
 keeps_done issued entries = keeps_rephased (is_done issued) (Ended Done) entries (λ s e h. goes_done e.head.phase (not (has_bit issued s)) h)
 
-keeps_removed : (order : Order) (entries : List (Option Entry)) (s : ℕ) → Keeps (entry_at entries s) (entry_at (removed order entries) s)
+pub keeps_removed : (order : Order) (entries : List (Option Entry)) (s : ℕ) → Keeps (entry_at entries s) (entry_at (removed order entries) s)
 keeps_removed (Clear port) entries s = keeps_rephased (is_open_of port) (Ended Removed) entries (λ s e h. goes_removed (e.head.dev == port) e.head.phase h) s
 keeps_removed order entries s = keeps_same (entry_at entries s)
 

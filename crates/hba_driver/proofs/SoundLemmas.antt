@@ -229,7 +229,7 @@ pub sound_over : (old : Host) (turns : List HostTurn) (new : Host) → DoesAll o
 sound_over old [] new run s = subst IsSoundHost (sym run) s
 sound_over old (t ∷ turns) new run s = sound_over run.0 turns new run.2 (sound_turn old t run.0 run.1 s)
 
-sound_host : (h : Host) → IsSoundHost h → IsHost h
+pub sound_host : (h : Host) → IsSoundHost h → IsHost h
 sound_host h s = record { memory = s.memory; area = started_area h.driver.plan.opened h.port.registers s.registers }
 
 sound_hosts : (old : Host) (turns : List HostTurn) (new : Host) (run : DoesAll old turns new) → IsSoundHost old → AreHosts old new turns run

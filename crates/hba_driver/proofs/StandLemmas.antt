@@ -65,7 +65,7 @@ same_beside at count old place bytes room long few fits apart = record {
 
 -- ---- a command that is written
 
-table_few : (cfis : List ℕ) (prds : List Prd) → length cfis ≤ 20 → length prds ≤ 248 → length (command_table cfis prds) ≤ 4096
+pub table_few : (cfis : List ℕ) (prds : List Prd) → length cfis ≤ 20 → length prds ≤ 248 → length (command_table cfis prds) ≤ 4096
 unfolding command_table
 table_few cfis prds short few =
     rw (length-append (cfis ++ zeros 108) (table_bytes prds), length-append cfis (zeros 108), length-zeros 108, length-table_bytes prds) (omega (arith, short, few))
@@ -85,12 +85,12 @@ same_written at count slot fields prds old new long below few header table writt
 -- ---- effects of the driver's own
 
 -- apart from the received area, and from headers and tables of the slots 30 and 31
-record IsOwn (at count : ℕ) : Type 0 where
+pub record IsOwn (at count : ℕ) : Type 0 where
   pub rows : LieApart at count 4096 4096
   pub headers : LieApart at count 960 64
   pub tables : LieApart at count 131072 8192
 
-abbrev late : Effect → Bool
+abbrev pub late : Effect → Bool
 late (effect.Writes offset value) = true
 late (effect.Flushes dev) = true
 late (effect.Empties dev) = true
@@ -110,7 +110,7 @@ pub few_prds : (buffer : Bool) → length (prds_with buffer) ≤ 248
 few_prds true = omega arith
 few_prds false = omega arith
 
-same_act : (at count : ℕ) → IsOwn at count → (e : Effect) (old new : Port) (before after : Memory) → is_effect e ≡ true → late e ≡ true → Acts e old before new after → length before.structure ≡ 1048576
+pub same_act : (at count : ℕ) → IsOwn at count → (e : Effect) (old new : Port) (before after : Memory) → is_effect e ≡ true → late e ≡ true → Acts e old before new after → length before.structure ≡ 1048576
     → Same at count before.structure after.structure
 same_act at count own (effect.Writes offset value) old new before after is l h long = subst (λ (m : Memory). Same at count before.structure m.structure) (sym h.1) (same_here at count before.structure long)
 same_act at count own (effect.Flushes dev) old new before after is l h long = subst (λ (m : Memory). Same at count before.structure m.structure) (sym h.1) (same_here at count before.structure long)
@@ -130,7 +130,7 @@ pub both : (a b : Bool) → (a && b) ≡ true → (a ≡ true) × (b ≡ true)
 both true b h = (refl, h)
 both false b h = absurd (false≢true h)
 
-same_acts : (at count : ℕ) → IsOwn at count → (es : List Effect) (old new : Port) (before after : Memory) → list_all is_effect es ≡ true → list_all late es ≡ true → ActsAll es old before new after
+pub same_acts : (at count : ℕ) → IsOwn at count → (es : List Effect) (old new : Port) (before after : Memory) → list_all is_effect es ≡ true → list_all late es ≡ true → ActsAll es old before new after
     → length before.structure ≡ 1048576 → Same at count before.structure after.structure
 unfolding ActsAll
 same_acts at count own [] old new before after is l h long = subst (λ (m : Memory). Same at count before.structure m.structure) (sym h.1) (same_here at count before.structure long)
@@ -164,7 +164,7 @@ late_order (Detect port) = refl
 late_order Watch = refl
 late_order NoMultiplier = refl
 
-late_act : (a : Option Act) → list_all late (effects_due a) ≡ true
+pub late_act : (a : Option Act) → list_all late (effects_due a) ≡ true
 unfolding effects_of
 late_act None = refl
 late_act (Some (act.Opens k)) = rw (late_opens k) refl
@@ -184,7 +184,7 @@ beside_rows at count old new (inr after) low high i h =
     let there : get_or old (8192 + k) 0 ≡ get_or new (8192 + k) 0 = sym (get_or-drop 8192 old k 0) ∙ ap (λ (l : List ℕ). get_or l k 0) (sym high) ∙ get_or-drop 8192 new k 0 in
     subst (λ (n : ℕ). get_or old n 0 ≡ get_or new n 0) e there
 
-posted_beside : (at count fb dev : ℕ) (fis : Option Fis) (old new : List ℕ) → fb ≡ 4096 → LieApart at count 4096 4096 → PostsOf fb dev fis old new → AgreeFrom at count old new
+pub posted_beside : (at count fb dev : ℕ) (fis : Option Fis) (old new : List ℕ) → fb ≡ 4096 → LieApart at count 4096 4096 → PostsOf fb dev fis old new → AgreeFrom at count old new
 posted_beside at count fb dev None old new is apart h i below = ap (λ (l : List ℕ). slice_index l (at + i)) (sym h)
 posted_beside at count fb dev (Some fis) old new is apart h i below =
     let posts : Posts 4096 dev fis old new = subst (λ (n : ℕ). Posts n dev fis old new) is h in
@@ -209,15 +209,15 @@ runs port frame h = and_first port.registers.started _ (not_or_or (is_running po
 -- ---- one turn
 
 -- an area of a request's: apart from what the driver writes of its own, and from the commands of other slots
-record IsArea (s at count : ℕ) : Type 0 where
+pub record IsArea (s at count : ℕ) : Type 0 where
   pub own : IsOwn at count
   pub header : (n : ℕ) → n < 30 → n ≢ s → LieApart at count (header_place 0 n) 32
   pub table : (n : ℕ) → n < 30 → n ≢ s → LieApart at count (table_of n) 4096
 
-same_memory : (at count : ℕ) (old new : Memory) → new.structure ≡ old.structure → AgreeFrom at count old.structure new.structure
+pub same_memory : (at count : ℕ) (old new : Memory) → new.structure ≡ old.structure → AgreeFrom at count old.structure new.structure
 same_memory at count old new is i h = ap (λ (l : List ℕ). slice_index l (at + i)) (sym is)
 
-agree_took : (s at count : ℕ) → IsArea s at count → (old new : Host) (frame : List ℕ) (report : Rattle.hba_fbs.specs.declared.report.TakeReport.TakeReport) → Does old (Took frame report) new → IsHost old
+pub agree_took : (s at count : ℕ) → IsArea s at count → (old new : Host) (frame : List ℕ) (report : Rattle.hba_fbs.specs.declared.report.TakeReport.TakeReport) → Does old (Took frame report) new → IsHost old
     → AgreeFrom at count old.memory.structure new.memory.structure
 agree_took s at count area old new frame report h host = elim (cases_Bool (ignores (port_of frame) old.port frame)) [
   | inl skip ↦ same_memory at count old.memory new.memory (ap (λ (m : Memory). m.structure) (h.ignored skip).memory)
@@ -225,7 +225,7 @@ agree_took s at count area old new frame report h host = elim (cases_Bool (ignor
       posted_beside at count old.port.registers.fb (port_of frame) (admitted (port_of frame) (seen frame)) old.memory.structure new.memory.structure (host.area (runs old.port frame heard)) area.own.rows (h.heard heard).structure
 ]
 
-agree_turn : (s at count : ℕ) → IsArea s at count → (e : Entry) (old : Host) (t : HostTurn) (new : Host) → Does old t new → IsHost old → entry_at old.driver.entries s ≡ Some e
+pub agree_turn : (s at count : ℕ) → IsArea s at count → (e : Entry) (old : Host) (t : HostTurn) (new : Host) → Does old t new → IsHost old → entry_at old.driver.entries s ≡ Some e
     → AgreeFrom at count old.memory.structure new.memory.structure
 agree_turn s at count area e old (Took frame report) new h host here = agree_took s at count area old new frame report h host
 agree_turn s at count area e old (Pushed frame) new h host here = same_memory at count old.memory new.memory (ap (λ (m : Memory). m.structure) h.memory)
@@ -242,14 +242,14 @@ agree_turn s at count area e old (Put place bytes) new h host here = same_memory
 
 -- ---- the areas of a slot
 
-header_area : (s : ℕ) → s < 30 → IsArea s (header_place 0 s) 32
+pub header_area : (s : ℕ) → s < 30 → IsArea s (header_place 0 s) 32
 header_area s below = record {
   own = record { rows = inl (omega (arith, below)); headers = inl (omega (arith, below)); tables = inl (omega (arith, below)) };
   header = λ n in_range other. elim (cases_lt s n) [ inl less ↦ inl (omega (arith, less)) | inr more ↦ inr (omega (arith, more, other)) ];
   table = λ n in_range other. inl (omega (arith, below));
 }
 
-table_area : (s : ℕ) → s < 30 → IsArea s (table_of s) 4096
+pub table_area : (s : ℕ) → s < 30 → IsArea s (table_of s) 4096
 table_area s below = record {
   own = record { rows = inr (omega arith); headers = inr (omega arith); tables = inl (omega (arith, below)) };
   header = λ n in_range other. inr (omega (arith, in_range));

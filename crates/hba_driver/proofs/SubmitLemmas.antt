@@ -89,7 +89,7 @@ and_false : (a b : Bool) → a ≡ true → (a && b) ≡ false → b ≡ false
 and_false true b h k = k
 and_false false b h k = absurd (false≢true h)
 
-none_conflict : (test : Option Entry → Bool) (entries : List (Option Entry)) (k : ℕ) → list_any test entries ≡ false → k < length entries → test (get_or entries k None) ≡ false
+pub none_conflict : (test : Option Entry → Bool) (entries : List (Option Entry)) (k : ℕ) → list_any test entries ≡ false → k < length entries → test (get_or entries k None) ≡ false
 none_conflict test [] k h below = absurd (omega arith)
 none_conflict test (x ∷ xs) zero h below = (or_parts (test x) (list_any test xs) h).0
 none_conflict test (x ∷ xs) (suc k) h below = none_conflict test xs k (or_parts (test x) (list_any test xs) h).1 (omega arith)

@@ -85,12 +85,12 @@ good_tick old a new h s first last =
 
 -- ---- a request
 
-first_none : (a b : Option SubmitError) → option_or a b ≡ None → a ≡ None
+pub first_none : (a b : Option SubmitError) → option_or a b ≡ None → a ≡ None
 first_none None b h = refl
 first_none (Some e) b h = cc
 
 -- a request is taken for a device that is there, so the port is open
-submit_open : (d : Driver) (memory : Memory) (dev : ℕ) (request : Request) → KnowsNone d.plan → submit_refusal d memory dev request ≡ None → 7 ≤ d.plan.opened
+pub submit_open : (d : Driver) (memory : Memory) (dev : ℕ) (request : Request) → KnowsNone d.plan → submit_refusal d memory dev request ≡ None → 7 ≤ d.plan.opened
 unfolding submit_refusal
 submit_open d memory dev request known h = elim (cases_lt d.plan.opened 7) [
   | inl less ↦
@@ -235,7 +235,7 @@ framed_turn old (Submitted dev request ticket) new h = (tt, tt)
 framed_turn old (Polled c) new h = tt
 framed_turn old (Put at bytes) new h = (tt, tt)
 
-framed_over : (turns : List HostTurn) (old new : Host) (run : DoesAll old turns new) → AreFramed (events_over old new turns run)
+pub framed_over : (turns : List HostTurn) (old new : Host) (run : DoesAll old turns new) → AreFramed (events_over old new turns run)
 framed_over [] old new run = tt
 framed_over (t ∷ turns) old new run =
     framed_then (events_of old t run.0 run.1) (events_over run.0 new turns run.2) (framed_turn old t run.0 run.1) (framed_over turns run.0 new run.2)

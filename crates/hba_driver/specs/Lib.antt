@@ -9,3 +9,4 @@ pub mod Submits
 pub mod HostTurns
 pub mod Laws
 pub mod Events
+pub mod Served

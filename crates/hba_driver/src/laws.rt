@@ -2,6 +2,7 @@
 
 ghost use Rattle.hba_driver.specs.Events.{EachRunTells, HostsAreSound, TurnsAreEvents};
 ghost use Rattle.hba_driver.specs.Laws.{CommandsStand, DoneIsFree, EachRunKeeps, TicksKeep, TicksServe};
+ghost use Rattle.hba_driver.specs.Served.{TurnsServe};
 
 /// A tick takes no request and gives none away, gives no ticket, and ends no request twice. It does
 /// nothing when it runs.
@@ -47,4 +48,12 @@ pub fn hosts_stay_sound()
 pub fn turns_are_events()
     ensures runs { TurnsAreEvents }
     ensures tells { EachRunTells }
+{}
+
+/// What is issued at the port is the driver's: a request of its own, the identify command of a device
+/// or an order to the multiplier. So over every list of turns of the host, from its opening on, the
+/// PRDs of a command stay while it is issued; where Data comes no two reads that are issued share a
+/// byte; and no client writes into one. It does nothing when it runs.
+pub fn turns_serve()
+    ensures { TurnsServe }
 {}

@@ -38,7 +38,7 @@ use Rattle.hba_laws.proofs.ViewLemmas.{own_in}
 
 -- ---- what was issued before
 
-NotIssue : Event → Type 0
+unfoldable pub NotIssue : Event → Type 0
 NotIssue (Issued slot t) = ⊥
 NotIssue e = Unit {0}
 
@@ -55,7 +55,7 @@ by_control : (b : Bool) (o : Option Transfer) (t : Transfer) → unless b o ≡ 
 by_control true o t h = cc
 by_control false o t h = h
 
-issued_before : (s : ℕ) (e : Event) (past : History) (t : Transfer) → NotIssue e → issued s (e ∷ past) ≡ Some t → issued s past ≡ Some t
+pub issued_before : (s : ℕ) (e : Event) (past : History) (t : Transfer) → NotIssue e → issued s (e ∷ past) ≡ Some t → issued s past ≡ Some t
 unfolding NotIssue
 issued_before s (Issued slot u) past t not h = absurd not
 issued_before s (SentControl slot) past t not h = by_control (eqb slot s) (issued s past) t h
@@ -63,13 +63,13 @@ issued_before s Emptied past t not h = cc
 issued_before s e past t not h = by_completion (λ e past u. completes s e past u.work) e past (issued s past) t h
 
 -- touches of which none issues
-NoneIssues : Touches → Type 0
+unfoldable pub NoneIssues : Touches → Type 0
 NoneIssues [] = Unit {0}
 NoneIssues (By dev e ∷ rest) = NotIssue e × NoneIssues rest
 NoneIssues (Stops ∷ rest) = NoneIssues rest
 NoneIssues (Puts at bytes ∷ rest) = NoneIssues rest
 
-was_there : (n s : ℕ) (touches past : Touches) (t : Transfer) → NoneIssues touches → issued s (own n (touches ++ past)) ≡ Some t → issued s (own n past) ≡ Some t
+pub was_there : (n s : ℕ) (touches past : Touches) (t : Transfer) → NoneIssues touches → issued s (own n (touches ++ past)) ≡ Some t → issued s (own n past) ≡ Some t
 unfolding NoneIssues
 was_there n s [] past t none h = h
 was_there n s (By dev e ∷ rest) past t none h = was_there n s rest past t none.1 (by_test (eqb dev n) h)
@@ -96,7 +96,7 @@ happening_none dev (happening.PioSetUp count to_host) (Some b) payload = (tt, tt
 happening_none dev happening.Activated block payload = tt
 happening_none dev (happening.Carried wrote finishes) block payload = (tt, tt)
 
-took_none : (old : Host) (frame : List ℕ) → NoneIssues (by_device (port_of frame) (event_taken old frame))
+pub took_none : (old : Host) (frame : List ℕ) → NoneIssues (by_device (port_of frame) (event_taken old frame))
 unfolding NoneIssues
 took_none old frame = by_ignored (ignores (port_of frame) old.port frame)
   where
@@ -106,7 +106,7 @@ took_none old frame = by_ignored (ignores (port_of frame) old.port frame)
         let h = heard_now old.port old.memory (port_of frame) (admitted (port_of frame) (seen frame)) in
         happening_none (port_of frame) h.happening h.state.block (drop 4 frame)
 
-out_none : (old : Host) (o : Outgoing) → NoneIssues (touched_by_out old o)
+pub out_none : (old : Host) (o : Outgoing) → NoneIssues (touched_by_out old o)
 unfolding NoneIssues NotIssue
 out_none old out.Nothing = tt
 out_none old (out.Unreadable dev) = tt
@@ -117,12 +117,12 @@ out_none old (out.Order dev slot command) = by_kind (holds is_control_issue (iss
     by_kind true = (tt, tt)
     by_kind false = (tt, tt)
 
-falls_none : (b : Bool) → NoneIssues (cond b (Stops ∷ []) [])
+pub falls_none : (b : Bool) → NoneIssues (cond b (Stops ∷ []) [])
 unfolding NoneIssues
 falls_none true = tt
 falls_none false = tt
 
-gives_commands : (o : Outgoing) (old new : Port) (memory : Memory) (frame : Option Stamped) → Gives o old memory frame new → new.commands ≡ old.commands
+pub gives_commands : (o : Outgoing) (old new : Port) (memory : Memory) (frame : Option Stamped) → Gives o old memory frame new → new.commands ≡ old.commands
 gives_commands out.Nothing old new memory frame does = ap (λ (p : Port). p.commands) does.1
 gives_commands (out.Unreadable dev) old new memory frame does = ap (λ (p : Port). p.commands) does.1
 gives_commands (out.Data dev offset len command) old new memory None does = absurd does

@@ -113,7 +113,7 @@ then_some true o a h = (refl, h)
 then_some false o a h = cc
 
 -- the PRDs of a command that stands in a slot can be read, and have its bytes
-stands_readable : (memory : Memory) (clb slot : ℕ) (armed : Bool) (command : Command) → command_at memory clb slot armed ≡ Some command → is_readable memory command.work.len command ≡ true
+pub stands_readable : (memory : Memory) (clb slot : ℕ) (armed : Bool) (command : Command) → command_at memory clb slot armed ≡ Some command → is_readable memory command.work.len command ≡ true
 unfolding command_under is_proper
 stands_readable memory clb slot armed command h =
     let header = header_at memory.structure clb slot in

@@ -1,0 +1,323 @@
+-- What a write of PxCI issues, where the command of one slot stands.
+use Rattle.std.proofs.Common.{◌≡◌, ◌≢◌, ℕ, zero, suc, ◌+◌, ◌*◌, ◌^◌, ◌<◌, ◌≤◌, ◌⊎◌, Bool, true, false, cond, eqb, List, [], ◌∷◌, ◌++◌, length, refl, sym, ◌∙◌, ap, subst, inl, inr, arith, Option, Some, None}
+use Rattle.std.specs.Prelude.{MatchOption, if◌then◌else◌, ◌&&◌, ◌||◌, ◌==◌, not, is_none, is_some, nat_lt}
+use Rattle.std.specs.Option.{option_or}
+use Rattle.std.proofs.lemmas.Bool.{and_parts, cases_Bool, cases_eq, cases_lt, eqb-true, false≢true, or_parts, true≢false}
+use Rattle.std.proofs.lemmas.Bool.Decides.{nat_tests}
+use Rattle.std.proofs.lemmas.List.{get_or_past}
+use Rattle.std.proofs.lemmas.List.FromFn.{get_or-map-range_with_len, length-map-range_with_len}
+use Rattle.std.proofs.lemmas.Nat.Bits.{bit_at-pow_other, bit_at-pow_same, bit_at-zero}
+use Rattle.host_memory.specs.Memory.{Memory}
+use Rattle.host_memory.specs.Place.{total_of}
+use Rattle.host_memory.specs.Reading.{first_fault, have_overlap, prds_at, read_fault}
+use Rattle.host_memory.specs.declared.table.Prd.{Prd}
+use Rattle.host_memory.specs.declared.table.PrdError.{PrdError}
+use Rattle.host_memory.specs.declared.table.PrdError.TheVariants.{OutsideStructure, Overlap}
+use Rattle.hba_commands.specs.declared.command.Command.{Command}
+use Rattle.fis_view.specs.declared.build.H2dFields.{H2dFields}
+use Rattle.hba_commands.specs.Commands.{cfis_at, command_at, command_in, command_under, has_table, is_proper, total_at}
+use Rattle.hba_commands.specs.Headers.{header_at}
+use Rattle.hba_commands.specs.Requests.{request_at, request_of, work_of}
+use Rattle.hba_commands.specs.Writing.{header_for}
+use Rattle.slots.specs.Slots.{has_bit, lowest}
+use Rattle.slots.specs.declared.work.Work.{Work}
+use Rattle.slots.proofs.MaskLemmas.{none_below}
+use Rattle.hba_fbs.specs.declared.error.WriteError.{WriteError}
+use Rattle.hba_fbs.specs.declared.error.WriteError.TheVariants as refusal
+use Rattle.hba_fbs.specs.declared.register.Register.TheVariants.{Ci}
+use Rattle.hba_fbs.specs.Issuing.{any_slot, asked, commands_with, is_bad, is_busy, is_foreign}
+use Rattle.hba_fbs.specs.Registers.{own_refusal}
+use Rattle.hba_fbs.specs.Tables.{is_readable, prds_of}
+use Rattle.hba_fbs.specs.Views.{Port, last_command}
+use Rattle.hba_fbs.specs.Writing.{commands_after, refusal_of, slots_refusal}
+use Rattle.hba_laws.specs.Client.{By, IsKept, Touches, own}
+use Rattle.hba_laws.specs.Delivering.{issued_below, issued_in, touched}
+use Rattle.hba_laws.specs.History.{History, Transfer, issued}
+use Rattle.hba_laws.specs.Hosts as event
+use Rattle.hba_laws.specs.Sound as sound
+use Rattle.hba_laws.proofs.ClientLemmas.{histories_step}
+use Rattle.hba_laws.proofs.IssueLemmas.{history_below, other_below, own_app, own_below_is, transfer_of, with_issued}
+use Rattle.hba_laws.proofs.StandLemmas.{some_inj}
+use Rattle.hba_laws.proofs.TableLemmas.{stands_readable}
+use Rattle.hba_driver.specs.Drivers.{Driver}
+use Rattle.hba_driver.specs.Effects.{table_of}
+use Rattle.hba_driver.specs.Served.{HasItsTable, HaveCommands, IsIdentify, IsIssueOf, IsOrdered, IsRequest, IsServed}
+
+-- ---- the command that stands in a slot
+
+-- header, command FIS and PRDs of a command for this device
+pub record Standing (slot dev : ℕ) (prds : List Prd) (fields : H2dFields) (memory : Memory) : Type 0 where
+  pub header : header_at memory.structure 0 slot ≡ header_for (request_of fields) (table_of slot) (length prds)
+  pub to_dev : (request_of fields).pm_port ≡ dev
+  pub request_is : request_at (cfis_at memory.structure (table_of slot)) ≡ Some (request_of fields)
+  pub entries : prds_at memory.structure (table_of slot + 128) (length prds) ≡ prds
+
+-- what is known of such a command once it is issued
+pub record Stood (slot : ℕ) (prds : List Prd) (fields : H2dFields) (memory : Memory) (command : Command) : Type 0 where
+  pub place : HasItsTable slot command
+  pub entries : prds_of memory command ≡ prds
+  pub work : command.work ≡ work_of (request_of fields)
+  pub total : total_of prds ≡ command.work.len
+  pub apart : have_overlap prds ≡ false
+
+then_some : {A : Type 0} (b : Bool) (o : Option A) (a : A) → (if b then o else None) ≡ Some a → (b ≡ true) × (o ≡ Some a)
+then_some true o a h = (refl, h)
+then_some false o a h = cc
+
+record Made (fields : H2dFields) (table count : ℕ) (command : Command) : Type 0 where
+  pub table_is : command.table ≡ table
+  pub count_is : command.count ≡ count
+  pub work_is : command.work ≡ work_of (request_of fields)
+
+made : (fields : H2dFields) (table count : ℕ) (cfis : List ℕ) (total : Option ℕ) (slot : ℕ) (armed : Bool) (command : Command)
+    → command_in (header_for (request_of fields) table count) cfis (Some (request_of fields)) total slot armed ≡ Some command → Made fields table count command
+made fields table count cfis None slot armed command h = cc
+made fields table count cfis (Some n) slot armed command h =
+    let whole : Command = record { work = work_of (request_of fields); cfis = cfis; table = table; count = count } in
+    let it : whole ≡ command = some_inj whole command (then_some (is_proper (header_for (request_of fields) table count) (request_of fields) n slot armed) (Some whole) command h).1 in
+    record {
+      table_is = sym (ap (λ (c : Command). c.table) it);
+      count_is = sym (ap (λ (c : Command). c.count) it);
+      work_is = sym (ap (λ (c : Command). c.work) it);
+    }
+
+made_under : (memory : Memory) (fields : H2dFields) (table count slot : ℕ) (armed : Bool) (command : Command) → command_under memory (header_for (request_of fields) table count) slot armed ≡ Some command
+    → request_at (cfis_at memory.structure table) ≡ Some (request_of fields) → Made fields table count command
+unfolding command_under
+made_under memory fields table count slot armed command h is =
+    let total : Option ℕ = total_at memory.structure (length memory.client) table count in
+    let found = (then_some (has_table (header_for (request_of fields) table count)) _ command h).1 in
+    made fields table count (cfis_at memory.structure table) total slot armed command
+    (subst (λ o. command_in (header_for (request_of fields) table count) (cfis_at memory.structure table) o total slot armed ≡ Some command) is found)
+
+no_fault : (b : Bool) (f : Option PrdError) (o : Bool) → is_none (if b then Some OutsideStructure else option_or f (if o then Some Overlap else None)) ≡ true → (b ≡ false) × (o ≡ false)
+no_fault true f o h = absurd (false≢true h)
+no_fault false (Some e) o h = absurd (false≢true h)
+no_fault false None true h = absurd (false≢true h)
+no_fault false None false h = (refl, refl)
+
+at_most : (n m : ℕ) → nat_lt n m ≡ false → m ≤ n
+at_most n m h = grind (arith, nat_tests)
+
+equal_of : (x y : ℕ) → (x == y) ≡ true → x ≡ y
+equal_of x y h = grind (arith, nat_tests)
+
+-- a command that can be read has its bytes, and no two of its PRDs share one
+record Readable (memory : Memory) (command : Command) : Type 0 where
+  pub few : command.count ≤ 248
+  pub apart : have_overlap (prds_of memory command) ≡ false
+  pub total : total_of (prds_of memory command) ≡ command.work.len
+
+readable : (memory : Memory) (command : Command) → is_readable memory command.work.len command ≡ true → Readable memory command
+readable memory command h =
+    let parts = and_parts (is_none (read_fault memory.structure (length memory.client) (command.table + 128) command.count)) (total_of (prds_of memory command) == command.work.len) h in
+    let none = no_fault (nat_lt (length memory.structure) (command.table + 128 + 16 * command.count) || nat_lt 248 command.count)
+    (first_fault memory.structure (length memory.client) (command.table + 128) command.count) (have_overlap (prds_of memory command)) parts.0 in
+    record {
+      few = at_most 248 command.count (or_parts (nat_lt (length memory.structure) (command.table + 128 + 16 * command.count)) (nat_lt 248 command.count) none.0).1;
+      apart = none.1;
+      total = equal_of (total_of (prds_of memory command)) command.work.len parts.1;
+    }
+
+stood : (slot dev : ℕ) (prds : List Prd) (fields : H2dFields) (memory : Memory) (armed : Bool) (command : Command) → Standing slot dev prds fields memory → command_at memory 0 slot armed ≡ Some command → Stood slot prds fields memory command
+stood slot dev prds fields memory armed command s h =
+    let under : command_under memory (header_for (request_of fields) (table_of slot) (length prds)) slot armed ≡ Some command = ap (λ x. command_under memory x slot armed) (sym s.header) ∙ h in
+    let m : Made fields (table_of slot) (length prds) command = made_under memory fields (table_of slot) (length prds) slot armed command under s.request_is in
+    let r : Readable memory command = readable memory command (stands_readable memory 0 slot armed command h) in
+    let here : prds_of memory command ≡ prds =
+    ap (λ (k : ℕ). prds_at memory.structure (k + 128) command.count) m.table_is ∙ ap (λ (k : ℕ). prds_at memory.structure (table_of slot + 128) k) m.count_is ∙ s.entries in
+    record {
+      place = record { table = m.table_is; few = r.few };
+      entries = here;
+      work = m.work_is;
+      total = sym (ap total_of here) ∙ r.total;
+      apart = sym (ap have_overlap here) ∙ r.apart;
+    }
+
+-- ---- which slots are asked for
+
+bit_same : (slot : ℕ) → has_bit (2 ^ slot) slot ≡ true
+bit_same slot = ap (λ (k : ℕ). k == 1) (bit_at-pow_same slot)
+
+bit_other : (slot s : ℕ) → s ≢ slot → has_bit (2 ^ slot) s ≡ false
+bit_other slot s other = ap (λ (k : ℕ). k == 1) (bit_at-pow_other slot s other)
+
+-- one slot alone, and what stands there
+record Asked (port : Port) (memory : Memory) (slot s : ℕ) (command : Command) : Type 0 where
+  pub slot_is : s ≡ slot
+  pub command_is : command_at memory port.registers.clb slot (has_bit port.registers.armed slot) ≡ Some command
+
+asked_is : (port : Port) (memory : Memory) (slot s : ℕ) (command : Command) → asked port.registers memory (2 ^ slot) s ≡ Some command → Asked port memory slot s command
+asked_is port memory slot s command h = elim (cases_eq s slot) [
+  | inl same ↦
+      let at : asked port.registers memory (2 ^ slot) slot ≡ Some command = subst (λ (k : ℕ). asked port.registers memory (2 ^ slot) k ≡ Some command) same h in
+      record { slot_is = same; command_is = (then_some (has_bit (2 ^ slot) slot) _ command at).1 }
+  | inr other ↦
+      let found = then_some (has_bit (2 ^ slot) s) (command_at memory port.registers.clb s (has_bit port.registers.armed s)) command h in
+      absurd (false≢true (sym (bit_other slot s other) ∙ found.0))
+]
+
+-- ---- whom the command is for
+
+own_when : (started test busy foreign : Bool) (e f : WriteError) (o : Option WriteError) → started ≡ true
+    → option_or (if not started && test then Some refusal.Stopped else None) (if started then (if busy then Some e else if foreign then Some f else o) else None) ≡ None → foreign ≡ false
+own_when true test true foreign e f o run h = cc
+own_when true test false true e f o run h = cc
+own_when true test false false e f o run h = refl
+own_when false test busy foreign e f o run h = absurd (false≢true run)
+
+started_when : (started is_zero : Bool) (o : Option WriteError) → is_zero ≡ false → option_or (if not started && not is_zero then Some refusal.Stopped else None) o ≡ None → started ≡ true
+started_when true is_zero o some h = refl
+started_when false true o some h = absurd (true≢false some)
+started_when false false o some h = cc
+
+not_zero : (slot : ℕ) → (2 ^ slot == 0) ≡ false
+not_zero slot = elim (cases_Bool (2 ^ slot == 0)) [
+  | inl is ↦ absurd (true≢false (sym (bit_same slot) ∙ ap (λ (v : ℕ). has_bit v slot) (equal_of (2 ^ slot) 0 is) ∙ ap (λ (k : ℕ). k == 1) (bit_at-zero slot)))
+  | inr more ↦ more
+]
+
+foreign_none : (port : Port) (memory : Memory) (slot : ℕ) → refusal_of Ci port memory (2 ^ slot) ≡ None → any_slot (2 ^ slot) (is_foreign port.registers memory.structure) ≡ false
+unfolding own_refusal slots_refusal
+foreign_none port memory slot h =
+    let run : port.registers.started ≡ true = started_when port.registers.started (2 ^ slot == 0) (slots_refusal Ci port memory (2 ^ slot)) (not_zero slot) h in
+    own_when port.registers.started (not (2 ^ slot == 0)) (any_slot (2 ^ slot) (is_busy port.slots)) (any_slot (2 ^ slot) (is_foreign port.registers memory.structure)) refusal.SlotBusy refusal.WrongDevice
+    (if any_slot (2 ^ slot) (is_bad port.registers memory) then Some refusal.BadTable else None) run h
+
+not_some : (o : Option ℕ) → is_some o ≡ false → o ≡ None
+not_some None h = refl
+not_some (Some k) h = absurd (true≢false h)
+
+not_not : (a b : Bool) → a ≡ true → (a && not b) ≡ false → b ≡ true
+not_not true true h k = refl
+not_not true false h k = absurd (true≢false k)
+not_not false b h k = absurd (false≢true h)
+
+-- the device that PxFBS.DEV names is that of the header
+chosen_is : (port : Port) (memory : Memory) (slot : ℕ) → slot < 32 → refusal_of Ci port memory (2 ^ slot) ≡ None → (header_at memory.structure port.registers.clb slot).pmp ≡ port.registers.chosen
+chosen_is port memory slot below h =
+    let calm : (has_bit (2 ^ slot) slot && is_foreign port.registers memory.structure slot) ≡ false =
+    none_below (λ k. has_bit (2 ^ slot) k && is_foreign port.registers memory.structure k) 32 (not_some (lowest (λ k. has_bit (2 ^ slot) k && is_foreign port.registers memory.structure k)) (foreign_none port memory slot h)) slot below in
+    equal_of (header_at memory.structure port.registers.clb slot).pmp port.registers.chosen (not_not (has_bit (2 ^ slot) slot) _ (bit_same slot) calm)
+
+-- ---- what is issued after it
+
+abbrev New : Memory → (ℕ → Option Command) → ℕ → Transfer → Type 0
+New memory commands s t = (command : Command) × (commands s ≡ Some command) × (transfer_of memory command ≡ t)
+
+below_case : (memory : Memory) (commands : ℕ → Option Command) (h later : History) (m s : ℕ) (t : Transfer) → (issued s later ≡ Some t → New memory commands s t ⊎ (issued s h ≡ Some t)) → (o : Option Command) → commands m ≡ o
+    → issued s (with_issued memory m o later) ≡ Some t → New memory commands s t ⊎ (issued s h ≡ Some t)
+below_case memory commands h later m s t rest None here e = rest e
+below_case memory commands h later m s t rest (Some command) here e = by_test (eqb m s) refl e
+  where
+    by_test : (b : Bool) → eqb m s ≡ b → cond b (Some (transfer_of memory command)) (issued s later) ≡ Some t → New memory commands s t ⊎ (issued s h ≡ Some t)
+    by_test true is e = inl (command, ap commands (sym (eqb-true m s is)) ∙ here, some_inj (transfer_of memory command) t e)
+    by_test false is e = rest e
+
+below_cases : (memory : Memory) (commands : ℕ → Option Command) (h : History) (m s : ℕ) (t : Transfer) → issued s (history_below memory commands h m) ≡ Some t → New memory commands s t ⊎ (issued s h ≡ Some t)
+below_cases memory commands h zero s t e = inr e
+below_cases memory commands h (suc m) s t e = below_case memory commands h (history_below memory commands h m) m s t (below_cases memory commands h m s t) (commands m) refl e
+
+-- in the history of one device
+issued_cases : (dev n : ℕ) (memory : Memory) (commands : ℕ → Option Command) (past : Touches) (s : ℕ) (t : Transfer) → issued s (own n (issued_below dev memory commands 32 ++ past)) ≡ Some t
+    → ((dev ≡ n) × New memory commands s t) ⊎ (issued s (own n past) ≡ Some t)
+issued_cases dev n memory commands past s t at = elim (cases_eq dev n) [
+  | inl same ↦
+      let there : issued s (history_below memory commands (own n past) 32) ≡ Some t =
+      sym (ap (issued s) (own_app n (issued_below dev memory commands 32) past
+      ∙ ap (λ (d : ℕ). own n (issued_below d memory commands 32) ++ own n past) same ∙ own_below_is n memory commands (own n past) 32)) ∙ at in
+      elim (below_cases memory commands (own n past) 32 s t there) [ inl fresh ↦ inl (same, fresh) | inr old ↦ inr old ]
+  | inr other ↦
+      inr (sym (ap (issued s) (own_app n (issued_below dev memory commands 32) past
+      ∙ ap (λ h. h ++ own n past) (other_below n dev memory commands 32 other))) ∙ at)
+]
+
+-- ---- and what is kept
+
+kept_in : (dev slot : ℕ) (memory : Memory) (o : Option Command) (rest past : Touches) → IsKept (rest ++ past) → IsKept ((issued_in dev memory slot o ++ rest) ++ past)
+kept_in dev slot memory None rest past k = k
+kept_in dev slot memory (Some command) rest past k = k
+
+pub kept_below : (dev : ℕ) (memory : Memory) (commands : ℕ → Option Command) (past : Touches) (m : ℕ) → IsKept past → IsKept (issued_below dev memory commands m ++ past)
+unfolding issued_below
+kept_below dev memory commands past zero k = k
+kept_below dev memory commands past (suc m) k = kept_in dev m memory (commands m) (issued_below dev memory commands m) past (kept_below dev memory commands past m k)
+
+-- ---- the write
+
+-- the last commands of the slots after it
+command_then : (commands : ℕ → Option Command) (s : ℕ) (old : List (Option Command)) (command : Command) → last_command (commands_with commands old) s ≡ Some command → option_or (commands s) (last_command old s) ≡ Some command
+unfolding commands_with
+command_then commands s old command last = elim (cases_lt s (length old)) [
+  | inl lt ↦ sym (get_or-map-range_with_len (λ slot. option_or (commands slot) (last_command old slot)) 0 (length old) s s None lt (omega arith)) ∙ last
+  | inr ge ↦
+      let long = length-map-range_with_len (λ slot. option_or (commands slot) (last_command old slot)) 0 (length old) in
+      let none : None ≡ Some command = sym (get_or_past (commands_with commands old) s None (omega (arith, long, ge))) ∙ last in cc
+]
+
+or_cases : {A : Type 0} (o p : Option A) (a : A) → option_or o p ≡ Some a → (o ≡ Some a) ⊎ (p ≡ Some a)
+or_cases None p a h = inr h
+or_cases (Some x) p a h = inl h
+
+-- an issue is one of the driver's
+abbrev pub From : Driver → (n s : ℕ) → Transfer → Type 0
+From d n s t = IsRequest d n s t ⊎ (IsIdentify d n s t ⊎ IsOrdered d s t)
+
+-- what stands in the slot may be issued
+abbrev pub MayIssue : Driver → (slot dev : ℕ) → List Prd → H2dFields → Type 0
+MayIssue d slot dev prds fields = (t : Transfer) → t.table ≡ prds → t.work ≡ work_of (request_of fields) → From d dev slot t
+
+pmp_is : (structure : List ℕ) (clb slot table count dev : ℕ) (fields : H2dFields) → clb ≡ 0 → header_at structure 0 slot ≡ header_for (request_of fields) table count → (request_of fields).pm_port ≡ dev
+    → (header_at structure clb slot).pmp ≡ dev
+pmp_is structure clb slot table count dev fields list h to = rw (list, h) to
+
+module _ (d : Driver) (a b : event.Host) (past : Touches) (slot dev : ℕ) (prds : List Prd) (fields : H2dFields) (below : slot < 32) (dev_below : dev < 16) (host : sound.IsHost a)
+    (list : a.port.registers.clb ≡ 0) (stands : Standing slot dev prds fields a.memory) (may : MayIssue d slot dev prds fields) (does : event.Does a (event.Wrote Ci (2 ^ slot)) b) (served : IsServed d a past) where
+  found : (s : ℕ) (command : Command) → asked a.port.registers a.memory (2 ^ slot) s ≡ Some command → (s ≡ slot) × Stood slot prds fields a.memory command
+  found s command h =
+      let is = asked_is a.port a.memory slot s command h in
+      (is.slot_is, stood slot dev prds fields a.memory (has_bit a.port.registers.armed slot) command stands
+      (subst (λ (k : ℕ). command_at a.memory k slot (has_bit a.port.registers.armed slot) ≡ Some command) list is.command_is))
+
+  for_dev : a.port.registers.chosen ≡ dev
+  for_dev =
+      sym (chosen_is a.port a.memory slot below does.0)
+      ∙ pmp_is a.memory.structure a.port.registers.clb slot (table_of slot) (length prds) dev fields list stands.header stands.to_dev
+
+  fresh : (n s : ℕ) (t : Transfer) → a.port.registers.chosen ≡ n → New a.memory (asked a.port.registers a.memory (2 ^ slot)) s t → IsIssueOf d n s t
+  fresh n s t chosen new =
+      let it = found s new.0 new.1 in
+      let is_dev : dev ≡ n = sym for_dev ∙ chosen in
+      let table : t.table ≡ prds = sym (ap (λ (x : Transfer). x.table) new.2) ∙ it.1.entries in
+      let work : t.work ≡ new.0.work = sym (ap (λ (x : Transfer). x.work) new.2) in
+      let from : From d dev slot t = may t table (work ∙ it.1.work) in
+      record {
+        dev = subst (λ (k : ℕ). k < 16) is_dev dev_below;
+        from = subst (λ (k : ℕ). From d n k t) (sym it.0) (subst (λ (k : ℕ). From d k slot t) is_dev from);
+        total = ap total_of table ∙ it.1.total ∙ sym (ap (λ (w : Work). w.len) work);
+        apart = ap have_overlap table ∙ it.1.apart;
+      }
+
+  issues_then : (n s : ℕ) (t : Transfer) → issued s (own n (touched a (event.Wrote Ci (2 ^ slot)) ++ past)) ≡ Some t → IsIssueOf d n s t
+  issues_then n s t at = elim (issued_cases a.port.registers.chosen n a.memory (asked a.port.registers a.memory (2 ^ slot)) past s t at) [
+    | inl new ↦ fresh n s t new.0 new.1
+    | inr old ↦ served.issues n s t old
+  ]
+
+  tables_then : (s : ℕ) (command : Command) → last_command b.port.commands s ≡ Some command → HasItsTable s command
+  unfolding commands_after
+  tables_then s command is =
+      let later : last_command (commands_with (asked a.port.registers a.memory (2 ^ slot)) a.port.commands) s ≡ Some command = sym (ap (λ c. last_command c s) does.1.commands) ∙ is in
+      elim (or_cases (asked a.port.registers a.memory (2 ^ slot) s) (last_command a.port.commands s) command (command_then (asked a.port.registers a.memory (2 ^ slot)) s a.port.commands command later)) [
+        | inl new ↦ let it = found s command new in subst (λ (k : ℕ). HasItsTable k command) (sym it.0) it.1.place
+        | inr old ↦ served.tables s command old
+      ]
+
+  pub ci_served : IsServed d b (touched a (event.Wrote Ci (2 ^ slot)) ++ past)
+  ci_served = record {
+    told = histories_step a host past served.told (event.Wrote Ci (2 ^ slot)) b tt does;
+    bounded = served.bounded;
+    commands = subst (HaveCommands d) (sym does.2) served.commands;
+    issues = issues_then;
+    tables = tables_then;
+  }

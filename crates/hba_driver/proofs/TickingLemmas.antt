@@ -1,0 +1,416 @@
+-- A tick leaves it so that all that is issued is the driver's.
+use Rattle.std.proofs.Common.{◌≡◌, ◌≢◌, ℕ, ◌+◌, ◌*◌, ◌^◌, ◌<◌, ◌≤◌, ◌⊎◌, Bool, true, false, ◌&&◌, List, [], ◌∷◌, ◌++◌, length, set, refl, sym, ◌∙◌, ap, subst, inl, inr, arith, Option, Some, None}
+use Rattle.std.specs.Prelude.{MatchOption, if◌then◌else◌, not, ◌%◌, ◌==◌}
+use Rattle.std.specs.List.{list_all}
+use Rattle.std.specs.Option.{option_map}
+use Rattle.std.proofs.lemmas.Bool.{cases_Bool, cases_eq, false≢true, ne_eqb, true≢false}
+use Rattle.std.proofs.lemmas.List.{get_or-set_other, get_or-set_same, length-set}
+use Rattle.fis_view.specs.declared.build.H2dFields.{H2dFields}
+use Rattle.host_memory.specs.Memory.{IsHostMemory, Memory}
+use Rattle.host_memory.specs.declared.table.Prd.{Prd}
+use Rattle.hba_commands.specs.Requests.{request_of, work_of}
+use Rattle.slots.specs.Slots.{has_bit, match_some}
+use Rattle.slots.specs.Work as moved
+use Rattle.slots.specs.declared.work.Work as slot_work
+use Rattle.hba_fbs.specs.declared.register.Register.{Register}
+use Rattle.hba_fbs.specs.Offsets.{register_at}
+use Rattle.hba_fbs.specs.Views.{Port}
+use Rattle.hba_laws.specs.Client.{Touches, own}
+use Rattle.hba_laws.specs.History.{Transfer, issued}
+use Rattle.hba_laws.specs.Hosts as event
+use Rattle.hba_laws.specs.Hosts.{HostEvent}
+use Rattle.hba_laws.specs.Sound as sound
+use Rattle.hba_laws.proofs.StandLemmas.{some_inj}
+use Rattle.hba_driver.specs.declared.effect.Effect.{Effect}
+use Rattle.hba_driver.specs.declared.effect.Effect.TheVariants as effect
+use Rattle.hba_driver.specs.declared.order.Order.{Order}
+use Rattle.hba_driver.specs.declared.order.Order.TheVariants.{ResetOn, ResetOff, AwaitSignature, CountPorts, SetMask, Enable, Open, Scan, Clear, Detect, Watch, NoMultiplier}
+use Rattle.hba_driver.specs.declared.plan.Plan.{Plan}
+use Rattle.hba_driver.specs.declared.request.Outcome.TheVariants.{Removed}
+use Rattle.hba_driver.specs.declared.request.Work.{Work}
+use Rattle.hba_driver.specs.declared.request.Work.TheVariants as work
+use Rattle.hba_driver.specs.declared.slot.Head.{Head}
+use Rattle.hba_driver.specs.declared.slot.Phase.{Phase}
+use Rattle.hba_driver.specs.declared.slot.Phase.TheVariants.{Waits, Issued, Ended}
+use Rattle.hba_driver.specs.declared.turn.Act.{Act}
+use Rattle.hba_driver.specs.declared.turn.Act.TheVariants as act
+use Rattle.hba_driver.specs.Drivers.{Driver, Entry, entry_at, is_issued, is_issued_in, is_read, rephase, rephase_all, rephased, waits, waits_in}
+use Rattle.hba_driver.specs.Effects.{ActsAll, IsRuled, buffer_prd, effects_of, is_effect, issuing, opening_write, opening_writes, order_effects, prds_with, sending, table_of}
+use Rattle.hba_driver.specs.Events.{events_of_effect, events_of_effects}
+use Rattle.hba_driver.specs.Orders.{control_port, identify_fields, order_fields, request_fields, work_fields}
+use Rattle.hba_driver.specs.Served.{IsServed}
+use Rattle.hba_driver.specs.Sights.{px_ci, px_fbs, px_sact, px_sntf}
+use Rattle.hba_driver.specs.Ticks.{acted, effects_due, entries_after, is_open_of, plan_after, plan_without, removed, unless}
+use Rattle.hba_driver.proofs.DrivenLemmas.{place_effect}
+use Rattle.hba_driver.proofs.DueLemmas.{Due, Waiting}
+use Rattle.hba_driver.proofs.EffectLemmas.{all_at}
+use Rattle.hba_driver.proofs.EventLemmas.{beside, beside_same, same_sizes, sized_effect, sound_beside}
+use Rattle.hba_driver.proofs.HistoryLemmas.{back_of}
+use Rattle.hba_driver.proofs.IssuingLemmas.{From, MayIssue, Standing}
+use Rattle.hba_driver.proofs.LifeLemmas.{entry_of_rephased, keeps_removed, length_of_rephased}
+use Rattle.hba_driver.proofs.RequestLemmas.{set_cases}
+use Rattle.hba_driver.proofs.ServingLemmas.{Follows, Goes, IsFree, ci_goes, command_goes, empties_goes, first_goes, flush_goes, from_moves, is_ci, moves_goes, write_goes}
+use Rattle.hba_driver.proofs.StandLemmas.{both, lt_of}
+
+-- ---- lists of effects
+
+last_goes : (D d : Driver) (fs : List HostEvent) (c : event.Host) (old new : Port) (before after : Memory) (acts : ActsAll [] old before new after) → Goes D d fs c (beside new after)
+    → Goes D d (events_of_effects [] old before new after acts ++ fs) c (beside old before)
+unfolding ActsAll events_of_effects
+last_goes D d fs c old new before after acts go = subst (λ (h : event.Host). Goes D d fs c h) (beside_same old new before after acts.0 acts.1) go
+
+-- the last effect is the write of PxCI
+last_ci : (D d : Driver) (fs : List HostEvent) (c : event.Host) (slot dev : ℕ) (prds : List Prd) (fields : H2dFields) (old new : Port) (before after : Memory)
+    → slot < 32 → dev < 16 → old.registers.clb ≡ 0 → Standing slot dev prds fields before → MayIssue d slot dev prds fields → IsRuled old → IsHostMemory before
+    → (acts : ActsAll (effect.Writes px_ci (2 ^ slot) ∷ []) old before new after) → Goes D d fs c (beside new after)
+    → Goes D d (events_of_effects (effect.Writes px_ci (2 ^ slot) ∷ []) old before new after acts ++ fs) c (beside old before)
+unfolding ActsAll events_of_effects register_at
+last_ci D d fs c slot dev prds fields old new before after below dev_below list stands may ruled m acts go =
+    first_goes D d fs c (beside old before) (events_of_effect (effect.Writes px_ci (2 ^ slot)) old before acts.1) []
+    (ci_goes D d fs c px_ci slot dev prds fields old acts.0 before acts.1 below dev_below list stands may refl (sound_beside old before ruled m) acts.2
+    (subst (λ (h : event.Host). Goes D d fs c h) (beside_same acts.0 new acts.1 after acts.4.0 acts.4.1) go))
+
+issuing_goes : (D d : Driver) (fs : List HostEvent) (c : event.Host) (slot dev : ℕ) (queued : Bool) (prds : List Prd) (fields : H2dFields) (old new : Port) (before after : Memory)
+    → slot < 32 → dev < 16 → old.registers.clb ≡ 0 → Standing slot dev prds fields before → MayIssue d slot dev prds fields → IsRuled old → IsHostMemory before
+    → (acts : ActsAll (issuing slot dev queued) old before new after) → Goes D d fs c (beside new after)
+    → Goes D d (events_of_effects (issuing slot dev queued) old before new after acts ++ fs) c (beside old before)
+unfolding ActsAll events_of_effects register_at
+issuing_goes D d fs c slot dev false prds fields old new before after below dev_below list stands may ruled m acts go =
+    let place = place_effect (effect.Writes px_fbs (256 * dev + 1)) old acts.0 before acts.1 refl acts.2 in
+    let standing : Standing slot dev prds fields acts.1 = subst (Standing slot dev prds fields) (sym acts.2.1) stands in
+    let rest = last_ci D d fs c slot dev prds fields acts.0 new acts.1 after below dev_below (place.list ∙ list) standing may acts.3 (same_sizes before acts.1 acts.2.1 m) acts.4 go in
+    first_goes D d fs c (beside old before) (events_of_effect (effect.Writes px_fbs (256 * dev + 1)) old before acts.1) (events_of_effects (effect.Writes px_ci (2 ^ slot) ∷ []) acts.0 acts.1 new after acts.4)
+    (write_goes D d (events_of_effects (effect.Writes px_ci (2 ^ slot) ∷ []) acts.0 acts.1 new after acts.4 ++ fs) c px_fbs (256 * dev + 1) old acts.0 before acts.1 refl (sound_beside old before ruled m) acts.2 rest)
+issuing_goes D d fs c slot dev true prds fields old new before after below dev_below list stands may ruled m acts go =
+    let place = place_effect (effect.Writes px_fbs (256 * dev + 1)) old acts.0 before acts.1 refl acts.2 in
+    let next = place_effect (effect.Writes px_sact (2 ^ slot)) acts.0 acts.4.0 acts.1 acts.4.1 refl acts.4.2 in
+    let m1 : IsHostMemory acts.1 = same_sizes before acts.1 acts.2.1 m in
+    let m2 : IsHostMemory acts.4.1 = same_sizes acts.1 acts.4.1 acts.4.2.1 m1 in
+    let standing : Standing slot dev prds fields acts.4.1 = subst (Standing slot dev prds fields) (sym (acts.4.2.1 ∙ acts.2.1)) stands in
+    let third = last_ci D d fs c slot dev prds fields acts.4.0 new acts.4.1 after below dev_below (next.list ∙ place.list ∙ list) standing may acts.4.3 m2 acts.4.4 go in
+    let es : List HostEvent = events_of_effects (effect.Writes px_ci (2 ^ slot) ∷ []) acts.4.0 acts.4.1 new after acts.4.4 in
+    let second = first_goes D d fs c (beside acts.0 acts.1) (events_of_effect (effect.Writes px_sact (2 ^ slot)) acts.0 acts.1 acts.4.1) es
+    (write_goes D d (es ++ fs) c px_sact (2 ^ slot) acts.0 acts.4.0 acts.1 acts.4.1 refl (sound_beside acts.0 acts.1 acts.3 m1) acts.4.2 third) in
+    let rest : List HostEvent = events_of_effect (effect.Writes px_sact (2 ^ slot)) acts.0 acts.1 acts.4.1 ++ es in
+    first_goes D d fs c (beside old before) (events_of_effect (effect.Writes px_fbs (256 * dev + 1)) old before acts.1) rest
+    (write_goes D d (rest ++ fs) c px_fbs (256 * dev + 1) old acts.0 before acts.1 refl (sound_beside old before ruled m) acts.2 second)
+
+-- a command of the driver's own is written and issued; between the two the driver goes on
+sending_goes : (D d e : Driver) (fs : List HostEvent) (c : event.Host) (slot dev : ℕ) (fields : H2dFields) (buffer : Bool) (old new : Port) (before after : Memory)
+    → is_effect (effect.Commands slot fields buffer) ≡ true → Rattle.hba_driver.proofs.StandLemmas.late (effect.Commands slot fields buffer) ≡ true → dev < 16 → (request_of fields).pm_port ≡ dev → IsFree d slot
+    → Follows d e → ((n s : ℕ) (t : Transfer) → From d n s t → From e n s t) → MayIssue e slot dev (prds_with buffer) fields → old.registers.clb ≡ 0 → old.registers.fb ≡ 4096 → IsRuled old → IsHostMemory before
+    → (acts : ActsAll (sending slot dev fields buffer) old before new after) → Goes D e fs c (beside new after)
+    → Goes D d (events_of_effects (sending slot dev fields buffer) old before new after acts ++ fs) c (beside old before)
+unfolding ActsAll events_of_effects
+sending_goes D d e fs c slot dev fields buffer old new before after is l dev_below to free follows moves may list area ruled m acts go =
+    let w = acts.2.1.structure in
+    let standing : Standing slot dev (prds_with buffer) fields acts.1 = record { header = w.header; to_dev = to; request_is = w.request; entries = w.entries } in
+    let later : IsHostMemory acts.1 = sized_effect (effect.Commands slot fields buffer) old acts.0 before acts.1 is acts.2 m in
+    let rest = issuing_goes D e fs c slot dev false (prds_with buffer) fields acts.0 new acts.1 after (lt_of slot 32 is) dev_below (ap (λ (p : Port). p.registers.clb) acts.2.0 ∙ list) standing may acts.3 later acts.4 go in
+    let es : List HostEvent = events_of_effects (issuing slot dev false) acts.0 acts.1 new after acts.4 in
+    first_goes D d fs c (beside old before) (events_of_effect (effect.Commands slot fields buffer) old before acts.1) es
+    (command_goes D d (es ++ fs) c slot fields buffer old acts.0 before acts.1 is l area free (sound_beside old before ruled m) acts.2
+    (moves_goes D d e (es ++ fs) c (beside acts.0 acts.1) follows moves rest))
+
+-- ---- orders
+
+-- the driver waits for an order's answer, and else is as it was
+record Asks (d e : Driver) : Type 0 where
+  pub follows : Follows d e
+  pub moves : (n s : ℕ) (t : Transfer) → From d n s t → From e n s t
+  pub asked : e.plan.asked ≡ true
+
+asks : (d : Driver) → Asks d (record d { plan = record d.plan { asked = true } })
+asks d = record {
+  follows = record { devices = refl; slots = refl; entries = λ s f here. (f, here, refl) };
+  moves = λ n s t from. from_moves d (record d { plan = record d.plan { asked = true } }) n s t (λ f below here goes of_dev. here) (λ is h. h) (λ is h. refl) from;
+  asked = refl;
+}
+
+free_order : (d : Driver) → d.plan.asked ≡ false → IsFree d 31
+free_order d h n t (inl r) = absurd (omega (arith, r.slot))
+free_order d h n t (inr (inl i)) = absurd (omega (arith, i.slot))
+free_order d h n t (inr (inr o)) = true≢false (sym o.goes ∙ h)
+
+order_goes : (D d e : Driver) (fs : List HostEvent) (c : event.Host) (o : Option H2dFields) (old new : Port) (before after : Memory) → ((f : H2dFields) → o ≡ Some f → f.pm_port ≡ 15) → d.plan.asked ≡ false → Asks d e
+    → old.registers.clb ≡ 0 → old.registers.fb ≡ 4096 → IsRuled old → IsHostMemory before
+    → (acts : ActsAll (match_some o [] (λ f. sending 31 control_port f false)) old before new after) → Goes D e fs c (beside new after)
+    → Goes D d (events_of_effects (match_some o [] (λ f. sending 31 control_port f false)) old before new after acts ++ fs) c (beside old before)
+order_goes D d e fs c None old new before after to free a list area ruled m acts go =
+    last_goes D d fs c old new before after acts (moves_goes D d e fs c (beside new after) a.follows a.moves go)
+order_goes D d e fs c (Some f) old new before after to free a list area ruled m acts go =
+    sending_goes D d e fs c 31 control_port f false old new before after refl refl (omega arith) (ap (λ (k : ℕ). k % 16) (to f refl)) (free_order d free) a.follows a.moves
+    (λ t table is. inr (inr (record { slot = refl; goes = a.asked; table = table }))) list area ruled m acts go
+
+port_by : (g f : H2dFields) → g.pm_port ≡ 15 → Some g ≡ Some f → f.pm_port ≡ 15
+port_by g f is h = ap (λ (x : H2dFields). x.pm_port) (sym (some_inj g f h)) ∙ is
+
+port_none : (f : H2dFields) → None ≡ Some f → f.pm_port ≡ 15
+port_none f h = cc
+
+port_of_order : (order : Order) (f : H2dFields) → order_fields order ≡ Some f → f.pm_port ≡ 15
+unfolding order_fields
+port_of_order ResetOn f h = port_by _ f refl h
+port_of_order ResetOff f h = port_by _ f refl h
+port_of_order AwaitSignature f h = port_none f h
+port_of_order CountPorts f h = port_by _ f refl h
+port_of_order SetMask f h = port_by _ f refl h
+port_of_order Enable f h = port_by _ f refl h
+port_of_order (Open port) f h = port_by _ f refl h
+port_of_order Scan f h = port_by _ f refl h
+port_of_order (Clear port) f h = port_by _ f refl h
+port_of_order (Detect port) f h = port_by _ f refl h
+port_of_order Watch f h = port_none f h
+port_of_order NoMultiplier f h = port_none f h
+
+-- ---- a port is cleared
+
+cleared : ℕ → Driver → Driver
+cleared port d = record d { plan = plan_without port d.plan; entries = removed (Clear port) d.entries }
+
+cleared_follows : (port : ℕ) (d : Driver) → Follows d (cleared port d)
+unfolding cleared
+cleared_follows port d = record {
+  devices = length-set d.plan.devices port _;
+  slots = length_of_rephased (is_open_of port) (Ended Removed) d.entries;
+  entries = λ s f here.
+  let b = back_of (entry_at d.entries s) (entry_at (removed (Clear port) d.entries) s) (keeps_removed (Clear port) d.entries s) f here in
+  (b.0, b.1, b.2.same);
+}
+
+else_entry : (b : Bool) (x y : Option Entry) → b ≡ false → (if b then x else y) ≡ y
+else_entry true x y h = absurd (true≢false h)
+else_entry false x y h = refl
+
+still : (port s : ℕ) (d : Driver) (f : Entry) → entry_at d.entries s ≡ Some f → f.head.dev ≢ port → entry_at (removed (Clear port) d.entries) s ≡ Some f
+still port s d f here other =
+    entry_of_rephased (is_open_of port) (Ended Removed) d.entries s ∙ ap (rephase (is_open_of port s) (Ended Removed)) here
+    ∙ else_entry (is_open_of port s f.head) (Some (rephased (Ended Removed) f)) (Some f) (ap (λ (b : Bool). b && not (Rattle.hba_driver.specs.Drivers.has_ended f.head)) (ne_eqb f.head.dev port other))
+
+unless_other : (port n : ℕ) (o : Option ℕ) → n ≢ port → o ≡ Some n → unless port o ≡ Some n
+unless_other port n None other h = cc
+unless_other port n (Some k) other h =
+    let is : k ≡ n = some_inj k n h in
+    ap (λ (x : ℕ). if x == port then None else Some x) is ∙ ap (λ (b : Bool). if b then None else Some n) (ne_eqb n port other)
+
+cleared_moves : (port : ℕ) (d : Driver) (n s : ℕ) (t : Transfer) → n ≢ port → From d n s t → From (cleared port d) n s t
+unfolding cleared
+cleared_moves port d n s t other from =
+    from_moves d (cleared port d) n s t (λ f below here goes of_dev. still port s d f here (λ same. other (sym of_dev ∙ same))) (λ is h. unless_other port n d.plan.identifying other h) (λ is h. h) from
+
+-- ---- each order
+
+area_next : (e : Effect) (old : Port) (new : Port) (before after : Memory) → new ≡ old → old.registers.fb ≡ 4096 → new.registers.fb ≡ 4096
+area_next e old new before after is h = ap (λ (p : Port). p.registers.fb) is ∙ h
+
+order_act : (D d : Driver) (fs : List HostEvent) (c : event.Host) (order : Order) (old new : Port) (before after : Memory) → d.plan.asked ≡ false → old.registers.clb ≡ 0 → old.registers.fb ≡ 4096 → IsRuled old → IsHostMemory before
+    → list_all is_effect (order_effects order) ≡ true → (acts : ActsAll (order_effects order) old before new after) → Goes D (acted (Some (act.Orders order)) d) fs c (beside new after)
+    → Goes D d (events_of_effects (order_effects order) old before new after acts ++ fs) c (beside old before)
+unfolding order_effects plan_after entries_after ActsAll events_of_effects register_at cleared
+order_act D d fs c ResetOn old new before after free list area ruled m is acts go = order_goes D d _ fs c (order_fields ResetOn) old new before after (port_of_order ResetOn) free (asks d) list area ruled m acts go
+order_act D d fs c ResetOff old new before after free list area ruled m is acts go = order_goes D d _ fs c (order_fields ResetOff) old new before after (port_of_order ResetOff) free (asks d) list area ruled m acts go
+order_act D d fs c AwaitSignature old new before after free list area ruled m is acts go = order_goes D d _ fs c (order_fields AwaitSignature) old new before after (port_of_order AwaitSignature) free (asks d) list area ruled m acts go
+order_act D d fs c CountPorts old new before after free list area ruled m is acts go = order_goes D d _ fs c (order_fields CountPorts) old new before after (port_of_order CountPorts) free (asks d) list area ruled m acts go
+order_act D d fs c SetMask old new before after free list area ruled m is acts go = order_goes D d _ fs c (order_fields SetMask) old new before after (port_of_order SetMask) free (asks d) list area ruled m acts go
+order_act D d fs c Enable old new before after free list area ruled m is acts go = order_goes D d _ fs c (order_fields Enable) old new before after (port_of_order Enable) free (asks d) list area ruled m acts go
+order_act D d fs c (Open port) old new before after free list area ruled m is acts go = order_goes D d _ fs c (order_fields (Open port)) old new before after (port_of_order (Open port)) free (asks d) list area ruled m acts go
+order_act D d fs c (Detect port) old new before after free list area ruled m is acts go = order_goes D d _ fs c (order_fields (Detect port)) old new before after (port_of_order (Detect port)) free (asks d) list area ruled m acts go
+order_act D d fs c Watch old new before after free list area ruled m is acts go = order_goes D d _ fs c (order_fields Watch) old new before after (port_of_order Watch) free (asks d) list area ruled m acts go
+order_act D d fs c NoMultiplier old new before after free list area ruled m is acts go = order_goes D d _ fs c (order_fields NoMultiplier) old new before after (port_of_order NoMultiplier) free (asks d) list area ruled m acts go
+order_act D d fs c Scan old new before after free list area ruled m is acts go =
+    let place = place_effect (effect.Writes px_sntf 32768) old acts.0 before acts.1 refl acts.2 in
+    let effects : List Effect = match_some (order_fields Scan) [] (λ f. sending 31 control_port f false) in
+    let rest = order_goes D d _ fs c (order_fields Scan) acts.0 new acts.1 after (port_of_order Scan) free (asks d) (place.list ∙ list) (place.area ∙ area) acts.3 (same_sizes before acts.1 acts.2.1 m) acts.4 go in
+    let es : List HostEvent = events_of_effects effects acts.0 acts.1 new after acts.4 in
+    first_goes D d fs c (beside old before) (events_of_effect (effect.Writes px_sntf 32768) old before acts.1) es
+    (write_goes D d (es ++ fs) c px_sntf 32768 old acts.0 before acts.1 refl (sound_beside old before ruled m) acts.2 rest)
+order_act D d fs c (Clear port) old new before after free list area ruled m is acts go =
+    let effects : List Effect = match_some (order_fields (Clear port)) [] (λ f. sending 31 control_port f false) in
+    let next_is = (both (is_effect (effect.Flushes port)) (list_all is_effect (effect.Empties port ∷ effects)) is).1 in
+    let empties_is : is_effect (effect.Empties port) ≡ true = (both (is_effect (effect.Empties port)) (list_all is_effect effects) next_is).0 in
+    let m1 : IsHostMemory acts.1 = same_sizes before acts.1 acts.2.1 m in
+    let m2 : IsHostMemory acts.4.1 = sized_effect (effect.Empties port) acts.0 acts.4.0 acts.1 acts.4.1 empties_is acts.4.2 m1 in
+    let list1 : acts.0.registers.clb ≡ 0 = ap (λ r. r.clb) acts.2.0.registers ∙ list in
+    let area1 : acts.0.registers.fb ≡ 4096 = ap (λ r. r.fb) acts.2.0.registers ∙ area in
+    let list2 : acts.4.0.registers.clb ≡ 0 = ap (λ (p : Port). p.registers.clb) acts.4.2.0 ∙ list1 in
+    let area2 : acts.4.0.registers.fb ≡ 4096 = ap (λ (p : Port). p.registers.fb) acts.4.2.0 ∙ area1 in
+    let third = order_goes D (cleared port d) _ fs c (order_fields (Clear port)) acts.4.0 new acts.4.1 after (port_of_order (Clear port)) free (asks (cleared port d)) list2 area2 acts.4.3 m2 acts.4.4 go in
+    let es : List HostEvent = events_of_effects effects acts.4.0 acts.4.1 new after acts.4.4 in
+    let second = first_goes D (cleared port d) fs c (beside acts.0 acts.1) (events_of_effect (effect.Empties port) acts.0 acts.1 acts.4.1) es
+    (empties_goes D (cleared port d) (es ++ fs) c port acts.0 acts.4.0 acts.1 acts.4.1 (lt_of port 16 empties_is) empties_is area1 (sound_beside acts.0 acts.1 acts.3 m1) acts.4.2 third) in
+    let rest : List HostEvent = events_of_effect (effect.Empties port) acts.0 acts.1 acts.4.1 ++ es in
+    first_goes D d fs c (beside old before) (events_of_effect (effect.Flushes port) old before acts.1) rest
+    (flush_goes D d (cleared port d) (rest ++ fs) c port old acts.0 before acts.1 (cleared_follows port d) (cleared_moves port d) (sound_beside old before ruled m) acts.2 second)
+
+-- ---- the identify command of a device
+
+free_identify : (d : Driver) → d.plan.identifying ≡ None → IsFree d 30
+free_identify d h n t (inl r) = absurd (omega (arith, r.slot))
+free_identify d h n t (inr (inl i)) = let bad : None ≡ Some n = sym h ∙ i.of_dev in cc
+free_identify d h n t (inr (inr o)) = absurd (omega (arith, o.slot))
+
+identifies : (dev : ℕ) (d : Driver) → Driver
+identifies dev d = record d { plan = record d.plan { identifying = Some dev } }
+
+none_some : (o : Option ℕ) (n : ℕ) {P : Type 0} → o ≡ None → o ≡ Some n → P
+none_some o n h k = let bad : None ≡ Some n = sym h ∙ k in cc
+
+identifies_moves : (dev : ℕ) (d : Driver) → d.plan.identifying ≡ None → (n s : ℕ) (t : Transfer) → From d n s t → From (identifies dev d) n s t
+unfolding identifies
+identifies_moves dev d h n s t from =
+    from_moves d (identifies dev d) n s t (λ f below here goes of_dev. here) (λ is k. none_some d.plan.identifying n h k) (λ is k. k) from
+
+identify_act : (D d : Driver) (fs : List HostEvent) (c : event.Host) (dev : ℕ) (old new : Port) (before after : Memory) → d.plan.identifying ≡ None → dev < 15 → old.registers.clb ≡ 0 → old.registers.fb ≡ 4096 → IsRuled old → IsHostMemory before
+    → (acts : ActsAll (sending 30 dev (identify_fields dev) true) old before new after) → Goes D (acted (Some (act.Identifies dev)) d) fs c (beside new after)
+    → Goes D d (events_of_effects (sending 30 dev (identify_fields dev) true) old before new after acts ++ fs) c (beside old before)
+unfolding plan_after entries_after identifies
+identify_act D d fs c dev old new before after free below list area ruled m acts go =
+    sending_goes D d (identifies dev d) fs c 30 dev (identify_fields dev) true old new before after refl refl (omega (arith, below)) (omega (arith, below)) (free_identify d free)
+    (record { devices = refl; slots = refl; entries = λ s f here. (f, here, refl) }) (identifies_moves dev d free)
+    (λ t table is. inr (inl (record { slot = refl; of_dev = refl; table = table }))) list area ruled m acts go
+
+-- ---- a request is issued
+
+work_port : (slot : ℕ) (w : Work) (dev lba sectors : ℕ) → (work_fields slot w dev lba sectors).pm_port ≡ dev
+work_port slot work.Read dev lba sectors = refl
+work_port slot work.Write dev lba sectors = refl
+work_port slot work.Flush dev lba sectors = refl
+
+request_port : (slot : ℕ) (head : Head) → (request_fields slot head).pm_port ≡ head.dev
+unfolding request_fields
+request_port slot head = work_port slot head.work head.dev head.lba head.sectors
+
+work_reads : (slot : ℕ) (w : Work) (dev lba sectors : ℕ) → moved.is_read (work_of (request_of (work_fields slot w dev lba sectors))).kind ≡ true → is_read w ≡ true
+unfolding work_of
+work_reads slot work.Read dev lba sectors h = refl
+work_reads slot work.Write dev lba sectors h = h
+work_reads slot work.Flush dev lba sectors h = h
+
+request_reads : (slot : ℕ) (head : Head) → moved.is_read (work_of (request_of (request_fields slot head))).kind ≡ true → is_read head.work ≡ true
+unfolding request_fields
+request_reads slot head h = work_reads slot head.work head.dev head.lba head.sectors h
+
+not_both : (p : Phase) → waits_in p ≡ true → is_issued_in p ≡ true → ⊥
+not_both Waits h k = false≢true k
+not_both Issued h k = false≢true h
+not_both (Ended o) h k = false≢true k
+
+goes_out : ℕ → Driver → Driver
+goes_out slot d = record d { entries = set d.entries slot (option_map (rephased Issued) (entry_at d.entries slot)) }
+
+module _ (d : Driver) (slot dev : ℕ) (w : Waiting d.entries slot dev) where
+  out_follows : Follows d (goes_out slot d)
+  unfolding goes_out
+  out_follows = record {
+    devices = refl;
+    slots = length-set d.entries slot _;
+    entries = λ s f here. by_case s f (set_cases d.entries slot (option_map (rephased Issued) (entry_at d.entries slot)) s f here);
+  }
+    where
+      by_case : (s : ℕ) (f : Entry) → ((s ≡ slot) × (option_map (rephased Issued) (entry_at d.entries slot) ≡ Some f)) ⊎ ((s ≢ slot) × (entry_at d.entries s ≡ Some f))
+          → (x : Entry) × (entry_at d.entries s ≡ Some x) × (f ≡ rephased f.head.phase x)
+      by_case s f (inl at) =
+          let is : rephased Issued w.entry ≡ f = some_inj (rephased Issued w.entry) f (sym (ap (option_map (rephased Issued)) w.stands) ∙ at.1) in
+          (w.entry, subst (λ (k : ℕ). entry_at d.entries k ≡ Some w.entry) (sym at.0) w.stands, subst (λ (x : Entry). x ≡ rephased x.head.phase w.entry) is refl)
+      by_case s f (inr beside) = (f, beside.1, refl)
+
+  out_moves : (n s : ℕ) (t : Transfer) → From d n s t → From (goes_out slot d) n s t
+  unfolding goes_out
+  out_moves n s t from = from_moves d (goes_out slot d) n s t (λ f below here goes of_dev. there f here goes) (λ is h. h) (λ is h. h) from
+    where
+      there : (f : Entry) → entry_at d.entries s ≡ Some f → is_issued f.head ≡ true → entry_at (set d.entries slot (option_map (rephased Issued) (entry_at d.entries slot))) s ≡ Some f
+      there f here goes = elim (cases_eq s slot) [
+        | inl same ↦
+            let it : w.entry ≡ f = some_inj w.entry f (sym w.stands ∙ ap (entry_at d.entries) (sym same) ∙ here) in
+            absurd (not_both f.head.phase (ap (λ (e : Entry). waits e.head) (sym it) ∙ w.waits_is) goes)
+        | inr other ↦ get_or-set_other d.entries slot s _ None other ∙ here
+      ]
+
+  out_may : length d.entries ≡ 30 → MayIssue (goes_out slot d) slot dev w.entry.prds (request_fields slot w.entry.head)
+  unfolding goes_out
+  out_may long t table is = inl (record {
+    slot = w.below;
+    entry = rephased Issued w.entry;
+    stands = get_or-set_same d.entries slot _ None (omega (arith, long, w.below)) ∙ ap (option_map (rephased Issued)) w.stands;
+    of_dev = w.of_dev;
+    goes = refl;
+    table = table;
+    reads = λ h. request_reads slot w.entry.head (ap (λ (x : slot_work.Work). moved.is_read x.kind) (sym is) ∙ h);
+  })
+
+  small : (n : ℕ) → n < 15 → n % 16 ≡ n
+  small n h = omega (arith, h)
+
+  issue_act : (D : Driver) (fs : List HostEvent) (c : event.Host) (queued : Bool) (old new : Port) (before after : Memory) → old.registers.clb ≡ 0 → IsRuled old → IsHostMemory before
+      → (acts : ActsAll (issuing slot dev queued) old before new after) → Goes D (acted (Some (act.Issues slot dev queued)) d) fs c (beside new after)
+      → Goes D d (events_of_effects (issuing slot dev queued) old before new after acts ++ fs) c (beside old before)
+  unfolding plan_after entries_after goes_out
+  issue_act D fs c queued old new before after list ruled m acts go past served =
+      let stood = served.commands slot w.entry w.stands in
+      let low : w.entry.head.dev < 15 = (served.bounded.entries slot w.entry w.stands).dev in
+      let to : (request_of (request_fields slot w.entry.head)).pm_port ≡ dev = ap (λ (k : ℕ). k % 16) (request_port slot w.entry.head) ∙ small w.entry.head.dev low ∙ w.of_dev in
+      let standing : Standing slot dev w.entry.prds (request_fields slot w.entry.head) before = record { header = stood.header; to_dev = to; request_is = stood.request; entries = stood.entries } in
+      let below : dev < 16 = subst (λ (k : ℕ). k < 16) w.of_dev (omega (arith, low)) in
+      moves_goes D d (goes_out slot d) _ c (beside old before) out_follows out_moves
+      (issuing_goes D (goes_out slot d) fs c slot dev queued w.entry.prds (request_fields slot w.entry.head) old new before after (omega (arith, w.below)) below list standing (out_may served.bounded.slots) ruled m acts go) past served
+
+-- ---- the writes that open the port
+
+abbrev plain_at : Option Register → Bool
+plain_at None = true
+plain_at (Some r) = not (is_ci r)
+
+abbrev plain : Effect → Bool
+plain (effect.Writes offset value) = plain_at (register_at offset)
+plain (effect.Flushes dev) = false
+plain (effect.Empties dev) = false
+plain (effect.Commands slot fields buffer) = false
+
+not_ci : (r : Option Register) → plain_at r ≡ true → MatchOption r (Unit {0}) (λ g. is_ci g ≡ false)
+not_ci None h = tt
+not_ci (Some r) h = by_test (is_ci r) h
+  where
+    by_test : (b : Bool) → not b ≡ true → b ≡ false
+    by_test true h = absurd (false≢true h)
+    by_test false h = refl
+
+plain_opening : (k : ℕ) → plain (opening_write k) ≡ true
+unfolding opening_write register_at
+plain_opening k = all_at plain opening_writes k _ refl refl
+
+plain_goes : (D d : Driver) (fs : List HostEvent) (c : event.Host) (e : Effect) (old new : Port) (before after : Memory) → plain e ≡ true → IsRuled old → IsHostMemory before → (acts : ActsAll (e ∷ []) old before new after)
+    → Goes D d fs c (beside new after) → Goes D d (events_of_effects (e ∷ []) old before new after acts ++ fs) c (beside old before)
+unfolding ActsAll events_of_effects
+plain_goes D d fs c (effect.Writes offset value) old new before after is ruled m acts go =
+    first_goes D d fs c (beside old before) (events_of_effect (effect.Writes offset value) old before acts.1) []
+    (write_goes D d fs c offset value old acts.0 before acts.1 (not_ci (register_at offset) is) (sound_beside old before ruled m) acts.2
+    (subst (λ (h : event.Host). Goes D d fs c h) (beside_same acts.0 new acts.1 after acts.4.0 acts.4.1) go))
+plain_goes D d fs c (effect.Flushes dev) old new before after is ruled m acts go = absurd (false≢true is)
+plain_goes D d fs c (effect.Empties dev) old new before after is ruled m acts go = absurd (false≢true is)
+plain_goes D d fs c (effect.Commands slot fields buffer) old new before after is ruled m acts go = absurd (false≢true is)
+
+opening_act : (D d : Driver) (fs : List HostEvent) (c : event.Host) (k : ℕ) (old new : Port) (before after : Memory) → IsRuled old → IsHostMemory before → (acts : ActsAll (opening_write k ∷ []) old before new after)
+    → Goes D (acted (Some (act.Opens k)) d) fs c (beside new after) → Goes D d (events_of_effects (opening_write k ∷ []) old before new after acts ++ fs) c (beside old before)
+unfolding plan_after entries_after
+opening_act D d fs c k old new before after ruled m acts go =
+    plain_goes D d fs c (opening_write k) old new before after (plain_opening k) ruled m acts
+    (moves_goes D d (acted (Some (act.Opens k)) d) fs c (beside new after) (record { devices = refl; slots = refl; entries = λ s f here. (f, here, refl) })
+    (λ n s t from. from_moves d (acted (Some (act.Opens k)) d) n s t (λ f below here goes of_dev. here) (λ is h. h) (λ is h. h) from) go)
+
+-- ---- each act
+
+-- the received area has to be the driver's
+abbrev pub Needs : Option Act → Type 0
+Needs None = ⊥
+Needs (Some (act.Opens k)) = ⊥
+Needs (Some a) = Unit {0}
+
+pub act_goes : (D d : Driver) (fs : List HostEvent) (c : event.Host) (a : Option Act) (old new : Port) (before after : Memory) → Due d.plan d.entries a → old.registers.clb ≡ 0 → (Needs a → old.registers.fb ≡ 4096) → IsRuled old → IsHostMemory before
+    → list_all is_effect (effects_due a) ≡ true → (acts : ActsAll (effects_due a) old before new after) → Goes D (acted a d) fs c (beside new after)
+    → Goes D d (events_of_effects (effects_due a) old before new after acts ++ fs) c (beside old before)
+unfolding effects_of
+act_goes D d fs c None old new before after due list area ruled m is acts go = last_goes D d fs c old new before after acts go
+act_goes D d fs c (Some (act.Opens k)) old new before after due list area ruled m is acts go = opening_act D d fs c k old new before after ruled m acts go
+act_goes D d fs c (Some (act.Orders order)) old new before after due list area ruled m is acts go = order_act D d fs c order old new before after due list (area tt) ruled m is acts go
+act_goes D d fs c (Some (act.Identifies dev)) old new before after due list area ruled m is acts go = identify_act D d fs c dev old new before after due.0 due.1 list (area tt) ruled m acts go
+act_goes D d fs c (Some (act.Issues slot dev queued)) old new before after due list area ruled m is acts go = issue_act d slot dev due D fs c queued old new before after list ruled m acts go

@@ -1,0 +1,126 @@
+-- What is issued at the port is the driver's: a request of its own, the identify command of a device,
+-- or an order to the multiplier. So no two reads that are issued share a byte, no client writes into
+-- one, and the PRDs of a command stay while it is issued (AHCI 1.3.1, 4.2.3.3, Physical Region
+-- Descriptor Table, and 5.5, how commands are issued).
+use Rattle.std.specs.Prelude.{ℕ, ◌≡◌, ◌+◌, ◌<◌, ◌≤◌, ◌⊎◌, true, false, List, [], ◌∷◌, length}
+use Rattle.std.specs.Prelude.{Some}
+use Rattle.host_memory.specs.Memory.{Memory, is_memory_size}
+use Rattle.host_memory.specs.Place.{total_of}
+use Rattle.host_memory.specs.Reading.{have_overlap, prds_at, share_with}
+use Rattle.hba_commands.specs.declared.command.Command.{Command}
+use Rattle.hba_commands.specs.Commands.{cfis_at}
+use Rattle.hba_commands.specs.Headers.{header_at}
+use Rattle.hba_commands.specs.Requests.{request_at, request_of}
+use Rattle.hba_commands.specs.Writing.{header_for}
+use Rattle.slots.specs.Work as moved
+use Rattle.hba_fbs.specs.Views.{last_command}
+use Rattle.hba_laws.specs.Agreement.{AreHistoriesOf}
+use Rattle.hba_laws.specs.Client.{IsKept, Touches, own}
+use Rattle.hba_laws.specs.Delivering.{AreSpared, IsSound, touches_after}
+use Rattle.hba_laws.specs.History.{Transfer, issued}
+use Rattle.hba_laws.specs.Hosts as event
+use Rattle.hba_laws.specs.Hosts.{Runs}
+use Rattle.hba_driver.specs.Drivers.{Driver, Entry, entry_at, is_issued, is_read, new_driver}
+use Rattle.hba_driver.specs.Effects.{buffer_prd, table_of}
+use Rattle.hba_driver.specs.Events.{IsSoundHost, events_over, opening_host, shared_by}
+use Rattle.hba_driver.specs.HostTurns.{DoesAll, Host, HostTurn}
+use Rattle.hba_driver.specs.Orders.{request_fields}
+
+-- ---- what a request wrote
+
+-- its command stands in the structure area: header, command FIS and PRDs
+pub record HasCommand (s : ℕ) (e : Entry) (memory : Memory) : Type 0 where
+  pub header : header_at memory.structure 0 s
+      ≡ header_for (request_of (request_fields s e.head)) (table_of s) (length e.prds)
+  pub request : request_at (cfis_at memory.structure (table_of s))
+      ≡ Some (request_of (request_fields s e.head))
+  pub entries : prds_at memory.structure (table_of s + 128) (length e.prds) ≡ e.prds
+
+-- so it is for each request that is not polled
+abbrev pub HaveCommands : Driver → Memory → Type 0
+HaveCommands d memory =
+    (s : ℕ) (e : Entry) → entry_at d.entries s ≡ Some e → HasCommand s e memory
+
+-- a request is to a fan-out port, and its PRDs are not too many and apart from the driver's buffer
+pub record IsBounded (e : Entry) : Type 0 where
+  pub dev : e.head.dev < 15
+  pub few : length e.prds ≤ 248
+  pub beyond : share_with (buffer_prd ∷ []) e.prds ≡ false
+
+pub record AreBounded (d : Driver) : Type 0 where
+  pub devices : length d.plan.devices ≡ 15
+  pub slots : length d.entries ≡ 30
+  pub entries : (s : ℕ) (e : Entry) → entry_at d.entries s ≡ Some e → IsBounded e
+
+-- ---- what is issued
+
+-- a request that the driver issued in slot s, with its PRDs
+pub record IsRequest (d : Driver) (n s : ℕ) (t : Transfer) : Type 0 where
+  pub slot : s < 30
+  pub entry : Entry
+  pub stands : entry_at d.entries s ≡ Some entry
+  pub of_dev : entry.head.dev ≡ n
+  pub goes : is_issued entry.head ≡ true
+  pub table : t.table ≡ entry.prds
+  pub reads : moved.is_read t.work.kind ≡ true → is_read entry.head.work ≡ true
+
+-- the identify command of device n, into the driver's buffer
+pub record IsIdentify (d : Driver) (n s : ℕ) (t : Transfer) : Type 0 where
+  pub slot : s ≡ 30
+  pub of_dev : d.plan.identifying ≡ Some n
+  pub table : t.table ≡ buffer_prd ∷ []
+
+-- an order, which moves no data
+pub record IsOrdered (d : Driver) (s : ℕ) (t : Transfer) : Type 0 where
+  pub slot : s ≡ 31
+  pub goes : d.plan.asked ≡ true
+  pub table : t.table ≡ []
+
+-- and in any case the PRDs have the command's bytes, and are apart
+pub record IsIssueOf (d : Driver) (n s : ℕ) (t : Transfer) : Type 0 where
+  pub dev : n < 16
+  pub from : IsRequest d n s t ⊎ (IsIdentify d n s t ⊎ IsOrdered d s t)
+  pub total : total_of t.table ≡ t.work.len
+  pub apart : have_overlap t.table ≡ false
+
+abbrev pub IssuesAreRequests : Driver → Touches → Type 0
+IssuesAreRequests d past =
+    (n s : ℕ) (t : Transfer) → issued s (own n past) ≡ Some t → IsIssueOf d n s t
+
+-- the command that was issued last in a slot has the slot's own table
+pub record HasItsTable (s : ℕ) (command : Command) : Type 0 where
+  pub table : command.table ≡ table_of s
+  pub few : command.count ≤ 248
+
+-- ---- what is true of port, driver and memory after these touches
+
+pub record IsServed (d : Driver) (h : event.Host) (past : Touches) : Type 0 where
+  pub told : AreHistoriesOf h past
+  pub bounded : AreBounded d
+  pub commands : HaveCommands d h.memory
+  pub issues : IssuesAreRequests d past
+  pub tables : (s : ℕ) (command : Command) → last_command h.port.commands s ≡ Some command
+      → HasItsTable s command
+
+-- ---- the law
+
+-- The events of turns run from port and memory before them to port and memory after them. Over them
+-- the PRDs of a command stay while it is issued; where Data comes the reads that are issued are apart,
+-- and what a client writes spares their places.
+pub record RunServes (old new : Host) (turns : List HostTurn) (run : DoesAll old turns new)
+    (past : Touches) : Type 0 where
+  pub runs : Runs (shared_by old) (events_over old new turns run) (shared_by new)
+  pub sound : IsSound (shared_by old) (shared_by new) (events_over old new turns run) runs
+  pub spared : AreSpared (shared_by old) (shared_by new) (events_over old new turns run) runs
+  pub kept : IsKept past
+      → IsKept (touches_after past (shared_by old) (shared_by new) (events_over old new turns run) runs)
+  pub last : IsServed new.driver (shared_by new)
+      (touches_after past (shared_by old) (shared_by new) (events_over old new turns run) runs)
+
+pub record TurnsServe : Type 0 where
+  -- nothing is issued at a port that opens
+  pub opens : (given len : ℕ) → is_memory_size len ≡ true
+      → IsServed (new_driver given) (shared_by (opening_host given len)) []
+  pub runs : (old new : Host) (turns : List HostTurn) (run : DoesAll old turns new)
+      → IsSoundHost old → (past : Touches) → IsServed old.driver (shared_by old) past
+      → RunServes old new turns run past
