@@ -275,9 +275,11 @@ module _ (d : Driver) (a b : event.Host) (past : Touches) (slot dev : ℕ) (prds
     (list : a.port.registers.clb ≡ 0) (stands : Standing slot dev prds fields a.memory) (may : MayIssue d slot dev prds fields) (does : event.Does a (event.Wrote Ci (2 ^ slot)) b) (served : IsServed d a past) where
   found : (s : ℕ) (command : Command) → asked a.port.registers a.memory (2 ^ slot) s ≡ Some command → (s ≡ slot) × Stood slot prds fields a.memory command
   found s command h =
-      let is = asked_is a.port a.memory slot s command h in
-      (is.slot_is, stood slot dev prds fields a.memory (has_bit a.port.registers.armed slot) command stands
-      (subst (λ (k : ℕ). command_at a.memory k slot (has_bit a.port.registers.armed slot) ≡ Some command) list is.command_is))
+      let is = asked_is a.port a.memory slot s command h in (
+        is.slot_is,
+        stood slot dev prds fields a.memory (has_bit a.port.registers.armed slot) command stands
+            (subst (λ (k : ℕ). command_at a.memory k slot (has_bit a.port.registers.armed slot) ≡ Some command) list is.command_is),
+      )
 
   for_dev : a.port.registers.chosen ≡ dev
   for_dev =

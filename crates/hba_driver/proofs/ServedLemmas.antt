@@ -94,8 +94,8 @@ module _ (port : Port) (memory : Memory) (d : Driver) (past : Touches) (host : s
     devices = (goes_turn (sight_of port memory) d.plan (done_ended (sight_of port memory).issued d.entries)).devices;
     slots = length_of_rephased (is_done (sight_of port memory).issued) (Ended Done) d.entries;
     entries = λ s f here.
-    let b = back_of (entry_at d.entries s) (entry_at (done_ended (sight_of port memory).issued d.entries) s) (keeps_done (sight_of port memory).issued d.entries s) f here in
-    (b.0, b.1, b.2.same);
+        let b = back_of (entry_at d.entries s) (entry_at (done_ended (sight_of port memory).issued d.entries) s) (keeps_done (sight_of port memory).issued d.entries s) f here in
+        (b.0, b.1, b.2.same);
   }
 
   seen_moves : (n s : ℕ) (t : Transfer) → n < 16 → issued s (own n past) ≡ Some t → From d n s t → From (seen (sight_of port memory) d) n s t
@@ -254,8 +254,8 @@ submit_served old dev request ticket new past h served = record {
     | inr beside ↦ served.commands s f beside.1
   ];
   issues = λ n s t here.
-  let i = served.issues n s t here in
-  record { dev = i.dev; from = submit_moves old.driver old.memory dev request h.accepted n s t i.from; total = i.total; apart = i.apart };
+      let i = served.issues n s t here in
+      record { dev = i.dev; from = submit_moves old.driver old.memory dev request h.accepted n s t i.from; total = i.total; apart = i.apart };
   tables = served.tables;
 }
 

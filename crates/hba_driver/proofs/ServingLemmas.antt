@@ -55,10 +55,10 @@ bounded_follows d e h b = record {
   devices = h.devices ∙ b.devices;
   slots = h.slots ∙ b.slots;
   entries = λ s f here.
-  let was = h.entries s f here in
-  let x : IsBounded was.0 = b.entries s was.0 was.1 in
-  let y : IsBounded (rephased f.head.phase was.0) = record { dev = x.dev; few = x.few; beyond = x.beyond } in
-  subst IsBounded (sym was.2) y;
+      let was = h.entries s f here in
+      let x : IsBounded was.0 = b.entries s was.0 was.1 in
+      let y : IsBounded (rephased f.head.phase was.0) = record { dev = x.dev; few = x.few; beyond = x.beyond } in
+      subst IsBounded (sym was.2) y;
 }
 
 command_rephased : (phase : Rattle.hba_driver.specs.declared.slot.Phase.Phase) (s : ℕ) (x : Entry) (m : Memory) → HasCommand s x m → HasCommand s (rephased phase x) m
@@ -71,11 +71,11 @@ served_moves d e h past follows moves served = record {
   told = served.told;
   bounded = bounded_follows d e follows served.bounded;
   commands = λ s f here.
-  let was = follows.entries s f here in
-  subst (λ (x : Entry). HasCommand s x h.memory) (sym was.2) (command_rephased f.head.phase s was.0 h.memory (served.commands s was.0 was.1));
+      let was = follows.entries s f here in
+      subst (λ (x : Entry). HasCommand s x h.memory) (sym was.2) (command_rephased f.head.phase s was.0 h.memory (served.commands s was.0 was.1));
   issues = λ n s t here.
-  let i = served.issues n s t here in
-  record { dev = i.dev; from = moves n s t i.dev here i.from; total = i.total; apart = i.apart };
+      let i = served.issues n s t here in
+      record { dev = i.dev; from = moves n s t i.dev here i.from; total = i.total; apart = i.apart };
   tables = served.tables;
 }
 

@@ -174,8 +174,8 @@ cleared_follows port d = record {
   devices = length-set d.plan.devices port _;
   slots = length_of_rephased (is_open_of port) (Ended Removed) d.entries;
   entries = λ s f here.
-  let b = back_of (entry_at d.entries s) (entry_at (removed (Clear port) d.entries) s) (keeps_removed (Clear port) d.entries s) f here in
-  (b.0, b.1, b.2.same);
+      let b = back_of (entry_at d.entries s) (entry_at (removed (Clear port) d.entries) s) (keeps_removed (Clear port) d.entries s) f here in
+      (b.0, b.1, b.2.same);
 }
 
 else_entry : (b : Bool) (x y : Option Entry) → b ≡ false → (if b then x else y) ≡ y

@@ -84,11 +84,7 @@ impl Host {
     {
         let acted = self.driver.tick(&mut self.port, &mut self.memory);
         self.port.keeps_rules();
-        if acted {
-            Answer::Ticked
-        } else {
-            Answer::Idle
-        }
+        if acted { Answer::Ticked } else { Answer::Idle }
     }
 
     /// Gives the driver a request.
