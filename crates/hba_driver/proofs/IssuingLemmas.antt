@@ -261,7 +261,7 @@ or_cases (Some x) p a h = inl h
 
 -- an issue is one of the driver's
 abbrev pub From : Driver → (n s : ℕ) → Transfer → Type 0
-From d n s t = IsRequest d n s t ⊎ (IsIdentify d n s t ⊎ IsOrdered d s t)
+From d n s t = IsRequest d n s t ⊎ (IsIdentify d n s t ⊎ IsOrdered d n s t)
 
 -- what stands in the slot may be issued
 abbrev pub MayIssue : Driver → (slot dev : ℕ) → List Prd → H2dFields → Type 0

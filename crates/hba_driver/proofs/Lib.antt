@@ -20,3 +20,5 @@ pub mod ServingLemmas
 pub mod ApartLemmas
 pub mod TickingLemmas
 pub mod ServedLemmas
+pub mod InsideLemmas
+pub mod DeliveredLemmas

@@ -85,7 +85,7 @@ pub from_moves : (d e : Driver) (n s : ℕ) (t : Transfer)
 from_moves d e n s t entry identifying asks (inl r) =
     inl (record { slot = r.slot; entry = r.entry; stands = entry r.entry r.slot r.stands r.goes r.of_dev; of_dev = r.of_dev; goes = r.goes; table = r.table; reads = r.reads })
 from_moves d e n s t entry identifying asks (inr (inl i)) = inr (inl (record { slot = i.slot; of_dev = identifying i.slot i.of_dev; table = i.table }))
-from_moves d e n s t entry identifying asks (inr (inr o)) = inr (inr (record { slot = o.slot; goes = asks o.slot o.goes; table = o.table }))
+from_moves d e n s t entry identifying asks (inr (inr o)) = inr (inr (record { slot = o.slot; of_dev = o.of_dev; goes = asks o.slot o.goes; table = o.table }))
 
 -- ---- what follows
 

@@ -140,7 +140,7 @@ order_goes D d e fs c None old new before after to free a list area ruled m acts
     last_goes D d fs c old new before after acts (moves_goes D d e fs c (beside new after) a.follows a.moves go)
 order_goes D d e fs c (Some f) old new before after to free a list area ruled m acts go =
     sending_goes D d e fs c 31 control_port f false old new before after refl refl (omega arith) (ap (λ (k : ℕ). k % 16) (to f refl)) (free_order d free) a.follows a.moves
-    (λ t table is. inr (inr (record { slot = refl; goes = a.asked; table = table }))) list area ruled m acts go
+    (λ t table is. inr (inr (record { slot = refl; of_dev = refl; goes = a.asked; table = table }))) list area ruled m acts go
 
 port_by : (g f : H2dFields) → g.pm_port ≡ 15 → Some g ≡ Some f → f.pm_port ≡ 15
 port_by g f is h = ap (λ (x : H2dFields). x.pm_port) (sym (some_inj g f h)) ∙ is

@@ -10,3 +10,4 @@ pub mod HostTurns
 pub mod Laws
 pub mod Events
 pub mod Served
+pub mod Delivered

@@ -24,7 +24,7 @@ use Rattle.hba_driver.specs.Drivers.{Driver, Entry, entry_at, is_issued, is_read
 use Rattle.hba_driver.specs.Effects.{buffer_prd, table_of}
 use Rattle.hba_driver.specs.Events.{IsSoundHost, events_over, opening_host, shared_by}
 use Rattle.hba_driver.specs.HostTurns.{DoesAll, Host, HostTurn}
-use Rattle.hba_driver.specs.Orders.{request_fields}
+use Rattle.hba_driver.specs.Orders.{control_port, request_fields}
 
 -- ---- what a request wrote
 
@@ -70,16 +70,17 @@ pub record IsIdentify (d : Driver) (n s : ℕ) (t : Transfer) : Type 0 where
   pub of_dev : d.plan.identifying ≡ Some n
   pub table : t.table ≡ buffer_prd ∷ []
 
--- an order, which moves no data
-pub record IsOrdered (d : Driver) (s : ℕ) (t : Transfer) : Type 0 where
+-- an order to the control port of the multiplier, which moves no data
+pub record IsOrdered (d : Driver) (n s : ℕ) (t : Transfer) : Type 0 where
   pub slot : s ≡ 31
+  pub of_dev : n ≡ control_port
   pub goes : d.plan.asked ≡ true
   pub table : t.table ≡ []
 
 -- and in any case the PRDs have the command's bytes, and are apart
 pub record IsIssueOf (d : Driver) (n s : ℕ) (t : Transfer) : Type 0 where
   pub dev : n < 16
-  pub from : IsRequest d n s t ⊎ (IsIdentify d n s t ⊎ IsOrdered d s t)
+  pub from : IsRequest d n s t ⊎ (IsIdentify d n s t ⊎ IsOrdered d n s t)
   pub total : total_of t.table ≡ t.work.len
   pub apart : have_overlap t.table ≡ false
 

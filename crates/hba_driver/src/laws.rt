@@ -1,5 +1,6 @@
 //! What is true of the driver over ticks and over lists of turns.
 
+ghost use Rattle.hba_driver.specs.Delivered.{TurnsDeliver};
 ghost use Rattle.hba_driver.specs.Events.{EachRunTells, HostsAreSound, TurnsAreEvents};
 ghost use Rattle.hba_driver.specs.Laws.{CommandsStand, DoneIsFree, EachRunKeeps, TicksKeep, TicksServe};
 ghost use Rattle.hba_driver.specs.Served.{TurnsServe};
@@ -56,4 +57,14 @@ pub fn turns_are_events()
 /// byte; and no client writes into one. It does nothing when it runs.
 pub fn turns_serve()
     ensures { TurnsServe }
+{}
+
+/// Over every list of turns of the host, from its opening on: a frame is reported to free just the
+/// slots that it completes, by what its own device did, and each issue completes at most once. Of a
+/// read that is reported so every byte is filled, and stands at its place in client memory; each
+/// client byte is 0, but for what clients put and what Data filled there. A slot is issued to one
+/// device at a time, for a request of the driver's or a command of its own, with PRDs in the client
+/// area; reads that are issued share no byte, and clients put none there. It does nothing when it runs.
+pub fn turns_deliver()
+    ensures { TurnsDeliver }
 {}

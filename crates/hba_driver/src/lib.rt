@@ -20,7 +20,7 @@ mod turn;
 pub use driver::Driver;
 pub use laws::{
     commands_stand, done_is_free, hosts_stay_sound, ticks_keep, ticks_serve, turns_are_events,
-    turns_keep, turns_serve,
+    turns_deliver, turns_keep, turns_serve,
 };
 pub use request::{Completion, Outcome, Request, SubmitError, Ticket, Work};
 

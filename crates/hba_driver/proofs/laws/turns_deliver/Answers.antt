@@ -1,0 +1,5 @@
+use Rattle.hba_driver.proofs.DeliveredLemmas.{turns_deliver}
+use Rattle.hba_driver.proofs.laws.turns_deliver.Goals as goal
+
+pub returns : goal.returns
+returns c = turns_deliver

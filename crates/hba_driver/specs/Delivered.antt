@@ -1,0 +1,109 @@
+-- What a host delivers, over any turns since its opening: which frame completes what, where the bytes
+-- of a read stand, what every byte of client memory is, and that what is issued is apart (AHCI 1.3.1,
+-- 4.2.3.3, Physical Region Descriptor Table, and 5.3, data transfer; Serial ATA 3.x, 10.5, FIS types).
+--
+-- Cited, of `hba_laws`: what a device's history issues, fills and completes (specs/History.antt), the
+-- history of each device and the byte at an address of client memory (specs/Client.antt), and what a
+-- report tells (specs/Delivering.antt).
+use Rattle.std.specs.Prelude.{ℕ, ◌≡◌, ◌≢◌, ◌+◌, ◌-◌, ◌<◌, ◌≤◌, ◌||◌, true, false, List, [], ◌++◌, length}
+use Rattle.std.specs.Prelude.{slice_index, Some}
+use Rattle.host_memory.specs.Memory.{Memory, client_start, is_memory_size}
+use Rattle.host_memory.specs.Place.{AreInside, LiesInClient, place}
+use Rattle.host_memory.specs.Reading.{share_with}
+use Rattle.slots.specs.Slots.{has_bit, match_some}
+use Rattle.hba_fbs.specs.declared.report.TakeReport.{TakeReport}
+use Rattle.hba_fbs.specs.Taking.{port_of}
+use Rattle.hba_laws.specs.Client.{AreApart, IsKept, IsReading, Touches, own}
+use Rattle.hba_laws.specs.Delivering.{IsClient, ReportsDone, touched, touches_after}
+use Rattle.hba_laws.specs.History.{History, Transfer, completions, filled, issued}
+use Rattle.hba_laws.specs.Hosts as event
+use Rattle.hba_driver.specs.Drivers.{Entry, entry_at, is_read}
+use Rattle.hba_driver.specs.Events.{events_over, opening_host, shared_by}
+use Rattle.hba_driver.specs.HostTurns.{Does, DoesAll, Host, HostTurn, Took}
+use Rattle.hba_driver.specs.Served.{IssuesAreRequests, RunServes}
+
+-- the host has come here from its opening over these turns
+pub record HasCome (given len : ℕ) (turns : List HostTurn) (h : Host) : Type 0 where
+  pub does : DoesAll (opening_host given len) turns h
+  pub serves : RunServes (opening_host given len) h turns does []
+
+-- what was touched since, the latest first
+abbrev pub touches_of : (given len : ℕ) (turns : List HostTurn) (h : Host)
+    → HasCome given len turns h → Touches
+touches_of given len turns h c =
+    touches_after [] (shared_by (opening_host given len)) (shared_by h)
+    (events_over (opening_host given len) h turns c.does) c.serves.runs
+
+-- ---- a frame is taken
+
+-- byte i of what device n has issued in slot s is filled, and stands in client memory at its place
+pub record IsAtItsPlace (n s i : ℕ) (t : Transfer) (touches : Touches) (memory : Memory) : Type 0 where
+  pub inside : LiesInClient (length memory.client) (place t.table i) 1
+  pub byte : ℕ
+  pub is_filled : filled s (own n touches) i ≡ Some byte
+  pub stands : slice_index memory.client (place t.table i - client_start) ≡ byte
+
+-- A frame is taken: the report has the bit of each slot that the frame completes, by the history of
+-- its own device, and no other; and of a read that is reported so every byte is filled by that
+-- device's Data, and stands at its place.
+pub record TookDelivers (h : Host) (past : Touches) (frame : List ℕ) (report : TakeReport) (after : Host)
+    : Type 0 where
+  pub reported : ReportsDone (shared_by h) frame report (own (port_of frame) past)
+  pub placed : (s i : ℕ) (t : Transfer) → s < 32 → has_bit report.done s ≡ true
+      → IsReading (port_of frame) s t past → i < t.work.len
+      → IsAtItsPlace (port_of frame) s i t
+      (touched (shared_by h) (event.Took frame report) ++ past) after.memory
+
+-- in this history what was issued last in slot s completes at most once, and not while it is issued
+abbrev pub CompletesAtMostOnce : ℕ → History → Type 0
+CompletesAtMostOnce s past = completions s past + match_some (issued s past) 0 (λ t. 1) ≤ 1
+
+-- ---- what is issued
+
+-- what is issued in slot s of device n is this
+abbrev pub IsIssued : (n s : ℕ) → Transfer → Touches → Type 0
+IsIssued n s t touches = issued s (own n touches) ≡ Some t
+
+-- Requests, and what is issued at the port, do not meet where one of two reads; and what clients put
+-- spares the reads that are issued.
+pub record IssuesAreApart (h : Host) (touches : Touches) : Type 0 where
+  -- two requests that are not polled, of which one reads, share no byte
+  pub requests : (s r : ℕ) (e f : Entry) → entry_at h.driver.entries s ≡ Some e
+      → entry_at h.driver.entries r ≡ Some f → s ≢ r → (is_read e.head.work || is_read f.head.work) ≡ true
+      → share_with e.prds f.prds ≡ false
+  -- what is issued is a request of the driver's with its own PRDs, its identify command into its
+  -- buffer, or an order, which moves no data
+  pub issues : IssuesAreRequests h.driver touches
+  -- a slot is issued to one device at a time
+  pub owner : (n m s : ℕ) (t u : Transfer) → IsIssued n s t touches → IsIssued m s u touches → n ≡ m
+  -- all its PRDs lie in the client area
+  pub inside : (n s : ℕ) (t : Transfer) → IsIssued n s t touches
+      → AreInside (length h.memory.client) t.table
+  -- so reads that are issued have no byte in common
+  pub apart : AreApart touches
+  -- so it was wherever Data came, and what clients put spared them
+  pub kept : IsKept touches
+
+-- ---- all of it
+
+-- a byte before anything was touched
+abbrev pub zero_at : ℕ → ℕ
+zero_at k = 0
+
+-- Over every list of turns from an opening.
+pub record HostDelivers (given len : ℕ) (turns : List HostTurn) (h : Host)
+    (c : HasCome given len turns h) : Type 0 where
+  pub took : (frame : List ℕ) (report : TakeReport) (after : Host) → Does h (Took frame report) after
+      → TookDelivers h (touches_of given len turns h c) frame report after
+  -- each issue completes at most once
+  pub once : (n s : ℕ) → CompletesAtMostOnce s (own n (touches_of given len turns h c))
+  -- each client byte is 0, but for what clients put and what Data filled at its place
+  pub client : IsClient zero_at (touches_of given len turns h c) (shared_by h)
+
+pub record TurnsDeliver : Type 0 where
+  pub comes : (given len : ℕ) → is_memory_size len ≡ true → (turns : List HostTurn) (h : Host)
+      → DoesAll (opening_host given len) turns h → HasCome given len turns h
+  pub delivers : (given len : ℕ) → is_memory_size len ≡ true → (turns : List HostTurn) (h : Host)
+      (c : HasCome given len turns h) → HostDelivers given len turns h c
+  pub apart : (given len : ℕ) → is_memory_size len ≡ true → (turns : List HostTurn) (h : Host)
+      (c : HasCome given len turns h) → IssuesAreApart h (touches_of given len turns h c)
