@@ -1,6 +1,6 @@
 -- A host delivers, over any turns since its opening.
-use Rattle.std.proofs.Common.{rules, ◌≡◌, ℕ, ◌+◌, ◌-◌, ◌<◌, ◌≤◌, List, [], ◌∷◌, ◌++◌, refl, sym, ap, subst, length, arith}
-use Rattle.std.specs.Prelude.{true, slice_index, replicate}
+use Rattle.std.proofs.Common.{rules, ◌≡◌, ℕ, ◌+◌, ◌-◌, ◌<◌, ◌≤◌, List, [], ◌∷◌, ◌++◌, refl, sym, subst, length, arith}
+use Rattle.std.specs.Prelude.{true, slice_index}
 use Rattle.std.proofs.lemmas.List.{get_or-replicate, length-replicate}
 use Rattle.host_memory.specs.Memory.{client_start, is_memory_size, zeros}
 use Rattle.host_memory.specs.Place.{LiesInClient, place}
