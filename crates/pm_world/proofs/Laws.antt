@@ -10,9 +10,12 @@ use Rattle.pm_world.proofs.Law.{nothing_lost}
 use Rattle.pm_world.proofs.Prefix.{taken_is_prefix}
 use Rattle.pm_world.proofs.Falls.{nothing_lost_down}
 use Rattle.pm_world.proofs.Risen.{own_port}
+use Rattle.pm_world.proofs.Delivery.{delivers, keeps_apart}
 use Rattle.pm_world.proofs.HostFold.{host_is_fold}
+use Rattle.pm_world.proofs.Isolation.{isolates}
 use Rattle.pm_world.proofs.Units.{units_live_on, units_lived_on}
 use Rattle.pm_world.proofs.LinksPass.{keeps_links}
+use Rattle.pm_world.proofs.Tickets.{keeps_tickets}
 
 pub obeys : (old : Places) (steps : List Step) (answers : List Answer) (new : Places) → IsOrderly old → AreLawful old steps answers new
 obeys old steps answers new orderly run = record {
@@ -24,6 +27,10 @@ obeys old steps answers new orderly run = record {
   live_on = units_live_on old steps answers new run;
   lived_on = units_lived_on old steps answers new run;
   links = keeps_links old steps answers new orderly run;
+  delivers = delivers old steps answers new run;
+  apart = keeps_apart old steps answers new run;
+  tickets = keeps_tickets old steps answers new run;
+  isolates = isolates old steps answers new run;
 }
 
 -- one step is a run

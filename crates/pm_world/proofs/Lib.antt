@@ -12,6 +12,9 @@ pub mod LinksDown
 pub mod LinksPass
 pub mod Units
 pub mod HostFold
+pub mod Delivery
+pub mod Isolation
+pub mod Tickets
 pub mod Risen
 pub mod Laws
 pub mod Polling

@@ -1,17 +1,22 @@
 -- The laws of a run: nothing is lost, upward or downward, what was taken is a prefix of what was sent,
 -- the host and each unit are what their own turns make of them, and each link is a link (Serial ATA
--- 3.x, 16.3, port multiplier: frame transmission, PM Port; AHCI 1.3.1, chapter 5).
+-- 3.x, 16.3, port multiplier: frame transmission, PM Port; AHCI 1.3.1, chapter 5); and what is delivered
+-- to the host's clients (specs/Delivery.antt, Apart.antt, Tickets.antt, Isolation.antt).
 use Rattle.std.specs.Prelude.{ℕ, ◌≡◌, ◌≢◌, ◌==◌, if◌then◌else◌, false, List, [], ◌∷◌, ◌++◌, Some, None}
 use Rattle.std.specs.Prelude.{map, take, slice_get, IsSomeAnd, MatchOption}
 use Rattle.disk_model.specs.Histories.{Happening, Received, Sent, Plugged, Plan}
 use Rattle.disk_model.specs.Units.{plan_of, StandsFor, MaySend}
 use Rattle.disk_model.specs.declared.unit.Unit.{Unit}
 use Rattle.multiplier.specs.Arbiter.{control_port}
+use Rattle.pm_world.specs.Apart.{KeepsApart}
+use Rattle.pm_world.specs.Delivery.{Delivers}
 use Rattle.pm_world.specs.Downward.{NothingLostDown, on_down_link}
+use Rattle.pm_world.specs.Isolation.{Isolates}
 use Rattle.pm_world.specs.Links.{KeepsLinks}
 use Rattle.pm_world.specs.Places.{Places}
 use Rattle.pm_world.specs.Rules.{Run}
 use Rattle.pm_world.specs.Runs.{AfterEveryRun, Telling, over}
+use Rattle.pm_world.specs.Tickets.{KeepsTickets}
 use Rattle.pm_world.specs.Traffic.{sent, taken, all_marked, IsPrefixOf, NothingLost}
 use Rattle.pm_world.specs.Turns.{AreOfTheirPorts, HostIsFold}
 use Rattle.pm_world.specs.declared.step.Step.{Step}
@@ -91,6 +96,10 @@ pub record ObeysLaws (old : Places) (steps : List Step) (answers : List Answer)
   pub live_on : UnitsLiveOn old steps answers new run
   pub lived_on : UnitsLivedOn old steps answers new run
   pub links : KeepsLinks old answers new
+  pub delivers : Delivers old steps answers new run
+  pub apart : KeepsApart old steps answers new run
+  pub tickets : KeepsTickets old steps answers new run
+  pub isolates : Isolates old steps answers new run
 
 -- They hold of each run of these steps with these answers.
 abbrev pub AreLawful : (old : Places) → (steps : List Step) → (answers : List Answer)

@@ -6,4 +6,8 @@ pub mod Counting
 pub mod Downward
 pub mod Turns
 pub mod Links
+pub mod Delivery
+pub mod Apart
+pub mod Tickets
+pub mod Isolation
 pub mod Laws

@@ -1,0 +1,33 @@
+-- Over every run each device is isolated.
+use Rattle.std.proofs.Common.{List, length}
+use Rattle.hba_laws.specs.Isolation.{AreOfDevices}
+use Rattle.hba_laws.proofs.IsolationLemmas.{fold_of_own}
+use Rattle.hba_driver.specs.Events.{AreEvents, IsSoundHost, events_over, shared_by}
+use Rattle.hba_driver.specs.HostTurns.{DoesAll, Host, HostTurn}
+use Rattle.hba_driver.proofs.SoundLemmas.{hosts_stay_sound}
+use Rattle.hba_driver.proofs.TurnLemmas.{each_run_tells, turns_are_events}
+use Rattle.pm_world.specs.Isolation.{AreFoldsOfOwn, AreIsolated, Isolates}
+use Rattle.pm_world.specs.Places.{Places, new_world, opening_host}
+use Rattle.pm_world.specs.Rules.{Run}
+use Rattle.pm_world.specs.Runs.{over}
+use Rattle.pm_world.specs.Turns.{turn_of}
+use Rattle.pm_world.specs.declared.step.Step.{Step}
+use Rattle.pm_world.specs.declared.step.Answer.{Answer}
+use Rattle.pm_world.proofs.Delivery.{sized}
+use Rattle.pm_world.proofs.HostFold.{run_does}
+
+module _ (old : Host) (turns : List HostTurn) (new : Host) (does : DoesAll old turns new) where
+  folds : (e : AreEvents old new turns does) → AreOfDevices (shared_by old) (shared_by new) (events_over old new turns does) e.runs → AreFoldsOfOwn old turns new does e
+  folds e devices n below =
+      fold_of_own n below (shared_by old) (shared_by new) (events_over old new turns does) (record { run = e.runs; hosts = e.sound.hosts; devices = devices })
+
+  are_isolated : IsSoundHost old → AreIsolated old turns new does
+  are_isolated sound = record { events = turns_are_events old new turns does sound; frames = each_run_tells old new turns does; fold = folds }
+
+pub isolates : (old : Places) (steps : List Step) (answers : List Answer) (new : Places) (run : Run old steps answers new) → Isolates old steps answers new run
+isolates old steps answers new run = record {
+  isolated = λ config units fits before told made does.
+      are_isolated old.host (over turn_of old steps answers new run) new.host does
+      (hosts_stay_sound.last (opening_host config.memory) (over turn_of (new_world config units) before told old made) old.host (run_does (new_world config units) before told old made)
+      (hosts_stay_sound.opens 0 config.memory (sized config (length units) fits)));
+}
