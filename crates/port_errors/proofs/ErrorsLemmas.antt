@@ -2,15 +2,16 @@
 use Rattle.std.proofs.Common.{◌≡◌, ℕ, ◌<◌, true, false, List, length, get_or, set, Some, None, refl, eqb, eq-eqb, sym, ap, ◌∙◌, arith, inl, inr}
 use Rattle.std.specs.Prelude.{Option, is_some, unwrap_or, nat_lt}
 use Rattle.std.specs.List.{position_or_len}
-use Rattle.std.specs.Option.{option_eq}
+use Rattle.std.specs.Option.{option_eq, option_map_or}
 use Rattle.std.proofs.lemmas.List.{get_or-set_same, get_or-set_other, length-set}
 use Rattle.std.proofs.lemmas.List.Quantifiers.{position-Some}
 use Rattle.std.proofs.lemmas.List.Sums.{fails_before_first}
-use Rattle.std.proofs.lemmas.Bool.{cases_eq, cases_lt, lt-ltb}
+use Rattle.std.proofs.lemmas.Bool.{cases_eq, cases_lt, cond-false, cond-true, lt-ltb}
 use Rattle.std.proofs.Math.ListN.{get_or-eq_default}
 use Rattle.port_errors.specs.declared.cause.DeviceCause.{DeviceCause}
 use Rattle.port_errors.specs.declared.cause.PortCause.{PortCause}
-use Rattle.port_errors.specs.Errors.{AreErrors, lowest_marked}
+use Rattle.port_errors.specs.declared.errors.FbsBits.{FbsBits}
+use Rattle.port_errors.specs.Errors.{AreErrors, Errors, after_clear, cleared_device, lowest_marked, named_by, shown, without}
 
 -- the place of a device, after it was written
 cause_at : (causes : List (Option DeviceCause)) (dev other : ℕ) (c : Option DeviceCause) → dev < length causes → other ≡ dev → get_or (set causes dev c) other None ≡ c
@@ -100,3 +101,36 @@ without_other causes reported port dev are low differs =
             | inr apart ↦ get_or-set_other causes dev d None None apart ∙ are.none_is_marked none d
           ];
     }
+
+-- ---- the device that PxFBS shows is cleared
+
+-- it is the one that is reported
+pub shown_reported : (reported : Option ℕ) (port : Option PortCause) → (shown reported port).sde ≡ true → reported ≡ Some (shown reported port).dwe
+shown_reported None port h = cc
+shown_reported (Some dev) None h = refl
+shown_reported (Some dev) (Some c) h = cc
+
+pub cleared_is : (errors : Errors) (bits : FbsBits) → bits ≡ shown errors.reported errors.port → bits.sde ≡ true → cleared_device errors ≡ Some bits.dwe
+cleared_is errors bits is on = sym (ap named_by is) ∙ cond-true bits.sde (Some bits.dwe) None on
+
+pub cleared_none : (errors : Errors) (bits : FbsBits) → bits ≡ shown errors.reported errors.port → bits.sde ≡ false → cleared_device errors ≡ None
+cleared_none errors bits is off = sym (ap named_by is) ∙ cond-false bits.sde (Some bits.dwe) None off
+
+pub cleared_reported : (errors : Errors) (dev : ℕ) → cleared_device errors ≡ Some dev → errors.reported ≡ Some dev
+cleared_reported errors dev h = by_shown errors.reported errors.port h
+  where
+    by_shown : (reported : Option ℕ) (port : Option PortCause) → named_by (shown reported port) ≡ Some dev → reported ≡ Some dev
+    by_shown None port e = cc
+    by_shown (Some d) None e = e
+    by_shown (Some d) (Some c) e = cc
+
+-- so it is one of the sixteen
+pub cleared_below : (errors : Errors) (dev : ℕ) → AreErrors errors → cleared_device errors ≡ Some dev → dev < 16
+cleared_below errors dev are h = (are.reported_is_marked dev (cleared_reported errors dev h)).0
+
+-- what is left
+pub after_clear_some : (errors : Errors) (dev : ℕ) → cleared_device errors ≡ Some dev → after_clear errors ≡ without errors dev
+after_clear_some errors dev h = ap (λ o. option_map_or (without errors) o errors) h
+
+pub after_clear_none : (errors : Errors) → cleared_device errors ≡ None → after_clear errors ≡ errors
+after_clear_none errors h = ap (λ o. option_map_or (without errors) o errors) h

@@ -71,3 +71,26 @@ pub record LeavesOthers (dev : ℕ) (old new : Errors) : Type 0 where
 abbrev pub shown : Option ℕ → Option PortCause → FbsBits
 shown (Some dev) None = record { sde = true; dwe = dev }
 shown reported port = record { sde = false; dwe = 0 }
+
+-- ---- what software clears by PxFBS.DEC, Device Error Clear
+
+-- the device that DWE names, where SDE is 1
+abbrev pub named_by : FbsBits → Option ℕ
+named_by bits = if bits.sde then Some bits.dwe else None
+
+-- that device, of these errors
+abbrev pub cleared_device : Errors → Option ℕ
+cleared_device errors = named_by (shown errors.reported errors.port)
+
+-- it is marked no longer; where there is none, all stays
+abbrev pub after_clear : Errors → Errors
+after_clear errors = option_map_or (without errors) (cleared_device errors) errors
+
+-- what that says of a device: it was marked and is not, each other one is as it was, and the lowest of those that are
+-- left is reported
+pub record Clears (old : Errors) (dev : ℕ) (new : Errors) : Type 0 where
+  pub dev_below : dev < 16
+  pub was_marked : is_some (cause_of old dev) ≡ true
+  pub own : cause_of new dev ≡ None
+  pub others : LeavesOthers dev old new
+  pub next : new.reported ≡ lowest_marked new.causes

@@ -1,9 +1,9 @@
 //! The errors of a host port.
 
-ghost use Rattle.std.specs.Prelude.{◌≡◌, ◌+◌, ◌*◌, ◌<◌, Some, None, is_some, length, unwrap_or};
+ghost use Rattle.std.specs.Prelude.{◌≡◌, ◌+◌, ◌*◌, ◌<◌, Some, None, is_some, length, unwrap_or, IfSome};
 ghost use Rattle.std.specs.Int.{from_bool};
 ghost use Rattle.port_errors.specs.Interrupts.{device_interrupts, interrupt_bits, port_interrupts};
-ghost use Rattle.port_errors.specs.Errors.{AreErrors, LeavesOthers, cause_of, lowest_marked as lowest_marked_of, no_errors, shown, with_device, with_port, without};
+ghost use Rattle.port_errors.specs.Errors.{AreErrors, Clears, LeavesOthers, after_clear, cause_of, cleared_device, lowest_marked as lowest_marked_of, no_errors, shown, with_device, with_port, without};
 
 use crate::cause::{DeviceCause, PortCause};
 use crate::interrupts::Interrupts;
@@ -123,6 +123,21 @@ impl PortErrors {
         if self.reported == Some(dev) {
             self.reported = lowest_marked(&self.causes);
         }
+    }
+
+    /// Takes the mark from the device that PxFBS shows, as PxFBS.DEC does, and answers it. The lowest that is still marked
+    /// is reported then. Where PxFBS shows none the answer is None, and nothing changes.
+    pub fn clear_device(&mut self) -> Option<u8>
+        ensures cleared { result ≡ cleared_device self.old }
+        ensures after { self.new ≡ after_clear self.old }
+        ensures clears { IfSome result (λ dev. Clears self.old dev self.new) }
+    {
+        let bits = self.fbs_bits();
+        if !bits.sde {
+            return None;
+        }
+        self.forget(bits.dwe);
+        Some(bits.dwe)
     }
 
     /// Takes every mark, and what stopped the port, as PxCMD.ST does when it falls.

@@ -105,3 +105,30 @@ fn bits_have_their_places(rt: HostRuntime) {
     }
     assert_eq!(rt; Interrupts::all().bits(), 0x6900_001F);
 }
+
+/// Devices 5, 1 and 3: each call clears the one that PxFBS shows, and the lowest that is left is shown next.
+#[test]
+fn clears_what_is_shown(rt: HostRuntime) {
+    let mut errors = PortErrors::new();
+    assert_eq!(rt; errors.clear_device(), None);
+    for dev in [5, 1, 3] {
+        let _ = errors.device(dev, DeviceCause::Stray);
+    }
+    for (dev, bits) in [(5, 0x0001_0004u32), (1, 0x0003_0004), (3, 0)] {
+        assert_eq!(rt; errors.clear_device(), Some(dev));
+        assert!(rt; !errors.faulty(dev));
+        assert_eq!(rt; errors.fbs_bits().in_register(), bits);
+    }
+    assert_eq!(rt; errors.clear_device(), None);
+}
+
+/// While the port is stopped no device is cleared, though one is marked.
+#[test]
+fn a_stopped_port_clears_no_device(rt: HostRuntime) {
+    let mut errors = PortErrors::new();
+    let _ = errors.device(2, DeviceCause::BadTag);
+    let _ = errors.port(PortCause::Bus);
+    assert_eq!(rt; errors.clear_device(), None);
+    assert_eq!(rt; errors.cause(2), Some(DeviceCause::BadTag));
+    assert!(rt; errors.stopped());
+}
