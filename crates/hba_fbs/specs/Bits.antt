@@ -58,6 +58,10 @@ unknown_fis = 25
 abbrev pub en : ℕ
 en = 0
 
+-- Device Error Clear
+abbrev pub dec : ℕ
+dec = 1
+
 -- Active Device Optimization, bits 15:12: any number of devices up to 15 may be active
 abbrev pub ado : ℕ
 ado = 15 * 2 ^ 12

@@ -98,7 +98,7 @@ own_refusal Fbs r value = running_if (r.started && not (beq (has_bit value en) r
 abbrev pub falls : Registers → ℕ → Bool
 falls r value = r.started && not (has_bit value st)
 
--- A write of PxCI takes the bits in PxSACT over to the slots that it issues. A write of PxFBS does nothing by DEC.
+-- A write of PxCI takes the bits in PxSACT over to the slots that it issues. DEC is no bit of PxFBS that is kept.
 unfoldable pub written : Register → Registers → ℕ → Registers
 written Clb r value = record r { clb = value / 1024 * 1024 }
 written Clbu r value = record r { clbu = value }

@@ -85,7 +85,8 @@ pub record Flushes (old : Port) (dev : ℕ) (new : Port) : Type 0 where
   pub commands : new.commands ≡ old.commands
   pub number : new.number ≡ old.number
 
--- after ST fell BSY and DRQ, bits 7 and 3 of Status, are 0, and no reset goes on and no block
+-- after ST fell, or the device's error was cleared, BSY and DRQ, bits 7 and 3 of Status, are 0, and no reset goes on and no
+-- block
 abbrev pub stopped_state : DeviceState → DeviceState
 stopped_state state = record { status = bit_and state.status 119; error = state.error; resetting = false; block = None }
 

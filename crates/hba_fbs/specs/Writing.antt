@@ -1,14 +1,16 @@
--- A write of a register: when it is refused, and what an accepted one leaves (AHCI 1.3.1, section 3.3 and chapter 9).
-use Rattle.std.specs.Prelude.{ℕ, ◌≡◌, ◌<◌, ◌==◌, if◌then◌else◌, List, Option, Some, None, MatchOption}
-use Rattle.std.specs.Option.{option_or}
+-- A write of a register: when it is refused, and what an accepted one leaves (AHCI 1.3.1, section 3.3 and chapter 9; of
+-- PxFBS.DEC section 9.3, the handling of errors).
+use Rattle.std.specs.Prelude.{ℕ, ◌≡◌, ◌<◌, ◌==◌, Bool, false, if◌then◌else◌, List, Option, Some, None, MatchOption}
+use Rattle.std.specs.Option.{option_map_or, option_or}
 use Rattle.host_memory.specs.Memory.{Memory}
-use Rattle.slots.specs.Slots.{match_some}
-use Rattle.port_errors.specs.Errors.{Errors, no_errors}
+use Rattle.slots.specs.Slots.{has_bit, match_some}
+use Rattle.port_errors.specs.Errors.{Errors, after_clear, cleared_device, no_errors}
 use Rattle.hba_commands.specs.declared.command.Command.{Command}
 use Rattle.hba_fbs.specs.declared.error.WriteError.{WriteError}
 use Rattle.hba_fbs.specs.declared.error.WriteError.TheVariants as refusal
 use Rattle.hba_fbs.specs.declared.register.Register.{Register}
-use Rattle.hba_fbs.specs.declared.register.Register.TheVariants.{Cmd, Sact, Ci}
+use Rattle.hba_fbs.specs.declared.register.Register.TheVariants.{Cmd, Sact, Ci, Fbs}
+use Rattle.hba_fbs.specs.Bits.{dec}
 use Rattle.hba_fbs.specs.Issuing.{any_slot, commands_issued, is_bad, is_busy, is_foreign, view_issued}
 use Rattle.hba_fbs.specs.Offsets.{register_at}
 use Rattle.hba_fbs.specs.Registers.{falls, own_refusal, written}
@@ -42,15 +44,30 @@ write_refusal port memory offset value = match_some (register_at offset) (Some r
 
 -- ---- what an accepted write leaves
 
--- the view of a device: ST that falls stops every device, and a write of PxCI issues for the device that PxFBS.DEV names
+-- the device that a write of PxFBS clears: with DEC the one that DWE names, where SDE is 1, whatever DEV is
+abbrev pub cleared_by : Errors → ℕ → Option ℕ
+cleared_by errors value = if has_bit value dec then cleared_device errors else None
+
+-- it is this device
+abbrev pub is_device : ℕ → Option ℕ → Bool
+is_device n cleared = option_map_or (λ dev. dev == n) cleared false
+
+-- the view of a device after that: the one that is cleared is left as by ST that falls, and no other one changes
+abbrev pub view_cleared : ℕ → Option ℕ → DeviceView → DeviceView
+view_cleared n cleared view = if is_device n cleared then stopped_view view else view
+
+-- the view of a device: ST that falls stops every device, a write of PxCI issues for the device that PxFBS.DEV names, and
+-- PxFBS.DEC clears the device that DWE names
 unfoldable pub view_after : Register → Port → Memory → ℕ → ℕ → DeviceView
 view_after Cmd old memory value n = if falls old.registers value then stopped_view (view_of n old) else view_of n old
 view_after Ci old memory value n = if n == old.registers.chosen then view_issued old.registers memory value (view_of n old) else view_of n old
+view_after Fbs old memory value n = view_cleared n (cleared_by old.errors value) (view_of n old)
 view_after register old memory value n = view_of n old
 
 -- the errors of the port
 unfoldable pub errors_after : Register → Port → ℕ → Errors
 errors_after Cmd old value = if falls old.registers value then no_errors else old.errors
+errors_after Fbs old value = if has_bit value dec then after_clear old.errors else old.errors
 errors_after register old value = old.errors
 
 -- the commands of the slots

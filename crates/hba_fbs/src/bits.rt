@@ -27,6 +27,8 @@ pub(crate) const UNKNOWN: u32 = 25;
 
 /// PxFBS.EN, Enable.
 pub(crate) const EN: u32 = 0;
+/// PxFBS.DEC, Device Error Clear.
+pub(crate) const DEC: u32 = 1;
 /// PxFBS.DEV, Device To Issue, is the four bits from here on.
 pub(crate) const DEV: u32 = 8;
 /// PxFBS.ADO, Active Device Optimization: any number of devices, up to 15, may be active.

@@ -4,14 +4,14 @@ ghost use Rattle.std.specs.Prelude.{◌≡◌, ◌<◌, ◌+◌, ◌≤◌, ℕ,
 ghost use Rattle.slots.specs.Commands.{own_slots};
 ghost use Rattle.slots.specs.Slots.{slots_of};
 ghost use Rattle.slots.specs.Table.{IsTable};
-ghost use Rattle.port_errors.specs.Errors.{AreErrors, no_errors};
+ghost use Rattle.port_errors.specs.Errors.{AreErrors, after_clear, cleared_device, no_errors};
 ghost use Rattle.std.specs.Result.{result_err};
 ghost use Rattle.hba_fbs.specs.Issuing.{any_slot, commands_issued, is_busy, view_issued};
-ghost use Rattle.hba_fbs.specs.Writing.{Writes, commands_after, errors_after, issue_refusal as issue_refusal_of, refusal_of, slots_refusal as slots_refusal_of, view_after, write_refusal};
+ghost use Rattle.hba_fbs.specs.Writing.{Writes, commands_after, errors_after, issue_refusal as issue_refusal_of, refusal_of, slots_refusal as slots_refusal_of, view_after, view_cleared, write_refusal};
 ghost use Rattle.hba_fbs.specs.Reading.{read_at, value_of};
 ghost use Rattle.hba_fbs.specs.Views.{Flushes, IsPort, LeavesOtherViews, opening_port, stopped_view, view_of};
 
-use crate::bits::{UFS, UNKNOWN, bit};
+use crate::bits::{DEC, UFS, UNKNOWN, bit, has_bit};
 use crate::error::{NoRegister, WriteError};
 use crate::issue::{any_bad, any_busy, any_foreign, issue_all};
 use crate::register::Register;
@@ -187,6 +187,23 @@ impl HostPort {
         stop_all(&mut self.states);
     }
 
+    // The device whose error PxFBS shows is cleared: its slots and its fault end.
+    fn clear_device(&mut self)
+        ensures views { (n : ℕ) → n < 16
+            → view_of n self.new
+            ≡ view_cleared n (cleared_device self.old.errors) (view_of n self.old) }
+        ensures registers { self.new.registers ≡ self.old.registers }
+        ensures errors { self.new.errors ≡ after_clear self.old.errors }
+        ensures commands { self.new.commands ≡ self.old.commands }
+        ensures number { self.new.number ≡ self.old.number }
+    {
+        if let Some(dev) = self.errors.clear_device() {
+            let _ = self.slots.flush(dev);
+            let state = state_of(&self.states, dev);
+            self.states[dev as usize] = state.stopped();
+        }
+    }
+
     // The commands of these slots are issued.
     fn issue(&mut self, value: u32, memory: &HostMemory)
         requires list { self.old.registers.clb + 1024 ≤ 1048576 }
@@ -233,6 +250,11 @@ impl HostPort {
                     self.issue(value, memory);
                 }
             }
+            Register::Fbs => {
+                if has_bit(value, DEC) {
+                    self.clear_device();
+                }
+            }
             Register::Clb
             | Register::Clbu
             | Register::Fb
@@ -243,14 +265,13 @@ impl HostPort {
             | Register::Sig
             | Register::Serr
             | Register::Sact
-            | Register::Sntf
-            | Register::Fbs => {}
+            | Register::Sntf => {}
         }
     }
 
     /// Writes a register: all bits of the value, or none where the write is refused. Ones written to
-    /// PxCI issue the commands that stand in their slots, and ST that falls stops every device. The
-    /// memory is looked at for PxCI alone.
+    /// PxCI issue the commands that stand in their slots, ST that falls stops every device, and
+    /// PxFBS.DEC clears the device whose error PxFBS shows. The memory is looked at for PxCI alone.
     pub fn write(&mut self, offset: u32, value: u32, memory: &HostMemory) -> Result<(), WriteError>
         ensures refusal { result_err result ≡ write_refusal self.old memory.now offset value }
         ensures refused { OnErr result (self.new ≡ self.old) }

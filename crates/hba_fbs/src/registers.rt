@@ -186,7 +186,7 @@ impl Registers {
         }
     }
 
-    /// After a write that is accepted. PxFBS.DEC does nothing yet.
+    /// After a write that is accepted.
     #[tactic(auto, unfolding(crate::specs::Registers::written, crate::specs::Registers::own_refusal))]
     pub(crate) fn written(self, register: Register, value: u32) -> Registers
         requires are { AreRegisters self }

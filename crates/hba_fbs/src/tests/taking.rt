@@ -30,7 +30,7 @@ pub(super) fn started(memory: &HostMemory) -> HostPort {
 }
 
 /// Issues a command of a device, and lets it go out.
-fn issue(
+pub(super) fn issue(
     rt: &impl Abort,
     alloc: Global,
     port: &mut HostPort,
