@@ -24,7 +24,7 @@ use Rattle.slots.specs.declared.table.Context.{Context}
 use Rattle.hba_fbs.specs.declared.hearing.Happening.{Happening}
 use Rattle.hba_fbs.specs.declared.hearing.Happening.TheVariants as happening
 use Rattle.hba_fbs.specs.declared.register.Register.{Register}
-use Rattle.hba_fbs.specs.declared.register.Register.TheVariants.{Cmd, Ci}
+use Rattle.hba_fbs.specs.declared.register.Register.TheVariants.{Cmd, Ci, Fbs}
 use Rattle.hba_fbs.specs.declared.report.TakeReport.{TakeReport}
 use Rattle.hba_fbs.specs.declared.report.Wrote.{Wrote}
 use Rattle.hba_fbs.specs.declared.status.Block.{Block}
@@ -35,9 +35,10 @@ use Rattle.hba_fbs.specs.Sending as out
 use Rattle.hba_fbs.specs.Tables.{Delivers, is_readable, is_sound, prds_of, sound_command}
 use Rattle.hba_fbs.specs.Taking.{admitted, heard_now, ignores, port_of, wrote_by}
 use Rattle.hba_fbs.specs.Views.{DeviceView, last_command, view_of}
+use Rattle.hba_fbs.specs.Writing.{cleared_by}
 use Rattle.hba_laws.specs.Agreement.{AreHistoriesOf, IsHistoryOf, end_of, is_for}
 use Rattle.hba_laws.specs.Client.{AreWithin, By, Filling, IsWithin, Puts, Stops, Touches, client, filling, filling_by, own}
-use Rattle.hba_laws.specs.Delivering.{ClientIsTouched, DataIsWithin, DataReadsAsIssued, IsClient, IsFramed, IsReadAsIssued, ReadsAsIssued, by_device, event_heard, event_of, event_taken, is_control_issue, issued_below, issued_in, touched, touched_by_out, touched_by_write}
+use Rattle.hba_laws.specs.Delivering.{ClientIsTouched, DataIsWithin, DataReadsAsIssued, IsClient, IsFramed, IsReadAsIssued, ReadsAsIssued, by_device, event_heard, event_of, event_taken, is_control_issue, issued_below, issued_in, touched, touched_by_clear, touched_by_out, touched_by_write}
 use Rattle.hba_laws.specs.History.{Carried, Emptied, Sent, SentControl, Setup, is_set_up, issued}
 use Rattle.hba_laws.specs.Hosts.{Does, Flushed, Gave, Host, HostEvent, Put, PutsBytes, Rewrote, Stored, TakesFrame, Took, Wrote as WroteRegister}
 use Rattle.hba_laws.specs.Sound.{IsHost}
@@ -250,6 +251,11 @@ module _ (old : Host) (host : IsHost old) (past : Touches) (hist : AreHistoriesO
       by_fall true = refl
       by_fall false = refl
   write_touches_none before Ci value k = issues_touch_none before old.port.registers.chosen 32 (asked old.port.registers old.memory value) k
+  write_touches_none before Fbs value k = by_clear (cleared_by old.port.errors value)
+    where
+      by_clear : (o : Option ℕ) → client before (touched_by_clear o ++ past) k ≡ client before past k
+      by_clear None = refl
+      by_clear (Some dev) = refl
   write_touches_none before _ value k = refl
 
   write_within : (register : Register) (value : ℕ) → AreWithin past → AreWithin (touched_by_write register old value ++ past)
@@ -259,6 +265,11 @@ module _ (old : Host) (host : IsHost old) (past : Touches) (hist : AreHistoriesO
       by_fall true = w
       by_fall false = w
   write_within Ci value w = issues_within old.port.registers.chosen 32 (asked old.port.registers old.memory value) w
+  write_within Fbs value w = by_clear (cleared_by old.port.errors value)
+    where
+      by_clear : (o : Option ℕ) → AreWithin (touched_by_clear o ++ past)
+      by_clear None = w
+      by_clear (Some dev) = w
   write_within _ value w = w
 
   -- a frame goes out

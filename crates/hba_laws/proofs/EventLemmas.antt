@@ -28,11 +28,11 @@ use Rattle.hba_fbs.specs.Sending as out
 use Rattle.hba_fbs.specs.Tables.{is_sound, prds_of, sound_command}
 use Rattle.hba_fbs.specs.Taking.{admitted, heard, heard_now, heard_view, ignores, is_running, port_of}
 use Rattle.hba_fbs.specs.Views.{DeviceView, Port, flushed_view, last_command, stopped_view, view_of}
-use Rattle.hba_fbs.specs.Writing.{Accepts, refusal_of, view_after}
+use Rattle.hba_fbs.specs.Writing.{Accepts, cleared_by, refusal_of, view_after, view_cleared}
 use Rattle.hba_fbs.specs.declared.state.DeviceState.{DeviceState}
 use Rattle.hba_laws.specs.Agreement.{IsHistoryOf, IsTold, end_of, is_pio_issue}
 use Rattle.hba_laws.specs.Client.{By, Stops, own}
-use Rattle.hba_laws.specs.Delivering.{HistoriesAreParts, IsFramed, ViewsAreTold, by_device, event_heard, event_sent, event_taken, history_after, is_control_issue, issued_below, touched, touched_by_out, touched_by_write}
+use Rattle.hba_laws.specs.Delivering.{HistoriesAreParts, IsFramed, ViewsAreTold, by_device, event_heard, event_sent, event_taken, history_after, is_control_issue, issued_below, touched, touched_by_clear, touched_by_out, touched_by_write}
 use Rattle.hba_laws.specs.History.{Carried, Emptied, Event, History, Sent, SentControl}
 use Rattle.hba_laws.specs.Hosts.{Does, Flushed, Gave, Host, HostEvent, Put, Rewrote, Stored, TakesFrame, Took, Wrote}
 use Rattle.hba_laws.specs.Sound.{IsHost}
@@ -240,6 +240,15 @@ module _ (n : ℕ) (old : Host) (host : IsHost old) (past : History) (told : IsH
           (eqb-true n old.port.registers.chosen e) (issued_own 32 value refl accepted)
       by_chosen false e =
           subst (IsTold v) (sym (ap (λ h. h ++ past) (other_below n old.port.registers.chosen old.memory (asked old.port.registers old.memory value) 32 (λ same. eqb-false n old.port.registers.chosen e (sym same))))) told
+  wrote Fbs value new lt accepted does = subst (λ (w : DeviceView). IsTold w (own n (touched_by_write Fbs old value) ++ past)) (sym (does.views n lt)) (by_clear (cleared_by old.port.errors value))
+    where
+      by_device_is : (dev : ℕ) (b : Bool) → eqb dev n ≡ b → IsTold (cond b (stopped_view v) v) (own n (By dev Emptied ∷ []) ++ past)
+      by_device_is dev true e = subst (IsTold (stopped_view v)) (sym (own_one n dev Emptied past (eqb-true dev n e))) (told_of (stopped_view v) (Emptied ∷ past) (says_emptied None past))
+      by_device_is dev false e = subst (IsTold v) (sym (other_one n dev Emptied past (eqb-false dev n e))) told
+
+      by_clear : (o : Option ℕ) → IsTold (view_cleared n o v) (own n (touched_by_clear o) ++ past)
+      by_clear None = told
+      by_clear (Some dev) = by_device_is dev (eqb dev n) refl
   wrote Clb value new lt accepted does = stays new (does.views n lt)
   wrote Clbu value new lt accepted does = stays new (does.views n lt)
   wrote Fb value new lt accepted does = stays new (does.views n lt)
@@ -251,7 +260,6 @@ module _ (n : ℕ) (old : Host) (host : IsHost old) (past : History) (told : IsH
   wrote Serr value new lt accepted does = stays new (does.views n lt)
   wrote Sact value new lt accepted does = stays new (does.views n lt)
   wrote Sntf value new lt accepted does = stays new (does.views n lt)
-  wrote Fbs value new lt accepted does = stays new (does.views n lt)
 
   -- the device of an event is this one, or another
   of_device : (dev : ℕ) (x : Event) (new : Host) → (n ≡ dev → IsTold (view_of dev new.port) (x ∷ past)) → (n ≢ dev → view_of n new.port ≡ v)

@@ -28,10 +28,10 @@ use Rattle.hba_fbs.specs.Registers.{falls}
 use Rattle.hba_fbs.specs.Sending.{Data, Gives, Nothing, Order, Outgoing, Sends, Unreadable, data_fis, gathered, next_receiver, next_to_send, outgoing, view_fed, view_sent}
 use Rattle.hba_fbs.specs.Tables.{is_sound, prds_of}
 use Rattle.hba_fbs.specs.Taking.{Hears, admitted, heard, heard_view, ignores, is_ignored, is_running, port_cause, port_of, view_after_hearing}
-use Rattle.hba_fbs.specs.Views.{DeviceView, Port, flushed_view, last_command, view_of}
-use Rattle.hba_fbs.specs.Writing.{commands_after, view_after}
+use Rattle.hba_fbs.specs.Views.{DeviceView, Port, flushed_view, last_command, stopped_view, view_of}
+use Rattle.hba_fbs.specs.Writing.{cleared_by, commands_after, is_device, view_after}
 use Rattle.hba_laws.specs.Hosts.{Does, Flushed, Gave, Host, HostEvent, Put, Rewrote, Runs, Stored, TakesFrame, Took, Wrote}
-use Rattle.hba_laws.specs.Isolation.{AreAlike, AreOfDevices, Came, Rewritten, Emptied, IsFoldOfOwn, Issued, OwnEvent, Went, after_fis, after_going, after_order, fails_by_bus, gone_to, is_port_event, issued_by, lowers_st, next_own, own_events, own_over, part_after, part_after_all, row_with, stops, stops_port}
+use Rattle.hba_laws.specs.Isolation.{AreAlike, AreOfDevices, Came, Cleared, Rewritten, Emptied, IsFoldOfOwn, Issued, OwnEvent, Went, after_fis, after_going, after_order, fails_by_bus, gone_to, is_port_event, lowers_st, next_own, own_events, own_over, part_after, part_after_all, row_with, stops, stops_port, written_to}
 use Rattle.hba_laws.specs.Parts.{DevicePart, commands_of, part_of, with_view}
 use Rattle.hba_laws.specs.Sound.{AreHosts, IsHost}
 use Rattle.hba_laws.proofs.AreaLemmas.{row_beside, row_beside_posted, row_posted, row_rewritten}
@@ -171,8 +171,14 @@ wrote_other n old new value lt differs started is next does fb =
     (commands_other n old.port old.memory value new.port.slots new.port.commands started does.0 is.slots next.port.commands (ap (λ (x : DeviceView). x.slots) v) does.1.commands)
     (row_same n old new fb (ap (λ (m : Memory). m.structure) does.2))
 
+-- the error of the device is cleared
+wrote_clear : (n : ℕ) (old new : Host) → view_of n new.port ≡ stopped_view (view_of n old.port) → new.port.commands ≡ old.port.commands → new.port.registers.fb ≡ old.port.registers.fb
+    → new.memory.structure ≡ old.memory.structure → part_of n new ≡ part_after n (part_of n old) Cleared
+wrote_clear n old new view commands fb structure =
+    shown_as n old new (stopped_view (view_of n old.port)) view (keeps_none (view_of n old.port).slots) commands (row_same n old new fb structure)
+
 wrote : (n : ℕ) (old new : Host) (register : Register) (value : ℕ) → n < 16 → old.port.registers.started ≡ true → IsHost old → IsHost new → Does old (Wrote register value) new
-    → new.port.registers.fb ≡ old.port.registers.fb → lowers_st register old.port.registers value ≡ false → part_of n new ≡ part_after_all n (part_of n old) (issued_by n old register value)
+    → new.port.registers.fb ≡ old.port.registers.fb → lowers_st register old.port.registers value ≡ false → part_of n new ≡ part_after_all n (part_of n old) (written_to n old register value)
 unfolding view_after commands_after
 wrote n old new Cmd value lt started is next does fb none = wrote_none n old new Cmd value lt does fb (if_false (falls old.port.registers value) _ (view_of n old.port) none) refl
 wrote n old new Ci value lt started is next does fb none =
@@ -180,6 +186,12 @@ wrote n old new Ci value lt started is next does fb none =
     (λ same. subst (λ (m : ℕ). part_of m new ≡ part_after m (part_of m old) (Issued (asked old.port.registers old.memory value))) (sym (eqb-true n old.port.registers.chosen same))
     (wrote_own old new value is.port.registers.chosen next does fb))
     (λ differs. wrote_other n old new value lt differs started is next does fb)
+wrote n old new Fbs value lt started is next does fb none =
+    let o : Option ℕ = cleared_by old.port.errors value in
+    let v : DeviceView = view_of n old.port in
+    one_if n (part_of n old) (part_of n new) (is_device n o) Cleared
+    (λ same. wrote_clear n old new (does.1.views n lt ∙ cond-true (is_device n o) (stopped_view v) v same) does.1.commands fb (ap (λ (m : Memory). m.structure) does.2))
+    (λ differs. wrote_none n old new Fbs value lt does fb (cond-false (is_device n o) (stopped_view v) v differs) refl)
 wrote n old new Clb value lt started is next does fb none = wrote_none n old new Clb value lt does fb refl refl
 wrote n old new Clbu value lt started is next does fb none = wrote_none n old new Clbu value lt does fb refl refl
 wrote n old new Fb value lt started is next does fb none = wrote_none n old new Fb value lt does fb refl refl
@@ -191,7 +203,6 @@ wrote n old new Sig value lt started is next does fb none = wrote_none n old new
 wrote n old new Serr value lt started is next does fb none = wrote_none n old new Serr value lt does fb refl refl
 wrote n old new Sact value lt started is next does fb none = wrote_none n old new Sact value lt does fb refl refl
 wrote n old new Sntf value lt started is next does fb none = wrote_none n old new Sntf value lt does fb refl refl
-wrote n old new Fbs value lt started is next does fb none = wrote_none n old new Fbs value lt does fb refl refl
 
 -- ---- a device is flushed
 

@@ -10,11 +10,11 @@ use Rattle.fis_view.specs.declared.view.Fis.{Fis}
 use Rattle.fis_view.specs.declared.view.Fis.TheVariants as view
 use Rattle.host_memory.specs.Memory.{Memory, client_start, zeros}
 use Rattle.host_memory.proofs.MemoryLemmas.{zeros_sized}
-use Rattle.port_errors.specs.Errors.{AreErrors, Errors, cause_of, is_reported, lowest_marked, no_errors, with_port, without}
+use Rattle.port_errors.specs.Errors.{AreErrors, Errors, after_clear, cause_of, cleared_device, is_reported, lowest_marked, no_errors, with_port, without}
 use Rattle.port_errors.specs.declared.cause.DeviceCause.{DeviceCause}
 use Rattle.port_errors.specs.declared.cause.PortCause.{PortCause}
 use Rattle.port_errors.specs.declared.cause.PortCause.TheVariants.{Bus}
-use Rattle.port_errors.proofs.ErrorsLemmas.{with_device_keeps, without_other, without_reported}
+use Rattle.port_errors.proofs.ErrorsLemmas.{after_clear_none, after_clear_some, cleared_below, with_device_keeps, without_other, without_reported}
 use Rattle.slots.specs.Slots.{has_bit}
 use Rattle.slots.proofs.NewLemmas.{new_table}
 use Rattle.hba_fbs.specs.declared.error.WriteError.{WriteError}
@@ -24,7 +24,7 @@ use Rattle.hba_fbs.specs.declared.hearing.Heard.{Heard}
 use Rattle.hba_fbs.specs.declared.register.Register.{Register}
 use Rattle.hba_fbs.specs.declared.register.Register.TheVariants.{Clb, Clbu, Fb, Fbu, Is, Ie, Cmd, Tfd, Sig, Serr, Sact, Ci, Sntf, Fbs}
 use Rattle.hba_fbs.specs.declared.registers.Registers.{Registers}
-use Rattle.hba_fbs.specs.Bits.{fre, pma, st}
+use Rattle.hba_fbs.specs.Bits.{dec, fre, pma, st}
 use Rattle.hba_fbs.specs.Posting.{posted}
 use Rattle.hba_fbs.specs.Registers.{AreRegisters, cmd_refusal, falls, opening_registers, own_refusal, running_if, written}
 use Rattle.hba_fbs.specs.Sending.{Data, Gives, Nothing, Order, Outgoing, Unreadable, outgoing}
@@ -79,9 +79,18 @@ stopped_if : (b : Bool) (errors : Errors) → AreErrors errors → AreErrors (if
 stopped_if true errors are = no_faults
 stopped_if false errors are = are
 
+cleared_errors : (errors : Errors) (o : Option ℕ) → cleared_device errors ≡ o → AreErrors errors → AreErrors (after_clear errors)
+cleared_errors errors None is are = subst AreErrors (sym (after_clear_none errors is)) are
+cleared_errors errors (Some dev) is are = subst AreErrors (sym (after_clear_some errors dev is)) (flushed_errors errors dev (cleared_below errors dev are is) are)
+
+cleared_if : (b : Bool) (errors : Errors) → AreErrors errors → AreErrors (if b then after_clear errors else errors)
+cleared_if true errors are = cleared_errors errors (cleared_device errors) refl are
+cleared_if false errors are = are
+
 written_errors : (register : Register) (port : Port) (value : ℕ) → AreErrors port.errors → AreErrors (errors_after register port value)
 unfolding errors_after
 written_errors Cmd port value are = stopped_if (falls port.registers value) port.errors are
+written_errors Fbs port value are = cleared_if (has_bit value dec) port.errors are
 written_errors register port value are = are
 
 -- ---- registers

@@ -24,10 +24,10 @@ use Rattle.hba_fbs.specs.Sending as out
 use Rattle.hba_fbs.specs.Tables.{prds_of}
 use Rattle.hba_fbs.specs.Taking.{admitted, heard_now, ignores, port_of}
 use Rattle.hba_fbs.specs.Views.{Port, last_command}
-use Rattle.hba_fbs.specs.Writing.{Accepts, commands_after, refusal_of}
+use Rattle.hba_fbs.specs.Writing.{Accepts, cleared_by, commands_after, refusal_of}
 use Rattle.hba_laws.specs.Agreement.{AreHistoriesOf, work_of_issue, work_of_transfer}
 use Rattle.hba_laws.specs.Client.{By, Filling, Puts, Stops, Touches, filling, own}
-use Rattle.hba_laws.specs.Delivering.{DataReadsAsIssued, HasTables, HaveTables, IsReadAsIssued, ReadsAsIssued, SparedTablesRead, SparesTables, by_device, event_heard, event_of, event_taken, is_control_issue, issued_below, touched, touched_by_out, touched_by_write}
+use Rattle.hba_laws.specs.Delivering.{DataReadsAsIssued, HasTables, HaveTables, IsReadAsIssued, ReadsAsIssued, SparedTablesRead, SparesTables, by_device, event_heard, event_of, event_taken, is_control_issue, issued_below, touched, touched_by_clear, touched_by_out, touched_by_write}
 use Rattle.hba_laws.specs.History.{Carried, Emptied, Event, History, Issued, Sent, SentControl, Transfer, completes, issued, unless}
 use Rattle.hba_laws.specs.Hosts.{Does, Flushed, Gave, Host, HostEvent, Put, Rewrote, Stored, TakesFrame, Took, Wrote}
 use Rattle.hba_laws.specs.Sound.{IsHost}
@@ -116,6 +116,11 @@ out_none old (out.Order dev slot command) = by_kind (holds is_control_issue (iss
     by_kind : (b : Bool) → NoneIssues (By dev (cond b (SentControl slot) (Sent slot)) ∷ [])
     by_kind true = (tt, tt)
     by_kind false = (tt, tt)
+
+pub clear_none : (o : Option ℕ) → NoneIssues (touched_by_clear o)
+unfolding NoneIssues NotIssue
+clear_none None = tt
+clear_none (Some dev) = (tt, tt)
 
 pub falls_none : (b : Bool) → NoneIssues (cond b (Stops ∷ []) [])
 unfolding NoneIssues
@@ -236,7 +241,7 @@ module _ (old : Host) (host : IsHost old) (past : Touches) (hist : AreHistoriesO
   wrote_tables Serr value accepted does memory = none_issued [] tt does.commands
   wrote_tables Sact value accepted does memory = none_issued [] tt does.commands
   wrote_tables Sntf value accepted does memory = none_issued [] tt does.commands
-  wrote_tables Fbs value accepted does memory = none_issued [] tt does.commands
+  wrote_tables Fbs value accepted does memory = none_issued (touched_by_write Fbs old value) (clear_none (cleared_by old.port.errors value)) does.commands
 
   took_commands : (frame : List ℕ) (report : TakeReport) → TakesFrame old frame report new → new.port.commands ≡ old.port.commands
   took_commands frame report does = elim (cases_Bool (ignores (port_of frame) old.port frame)) [

@@ -16,7 +16,7 @@ use Rattle.hba_fbs.specs.declared.hearing.Happening.{Happening}
 use Rattle.hba_fbs.specs.declared.hearing.Happening.TheVariants as happening
 use Rattle.hba_fbs.specs.declared.hearing.Heard.{Heard}
 use Rattle.hba_fbs.specs.declared.register.Register.{Register}
-use Rattle.hba_fbs.specs.declared.register.Register.TheVariants.{Cmd, Ci}
+use Rattle.hba_fbs.specs.declared.register.Register.TheVariants.{Cmd, Ci, Fbs}
 use Rattle.hba_fbs.specs.declared.report.TakeReport.{TakeReport}
 use Rattle.hba_fbs.specs.declared.status.Block.{Block}
 use Rattle.hba_fbs.specs.Issuing.{asked}
@@ -26,6 +26,7 @@ use Rattle.hba_fbs.specs.Sending as out
 use Rattle.hba_fbs.specs.Tables.{prds_of}
 use Rattle.hba_fbs.specs.Taking.{admitted, heard_now, ignores, port_of}
 use Rattle.hba_fbs.specs.Views.{last_command, opening_port}
+use Rattle.hba_fbs.specs.Writing.{cleared_by}
 use Rattle.hba_laws.specs.Agreement.{AreHistoriesOf, IsHistoryOf}
 use Rattle.hba_laws.specs.Client.{AreWithin, By, Filling, IsKept, IsReading, Puts, Stops, Touches}
 use Rattle.hba_laws.specs.Client.{client, filling, own}
@@ -89,11 +90,17 @@ issued_below dev memory commands zero = []
 issued_below dev memory commands (suc slot) =
     issued_in dev memory slot (commands slot) ++ issued_below dev memory commands slot
 
--- a write issues commands, or takes ST to 0
+-- a device's error is cleared, or none
+abbrev pub touched_by_clear : Option ℕ → Touches
+touched_by_clear None = []
+touched_by_clear (Some dev) = By dev event.Emptied ∷ []
+
+-- a write issues commands, or takes ST to 0, or clears the error of the device that PxFBS shows
 abbrev pub touched_by_write : Register → Host → ℕ → Touches
 touched_by_write Cmd host value = if falls host.port.registers value then Stops ∷ [] else []
 touched_by_write Ci host value =
     let r = host.port.registers in issued_below r.chosen host.memory (asked r host.memory value) 32
+touched_by_write Fbs host value = touched_by_clear (cleared_by host.port.errors value)
 touched_by_write register host value = []
 
 abbrev pub is_control_issue : Issue → Bool

@@ -37,7 +37,7 @@ pub data Event : Type 0 where
   Answered : Event
   -- a Set Device Bits FIS says that these slots are done
   Named : (mask : ℕ) → Event
-  -- the device is flushed, or ST falls
+  -- the device is flushed or its error is cleared, or ST falls
   Emptied : Event
 
 -- The functions below go back through a history: the latest event stands first.

@@ -11,14 +11,15 @@ use Rattle.rx_area.specs.Area.{row_after}
 use Rattle.slots.specs.Data.{payload}
 use Rattle.slots.specs.Slots.{Issue, holds, is_control, lowest, match_some, own_issue, waiting}
 use Rattle.hba_fbs.specs.declared.register.Register.{Register}
-use Rattle.hba_fbs.specs.declared.register.Register.TheVariants.{Cmd, Ci}
+use Rattle.hba_fbs.specs.declared.register.Register.TheVariants.{Cmd, Ci, Fbs}
 use Rattle.hba_fbs.specs.declared.registers.Registers.{Registers}
 use Rattle.hba_fbs.specs.Issuing.{asked, issued_slots}
 use Rattle.hba_fbs.specs.Registers.{falls}
 use Rattle.hba_fbs.specs.Sending.{Data, Nothing, Order, Outgoing, Unreadable, data_fis, gathered, is_ready, outgoing, view_fed, view_sent}
 use Rattle.hba_fbs.specs.Tables.{prds_of}
 use Rattle.hba_fbs.specs.Taking.{admitted, heard_now, heard_view, ignores, is_ignored, is_running, port_cause, port_of}
-use Rattle.hba_fbs.specs.Views.{DeviceView, Port, flushed_view}
+use Rattle.hba_fbs.specs.Views.{DeviceView, Port, flushed_view, stopped_view}
+use Rattle.hba_fbs.specs.Writing.{cleared_by, is_device}
 use Rattle.hba_laws.specs.Hosts.{Does, Flushed, Gave, Host, HostEvent, Put, Rewrote, Runs, Stored, Took, Wrote}
 use Rattle.hba_laws.specs.Parts.{DevicePart, part_of, with_view}
 use Rattle.hba_laws.specs.Sound.{AreHosts, IsHost}
@@ -67,29 +68,34 @@ pub data OwnEvent : Type 0 where
   Issued : (commands : ℕ → Option Command) → OwnEvent
   -- a frame goes out to it
   Went : OwnEvent
+  -- its error is cleared
+  Cleared : OwnEvent
   -- it is flushed
   Emptied : OwnEvent
   -- the software writes its row
   Rewritten : (row : List ℕ) → OwnEvent
 
--- a write issues commands for the device that PxFBS.DEV names
-abbrev pub issued_by : ℕ → Host → Register → ℕ → List OwnEvent
-issued_by n host Ci value =
+-- a write of PxCI issues commands for the device that PxFBS.DEV names, and PxFBS.DEC clears the one that
+-- DWE names
+abbrev pub written_to : ℕ → Host → Register → ℕ → List OwnEvent
+written_to n host Ci value =
     if n == host.port.registers.chosen
     then Issued (asked host.port.registers host.memory value) ∷ []
     else []
-issued_by n host register value = []
+written_to n host Fbs value =
+    if is_device n (cleared_by host.port.errors value) then Cleared ∷ [] else []
+written_to n host register value = []
 
 -- a frame goes out to the device whose PM Port stands beside it
 abbrev pub gone_to : ℕ → Option Stamped → List OwnEvent
 gone_to n None = []
 gone_to n (Some frame) = if frame.stamp.port == n then Went ∷ [] else []
 
--- The own events of a device in an event: a frame that has its PM Port, commands for it, a frame to
--- it, its flush, a write of its row.
+-- The own events of a device in an event: a frame that has its PM Port, commands for it, the clearing
+-- of its error, a frame to it, its flush, a write of its row.
 abbrev pub own_events : ℕ → Host → HostEvent → List OwnEvent
 own_events n host (Took frame report) = if port_of frame == n then Came frame ∷ [] else []
-own_events n host (Wrote register value) = issued_by n host register value
+own_events n host (Wrote register value) = written_to n host register value
 own_events n host (Flushed dev) = if dev == n then Emptied ∷ [] else []
 own_events n host (Gave frame) = gone_to n frame
 own_events n host (Stored structure) = []
@@ -144,6 +150,7 @@ part_after n part (Came frame) =
     else after_fis n part (admitted n (seen frame))
 part_after n part (Issued commands) = after_issue n commands part
 part_after n part Went = after_going part
+part_after n part Cleared = with_view part (stopped_view part.view)
 part_after n part Emptied = with_view part flushed_view
 part_after n part (Rewritten row) = record part { row = row }
 

@@ -5,8 +5,9 @@ ghost use Rattle.hba_laws.specs.Isolation.{AreAlike, GoesByOwn, IsFoldOfOwn};
 /// A law, which does nothing when it runs. Isolation: over every list of events none of which is an
 /// event of the port as a whole, what belongs to a device is the fold of its own events, whatever the
 /// others send, fail or lose: its view, the commands of its slots and its row of the received area. Its
-/// own events are the frames that come from it and go to it, the commands that are issued for it, its
-/// flushes and writes of its row. What goes to it is told by what belongs to it.
+/// own events are the frames that come from it and go to it, the commands that are issued for it, the
+/// clearing of its error by PxFBS.DEC, its flushes and writes of its row. What goes to it is told by
+/// what belongs to it.
 pub fn isolated()
     ensures fold { IsFoldOfOwn }
     ensures alike { AreAlike }
