@@ -19,14 +19,14 @@ use Rattle.hba_fbs.specs.Offsets.{register_at}
 use Rattle.hba_fbs.specs.Registers.{falls}
 use Rattle.hba_fbs.specs.Tables.{prds_of}
 use Rattle.hba_fbs.specs.Views.{Port}
-use Rattle.hba_fbs.specs.Writing.{Accepts, commands_after, write_refusal}
+use Rattle.hba_fbs.specs.Writing.{Accepts, cleared_by, commands_after, write_refusal}
 use Rattle.hba_laws.specs.Client.{By, IsKept, Stops, Touches, own}
-use Rattle.hba_laws.specs.Delivering.{SparesTables, touched, touched_by_write}
+use Rattle.hba_laws.specs.Delivering.{SparesTables, touched, touched_by_clear, touched_by_write}
 use Rattle.hba_laws.specs.History.{Emptied, Event, Transfer, issued}
 use Rattle.hba_laws.specs.Hosts as event
 use Rattle.hba_laws.specs.Hosts.{HostEvent}
 use Rattle.hba_laws.specs.Sound as sound
-use Rattle.hba_laws.proofs.SpareLemmas.{NoneIssues, NotIssue, falls_none}
+use Rattle.hba_laws.proofs.SpareLemmas.{NoneIssues, NotIssue, clear_none, falls_none}
 use Rattle.hba_laws.proofs.StandLemmas.{the}
 use Rattle.hba_driver.specs.declared.effect.Effect.{Effect}
 use Rattle.hba_driver.specs.declared.effect.Effect.TheVariants as effect
@@ -122,11 +122,15 @@ calm_write Sig host value h = tt
 calm_write Serr host value h = tt
 calm_write Sact host value h = tt
 calm_write Sntf host value h = tt
-calm_write Fbs host value h = tt
+calm_write Fbs host value h = clear_none (cleared_by host.port.errors value)
 
 kept_falls : (b : Bool) (past : Touches) → IsKept past → IsKept (cond b (Stops ∷ []) [] ++ past)
 kept_falls true past k = k
 kept_falls false past k = k
+
+kept_clear : (o : Option ℕ) (past : Touches) → IsKept past → IsKept (touched_by_clear o ++ past)
+kept_clear None past k = k
+kept_clear (Some dev) past k = k
 
 kept_write : (register : Register) (host : event.Host) (value : ℕ) (past : Touches) → IsKept past → IsKept (touched_by_write register host value ++ past)
 kept_write Cmd host value past k = kept_falls (falls host.port.registers value) past k
@@ -142,7 +146,7 @@ kept_write Sig host value past k = k
 kept_write Serr host value past k = k
 kept_write Sact host value past k = k
 kept_write Sntf host value past k = k
-kept_write Fbs host value past k = k
+kept_write Fbs host value past k = kept_clear (cleared_by host.port.errors value) past k
 
 commands_calm : (register : Register) (old : Port) (memory : Memory) (value : ℕ) → is_ci register ≡ false → commands_after register old memory value ≡ old.commands
 unfolding commands_after
