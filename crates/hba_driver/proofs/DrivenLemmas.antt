@@ -67,7 +67,7 @@ tried_at register offset value old memory new at tries = tried_by register offse
 
 -- ---- what leaves command list and received area where they are
 
-abbrev calm : Option Register → Bool
+abbrev pub calm : Option Register → Bool
 calm None = false
 calm (Some Sact) = true
 calm (Some Ci) = true

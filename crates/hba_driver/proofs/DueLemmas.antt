@@ -1,5 +1,5 @@
 -- What a tick knows of the plan and of what it does next.
-use Rattle.std.proofs.Common.{◌≡◌, ℕ, ◌<◌, Bool, true, false, List, length, set, refl, sym, ◌∙◌, ap, subst, Option, Some, None}
+use Rattle.std.proofs.Common.{◌≡◌, ℕ, ◌<◌, Bool, true, false, List, length, refl, sym, ◌∙◌, Option, Some, None}
 use Rattle.std.specs.Prelude.{if◌then◌else◌, ◌&&◌, not, is_some}
 use Rattle.std.specs.Option.{option_map, option_or}
 use Rattle.std.proofs.lemmas.Bool.{false≢true, true≢false}
@@ -15,7 +15,7 @@ use Rattle.hba_driver.specs.declared.turn.Act.{Act}
 use Rattle.hba_driver.specs.declared.turn.Act.TheVariants as act
 use Rattle.hba_driver.specs.declared.turn.Turn.{Turn}
 use Rattle.hba_driver.specs.Drivers.{Entry, entry_at, waits}
-use Rattle.hba_driver.specs.Orders.{order_fields}
+use Rattle.hba_driver.specs.Orders.{is_queued, order_fields}
 use Rattle.hba_driver.specs.Turns.{answered, control_news, control_seen, control_turn, device_seen, identified, identify_due, is_idle, issue_of, may_identify, may_issue, met, met_order, noted, opening_due, order_due, request_due, turn_of, with_next}
 
 -- ---- what is due
@@ -34,7 +34,7 @@ Due plan entries None = Unit {0}
 Due plan entries (Some (act.Opens k)) = Unit {0}
 Due plan entries (Some (act.Orders order)) = plan.asked ≡ false
 Due plan entries (Some (act.Identifies dev)) = (plan.identifying ≡ None) × (dev < 15)
-Due plan entries (Some (act.Issues slot dev queued)) = Waiting entries slot dev
+Due plan entries (Some (act.Issues slot dev queued)) = (w : Waiting entries slot dev) × (is_queued w.entry.head.work ≡ queued)
 
 if_due : (b : Bool) (t u : Turn) (entries : List (Option Entry)) → Due t.plan entries t.act → Due u.plan entries u.act → Due (if b then t else u).plan entries (if b then t else u).act
 if_due true t u entries h k = h
@@ -70,7 +70,9 @@ first false c h = absurd (false≢true h)
 
 due_entry : (plan : Plan) (entries : List (Option Entry)) (s : ℕ) (x : Option Entry) → s < 30 → entry_at entries s ≡ x → may_issue plan x ≡ true → Due plan entries (issue_of s x)
 due_entry plan entries s None below here h = tt
-due_entry plan entries s (Some e) below here h = record { below = below; entry = e; stands = here; waits_is = first (waits e.head) _ h; of_dev = refl }
+due_entry plan entries s (Some e) below here h =
+    let w : Waiting entries s e.head.dev = record { below = below; entry = e; stands = here; waits_is = first (waits e.head) _ h; of_dev = refl } in
+    (w, refl)
 
 due_lowest : (plan : Plan) (entries : List (Option Entry)) (o : Option ℕ) → ((s : ℕ) → o ≡ Some s → (s < 30) × (may_issue plan (entry_at entries s) ≡ true)) → Due plan entries (match_some o None (λ slot. issue_of slot (entry_at entries slot)))
 due_lowest plan entries None h = tt

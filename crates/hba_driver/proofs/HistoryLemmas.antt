@@ -3,13 +3,14 @@ use Rattle.std.proofs.Common.{◌≡◌, ◌≢◌, ℕ, ◌+◌, ◌<◌, ◌�
 use Rattle.std.specs.Prelude.{if◌then◌else◌, ◌==◌, ◌||◌, not, is_none, unwrap_or}
 use Rattle.std.specs.List.{list_any, range_with_len}
 use Rattle.std.specs.Option.{option_map}
-use Rattle.std.proofs.lemmas.Bool.{cases_eq, false≢true, true≢false}
+use Rattle.std.proofs.lemmas.Bool.{cases_Bool, cases_eq, false≢true, true≢false}
 use Rattle.std.proofs.lemmas.Bool.Decides.{nat_tests}
 use Rattle.std.proofs.lemmas.List.{get_or-set_other}
 use Rattle.slots.specs.Slots.{match_some}
 use Rattle.slots.proofs.MaskLemmas.{lowest_is}
 use Rattle.hba_driver.specs.declared.request.Completion.{Completion}
-use Rattle.hba_driver.specs.declared.request.Outcome.TheVariants.{Done}
+use Rattle.hba_driver.specs.declared.request.Outcome.{Outcome}
+use Rattle.hba_driver.specs.declared.request.Outcome.TheVariants.{Done, Removed}
 use Rattle.hba_driver.specs.declared.request.Request.{Request}
 use Rattle.hba_driver.specs.declared.sight.Sight.{Sight}
 use Rattle.hba_driver.specs.declared.slot.Head.{Head}
@@ -20,7 +21,7 @@ use Rattle.hba_driver.specs.declared.turn.Act.TheVariants as act
 use Rattle.host_memory.specs.Memory.{Memory}
 use Rattle.hba_driver.specs.Drivers.{AreRequests, Driver, Entry, entry_at, holds, rephased, waits, waits_in}
 use Rattle.hba_driver.specs.HostTurns.{Does, DoesAll, Host, HostTurn, Took, Pushed, Ticked, Submitted, Polled, Put, given_in, issued_by_act, issued_in_tick, issued_over, polled_in, sight_in, ticket_of}
-use Rattle.hba_driver.specs.Laws.{AreOnce, EachRunKeeps, Goes, GoesOn, Kept, Keeps, Lives, gives}
+use Rattle.hba_driver.specs.Laws.{AreOnce, EachRunKeeps, Goes, GoesOn, Kept, Keeps, Lives, ends_as, gives, is_outcome}
 use Rattle.hba_driver.specs.Requests.{is_free, lowest_free}
 use Rattle.hba_driver.specs.Submits.{after_poll, after_submit, completed, completion_at, completion_of, lowest_ended, new_entry, next_slot, submit_refusal}
 use Rattle.hba_driver.specs.Ticks.{acted, after_tick, entries_after, is_done, seen, turn}
@@ -43,20 +44,21 @@ pub record PollFacts (d : Driver) (c : Completion) : Type 0 where
   pub there : entry_at d.entries place ≡ Some entry
   pub ticket : c.ticket.0 ≡ entry.head.ticket
   pub slot_is : c.slot ≡ place
+  pub ended : entry.head.phase ≡ Ended c.outcome
 
-completed_facts : (n : ℕ) (head : Head) (p : Phase) (c : Completion) → completed n head p ≡ Some c → (c.ticket.0 ≡ head.ticket) × (c.slot ≡ n)
+completed_facts : (n : ℕ) (head : Head) (p : Phase) (c : Completion) → completed n head p ≡ Some c → (c.ticket.0 ≡ head.ticket) × (c.slot ≡ n) × (p ≡ Ended c.outcome)
 completed_facts n head Waits c h = cc
 completed_facts n head Issued c h = cc
 completed_facts n head (Ended o) c h =
     let done : Completion = record { ticket = record { 0 = head.ticket }; slot = n; outcome = o } in
     let is : done ≡ c = cc in
-    (ap (λ (x : Completion). x.ticket.0) (sym is), ap (λ (x : Completion). x.slot) (sym is))
+    (ap (λ (x : Completion). x.ticket.0) (sym is), ap (λ (x : Completion). x.slot) (sym is), ap (λ (x : Completion). Ended x.outcome) is)
 
 poll_at : (d : Driver) (c : Completion) (n : ℕ) (x : Option Entry) → lowest_ended d.entries ≡ Some n → entry_at d.entries n ≡ x → completion_at n x ≡ Some c → PollFacts d c
 poll_at d c n None low is h = cc
 poll_at d c n (Some e) low is h =
     let facts = completed_facts n e.head e.head.phase c h in
-    record { place = n; entry = e; lowest = low; there = is; ticket = facts.0; slot_is = facts.1 }
+    record { place = n; entry = e; lowest = low; there = is; ticket = facts.0; slot_is = facts.1; ended = facts.2 }
 
 poll_lowest : (d : Driver) (c : Completion) (o : Option ℕ) → lowest_ended d.entries ≡ o → match_some o None (λ slot. completion_at slot (entry_at d.entries slot)) ≡ Some c → PollFacts d c
 poll_lowest d c None low h = cc
@@ -310,6 +312,20 @@ lives_submit d new memory dev request none is s e here =
 equal_is : (x y : ℕ) → x ≡ y → (x == y) ≡ true
 equal_is x y h = grind (arith, nat_tests)
 
+own_outcome : (o : Outcome) → is_outcome o o ≡ true
+own_outcome Done = refl
+own_outcome Removed = refl
+
+all_three : (a b c : Bool) → a ≡ true → b ≡ true → c ≡ true → (a && b && c) ≡ true
+all_three true true c h k l = l
+all_three true false c h k l = absurd (false≢true k)
+all_three false b c h k l = absurd (false≢true h)
+
+three_parts : (a b c : Bool) → (a && b && c) ≡ true → (a ≡ true) × (b ≡ true) × (c ≡ true)
+three_parts true true c h = (refl, refl, h)
+three_parts true false c h = absurd (false≢true h)
+three_parts false b c h = absurd (false≢true h)
+
 lives_poll : (d new : Driver) (c : Completion) → completion_of d ≡ Some c → new ≡ after_poll d → (s : ℕ) (e : Entry) → entry_at d.entries s ≡ Some e
     → Kept e (entry_at new.entries s) ⊎ (gives s e (Polled c) ≡ true)
 lives_poll d new c polled is s e here =
@@ -319,7 +335,9 @@ lives_poll d new c polled is s e here =
           let entry : facts.entry ≡ e = some_same facts.entry e (sym facts.there ∙ subst (λ (k : ℕ). entry_at d.entries k ≡ Some e) same here) in
           let ticket : (c.ticket.0 == e.head.ticket) ≡ true = equal_is c.ticket.0 e.head.ticket (facts.ticket ∙ ap (λ (x : Entry). x.head.ticket) entry) in
           let place : (c.slot == s) ≡ true = equal_is c.slot s (facts.slot_is ∙ sym same) in
-          inr (rw (ticket, place) refl)
+          let phase : e.head.phase ≡ Ended c.outcome = ap (λ (x : Entry). x.head.phase) (sym entry) ∙ facts.ended in
+          let outcome : ends_as e.head.phase c.outcome ≡ true = ap (λ (p : Phase). ends_as p c.outcome) phase ∙ own_outcome c.outcome in
+          inr (all_three (c.ticket.0 == e.head.ticket) (c.slot == s) (ends_as e.head.phase c.outcome) ticket place outcome)
       | inr other ↦
           let there : entry_at (after_poll d).entries s ≡ Some e = ap (λ (x : Driver). entry_at x.entries s) (freed d c facts) ∙ get_or-set_other d.entries facts.place s None None other ∙ here in
           inl (kept_still e (entry_at new.entries s) (ap (λ (x : Driver). entry_at x.entries s) is ∙ there))
@@ -333,21 +351,39 @@ lives_turn old (Submitted dev request ticket) new h s e here = inl (lives_submit
 lives_turn old (Polled c) new h s e here = lives_poll old.driver new.driver c h.polled h.driver s e here
 lives_turn old (Put at bytes) new h s e here = inl (lives_same old.driver new.driver h.driver s e here)
 
-gives_same : (s : ℕ) (e f : Entry) → f.head.ticket ≡ e.head.ticket → (t : HostTurn) → gives s f t ≡ gives s e t
-gives_same s e f h (Took frame report) = refl
-gives_same s e f h (Pushed frame) = refl
-gives_same s e f h (Ticked a) = refl
-gives_same s e f h (Submitted dev request ticket) = refl
-gives_same s e f h (Polled c) = ap (λ (n : ℕ). (c.ticket.0 == n) && (c.slot == s)) h
-gives_same s e f h (Put at bytes) = refl
+ends_back : (p q : Phase) (o : Outcome) → Goes p q → ends_as q o ≡ true → ends_as p o ≡ true
+ends_back Waits q o h k = refl
+ends_back Issued q o h k = refl
+ends_back (Ended x) q o h k = sym (ap (λ (r : Phase). ends_as r o) h) ∙ k
 
-pub any_gives : (s : ℕ) (e f : Entry) → f.head.ticket ≡ e.head.ticket → (turns : List HostTurn) → list_any (gives s f) turns ≡ list_any (gives s e) turns
-any_gives s e f h [] = refl
-any_gives s e f h (t ∷ turns) = ap (λ (b : Bool). b || list_any (gives s f) turns) (gives_same s e f h t) ∙ ap (λ (b : Bool). gives s e t || b) (any_gives s e f h turns)
+-- what gives a request later gives it now
+gives_back : (s : ℕ) (e f : Entry) → GoesOn e f → (t : HostTurn) → gives s f t ≡ true → gives s e t ≡ true
+gives_back s e f on (Took frame report) h = h
+gives_back s e f on (Pushed frame) h = h
+gives_back s e f on (Ticked a) h = h
+gives_back s e f on (Submitted dev request ticket) h = h
+gives_back s e f on (Polled c) h =
+    let parts = three_parts (c.ticket.0 == f.head.ticket) (c.slot == s) (ends_as f.head.phase c.outcome) h in
+    let ticket : (c.ticket.0 == e.head.ticket) ≡ true = sym (ap (λ (x : Entry). c.ticket.0 == x.head.ticket) on.same) ∙ parts.0 in
+    all_three (c.ticket.0 == e.head.ticket) (c.slot == s) (ends_as e.head.phase c.outcome) ticket parts.1 (ends_back e.head.phase f.head.phase c.outcome on.goes parts.2)
+gives_back s e f on (Put at bytes) h = h
 
 or_right : (a b : Bool) → b ≡ true → (a || b) ≡ true
 or_right true b h = refl
 or_right false b h = h
+
+any_back : (s : ℕ) (e f : Entry) → GoesOn e f → (turns : List HostTurn) → list_any (gives s f) turns ≡ true → list_any (gives s e) turns ≡ true
+any_back s e f on [] h = h
+any_back s e f on (t ∷ turns) h = elim (cases_Bool (gives s f t)) [
+  | inl given ↦ ap (λ (b : Bool). b || list_any (gives s e) turns) (gives_back s e f on t given)
+  | inr other ↦ or_right (gives s e t) _ (any_back s e f on turns (sym (ap (λ (b : Bool). b || list_any (gives s f) turns) other) ∙ h))
+]
+
+pub none_gives : (s : ℕ) (e f : Entry) → GoesOn e f → (turns : List HostTurn) → list_any (gives s e) turns ≡ false → list_any (gives s f) turns ≡ false
+none_gives s e f on turns h = elim (cases_Bool (list_any (gives s f) turns)) [
+  | inl given ↦ absurd (true≢false (sym (any_back s e f on turns given) ∙ h))
+  | inr other ↦ other
+]
 
 lives_over : (turns : List HostTurn) (old new : Host) → DoesAll old turns new → (s : ℕ) (e : Entry) → entry_at old.driver.entries s ≡ Some e → Lives s e turns new
 lives_over [] old new run s e here = inl (kept_still e (entry_at new.driver.entries s) (ap (λ (h : Host). entry_at h.driver.entries s) run ∙ here))
@@ -355,9 +391,7 @@ lives_over (t ∷ turns) old new run s e here = elim (lives_turn old t run.0 run
   | inr given ↦ inr (ap (λ (b : Bool). b || list_any (gives s e) turns) given)
   | inl kept ↦ elim (lives_over turns run.0 new run.2 s kept.entry kept.is) [
     | inl more ↦ inl (record { entry = more.entry; is = more.is; on = on_then e kept.entry more.entry kept.on more.on })
-    | inr given ↦
-        let same : kept.entry.head.ticket ≡ e.head.ticket = ap (λ (x : Entry). x.head.ticket) kept.on.same in
-        inr (or_right (gives s e t) _ (sym (any_gives s e kept.entry same turns) ∙ given))
+    | inr given ↦ inr (or_right (gives s e t) _ (any_back s e kept.entry kept.on turns given))
   ]
 ]
 

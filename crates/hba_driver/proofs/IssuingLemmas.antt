@@ -136,10 +136,10 @@ stood slot dev prds fields memory armed command s h =
 
 -- ---- which slots are asked for
 
-bit_same : (slot : ℕ) → has_bit (2 ^ slot) slot ≡ true
+pub bit_same : (slot : ℕ) → has_bit (2 ^ slot) slot ≡ true
 bit_same slot = ap (λ (k : ℕ). k == 1) (bit_at-pow_same slot)
 
-bit_other : (slot s : ℕ) → s ≢ slot → has_bit (2 ^ slot) s ≡ false
+pub bit_other : (slot s : ℕ) → s ≢ slot → has_bit (2 ^ slot) s ≡ false
 bit_other slot s other = ap (λ (k : ℕ). k == 1) (bit_at-pow_other slot s other)
 
 -- one slot alone, and what stands there

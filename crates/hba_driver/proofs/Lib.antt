@@ -22,3 +22,11 @@ pub mod TickingLemmas
 pub mod ServedLemmas
 pub mod InsideLemmas
 pub mod DeliveredLemmas
+pub mod OpenLemmas
+pub mod UpLemmas
+pub mod ComeLemmas
+pub mod FitLemmas
+pub mod AcceptLemmas
+pub mod StageLemmas
+pub mod OutLemmas
+pub mod TrueLemmas

@@ -113,7 +113,7 @@ module _ (port : Port) (memory : Memory) (d : Driver) (past : Touches) (host : s
 
 -- ---- a tick
 
-needs_area : (old : Host) → IsSoundHost old → Needs (turn (sight_in old) old.driver).act → old.port.registers.fb ≡ 4096
+pub needs_area : (old : Host) → IsSoundHost old → Needs (turn (sight_in old) old.driver).act → old.port.registers.fb ≡ 4096
 needs_area old s needs = elim (cases_Bool (nat_lt old.driver.plan.opened 7)) [
   | inl less ↦
       let is = turn_opens (sight_in old) old.driver.plan (done_ended (sight_in old).issued old.driver.entries) less in
@@ -189,7 +189,7 @@ same_driver D fs c old new is go = subst (λ (d : Driver). Goes D d fs c (shared
 gone : (e : SubmitError) {P : Type 0} → Some e ≡ None → P
 gone e h = cc
 
-device_there : (d : Driver) (memory : Memory) (dev : ℕ) (request : Request) → length d.plan.devices ≡ 15 → submit_refusal d memory dev request ≡ None → dev < 15
+pub device_there : (d : Driver) (memory : Memory) (dev : ℕ) (request : Request) → length d.plan.devices ≡ 15 → submit_refusal d memory dev request ≡ None → dev < 15
 unfolding submit_refusal
 device_there d memory dev request long h = elim (cases_lt dev (length d.plan.devices)) [
   | inl below ↦ omega (arith, below, long)

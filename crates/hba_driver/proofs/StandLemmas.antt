@@ -37,7 +37,7 @@ use Rattle.hba_driver.specs.Orders.{order_fields}
 use Rattle.hba_driver.specs.Submits.{next_slot}
 use Rattle.hba_driver.specs.Ticks.{due, effects, effects_due}
 use Rattle.hba_driver.proofs.EffectLemmas.{all_at}
-use Rattle.hba_driver.proofs.HistoryLemmas.{any_gives, free_below, free_other, lives_turn, requests_turn}
+use Rattle.hba_driver.proofs.HistoryLemmas.{free_below, free_other, lives_turn, none_gives, requests_turn}
 use Rattle.hba_driver.proofs.SubmitLemmas.{is_taken}
 
 abbrev no_entry : Option Entry
@@ -281,9 +281,8 @@ stands_over (t ∷ turns) old new run hosts r s e here none =
     elim (lives_turn old t run.0 run.1 s e here) [
       | inr given ↦ absurd (true≢false (sym given ∙ parts.0))
       | inl kept ↦
-          let same : kept.entry.head.ticket ≡ e.head.ticket = ap (λ (x : Entry). x.head.ticket) kept.on.same in
           let later : Stands s run.0.memory new.memory =
-          stands_over turns run.0 new run.2 hosts.1 (requests_turn old t run.0 run.1 r) s kept.entry kept.is (any_gives s e kept.entry same turns ∙ parts.1) in
+          stands_over turns run.0 new run.2 hosts.1 (requests_turn old t run.0 run.1 r) s kept.entry kept.is (none_gives s e kept.entry kept.on turns parts.1) in
           record {
             header = λ i h. agree_turn s (header_place 0 s) 32 (header_area s below) e old t run.0 run.1 hosts.0 here i h ∙ later.header i h;
             table = λ i h. agree_turn s (table_of s) 4096 (table_area s below) e old t run.0 run.1 hosts.0 here i h ∙ later.table i h;

@@ -21,6 +21,8 @@ abbrev no_entry : Option Entry
 no_entry = None
 
 pub record IsTaken (d : Driver) (memory : Memory) (request : Request) : Type 0 where
+  pub counted : is_bad_count request ≡ false
+  pub matched : is_mismatch request ≡ false
   pub few : length request.prds.items ≤ 248
   pub good : list_any (is_bad_prd (end_of memory)) request.prds.items ≡ false
   pub apart : overlaps d request ≡ false
@@ -60,6 +62,8 @@ is_taken d memory dev request none =
     let full = unrefused (is_full d.entries) _ _ overlap.1 in
     let spent = unrefused (d.given == 4294967295) _ _ full.1 in
     record {
+      counted = count.0;
+      matched = mismatch.0;
       few = short (length request.prds.items) (total_of request.prds.items) (request.sectors * 512) mismatch.0;
       good = bad.0;
       apart = overlap.0;

@@ -127,7 +127,7 @@ asks d = record {
   asked = refl;
 }
 
-free_order : (d : Driver) → d.plan.asked ≡ false → IsFree d 31
+pub free_order : (d : Driver) → d.plan.asked ≡ false → IsFree d 31
 free_order d h n t (inl r) = absurd (omega (arith, r.slot))
 free_order d h n t (inr (inl i)) = absurd (omega (arith, i.slot))
 free_order d h n t (inr (inr o)) = true≢false (sym o.goes ∙ h)
@@ -244,7 +244,7 @@ order_act D d fs c (Clear port) old new before after free list area ruled m is a
 
 -- ---- the identify command of a device
 
-free_identify : (d : Driver) → d.plan.identifying ≡ None → IsFree d 30
+pub free_identify : (d : Driver) → d.plan.identifying ≡ None → IsFree d 30
 free_identify d h n t (inl r) = absurd (omega (arith, r.slot))
 free_identify d h n t (inr (inl i)) = let bad : None ≡ Some n = sym h ∙ i.of_dev in cc
 free_identify d h n t (inr (inr o)) = absurd (omega (arith, o.slot))
@@ -276,7 +276,7 @@ work_port slot work.Read dev lba sectors = refl
 work_port slot work.Write dev lba sectors = refl
 work_port slot work.Flush dev lba sectors = refl
 
-request_port : (slot : ℕ) (head : Head) → (request_fields slot head).pm_port ≡ head.dev
+pub request_port : (slot : ℕ) (head : Head) → (request_fields slot head).pm_port ≡ head.dev
 unfolding request_fields
 request_port slot head = work_port slot head.work head.dev head.lba head.sectors
 
@@ -290,7 +290,7 @@ request_reads : (slot : ℕ) (head : Head) → moved.is_read (work_of (request_o
 unfolding request_fields
 request_reads slot head h = work_reads slot head.work head.dev head.lba head.sectors h
 
-not_both : (p : Phase) → waits_in p ≡ true → is_issued_in p ≡ true → ⊥
+pub not_both : (p : Phase) → waits_in p ≡ true → is_issued_in p ≡ true → ⊥
 not_both Waits h k = false≢true k
 not_both Issued h k = false≢true h
 not_both (Ended o) h k = false≢true k
@@ -413,4 +413,4 @@ act_goes D d fs c None old new before after due list area ruled m is acts go = l
 act_goes D d fs c (Some (act.Opens k)) old new before after due list area ruled m is acts go = opening_act D d fs c k old new before after ruled m acts go
 act_goes D d fs c (Some (act.Orders order)) old new before after due list area ruled m is acts go = order_act D d fs c order old new before after due list (area tt) ruled m is acts go
 act_goes D d fs c (Some (act.Identifies dev)) old new before after due list area ruled m is acts go = identify_act D d fs c dev old new before after due.0 due.1 list (area tt) ruled m acts go
-act_goes D d fs c (Some (act.Issues slot dev queued)) old new before after due list area ruled m is acts go = issue_act d slot dev due D fs c queued old new before after list ruled m acts go
+act_goes D d fs c (Some (act.Issues slot dev queued)) old new before after due list area ruled m is acts go = issue_act d slot dev due.0 D fs c queued old new before after list ruled m acts go

@@ -7,7 +7,8 @@ use Rattle.hba_commands.specs.Headers.{header_place}
 use Rattle.slots.specs.Slots.{issue_at}
 use Rattle.slots.specs.Table.{IsTable}
 use Rattle.hba_fbs.specs.Views.{Port}
-use Rattle.hba_driver.specs.declared.request.Outcome.TheVariants.{Done}
+use Rattle.hba_driver.specs.declared.request.Outcome.{Outcome}
+use Rattle.hba_driver.specs.declared.request.Outcome.TheVariants.{Done, Removed}
 use Rattle.hba_driver.specs.Effects.{table_of}
 use Rattle.hba_driver.specs.Sights.{sight_of}
 use Rattle.hba_driver.specs.declared.plan.Device.TheVariants.{Absent}
@@ -75,16 +76,29 @@ abbrev pub AreOnce : List ℕ → Type 0
 AreOnce [] = Unit {0}
 AreOnce (x ∷ xs) = (list_any (λ y. y == x) xs ≡ false) × AreOnce xs
 
--- the turn polls this request out of this slot
+abbrev pub is_outcome : Outcome → Outcome → Bool
+is_outcome Done Done = true
+is_outcome Removed Removed = true
+is_outcome one other = false
+
+-- a request that has come to this may be polled with this outcome: one that has ended with its own alone
+abbrev pub ends_as : Phase → Outcome → Bool
+ends_as Waits outcome = true
+ends_as Issued outcome = true
+ends_as (Ended one) outcome = is_outcome one outcome
+
+-- the turn polls this request out of this slot, with the outcome of its end if it has one
 abbrev pub gives : ℕ → Entry → HostTurn → Bool
 gives s e (Took frame report) = false
 gives s e (Pushed frame) = false
 gives s e (Ticked acted) = false
 gives s e (Submitted dev request ticket) = false
-gives s e (Polled completion) = (completion.ticket.0 == e.head.ticket) && (completion.slot == s)
+gives s e (Polled completion) =
+    (completion.ticket.0 == e.head.ticket) && (completion.slot == s) && ends_as e.head.phase completion.outcome
 gives s e (Put at bytes) = false
 
--- a request stands in its slot, and goes on, until it is polled there
+-- A request stands in its slot, and goes on, until it is polled there. So from the tick on that ends it
+-- it waits for the poll that answers how it ended.
 abbrev pub Lives : ℕ → Entry → List HostTurn → Host → Type 0
 Lives s e turns new = Kept e (entry_at new.driver.entries s) ⊎ (list_any (gives s e) turns ≡ true)
 

@@ -11,3 +11,5 @@ pub mod Laws
 pub mod Events
 pub mod Served
 pub mod Delivered
+pub mod Accepted
+pub mod Done

@@ -1,6 +1,8 @@
 //! What is true of the driver over ticks and over lists of turns.
 
 ghost use Rattle.hba_driver.specs.Delivered.{TurnsDeliver};
+ghost use Rattle.hba_driver.specs.Accepted.{WritesAreAccepted};
+ghost use Rattle.hba_driver.specs.Done.{DoneIsTrue};
 ghost use Rattle.hba_driver.specs.Events.{EachRunTells, HostsAreSound, TurnsAreEvents};
 ghost use Rattle.hba_driver.specs.Laws.{CommandsStand, DoneIsFree, EachRunKeeps, TicksKeep, TicksServe};
 ghost use Rattle.hba_driver.specs.Served.{TurnsServe};
@@ -67,4 +69,20 @@ pub fn turns_serve()
 /// area; reads that are issued share no byte, and clients put none there. It does nothing when it runs.
 pub fn turns_deliver()
     ensures { TurnsDeliver }
+{}
+
+/// The port takes every write of the driver: over every list of turns of the host from its opening,
+/// each write of a tick is to a register that there is, and is not refused. It does nothing when it
+/// runs.
+pub fn writes_are_accepted()
+    ensures { WritesAreAccepted }
+{}
+
+/// A request that is [`Done`](crate::Outcome::Done) was completed by its own device: over every list of
+/// turns of the host from its opening, after the tick that issued it and before the tick that ended it
+/// a frame of the device was taken whose report says that the command of its slot is done. So it is
+/// with each completion that is polled as Done, for the device for which its request was taken. It does
+/// nothing when it runs.
+pub fn done_is_true()
+    ensures { DoneIsTrue }
 {}

@@ -19,8 +19,8 @@ mod turn;
 
 pub use driver::Driver;
 pub use laws::{
-    commands_stand, done_is_free, hosts_stay_sound, ticks_keep, ticks_serve, turns_are_events,
-    turns_deliver, turns_keep, turns_serve,
+    commands_stand, done_is_free, done_is_true, hosts_stay_sound, ticks_keep, ticks_serve,
+    turns_are_events, turns_deliver, turns_keep, turns_serve, writes_are_accepted,
 };
 pub use request::{Completion, Outcome, Request, SubmitError, Ticket, Work};
 
