@@ -82,7 +82,7 @@ reads_moving plan sectors m l medium s v left false b sized size is r may =
     let part : ChunkPart plan c left = chunk_part plan c left sized.low mv.some mv.more mv.among in
     let told : TellsSetup c.tag (512 * chunk_from plan c left) (512 * chunk_count plan c left) (not c.write) b = setup_of_chunk plan sectors c left b sized part mv.inside mv.tag shows in
     let sets = setup_next plan c v.moved left v.setups b part r.setups mv.moved told in
-    rw (told.viewed, is) (subst (λ (x : Command). SetsUpNext x v.moved v.setups b) (sym mv.same) sets)
+    rw (told.viewed, is) (r.idle, subst (λ (x : Command). SetsUpNext x v.moved v.setups b) (sym mv.same) sets)
 reads_moving plan sectors m l medium s v left true b sized size is r may =
     let c = s.command in
     let mv = r.moving in
@@ -107,7 +107,7 @@ writes_moving plan sectors m l w v Fresh b sized is r may =
     let part : ChunkPart plan c w.left = chunk_part plan c w.left sized.low mv.some mv.more mv.among in
     let told : TellsSetup c.tag (512 * chunk_from plan c w.left) (512 * chunk_count plan c w.left) (not c.write) b = setup_of_chunk plan sectors c w.left b sized part mv.inside mv.tag shows in
     let sets = setup_next plan c v.moved w.left v.setups b part r.setups mv.moved told in
-    rw (told.viewed, is) (subst (λ (x : Command). SetsUpNext x v.moved v.setups b) (sym mv.same) sets)
+    rw (told.viewed, is) (r.stage.1, subst (λ (x : Command). SetsUpNext x v.moved v.setups b) (sym mv.same) sets)
 writes_moving plan sectors m l w v SetUp b sized is r may =
     let c = w.command in
     let mv = r.moving in

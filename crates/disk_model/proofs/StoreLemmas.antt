@@ -53,7 +53,7 @@ store_last plan sectors medium queued fault resetting owed w ws before setups rs
       outstanding = refl;
       failed = refl;
       unanswered = sym (ended_tags-more owed c.tag);
-      medium = ap (λ (xs : List ℕ). put xs (512 * c.lba) staged) a.medium ∙ sym (with_writes-append _ ws (record { at = 512 * c.lba; bytes = staged }));
+      medium = ap (λ (xs : List ℕ). put xs (512 * c.lba) staged) a.medium ∙ sym (with_writes-append _ ws (record { tag = c.tag; at = 512 * c.lba; bytes = staged }));
       length_is = length-put medium staged (512 * c.lba) room ∙ a.length_is;
       queue = IsQueue-filter _ queued a.queue;
       tags = tags_more owed c.tag a.tags mv.tag;

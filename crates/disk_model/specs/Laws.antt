@@ -47,9 +47,10 @@ abbrev pub StartsOne : Option Command → List ℕ → Type 0
 StartsOne None f = ⊥
 StartsOne (Some c) f = SetsUpNext c 0 [] f
 
+-- a DMA Setup, which does not come while a write waits for Data
 abbrev pub SetsUpRight : Ledger → Option Moving → List ℕ → Type 0
 SetsUpRight l None f = StartsOne (find (λ c. c.tag == field Setup BufferId f) l.outstanding) f
-SetsUpRight l (Some v) f = SetsUpNext v.command v.moved v.setups f
+SetsUpRight l (Some v) f = (v.active ≡ false) × SetsUpNext v.command v.moved v.setups f
 
 -- A DMA Activate asks once for the Data of a write whose bytes were named and have not moved.
 pub record AsksOnce (v : Moving) : Type 0 where

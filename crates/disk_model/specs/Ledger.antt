@@ -21,8 +21,9 @@ use Rattle.disk_model.specs.Chunks.{put, sectors_at}
 use Rattle.disk_model.specs.Disks.{opening_medium}
 use Rattle.disk_model.specs.Runs.{is_size}
 
--- a write that ended: where its bytes begin on the medium, and its bytes
+-- a write that ended: its tag, where its bytes begin on the medium, and its bytes
 pub record Written : Type 0 where
+  pub tag : ℕ
   pub at : ℕ
   pub bytes : List ℕ
 
@@ -145,7 +146,7 @@ asks l _ true = l
 
 -- all bytes of the command moved
 abbrev pub ends : Ledger → Moving → Bool → Ledger
-ends l v true = record l { outstanding = filter (λ q. not (q.tag == v.command.tag)) l.outstanding; unanswered = l.unanswered ++ v.command.tag ∷ []; moving = None; writes = l.writes ++ record { at = 512 * v.command.lba; bytes = v.bytes } ∷ [] }
+ends l v true = record l { outstanding = filter (λ q. not (q.tag == v.command.tag)) l.outstanding; unanswered = l.unanswered ++ v.command.tag ∷ []; moving = None; writes = l.writes ++ record { tag = v.command.tag; at = 512 * v.command.lba; bytes = v.bytes } ∷ [] }
 ends l v false = record l { outstanding = filter (λ q. not (q.tag == v.command.tag)) l.outstanding; unanswered = l.unanswered ++ v.command.tag ∷ []; moving = None; reads = l.reads ++ record { command = v.command; before = v.before; bytes = v.bytes } ∷ [] }
 
 -- a command ends as soon as as many bytes moved as it asks for

@@ -3,6 +3,7 @@
 //! run.
 
 ghost use Rattle.std.specs.Prelude.{◌≡◌, All};
+ghost use Rattle.disk_model.specs.Ends.{EndsTellTheSame};
 ghost use Rattle.disk_model.specs.Laws.{AfterEachRun, AnswersRight, AtEachSending, ErrsRight, MovesRight, SilentRight};
 ghost use Rattle.disk_model.specs.Ledger.{AnswersOne, IsRead, ledger, medium_with};
 ghost use Rattle.disk_model.specs.Runs.{moment};
@@ -54,4 +55,17 @@ pub fn errors_are_of_their_command()
 /// Activate asked for.
 pub fn is_silent_where_nothing_is_owed()
     ensures { AfterEachRun SilentRight }
+{}
+
+/// Both ends of a disk's link tell the same, while FISes are on their way in both directions, come
+/// late, and may be lost on the way down: what the FISes at the host's end tell, and then those
+/// that come up, is what those at the disk's end tell, and then those that go down. Each FIS that
+/// comes to the host moves data, answers and replies as is due by what it has heard by then. Each
+/// read that ended there had the sectors of the medium as they were when the disk started it, and
+/// where the Set Device Bits FIS of a write comes next, the write is on the medium. So it is until
+/// the disk reports an error, where the host gives a queued command only while its tag is free and
+/// the command before it was answered, any other while nothing is to come, and Data where it was
+/// asked for.
+pub fn ends_tell_the_same()
+    ensures { EndsTellTheSame }
 {}

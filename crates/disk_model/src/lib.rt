@@ -11,7 +11,8 @@
 //! What the FISes of a disk's run alone tell is the ledger of `specs/Ledger.antt`. Laws over every
 //! run tie the disk to it: [`medium_is_of_ended_writes`], [`reads_are_of_their_start`],
 //! [`setups_name_what_moves`], [`answers_each_command_once`], [`answers_commands_in_order`],
-//! [`errors_are_of_their_command`] and [`is_silent_where_nothing_is_owed`].
+//! [`errors_are_of_their_command`] and [`is_silent_where_nothing_is_owed`]. The law
+//! [`ends_tell_the_same`] carries them over the link to whoever listens at its other end.
 #![tactic(auto)]
 
 mod answer;
@@ -28,9 +29,9 @@ mod unit;
 pub use device::Device;
 pub use disk::{Disk, DiskError};
 pub use law::{
-    answers_commands_in_order, answers_each_command_once, errors_are_of_their_command,
-    is_silent_where_nothing_is_owed, medium_is_of_ended_writes, reads_are_of_their_start,
-    setups_name_what_moves,
+    answers_commands_in_order, answers_each_command_once, ends_tell_the_same,
+    errors_are_of_their_command, is_silent_where_nothing_is_owed, medium_is_of_ended_writes,
+    reads_are_of_their_start, setups_name_what_moves,
 };
 pub use plan::{DiskPlan, Order};
 pub use scripted::Scripted;
