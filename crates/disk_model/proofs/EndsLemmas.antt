@@ -19,7 +19,7 @@ use Rattle.disk_model.specs.Disks.{opening}
 use Rattle.disk_model.specs.Runs.{IsDiskRun}
 use Rattle.disk_model.specs.Ledger.{IsRead, IsSize, Ledger, Moving, ReadOut, activates, answers, asks, empty, ends, goes_on, has_error, ledger, ledger_after, listens, listens_down, listens_up, sends_data, sets_up, starts_moving, takes_data}
 use Rattle.disk_model.specs.Laws.{ErrsRight, IsPage, PageRight}
-use Rattle.disk_model.specs.Ends.{AnswersNext, AreEntered, AreRight, DataAsked, EndsAgree, EndsTellTheSame, Fits, FitsAll, FitsData, FitsRequest, IsAskedFor, IsCareful, IsLinked, IsRight, MovesOther, PageAsked, Rests, begins, comes, gives, reports, sends, takes, with_down, with_up}
+use Rattle.disk_model.specs.Ends.{AreRight, DataAsked, EndsAgree, EndsTellTheSame, Fits, FitsAll, FitsData, FitsRequest, IsCareful, IsLinked, IsRight, MovesOther, PageAsked, Rests, begins, comes, gives, reports, sends, takes, with_down, with_up}
 use Rattle.disk_model.proofs.AnswerLaws.{answers_right}
 use Rattle.disk_model.proofs.CrossLemmas.{AreFit, IsOpen, after_bytes, alone, asks_fits, cross, data_down, free_before, goes_by, has_parts, is_all, never_empty, open_beside, opened_beside, opens_free, opened, with_bytes}
 use Rattle.disk_model.proofs.EntersLemmas.{AreApart, apart_down, apart_up, entered_by, free_after}

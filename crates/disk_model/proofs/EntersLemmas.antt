@@ -5,7 +5,7 @@ use Rattle.std.proofs.lemmas.Bool.{eq-eqb, eqb-true, or_from, or_left, or_parts,
 use Rattle.std.proofs.lemmas.List.{append-nil}
 use Rattle.std.proofs.lemmas.List.Elements.{All-append, All-cons, All-nil, All-weaker}
 use Rattle.std.proofs.lemmas.List.Folds.{list_any-append}
-use Rattle.fis_view.specs.Table.{Bits, Setup, BufferId, Offset, field}
+use Rattle.fis_view.specs.Table.{Setup, BufferId, Offset, field}
 use Rattle.fis_view.specs.Table as table
 use Rattle.fis_view.specs.Seen.{seen}
 use Rattle.fis_view.specs.declared.view.Fis.{Fis}
@@ -16,7 +16,7 @@ use Rattle.disk_model.specs.declared.request.Request.{Request}
 use Rattle.disk_model.specs.declared.request.Request.TheVariants.{Reset, Queue, ReadErrorLog, Identify, Flush, Other}
 use Rattle.disk_model.specs.Histories.{Received, Sent}
 use Rattle.disk_model.specs.Requests.{request_of}
-use Rattle.disk_model.specs.Ledger.{Ledger, Moving, Written, activates, answered, ends, listens, listens_down, listens_up, sends_data, sets_up, starts_moving, takes_data}
+use Rattle.disk_model.specs.Ledger.{Ledger, Moving, Written, activates, answered, ends, listens, listens_down, listens_up, sends_data, sets_up, starts_moving}
 use Rattle.disk_model.specs.Laws.{ActivatesRight, CarriesNext, CarriesRight, SetsUpRight, StartsOne}
 use Rattle.disk_model.specs.Ends.{AnswersNext, AreEntered, AreRight, Fits, FitsData, FitsRequest, IsBits, IsFree, IsRight, MovesOther, Rests, has, with_down, with_up}
 use Rattle.disk_model.proofs.QueueLemmas.{has_tag}
