@@ -30,6 +30,7 @@ use Rattle.hba_driver.proofs.ApartLemmas.{issues_apart}
 use Rattle.hba_driver.proofs.InsideLemmas.{HaveGoodPrds, as_long, good_since, issue_inside, one_owner}
 use Rattle.hba_driver.proofs.ServedLemmas.{turns_serve}
 use Rattle.hba_driver.proofs.SoundLemmas.{hosts_stay_sound}
+use Rattle.hba_driver.proofs.TurnLemmas.{each_run_tells}
 
 zeros_long : (n : ℕ) → length (zeros n) ≡ n
 unfolding zeros
@@ -156,7 +157,12 @@ module _ (given len : ℕ) (right : is_memory_size len ≡ true) (turns : List H
                 next_read.0.0 (next.kept kept) s i (place t.table i - client_start) t below bit reads in_it (behind (place t.table i) lies.0) room
 
     pub delivers : HostDelivers given len turns h c
-    delivers = record { took = took; once = λ n s. completes_once s (own n past); client = touched_bytes }
+    delivers = record {
+      took = took;
+      once = λ n s later before is. completes_once s before;
+      client = touched_bytes;
+      tells = each_run_tells opened h turns c.does;
+    }
 
 pub turns_deliver : TurnsDeliver
 turns_deliver = record { comes = comes; delivers = delivers; apart = apart }

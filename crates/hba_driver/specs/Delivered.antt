@@ -18,7 +18,7 @@ use Rattle.hba_laws.specs.Delivering.{IsClient, ReportsDone, touched, touches_af
 use Rattle.hba_laws.specs.History.{History, Transfer, completions, filled, issued}
 use Rattle.hba_laws.specs.Hosts as event
 use Rattle.hba_driver.specs.Drivers.{Entry, entry_at, is_read}
-use Rattle.hba_driver.specs.Events.{events_over, opening_host, shared_by}
+use Rattle.hba_driver.specs.Events.{TurnsTell, events_over, opening_host, shared_by}
 use Rattle.hba_driver.specs.HostTurns.{Does, DoesAll, Host, HostTurn, Took}
 use Rattle.hba_driver.specs.Served.{IssuesAreRequests, RunServes}
 
@@ -95,10 +95,13 @@ pub record HostDelivers (given len : ℕ) (turns : List HostTurn) (h : Host)
     (c : HasCome given len turns h) : Type 0 where
   pub took : (frame : List ℕ) (report : TakeReport) (after : Host) → Does h (Took frame report) after
       → TookDelivers h (touches_of given len turns h c) frame report after
-  -- each issue completes at most once
-  pub once : (n s : ℕ) → CompletesAtMostOnce s (own n (touches_of given len turns h c))
+  -- each issue completes at most once: so it is at every moment of a device's history
+  pub once : (n s : ℕ) (later past : History) → own n (touches_of given len turns h c) ≡ later ++ past
+      → CompletesAtMostOnce s past
   -- each client byte is 0, but for what clients put and what Data filled at its place
   pub client : IsClient zero_at (touches_of given len turns h c) (shared_by h)
+  -- and the frames that come and go and the bytes that clients put are those of the turns
+  pub tells : TurnsTell (opening_host given len) h turns c.does
 
 pub record TurnsDeliver : Type 0 where
   pub comes : (given len : ℕ) → is_memory_size len ≡ true → (turns : List HostTurn) (h : Host)
