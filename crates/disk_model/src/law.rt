@@ -6,6 +6,7 @@ ghost use Rattle.std.specs.Prelude.{◌≡◌, All};
 ghost use Rattle.disk_model.specs.Ends.{EndsTellTheSame};
 ghost use Rattle.disk_model.specs.Laws.{AfterEachRun, AnswersRight, AtEachSending, ErrsRight, MovesRight, SilentRight};
 ghost use Rattle.disk_model.specs.Ledger.{AnswersOne, IsRead, ledger, medium_with};
+ghost use Rattle.disk_model.specs.Puts.{LieWherePut};
 ghost use Rattle.disk_model.specs.Runs.{moment};
 
 /// After every run of a disk its medium is the opening medium with the bytes of each ended write
@@ -68,4 +69,10 @@ pub fn is_silent_where_nothing_is_owed()
 /// asked for.
 pub fn ends_tell_the_same()
     ensures { EndsTellTheSame }
+{}
+
+/// Where bytes are put over others, as the ledger puts those of Data from their DMA Setup's offset
+/// on, each stands at its place and each other byte is as it was.
+pub fn data_lies_where_it_is_put()
+    ensures { LieWherePut }
 {}
