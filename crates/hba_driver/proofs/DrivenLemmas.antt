@@ -1,6 +1,8 @@
 -- What is true of port, driver and memory together: what each turn keeps of it.
-use Rattle.std.proofs.Common.{◌≡◌, ℕ, zero, suc, ◌+◌, ◌<◌, ◌≤◌, ◌⊎◌, Bool, true, false, nat_lt, nat_le, List, [], ◌∷◌, refl, sym, ◌∙◌, ap, subst, inl, inr, arith, Option, Some, None}
-use Rattle.std.specs.Prelude.{if◌then◌else◌, is_some, MatchOption}
+use Rattle.std.proofs.Common.{◌≡◌, ℕ, zero, suc, ◌+◌, ◌*◌, ◌/◌, ◌<◌, ◌≤◌, ◌⊎◌, ◌&&◌, Bool, true, false, nat_lt, nat_le, List, [], ◌∷◌, refl, sym, ◌∙◌, ap, subst, inl, inr, arith, Option, Some, None}
+use Rattle.std.specs.Prelude.{if◌then◌else◌, ◌==◌, ◌%◌, not, is_some, MatchOption}
+use Rattle.std.proofs.lemmas.Nat.Bits.{bit_at-suc, bit_at_lowest}
+use Rattle.hba_fbs.specs.Bits.{dec}
 use Rattle.std.specs.List.{list_all}
 use Rattle.std.specs.Option.{option_map, option_or}
 use Rattle.std.proofs.lemmas.Bool.{cases_Bool, false≢true}
@@ -67,16 +69,17 @@ tried_at register offset value old memory new at tries = tried_by register offse
 
 -- ---- what leaves command list and received area where they are
 
-abbrev pub calm : Option Register → Bool
-calm None = false
-calm (Some Sact) = true
-calm (Some Ci) = true
-calm (Some Sntf) = true
-calm (Some Fbs) = true
-calm (Some register) = false
+-- of PxFBS, where the value has no DEC
+abbrev pub calm : Option Register → ℕ → Bool
+calm None value = false
+calm (Some Sact) value = true
+calm (Some Ci) value = true
+calm (Some Sntf) value = true
+calm (Some Fbs) value = not (has_bit value dec)
+calm (Some register) value = false
 
 abbrev pub calm_effect : Effect → Bool
-calm_effect (effect.Writes offset value) = calm (register_at offset)
+calm_effect (effect.Writes offset value) = calm (register_at offset) value
 calm_effect (effect.Flushes dev) = true
 calm_effect (effect.Empties dev) = true
 calm_effect (effect.Commands slot fields buffer) = true
@@ -91,7 +94,7 @@ same_place r s is = record { list = ap (λ (x : Registers). x.clb) is; area = ap
 pub place_then : (r s t : Registers) → SamePlace r s → SamePlace s t → SamePlace r t
 place_then r s t h k = record { list = k.list ∙ h.list; area = k.area ∙ h.area }
 
-written_calm : (register : Register) (r : Registers) (value : ℕ) → calm (Some register) ≡ true → SamePlace r (written register r value)
+written_calm : (register : Register) (r : Registers) (value : ℕ) → calm (Some register) value ≡ true → SamePlace r (written register r value)
 unfolding written
 written_calm Sact r value h = record { list = refl; area = refl }
 written_calm Ci r value h = record { list = refl; area = refl }
@@ -108,7 +111,7 @@ written_calm Tfd r value h = absurd (false≢true h)
 written_calm Sig r value h = absurd (false≢true h)
 written_calm Serr r value h = absurd (false≢true h)
 
-place_tried : (o : Option Register) (offset value : ℕ) (old : Port) (memory : Memory) (new : Port) → register_at offset ≡ o → calm o ≡ true → Tries old memory offset value new
+place_tried : (o : Option Register) (offset value : ℕ) (old : Port) (memory : Memory) (new : Port) → register_at offset ≡ o → calm o value ≡ true → Tries old memory offset value new
     → SamePlace old.registers new.registers
 place_tried None offset value old memory new at h tries = absurd (false≢true h)
 place_tried (Some register) offset value old memory new at h tries = elim (tried_at register offset value old memory new at tries) [
@@ -122,10 +125,17 @@ place_effect (effect.Flushes dev) old new before after h acts = same_place old.r
 place_effect (effect.Empties dev) old new before after h acts = same_place old.registers new.registers (ap (λ (p : Port). p.registers) acts.0)
 place_effect (effect.Commands slot fields buffer) old new before after h acts = same_place old.registers new.registers (ap (λ (p : Port). p.registers) acts.0)
 
+-- EN and DEV alone
+pub no_dec : (dev : ℕ) → has_bit (256 * dev + 1) dec ≡ false
+no_dec dev = ap (λ (k : ℕ). k == 1) (bit_at-suc (256 * dev + 1) 0 ∙ bit_at_lowest ((256 * dev + 1) / 2) ∙ even dev)
+  where
+    even : (d : ℕ) → (256 * d + 1) / 2 % 2 ≡ 0
+    even d = omega arith
+
 calm_issuing : (slot dev : ℕ) (queued : Bool) → list_all calm_effect (issuing slot dev queued) ≡ true
 unfolding register_at
-calm_issuing slot dev true = refl
-calm_issuing slot dev false = refl
+calm_issuing slot dev true = ap (λ (b : Bool). not b && true) (no_dec dev)
+calm_issuing slot dev false = ap (λ (b : Bool). not b && true) (no_dec dev)
 
 calm_order : (order : Order) → list_all calm_effect (order_effects order) ≡ true
 unfolding order_fields order_effects register_at
@@ -245,7 +255,7 @@ calm_orders order = record { quiet = calm_order order; stays = λ d. opened_orde
 
 calm_identifies : (dev : ℕ) → Calm (Some (act.Identifies dev))
 unfolding effects_of plan_after register_at
-calm_identifies dev = record { quiet = refl; stays = λ d. refl }
+calm_identifies dev = record { quiet = ap (λ (b : Bool). not b && true) (no_dec dev); stays = λ d. refl }
 
 calm_issues : (slot dev : ℕ) (queued : Bool) → Calm (Some (act.Issues slot dev queued))
 unfolding effects_of plan_after

@@ -29,7 +29,9 @@ use Rattle.hba_fbs.specs.Sending as out
 use Rattle.hba_fbs.specs.Tables.{prds_of}
 use Rattle.hba_fbs.specs.Taking.{admitted, heard_now, ignores, port_of}
 use Rattle.hba_fbs.specs.Views.{DeviceView, Port, stopped_view, view_of}
-use Rattle.hba_fbs.specs.Writing.{Accepts, refusal_of, view_after, write_refusal}
+use Rattle.hba_fbs.specs.Writing.{Accepts, refusal_of, view_after, view_cleared, write_refusal}
+use Rattle.hba_fbs.specs.Bits.{dec}
+use Rattle.port_errors.specs.Errors.{cleared_device}
 use Rattle.hba_laws.specs.Agreement.{AreHistoriesOf, work_of_issue, work_of_transfer}
 use Rattle.hba_laws.specs.Client.{By, Touches, own}
 use Rattle.hba_laws.specs.Delivering.{ReportsDone, by_device, completes_now, event_heard, event_of, event_sent, event_taken, is_control_issue, touched, touched_by_out}
@@ -234,9 +236,10 @@ out_pushed old new frame past slot dev does sound served dev_below h =
 
 -- ---- a write
 
--- ST does not fall by it
+-- ST does not fall by it, and it clears no device
 abbrev NoFall : Register → Registers → ℕ → Type 0
 NoFall Cmd r value = falls r value ≡ false
+NoFall Fbs r value = not (has_bit value dec) ≡ true
 NoFall register r value = Unit {0}
 
 issued_kept : (old : Port) (memory : Memory) (value dev s : ℕ) (i : Issue) → refusal_of Ci old memory value ≡ None → IsTable old.slots → IsIssuedAt old dev s i
@@ -280,7 +283,12 @@ kept_accept Sig old new memory value dev s i below free accepts calm table here 
 kept_accept Serr old new memory value dev s i below free accepts calm table here = ap (λ (v : DeviceView). own_issue v.slots s) (accepts.views dev below) ∙ here
 kept_accept Sact old new memory value dev s i below free accepts calm table here = ap (λ (v : DeviceView). own_issue v.slots s) (accepts.views dev below) ∙ here
 kept_accept Sntf old new memory value dev s i below free accepts calm table here = ap (λ (v : DeviceView). own_issue v.slots s) (accepts.views dev below) ∙ here
-kept_accept Fbs old new memory value dev s i below free accepts calm table here = ap (λ (v : DeviceView). own_issue v.slots s) (accepts.views dev below) ∙ here
+kept_accept Fbs old new memory value dev s i below free accepts calm table here =
+    ap (λ (v : DeviceView). own_issue v.slots s) (accepts.views dev below ∙ none_cleared (has_bit value dec) calm) ∙ here
+  where
+    none_cleared : (b : Bool) → not b ≡ true → view_cleared dev (if b then cleared_device old.errors else None) (view_of dev old) ≡ view_of dev old
+    none_cleared true h = absurd (false≢true h)
+    none_cleared false h = refl
 
 kept_write : (o : Option Register) (offset value : ℕ) (old new : Port) (memory : Memory) (dev s : ℕ) (i : Issue) → register_at offset ≡ o → MatchOption o (Unit {0}) (λ r. NoFall r old.registers value) → dev < 16
     → Tries old memory offset value new → IsTable old.slots → IsIssuedAt old dev s i → IsIssuedAt new dev s i
@@ -294,7 +302,7 @@ kept_write (Some register) offset value old new memory dev s i at calm below tri
 
 -- ---- effects
 
-no_fall : (o : Option Register) (r : Registers) (value : ℕ) → calm o ≡ true → MatchOption o (Unit {0}) (λ g. NoFall g r value)
+no_fall : (o : Option Register) (r : Registers) (value : ℕ) → calm o value ≡ true → MatchOption o (Unit {0}) (λ g. NoFall g r value)
 no_fall None r value h = tt
 no_fall (Some Cmd) r value h = absurd (false≢true h)
 no_fall (Some Clb) r value h = tt
@@ -309,7 +317,7 @@ no_fall (Some Serr) r value h = tt
 no_fall (Some Sact) r value h = tt
 no_fall (Some Ci) r value h = tt
 no_fall (Some Sntf) r value h = tt
-no_fall (Some Fbs) r value h = tt
+no_fall (Some Fbs) r value h = h
 
 other_port : (n dev : ℕ) → (n == dev) ≡ false → dev ≢ n
 other_port n dev h same = true≢false (sym (equal_is n dev (sym same)) ∙ h)
@@ -340,37 +348,42 @@ out_effects es old new before after slot dev calm other below acts table h =
 
 -- ---- a write that opens the port
 
-stopped_fall : (o : Option Register) (r : Registers) (value : ℕ) → r.started ≡ false → MatchOption o (Unit {0}) (λ g. NoFall g r value)
-stopped_fall None r value h = tt
-stopped_fall (Some Cmd) r value h = ap (λ (b : Bool). b && not (has_bit value 0)) h
-stopped_fall (Some Clb) r value h = tt
-stopped_fall (Some Clbu) r value h = tt
-stopped_fall (Some Fb) r value h = tt
-stopped_fall (Some Fbu) r value h = tt
-stopped_fall (Some Is) r value h = tt
-stopped_fall (Some Ie) r value h = tt
-stopped_fall (Some Tfd) r value h = tt
-stopped_fall (Some Sig) r value h = tt
-stopped_fall (Some Serr) r value h = tt
-stopped_fall (Some Sact) r value h = tt
-stopped_fall (Some Ci) r value h = tt
-stopped_fall (Some Sntf) r value h = tt
-stopped_fall (Some Fbs) r value h = tt
+abbrev clears_none : Option Register → ℕ → Bool
+clears_none (Some Fbs) value = not (has_bit value dec)
+clears_none o value = true
 
+stopped_fall : (o : Option Register) (r : Registers) (value : ℕ) → r.started ≡ false → clears_none o value ≡ true → MatchOption o (Unit {0}) (λ g. NoFall g r value)
+stopped_fall None r value h none = tt
+stopped_fall (Some Cmd) r value h none = ap (λ (b : Bool). b && not (has_bit value 0)) h
+stopped_fall (Some Clb) r value h none = tt
+stopped_fall (Some Clbu) r value h none = tt
+stopped_fall (Some Fb) r value h none = tt
+stopped_fall (Some Fbu) r value h none = tt
+stopped_fall (Some Is) r value h none = tt
+stopped_fall (Some Ie) r value h none = tt
+stopped_fall (Some Tfd) r value h none = tt
+stopped_fall (Some Sig) r value h none = tt
+stopped_fall (Some Serr) r value h none = tt
+stopped_fall (Some Sact) r value h none = tt
+stopped_fall (Some Ci) r value h none = tt
+stopped_fall (Some Sntf) r value h none = tt
+stopped_fall (Some Fbs) r value h none = none
+
+-- a write that clears no device
 abbrev is_write : Effect → Bool
-is_write (effect.Writes offset value) = true
+is_write (effect.Writes offset value) = clears_none (register_at offset) value
 is_write (effect.Flushes dev) = false
 is_write (effect.Empties dev) = false
 is_write (effect.Commands slot fields buffer) = false
 
 opening_is : (k : ℕ) → is_write (opening_write k) ≡ true
-unfolding opening_write
+unfolding opening_write register_at
 opening_is k = all_at is_write opening_writes k _ refl refl
 
 kept_stopped : (e : Effect) (old new : Port) (before after : Memory) (dev s : ℕ) (i : Issue) → is_write e ≡ true → old.registers.started ≡ false → dev < 16 → Acts e old before new after → IsTable old.slots
     → IsIssuedAt old dev s i → IsIssuedAt new dev s i
 kept_stopped (effect.Writes offset value) old new before after dev s i is stopped below acts table here =
-    kept_write (register_at offset) offset value old new before dev s i refl (stopped_fall (register_at offset) old.registers value stopped) below acts.0 table here
+    kept_write (register_at offset) offset value old new before dev s i refl (stopped_fall (register_at offset) old.registers value stopped is) below acts.0 table here
 kept_stopped (effect.Flushes n) old new before after dev s i is stopped below acts table here = absurd (false≢true is)
 kept_stopped (effect.Empties n) old new before after dev s i is stopped below acts table here = absurd (false≢true is)
 kept_stopped (effect.Commands slot fields buffer) old new before after dev s i is stopped below acts table here = absurd (false≢true is)

@@ -30,13 +30,14 @@ use Rattle.hba_fbs.specs.Issuing.{any_slot, asked, is_bad, is_busy, is_foreign, 
 use Rattle.hba_fbs.specs.Offsets.{register_at}
 use Rattle.hba_fbs.specs.Registers.{own_refusal, running_if, written}
 use Rattle.hba_fbs.specs.Views.{DeviceView, Port, view_of}
-use Rattle.hba_fbs.specs.Writing.{Accepts, refusal_of, slots_refusal, view_after, write_refusal}
+use Rattle.hba_fbs.specs.Writing.{Accepts, refusal_of, slots_refusal, view_after, view_cleared, write_refusal}
+use Rattle.port_errors.specs.Errors.{cleared_device}
 use Rattle.hba_laws.proofs.ViewLemmas.{is_own, own_here, own_in, own_issued}
 use Rattle.hba_driver.specs.declared.effect.Effect.TheVariants as effect
 use Rattle.hba_driver.specs.Accepted.{AreAccepted}
 use Rattle.hba_driver.specs.Effects.{Acts, ActsAll, issuing, table_of}
 use Rattle.hba_driver.specs.Sights.{px_ci, px_fbs, px_sact, px_sntf}
-use Rattle.hba_driver.proofs.DrivenLemmas.{refusal_is}
+use Rattle.hba_driver.proofs.DrivenLemmas.{no_dec, refusal_is}
 use Rattle.hba_driver.proofs.IssuingLemmas.{bit_other, bit_same}
 use Rattle.hba_driver.proofs.OpenLemmas.{IsUp, taken}
 
@@ -188,7 +189,7 @@ fbs_step dev old new before after below up acts =
       record {
         accepted = refusal_is Fbs px_fbs (256 * dev + 1) old before refl ∙ free;
         up = subst IsUp (sym accepts.registers) (record { list = up.list; list_high = up.list_high; area_high = up.area_high; switches = bit_first dev; receives = up.receives; starts = up.starts });
-        views = accepts.views;
+        views = λ n low. accepts.views n low ∙ ap (λ (b : Bool). view_cleared n (if b then cleared_device old.errors else None) (view_of n old)) (no_dec dev);
       },
       ap (λ (r : Registers). r.chosen) accepts.registers ∙ in_dev dev below,
       ap (λ (r : Registers). r.armed) accepts.registers,

@@ -16,6 +16,7 @@ use Rattle.pm_world.proofs.Isolation.{isolates}
 use Rattle.pm_world.proofs.Units.{units_live_on, units_lived_on}
 use Rattle.pm_world.proofs.LinksPass.{keeps_links}
 use Rattle.pm_world.proofs.Tickets.{keeps_tickets}
+use Rattle.pm_world.proofs.Truth.{tells_truth}
 
 pub obeys : (old : Places) (steps : List Step) (answers : List Answer) (new : Places) → IsOrderly old → AreLawful old steps answers new
 obeys old steps answers new orderly run = record {
@@ -31,6 +32,7 @@ obeys old steps answers new orderly run = record {
   apart = keeps_apart old steps answers new run;
   tickets = keeps_tickets old steps answers new run;
   isolates = isolates old steps answers new run;
+  truth = tells_truth old steps answers new run;
 }
 
 -- one step is a run

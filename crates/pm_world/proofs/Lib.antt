@@ -15,6 +15,7 @@ pub mod HostFold
 pub mod Delivery
 pub mod Isolation
 pub mod Tickets
+pub mod Truth
 pub mod Risen
 pub mod Laws
 pub mod Polling

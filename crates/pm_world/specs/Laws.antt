@@ -1,7 +1,7 @@
 -- The laws of a run: nothing is lost, upward or downward, what was taken is a prefix of what was sent,
 -- the host and each unit are what their own turns make of them, and each link is a link (Serial ATA
 -- 3.x, 16.3, port multiplier: frame transmission, PM Port; AHCI 1.3.1, chapter 5); and what is delivered
--- to the host's clients (specs/Delivery.antt, Apart.antt, Tickets.antt, Isolation.antt).
+-- to the host's clients (specs/Delivery.antt, Apart.antt, Tickets.antt, Isolation.antt, Truth.antt).
 use Rattle.std.specs.Prelude.{ℕ, ◌≡◌, ◌≢◌, ◌==◌, if◌then◌else◌, false, List, [], ◌∷◌, ◌++◌, Some, None}
 use Rattle.std.specs.Prelude.{map, take, slice_get, IsSomeAnd, MatchOption}
 use Rattle.disk_model.specs.Histories.{Happening, Received, Sent, Plugged, Plan}
@@ -18,6 +18,7 @@ use Rattle.pm_world.specs.Rules.{Run}
 use Rattle.pm_world.specs.Runs.{AfterEveryRun, Telling, over}
 use Rattle.pm_world.specs.Tickets.{KeepsTickets}
 use Rattle.pm_world.specs.Traffic.{sent, taken, all_marked, IsPrefixOf, NothingLost}
+use Rattle.pm_world.specs.Truth.{TellsTruth}
 use Rattle.pm_world.specs.Turns.{AreOfTheirPorts, HostIsFold}
 use Rattle.pm_world.specs.declared.step.Step.{Step}
 use Rattle.pm_world.specs.declared.step.Step.TheVariants as step
@@ -100,6 +101,7 @@ pub record ObeysLaws (old : Places) (steps : List Step) (answers : List Answer)
   pub apart : KeepsApart old steps answers new run
   pub tickets : KeepsTickets old steps answers new run
   pub isolates : Isolates old steps answers new run
+  pub truth : TellsTruth old steps answers new run
 
 -- They hold of each run of these steps with these answers.
 abbrev pub AreLawful : (old : Places) → (steps : List Step) → (answers : List Answer)

@@ -10,4 +10,5 @@ pub mod Delivery
 pub mod Apart
 pub mod Tickets
 pub mod Isolation
+pub mod Truth
 pub mod Laws
