@@ -2,7 +2,7 @@
 
 ghost use Rattle.std.specs.Prelude.{◌≡◌, if◌then◌else◌, None, MatchResult, is_some, is_none, option_copied};
 ghost use Rattle.std.specs.Result.{result_err};
-ghost use Rattle.pm_ports.specs.Port.{IsSound, came_refusal, empty_port, next_up, with_connection, with_down, with_up};
+ghost use Rattle.pm_ports.specs.Port.{IsSound, came_refusal, empty_port, gone_refusal, is_up_to, left_in, next_up, with_connection, with_down, with_removal, with_up};
 ghost use Rattle.pm_ports.specs.Offering.{IsOffered, IsPutDown};
 
 use fis_view::Frame;
@@ -20,6 +20,14 @@ pub enum PortError {
     OldConnection = 2,
 }
 
+/// Why a removal is refused; [`Port::gone`] alone refuses so, and has no other refusal.
+#[derive(Clone, Copy, Debug, PartialEq, Eq, Error)]
+pub enum GoneError {
+    /// The connection is not the one that is present.
+    #[error("not there")]
+    NotThere = 1,
+}
+
 /// What a port did with a frame that it took.
 #[derive(Clone, Copy, Debug, PartialEq, Eq)]
 pub enum Offered {
@@ -29,11 +37,31 @@ pub enum Offered {
     Dropped,
 }
 
-/// A fan-out port: the connection that is present, and a place for one frame in each direction.
+/// Whether a connection is one of those up to the highest that is gone.
+fn is_up_to(highest: u32, conn: u32) -> bool
+    ensures { result ≡ is_up_to highest conn }
+{
+    0 < conn && conn <= highest
+}
+
+/// What a place keeps where the connections up to the highest are gone.
+fn left_in(highest: u32, place: Option<Frame>) -> Option<Frame>
+    ensures { result ≡ left_in highest place }
+{
+    let frame = place?;
+    if is_up_to(highest, frame.stamp().conn) {
+        return None;
+    }
+    Some(frame)
+}
+
+/// A fan-out port: the connection that is present, the highest that is gone, and a place for one frame in each
+/// direction.
 #[derive(Debug, Drop)]
 pub struct Port {
     present: Option<u32>,
     last: u32,
+    gone: u32,
     up: Option<Frame>,
     down: Option<Frame>,
 }
@@ -43,11 +71,12 @@ impl Model for Port {
 
     ghost Value = { PortState };
 
-    ghost view = { λ p. record { present = p.present; last = p.last; up = p.up; down = p.down } };
+    ghost view = { λ p. record { present = p.present; last = p.last; gone = p.gone; up = p.up; down = p.down } };
 
     ghost invariant = { λ p. IsSound (record {
       present = p.present;
       last = p.last;
+      gone = p.gone;
       up = p.up;
       down = p.down;
     }) };
@@ -72,6 +101,7 @@ impl Port {
         Port {
             present: None,
             last: 0,
+            gone: 0,
             up: None,
             down: None,
         }
@@ -93,6 +123,30 @@ impl Port {
         self.present = Some(conn);
         self.last = conn;
         Ok(())
+    }
+
+    /// Records that the device of this connection went. Frames that wait in either direction and are of this connection,
+    /// or of an earlier one, are dropped; one of a later connection stays.
+    pub fn gone(&mut self, conn: u32) -> Result<(), GoneError>
+        ensures refusal { result_err result ≡ gone_refusal self.old conn }
+        ensures after { MatchResult result (λ _. self.new ≡ with_removal self.old conn)
+            (λ _. self.new ≡ self.old) }
+    {
+        if self.present != Some(conn) {
+            return Err(GoneError::NotThere);
+        }
+        self.present = None;
+        self.gone = conn;
+        self.up = left_in(conn, self.up.take());
+        self.down = left_in(conn, self.down.take());
+        Ok(())
+    }
+
+    /// The highest connection whose removal was recorded, 0 for none.
+    pub fn highest_gone(&self) -> u32
+        ensures { result ≡ self.now.gone }
+    {
+        self.gone
     }
 
     /// The connection that is present.
@@ -117,10 +171,14 @@ impl Port {
         self.down.is_none()
     }
 
-    /// Takes a frame of the device, or gives it back where another one waits to go up.
+    /// Takes a frame of the device, or gives it back where another one waits to go up. A frame of a connection that is
+    /// gone is dropped.
     pub fn offer(&mut self, frame: Frame) -> Result<Offered, Frame>
         ensures { IsOffered self.old frame result self.new }
     {
+        if is_up_to(self.gone, frame.stamp().conn) {
+            return Ok(Offered::Dropped);
+        }
         if !self.wants() {
             return Err(frame);
         }
