@@ -18,14 +18,15 @@ use Rattle.multiplier.proofs.Sound.{up_sound, down_sound, rest_sound, due_sound}
 
 -- a frame that leaves a place of a port keeps the ports
 pub KeepsPorts-same : (old new : PmState) → new ≡ old → KeepsPorts old new
-KeepsPorts-same old new e = rw e (record { count = refl; present = λ n. refl; last = λ n. refl })
+KeepsPorts-same old new e = rw e (record { count = refl; present = λ n. refl; last = λ n. refl; gone = λ n. refl })
 
-pub keeps_set : (old new : PmState) (n : ℕ) (p : port.PortState) → p.present ≡ (port_at old n).present → p.last ≡ (port_at old n).last
+pub keeps_set : (old new : PmState) (n : ℕ) (p : port.PortState) → p.present ≡ (port_at old n).present → p.last ≡ (port_at old n).last → p.gone ≡ (port_at old n).gone
     → new.registers.ports ≡ old.registers.ports → new.ports ≡ slice_set old.ports n p → KeepsPorts old new
-keeps_set old new n p present last count e = record {
+keeps_set old new n p present last gone count e = record {
   count = count;
   present = λ k. ap (λ ps. (slice_index_or ps k port.empty_port).present) e ∙ kept_part (λ (q : port.PortState). q.present) old.ports n p present k;
   last = λ k. ap (λ ps. (slice_index_or ps k port.empty_port).last) e ∙ kept_part (λ (q : port.PortState). q.last) old.ports n p last k;
+  gone = λ k. ap (λ ps. (slice_index_or ps k port.empty_port).gone) e ∙ kept_part (λ (q : port.PortState). q.gone) old.ports n p gone k;
 }
 
 pub keeps_all : (old new : PmState) → new.registers.ports ≡ old.registers.ports → new.ports ≡ old.ports → KeepsPorts old new
@@ -33,6 +34,7 @@ keeps_all old new count e = record {
   count = count;
   present = λ k. ap (λ ps. (slice_index_or ps k port.empty_port).present) e;
   last = λ k. ap (λ ps. (slice_index_or ps k port.empty_port).last) e;
+  gone = λ k. ap (λ ps. (slice_index_or ps k port.empty_port).gone) e;
 }
 
 -- ---- the three ways in which a frame goes up
@@ -85,16 +87,16 @@ module _ (old : PmState) (frame : Stamped) (new : PmState) where
   pub given_sound : IsSound old → Gives old frame new → IsSound new
   given_sound sound (FromPort n was at other is stamp up e) =
       let low : IsSound (lowered old n) = up_sound old n None sound (λ f e. absurd cc) in
-      subst IsSound (sym e) (rest_sound (lowered old n) old.answer n old.number old.dropped old.resetting _ low sound.answer (place_small old n sound at) sound.served)
+      subst IsSound (sym e) (rest_sound (lowered old n) old.answer n old.number old.dropped old.resetting _ low sound.answer low.shows (place_small old n sound at) sound.served)
   given_sound sound (Notice at due is e) =
       let quiet : IsSound (record old { registers = map.after_notice old.registers }) = due_sound old false sound in
-      subst IsSound (sym e) (rest_sound (record old { registers = map.after_notice old.registers }) old.answer control_port (counted old.number) old.dropped old.resetting _ quiet sound.answer (omega arith) sound.served)
+      subst IsSound (sym e) (rest_sound (record old { registers = map.after_notice old.registers }) old.answer control_port (counted old.number) old.dropped old.resetting _ quiet sound.answer quiet.shows (omega arith) sound.served)
   given_sound sound (Answer at is e) =
-      subst IsSound (sym e) (rest_sound old None control_port old.number old.dropped old.resetting _ sound (λ f e. absurd cc) (omega arith) sound.served)
+      subst IsSound (sym e) (rest_sound old None control_port old.number old.dropped old.resetting _ sound (λ f e. absurd cc) (λ f e. absurd cc) (omega arith) sound.served)
 
   pub given_keeps : Gives old frame new → KeepsPorts old new
   given_keeps (FromPort n was at other is stamp up e) =
-      keeps_set old new n (port.with_up (port_at old n) None) refl refl (ap (λ (pm : PmState). pm.registers.ports) e) (ap (λ (pm : PmState). pm.ports) e)
+      keeps_set old new n (port.with_up (port_at old n) None) refl refl refl (ap (λ (pm : PmState). pm.registers.ports) e) (ap (λ (pm : PmState). pm.ports) e)
   given_keeps (Notice at due is e) = keeps_all old new (ap (λ (pm : PmState). pm.registers.ports) e) (ap (λ (pm : PmState). pm.ports) e)
   given_keeps (Answer at is e) = keeps_all old new (ap (λ (pm : PmState). pm.registers.ports) e) (ap (λ (pm : PmState). pm.ports) e)
 
@@ -113,10 +115,11 @@ up_rule_keeps old new (Err e) h = KeepsPorts-same old new h.2
 pub down_rule_sound : (old new : PmState) (n : ℕ) (result : Option Stamped) → IsSound old → NextDownRule old n result new → IsSound new
 down_rule_sound old new n (Some frame) sound h =
     let low : PmState = with_port old n (port.with_down (port_at old n) None) in
-    subst IsSound (sym h.1) (rest_sound low old.answer old.served old.number old.dropped old.resetting _ (down_sound old n None sound) sound.answer sound.served tt)
+    let empty : IsSound low = down_sound old n None sound (λ f e. absurd cc) in
+    subst IsSound (sym h.1) (rest_sound low old.answer old.served old.number old.dropped old.resetting _ empty sound.answer empty.shows sound.served tt)
 down_rule_sound old new n None sound h = subst IsSound (sym h.1) sound
 
 pub down_rule_keeps : (old new : PmState) (n : ℕ) (result : Option Stamped) → NextDownRule old n result new → KeepsPorts old new
 down_rule_keeps old new n (Some frame) h =
-    keeps_set old new n (port.with_down (port_at old n) None) refl refl (ap (λ (pm : PmState). pm.registers.ports) h.1) (ap (λ (pm : PmState). pm.ports) h.1)
+    keeps_set old new n (port.with_down (port_at old n) None) refl refl refl (ap (λ (pm : PmState). pm.registers.ports) h.1) (ap (λ (pm : PmState). pm.ports) h.1)
 down_rule_keeps old new n None h = KeepsPorts-same old new h.1

@@ -1,10 +1,14 @@
 pub mod ArbiterLemmas
 pub mod Holds
 pub mod Ports
+pub mod Gone
 pub mod Sound
 pub mod GiveLemmas
 pub mod PutBack
 pub mod UpSteps
 pub mod PassingLemmas
+pub mod Removals
+pub mod OrderLemmas
+pub mod StampLemmas
 pub mod TurnLemmas
 pub mod Forwarding

@@ -14,7 +14,7 @@ use Rattle.multiplier.specs.declared.given.Given.{Given}
 use Rattle.multiplier.specs.declared.given.Source.TheVariants as source
 use Rattle.multiplier.proofs.ArbiterLemmas.{different}
 use Rattle.multiplier.proofs.Ports.{has_down, has_up}
-use Rattle.multiplier.proofs.GiveLemmas.{Gives, FromPort, Notice, Answer, gives, given_sound, lowered, place_small, up_rule_keeps, down_rule_keeps}
+use Rattle.multiplier.proofs.GiveLemmas.{Gives, FromPort, Notice, Answer, gives, given_keeps, given_sound, lowered, place_small, up_rule_keeps, down_rule_keeps}
 
 gives_only : (test : Bool) (frame was : Stamped) → port.only_if test frame ≡ Some was → Some frame ≡ Some was
 gives_only true frame was e = e
@@ -93,7 +93,7 @@ undone_up pm new frame can e before rule = e ∙ back_undoes pm frame can before
 
 -- ports before and after a frame are the same
 back_keeps : (before pm new : PmState) → KeepsPorts before pm → new ≡ settled before → KeepsPorts pm new
-back_keeps before pm new keeps e = rw e (record { count = sym keeps.count; present = λ n. sym (keeps.present n); last = λ n. sym (keeps.last n) })
+back_keeps before pm new keeps e = rw e (record { count = sym keeps.count; present = λ n. sym (keeps.present n); last = λ n. sym (keeps.last n); gone = λ n. sym (keeps.gone n) })
 
 pub undone_up_keeps : (pm new : PmState) (frame : Stamped) → CanPutBackUp pm frame → UndoesUp pm frame new → KeepsPorts pm new
 undone_up_keeps pm new frame can undoes = back_keeps can.0 pm new (up_rule_keeps can.0 pm (Ok (Some frame)) can.2) (undoes can.0 can.2)
@@ -111,6 +111,10 @@ down_empty pm n frame can =
     let low : port.PortState = port.with_down (port_at can.0 n) None in
     ap (λ (m : PmState). (port_at m n).down) can.2.1
     ∙ ap (λ (p : port.PortState). p.down) (get_or-set_same can.0.ports n low port.empty_port (has_down can.0.ports n frame can.2.0))
+
+-- it is for the connection that is present
+pub down_present : (pm : PmState) (n : ℕ) (frame : Stamped) → CanPutBackDown pm n frame → (port_at pm n).present ≡ Some frame.stamp.conn
+down_present pm n frame can = (down_rule_keeps can.0 pm n (Some frame) can.2).present n ∙ (can.1.ports n).meant frame can.2.0
 
 pub undone_down : (pm new : PmState) (n : ℕ) (frame : Stamped) → new ≡ with_port pm n (port.with_down (port_at pm n) (Some frame)) → UndoesDown pm n frame new
 undone_down pm new n frame is before rule =
@@ -136,10 +140,15 @@ module _ (pm : PmState) (frame : Stamped) where
       let there : n < length before.ports = has_up before.ports n f (gives_held (map.forwards before.registers n) q.present q.up f is) in
       let empty : (port_at pm n).up ≡ None =
       ap (λ (m : PmState). (port_at m n).up) e ∙ ap (λ (p : port.PortState). p.up) (get_or-set_same before.ports n (port.with_up q None) port.empty_port there) in
+      let gone : (port_at pm pm.served).gone ≡ q.gone = (given_keeps before frame pm (FromPort n f at other is stamped rises e)).gone pm.served ∙ ap (λ (k : ℕ). (port_at before k).gone) served in
+      let stays : port.is_gone (port_at pm pm.served) frame.stamp.conn ≡ false =
+      ap (λ (g : ℕ). port.is_up_to g frame.stamp.conn) gone ∙ ap (λ (g : Stamped). port.is_gone q g.stamp.conn) rises
+      ∙ (sound.ports n).stays f (gives_held (map.forwards before.registers n) q.present q.up f is) in
       subst (λ (g : Option Given). HasRoomFor pm frame g) (sym (ap (λ (m : PmState). m.given) e))
-      (sound.served, (omega arith, omega arith, ap (λ (k : ℕ). (port_at pm k).up) served ∙ empty, ap (λ (g : Stamped). g.stamp.port) rises ∙ sym served))
+      (sound.served, (omega arith, omega arith, ap (λ (k : ℕ). (port_at pm k).up) served ∙ empty, ap (λ (g : Stamped). g.stamp.port) rises ∙ sym served, stays))
   room_by before sound (Notice at due is e) = subst (λ (g : Option Given). HasRoomFor pm frame g) (sym (ap (λ (m : PmState). m.given) e)) (sound.served, tt)
-  room_by before sound (Answer at is e) = subst (λ (g : Option Given). HasRoomFor pm frame g) (sym (ap (λ (m : PmState). m.given) e)) (sound.served, sound.answer frame is)
+  room_by before sound (Answer at is e) = subst (λ (g : Option Given). HasRoomFor pm frame g) (sym (ap (λ (m : PmState). m.given) e))
+      (sound.served, (sound.answer frame is, λ k. subst (λ (m : PmState). slice_index frame.stamp.shown k ≤ (port_at m k).gone) (sym e) (sound.shows frame is k)))
 
   pub has_room : CanPutBackUp pm frame → HasRoomFor pm frame pm.given
   has_room can = room_by can.0 can.1 (gives can.0 frame pm can.2)

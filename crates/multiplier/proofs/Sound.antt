@@ -1,9 +1,9 @@
 -- Each call leaves a sound multiplier.
 use Rattle.std.proofs.Common.{◌≡◌, ◌≢◌, ℕ, zero, suc, ◌<◌, ◌≤◌, ◌==◌, ◌&&◌, Bool, true, false, List, length, replicate, slice_index, Option, Some, None, Result, Ok, Err, refl, sym, ap, ◌∙◌, subst, arith, inl, inr}
-use Rattle.std.specs.Prelude.{if◌then◌else◌, slice_set, slice_index_or, is_some, nat_le}
-use Rattle.std.proofs.lemmas.Bool.{cases_eq, eq-eqb, ne_eqb, le-leb}
+use Rattle.std.specs.Prelude.{if◌then◌else◌, slice_set, slice_index_or, is_some}
+use Rattle.std.proofs.lemmas.Bool.{cases_eq, eq-eqb, ne_eqb}
 use Rattle.std.proofs.lemmas.Option.{same_Some}
-use Rattle.std.proofs.lemmas.List.{length-set, get_or-set_other}
+use Rattle.std.proofs.lemmas.List.{length-set, get_or-set_other, get_or_read}
 use Rattle.fis_view.specs.Frames.{Stamped}
 use Rattle.fis_view.specs.declared.frame.Stamp.{Stamp}
 use Rattle.fis_view.specs.declared.build.D2hFields.{D2hFields}
@@ -13,21 +13,21 @@ use Rattle.fis_view.specs.declared.view.FisFault.{FisFault}
 use Rattle.fis_view.specs.Table.{Kind, H2d, D2h, Activate, Setup, Data, Pio, Bits, Other}
 use Rattle.fis_view.specs.Seen.{seen, kind_of, kind_of_type, may_have, view_as}
 use Rattle.pm_registers.specs.RegisterMap as map
-use Rattle.pm_registers.specs.Port.{opening_port, inserted, ShowsTruly}
+use Rattle.pm_registers.specs.Port.{opening_port, inserted, removed, ShowsTruly}
 use Rattle.pm_registers.specs.declared.port.PortRegisters.{PortRegisters}
 use Rattle.pm_registers.proofs.ShownLemmas.{keeps_sound, write_sound, write_devices}
-use Rattle.pm_registers.specs.Calls.{Inserts}
-use Rattle.pm_ports.specs.declared.port.PortError.TheVariants.{AlreadyThere, OldConnection}
+use Rattle.pm_registers.specs.Calls.{Inserts, Removes}
 use Rattle.pm_control.specs.Answers.{IsAnswer, IsNotice, registers_left, registers_after_request}
 use Rattle.pm_control.specs.Requests.{request_in}
 use Rattle.pm_control.specs.declared.request.Request.{Request}
 use Rattle.pm_control.specs.declared.request.Request.TheVariants.{Read, Write, Unknown, Reset, EndReset}
 use Rattle.pm_ports.specs.Port as port
 use Rattle.multiplier.specs.Arbiter.{control_port}
-use Rattle.multiplier.specs.State.{PmState, IsSound, IsSoundPort, IsPlace, is_answer, is_notice, port_at, with_port, settled, stamped, opening}
-use Rattle.multiplier.specs.Rules.{with_device}
+use Rattle.multiplier.specs.State.{PmState, IsSound, IsSoundPort, IsPlace, ShowsRecorded, control_stamp, is_answer, is_notice, port_at, with_port, settled, stamped, opening}
+use Rattle.multiplier.specs.Rules.{with_device, without_device}
 use Rattle.multiplier.specs.declared.given.Given.{Given}
 use Rattle.multiplier.proofs.Ports.{at, each_port, this_port, other_port}
+use Rattle.multiplier.proofs.Gone.{accepted, came_port, goes, gone_port, removal_at}
 
 -- ---- types of FIS
 
@@ -128,6 +128,20 @@ answer_is (Some fields) stamp port (Some f) is frame e =
     let same : f ≡ frame = same_Some f frame e in
     subst (λ (g : Stamped). is_answer g ≡ true) same (of_type f 0x34 (ap (λ (s : Stamp). s.port) is.1 ∙ port) (seen_d2h f.bytes is.0.viewed))
 
+-- it shows what its stamp does
+pub answer_shows : (pm : PmState) (fields : Option D2hFields) (stamp : Stamp) → ShowsRecorded pm stamp → (answer : Option Stamped) → IsAnswer fields stamp answer
+    → (frame : Stamped) → answer ≡ Some frame → ShowsRecorded pm frame.stamp
+answer_shows pm None stamp shows None is frame e = absurd cc
+answer_shows pm None stamp shows (Some f) is frame e = absurd is
+answer_shows pm (Some fields) stamp shows None is frame e = absurd is
+answer_shows pm (Some fields) stamp shows (Some f) is frame e =
+    let same : f ≡ frame = same_Some f frame e in
+    subst (ShowsRecorded pm) (sym is.1 ∙ ap (λ (g : Stamped). g.stamp) same) shows
+
+-- what a FIS of the control port shows is recorded
+pub stamp_shows : (pm : PmState) → ShowsRecorded pm (control_stamp pm)
+stamp_shows pm n = let e = removal_at pm.ports n in omega arith
+
 pub notice_is : (stamp : Stamp) → stamp.port ≡ control_port → (frame : Stamped) → IsNotice true stamp (Some frame) → is_notice frame ≡ true
 notice_is stamp port frame is = of_type frame 0xA1 (ap (λ (s : Stamp). s.port) is.1 ∙ port) (seen_bits frame.bytes is.0.viewed)
 
@@ -156,65 +170,106 @@ request_devices m (Some EndReset) n = refl
 
 -- where the registers show the same devices
 shows_as : (n : ℕ) (shown now : Bool) (p : port.PortState) → now ≡ shown → IsSoundPort n shown p → IsSoundPort n now p
-shows_as n shown now p e is = record { sound = is.sound; agrees = e ∙ is.agrees; stamped = is.stamped }
+shows_as n shown now p e is = record { sound = is.sound; agrees = e ∙ is.agrees; stamped = is.stamped; stays = is.stays; meant = is.meant }
 
 pub answered_sound : (pm : PmState) (m : map.RegisterMap) (resetting : Bool) (answer : Option Stamped) (number : ℕ) (given : Option Given) (bytes : List ℕ) → IsSound pm → m ≡ registers_left pm.registers bytes
-    → ((frame : Stamped) → answer ≡ Some frame → is_answer frame ≡ true) → IsPlace given
+    → ((frame : Stamped) → answer ≡ Some frame → is_answer frame ≡ true) → ((frame : Stamped) → answer ≡ Some frame → ShowsRecorded pm frame.stamp) → IsPlace given
     → IsSound (record pm { registers = m; resetting = resetting; answer = answer; number = number; given = given })
-answered_sound pm m resetting answer number given bytes sound is answers place = record {
+answered_sound pm m resetting answer number given bytes sound is answers shows place = record {
   served = sound.served;
   registers = subst map.IsSound (sym is) (request_sound pm.registers (request_in bytes) sound.registers);
   room = sound.room;
   ports = λ n. shows_as n _ _ (port_at pm n) (ap (λ (r : map.RegisterMap). (map.port_at r n).present) is ∙ request_devices pm.registers (request_in bytes) n) (sound.ports n);
   answer = answers;
+  shows = shows;
   given = place;
 }
 
+-- what is shown stays recorded where a port records no less
+shows_on : (pm : PmState) (n : ℕ) (p : port.PortState) → (port_at pm n).gone ≤ p.gone → (stamp : Stamp) → ShowsRecorded pm stamp → (k : ℕ) → slice_index stamp.shown k ≤ (at (slice_set pm.ports n p) k).gone
+shows_on pm n p grows stamp shows k =
+    let before : slice_index stamp.shown k ≤ (at pm.ports k).gone = shows k in
+    let grown : (at pm.ports k).gone ≤ (at (slice_set pm.ports n p) k).gone = each_port (λ j q. (at pm.ports j).gone ≤ q.gone) pm.ports n p grows (λ j. omega arith) k in
+    omega arith
+
 -- another state of a port that is as sound
-pub set_sound : (pm : PmState) (n : ℕ) (p : port.PortState) → IsSound pm → IsSoundPort n (map.port_at pm.registers n).present p → IsSound (with_port pm n p)
-set_sound pm n p sound is = record {
+pub set_sound : (pm : PmState) (n : ℕ) (p : port.PortState) → IsSound pm → IsSoundPort n (map.port_at pm.registers n).present p → (port_at pm n).gone ≤ p.gone → IsSound (with_port pm n p)
+set_sound pm n p sound is grows = record {
   served = sound.served;
   registers = sound.registers;
   room = length-set pm.ports n p ∙ sound.room;
   ports = each_port (λ k q. IsSoundPort k (map.port_at pm.registers k).present q) pm.ports n p is sound.ports;
   answer = sound.answer;
+  shows = λ frame e. shows_on pm n p grows frame.stamp (sound.shows frame e);
   given = tt;
 }
 
--- other frames in its places: one that waits to go up has the port's stamp
+-- other frames in its places: one that waits to go up has the port's stamp and is of no connection that is gone, and one that
+-- waits to go down is for the connection that is present
+abbrev MayRise : ℕ → port.PortState → Option Stamped → Type 0
+MayRise n p up = (frame : Stamped) → up ≡ Some frame → (frame.stamp.port ≡ n) × (port.is_gone p frame.stamp.conn ≡ false)
+
+abbrev MayFall : port.PortState → Option Stamped → Type 0
+MayFall p down = (frame : Stamped) → down ≡ Some frame → p.present ≡ Some frame.stamp.conn
+
 pub places_sound : (n : ℕ) (shown : Bool) (p : port.PortState) (up down : Option Stamped) → IsSoundPort n shown p
-    → ((frame : Stamped) → up ≡ Some frame → frame.stamp.port ≡ n) → IsSoundPort n shown (record p { up = up; down = down })
-places_sound n shown p up down is stamped = record {
-  sound = record { counted = is.sound.counted; last = is.sound.last };
+    → MayRise n p up → MayFall p down → IsSoundPort n shown (record p { up = up; down = down })
+places_sound n shown p up down is rises falls = record {
+  sound = record { counted = is.sound.counted; last = is.sound.last; above = is.sound.above; away = is.sound.away };
   agrees = is.agrees;
-  stamped = stamped;
+  stamped = λ frame e. (rises frame e).0;
+  stays = λ frame e. (rises frame e).1;
+  meant = falls;
 }
 
-pub down_sound : (pm : PmState) (n : ℕ) (down : Option Stamped) → IsSound pm → IsSound (with_port pm n (port.with_down (port_at pm n) down))
-down_sound pm n down sound = set_sound pm n _ sound (places_sound n _ (port_at pm n) (port_at pm n).up down (sound.ports n) (sound.ports n).stamped)
+pub down_sound : (pm : PmState) (n : ℕ) (down : Option Stamped) → IsSound pm → MayFall (port_at pm n) down → IsSound (with_port pm n (port.with_down (port_at pm n) down))
+down_sound pm n down sound falls =
+    let is = sound.ports n in
+    set_sound pm n _ sound (places_sound n _ (port_at pm n) (port_at pm n).up down is (λ frame e. (is.stamped frame e, is.stays frame e)) falls) (omega arith)
 
-pub up_sound : (pm : PmState) (n : ℕ) (up : Option Stamped) → IsSound pm → ((frame : Stamped) → up ≡ Some frame → frame.stamp.port ≡ n)
-    → IsSound (with_port pm n (port.with_up (port_at pm n) up))
-up_sound pm n up sound stamped = set_sound pm n _ sound (places_sound n _ (port_at pm n) up (port_at pm n).down (sound.ports n) stamped)
+pub up_sound : (pm : PmState) (n : ℕ) (up : Option Stamped) → IsSound pm → MayRise n (port_at pm n) up → IsSound (with_port pm n (port.with_up (port_at pm n) up))
+up_sound pm n up sound rises = set_sound pm n _ sound (places_sound n _ (port_at pm n) up (port_at pm n).down (sound.ports n) rises (sound.ports n).meant) (omega arith)
 
-pub kept_sound : (pm : PmState) (n : ℕ) (frame : Stamped) → IsSound pm → IsSound (with_port pm n (port.with_up (port_at pm n) (Some (stamped n frame))))
-kept_sound pm n frame sound = up_sound pm n _ sound (λ f e. ap (λ (g : Stamped). g.stamp.port) (sym (same_Some (stamped n frame) f e)))
+-- a frame that waited to go up was taken
+pub taken_sound : (pm : PmState) (n : ℕ) → IsSound pm → IsSound (record pm { ports = slice_set pm.ports n (port.with_up (port_at pm n) None) })
+taken_sound pm n sound =
+    let low : IsSound (with_port pm n (port.with_up (port_at pm n) None)) = up_sound pm n None sound (λ frame e. absurd cc) in
+    record { served = low.served; registers = low.registers; room = low.room; ports = low.ports; answer = low.answer; shows = low.shows; given = sound.given }
+
+-- the same of a port that was lent as p and is q now
+at_default : (pm : PmState) (m : ℕ) (p : port.PortState) → IsSound pm → m < 15 → p ≡ slice_index_or pm.ports m p → slice_index_or pm.ports m p ≡ port_at pm m
+at_default pm m p sound small here =
+    let room : length pm.ports ≡ 15 = sound.room in
+    sym here ∙ get_or_read pm.ports m p (omega arith) here port.empty_port
+
+pub lent_sound : (pm : PmState) (m : ℕ) (p q : port.PortState) → IsSound pm → m < 15 → p ≡ slice_index_or pm.ports m p → q ≡ port.with_up (slice_index_or pm.ports m p) None
+    → IsSound (record pm { ports = slice_set pm.ports m q })
+lent_sound pm m p q sound small here is =
+    let now : q ≡ port.with_up (port_at pm m) None = is ∙ ap (λ (r : port.PortState). port.with_up r None) (at_default pm m p sound small here) in
+    subst (λ (r : port.PortState). IsSound (record pm { ports = slice_set pm.ports m r })) (sym now) (taken_sound pm m sound)
+
+pub kept_sound : (pm : PmState) (n : ℕ) (frame : Stamped) → IsSound pm → port.is_gone (port_at pm n) frame.stamp.conn ≡ false → IsSound (with_port pm n (port.with_up (port_at pm n) (Some (stamped n frame))))
+kept_sound pm n frame sound stays =
+    up_sound pm n _ sound (λ f e.
+    let same : stamped n frame ≡ f = same_Some (stamped n frame) f e in
+    (ap (λ (g : Stamped). g.stamp.port) (sym same), ap (λ (g : Stamped). port.is_gone (port_at pm n) g.stamp.conn) (sym same) ∙ stays))
 
 -- the parts that are no port
 pub rest_sound : (pm : PmState) (answer : Option Stamped) (served number dropped : ℕ) (resetting : Bool) (given : Option Given) → IsSound pm
-    → ((frame : Stamped) → answer ≡ Some frame → is_answer frame ≡ true) → served ≤ control_port → IsPlace given
+    → ((frame : Stamped) → answer ≡ Some frame → is_answer frame ≡ true) → ((frame : Stamped) → answer ≡ Some frame → ShowsRecorded pm frame.stamp) → served ≤ control_port → IsPlace given
     → IsSound (record pm { answer = answer; served = served; number = number; dropped = dropped; resetting = resetting; given = given })
-rest_sound pm answer served number dropped resetting given sound answers place leave = record {
+rest_sound pm answer served number dropped resetting given sound answers shows place leave = record {
   served = place;
   registers = sound.registers;
   room = sound.room;
   ports = sound.ports;
   answer = answers;
+  shows = shows;
   given = leave;
 }
 
 pub settled_sound : (pm : PmState) → IsSound pm → IsSound (settled pm)
-settled_sound pm sound = rest_sound pm pm.answer pm.served pm.number pm.dropped pm.resetting None sound sound.answer sound.served tt
+settled_sound pm sound = rest_sound pm pm.answer pm.served pm.number pm.dropped pm.resetting None sound sound.answer sound.shows sound.served tt
 
 -- a notification is due or not
 pub due_sound : (pm : PmState) (due : Bool) → IsSound pm → IsSound (record pm { registers = record pm.registers { due = due } })
@@ -224,6 +279,7 @@ due_sound pm due sound = record {
   room = sound.room;
   ports = sound.ports;
   answer = sound.answer;
+  shows = sound.shows;
   given = sound.given;
 }
 
@@ -234,11 +290,14 @@ opens_sound ports most = record {
   registers = record { ports = most; bank = refl; shown = λ n. subst ShowsTruly (sym (opening_at 15 n)) (λ e. absurd (omega (arith, e))) };
   room = refl;
   ports = λ n. record {
-    sound = subst port.IsSound (sym (empty_at 15 n)) (record { counted = λ conn e. absurd cc; last = λ conn e. absurd cc });
+    sound = subst port.IsSound (sym (empty_at 15 n)) (record { counted = λ conn e. absurd cc; last = λ conn e. absurd cc; above = λ conn e. absurd cc; away = λ e. refl });
     agrees = ap (λ (p : PortRegisters). p.present) (opening_at 15 n) ∙ sym (ap (λ (p : port.PortState). is_some p.present) (empty_at 15 n));
     stamped = λ frame e. let none : None ≡ Some frame = sym (ap (λ (p : port.PortState). p.up) (empty_at 15 n)) ∙ e in absurd cc;
+    stays = λ frame e. let none : None ≡ Some frame = sym (ap (λ (p : port.PortState). p.up) (empty_at 15 n)) ∙ e in absurd cc;
+    meant = λ frame e. let none : None ≡ Some frame = sym (ap (λ (p : port.PortState). p.down) (empty_at 15 n)) ∙ e in absurd cc;
   };
   answer = λ frame e. absurd cc;
+  shows = λ frame e. absurd cc;
   given = tt;
 }
   where
@@ -252,40 +311,70 @@ opens_sound ports most = record {
     opening_at (suc count) zero = refl
     opening_at (suc count) (suc n) = opening_at count n
 
--- ---- a device that came
+-- ---- a device that came or went
 
-came_port : (n conn : ℕ) (p : port.PortState) → IsSoundPort n (is_some p.present) p → 0 < conn → IsSoundPort n true (port.with_connection p conn)
-came_port n conn p is some = record {
-  sound = record { counted = λ c e. let same : conn ≡ c = same_Some conn c e in omega arith; last = λ c e. sym (same_Some conn c e) };
-  agrees = refl;
-  stamped = is.stamped;
-}
+-- one port was written, and what the registers show of a device there
+module _ (pm : PmState) (n : ℕ) (q : PortRegisters) (now : port.PortState) (sound : IsSound pm) (small : n < 15) where
+  others_registers : (k : ℕ) → k ≢ n → (slice_index_or (slice_set pm.registers.bank n q) k opening_port).present ≡ (map.port_at pm.registers k).present
+  others_registers k other = ap (λ (r : PortRegisters). r.present) (get_or-set_other pm.registers.bank n k q opening_port other)
 
--- a connection that is not refused is not 0
-accepted_by : (there : Bool) (conn last : ℕ) → (if there then Some AlreadyThere else if nat_le conn last then Some OldConnection else None) ≡ None → 0 < conn
-accepted_by true conn last e = absurd cc
-accepted_by false zero last e = absurd (let first : nat_le 0 last ≡ true = le-leb 0 last (omega arith) in cc)
-accepted_by false (suc conn) last e = omega arith
+  pub device_ports : (m : map.RegisterMap) (shown : Bool) → m.bank ≡ slice_set pm.registers.bank n q → (map.port_at m n).present ≡ shown → IsSoundPort n shown now
+      → (k : ℕ) → IsSoundPort k (map.port_at m k).present (at (slice_set pm.ports n now) k)
+  device_ports m shown bank shows is k =
+      elim (cases_eq k n) [
+        | inl here ↦ subst (λ (j : ℕ). IsSoundPort j (map.port_at m j).present (at (slice_set pm.ports n now) j)) (sym here)
+            (subst (λ (p : port.PortState). IsSoundPort n (map.port_at m n).present p) (sym (this_port pm.ports n now (let r : length pm.ports ≡ 15 = sound.room in omega arith))) (shows_as n _ _ now shows is))
+        | inr other ↦
+            subst (λ (p : port.PortState). IsSoundPort k (map.port_at m k).present p) (sym (other_port pm.ports n k now other))
+            (shows_as k _ _ (port_at pm k) (ap (λ bs. (slice_index_or bs k opening_port).present) bank ∙ others_registers k other) (sound.ports k))
+      ]
 
 pub came_sound : (pm : PmState) (n conn : ℕ) → IsSound pm → n < 15 → port.came_refusal (port_at pm n) conn ≡ None → IsSound (with_device pm n conn)
-came_sound pm n conn sound small accepted =
+came_sound pm n conn sound small lets =
     let registers : map.RegisterMap = map.after_insert pm.registers n in
     let kept = keeps_sound pm.registers (Inserts n) sound.registers in
     let now : port.PortState = port.with_connection (port_at pm n) conn in
-    let room : n < length pm.ports = (let r : length pm.ports ≡ 15 = sound.room in omega arith) in
     let shows : (map.port_at registers n).present ≡ true = kept.1 n small ∙ rw (eq-eqb n n refl) refl in
-    let came : IsSoundPort n true now = came_port n conn (port_at pm n) (shows_as n _ _ (port_at pm n) (sym (sound.ports n).agrees) (sound.ports n)) (accepted_by _ conn (port_at pm n).last accepted) in
+    let may = accepted (port_at pm n) conn lets in
+    let came : IsSoundPort n true now = came_port n conn (port_at pm n) (shows_as n _ _ (port_at pm n) (sym (sound.ports n).agrees) (sound.ports n)) may.0 may.1 in
     record {
       served = sound.served;
       registers = kept.0;
       room = length-set pm.ports n now ∙ sound.room;
-      ports = λ k. elim (cases_eq k n) [
-        | inl here ↦ subst (λ (j : ℕ). IsSoundPort j (map.port_at registers j).present (at (slice_set pm.ports n now) j)) (sym here)
-            (subst (λ (q : port.PortState). IsSoundPort n (map.port_at registers n).present q) (sym (this_port pm.ports n now room)) (shows_as n _ _ now shows came))
-        | inr other ↦
-            subst (λ (q : port.PortState). IsSoundPort k (map.port_at registers k).present q) (sym (other_port pm.ports n k now other))
-            (shows_as k _ _ (port_at pm k) (ap (λ (q : PortRegisters). q.present) (get_or-set_other pm.registers.bank n k (inserted (map.port_at pm.registers n)) opening_port other)) (sound.ports k))
-      ];
+      ports = device_ports pm n (inserted (map.port_at pm.registers n)) now sound small registers true refl shows came;
       answer = sound.answer;
+      shows = λ frame e. shows_on pm n now (omega arith) frame.stamp (sound.shows frame e);
       given = tt;
     }
+
+-- whatever is counted as dropped
+pub gone_sound : (pm : PmState) (n conn dropped : ℕ) → IsSound pm → n < 15 → port.gone_refusal (port_at pm n) conn ≡ None → IsSound (record (without_device pm n conn) { dropped = dropped })
+gone_sound pm n conn dropped sound small lets =
+    let registers : map.RegisterMap = map.after_remove pm.registers n in
+    let kept = keeps_sound pm.registers (Removes n) sound.registers in
+    let now : port.PortState = port.with_removal (port_at pm n) conn in
+    let shows : (map.port_at registers n).present ≡ false = kept.1 n small ∙ rw (eq-eqb n n refl) refl in
+    let there : (port_at pm n).present ≡ Some conn = goes (port_at pm n) conn lets in
+    let went : IsSoundPort n false now = gone_port n conn _ (port_at pm n) (sound.ports n) there in
+    let above : (port_at pm n).gone < conn = (sound.ports n).sound.above conn there in
+    record {
+      served = sound.served;
+      registers = kept.0;
+      room = length-set pm.ports n now ∙ sound.room;
+      ports = device_ports pm n (removed (map.port_at pm.registers n)) now sound small registers false refl shows went;
+      answer = sound.answer;
+      shows = λ frame e. shows_on pm n now (omega arith) frame.stamp (sound.shows frame e);
+      given = tt;
+    }
+
+-- the same of a port that was lent as p and is q now
+pub left_sound : (pm : PmState) (n m conn dropped : ℕ) (p q : port.PortState) (registers : map.RegisterMap) → IsSound pm → m ≡ n → n < 15 → p ≡ slice_index_or pm.ports m p
+    → None ≡ port.gone_refusal (slice_index_or pm.ports m p) conn → q ≡ port.with_removal (slice_index_or pm.ports m p) conn → registers ≡ map.after_remove pm.registers n
+    → IsSound (record pm { registers = registers; ports = slice_set pm.ports m q; dropped = dropped; given = None })
+left_sound pm n m conn dropped p q registers sound same small here lets is gone =
+    let there : slice_index_or pm.ports m p ≡ port_at pm m = at_default pm m p sound (omega arith) here in
+    let now : q ≡ port.with_removal (port_at pm m) conn = is ∙ ap (λ (r : port.PortState). port.with_removal r conn) there in
+    let accepts : port.gone_refusal (port_at pm m) conn ≡ None = ap (λ (r : port.PortState). port.gone_refusal r conn) (sym there) ∙ sym lets in
+    let removed : registers ≡ map.after_remove pm.registers m = gone ∙ ap (map.after_remove pm.registers) (sym same) in
+    subst (λ (w : port.PortState × map.RegisterMap). IsSound (record pm { registers = w.1; ports = slice_set pm.ports m w.0; dropped = dropped; given = None }))
+    (λ i. (sym now i, sym removed i)) (gone_sound pm m conn dropped sound (omega arith) accepts)

@@ -6,20 +6,22 @@ use Rattle.fis_view.specs.Frames.{Stamped}
 use Rattle.fis_view.specs.declared.frame.Stamp.{Stamp}
 use Rattle.pm_ports.specs.declared.port.Offered.{Offered}
 use Rattle.pm_ports.specs.declared.port.Offered.TheVariants as offered
+use Rattle.pm_ports.specs.declared.port.GoneError.{GoneError}
 use Rattle.pm_ports.specs.declared.port.PortError.{PortError}
 use Rattle.multiplier.specs.Arbiter.{control_port}
 use Rattle.multiplier.specs.State.{PmState, IsSound, IsPlace, ready, next_place, passes_to, pm_port, settled}
-use Rattle.multiplier.specs.Rules.{FromHostRule, FromDeviceRule, CameRule, NextDownRule, ToControl, ToDevice, ToNobody}
+use Rattle.multiplier.specs.Rules.{FromHostRule, FromDeviceRule, CameRule, GoneRule, NextDownRule, ToControl, ToDevice, ToNobody}
 use Rattle.multiplier.specs.declared.given.Given.{Given}
 use Rattle.multiplier.specs.declared.given.Given.TheVariants.{Up, Down}
 use Rattle.multiplier.specs.declared.given.Source.{Source}
 use Rattle.multiplier.specs.declared.multiplier.Passed.{Passed}
 use Rattle.multiplier.specs.declared.multiplier.Passed.TheVariants as passed
 use Rattle.multiplier.specs.declared.multiplier.PmRefusal.{PmRefusal}
-use Rattle.multiplier.specs.Passing.{Call, FromHost, FromDevice, Came, NextUp, PutBackUp, NextDown, PutBackDown, Does, Runs, Past, Suits, PassesOver, past_after, all_past, but_last}
+use Rattle.multiplier.specs.Passing.{Call, FromHost, FromDevice, Came, Gone, NextUp, PutBackUp, NextDown, PutBackDown, Does, Runs, Past, Suits, PassesOver, past_after, all_past, but_last}
 use Rattle.multiplier.proofs.ArbiterLemmas.{WaitsAtMost, waits_some, Nearer, nearer}
 use Rattle.multiplier.proofs.GiveLemmas.{Gives, FromPort, Notice, Answer, gives}
-use Rattle.multiplier.proofs.PassingLemmas.{IsStep, one_step, last_gone}
+use Rattle.multiplier.proofs.PassingLemmas.{last_gone}
+use Rattle.multiplier.proofs.Removals.{IsStep, one_step}
 
 -- so many frames went up; with the turns of others that can pass before the place is served they are within the limit,
 -- and so they are once the last one is put back
@@ -78,6 +80,10 @@ no_turn_offer old new n frame (Err frame') rule = no_turn_same old new rule.3
 no_turn_came : (old new : PmState) (n conn : ℕ) (result : Result (Unit {0}) PortError) → CameRule old n conn result new → IsNoTurn old new
 no_turn_came old new n conn (Ok done) rule = no_turn_settled old new (ap (λ (pm : PmState). pm.served) rule.1) (ap (λ (pm : PmState). pm.given) rule.1)
 no_turn_came old new n conn (Err error) rule = no_turn_same old new rule.1
+
+no_turn_gone : (old new : PmState) (n conn : ℕ) (result : Result (Unit {0}) GoneError) → GoneRule old n conn result new → IsNoTurn old new
+no_turn_gone old new n conn (Ok done) rule = no_turn_settled old new (ap (λ (pm : PmState). pm.served) rule.1) (ap (λ (pm : PmState). pm.given) rule.1)
+no_turn_gone old new n conn (Err error) rule = no_turn_same old new rule.1
 
 no_turn_down : (old new : PmState) (n : ℕ) (result : Option Stamped) → NextDownRule old n result new → IsNoTurn old new
 no_turn_down old new n (Some frame) rule = record {
@@ -156,6 +162,7 @@ module _ (place limit : ℕ) (small : place ≤ control_port) where
   one_call past old (FromHost frame result made) new sound suits does within = stays place limit (length past.up) old new (no_turn_host old new frame result does.0) within
   one_call past old (FromDevice n frame result) new sound suits does within = stays place limit (length past.up) old new (no_turn_offer old new n frame result does.1) within
   one_call past old (Came n conn result) new sound suits does within = stays place limit (length past.up) old new (no_turn_came old new n conn result does.1) within
+  one_call past old (Gone n conn result up down) new sound suits does within = stays place limit (length past.up) old new (no_turn_gone old new n conn result does.1) within
   one_call past old (NextUp (Ok (Some frame))) new sound suits does within = passed_over past.up old frame new sound (turn old frame new (gives old frame new does.0)) does.1 does.2 within
   one_call past old (NextUp (Ok None)) new sound suits does within = stays place limit (length past.up) old new (no_turn_same old new does.1) within
   one_call past old (NextUp (Err e)) new sound suits does within = stays place limit (length past.up) old new (no_turn_same old new does.2) within
@@ -171,6 +178,7 @@ module _ (place limit : ℕ) (small : place ≤ control_port) where
   as_does old (FromHost frame result made) new does = does
   as_does old (FromDevice n frame result) new does = does
   as_does old (Came n conn result) new does = does
+  as_does old (Gone n conn result up down) new does = does
   as_does old (NextUp (Ok (Some frame))) new does = does.0
   as_does old (NextUp (Ok None)) new does = does
   as_does old (NextUp (Err e)) new does = does

@@ -10,12 +10,12 @@ use Rattle.fis_view.specs.declared.frame.Stamp.{Stamp}
 use Rattle.pm_registers.specs.RegisterMap as map
 use Rattle.pm_ports.specs.Port as port
 use Rattle.multiplier.specs.Arbiter.{control_port}
-use Rattle.multiplier.specs.State.{PmState, IsSound, port_at, held, rising, control_stamp, counted, is_answer, is_notice}
+use Rattle.multiplier.specs.State.{PmState, IsSound, ShowsRecorded, port_at, held, rising, control_stamp, counted, is_answer, is_notice}
 use Rattle.multiplier.specs.Rules.{KeepsPorts, held_source, may_go_back}
 use Rattle.multiplier.specs.Passing.{of_conn, held_of, falls_to, answers}
 use Rattle.multiplier.proofs.ArbiterLemmas.{different}
 use Rattle.multiplier.proofs.Ports.{Ports, at, kept_part, this_port, other_port, has_up}
-use Rattle.multiplier.proofs.Sound.{notice_is, notice_is_no_answer}
+use Rattle.multiplier.proofs.Sound.{notice_is, notice_is_no_answer, stamp_shows}
 use Rattle.multiplier.proofs.GiveLemmas.{Gives, FromPort, Notice, Answer, given_keeps, lowered, place_small}
 use Rattle.multiplier.proofs.PutBack.{gives_held}
 
@@ -30,7 +30,11 @@ pub record IsUpStep (old : PmState) (frame : Stamped) (new : PmState) : Type 0 w
   pub numbered : is_notice frame ≡ true → frame.stamp.number ≡ old.number
   -- a frame of a device port is of the connection that came last
   pub connection : (n : ℕ) → n < 15 → frame.stamp.port ≡ n → frame.stamp.conn ≡ (port_at old n).last
+  pub above : (n : ℕ) → n < 15 → frame.stamp.port ≡ n → (port_at old n).gone < frame.stamp.conn
+  -- one of the control port shows what is recorded
+  pub shows : frame.stamp.port ≡ control_port → ShowsRecorded old frame.stamp
   pub last : (n : ℕ) → (port_at new n).last ≡ (port_at old n).last
+  pub gone : (n : ℕ) → (port_at new n).gone ≡ (port_at old n).gone
   pub present : (n : ℕ) → (port_at new n).present ≡ (port_at old n).present
 
 pub both_by : (a b : Bool) → (a && b) ≡ true → (a ≡ true) × (b ≡ true)
@@ -49,13 +53,13 @@ of_other n c frame ne = rw (none_by (frame.stamp.port == n) (frame.stamp.conn ==
 no_answer : (frame : Stamped) → frame.stamp.port ≢ control_port → is_answer frame ≡ false
 no_answer frame ne = none_by (frame.stamp.port == control_port) _ (ne_eqb frame.stamp.port control_port ne)
 
-no_notice : (frame : Stamped) → frame.stamp.port ≢ control_port → is_notice frame ≡ false
+pub no_notice : (frame : Stamped) → frame.stamp.port ≢ control_port → is_notice frame ≡ false
 no_notice frame ne = none_by (frame.stamp.port == control_port) _ (ne_eqb frame.stamp.port control_port ne)
 
 pub answer_port : (frame : Stamped) → is_answer frame ≡ true → frame.stamp.port ≡ control_port
 answer_port frame is = eqb-true frame.stamp.port control_port (both_by (frame.stamp.port == control_port) _ is).0
 
-answer_no_notice : (frame : Stamped) → is_answer frame ≡ true → is_notice frame ≡ false
+pub answer_no_notice : (frame : Stamped) → is_answer frame ≡ true → is_notice frame ≡ false
 answer_no_notice frame is =
     let type : slice_index frame.bytes 0 ≡ 0x34 = eqb-true (slice_index frame.bytes 0) 0x34 (both_by (frame.stamp.port == control_port) _ is).1 in
     last_by (frame.stamp.port == control_port) _ (ne_eqb (slice_index frame.bytes 0) 0xA1 (λ h. absurd (omega arith)))
@@ -114,9 +118,18 @@ module _ (old : PmState) (frame : Stamped) (new : PmState) (sound : IsSound old)
               ∙ ap (λ (o : Option Stamped). of_conn n c (map (rising n) (option_to_list o))) (elsewhere n other)
         ]
 
+    there : (port_at old m).present ≡ Some was.stamp.conn
+    there = rises_present (map.forwards old.registers m) (port_at old m).present (port_at old m).up was is
+
+    port_above : (n : ℕ) → frame.stamp.port ≡ n → (port_at old n).gone < frame.stamp.conn
+    port_above n at =
+        let above : (port_at old m).gone < was.stamp.conn = (sound.ports m).sound.above was.stamp.conn there in
+        let here : (port_at old n).gone ≡ (port_at old m).gone = ap (λ (k : ℕ). (port_at old k).gone) (sym at ∙ is_of) in
+        let same : frame.stamp.conn ≡ was.stamp.conn = ap (λ (f : Stamped). f.stamp.conn) rises in
+        omega arith
+
     port_connection : (n : ℕ) → frame.stamp.port ≡ n → frame.stamp.conn ≡ (port_at old n).last
     port_connection n at =
-        let there : (port_at old m).present ≡ Some was.stamp.conn = rises_present (map.forwards old.registers m) (port_at old m).present (port_at old m).up was is in
         ap (λ (f : Stamped). f.stamp.conn) rises ∙ (sound.ports m).sound.last was.stamp.conn there ∙ ap (λ (k : ℕ). (port_at old k).last) (sym is_of ∙ at)
 
     no_control : frame.stamp.port ≢ control_port
@@ -130,7 +143,10 @@ module _ (old : PmState) (frame : Stamped) (new : PmState) (sound : IsSound old)
       number = rw (no_notice frame no_control) (ap (λ (pm : PmState). pm.number) e);
       numbered = λ is. absurd (let no : is_notice frame ≡ false = no_notice frame no_control in cc);
       connection = λ n lt at. port_connection n at;
+      above = λ n lt at. port_above n at;
+      shows = λ control. absurd (no_control control);
       last = keeps.last;
+      gone = keeps.gone;
       present = keeps.present;
     }
 
@@ -144,6 +160,9 @@ module _ (old : PmState) (frame : Stamped) (new : PmState) (sound : IsSound old)
 
     control_connection : (n : ℕ) → n < 15 → frame.stamp.port ≡ n → frame.stamp.conn ≡ (port_at old n).last
     control_connection n lt at = absurd (let k : n ≡ 15 = sym at ∙ of_control in omega arith)
+
+    control_above : (n : ℕ) → n < 15 → frame.stamp.port ≡ n → (port_at old n).gone < frame.stamp.conn
+    control_above n lt at = absurd (let k : n ≡ 15 = sym at ∙ of_control in omega arith)
 
     control_down : (n : ℕ) → falls_to n new ≡ falls_to n old
     control_down n = ap (λ (ps : Ports). option_to_list (at ps n).down) ports
@@ -163,7 +182,10 @@ module _ (old : PmState) (frame : Stamped) (new : PmState) (sound : IsSound old)
         number = rw notice (ap (λ (pm : PmState). pm.number) e);
         numbered = λ yes. ap (λ (s : Stamp). s.number) is.1;
         connection = control_connection stamped ports;
+        above = control_above stamped ports;
+        shows = λ control. subst (ShowsRecorded old) (sym is.1) (stamp_shows old);
         last = keeps.last;
+        gone = keeps.gone;
         present = keeps.present;
       }
   up_step (Answer at is e) =
@@ -178,6 +200,9 @@ module _ (old : PmState) (frame : Stamped) (new : PmState) (sound : IsSound old)
         number = rw (answer_no_notice frame answer) (ap (λ (pm : PmState). pm.number) e);
         numbered = λ yes. absurd (let no : is_notice frame ≡ false = answer_no_notice frame answer in cc);
         connection = control_connection stamped ports;
+        above = control_above stamped ports;
+        shows = λ control. sound.shows frame is;
         last = keeps.last;
+        gone = keeps.gone;
         present = keeps.present;
       }

@@ -2,3 +2,5 @@ pub mod Arbiter
 pub mod State
 pub mod Rules
 pub mod Passing
+pub mod Orders
+pub mod Stamping

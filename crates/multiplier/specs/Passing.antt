@@ -1,6 +1,6 @@
 -- Frames pass a multiplier in their order and none is lost (Serial ATA 3.x, 16.3, port multiplier: frame transmission).
 -- What is said here is said of any sound multiplier and of any frames that passed before.
-use Rattle.std.specs.Prelude.{◌≡◌, ◌≢◌, ℕ, ◌-◌, ◌<◌, ◌≤◌, ◌==◌, ◌&&◌, true, if◌then◌else◌, List, [], ◌∷◌, ◌++◌, All, length, map, take, Option, Some, None, Result, Ok}
+use Rattle.std.specs.Prelude.{◌≡◌, ◌≢◌, ℕ, ◌-◌, ◌<◌, ◌≤◌, ◌==◌, ◌&&◌, max, false, true, if◌then◌else◌, List, [], ◌∷◌, ◌++◌, All, length, map, slice_index, take, Option, Some, None, Result, Ok}
 use Rattle.std.specs.List.{filter, flat_map}
 use Rattle.std.specs.List.Sorted.{IsNonDecreasingBy}
 use Rattle.std.specs.Option.{option_to_list}
@@ -8,9 +8,11 @@ use Rattle.std.specs.declared.alloc.AllocError.{AllocError}
 use Rattle.fis_view.specs.Frames.{Stamped}
 use Rattle.pm_ports.specs.declared.port.Offered.{Offered}
 use Rattle.pm_ports.specs.declared.port.Offered.TheVariants.{Held as Kept}
+use Rattle.pm_ports.specs.Port.{is_gone}
+use Rattle.pm_ports.specs.declared.port.GoneError.{GoneError}
 use Rattle.pm_ports.specs.declared.port.PortError.{PortError}
 use Rattle.multiplier.specs.State.{PmState, IsSound, counted, falling, is_answer, is_notice, port_at, ready, rising}
-use Rattle.multiplier.specs.Rules.{CameRule, CanPutBackDown, CanPutBackUp, FromDeviceRule, FromHostRule, NextDownRule, NextUpRule, UndoesDown, UndoesUp}
+use Rattle.multiplier.specs.Rules.{CameRule, CanPutBackDown, CanPutBackUp, FromDeviceRule, FromHostRule, GoneRule, NextDownRule, NextUpRule, UndoesDown, UndoesUp}
 use Rattle.multiplier.specs.declared.multiplier.Passed.{Passed}
 use Rattle.multiplier.specs.declared.multiplier.Passed.TheVariants as passed
 use Rattle.multiplier.specs.declared.multiplier.PmRefusal.{PmRefusal}
@@ -25,6 +27,8 @@ pub data Call : Type 0 where
   FromDevice : (n : ℕ) → Stamped → Result Offered Stamped → Call
   -- a device came to port n, under this connection, or was refused
   Came : (n conn : ℕ) → Result (Unit {0}) PortError → Call
+  -- the device of port n went, or its removal was refused; and what was dropped on the way up and on the way down
+  Gone : (n conn : ℕ) → Result (Unit {0}) GoneError → (up down : Option Stamped) → Call
   -- the next frame for the host was asked for
   NextUp : Result (Option Stamped) AllocError → Call
   -- this one was put back
@@ -39,11 +43,20 @@ abbrev pub made_by : Result Passed (Stamped × PmRefusal) → PmState → Option
 made_by (Ok passed.Control) new = new.answer
 made_by result new = None
 
+-- what was in a place and is no longer
+abbrev pub lost_from : Option Stamped → Option Stamped → Option Stamped
+lost_from was None = was
+lost_from was (Some frame) = None
+
 -- what the call wants and what it leaves, as its contract has it
 abbrev pub Does : PmState → Call → PmState → Type 0
 Does old (FromHost frame result made) new = FromHostRule old frame result new × (made ≡ made_by result new)
 Does old (FromDevice n frame result) new = (n < old.registers.ports) × FromDeviceRule old n frame result new
 Does old (Came n conn result) new = (n < old.registers.ports) × CameRule old n conn result new
+Does old (Gone n conn result up down) new =
+    (n < old.registers.ports) × GoneRule old n conn result new
+    × (up ≡ lost_from (port_at old n).up (port_at new n).up)
+    × (down ≡ lost_from (port_at old n).down (port_at new n).down)
 Does old (NextUp result) new = NextUpRule old result new
 Does old (PutBackUp frame) new = CanPutBackUp old frame × UndoesUp old frame new
 Does old (NextDown n result) new = (n < old.registers.ports) × NextDownRule old n result new
@@ -115,6 +128,14 @@ came_by n c _ = []
 abbrev pub came_in : ℕ → ℕ → List Call → List Stamped
 came_in n c calls = flat_map (came_by n c) calls
 
+-- what a removal dropped of the frame that port n held, as it would have gone up
+abbrev pub lost_up_by : ℕ → ℕ → Call → List Stamped
+lost_up_by n c (Gone m conn result up down) = if m == n then of_conn n c (map (rising n) (option_to_list up)) else []
+lost_up_by n c _ = []
+
+abbrev pub lost_up : ℕ → ℕ → List Call → List Stamped
+lost_up n c calls = flat_map (lost_up_by n c) calls
+
 -- the frames of port n, by their stamps
 abbrev pub of_port : ℕ → List Stamped → List Stamped
 of_port n frames = filter (λ frame. frame.stamp.port == n) frames
@@ -133,9 +154,15 @@ to_port n frames = map (λ sent. sent.1) (filter (λ sent. sent.0 == n) frames)
 abbrev pub falls_to : ℕ → PmState → List Stamped
 falls_to n pm = option_to_list (port_at pm n).down
 
+-- their connections never fall, and none is above the highest that came
+pub record NeverFallTo (n : ℕ) (down : List (ℕ × Stamped)) (last : ℕ) : Type 0 where
+  pub rise : IsNonDecreasingBy (λ frame. frame.stamp.conn) (to_port n down)
+  pub most : All (λ frame. frame.stamp.conn ≤ last) (to_port n down)
+
 -- which connection is present at port n after a call, where this one was
 abbrev pub present_after : ℕ → Option ℕ → Call → Option ℕ
 present_after n was (Came m conn (Ok done)) = if m == n then Some conn else was
+present_after n was (Gone m conn (Ok done) up down) = if m == n then None else was
 present_after n was _ = was
 
 -- what a call passed down to port n, where this connection was present: with PM Port 0 and the connection
@@ -154,6 +181,39 @@ passed_down n present (call ∷ calls) = passed_by n present call ++ passed_down
 abbrev pub all_present : ℕ → Option ℕ → List Call → Option ℕ
 all_present n was [] = was
 all_present n was (call ∷ calls) = all_present n (present_after n was call) calls
+
+-- the frames of connection c, where all are for one device
+abbrev pub for_conn : ℕ → List Stamped → List Stamped
+for_conn c frames = filter (λ frame. frame.stamp.conn == c) frames
+
+-- what a removal dropped of what waited for the device at port n
+abbrev pub lost_down_by : ℕ → Call → List Stamped
+lost_down_by n (Gone m conn result up down) = if m == n then option_to_list down else []
+lost_down_by n _ = []
+
+abbrev pub lost_down : ℕ → List Call → List Stamped
+lost_down n calls = flat_map (lost_down_by n) calls
+
+-- ---- removals
+
+-- the connections of port n whose removal was recorded
+abbrev pub gone_by : ℕ → Call → List ℕ
+gone_by n (Gone m conn (Ok done) up down) = if m == n then conn ∷ [] else []
+gone_by n _ = []
+
+abbrev pub all_gone : ℕ → List Call → List ℕ
+all_gone n calls = flat_map (gone_by n) calls
+
+-- the highest of some connections and of one more
+abbrev pub highest : ℕ → List ℕ → ℕ
+highest was [] = was
+highest was (conn ∷ conns) = max conn (highest was conns)
+
+-- the frame of the control port that a call makes: an answer, or a notification as it is given
+abbrev pub made_in : Call → Option Stamped
+made_in (FromHost frame result made) = made
+made_in (NextUp (Ok (Some frame))) = if is_notice frame then Some frame else None
+made_in _ = None
 
 -- ---- the control port
 
@@ -178,25 +238,49 @@ AreNumbered from (frame ∷ frames) next = (frame.stamp.number ≡ from) × AreN
 -- What holds of calls from one multiplier to another, where these frames passed before.
 pub record PassInOrder (past : Past) (old : PmState) (calls : List Call) (new : PmState) : Type 0 where
   pub sound : IsSound new
-  -- what went up of a connection, and then what its port holds of it, is what did before and then what came in, each
-  -- frame with the port as its PM Port and in its stamp
+  -- what went up of a connection, then what its port holds of it, and then what its removal dropped, is what did before
+  -- and then what came in, each frame with the port as its PM Port and in its stamp
   pub up : (n c : ℕ) → n < 15
-      → of_conn n c (all_past past calls).up ++ held_of n c new ≡ of_conn n c past.up ++ held_of n c old ++ came_in n c calls
+      → of_conn n c (all_past past calls).up ++ held_of n c new ++ lost_up n c calls
+      ≡ of_conn n c past.up ++ held_of n c old ++ came_in n c calls
   -- the connections of the frames of a port that went up never fall, nor does the highest that came
   pub connections : (n : ℕ) → n < 15
       → NeverFall n past.up (port_at old n).last → NeverFall n (all_past past calls).up (port_at new n).last
   pub last : (n : ℕ) → (port_at old n).last ≤ (port_at new n).last
   pub present : (n : ℕ) → n < 15 → (port_at new n).present ≡ all_present n (port_at old n).present calls
-  -- what went down to the device at a port, and then what waits for it, is what did before and then what was passed down
-  pub down : (n : ℕ) → n < 15
+  -- what went down to the device at a port, and then what waits for it, is what did before and then what was passed
+  -- down, where no removal dropped any of it
+  pub down : (n : ℕ) → n < 15 → lost_down n calls ≡ []
       → to_port n (all_past past calls).down ++ falls_to n new
       ≡ to_port n past.down ++ falls_to n old ++ passed_down n (port_at old n).present calls
+  -- of each connection what removals dropped is missing, and nothing else
+  pub down_each : (n c : ℕ) → n < 15
+      → for_conn c (to_port n (all_past past calls).down) ++ for_conn c (falls_to n new) ++ for_conn c (lost_down n calls)
+      ≡ for_conn c (to_port n past.down) ++ for_conn c (falls_to n old)
+      ++ for_conn c (passed_down n (port_at old n).present calls)
+  -- the connections of the frames that went down to a port never fall
+  pub connections_down : (n : ℕ) → n < 15 → NeverFallTo n past.down (port_at old n).last
+      → NeverFallTo n (all_past past calls).down (port_at new n).last
+  -- what is gone is the highest that went
+  pub gone : (n : ℕ) → n < 15 → (port_at new n).gone ≡ highest (port_at old n).gone (all_gone n calls)
+  -- of a connection that is not gone nothing is dropped
+  pub kept : (n c : ℕ) → n < 15 → is_gone (port_at new n) c ≡ false
+      → (lost_up n c calls ≡ []) × (for_conn c (lost_down n calls) ≡ [])
+  -- and of one that is gone nothing passes any more
+  pub over : (n c : ℕ) → n < 15 → is_gone (port_at old n) c ≡ true
+      → (of_conn n c (all_past past calls).up ≡ of_conn n c past.up)
+      × (for_conn c (to_port n (all_past past calls).down) ≡ for_conn c (to_port n past.down))
   -- what went up of the answers, and then the one that waits, is what did before and then those that were made
   pub answered : answers (all_past past calls).up ++ option_to_list new.answer
       ≡ answers past.up ++ option_to_list old.answer ++ answers_made calls
   -- the frames of the control port have running numbers one after another, in the order in which they were made
   pub numbers : (first : ℕ)
       → AreNumbered first past.made old.number → AreNumbered first (all_past past calls).made new.number
+
+-- After any calls, a frame that the control port makes shows for each port the highest connection that went.
+abbrev pub ShowsRemovals : PmState → List Call → Call → Type 0
+ShowsRemovals old calls call = (frame : Stamped) → made_in call ≡ Some frame → (n : ℕ) → n < 15
+    → slice_index frame.stamp.shown n ≡ highest (port_at old n).gone (all_gone n calls)
 
 -- The same calls, with a place that is ready at each turn at which a frame goes up, and that is not the one served.
 abbrev pub PassesOver : ℕ → PmState → Call → PmState → Type 0

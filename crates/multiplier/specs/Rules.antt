@@ -8,11 +8,12 @@ use Rattle.fis_view.specs.Frames.{Stamped, marked}
 use Rattle.pm_registers.specs.RegisterMap as map
 use Rattle.pm_control.specs.Answers.{IsAnswer, IsNotice, answer_to, registers_left, mark_left}
 use Rattle.pm_ports.specs.Port as port
+use Rattle.pm_ports.specs.declared.port.GoneError.{GoneError}
 use Rattle.pm_ports.specs.declared.port.PortError.{PortError}
 use Rattle.pm_ports.specs.declared.port.Offered.{Offered}
 use Rattle.pm_ports.specs.declared.port.Offered.TheVariants.{Held as Kept, Dropped as LetGo}
 use Rattle.multiplier.specs.Arbiter.{control_port}
-use Rattle.multiplier.specs.State.{PmState, IsSound, is_answer, port_at, with_port, settled, held, rising, stamped, next_place, control_stamp, counted, pm_port, passes_to, falling}
+use Rattle.multiplier.specs.State.{PmState, IsSound, ShowsRecorded, is_answer, port_at, with_port, settled, held, rising, stamped, next_place, control_stamp, counted, pm_port, passes_to, falling}
 use Rattle.multiplier.specs.declared.given.Given.{Given}
 use Rattle.multiplier.specs.declared.given.Given.TheVariants.{Up, Down}
 use Rattle.multiplier.specs.declared.given.Source.{Source}
@@ -22,11 +23,12 @@ use Rattle.multiplier.specs.declared.multiplier.Passed.TheVariants as passed
 use Rattle.multiplier.specs.declared.multiplier.PmRefusal.{PmRefusal}
 use Rattle.multiplier.specs.declared.multiplier.PmRefusal.TheVariants as refusal
 
--- the ports stay: how many there are, which connection is present at each, and which was the last
+-- the ports stay: how many there are, which connection is present at each, which was the last, and which are gone
 pub record KeepsPorts (old new : PmState) : Type 0 where
   pub count : new.registers.ports ≡ old.registers.ports
   pub present : (n : ℕ) → (port_at new n).present ≡ (port_at old n).present
   pub last : (n : ℕ) → (port_at new n).last ≡ (port_at old n).last
+  pub gone : (n : ℕ) → (port_at new n).gone ≡ (port_at old n).gone
 
 -- ---- a frame of the host
 
@@ -106,6 +108,19 @@ CameRule old n conn result new =
     (result_err result ≡ port.came_refusal (port_at old n) conn)
     × MatchResult result (λ _. new ≡ with_device old n conn) (λ _. new ≡ old)
 
+-- A device went from a port: the port has recorded it and holds no frame of it any more, and the registers show it. The
+-- frame that waited to go down to it is dropped and counted.
+abbrev pub without_device : PmState → ℕ → ℕ → PmState
+without_device pm n conn = record (with_port pm n (port.with_removal (port_at pm n) conn)) {
+  registers = map.after_remove pm.registers n;
+  dropped = (if is_some (port_at pm n).down then counted pm.dropped else pm.dropped);
+}
+
+abbrev pub GoneRule : PmState → ℕ → ℕ → Result (Unit {0}) GoneError → PmState → Type 0
+GoneRule old n conn result new =
+    (result_err result ≡ port.gone_refusal (port_at old n) conn)
+    × MatchResult result (λ _. new ≡ without_device old n conn) (λ _. new ≡ old)
+
 -- ---- a frame for the host
 
 -- how the frame that is held at a port is put back: its PM Port is as the device wrote it
@@ -159,11 +174,13 @@ CanPutBackUp pm frame = (before : PmState) × IsSound before × NextUpRule befor
 abbrev pub UndoesUp : PmState → Stamped → PmState → Type 0
 UndoesUp old frame new = (before : PmState) → NextUpRule before (Ok (Some frame)) old → new ≡ settled before
 
--- a frame goes back into a place at which this one is served last: of a port it finds its place empty, and an answer is one
+-- a frame goes back into a place at which this one is served last: of a port it finds its place empty, and is of no
+-- connection that is gone; and an answer is one, and shows no removal that is not recorded
 abbrev pub HasRoom : PmState → ℕ → Stamped → Source → Type 0
 HasRoom pm place frame (source.Held was) =
     (place < control_port) × (was < 16) × ((port_at pm place).up ≡ None) × (frame.stamp.port ≡ place)
-HasRoom pm place frame source.Answer = is_answer frame ≡ true
+    × (port.is_gone (port_at pm place) frame.stamp.conn ≡ false)
+HasRoom pm place frame source.Answer = (is_answer frame ≡ true) × ShowsRecorded pm frame.stamp
 HasRoom pm place frame source.Notice = Unit {0}
 
 -- a frame with the PM Port that it had

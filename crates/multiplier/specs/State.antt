@@ -1,6 +1,6 @@
 -- What a port multiplier holds (Serial ATA 3.x, 16.3, port multiplier): its registers (16.4), its device ports, and
 -- what its control port has to say.
-use Rattle.std.specs.Prelude.{◌≡◌, ℕ, ◌+◌, ◌%◌, ◌==◌, ◌≤◌, ◌&&◌, ◌||◌, min, Bool, false, true, if◌then◌else◌, List, length, replicate, slice_index, slice_index_or, slice_set, Option, None, Some, is_some}
+use Rattle.std.specs.Prelude.{◌≡◌, ℕ, ◌+◌, ◌%◌, ◌==◌, ◌≤◌, ◌&&◌, ◌||◌, min, Bool, false, true, if◌then◌else◌, List, length, map, replicate, slice_index, slice_index_or, slice_set, Option, None, Some, is_some}
 use Rattle.fis_view.specs.Frames.{Stamped, marked}
 use Rattle.fis_view.specs.declared.frame.Stamp.{Stamp}
 use Rattle.pm_registers.specs.RegisterMap as map
@@ -60,12 +60,15 @@ with_port pm n p = record pm { ports = slice_set pm.ports n p; given = None }
 
 -- ---- what is true of every multiplier
 
--- a port is sound; the registers show a device at it exactly where a connection is present; and the frame that waits to
--- go up is stamped with the port
+-- a port is sound; the registers show a device at it exactly where a connection is present; the frame that waits to go
+-- up is stamped with the port, and of no connection that is gone; and the one that waits to go down is for the
+-- connection that is present
 pub record IsSoundPort (n : ℕ) (shown : Bool) (p : port.PortState) : Type 0 where
   pub sound : port.IsSound p
   pub agrees : shown ≡ is_some p.present
   pub stamped : (frame : Stamped) → p.up ≡ Some frame → frame.stamp.port ≡ n
+  pub stays : (frame : Stamped) → p.up ≡ Some frame → port.is_gone p frame.stamp.conn ≡ false
+  pub meant : (frame : Stamped) → p.down ≡ Some frame → p.present ≡ Some frame.stamp.conn
 
 -- the answer of the control port: a Register Device to Host FIS, type 34h (10.5), that is stamped with the port
 abbrev pub is_answer : Stamped → Bool
@@ -81,12 +84,21 @@ IsPlace (Some (Up before source stamp)) = before ≤ control_port
 IsPlace (Some (Down n stamp)) = Unit {0}
 IsPlace None = Unit {0}
 
+-- the highest connection of each port whose removal was recorded, 0 for none
+abbrev pub removals : PmState → List ℕ
+removals pm = map (λ p. p.gone) pm.ports
+
+-- no removal above those that are recorded is shown in this stamp
+abbrev pub ShowsRecorded : PmState → Stamp → Type 0
+ShowsRecorded pm stamp = (n : ℕ) → slice_index stamp.shown n ≤ (port_at pm n).gone
+
 pub record IsSound (pm : PmState) : Type 0 where
   pub served : pm.served ≤ control_port
   pub registers : map.IsSound pm.registers
   pub room : length pm.ports ≡ 15
   pub ports : (n : ℕ) → IsSoundPort n (map.port_at pm.registers n).present (port_at pm n)
   pub answer : (frame : Stamped) → pm.answer ≡ Some frame → is_answer frame ≡ true
+  pub shows : (frame : Stamped) → pm.answer ≡ Some frame → ShowsRecorded pm frame.stamp
   pub given : IsPlace pm.given
 
 -- ---- up
@@ -115,9 +127,9 @@ ready pm place = if place == control_port then pm.registers.due || is_some pm.an
 abbrev pub next_place : PmState → Option ℕ
 next_place pm = next_served pm.served (ready pm)
 
--- the stamp of the next frame of the control port; no removal is recorded yet
+-- the stamp of the next frame of the control port: it shows the removals that are recorded
 abbrev pub control_stamp : PmState → Stamp
-control_stamp pm = record { port = control_port; conn = 0; number = pm.number; shown = replicate 15 0 }
+control_stamp pm = record { port = control_port; conn = 0; number = pm.number; shown = removals pm }
 
 -- ---- down
 

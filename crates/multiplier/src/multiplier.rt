@@ -4,14 +4,14 @@ ghost use Rattle.std.specs.Prelude.{if◌then◌else◌, is_none, is_some, not, 
 ghost use Rattle.pm_ports.specs.Port.{empty_port, with_down};
 ghost use Rattle.pm_registers.specs.RegisterMap.{forwards};
 ghost use Rattle.multiplier.specs.Arbiter.{control_port};
-ghost use Rattle.multiplier.specs.Rules.{CameRule, CanPutBackDown, CanPutBackUp, ControlGives, DropsOnly, FromDeviceRule, FromHostRule, HasRoom, HasRoomFor, KeepsPorts, NextDownRule, NextUpRule, PortGives, ToControl, ToDevice, UndoesDown, UndoesUp, may_go_back, put_back, refilled};
+ghost use Rattle.multiplier.specs.Rules.{CameRule, CanPutBackDown, CanPutBackUp, ControlGives, DropsOnly, FromDeviceRule, FromHostRule, GoneRule, HasRoom, HasRoomFor, KeepsPorts, NextDownRule, NextUpRule, PortGives, ToControl, ToDevice, UndoesDown, UndoesUp, may_go_back, put_back, refilled};
 ghost use Rattle.multiplier.specs.declared.given.Source.TheVariants as source;
-ghost use Rattle.multiplier.specs.State.{IsSound, control_stamp, counted, falling, held, is_answer, next_place, opening, passes_to, port_at, ready, rising, stamped, with_port};
+ghost use Rattle.multiplier.specs.State.{IsSound, ShowsRecorded, control_stamp, counted, falling, held, is_answer, next_place, opening, passes_to, port_at, ready, removals, rising, stamped, with_port};
 
 use crate::given::{Given, Source};
 use fis_view::{Frame, Stamp};
 use pm_control::PmControl;
-use pm_ports::{Offered, Port, PortError};
+use pm_ports::{GoneError, Offered, Port, PortError};
 use pm_registers::{CONTROL_PORT, PmRegisters};
 use std::alloc::{AllocError, Global};
 use std::marker::Model;
@@ -120,6 +120,17 @@ fn number_after(number: u32, answer: &Option<Frame>) -> u32
     }
 }
 
+/// The count of dropped frames, where one more was dropped or none.
+fn dropped_after(dropped: u32, one_more: bool) -> u32
+    ensures { result ≡ (if one_more then counted dropped else dropped) }
+{
+    if one_more {
+        dropped.saturating_add(1)
+    } else {
+        dropped
+    }
+}
+
 /// Fifteen ports to which no device came.
 fn empty_ports() -> [Port; 15]
     ensures { result ≡ replicate 15 empty_port }
@@ -146,6 +157,17 @@ impl Multiplier {
         }
     }
 
+    /// The highest connection of each port whose removal was recorded.
+    fn removals(&self) -> [u32; 15]
+        ensures { result ≡ removals self.now }
+    {
+        let mut highest = [0; 15];
+        for n in 0..15 {
+            highest[n] = self.ports[n].highest_gone();
+        }
+        highest
+    }
+
     /// The stamp of the next frame of the control port.
     fn control_stamp(&self) -> Stamp
         ensures { result ≡ control_stamp self.now }
@@ -154,7 +176,7 @@ impl Multiplier {
             port: CONTROL_PORT,
             conn: 0,
             number: self.number,
-            shown: [0; 15],
+            shown: self.removals(),
         }
     }
 
@@ -171,6 +193,7 @@ impl Multiplier {
         ensures value { result ≡ passes_to self.now n }
         ensures there { MatchOption result (Unit {0}) (λ conn. n < 15) }
         ensures present { is_none result ≡ not (forwards self.now.registers n) }
+        ensures conn { IfSome result (λ conn. (port_at self.now n).present ≡ Some conn) }
     {
         if self.forwards(n) {
             self.ports[usize::from(n)].present()
@@ -195,7 +218,7 @@ impl Multiplier {
         match self.passes_to(port) {
             Some(conn) => self.to_device(port, conn, frame),
             None => {
-                self.dropped = self.dropped.saturating_add(1);
+                self.dropped = dropped_after(self.dropped, true);
                 self.given = None;
                 Ok(Passed::Dropped)
             }
@@ -226,7 +249,8 @@ impl Multiplier {
 
     /// Puts a frame into the downward place of port `n`.
     fn to_device(&mut self, n: u8, conn: u32, frame: Frame) -> Result<Passed, (Frame, PmRefusal)>
-        requires { n < 15 }
+        requires there { n < 15 }
+        requires present { (port_at self.old n).present ≡ Some conn }
         ensures { ToDevice self.old n conn frame result self.new }
     {
         let port = &mut self.ports[usize::from(n)];
@@ -243,7 +267,7 @@ impl Multiplier {
     }
 
     /// Takes a frame of the device at port `n`, or gives it back where another one is held. The frame that is held has
-    /// `n` as the port of its stamp.
+    /// `n` as the port of its stamp; one of a connection that is gone is dropped.
     pub fn from_device(&mut self, n: u8, frame: Frame) -> Result<Offered, Frame>
         requires { n < self.old.registers.ports }
         ensures rule { FromDeviceRule self.old n frame result self.new }
@@ -251,10 +275,11 @@ impl Multiplier {
     {
         let sent = frame.stamp();
         match self.ports[usize::from(n)].offer(stamped(n, frame)) {
-            Ok(offered) => {
+            Ok(Offered::Held) => {
                 self.given = None;
-                Ok(offered)
+                Ok(Offered::Held)
             }
+            Ok(Offered::Dropped) => Ok(Offered::Dropped),
             Err(mut frame) => {
                 frame.set_stamp(sent);
                 Err(frame)
@@ -270,6 +295,21 @@ impl Multiplier {
     {
         self.ports[usize::from(n)].came(conn)?;
         self.registers.insert(n);
+        self.given = None;
+        Ok(())
+    }
+
+    /// Records that the device of this connection went from port `n`, in the port and in the registers. It is refused as
+    /// by [`Port::gone`], and has no other refusal. Frames of the connection that wait at the port are dropped; the one
+    /// on its way down is counted as dropped.
+    pub fn gone(&mut self, n: u8, conn: u32) -> Result<(), GoneError>
+        requires { n < self.old.registers.ports }
+        ensures { GoneRule self.old n conn result self.new }
+    {
+        let waits = !self.ports[usize::from(n)].has_room_down();
+        self.ports[usize::from(n)].gone(conn)?;
+        self.registers.remove(n);
+        self.dropped = dropped_after(self.dropped, waits);
         self.given = None;
         Ok(())
     }
@@ -430,7 +470,8 @@ impl Multiplier {
 
     /// The answer waits again.
     fn answer_again(&mut self, frame: Frame)
-        requires { is_answer frame ≡ true }
+        requires is { is_answer frame ≡ true }
+        requires shows { ShowsRecorded self.old frame.stamp }
         ensures { self.new ≡ record self.old { answer = Some frame; given = None } }
     {
         self.answer = Some(frame);
@@ -475,6 +516,7 @@ impl Multiplier {
     fn refill_down(&mut self, n: u8, frame: Frame)
         requires there { n < 15 }
         requires empty { (port_at self.old n).down ≡ None }
+        requires present { (port_at self.old n).present ≡ Some frame.stamp.conn }
         ensures { self.new ≡ with_port self.old n (with_down (port_at self.old n) (Some frame)) }
     {
         self.ports[usize::from(n)].put_back_down(frame);
@@ -496,7 +538,8 @@ impl Multiplier {
         self.ports[usize::from(n)].hold()
     }
 
-    /// How many frames of the host were dropped. The count stays at its largest value.
+    /// How many frames of the host were dropped, whether at once or as their device went. The count stays at its
+    /// largest value.
     pub fn dropped(&self) -> u32
         ensures { result ≡ self.now.dropped }
     {

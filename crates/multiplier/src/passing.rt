@@ -1,17 +1,34 @@
 //! In which order frames pass, over any calls.
 
 ghost use Rattle.std.specs.Prelude.{◌+◌, ◌≡◌, ◌≤◌, ℕ, List, is_some, length, true};
+ghost use Rattle.fis_view.specs.Frames.{Stamped};
 ghost use Rattle.pm_registers.specs.RegisterMap.{forwards};
 ghost use Rattle.multiplier.specs.Arbiter.{control_port};
 ghost use Rattle.multiplier.specs.State.{IsSound, PmState, port_at};
-ghost use Rattle.multiplier.specs.Passing.{Call, DoesAll, PassInOrder, PassesOver, Past, Runs, all_past};
+ghost use Rattle.multiplier.specs.Passing.{Call, Does, DoesAll, PassInOrder, PassesOver, Past, Runs, ShowsRemovals, all_past};
+ghost use Rattle.multiplier.specs.Stamping.{BeginsStamped, GoesUpStamped};
 
 /// A law of any calls, one or many, of any sound multiplier, which does nothing when it runs: frames pass in their
-/// order and none is lost, the running numbers are given one after another, and no connection falls. A frame that is
-/// put back is one that did not pass.
+/// order and none is lost but what a removal drops, the running numbers are given one after another, no connection falls,
+/// and none that is gone has a frame that passes. A frame that is put back is one that did not pass.
 pub fn frames_pass_in_order()
     ensures { (past : Past) (old new : PmState) (calls : List Call) →
         IsSound old → DoesAll past old calls new → PassInOrder past old calls new }
+{}
+
+/// A law of any calls of any sound multiplier, which does nothing when it runs: where what was taken of each device is in
+/// order, what goes up is in stamped order. It begins with a sound multiplier that gave nothing.
+pub fn goes_up_in_stamped_order()
+    ensures goes_on { (taken : ℕ → List Stamped) (past : Past) (old : PmState)
+        (calls : List Call) (new : PmState) → GoesUpStamped taken past old calls new }
+    ensures begins { (past : Past) (pm : PmState) → BeginsStamped past pm }
+{}
+
+/// A law of any calls of any sound multiplier, which does nothing when it runs: a frame of the control port shows for each
+/// port the highest connection whose removal was recorded before the frame was made.
+pub fn control_frames_show_removals()
+    ensures { (past : Past) (old mid new : PmState) (calls : List Call) (call : Call) →
+        IsSound old → DoesAll past old calls mid → Does mid call new → ShowsRemovals old calls call }
 {}
 
 /// A law of any sound multiplier, which does nothing when it runs: a port that forwards has a connection.

@@ -3,12 +3,13 @@
 ghost use Rattle.std.specs.Prelude.{IsTrue, ◌<◌};
 
 use crate::{
-    Multiplier, Passed, PmRefusal, frames_pass_in_order, is_passed_over_at_most_fifteen_times,
+    Multiplier, Passed, PmRefusal, control_frames_show_removals, frames_pass_in_order,
+    goes_up_in_stamped_order, is_passed_over_at_most_fifteen_times,
     ports_that_forward_have_connections, waits_for_at_most_fifteen,
 };
 use fis_view::{Frame, FrameError, Stamp};
-use pm_ports::Offered;
-use pm_registers::{CONTROL_PORT, GSCR_PORTS};
+use pm_ports::{GoneError, Offered};
+use pm_registers::{CONTROL_PORT, GSCR_PORTS, GSCR_SUMMARY, PSCR_ERROR, PSCR_STATUS};
 use std::alloc::Global;
 use std::test::Fail;
 
@@ -70,20 +71,17 @@ fn goes_up(alloc: Global, pm: &mut Multiplier, bytes: &[u8], port: u8, number: u
     }
 }
 
-/// Has the control port write a register of port `n`: its number, the low byte and the high byte of the value.
-fn write(
-    alloc: Global,
-    pm: &mut Multiplier,
-    n: u8,
-    register: u8,
-    value: [u8; 2],
-) -> Result<(), Fail> {
+/// Has the control port write a register of port `n`.
+fn write(alloc: Global, pm: &mut Multiplier, n: u8, register: u8, value: u32) -> Result<(), Fail> {
+    let [low, second, third, high] = value.to_le_bytes();
     let mut command = READ_STATUS;
     command[2] = 0xE8;
     command[3] = register;
     command[7] = n;
-    command[12] = value[0];
-    command[6] = value[1];
+    command[12] = low;
+    command[4] = second;
+    command[5] = third;
+    command[6] = high;
     pass(alloc, pm, &command)?;
     pm.next_up(alloc)?;
     Ok(())
@@ -91,11 +89,19 @@ fn write(
 
 /// Opens port `n` to a device that comes as connection 1.
 fn open(alloc: Global, pm: &mut Multiplier, n: u8) -> Result<(), Fail> {
-    write(alloc, pm, n, 2, [0, 0])?;
+    write(alloc, pm, n, 2, 0)?;
     if has_port(pm, n) {
         pm.came(n, 1)?;
     }
-    write(alloc, pm, n, 1, [0, 4])
+    write(alloc, pm, n, 1, 0x0401_0000)
+}
+
+/// The device of port `n` goes, which came as this connection.
+fn goes(pm: &mut Multiplier, n: u8, conn: u32) -> Result<(), Fail> {
+    if has_port(pm, n) {
+        pm.gone(n, conn)?;
+    }
+    Ok(())
 }
 
 /// Offers a frame of the device at port `n`, and tells whether it is held.
@@ -174,7 +180,7 @@ fn frames_go_down_with_pm_port_0(rt: HostRuntime) -> Result<(), Fail> {
 fn a_notification_goes_first(rt: HostRuntime) -> Result<(), Fail> {
     let alloc = rt.alloc();
     let mut pm = Multiplier::new(4);
-    write(alloc, &mut pm, 0, 2, [0, 0])?;
+    write(alloc, &mut pm, 0, 2, 0)?;
     pass(alloc, &mut pm, &ENABLE_NOTIFICATION)?;
     assert_eq!(rt; turn(alloc, &mut pm)?, (15, 15));
     pass(alloc, &mut pm, &READ_STATUS)?;
@@ -190,9 +196,88 @@ fn a_notification_goes_first(rt: HostRuntime) -> Result<(), Fail> {
     Ok(())
 }
 
+/// Ports 1 and 2 lose their devices before the host is told: one notification, which shows both removals.
+#[test]
+fn two_removals_make_one_notification(rt: HostRuntime) -> Result<(), Fail> {
+    let alloc = rt.alloc();
+    let mut pm = four(alloc)?;
+    write(alloc, &mut pm, CONTROL_PORT, 33, 0x0401_0000)?;
+    pass(alloc, &mut pm, &ENABLE_NOTIFICATION)?;
+    pm.next_up(alloc)?;
+    goes(&mut pm, 1, 1)?;
+    goes(&mut pm, 2, 1)?;
+    let notice = pm.next_up(alloc)?.ok_or("silent")?;
+    assert_eq!(rt; notice.bytes(), NOTIFICATION.as_slice());
+    let shown = notice.stamp().shown;
+    assert_eq!(rt; (shown[0], shown[1], shown[2], shown[3]), (0, 1, 1, 0));
+    assert!(rt; pm.next_up(alloc)?.is_none());
+    assert_eq!(rt;
+        pm.registers().read(CONTROL_PORT, GSCR_SUMMARY).ok(),
+        Some(6)
+    );
+    Ok(())
+}
+
+/// The answer that waits while a device goes shows what was gone when it was made.
+#[test]
+fn an_answer_shows_what_was_gone_when_it_was_made(rt: HostRuntime) -> Result<(), Fail> {
+    let alloc = rt.alloc();
+    let mut pm = four(alloc)?;
+    pass(alloc, &mut pm, &READ_STATUS)?;
+    goes(&mut pm, 2, 1)?;
+    let before = pm.next_up(alloc)?.ok_or("silent")?;
+    pass(alloc, &mut pm, &READ_STATUS)?;
+    let after = pm.next_up(alloc)?.ok_or("silent")?;
+    assert_eq!(rt; (before.stamp().shown[2], after.stamp().shown[2]), (0, 1));
+    Ok(())
+}
+
+/// Devices 1 and 3 have frames in both directions as device 1 goes.
+#[test]
+fn frames_of_a_device_that_went_are_dropped(rt: HostRuntime) -> Result<(), Fail> {
+    let alloc = rt.alloc();
+    let mut pm = four(alloc)?;
+    let mut other = READ;
+    other[1] = 0x81;
+    for n in [1, 3] {
+        assert!(rt; holds(alloc, &mut pm, n)?);
+    }
+    assert_eq!(rt; pass(alloc, &mut pm, &READ)?, Passed::Down(3));
+    assert_eq!(rt; pass(alloc, &mut pm, &other)?, Passed::Down(1));
+    goes(&mut pm, 1, 1)?;
+    assert_eq!(rt; pm.dropped(), 1);
+    assert!(rt; !holds(alloc, &mut pm, 1)?);
+    assert_eq!(rt; turn(alloc, &mut pm)?, (3, 3));
+    assert!(rt; pm.next_up(alloc)?.is_none());
+    if !has_port(&pm, 3) {
+        return Err("no port 3".into());
+    }
+    assert!(rt; pm.next_down(1).is_none());
+    assert!(rt; pm.next_down(3).is_some());
+    Ok(())
+}
+
+/// What comes and goes behind a closed port is found as it opens.
+#[test]
+fn an_exchange_behind_a_closed_port_is_found(rt: HostRuntime) -> Result<(), Fail> {
+    let alloc = rt.alloc();
+    let mut pm = Multiplier::new(1);
+    pm.came(0, 1)?;
+    pm.gone(0, 1)?;
+    pm.came(0, 2)?;
+    assert_eq!(rt; pm.registers().read(0, PSCR_ERROR).ok(), Some(0));
+    write(alloc, &mut pm, 0, 2, 0)?;
+    assert_eq!(rt; pm.registers().read(0, PSCR_ERROR).ok(), Some(0x0401_0000));
+    assert_eq!(rt; pm.registers().read(0, PSCR_STATUS).ok(), Some(0x133));
+    assert!(rt; matches!(pm.gone(0, 1), Err(GoneError::NotThere)));
+    Ok(())
+}
+
 #[test]
 fn refusals_have_numbers_and_texts(rt: HostRuntime) -> Result<(), Fail> {
+    control_frames_show_removals();
     frames_pass_in_order();
+    goes_up_in_stamped_order();
     is_passed_over_at_most_fifteen_times();
     ports_that_forward_have_connections();
     waits_for_at_most_fifteen();

@@ -1,4 +1,4 @@
-use Rattle.multiplier.proofs.PassingLemmas.{pass_in_order}
+use Rattle.multiplier.proofs.Removals.{pass_in_order}
 use Rattle.multiplier.proofs.passing.frames_pass_in_order.Goals as goal
 
 pub returns : goal.returns
