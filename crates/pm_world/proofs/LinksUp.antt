@@ -1,9 +1,9 @@
 -- In each step what goes up goes over links: over the link from each device, through the place of its port, and over the
 -- link to the host; and each connection that comes goes over a presence link.
 use Rattle.std.proofs.Common.{◌≡◌, ◌≢◌, ℕ, ◌<◌, ◌≤◌, ◌+◌, ◌&&◌, List, [], ◌∷◌, ◌++◌, Option, Some, None, Bool, true, false, refl, sym, ap, ◌∙◌, inl, inr, map, length, arith, length-append}
-use Rattle.std.specs.Prelude.{slice_get, slice_set, option_to_list, nat_le, nat_lt, MatchOption, Ok}
+use Rattle.std.specs.Prelude.{slice_get, slice_set, option_to_list, MatchOption, Ok}
 use Rattle.std.specs.List.{flat_map}
-use Rattle.std.proofs.lemmas.Bool.{cases_eq, eq-eqb, ne_eqb, leb-true, ltb-true}
+use Rattle.std.proofs.lemmas.Bool.{cases_eq, eq-eqb, ne_eqb}
 use Rattle.std.proofs.lemmas.Grind.{flat_map-append}
 use Rattle.std.proofs.lemmas.List.{append-nil, map-append}
 use Rattle.std.proofs.lemmas.Option.{slice_get_within}
@@ -17,7 +17,6 @@ use Rattle.multiplier.specs.declared.multiplier.Passed.TheVariants as passed
 use Rattle.multiplier.proofs.GiveLemmas.{Gives, FromPort, Notice, Answer as Answers, gives}
 use Rattle.multiplier.proofs.Ports.{at, has_up, kept_part, other_port, this_port}
 use Rattle.multiplier.proofs.PutBack.{gives_held}
-use Rattle.multiplier.proofs.UpSteps.{both_by}
 use Rattle.hba_driver.specs.HostTurns.{Host}
 use Rattle.hba_driver.specs.declared.request.Request.{Request}
 use Rattle.pm_world.specs.Links.{told_frame, told_of, entered_by, is_offered, came_by, is_recorded, rose_by, took_by, on_presence, from_port, PortPasses, HostPasses}
@@ -30,6 +29,7 @@ use Rattle.pm_world.specs.declared.step.Answer.{Answer}
 use Rattle.pm_world.specs.declared.step.Answer.TheVariants as answer
 use Rattle.pm_world.proofs.LinksDown.{Went, chained, option_fits, recorded_keeps, still, times-append, went}
 use Rattle.pm_world.proofs.Lists.{slice_get-set_same, slice_get-set_other}
+use Rattle.pm_world.proofs.Moves.{none_gone}
 use Rattle.pm_world.proofs.Steps.{at_both, at_device}
 
 -- ---- room
@@ -326,14 +326,6 @@ module _ (capacity : ℕ) (old : Places) (n : ℕ) (place after : Place) (room :
 
 -- ---- the multiplier's port takes from its device, and gives to it
 
--- no removal is recorded
-none_gone : (conn : ℕ) → (nat_lt 0 conn && nat_le conn 0) ≡ true → ⊥
-none_gone conn h =
-    let b = both_by (nat_lt 0 conn) (nat_le conn 0) h in
-    let least : 0 < conn = ltb-true 0 conn b.0 in
-    let most : conn ≤ 0 = leb-true conn 0 b.1 in
-    omega arith
-
 module _ (capacity : ℕ) (old : Places) (n : ℕ) (place after : Place) (left : PmState) (room : HaveRoomUp capacity old) (is : slice_get old.devices n ≡ Some place) where
   abbrev fits : HasRoomUp capacity place
   fits = rw is at (room.devices n)
@@ -410,12 +402,12 @@ module _ (capacity : ℕ) (old : Places) (n : ℕ) (place after : Place) (left :
           presence_within = rw presence fits.presence_within;
         })
 
-  from_device_goes : (a : Answer) → n < length old.multiplier.ports → PmFromDeviceRule n place old.multiplier (Ok a) after left → GoesUp capacity old a then
-  from_device_goes answer.Idle there acts = same_at capacity old n place after left room is answer.Idle refl acts.1 (same_held acts.2)
-  from_device_goes answer.Blocked there acts = same_at capacity old n place after left room is answer.Blocked refl acts.2 (same_held acts.3)
-  from_device_goes (answer.Offered p true) there acts = absurd (none_gone acts.2.0.stamp.conn acts.2.2.0)
-  from_device_goes (answer.Offered p false) there acts = enters acts.2.0 p false there acts.0 acts.2.1 acts.1 acts.2.2.1 acts.2.2.2
-  from_device_goes _ there acts = absurd acts
+  from_device_goes : (a : Answer) → n < length old.multiplier.ports → (port_at old.multiplier n).gone ≡ 0 → PmFromDeviceRule n place old.multiplier (Ok a) after left → GoesUp capacity old a then
+  from_device_goes answer.Idle there none acts = same_at capacity old n place after left room is answer.Idle refl acts.1 (same_held acts.2)
+  from_device_goes answer.Blocked there none acts = same_at capacity old n place after left room is answer.Blocked refl acts.2 (same_held acts.3)
+  from_device_goes (answer.Offered p true) there none acts = absurd (none_gone (port_at old.multiplier n) acts.2.0.stamp.conn none acts.2.2.0)
+  from_device_goes (answer.Offered p false) there none acts = enters acts.2.0 p false there acts.0 acts.2.1 acts.1 acts.2.2.1 acts.2.2.2
+  from_device_goes _ there none acts = absurd acts
 
   -- a frame on its way down passes by
   down_rests : (a : Answer) → PmDownRule n place old.multiplier (Ok a) after left → GoesUp capacity old a then
@@ -613,7 +605,7 @@ module _ (capacity : ℕ) (old : Places) (a : Answer) (new : Places) (room : Hav
       let below : n < length old.devices = slice_get_within old.devices n p.place p.is in
       let most : length old.devices ≤ 15 = orderly.most in
       let count : length old.multiplier.ports ≡ 15 = orderly.room in
-      rw p.new_is (from_device_goes capacity old n p.place p.after p.left room p.is a (omega arith) p.rule)
+      rw p.new_is (from_device_goes capacity old n p.place p.after p.left room p.is a (omega arith) (orderly.gone n) p.rule)
   rule_goes_up (step.PmDown n) rule =
       let p = at_both old n a new (PmDownRule n) rule in
       rw p.new_is (down_rests capacity old n p.place p.after p.left room p.is a p.rule)

@@ -1,7 +1,7 @@
 -- What a step does to the frames on their way up, whatever else it does.
 use Rattle.std.proofs.Common.{◌≡◌, ◌≢◌, ℕ, ◌<◌, ◌≤◌, Bool, true, false, cond, List, [], ◌∷◌, ◌++◌, Option, Some, None, refl, sym, ap, subst, ◌∙◌, append_assoc, inl, inr, map, length, arith}
-use Rattle.std.specs.Prelude.{slice_get, option_to_list, is_none, ◌⊎◌, ◌&&◌, ◌==◌, if◌then◌else◌, Ok, MatchOption, MatchBool, filter, nat_lt, nat_le}
-use Rattle.std.proofs.lemmas.Bool.{cases_eq, ltb-true, leb-true}
+use Rattle.std.specs.Prelude.{slice_get, option_to_list, is_none, ◌⊎◌, ◌&&◌, ◌==◌, if◌then◌else◌, Ok, MatchOption, MatchBool, filter}
+use Rattle.std.proofs.lemmas.Bool.{cases_eq}
 use Rattle.std.proofs.lemmas.Option.{slice_get_within}
 use Rattle.fis_view.specs.Frames.{Stamped}
 use Rattle.fis_view.specs.declared.frame.Stamp.{Stamp}
@@ -14,6 +14,7 @@ use Rattle.multiplier.specs.Rules.{with_device as connected}
 use Rattle.multiplier.specs.State.{PmState, held as goes_next, next_place, passes_to, pm_port, port_at, rising, stamped, with_port}
 use Rattle.multiplier.specs.declared.multiplier.Passed.{Passed}
 use Rattle.multiplier.specs.declared.multiplier.Passed.TheVariants as passed
+use Rattle.multiplier.proofs.Gone.{up_to_is}
 use Rattle.multiplier.proofs.Ports as ports
 use Rattle.hba_driver.specs.HostTurns.{Host}
 use Rattle.hba_driver.specs.declared.request.Request.{Request}
@@ -227,17 +228,13 @@ on_device old n a new R moves h =
 
 -- ---- a step of a device and the multiplier
 
--- no removal is recorded
-none_gone : (port : PortState) (conn : ℕ) → is_gone port conn ≡ true → ⊥
-none_gone port conn = by_tests (nat_lt 0 conn) (nat_le conn 0) refl refl
-  where
-    by_tests : (b d : Bool) → nat_lt 0 conn ≡ b → nat_le conn 0 ≡ d → (b && d) ≡ true → ⊥
-    by_tests true true lt le e =
-        let above : 0 < conn = ltb-true 0 conn lt in
-        let within : conn ≤ 0 = leb-true conn 0 le in
-        absurd (omega (arith, above, within))
-    by_tests true false lt le e = absurd (cc)
-    by_tests false d lt le e = absurd (cc)
+-- where no removal is recorded, no connection is gone
+pub none_gone : (port : PortState) (conn : ℕ) → port.gone ≡ 0 → is_gone port conn ≡ true → ⊥
+none_gone port conn none yes =
+    let is = up_to_is port.gone conn yes in
+    let some : 0 < conn = is.0 in
+    let most : conn ≤ port.gone = is.1 in
+    absurd (omega arith)
 
 module _ (old : Places) (n : ℕ) (place after : Place) (left : PmState) (is : slice_get old.devices n ≡ Some place) where
   abbrev Both : Places
@@ -297,12 +294,12 @@ module _ (old : Places) (n : ℕ) (place after : Place) (left : PmState) (is : s
           ap (of_conn c) (ap (λ xs. held m left ++ xs) (link_elsewhere old n place after is m other)
           ∙ ap (λ o. option_to_list o ++ on_link (slice_get old.devices m)) (other_up m other))
 
-  from_device_moves : n < length old.multiplier.ports → (a : Answer) → PmFromDeviceRule n place old.multiplier (Ok a) after left → Moves old a Both
-  from_device_moves lt answer.Idle acts = both_stay old n place after is left (same_link acts.1) (same_up acts.2)
-  from_device_moves lt answer.Blocked acts = both_stay old n place after is left (same_link acts.2) (same_up acts.3)
-  from_device_moves lt (answer.Offered p false) acts = enters_hold lt acts.2.0 acts.2.1 acts.2.2
-  from_device_moves lt (answer.Offered p true) acts = absurd (none_gone (port_at old.multiplier n) acts.2.0.stamp.conn acts.2.2.0)
-  from_device_moves lt _ acts = absurd acts
+  from_device_moves : n < length old.multiplier.ports → (port_at old.multiplier n).gone ≡ 0 → (a : Answer) → PmFromDeviceRule n place old.multiplier (Ok a) after left → Moves old a Both
+  from_device_moves lt none answer.Idle acts = both_stay old n place after is left (same_link acts.1) (same_up acts.2)
+  from_device_moves lt none answer.Blocked acts = both_stay old n place after is left (same_link acts.2) (same_up acts.3)
+  from_device_moves lt none (answer.Offered p false) acts = enters_hold lt acts.2.0 acts.2.1 acts.2.2
+  from_device_moves lt none (answer.Offered p true) acts = absurd (none_gone (port_at old.multiplier n) acts.2.0.stamp.conn none acts.2.2.0)
+  from_device_moves lt none _ acts = absurd acts
 
 -- ---- the link to the host
 
@@ -457,7 +454,7 @@ rule_moves old (step.PmFromDevice n) a new orderly rule =
     let lt : n < length old.devices = slice_get_within old.devices n p.place p.is in
     let most = orderly.most in
     let room = orderly.room in
-    rw p.new_is (from_device_moves old n p.place p.after p.left p.is (omega arith) a p.rule)
+    rw p.new_is (from_device_moves old n p.place p.after p.left p.is (omega arith) (orderly.gone n) a p.rule)
 rule_moves old (step.PmDown n) a new orderly rule =
     let p = at_both old n a new (PmDownRule n) rule in
     rw p.new_is (down_moves old n p.place p.after p.left p.is a p.rule)

@@ -25,6 +25,7 @@ use Rattle.pm_world.specs.declared.step.Step.{Step}
 use Rattle.pm_world.specs.declared.step.Step.TheVariants as step
 use Rattle.pm_world.specs.declared.step.Answer.{Answer}
 use Rattle.pm_world.specs.declared.step.Answer.TheVariants as answer
+use Rattle.pm_world.proofs.Openings.{port_opening}
 use Rattle.pm_world.proofs.Steps.{AtDevice, AtBoth, at_device, at_both}
 
 -- ---- a port of the multiplier after a write to one
@@ -41,16 +42,24 @@ port_other pm n p m other = ports.other_port pm.ports n m p other
 pub record IsRoomy (pm : PmState) : Type 0 where
   pub room : length pm.ports ≡ 15
   pub answer : (frame : Stamped) → pm.answer ≡ Some frame → frame.stamp.port ≡ control_port
+  pub gone : (n : ℕ) → (port_at pm n).gone ≡ 0
+
+-- as many ports, with as many connections gone
+abbrev LikePorts : PmState → PmState → Type 0
+LikePorts old new = (length new.ports ≡ length old.ports) × ((n : ℕ) → (port_at new n).gone ≡ (port_at old n).gone)
+
+same_ports : (old new : PmState) → new.ports ≡ old.ports → LikePorts old new
+same_ports old new e = (ap length e, λ n. ap (λ all. (ports.at all n).gone) e)
 
 -- where nothing waits as the answer of the control port, or what waited before
-same_answer : (old new : PmState) → length new.ports ≡ length old.ports → new.answer ≡ old.answer → IsRoomy old → IsRoomy new
-same_answer old new size same is = record { room = size ∙ is.room; answer = λ frame e. is.answer frame (sym same ∙ e) }
+same_answer : (old new : PmState) → LikePorts old new → new.answer ≡ old.answer → IsRoomy old → IsRoomy new
+same_answer old new like same is = record { room = like.0 ∙ is.room; answer = λ frame e. is.answer frame (sym same ∙ e); gone = λ n. like.1 n ∙ is.gone n }
 
-no_answer : (old new : PmState) → length new.ports ≡ length old.ports → new.answer ≡ None → IsRoomy old → IsRoomy new
-no_answer old new size none is = record { room = size ∙ is.room; answer = λ frame e. let wrong : None ≡ Some frame = sym none ∙ e in absurd (cc) }
+no_answer : (old new : PmState) → LikePorts old new → new.answer ≡ None → IsRoomy old → IsRoomy new
+no_answer old new like none is = record { room = like.0 ∙ is.room; answer = λ frame e. let wrong : None ≡ Some frame = sym none ∙ e in absurd (cc); gone = λ n. like.1 n ∙ is.gone n }
 
-ports_as : (old new : PmState) (n : ℕ) (p : PortState) → new.ports ≡ slice_set old.ports n p → length new.ports ≡ length old.ports
-ports_as old new n p e = ap length e ∙ length-set old.ports n p
+ports_as : (old new : PmState) (n : ℕ) (p : PortState) → new.ports ≡ slice_set old.ports n p → p.gone ≡ (port_at old n).gone → LikePorts old new
+ports_as old new n p e same = (ap length e ∙ length-set old.ports n p, λ m. ap (λ all. (ports.at all m).gone) e ∙ ports.kept_part (λ q. q.gone) old.ports n p same m)
 
 equal_roomy : {old new : PmState} → new ≡ old → IsRoomy old → IsRoomy new
 equal_roomy e is = subst IsRoomy (sym e) is
@@ -59,7 +68,7 @@ recorded_roomy : (pm : PmState) (n conn : ℕ) → IsRoomy pm → IsRoomy (recor
 recorded_roomy pm n conn is = by_test (is_none (port_came_refusal (port_at pm n) conn))
   where
     by_test : (b : Bool) → IsRoomy (if b then connected pm n conn else pm)
-    by_test true = record { room = length-set pm.ports n _ ∙ is.room; answer = is.answer }
+    by_test true = record { room = length-set pm.ports n _ ∙ is.room; answer = is.answer; gone = λ m. ports.kept_part (λ q. q.gone) pm.ports n _ refl m ∙ is.gone m }
     by_test false = is
 
 presence_roomy : (n : ℕ) (old : Place) (pm : PmState) (a : Answer) (new : Place) (after : PmState) → PmPresenceRule n old pm (Ok a) new after → IsRoomy pm → IsRoomy after
@@ -72,14 +81,14 @@ device_roomy n old pm answer.Idle new after rule is = equal_roomy rule.2 is
 device_roomy n old pm answer.Blocked new after rule is = equal_roomy rule.3 is
 device_roomy n old pm (answer.Offered p true) new after rule is = equal_roomy rule.2.2.1 is
 device_roomy n old pm (answer.Offered p false) new after rule is =
-    same_answer pm after (ports_as pm after n _ (ap (λ (m : PmState). m.ports) rule.2.2.2)) (ap (λ (m : PmState). m.answer) rule.2.2.2) is
+    same_answer pm after (ports_as pm after n _ (ap (λ (m : PmState). m.ports) rule.2.2.2) refl) (ap (λ (m : PmState). m.answer) rule.2.2.2) is
 device_roomy n old pm _ new after rule is = absurd rule
 
 down_roomy : (n : ℕ) (old : Place) (pm : PmState) (a : Answer) (new : Place) (after : PmState) → PmDownRule n old pm (Ok a) new after → IsRoomy pm → IsRoomy after
 down_roomy n old pm answer.Idle new after rule is = equal_roomy rule.3 is
 down_roomy n old pm answer.Blocked new after rule is = equal_roomy rule.2 is
 down_roomy n old pm (answer.Down p) new after rule is =
-    same_answer pm after (ports_as pm after n _ (ap (λ (m : PmState). m.ports) rule.2.1.1)) (ap (λ (m : PmState). m.answer) rule.2.1.1) is
+    same_answer pm after (ports_as pm after n _ (ap (λ (m : PmState). m.ports) rule.2.1.1) refl) (ap (λ (m : PmState). m.answer) rule.2.1.1) is
 down_roomy n old pm _ new after rule is = absurd rule
 
 -- ---- a frame of the host
@@ -95,14 +104,15 @@ control_roomy : (pm : PmState) (frame : Stamped) (p : Passed) (after : PmState) 
 control_roomy pm frame passed.Control after rule is = record {
   room = ap (λ (m : PmState). length m.ports) rule.2 ∙ is.room;
   answer = λ given e. ap (λ (s : Stamp). s.port) (stamped_so (answer_to pm.resetting pm.registers frame.bytes) (control_stamp pm) after.answer rule.1 given e);
+  gone = λ n. ap (λ (m : PmState). (port_at m n).gone) rule.2 ∙ is.gone n;
 }
 control_roomy pm frame _ after rule is = absurd rule
 
 port_roomy : (pm : PmState) (frame : Stamped) (o : Option ℕ) (p : Passed) (after : PmState) → MatchOption o (ToNobody pm (Ok p) after) (λ conn. ToDevice pm (pm_port frame) conn frame (Ok p) after) → IsRoomy pm → IsRoomy after
-port_roomy pm frame None passed.Dropped after rule is = equal_roomy rule (record { room = is.room; answer = is.answer })
+port_roomy pm frame None passed.Dropped after rule is = equal_roomy rule (record { room = is.room; answer = is.answer; gone = is.gone })
 port_roomy pm frame None _ after rule is = absurd rule
 port_roomy pm frame (Some conn) (passed.Down m) after rule is =
-    same_answer pm after (ports_as pm after (pm_port frame) _ (ap (λ (q : PmState). q.ports) rule.2)) (ap (λ (q : PmState). q.answer) rule.2) is
+    same_answer pm after (ports_as pm after (pm_port frame) _ (ap (λ (q : PmState). q.ports) rule.2) refl) (ap (λ (q : PmState). q.answer) rule.2) is
 port_roomy pm frame (Some conn) _ after rule is = absurd rule
 
 passed_roomy : (pm : PmState) (frame : Stamped) (p : Passed) (after : PmState) → FromHostRule pm frame (Ok p) after → IsRoomy pm → IsRoomy after
@@ -120,13 +130,13 @@ gives_roomy pm place frame after rule is = by_test (place == control_port) rule
     control : (due : Bool) → MatchBool due
         (IsNotice true (control_stamp pm) (Some frame) × (after ≡ record pm { registers = after_notice pm.registers; number = counted pm.number; served = control_port; given = may_go_back pm source.Notice frame }))
         ((pm.answer ≡ Some frame) × (after ≡ record pm { answer = None; served = control_port; given = may_go_back pm source.Answer frame })) → IsRoomy after
-    control true rule = same_answer pm after (ap (λ (m : PmState). length m.ports) rule.1) (ap (λ (m : PmState). m.answer) rule.1) is
-    control false rule = no_answer pm after (ap (λ (m : PmState). length m.ports) rule.1) (ap (λ (m : PmState). m.answer) rule.1) is
+    control true rule = same_answer pm after (same_ports pm after (ap (λ (m : PmState). m.ports) rule.1)) (ap (λ (m : PmState). m.answer) rule.1) is
+    control false rule = no_answer pm after (same_ports pm after (ap (λ (m : PmState). m.ports) rule.1)) (ap (λ (m : PmState). m.answer) rule.1) is
 
     port : (o : Option Stamped) → MatchOption o ⊥ (λ was. (was.stamp.port ≡ place) × (frame ≡ rising place was)
         × (after ≡ record (with_port pm place (with_up (port_at pm place) None)) { served = place; given = may_go_back pm (held_source was) frame })) → IsRoomy after
     port None rule = absurd rule
-    port (Some was) rule = same_answer pm after (ports_as pm after place _ (ap (λ (m : PmState). m.ports) rule.2)) (ap (λ (m : PmState). m.answer) rule.2) is
+    port (Some was) rule = same_answer pm after (ports_as pm after place _ (ap (λ (m : PmState). m.ports) rule.2) refl) (ap (λ (m : PmState). m.answer) rule.2) is
 
     by_test : (b : Bool) → MatchBool b (ControlGives pm frame after) (PortGives pm place frame after) → IsRoomy after
     by_test true rule = control pm.registers.due rule
@@ -151,11 +161,11 @@ heard_roomy old pm _ new after rule is = absurd rule
 -- ---- the world
 
 roomy : {now : Places} → IsOrderly now → IsRoomy now.multiplier
-roomy orderly = record { room = orderly.room; answer = orderly.answer }
+roomy orderly = record { room = orderly.room; answer = orderly.answer; gone = orderly.gone }
 
 -- as many devices, and a multiplier with room
 orderly_with : (old new : Places) → length new.devices ≡ length old.devices → IsRoomy new.multiplier → IsOrderly old → IsOrderly new
-orderly_with old new size is orderly = let most : length old.devices ≤ 15 = orderly.most in record { most = omega (arith, size, most); room = is.room; answer = is.answer }
+orderly_with old new size is orderly = let most : length old.devices ≤ 15 = orderly.most in record { most = omega (arith, size, most); room = is.room; answer = is.answer; gone = is.gone }
 
 module _ (old : Places) (n : ℕ) (a : Answer) (new : Places) (orderly : IsOrderly old) where
   alone : (R : Place → Outcome → Place → Type 0) → OnDevice old n (Ok a) new R → IsOrderly new
@@ -212,4 +222,5 @@ opening_orderly config units fits = record {
       let le : length units ≤ 15 = at_most config (length units) fits in omega arith;
   room = length-replicate 15 empty_port;
   answer = λ frame e. absurd (cc);
+  gone = λ n. ap (λ (p : PortState). p.gone) (port_opening config units n);
 }

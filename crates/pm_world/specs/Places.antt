@@ -5,7 +5,7 @@ use Rattle.std.specs.Prelude.{◌++◌, length, map, Option, Some, None, slice_s
 use Rattle.fis_view.specs.Frames.{Stamped}
 use Rattle.fis_view.specs.declared.frame.Stamp.{Stamp}
 use Rattle.multiplier.specs.Arbiter.{control_port}
-use Rattle.multiplier.specs.State.{PmState, opening as opening_multiplier}
+use Rattle.multiplier.specs.State.{PmState, opening as opening_multiplier, port_at}
 use Rattle.disk_model.specs.declared.unit.Unit.{Unit}
 use Rattle.host_memory.specs.Memory.{zeroed}
 use Rattle.hba_fbs.specs.Views.{opening_port}
@@ -67,12 +67,14 @@ pub record Places : Type 0 where
   pub host : Host
 
 -- What is true of every world: it has at most fifteen devices, its multiplier has a place for each
--- fan-out port, and what waits there as the answer of the control port is stamped so.
+-- fan-out port, what waits there as the answer of the control port is stamped so, and no removal is
+-- recorded.
 pub record IsOrderly (now : Places) : Type 0 where
   pub most : length now.devices ≤ 15
   pub room : length now.multiplier.ports ≡ 15
   pub answer : (frame : Stamped) → now.multiplier.answer ≡ Some frame
       → frame.stamp.port ≡ control_port
+  pub gone : (n : ℕ) → (port_at now.multiplier n).gone ≡ 0
 
 -- a device shows no removals
 abbrev pub nothing_shown : List ℕ
