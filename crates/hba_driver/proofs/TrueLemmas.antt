@@ -1,5 +1,5 @@
 -- Done is true.
-use Rattle.std.proofs.Common.{◌≡◌, ◌≢◌, ℕ, ◌<◌, ◌≤◌, ◌⊎◌, Bool, true, false, ◌&&◌, nat_lt, List, [], ◌∷◌, length, refl, sym, ◌∙◌, ap, subst, inl, inr, arith, Option, Some, None}
+use Rattle.std.proofs.Common.{◌≡◌, ℕ, ◌<◌, ◌≤◌, ◌⊎◌, Bool, true, false, ◌&&◌, nat_lt, List, [], ◌∷◌, length, refl, sym, ◌∙◌, ap, subst, inl, inr, arith, Option, Some, None}
 use Rattle.std.specs.Prelude.{if◌then◌else◌, ◌==◌, ◌||◌, not}
 use Rattle.std.specs.List.{list_any}
 use Rattle.std.specs.Option.{option_map}
@@ -47,7 +47,6 @@ use Rattle.hba_driver.proofs.RequestLemmas.{requests_rephased, set_cases}
 use Rattle.hba_driver.proofs.ServeLemmas.{ticks_serve}
 use Rattle.hba_driver.proofs.StageLemmas.{Stage, Idle, Out, Whole, stage_after, stage_by, stage_over, tells}
 use Rattle.hba_driver.proofs.StandLemmas.{in_slots}
-use Rattle.hba_driver.proofs.UpLemmas.{Issues}
 
 -- ---- phases
 
