@@ -1,6 +1,6 @@
--- The port takes every write of the driver: in no tick of a run from an opening is a register missing, locked or a slot busy,
--- and what is issued stands in memory as its slot wants it (AHCI 1.3.1, section 3.3, port registers, 5.5, how commands are
--- issued, and chapter 9).
+-- The port takes every write of the driver: in no tick of a run from an opening is a register missing
+-- or locked or a slot busy, and what is issued stands in memory as its slot wants it (AHCI 1.3.1,
+-- section 3.3, port registers, 5.5, how commands are issued, and chapter 9).
 use Rattle.std.specs.Prelude.{ℕ, ◌≡◌, true, List, [], ◌∷◌, None}
 use Rattle.host_memory.specs.Memory.{Memory, is_memory_size}
 use Rattle.hba_fbs.specs.Views.{Port}

@@ -1,8 +1,9 @@
--- Done is true: a request that ends as Done, and so one that is polled as Done, was completed by its own device, after the tick
--- that issued it and before the tick that ended it (AHCI 1.3.1, 5.3 and 9.3; Serial ATA 3.x, 10.5; native command queuing).
+-- Done is true: a request that ends as Done, and so one that is polled as Done, was completed by its own
+-- device, after the tick that issued it and before the tick that ended it (AHCI 1.3.1, 5.3 and 9.3;
+-- Serial ATA 3.x, 10.5; native command queuing).
 --
--- Cited: the turns of the host and their tickets (specs/HostTurns.antt). Which slots a report names as done, and that the device
--- said so of just these, is DoneIsCompleted of `hba_laws` (specs/Delivering.antt).
+-- Cited: the turns of the host and their tickets (specs/HostTurns.antt). That the device said so of just
+-- the slots that a report names as done is DoneIsCompleted of `hba_laws` (specs/Delivering.antt).
 use Rattle.std.specs.Prelude.{ℕ, ◌≡◌, ◌==◌, ◌&&◌, ◌||◌, Bool, true, false, List, [], ◌∷◌, Some}
 use Rattle.std.specs.List.{list_any}
 use Rattle.host_memory.specs.Memory.{is_memory_size}
@@ -35,7 +36,7 @@ is_completed ticket slot dev old new [] run = false
 is_completed ticket slot dev old new (turn ∷ turns) run =
     (issues ticket old turn && list_any (completes slot dev) turns) || is_completed ticket slot dev run.0 new turns run.2
 
--- the request of a ticket, in its slot: its device, for which it was taken, and which has completed it
+-- the request of a ticket, in its slot: its device, for which it was taken, and which completed it
 pub record WasCompleted (ticket slot : ℕ) (old new : Host) (turns : List HostTurn) (run : DoesAll old turns new) : Type 0 where
   pub dev : ℕ
   pub taken : list_any (takes ticket dev) turns ≡ true
