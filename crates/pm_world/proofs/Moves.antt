@@ -230,8 +230,8 @@ on_device old n a new R moves h =
 
 -- where no removal is recorded, no connection is gone
 pub none_gone : (port : PortState) (conn : ℕ) → port.gone ≡ 0 → is_gone port conn ≡ true → ⊥
-none_gone port conn none yes =
-    let is = up_to_is port.gone conn yes in
+none_gone port conn none so =
+    let is = up_to_is port.gone conn so in
     let some : 0 < conn = is.0 in
     let most : conn ≤ port.gone = is.1 in
     absurd (omega arith)
