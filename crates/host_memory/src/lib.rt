@@ -10,7 +10,7 @@ mod write;
 pub use laws::{scatters_are_single_writes, tables_are_of_their_bytes};
 pub use memory::{HostMemory, MemoryError, Outside};
 pub use parts::Parts;
-pub use table::{Prd, PrdError, PrdTable};
+pub use table::{Prd, PrdError, PrdTable, Run};
 pub use write::{have_overlap, total_of, write_prds};
 
 /// The address at which the client area begins. The structure area lies below it, from address 0 on.

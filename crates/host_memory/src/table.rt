@@ -249,11 +249,13 @@ struct Spot {
     byte: u32,
 }
 
-// A run of the client area: where it begins, and how many bytes it has.
-#[derive(Clone, Copy)]
-struct Run {
-    start: usize,
-    len: usize,
+/// A run of the client area, as a slice is cut out of it to be read or written.
+#[derive(Clone, Copy, Debug, PartialEq, Eq)]
+pub struct Run {
+    /// Where it begins, counted from the begin of the area.
+    pub start: usize,
+    /// How many bytes it has.
+    pub len: usize,
 }
 
 // Where byte `i` of the transfer lies, of which the entries end there.
@@ -357,8 +359,9 @@ impl<'m> PrdTable<'m> {
         count
     }
 
-    // Where the bytes of its entry lie from byte `i` of the transfer on.
-    fn run_from(&self, i: u32) -> Option<Run>
+    /// Where the bytes of its entry lie from byte `i` of the transfer on, None past the end: all of them in the client area,
+    /// one after another. Who has that area to be written cuts the slice out of it.
+    pub fn run_from(&self, i: u32) -> Option<Run>
         ensures none { IsNone result ↔ (total_of self.now.prds ≤ i) }
         ensures some { IfSome result (λ run. IsRun self.now.prds self.now.client_len i run) }
     {

@@ -1,5 +1,5 @@
 use crate::{
-    HostMemory, MemoryError, Outside, PrdError, PrdTable, scatters_are_single_writes,
+    HostMemory, MemoryError, Outside, PrdError, PrdTable, Run, scatters_are_single_writes,
     tables_are_of_their_bytes,
 };
 use byteorder::{ByteOrder, LittleEndian};
@@ -160,6 +160,71 @@ fn gives_parts(rt: HostRuntime) -> Result<(), Fail> {
     let (parts, joined) = parts_of(rt.alloc(), &memory, 2, 0, 512)?;
     assert_eq!(rt; parts.len(), 2);
     assert_eq!(rt; joined.len(), 512);
+    Ok(())
+}
+
+// Fills the rest of its entry from this byte of the transfer on, whose table of three entries lies at 2000h. Answers where
+// that begins and how many bytes it has.
+fn fill_from(memory: &mut HostMemory, offset: u32, byte: u8) -> Option<Run> {
+    let (structure, client) = memory.split();
+    let client_len = client.len() as u32;
+    let Ok(table) = PrdTable::read(structure, client_len, 0x2000, 3) else {
+        return None;
+    };
+    let run = table.run_from(offset)?;
+    let (_, from) = client.split_at_mut(run.start);
+    let (part, _) = from.split_at_mut(run.len);
+    part.fill(byte);
+    Some(run)
+}
+
+#[test]
+fn gives_a_run_to_be_written(rt: HostRuntime) -> Result<(), Fail> {
+    let mut memory = HostMemory::new(rt.alloc(), 0x20_0000)?;
+    let first = table([0x10_1000, 0, 1], [0x10_2000, 0, 5]);
+    let last = table([0x10_3000, 0, 503], [0, 0, 0]);
+    memory.structure_mut()[0x2000..0x2020].copy_from_slice(&first);
+    memory.structure_mut()[0x2020..0x2040].copy_from_slice(&last);
+    for (offset, want) in [
+        (
+            4,
+            Some(Run {
+                start: 0x2002,
+                len: 4,
+            }),
+        ),
+        (
+            1,
+            Some(Run {
+                start: 0x1001,
+                len: 1,
+            }),
+        ),
+        (
+            511,
+            Some(Run {
+                start: 0x31F7,
+                len: 1,
+            }),
+        ),
+        (512, None),
+    ] {
+        assert_eq!(rt; fill_from(&mut memory, offset, 0xAA), want, "{offset}");
+    }
+    for (address, byte) in [
+        (0x10_1000, 0),
+        (0x10_1001, 0xAA),
+        (0x10_1002, 0),
+        (0x10_2001, 0),
+        (0x10_2002, 0xAA),
+        (0x10_2005, 0xAA),
+        (0x10_2006, 0),
+        (0x10_31F6, 0),
+        (0x10_31F7, 0xAA),
+        (0x10_31F8, 0),
+    ] {
+        assert_eq!(rt; byte_at(&memory, address), Some(byte), "{address:x}");
+    }
     Ok(())
 }
 
