@@ -42,8 +42,7 @@ impl Scenario {
         }
     }
 
-    /// Does what one line says. The first line that is no setting builds the world, also where that
-    /// line is refused.
+    /// Does what one line says.
     fn play_line<W: Write>(
         &mut self,
         alloc: Global,
@@ -56,13 +55,24 @@ impl Scenario {
         }
         match Setting::read(alloc, name, &mut words, &self.opening)? {
             Some(setting) => Ok(self.opening.set(alloc, setting)?),
-            None => {
-                let mut scene = Scene::open(alloc, self.close_opening(alloc), out)?;
-                scene.play_line(alloc, name, words, out)?;
-                self.scene = Some(scene);
-                Ok(())
-            }
+            None => self.begin(alloc, name, words, out),
         }
+    }
+
+    /// Builds the world at the first line that is no setting, also where that line is refused, and does what it asks.
+    // A function clears all its locals when it is called, and a world is large: no other line is to pay for that.
+    #[inline(never)]
+    fn begin<W: Write>(
+        &mut self,
+        alloc: Global,
+        name: &[u8],
+        words: Words<'_>,
+        out: &mut W,
+    ) -> Result<(), Failure> {
+        let mut scene = Scene::open(alloc, self.close_opening(alloc), out)?;
+        scene.play_line(alloc, name, words, out)?;
+        self.scene = Some(scene);
+        Ok(())
     }
 
     /// What was said of the world, which is said once.
