@@ -97,8 +97,8 @@ impl Frame {
         Ok(Frame { bytes, stamp })
     }
 
-    /// The same of a `Vec`, with no copy.
-    pub(crate) fn from_vec(bytes: Vec<u8>, stamp: Stamp) -> Frame
+    /// A frame of these bytes as they lie, with no copy. [`is_frame_length`] tells whether they may be one.
+    pub fn from_vec(bytes: Vec<u8>, stamp: Stamp) -> Frame
         requires { IsFrame bytes.items }
         ensures { result ≡ record { bytes = bytes.items; stamp = stamp } }
     {

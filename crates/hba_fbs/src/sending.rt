@@ -1,6 +1,6 @@
 //! What goes out next: data of writes, and commands.
 
-ghost use Rattle.std.specs.Prelude.{◌≡◌, ◌<◌, ◌≤◌, ◌+◌, ◌%◌, ◌&&◌, None, Some, Ok, true, false, ℕ, is_none, is_some, bit_or, MatchOption, IfOk, IfSome, IsSome, OnErr, length};
+ghost use Rattle.std.specs.Prelude.{◌≡◌, ◌<◌, ◌≤◌, ◌+◌, ◌&&◌, [], None, Some, Ok, true, false, ℕ, is_none, is_some, bit_or, MatchOption, IfOk, IfSome, IsSome, OnErr, length};
 ghost use Rattle.host_memory.specs.Memory.{Memory};
 ghost use Rattle.host_memory.specs.Place.{total_of};
 ghost use Rattle.host_memory.specs.Reading.{read_fault};
@@ -20,13 +20,15 @@ use crate::registers::Registers;
 use crate::state::{DeviceState, state_of};
 use crate::status::{is_busy, wants_data};
 use bitflags::Flags;
-use fis_view::{Frame, Stamp, payload};
+use fis_view::{Frame, Stamp};
 use hba_commands::Command;
 use host_memory::{HostMemory, PrdTable};
 use port_errors::{PortCause, PortErrors};
 use slots::{Kind, SlotTable};
 use std::alloc::{AllocError, Global};
 
+/// The type of a Data FIS (Serial ATA 3.x, 10.5.12).
+const DATA: u8 = 0x46;
 /// SRST, Software Reset, in the Control field.
 const SRST: u32 = 2;
 /// The Control field in a Register Host to Device FIS.
@@ -109,9 +111,19 @@ fn stamp(dev: u8, number: u32) -> Stamp
     }
 }
 
-// Bytes of a transfer, from this one on, as they stand at their places.
+// The head of a Data FIS to a device, in a list with room for so many bytes of data behind it.
+fn data_head(alloc: Global, dev: u8, len: u32) -> Result<Vec<u8>, AllocError>
+    ensures { IfOk result (λ bytes. bytes.items ≡ data_fis dev []) }
+{
+    let mut bytes = Vec::with_capacity(alloc, 4 + len as usize)?;
+    bytes.extend_from_slice(&[DATA, dev, 0, 0])?;
+    Ok(bytes)
+}
+
+// A Data FIS that carries bytes of a transfer, from this one on, as they stand at their places.
 fn gather(
     alloc: Global,
+    dev: u8,
     memory: &HostMemory,
     command: &Command,
     offset: u32,
@@ -120,11 +132,11 @@ fn gather(
     requires readable { read_fault memory.now.structure (length memory.now.client)
         (command.now.table + 128) command.now.count ≡ None }
     requires fits { offset + len ≤ total_of (prds_of memory.now command.now) }
-    ensures bytes { IfOk result (λ bytes. bytes.items
-        ≡ gathered (prds_of memory.now command.now) offset len memory.now.client) }
-    ensures len { IfOk result (λ bytes. length bytes.items ≡ len) }
+    ensures bytes { IfOk result (λ bytes. bytes.items ≡ data_fis dev
+        (gathered (prds_of memory.now command.now) offset len memory.now.client)) }
+    ensures len { IfOk result (λ bytes. length bytes.items ≡ len + 4) }
 {
-    let mut bytes = Vec::with_capacity(alloc, len as usize)?;
+    let mut bytes = data_head(alloc, dev, len)?;
     let structure = memory.structure();
     let client = memory.client();
     let client_len = client.len() as u32;
@@ -137,21 +149,6 @@ fn gather(
         Err(_) => unreachable!(),
     }
     Ok(bytes)
-}
-
-// A Data FIS that carries these bytes.
-fn data_frame(alloc: Global, dev: u8, bytes: &[u8], number: u32) -> Result<Frame, AllocError>
-    requires dev { dev < 16 }
-    requires some { 0 < length bytes.now }
-    requires few { length bytes.now ≤ 8192 }
-    requires dwords { length bytes.now % 4 ≡ 0 }
-    ensures { IfOk result (λ frame. frame
-        ≡ record { bytes = data_fis dev bytes.now; stamp = host_stamp dev number }) }
-{
-    match payload(alloc, dev, bytes, stamp(dev, number)) {
-        Ok(frame) => Ok(frame),
-        Err(_) => Err(AllocError),
-    }
 }
 
 // A frame of a command.
@@ -295,8 +292,8 @@ impl HostPort {
             self.fail();
             return Ok(None);
         };
-        let bytes = gather(alloc, memory, &command, offset, len)?;
-        let frame = data_frame(alloc, dev, &bytes, self.number)?;
+        let bytes = gather(alloc, dev, memory, &command, offset, len)?;
+        let frame = Frame::from_vec(bytes, stamp(dev, self.number));
         self.feed(dev);
         Ok(Some(frame))
     }

@@ -51,6 +51,11 @@ fn copies_and_marks(rt: HostRuntime) -> Result<(), Fail> {
     let again = Bytes::from_slice(rt.alloc(), bytes.as_slice())?;
     let again = Bytes::from_vec(again.into_vec());
     assert_eq!(rt; again.as_slice(), bytes.as_slice());
+    let activate = Vec::from_slice(rt.alloc(), &[0x39, 2, 0, 0])?;
+    assert!(rt; is_frame_length(&activate));
+    let frame = Frame::from_vec(activate, STAMP);
+    assert_eq!(rt; frame.bytes(), [0x39, 2, 0, 0].as_slice());
+    assert_eq!(rt; frame.stamp(), STAMP);
     Ok(())
 }
 

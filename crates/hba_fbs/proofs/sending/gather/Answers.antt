@@ -1,15 +1,15 @@
-use Rattle.std.proofs.Common.{◌+◌, ◌++◌, ℕ, List, length, ap, refl, sym, ◌∙◌}
+use Rattle.std.proofs.Common.{◌≡◌, ◌+◌, ◌++◌, ℕ, List, length, ap, arith, refl, sym, ◌∙◌}
 use Rattle.std.proofs.lemmas.List.{append_assoc, append-nil}
 use Rattle.std.specs.List.{concat}
 use Rattle.host_memory.specs.Reading.{prds_at}
 use Rattle.host_memory.specs.declared.table.Prd.{Prd}
-use Rattle.hba_fbs.specs.Sending.{gathered}
+use Rattle.hba_fbs.specs.Sending.{data_fis, gathered}
 use Rattle.hba_fbs.specs.Tables.{prds_of}
 use Rattle.hba_fbs.proofs.SendLemmas.{gathered_is}
 use Rattle.hba_fbs.proofs.sending.gather.Goals as goal
 
 pub loop-part-init : goal.loop-part-init
-loop-part-init c = rw c.in_ok-bytes.ensures.items refl
+loop-part-init c = rw c.in_ok-bytes.ensures refl
 
 pub loop-part-preserved : goal.loop-part-preserved
 loop-part-preserved c =
@@ -18,16 +18,19 @@ loop-part-preserved c =
     ∙ ap (λ (parts : List (List ℕ)). c.loop-part.bytes.items ++ concat parts) (sym c.in-Some.ensures.steps)
     ∙ c.loop-part.invariant
 
--- nothing is left, so what was copied is the whole
+-- nothing is left, so behind the head is the whole
 pub returns-clause-bytes : goal.returns-clause-bytes
 returns-clause-bytes c =
+    let dev = c.args.dev in
     let all = sym (append-nil c.loop-part.bytes.items) ∙ ap (λ (parts : List (List ℕ)). c.loop-part.bytes.items ++ concat parts) (sym c.in-None.ensures.steps.0) ∙ c.loop-part.invariant in
-    all ∙ ap concat c.into_iter-part-iterator.ensures.into_iter_gives ∙ gathered_is _ _ _ _ _ c.parts-part-items.ensures
+    let whole = ap concat c.into_iter-part-iterator.ensures.into_iter_gives ∙ gathered_is _ _ _ _ _ c.parts-part-items.ensures
     ∙ ap (λ (prds : List Prd). gathered prds c.args.offset c.args.len c.client-client.result.now)
     (c.in-Ok.ensures.prds ∙ ap (λ (s : List ℕ). prds_at s (c.args.command.now.table + 128) c.args.command.now.count) c.structure-structure.ensures.structure)
-    ∙ ap (λ (l : List ℕ). gathered (prds_of c.args.memory.now c.args.command.now) c.args.offset c.args.len l) c.client-client.ensures.client
+    ∙ ap (λ (l : List ℕ). gathered (prds_of c.args.memory.now c.args.command.now) c.args.offset c.args.len l) c.client-client.ensures.client in
+    all ∙ ap (data_fis dev) whole
 
 pub returns-clause-len : goal.returns-clause-len
 returns-clause-len c =
     let all = sym (append-nil c.loop-part.bytes.items) ∙ ap (λ (parts : List (List ℕ)). c.loop-part.bytes.items ++ concat parts) (sym c.in-None.ensures.steps.0) ∙ c.loop-part.invariant in
-    ap length (all ∙ ap concat c.into_iter-part-iterator.ensures.into_iter_gives) ∙ c.parts-part-items.ensures.as_long
+    let long = ap length (ap concat c.into_iter-part-iterator.ensures.into_iter_gives) ∙ c.parts-part-items.ensures.as_long in
+    omega (arith, ap length all, long)
