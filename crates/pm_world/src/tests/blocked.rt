@@ -1,141 +1,156 @@
 //! When a step is Idle and when it is Blocked.
 
-use super::reading::done;
-use super::rig::{Rig, Told, put};
-use crate::Step;
-use fis_view::Bytes;
+use super::reading::{FIRST_DONE, SECOND_DONE};
+use super::rig::{Act, Rig, Told};
 use hba_driver::Work;
 use multiplier::Passed;
-use std::alloc::Global;
 use std::process::Abort;
 use std::test::Fail;
 
-/// In a new world nothing is to be moved, but that the driver opens the port: seven writes and an issue.
+/// In a new world.
+const NEW: [(Act, Told); 10] = [
+    (Act::DiskSend(0), Told::Idle),
+    (Act::DiskTake(0), Told::Idle),
+    (Act::PmPresence(0), Told::Idle),
+    (Act::PmFromDevice(0), Told::Idle),
+    (Act::PmFromHost, Told::Idle),
+    (Act::PmUp, Told::Idle),
+    (Act::PmDown(0), Told::Idle),
+    (Act::HostTake, Told::Idle),
+    (Act::HostPush, Told::Idle),
+    (Act::Poll, Told::Idle),
+];
+
+/// The driver opens the port: seven writes and an issue.
+const OPENS: [(Act, Told); 8] = [
+    (Act::Tick, Told::Ticked),
+    (Act::Tick, Told::Ticked),
+    (Act::Tick, Told::Ticked),
+    (Act::Tick, Told::Ticked),
+    (Act::Tick, Told::Ticked),
+    (Act::Tick, Told::Ticked),
+    (Act::Tick, Told::Ticked),
+    (Act::Tick, Told::Ticked),
+];
+
+/// In a new world nothing is to be moved, but that the driver opens the port.
 #[test]
 fn nothing_moves_at_first(rt: HostRuntime) -> Result<(), Fail> {
-    let alloc = rt.alloc();
-    let mut rig = Rig::new(alloc, 1, 1)?;
-    let rows = [
-        (Step::DiskSend(0), Told::Idle),
-        (Step::DiskTake(0), Told::Idle),
-        (Step::PmPresence(0), Told::Idle),
-        (Step::PmFromDevice(0), Told::Idle),
-        (Step::PmFromHost, Told::Idle),
-        (Step::PmUp, Told::Idle),
-        (Step::PmDown(0), Told::Idle),
-        (Step::HostTake, Told::Idle),
-        (Step::HostPush, Told::Idle),
-        (Step::Poll, Told::Idle),
-    ];
-    rig.answers(&rt, alloc, &rows)?;
-    for _ in 0..8 {
-        rig.answers(&rt, alloc, &[(Step::Tick, Told::Ticked)])?;
-    }
-    rig.answers(&rt, alloc, &[(Step::Tick, Told::Idle)])
+    let mut rig = Rig::new(rt.alloc(), 1, 1)?;
+    rig.answers(&rt, &NEW);
+    rig.answers(&rt, &OPENS);
+    rig.answers(&rt, &[(Act::Tick, Told::Idle)]);
+    Ok(())
 }
 
-/// A device's link and the place of its port hold a frame each. A full link blocks though the disk has nothing to send; an
-/// empty one is Idle though the place is taken.
+/// A device's link and the place of its port hold a frame each.
+const ON_THE_WAY_UP: [(Act, Told); 12] = [
+    (Act::Came(0), Told::Came(0, 1)),
+    (Act::DiskSend(0), Told::Sent(0, 1, 0)),
+    (Act::DiskSend(0), Told::Blocked),
+    (Act::PmPresence(0), Told::Presence(0)),
+    (Act::PmPresence(0), Told::Idle),
+    (Act::PmFromDevice(0), Told::Offered(0, false)),
+    (Act::PmFromDevice(0), Told::Idle),
+    (Act::DiskSend(0), Told::Idle),
+    (Act::Inject(0, 4), Told::Sent(0, 1, 1)),
+    (Act::PmFromDevice(0), Told::Blocked),
+    (Act::PmUp, Told::Idle),
+    (Act::HostTake, Told::Idle),
+];
+
+/// A full link blocks though the disk has nothing to send; an empty one is Idle though the place is taken.
 #[test]
 fn frames_wait_on_their_way_up(rt: HostRuntime) -> Result<(), Fail> {
-    let alloc = rt.alloc();
-    let mut rig = Rig::new(alloc, 1, 1)?;
-    let injected = Step::Inject(0, Bytes::from_slice(alloc, &[0; 4])?);
-    let rows = [
-        (Step::Came(0), Told::Came(0, 1)),
-        (Step::DiskSend(0), Told::Sent(0, 0)),
-        (Step::DiskSend(0), Told::Blocked),
-        (Step::PmPresence(0), Told::Presence(0)),
-        (Step::PmPresence(0), Told::Idle),
-        (Step::PmFromDevice(0), Told::Offered(0, false)),
-        (Step::PmFromDevice(0), Told::Idle),
-        (Step::DiskSend(0), Told::Idle),
-        (injected, Told::Sent(0, 1)),
-        (Step::PmFromDevice(0), Told::Blocked),
-        (Step::PmUp, Told::Idle),
-        (Step::HostTake, Told::Idle),
-    ];
-    rig.answers(&rt, alloc, &rows)
+    let mut rig = Rig::new(rt.alloc(), 1, 1)?;
+    rig.answers(&rt, &ON_THE_WAY_UP);
+    Ok(())
 }
 
-/// The links of the host hold a frame each. While the one from the host is full the host port is not asked: its next frame
-/// goes when there is room, and is the end of the software reset, which the multiplier answers. A full link to the host blocks
-/// though nothing is ready.
+/// The links of the host hold a frame each.
+const AT_THE_HOST: [(Act, Told); 14] = [
+    (Act::HostPush, Told::Pushed),
+    (Act::HostPush, Told::Blocked),
+    (Act::Tick, Told::Ticked),
+    (Act::HostPush, Told::Blocked),
+    (Act::PmFromHost, Told::Passed(Passed::Control)),
+    (Act::PmUp, Told::Idle),
+    (Act::HostPush, Told::Pushed),
+    (Act::PmFromHost, Told::Passed(Passed::Control)),
+    (Act::PmFromHost, Told::Idle),
+    (Act::HostPush, Told::Idle),
+    (Act::PmUp, Told::Up(15)),
+    (Act::PmUp, Told::Blocked),
+    (Act::HostTake, Told::Took(15, 0, 0)),
+    (Act::HostTake, Told::Idle),
+];
+
+/// While the link from the host is full the host port is not asked: its next frame goes when there is room, and is the end
+/// of the software reset, which the multiplier answers. A full link to the host blocks though nothing is ready.
 #[test]
 fn frames_wait_at_the_host(rt: HostRuntime) -> Result<(), Fail> {
-    let alloc = rt.alloc();
-    let mut rig = Rig::new(alloc, 1, 1)?;
-    for _ in 0..8 {
-        rig.answers(&rt, alloc, &[(Step::Tick, Told::Ticked)])?;
-    }
-    let rows = [
-        (Step::HostPush, Told::Pushed),
-        (Step::HostPush, Told::Blocked),
-        (Step::Tick, Told::Ticked),
-        (Step::HostPush, Told::Blocked),
-        (Step::PmFromHost, Told::Passed(Passed::Control)),
-        (Step::PmUp, Told::Idle),
-        (Step::HostPush, Told::Pushed),
-        (Step::PmFromHost, Told::Passed(Passed::Control)),
-        (Step::PmFromHost, Told::Idle),
-        (Step::HostPush, Told::Idle),
-        (Step::PmUp, Told::Up(15)),
-        (Step::PmUp, Told::Blocked),
-        (Step::HostTake, Told::Took(15, 0)),
-        (Step::HostTake, Told::Idle),
-    ];
-    rig.answers(&rt, alloc, &rows)
+    let mut rig = Rig::new(rt.alloc(), 1, 1)?;
+    rig.answers(&rt, &OPENS);
+    rig.answers(&rt, &AT_THE_HOST);
+    Ok(())
 }
 
 /// A queued write of sector 3 in slot 0, up to the DMA Activate at the host, and then a read of sector 4 in slot 1, which is
 /// issued: a command and data wait to go down.
-fn two_frames(rt: &impl Abort, alloc: Global, rig: &mut Rig) -> Result<(), Fail> {
-    let put = put(alloc, 0x10_2000, &[7; 512])?;
-    rig.answers(rt, alloc, &[(put, Told::Put)])?;
-    rig.submits(rt, alloc, (0, Work::Write, 3, 0x10_2000), 1)?;
-    let rows = [
-        (Step::Tick, Told::Ticked),
-        (Step::HostPush, Told::Pushed),
-        (Step::PmFromHost, Told::Passed(Passed::Down(0))),
-        (Step::PmDown(0), Told::Down(0)),
-        (Step::DiskTake(0), Told::DiskTook(0, false)),
-    ];
-    rig.answers(rt, alloc, &rows)?;
-    for number in 3..6 {
-        let rows = [
-            (Step::DiskSend(0), Told::Sent(0, number)),
-            (Step::PmFromDevice(0), Told::Offered(0, false)),
-            (Step::PmUp, Told::Up(0)),
-            (Step::HostTake, Told::Took(0, number)),
-        ];
-        rig.answers(rt, alloc, &rows)?;
-    }
-    rig.submits(rt, alloc, (0, Work::Read, 4, 0x10_4000), 2)?;
-    rig.answers(rt, alloc, &[(Step::Tick, Told::Ticked)])
+const TWO_FRAMES: [(Act, Told); 21] = [
+    (Act::Put(0x10_2000, 7, 512), Told::Put),
+    (
+        Act::Submit(0, Work::Write, 3, 0x10_2000),
+        Told::Submitted(1),
+    ),
+    (Act::Tick, Told::Ticked),
+    (Act::HostPush, Told::Pushed),
+    (Act::PmFromHost, Told::Passed(Passed::Down(0))),
+    (Act::PmDown(0), Told::Down(0)),
+    (Act::DiskTake(0), Told::DiskTook(0, false)),
+    (Act::DiskSend(0), Told::Sent(0, 1, 3)),
+    (Act::PmFromDevice(0), Told::Offered(0, false)),
+    (Act::PmUp, Told::Up(0)),
+    (Act::HostTake, Told::Took(0, 1, 3)),
+    (Act::DiskSend(0), Told::Sent(0, 1, 4)),
+    (Act::PmFromDevice(0), Told::Offered(0, false)),
+    (Act::PmUp, Told::Up(0)),
+    (Act::HostTake, Told::Took(0, 1, 4)),
+    (Act::DiskSend(0), Told::Sent(0, 1, 5)),
+    (Act::PmFromDevice(0), Told::Offered(0, false)),
+    (Act::PmUp, Told::Up(0)),
+    (Act::HostTake, Told::Took(0, 1, 5)),
+    (Act::Submit(0, Work::Read, 4, 0x10_4000), Told::Submitted(2)),
+    (Act::Tick, Told::Ticked),
+];
+
+/// The place of a port on the way down and the link to its device hold a frame each.
+const ON_THE_WAY_DOWN: [(Act, Told); 12] = [
+    (Act::HostPush, Told::Pushed),
+    (Act::PmFromHost, Told::Passed(Passed::Down(0))),
+    (Act::HostPush, Told::Pushed),
+    (Act::PmFromHost, Told::Blocked),
+    (Act::PmDown(0), Told::Down(0)),
+    (Act::PmDown(0), Told::Blocked),
+    (Act::PmFromHost, Told::Passed(Passed::Down(0))),
+    (Act::PmDown(0), Told::Blocked),
+    (Act::DiskTake(0), Told::DiskTook(0, false)),
+    (Act::DiskTake(0), Told::Idle),
+    (Act::PmDown(0), Told::Down(0)),
+    (Act::DiskTake(0), Told::DiskTook(0, false)),
+];
+
+/// A full link blocks though nothing waits in the place.
+fn down(rt: &impl Abort, rig: &mut Rig) {
+    rig.answers(rt, &TWO_FRAMES);
+    rig.answers(rt, &ON_THE_WAY_DOWN);
+    assert!(rt; rig.settle());
+    rig.answers(rt, &[(Act::Poll, FIRST_DONE), (Act::Poll, SECOND_DONE)]);
 }
 
-/// The place of a port on the way down and the link to its device hold a frame each. A full link blocks though nothing waits
-/// in the place.
 #[test]
 fn frames_wait_on_their_way_down(rt: HostRuntime) -> Result<(), Fail> {
-    let alloc = rt.alloc();
-    let mut rig = Rig::ready(alloc, 1)?;
-    two_frames(&rt, alloc, &mut rig)?;
-    let rows = [
-        (Step::HostPush, Told::Pushed),
-        (Step::PmFromHost, Told::Passed(Passed::Down(0))),
-        (Step::HostPush, Told::Pushed),
-        (Step::PmFromHost, Told::Blocked),
-        (Step::PmDown(0), Told::Down(0)),
-        (Step::PmDown(0), Told::Blocked),
-        (Step::PmFromHost, Told::Passed(Passed::Down(0))),
-        (Step::PmDown(0), Told::Blocked),
-        (Step::DiskTake(0), Told::DiskTook(0, false)),
-        (Step::DiskTake(0), Told::Idle),
-        (Step::PmDown(0), Told::Down(0)),
-        (Step::DiskTake(0), Told::DiskTook(0, false)),
-    ];
-    rig.answers(&rt, alloc, &rows)?;
-    rig.settle(alloc)?;
-    rig.answers(&rt, alloc, &[(Step::Poll, done(0)), (Step::Poll, done(1))])
+    let mut rig = Rig::ready(rt.alloc(), 1)?;
+    down(&rt, &mut rig);
+    Ok(())
 }

@@ -9,6 +9,7 @@ use crate::{Answer, Step};
 use fis_view::{Bytes, Frame, Stamp};
 use multiplier::{Multiplier, Passed};
 use std::alloc::Global;
+use std::marker::Model;
 use std::test::Fail;
 
 /// A second host, and a second multiplier, with a device at each port.
@@ -17,9 +18,17 @@ pub(super) struct Echo {
     host: Host,
     multiplier: Multiplier,
     /// The last frame that the host sent.
-    pub(super) pushed: Option<Bytes>,
+    pushed: Option<Bytes>,
     /// The last frame that went down to a device.
-    pub(super) fell: Option<Bytes>,
+    fell: Option<Bytes>,
+}
+
+impl Model for Echo {
+    ghost use Rattle.std.specs.Prelude.{ℕ};
+
+    ghost Value = { ℕ };
+
+    ghost view = { λ _. 0 };
 }
 
 /// Whether port `n` is there.
@@ -43,6 +52,68 @@ fn three() -> Result<Multiplier, Fail> {
     Ok(pm)
 }
 
+/// Has the host take these bytes. Answers whether there was memory.
+fn take(alloc: Global, host: &mut Host, bytes: &[u8]) -> bool {
+    let stamp = Stamp {
+        port: 0,
+        conn: 1,
+        number: 0,
+        shown: [0; 15],
+    };
+    match Frame::from_bytes(alloc, bytes, stamp) {
+        Ok(frame) => {
+            let _ = host.take(&frame);
+            true
+        }
+        Err(_) => false,
+    }
+}
+
+/// Does what the client asked of the host in this step.
+fn serve(host: &mut Host, step: &Step) -> bool {
+    match step {
+        Step::Submit(dev, request) => {
+            let _ = host.submit(*dev, request);
+            true
+        }
+        Step::Poll => {
+            let _ = host.poll();
+            true
+        }
+        Step::Put(at, bytes) => host.put(*at, bytes).is_ok(),
+        _ => true,
+    }
+}
+
+/// The bytes of the frame that waits for device `n`.
+fn next_down(pm: &mut Multiplier, n: u8) -> Option<Bytes> {
+    if !has_port(pm, n) {
+        return None;
+    }
+    let frame = pm.next_down(n)?;
+    Some(frame.into_bytes())
+}
+
+/// Notification and answer go nowhere.
+fn hear_no_answer(alloc: Global, pm: &mut Multiplier) {
+    for _ in 0..2 {
+        let _ = pm.next_up(alloc);
+    }
+}
+
+/// The bytes of what goes down to a device, none where the frame goes to the control port; nothing where it is dropped or
+/// given back.
+fn pass(alloc: Global, pm: &mut Multiplier, frame: Frame) -> Option<Option<Bytes>> {
+    match pm.from_host(alloc, frame) {
+        Ok(Passed::Down(n)) => Some(next_down(pm, n)),
+        Ok(Passed::Control) => {
+            hear_no_answer(alloc, pm);
+            Some(None)
+        }
+        _ => None,
+    }
+}
+
 impl Echo {
     /// Of a world of three ports.
     pub(super) fn new(alloc: Global) -> Result<Echo, Fail> {
@@ -54,70 +125,42 @@ impl Echo {
         })
     }
 
-    /// Does what the world's host did in this step.
-    pub(super) fn follow(
-        &mut self,
-        alloc: Global,
-        step: &Step,
-        answer: &Answer,
-    ) -> Result<(), Fail> {
-        match (step, answer) {
-            (Step::Tick, Answer::Ticked) => {
-                let _ = self.host.tick();
+    /// Does what the world's host did in this step. Answers whether it could.
+    pub(super) fn follow(&mut self, alloc: Global, step: &Step, answer: &Answer) -> bool {
+        match answer {
+            Answer::Ticked => {
+                let acted = self.host.tick();
+                matches!(&acted, Answer::Ticked)
             }
-            (Step::Submit(dev, request), _) => {
-                let _ = self.host.submit(*dev, request);
-            }
-            (Step::Poll, _) => {
-                let _ = self.host.poll();
-            }
-            (Step::Put(at, bytes), _) => {
-                let _ = self.host.put(*at, bytes)?;
-            }
-            (Step::HostTake, Answer::Took { bytes, .. }) => self.take(alloc, bytes.as_slice())?,
-            (Step::HostPush, Answer::Pushed) => self.push(alloc)?,
-            _ => {}
+            Answer::Took { bytes, .. } => take(alloc, &mut self.host, bytes.as_slice()),
+            Answer::Pushed => self.push(alloc),
+            _ => serve(&mut self.host, step),
         }
-        Ok(())
     }
 
-    fn take(&mut self, alloc: Global, bytes: &[u8]) -> Result<(), Fail> {
-        let stamp = Stamp {
-            port: 0,
-            conn: 1,
-            number: 0,
-            shown: [0; 15],
+    fn push(&mut self, alloc: Global) -> bool {
+        let Ok(Some(frame)) = self.host.next_out(alloc) else {
+            return false;
         };
-        let frame = Frame::from_bytes(alloc, bytes, stamp)?;
-        let _ = self.host.take(&frame);
-        Ok(())
+        self.pushed = Bytes::from_slice(alloc, frame.bytes()).ok();
+        match pass(alloc, &mut self.multiplier, frame) {
+            Some(fell) => {
+                self.fell = fell;
+                true
+            }
+            None => false,
+        }
     }
 
-    fn push(&mut self, alloc: Global) -> Result<(), Fail> {
-        let frame = self.host.next_out(alloc)?.ok_or("nothing is sent")?;
-        self.pushed = Some(Bytes::from_slice(alloc, frame.bytes())?);
-        match self.multiplier.from_host(alloc, frame) {
-            Ok(Passed::Down(n)) => self.fell = self.next_down(n),
-            Ok(Passed::Control) => self.hear_no_answer(alloc)?,
-            Ok(Passed::Dropped) => return Err("dropped".into()),
-            Err((_, refusal)) => return Err(refusal.into()),
-        }
-        Ok(())
+    /// The last frame that the host sent.
+    pub(super) fn pushed(&self) -> Option<&[u8]> {
+        let bytes = self.pushed.as_ref()?;
+        Some(bytes.as_slice())
     }
 
-    fn next_down(&mut self, n: u8) -> Option<Bytes> {
-        if !has_port(&self.multiplier, n) {
-            return None;
-        }
-        let frame = self.multiplier.next_down(n)?;
-        Some(frame.into_bytes())
-    }
-
-    /// Notification and answer go nowhere.
-    fn hear_no_answer(&mut self, alloc: Global) -> Result<(), Fail> {
-        for _ in 0..2 {
-            let _ = self.multiplier.next_up(alloc)?;
-        }
-        Ok(())
+    /// The last frame that went down to a device.
+    pub(super) fn fell(&self) -> Option<&[u8]> {
+        let bytes = self.fell.as_ref()?;
+        Some(bytes.as_slice())
     }
 }

@@ -1,157 +1,118 @@
 //! Each refusal of a step, and which comes first.
 
-use super::reading::done;
-use super::rig::{Rig, Told, act, telling};
-use crate::{Step, StepError};
-use fis_view::Bytes;
+use super::reading::{FIRST_DONE, SECOND_DONE};
+use super::rig::{Act, Rig, Told};
+use crate::StepError;
 use hba_driver::Work;
-use std::alloc::{AllocError, Global};
 use std::process::Abort;
 use std::test::Fail;
 
-/// What a step tells, or why it is refused.
-type Tried = Result<Told, StepError>;
+const NO_PORT: Told = Told::Stopped(StepError::NoSuchPort);
 
-fn tried(rig: &mut Rig, alloc: Global, step: &Step) -> Tried {
-    match act(&mut rig.world, alloc, step) {
-        Ok(answer) => Ok(telling(&answer)),
-        Err(e) => Err(e),
-    }
-}
+const IN_USE: Told = Told::Stopped(StepError::InUse);
 
-fn zeros(alloc: Global, len: usize) -> Result<Bytes, AllocError> {
-    Ok(Bytes::from_vec(vec![in alloc; 0; len]?))
-}
-
-/// So many zeros are sent as the device at port `n`.
-fn injected(rig: &mut Rig, alloc: Global, n: u8, len: usize) -> Result<Tried, AllocError> {
-    let step = Step::Inject(n, zeros(alloc, len)?);
-    Ok(tried(rig, alloc, &step))
-}
-
-/// So many zeros are put at an address.
-fn put(rig: &mut Rig, alloc: Global, at: u32, len: usize) -> Result<Tried, AllocError> {
-    let step = Step::Put(at, zeros(alloc, len)?);
-    Ok(tried(rig, alloc, &step))
-}
+const OUTSIDE: Told = Told::Stopped(StepError::Outside);
 
 /// There is no such port, whatever else applies.
+fn has_no_port(rt: &impl Abort, rig: &mut Rig, n: u8) {
+    let rows = [
+        (Act::Came(n), NO_PORT),
+        (Act::DiskSend(n), NO_PORT),
+        (Act::DiskTake(n), NO_PORT),
+        (Act::PmPresence(n), NO_PORT),
+        (Act::PmFromDevice(n), NO_PORT),
+        (Act::PmDown(n), NO_PORT),
+        (Act::Inject(n, 3), NO_PORT),
+    ];
+    rig.answers(rt, &rows);
+}
+
 #[test]
 fn ports_are_looked_at_first(rt: HostRuntime) -> Result<(), Fail> {
-    let alloc = rt.alloc();
-    let mut rig = Rig::new(alloc, 2, 1)?;
+    let mut rig = Rig::new(rt.alloc(), 2, 1)?;
     for n in [2, 15, 255] {
-        let steps = [
-            Step::Came(n),
-            Step::DiskSend(n),
-            Step::DiskTake(n),
-            Step::PmPresence(n),
-            Step::PmFromDevice(n),
-            Step::PmDown(n),
-        ];
-        for step in steps.iter() {
-            assert_eq!(rt;
-                tried(&mut rig, alloc, step),
-                Err(StepError::NoSuchPort),
-                "{n}"
-            );
-        }
-        assert_eq!(rt;
-            injected(&mut rig, alloc, n, 3)?,
-            Err(StepError::NoSuchPort),
-            "{n}"
-        );
+        has_no_port(&rt, &mut rig, n);
     }
     Ok(())
 }
 
-/// Zeros that are sent as a device, one after another, where nothing is taken off its link.
-const INJECTED: [(usize, Tried); 6] = [
-    (0, Err(StepError::BadBytes)),
-    (3, Err(StepError::BadBytes)),
-    (8200, Err(StepError::BadBytes)),
-    (4, Ok(Told::Sent(0, 0))),
-    (3, Err(StepError::BadBytes)),
-    (4, Ok(Told::Blocked)),
+/// Without a device nothing is injected; with one, no other comes, and what is no frame is refused, be the link full or
+/// not. Nothing is taken off the link.
+const COMING: [(Act, Told); 10] = [
+    (Act::Inject(0, 3), Told::Stopped(StepError::NotThere)),
+    (Act::Inject(0, 4), Told::Stopped(StepError::NotThere)),
+    (Act::Came(0), Told::Came(0, 1)),
+    (Act::Came(0), Told::Stopped(StepError::AlreadyThere)),
+    (Act::Inject(0, 0), Told::Stopped(StepError::BadBytes)),
+    (Act::Inject(0, 3), Told::Stopped(StepError::BadBytes)),
+    (Act::Inject(0, 8200), Told::Stopped(StepError::BadBytes)),
+    (Act::Inject(0, 4), Told::Sent(0, 1, 0)),
+    (Act::Inject(0, 3), Told::Stopped(StepError::BadBytes)),
+    (Act::Inject(0, 4), Told::Blocked),
 ];
 
-/// Without a device nothing is injected; with one, no other comes, and what is no frame is refused, be the link full or not.
 #[test]
 fn devices_come_once_and_send_frames(rt: HostRuntime) -> Result<(), Fail> {
-    let alloc = rt.alloc();
-    let mut rig = Rig::new(alloc, 1, 1)?;
-    for len in [3, 4] {
-        assert_eq!(rt;
-            injected(&mut rig, alloc, 0, len)?,
-            Err(StepError::NotThere),
-            "{len}"
-        );
-    }
-    for came in [Ok(Told::Came(0, 1)), Err(StepError::AlreadyThere)] {
-        assert_eq!(rt; tried(&mut rig, alloc, &Step::Came(0)), came);
-    }
-    for (len, wanted) in INJECTED {
-        assert_eq!(rt; injected(&mut rig, alloc, 0, len)?, wanted, "{len}");
-    }
+    let mut rig = Rig::new(rt.alloc(), 1, 1)?;
+    rig.answers(&rt, &COMING);
     Ok(())
 }
 
 /// Zeros that are put in a new world. The driver's own buffer begins the client area, and is in use.
-const PUTS: [(u32, usize, Tried); 11] = [
-    (0, 0, Err(StepError::Outside)),
-    (0xF_FFFF, 2, Err(StepError::Outside)),
-    (0x1F_FFFF, 2, Err(StepError::Outside)),
-    (0x20_0000, 1, Err(StepError::Outside)),
-    (0xFFFF_FFFF, 2, Err(StepError::Outside)),
-    (0x10_0000, 1, Err(StepError::InUse)),
-    (0x10_01FF, 2, Err(StepError::InUse)),
-    (0x10_0200, 1, Ok(Told::Put)),
-    (0x1F_FFFF, 1, Ok(Told::Put)),
-    (0x20_0000, 0, Ok(Told::Put)),
-    (0x10_0000, 0, Ok(Told::Put)),
+const PUTS: [(Act, Told); 11] = [
+    (Act::Put(0, 0, 0), OUTSIDE),
+    (Act::Put(0xF_FFFF, 0, 2), OUTSIDE),
+    (Act::Put(0x1F_FFFF, 0, 2), OUTSIDE),
+    (Act::Put(0x20_0000, 0, 1), OUTSIDE),
+    (Act::Put(0xFFFF_FFFF, 0, 2), OUTSIDE),
+    (Act::Put(0x10_0000, 0, 1), IN_USE),
+    (Act::Put(0x10_01FF, 0, 2), IN_USE),
+    (Act::Put(0x10_0200, 0, 1), Told::Put),
+    (Act::Put(0x1F_FFFF, 0, 1), Told::Put),
+    (Act::Put(0x20_0000, 0, 0), Told::Put),
+    (Act::Put(0x10_0000, 0, 0), Told::Put),
 ];
 
 #[test]
 fn puts_are_of_the_client_area(rt: HostRuntime) -> Result<(), Fail> {
-    let alloc = rt.alloc();
-    let mut rig = Rig::new(alloc, 1, 1)?;
-    for (at, len, wanted) in PUTS {
-        assert_eq!(rt; put(&mut rig, alloc, at, len)?, wanted, "{at} {len}");
-    }
+    let mut rig = Rig::new(rt.alloc(), 1, 1)?;
+    rig.answers(&rt, &PUTS);
     Ok(())
 }
 
-/// Bytes of a read into 101000h and of a write from 102000h, and the ones between.
-fn are_used(rt: &impl Abort, alloc: Global, rig: &mut Rig) -> Result<(), AllocError> {
-    for (at, len) in [
-        (0x10_0FFF, 2),
-        (0x10_11FF, 1),
-        (0x10_2000, 1),
-        (0x10_1200, 0xE01),
-    ] {
-        assert_eq!(rt; put(rig, alloc, at, len)?, Err(StepError::InUse), "{at}");
-    }
-    assert_eq!(rt; put(rig, alloc, 0x10_1200, 0xE00)?, Ok(Told::Put));
-    Ok(())
-}
+/// A read into 101000h and a write from 102000h on, each of one sector.
+const REQUESTS: [(Act, Told); 2] = [
+    (Act::Submit(0, Work::Read, 1, 0x10_1000), Told::Submitted(1)),
+    (
+        Act::Submit(0, Work::Write, 2, 0x10_2000),
+        Told::Submitted(2),
+    ),
+];
+
+/// Bytes of both requests, and the ones between.
+const USED: [(Act, Told); 5] = [
+    (Act::Put(0x10_0FFF, 0, 2), IN_USE),
+    (Act::Put(0x10_11FF, 0, 1), IN_USE),
+    (Act::Put(0x10_2000, 0, 1), IN_USE),
+    (Act::Put(0x10_1200, 0, 0xE01), IN_USE),
+    (Act::Put(0x10_1200, 0, 0xE00), Told::Put),
+];
+
+const POLLED: [(Act, Told); 4] = [
+    (Act::Poll, FIRST_DONE),
+    (Act::Put(0x10_11FF, 0, 1), Told::Put),
+    (Act::Poll, SECOND_DONE),
+    (Act::Put(0x10_2000, 0, 1), Told::Put),
+];
 
 /// The bytes of a request are in use until it is polled, those of a read and those of a write.
-fn use_bytes(rt: &impl Abort, alloc: Global, rig: &mut Rig) -> Result<(), Fail> {
-    rig.submits(rt, alloc, (0, Work::Read, 1, 0x10_1000), 1)?;
-    rig.submits(rt, alloc, (0, Work::Write, 2, 0x10_2000), 2)?;
-    are_used(rt, alloc, rig)?;
-    rig.settle(alloc)?;
-    are_used(rt, alloc, rig)?;
-    for (slot, at) in [(0, 0x10_11FF), (1, 0x10_2000)] {
-        rig.answers(rt, alloc, &[(Step::Poll, done(slot))])?;
-        assert_eq!(rt; put(rig, alloc, at, 1)?, Ok(Told::Put), "{slot}");
-    }
-    Ok(())
-}
-
 #[test]
 fn bytes_of_requests_are_in_use(rt: HostRuntime) -> Result<(), Fail> {
-    let alloc = rt.alloc();
-    let mut rig = Rig::ready(alloc, 1)?;
-    use_bytes(&rt, alloc, &mut rig)
+    let mut rig = Rig::ready(rt.alloc(), 1)?;
+    rig.answers(&rt, &REQUESTS);
+    rig.answers(&rt, &USED);
+    assert!(rt; rig.settle());
+    rig.answers(&rt, &USED);
+    rig.answers(&rt, &POLLED);
+    Ok(())
 }

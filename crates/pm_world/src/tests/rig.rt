@@ -1,18 +1,45 @@
-//! Worlds of disks, and the steps of all their actors in rounds.
+//! Worlds of disks, what is done to them and what they tell.
+//!
+//! Clauses see a `Rig` as a number and no function of the tests has a contract, so whatever is proved of a world, a test is
+//! proved by little.
 
 use super::echo::Echo;
-use crate::{Answer, Config, Counts, Step, StepError, World};
+use crate::{Answer, Config, ConnCount, Counts, Step, StepError, World, WorldError};
 use disk_model::{Disk, DiskPlan, Unit};
 use fis_view::Bytes;
 use hba_driver::{Completion, Request, SubmitError, Work};
 use host_memory::{CLIENT_START, Prd};
 use multiplier::Passed;
 use std::alloc::{AllocError, Global};
+use std::marker::Model;
 use std::process::Abort;
 use std::test::Fail;
 
 /// Bytes of the host's memory.
 pub(super) const MEMORY: u32 = 0x20_0000;
+
+/// A step, in a form that a table can hold.
+#[derive(Clone, Copy)]
+pub(super) enum Act {
+    Came(u8),
+    DiskSend(u8),
+    /// So many zeros are sent as the device at this port.
+    Inject(u8, usize),
+    DiskTake(u8),
+    PmPresence(u8),
+    PmFromDevice(u8),
+    PmFromHost,
+    PmUp,
+    PmDown(u8),
+    HostTake,
+    HostPush,
+    Tick,
+    /// One sector, or a Flush: the device, the sector and the address.
+    Submit(u8, Work, u64, u32),
+    Poll,
+    /// So many bytes of this value are put from this address on.
+    Put(u32, u8, usize),
+}
 
 /// What an answer tells, but for bytes: ports, connections and numbers of frames.
 #[derive(Clone, Copy, Debug, PartialEq, Eq)]
@@ -20,8 +47,8 @@ pub(super) enum Told {
     Idle,
     Blocked,
     Came(u8, u32),
-    /// Port and number.
-    Sent(u8, u32),
+    /// Port, connection and number.
+    Sent(u8, u32, u32),
     /// Port, and whether the frame was dropped.
     DiskTook(u8, bool),
     Presence(u8),
@@ -30,8 +57,8 @@ pub(super) enum Told {
     Passed(Passed),
     Up(u8),
     Down(u8),
-    /// Port and number.
-    Took(u8, u32),
+    /// Port, connection and number.
+    Took(u8, u32, u32),
     Pushed,
     Ticked,
     /// The ticket.
@@ -39,6 +66,8 @@ pub(super) enum Told {
     Refused(SubmitError),
     Polled(Completion),
     Put,
+    /// The step is refused.
+    Stopped(StepError),
 }
 
 /// What an answer tells.
@@ -47,14 +76,24 @@ pub(super) fn telling(answer: &Answer) -> Told {
         Answer::Idle => Told::Idle,
         Answer::Blocked => Told::Blocked,
         Answer::Came { port, conn } => Told::Came(*port, *conn),
-        Answer::Sent { port, number, .. } => Told::Sent(*port, *number),
+        Answer::Sent {
+            port,
+            conn,
+            number,
+            ..
+        } => Told::Sent(*port, *conn, *number),
         Answer::DiskTook { port, dropped } => Told::DiskTook(*port, *dropped),
         Answer::Presence(port) => Told::Presence(*port),
         Answer::Offered { port, dropped } => Told::Offered(*port, *dropped),
         Answer::Passed(passed) => Told::Passed(*passed),
         Answer::Up(port) => Told::Up(*port),
         Answer::Down(port) => Told::Down(*port),
-        Answer::Took { port, number, .. } => Told::Took(*port, *number),
+        Answer::Took {
+            port,
+            conn,
+            number,
+            ..
+        } => Told::Took(*port, *conn, *number),
         Answer::Pushed => Told::Pushed,
         Answer::Ticked => Told::Ticked,
         Answer::Submitted(ticket) => Told::Submitted(ticket.0),
@@ -64,178 +103,312 @@ pub(super) fn telling(answer: &Answer) -> Told {
     }
 }
 
+/// The bytes that an answer tells, if it tells any.
+fn bytes_of(answer: Answer) -> Option<Bytes> {
+    match answer {
+        Answer::Sent { bytes, .. } => Some(bytes),
+        Answer::Took { bytes, .. } => Some(bytes),
+        _ => None,
+    }
+}
+
+/// A request for so many sectors, into or from these entries.
+pub(super) fn submit(
+    alloc: Global,
+    (dev, work, lba, sectors): (u8, Work, u64, u16),
+    entries: &[(u32, u32)],
+) -> Result<Step, AllocError> {
+    let mut prds = Vec::new(alloc);
+    for entry in entries.iter() {
+        let (address, bytes) = *entry;
+        prds.push(Prd { address, bytes })?;
+    }
+    let request = Request {
+        work,
+        lba,
+        sectors,
+        prds,
+    };
+    Ok(Step::Submit(dev, request))
+}
+
+/// A request for one sector, or a Flush.
+fn submit_one(
+    alloc: Global,
+    dev: u8,
+    work: Work,
+    lba: u64,
+    address: u32,
+) -> Result<Step, AllocError> {
+    if work == Work::Flush {
+        return submit(alloc, (dev, work, lba, 0), &[]);
+    }
+    submit(alloc, (dev, work, lba, 1), &[(address, 512)])
+}
+
+/// So many bytes of one value.
+fn bytes(alloc: Global, value: u8, count: usize) -> Result<Bytes, AllocError> {
+    Ok(Bytes::from_vec(vec![in alloc; value; count]?))
+}
+
+/// The step.
+pub(super) fn step_of(alloc: Global, act: Act) -> Result<Step, AllocError> {
+    let step = match act {
+        Act::Came(n) => Step::Came(n),
+        Act::DiskSend(n) => Step::DiskSend(n),
+        Act::Inject(n, count) => Step::Inject(n, bytes(alloc, 0, count)?),
+        Act::DiskTake(n) => Step::DiskTake(n),
+        Act::PmPresence(n) => Step::PmPresence(n),
+        Act::PmFromDevice(n) => Step::PmFromDevice(n),
+        Act::PmFromHost => Step::PmFromHost,
+        Act::PmUp => Step::PmUp,
+        Act::PmDown(n) => Step::PmDown(n),
+        Act::HostTake => Step::HostTake,
+        Act::HostPush => Step::HostPush,
+        Act::Tick => Step::Tick,
+        Act::Submit(dev, work, lba, address) => submit_one(alloc, dev, work, lba, address)?,
+        Act::Poll => Step::Poll,
+        Act::Put(at, value, count) => Step::Put(at, bytes(alloc, value, count)?),
+    };
+    Ok(step)
+}
+
 /// So many disks of 16 sectors.
-pub(super) fn disks(alloc: Global, count: u8) -> Result<Vec<Unit>, Fail> {
+pub(super) fn disks(alloc: Global, count: u8) -> Result<Vec<Unit>, AllocError> {
     let mut units = Vec::new(alloc);
     for _ in 0..count {
-        let disk = Disk::new(alloc, 16, DiskPlan::plain())?;
-        units.push(Unit::Disk(disk))?;
+        match Disk::new(alloc, 16, DiskPlan::plain()) {
+            Ok(disk) => units.push(Unit::Disk(disk))?,
+            Err(_) => return Err(AllocError),
+        }
     }
     Ok(units)
 }
 
+/// A world of so many disks.
+pub(super) fn world_of(alloc: Global, config: Config, count: u8) -> Result<World, WorldError> {
+    World::new(alloc, config, disks(alloc, count)?)
+}
+
 /// A world of so many disks, with links of this capacity.
-pub(super) fn world(alloc: Global, ports: u8, capacity: usize) -> Result<World, Fail> {
+fn world(alloc: Global, ports: u8, capacity: usize) -> Result<World, WorldError> {
     let config = Config {
         ports,
         capacity,
         memory: MEMORY,
     };
-    Ok(World::new(alloc, config, disks(alloc, ports)?)?)
+    world_of(alloc, config, ports)
+}
+
+fn give_once(world: &mut World, alloc: Global, step: &Step) -> Result<Answer, StepError> {
+    world.step(alloc, step)
 }
 
 /// A step of a world. Where memory is refused it is given again, and answers as if nothing had been.
-pub(super) fn act(world: &mut World, alloc: Global, step: &Step) -> Result<Answer, StepError> {
-    match world.step(alloc, step) {
-        Err(StepError::OutOfMemory) => world.step(alloc, step),
+fn give(world: &mut World, alloc: Global, step: &Step) -> Result<Answer, StepError> {
+    match give_once(world, alloc, step) {
+        Err(StepError::OutOfMemory) => give_once(world, alloc, step),
         given => given,
     }
 }
 
-/// A request for one sector, or for none, into or from one stretch of memory.
-pub(super) fn request(
+/// A run of a world.
+fn run(
+    world: &mut World,
     alloc: Global,
-    work: Work,
-    lba: u64,
-    address: u32,
-) -> Result<Request, AllocError> {
-    let mut prds = Vec::new(alloc);
-    if work != Work::Flush {
-        prds.push(Prd {
-            address,
-            bytes: 512,
-        })?;
-    }
-    Ok(Request {
-        work,
-        lba,
-        sectors: if work == Work::Flush { 0 } else { 1 },
-        prds,
-    })
-}
-
-/// A step that puts these bytes.
-pub(super) fn put(alloc: Global, at: u32, bytes: &[u8]) -> Result<Step, AllocError> {
-    Ok(Step::Put(at, Bytes::from_slice(alloc, bytes)?))
+    steps: &[Step],
+) -> Result<Vec<Answer>, (usize, StepError)> {
+    world.run(alloc, steps)
 }
 
 /// The byte of the client area at an address.
-pub(super) fn byte_at(world: &World, at: u32) -> Option<u8> {
+fn byte_at(world: &World, at: u32) -> Option<u8> {
     let place = at.checked_sub(CLIENT_START)?;
     world.memory().client().get(place as usize).copied()
+}
+
+/// The sector of a disk.
+fn sector_of(world: &World, n: u8, lba: u32) -> Option<&[u8]> {
+    match world.unit(n)? {
+        Unit::Disk(disk) => disk.sector(lba),
+        Unit::Scripted(_) => None,
+    }
+}
+
+/// What is told in step i is what is wanted.
+pub(super) fn is_told(rt: &impl Abort, i: usize, told: Told, wanted: Told) {
+    assert_eq!(rt; told, wanted, "step {i}");
 }
 
 /// A world with the counts of its answers.
 #[derive(Drop)]
 pub(super) struct Rig {
-    pub(super) world: World,
-    pub(super) counts: Counts,
-    /// What follows the answers, where a test wants to see frames on their way down.
-    pub(super) echo: Option<Box<Echo>>,
+    alloc: Global,
+    world: World,
     ports: u8,
+    counts: Counts,
+    /// What the last answer told of bytes.
+    bytes: Option<Bytes>,
+    /// What follows the answers, where a test wants to see frames on their way down.
+    echo: Option<Box<Echo>>,
+}
+
+impl Model for Rig {
+    ghost use Rattle.std.specs.Prelude.{ℕ};
+
+    ghost Value = { ℕ };
+
+    ghost view = { λ _. 0 };
 }
 
 impl Rig {
     /// Of so many disks, none of which is plugged in.
-    pub(super) fn new(alloc: Global, ports: u8, capacity: usize) -> Result<Rig, Fail> {
+    pub(super) fn new(alloc: Global, ports: u8, capacity: usize) -> Result<Rig, WorldError> {
+        let world = world(alloc, ports, capacity)?;
         Ok(Rig {
-            world: world(alloc, ports, capacity)?,
-            counts: Counts::new(alloc),
-            echo: None,
+            alloc,
+            world,
             ports,
+            counts: Counts::new(alloc),
+            bytes: None,
+            echo: None,
         })
     }
 
     /// Of so many disks that take requests, with links of one frame.
     pub(super) fn ready(alloc: Global, ports: u8) -> Result<Rig, Fail> {
         let mut rig = Rig::new(alloc, ports, 1)?;
-        rig.come(alloc)?;
-        Ok(rig)
-    }
-
-    /// Has all disks come, and all steps be done that can be.
-    pub(super) fn come(&mut self, alloc: Global) -> Result<(), Fail> {
-        for n in 0..self.ports {
-            self.step(alloc, &Step::Came(n))?;
+        if rig.come() {
+            Ok(rig)
+        } else {
+            Err("no end".into())
         }
-        self.settle(alloc)
     }
 
-    pub(super) fn step(&mut self, alloc: Global, step: &Step) -> Result<Answer, Fail> {
-        let answer = act(&mut self.world, alloc, step)?;
+    /// Lets an echo follow.
+    pub(super) fn show(&mut self, echo: Box<Echo>) {
+        self.echo = Some(echo);
+    }
+
+    /// Whether all disks come, and all steps are done that can be.
+    pub(super) fn come(&mut self) -> bool {
+        let mut came = true;
+        for n in 0..self.ports {
+            came &= self.does(Act::Came(n)) == Told::Came(n, 1);
+        }
+        came && self.settle()
+    }
+
+    /// Does this, and tells what came of it.
+    pub(super) fn does(&mut self, act: Act) -> Told {
+        let mut made = step_of(self.alloc, act);
+        if made.is_err() {
+            made = step_of(self.alloc, act);
+        }
+        match made {
+            Ok(step) => self.gives(&step),
+            Err(_) => Told::Stopped(StepError::OutOfMemory),
+        }
+    }
+
+    /// Gives the world a step, and tells what came of it.
+    pub(super) fn gives(&mut self, step: &Step) -> Told {
+        match give(&mut self.world, self.alloc, step) {
+            Ok(answer) => self.notes(step, answer),
+            Err(e) => Told::Stopped(e),
+        }
+    }
+
+    /// Gives the world a run of steps.
+    pub(super) fn runs(&mut self, steps: &[Step]) -> Result<Vec<Answer>, (usize, StepError)> {
+        run(&mut self.world, self.alloc, steps)
+    }
+
+    /// Counts the answer and keeps its bytes. An echo that can not follow is let go.
+    fn notes(&mut self, step: &Step, answer: Answer) -> Told {
+        let told = telling(&answer);
         if self.counts.note(&answer).is_err() {
-            self.counts.note(&answer)?;
+            let _ = self.counts.note(&answer);
         }
-        if let Some(echo) = &mut self.echo {
-            echo.follow(alloc, step, &answer)?;
+        let follows = match &mut self.echo {
+            Some(echo) => echo.follow(self.alloc, step, &answer),
+            None => true,
+        };
+        if !follows {
+            self.echo = None;
         }
-        Ok(answer)
+        self.bytes = bytes_of(answer);
+        told
     }
 
-    /// Whether a step moves something.
-    fn moves(&mut self, alloc: Global, step: &Step) -> Result<bool, Fail> {
-        let answer = self.step(alloc, step)?;
-        Ok(!matches!(&answer, Answer::Idle | Answer::Blocked))
+    /// Whether one of these moves something.
+    fn moves(&mut self, acts: &[Act]) -> bool {
+        let mut moved = false;
+        for act in acts.iter() {
+            let told = self.does(*act);
+            moved |= !matches!(told, Told::Idle | Told::Blocked);
+        }
+        moved
     }
 
-    /// The steps of port `n`, once each.
-    fn serve(&mut self, alloc: Global, n: u8) -> Result<bool, Fail> {
-        let mut moved = self.moves(alloc, &Step::PmPresence(n))?;
-        moved |= self.moves(alloc, &Step::PmDown(n))?;
-        moved |= self.moves(alloc, &Step::DiskTake(n))?;
-        moved |= self.moves(alloc, &Step::DiskSend(n))?;
-        moved |= self.moves(alloc, &Step::PmFromDevice(n))?;
-        Ok(moved)
-    }
-
-    /// The steps of all actors, once each.
-    fn round(&mut self, alloc: Global) -> Result<bool, Fail> {
-        let mut moved = self.moves(alloc, &Step::Tick)?;
-        moved |= self.moves(alloc, &Step::HostPush)?;
-        moved |= self.moves(alloc, &Step::PmFromHost)?;
+    /// Whether one of the steps of all actors moves something, each given once.
+    fn round(&mut self) -> bool {
+        let mut moved = self.moves(&[Act::Tick, Act::HostPush, Act::PmFromHost]);
         for n in 0..self.ports {
-            moved |= self.serve(alloc, n)?;
+            moved |= self.moves(&[
+                Act::PmPresence(n),
+                Act::PmDown(n),
+                Act::DiskTake(n),
+                Act::DiskSend(n),
+                Act::PmFromDevice(n),
+            ]);
         }
-        moved |= self.moves(alloc, &Step::PmUp)?;
-        moved |= self.moves(alloc, &Step::HostTake)?;
-        Ok(moved)
+        moved | self.moves(&[Act::PmUp, Act::HostTake])
     }
 
     /// Rounds until nothing moves, which is to come within 4,000.
-    pub(super) fn settle(&mut self, alloc: Global) -> Result<(), Fail> {
+    pub(super) fn settle(&mut self) -> bool {
         for _ in 0..4000 {
-            if !self.round(alloc)? {
-                return Ok(());
+            if !self.round() {
+                return true;
             }
         }
-        Err("no end".into())
+        false
     }
 
     /// The steps are answered so, one after another.
-    pub(super) fn answers(
-        &mut self,
-        rt: &impl Abort,
-        alloc: Global,
-        rows: &[(Step, Told)],
-    ) -> Result<(), Fail> {
-        for (i, (step, wanted)) in rows.iter().enumerate() {
-            let answer = self.step(alloc, step)?;
-            assert_eq!(rt; telling(&answer), *wanted, "step {i}");
+    pub(super) fn answers(&mut self, rt: &impl Abort, rows: &[(Act, Told)]) {
+        for (i, (act, wanted)) in rows.iter().enumerate() {
+            is_told(rt, i, self.does(*act), *wanted);
         }
-        Ok(())
     }
 
-    /// A request of one sector, or a Flush, is taken under this ticket.
-    pub(super) fn submits(
-        &mut self,
-        rt: &impl Abort,
-        alloc: Global,
-        (dev, work, lba, address): (u8, Work, u64, u32),
-        ticket: u32,
-    ) -> Result<(), Fail> {
-        let request = request(alloc, work, lba, address)?;
-        let answer = self.step(alloc, &Step::Submit(dev, request))?;
-        assert_eq!(rt; telling(&answer), Told::Submitted(ticket));
-        Ok(())
+    /// What the last answer told of bytes.
+    pub(super) fn bytes(&self) -> Option<&[u8]> {
+        let bytes = self.bytes.as_ref()?;
+        Some(bytes.as_slice())
+    }
+
+    pub(super) fn echo(&self) -> Option<&Echo> {
+        let echo: &Echo = self.echo.as_ref()?;
+        Some(echo)
+    }
+
+    pub(super) fn rows(&self) -> &[ConnCount] {
+        self.counts.rows()
+    }
+
+    pub(super) fn has_unit(&self, n: u8) -> bool {
+        self.world.unit(n).is_some()
+    }
+
+    /// The byte of the client area at an address.
+    pub(super) fn byte_at(&self, at: u32) -> Option<u8> {
+        byte_at(&self.world, at)
+    }
+
+    /// The sector of a disk.
+    pub(super) fn sector(&self, n: u8, lba: u32) -> Option<&[u8]> {
+        sector_of(&self.world, n, lba)
     }
 }

@@ -1,8 +1,9 @@
 //! Runs of steps.
 
-use super::rig::{Told, telling, world};
+use super::rig::{Act, Rig, Told, telling};
 use crate::{Answer, Step, StepError};
 use std::alloc::{AllocError, Global};
+use std::process::Abort;
 use std::test::Fail;
 
 /// The signature of an ATA device.
@@ -21,49 +22,66 @@ fn steps(alloc: Global, again: bool) -> Result<Vec<Step>, AllocError> {
     Ok(steps)
 }
 
+/// The bytes that are sent in this answer are the signature.
+fn sends_signature(answer: &Answer) -> bool {
+    match answer {
+        Answer::Sent { bytes, .. } => bytes.as_slice() == SIGNATURE.as_slice(),
+        _ => false,
+    }
+}
+
+/// A disk came and sent its signature.
+fn are_two(rt: &impl Abort, answers: &[Answer]) {
+    match answers {
+        [came, sent] => {
+            assert!(rt; telling(came) == Told::Came(0, 1));
+            assert!(rt; telling(sent) == Told::Sent(0, 1, 0));
+            assert!(rt; sends_signature(sent));
+        }
+        _ => assert!(rt; false),
+    }
+}
+
+/// What the steps answer.
+fn all(rig: &mut Rig, steps: &[Step]) -> Result<Vec<Answer>, StepError> {
+    match rig.runs(steps) {
+        Ok(answers) => Ok(answers),
+        Err((_, e)) => Err(e),
+    }
+}
+
 #[test]
 fn a_disk_comes_and_sends(rt: HostRuntime) -> Result<(), Fail> {
-    let alloc = rt.alloc();
-    let answers = world(alloc, 1, 64)?.run(alloc, &steps(alloc, false)?)?;
-    assert_eq!(rt; answers.len(), 2);
-    assert!(rt; matches!(answers.get(0), Some(Answer::Came { port: 0, conn: 1 })));
-    match answers.get(1) {
-        Some(
-            Answer::Sent {
-                port,
-                conn,
-                number,
-                bytes,
-            },
-        ) => {
-            assert_eq!(rt; (*port, *conn, *number), (0, 1, 0));
-            assert_eq!(rt; bytes.as_slice(), SIGNATURE.as_slice());
-        }
-        _ => return Err("not sent".into()),
-    }
+    let steps = steps(rt.alloc(), false)?;
+    let mut rig = Rig::new(rt.alloc(), 1, 64)?;
+    let answers = all(&mut rig, &steps)?;
+    are_two(&rt, &answers);
     Ok(())
+}
+
+/// A run of the steps stops at this one, since a device is there already.
+fn stops_at(rt: &impl Abort, rig: &mut Rig, steps: &[Step], i: usize) {
+    let stopped = rig.runs(steps).err();
+    assert!(rt; stopped == Some((i, StepError::AlreadyThere)));
 }
 
 /// A refused step ends the run, and what was done before stays.
 #[test]
 fn a_disk_comes_once(rt: HostRuntime) -> Result<(), Fail> {
-    let alloc = rt.alloc();
-    let mut world = world(alloc, 1, 1)?;
-    let stopped = world.run(alloc, &steps(alloc, true)?).err();
-    assert_eq!(rt; stopped, Some((2, StepError::AlreadyThere)));
-    let again = world.run(alloc, &steps(alloc, true)?).err();
-    assert_eq!(rt; again, Some((0, StepError::AlreadyThere)));
-    let answer = world.step(alloc, &Step::PmFromDevice(0))?;
-    assert_eq!(rt; telling(&answer), Told::Offered(0, false));
+    let steps = steps(rt.alloc(), true)?;
+    let mut rig = Rig::new(rt.alloc(), 1, 1)?;
+    stops_at(&rt, &mut rig, &steps, 2);
+    stops_at(&rt, &mut rig, &steps, 0);
+    rig.answers(&rt, &[(Act::PmFromDevice(0), Told::Offered(0, false))]);
     Ok(())
 }
 
 /// No steps have no answers, and change nothing.
 #[test]
 fn no_steps(rt: HostRuntime) -> Result<(), Fail> {
-    let alloc = rt.alloc();
-    let mut world = world(alloc, 1, 1)?;
-    assert!(rt; world.run(alloc, &[])?.is_empty());
-    assert!(rt; world.unit(0).is_some() && world.unit(1).is_none());
+    let mut rig = Rig::new(rt.alloc(), 1, 1)?;
+    let answers = all(&mut rig, &[])?;
+    assert!(rt; answers.is_empty());
+    assert!(rt; rig.has_unit(0) && !rig.has_unit(1));
     Ok(())
 }

@@ -1,8 +1,7 @@
 //! Configurations, and the numbers of the refusals.
 
-use super::rig::disks;
-use crate::{Config, StepError, World, WorldError};
-use std::alloc::Global;
+use super::rig::world_of;
+use crate::{Config, StepError, WorldError};
 use std::test::Fail;
 
 /// Ports, units, capacity and bytes of memory, and whether there is such a world.
@@ -25,31 +24,19 @@ const ROWS: [(u8, u8, usize, u32, bool); 16] = [
     (1, 1, 1, 0, false),
 ];
 
-/// Why there is no such world.
-fn refusal(
-    alloc: Global,
-    (ports, units, capacity, memory): (u8, u8, usize, u32),
-) -> Result<Option<WorldError>, Fail> {
-    let config = Config {
-        ports,
-        capacity,
-        memory,
-    };
-    Ok(World::new(alloc, config, disks(alloc, units)?).err())
-}
-
 #[test]
 fn sizes_are_tested(rt: HostRuntime) -> Result<(), Fail> {
     for (ports, units, capacity, memory, fits) in ROWS {
-        let wanted = if fits {
-            None
-        } else {
-            Some(WorldError::BadConfig)
+        let config = Config {
+            ports,
+            capacity,
+            memory,
         };
-        let refused = refusal(rt.alloc(), (ports, units, capacity, memory))?;
+        let refused = world_of(rt.alloc(), config, units).err();
         if refused == Some(WorldError::OutOfMemory) {
             return Err(WorldError::OutOfMemory.into());
         }
+        let wanted = (!fits).then_some(WorldError::BadConfig);
         assert_eq!(rt; refused, wanted, "{ports} {units} {capacity} {memory}");
     }
     Ok(())

@@ -1,10 +1,10 @@
 //! The FISes of a queued write, each to the byte.
 
 use super::echo::Echo;
-use super::reading::done;
-use super::rig::{Rig, Told, put, telling};
-use crate::{Answer, Step};
-use disk_model::Unit;
+use super::reading::FIRST_DONE;
+use super::rig::{Act, Rig, Told, is_told};
+use crate::Step;
+use fis_view::Bytes;
 use hba_driver::Work;
 use multiplier::Passed;
 use std::alloc::Global;
@@ -59,105 +59,87 @@ fn is_unmarked(bytes: &[u8], fis: &[u8]) -> bool {
     same
 }
 
+/// The host sends a FIS, and device 2 takes it.
+const DOWN: [(Act, Told); 4] = [
+    (Act::HostPush, Told::Pushed),
+    (Act::PmFromHost, Told::Passed(Passed::Down(2))),
+    (Act::PmDown(2), Told::Down(2)),
+    (Act::DiskTake(2), Told::DiskTook(2, false)),
+];
+
+/// The host sent this FIS, and device 2 took it with PM Port 0.
+fn went_down(rt: &impl Abort, echo: &Echo, fis: &[u8]) {
+    assert!(rt; echo.pushed() == Some(fis));
+    let fell = echo.fell().unwrap_or(&[]);
+    assert!(rt; is_unmarked(fell, fis));
+}
+
 /// The host sends this FIS, and device 2 takes it with PM Port 0.
-fn goes_down(rt: &impl Abort, alloc: Global, rig: &mut Rig, fis: &[u8]) -> Result<(), Fail> {
-    let rows = [
-        (Step::HostPush, Told::Pushed),
-        (Step::PmFromHost, Told::Passed(Passed::Down(2))),
-        (Step::PmDown(2), Told::Down(2)),
-        (Step::DiskTake(2), Told::DiskTook(2, false)),
-    ];
-    rig.answers(rt, alloc, &rows)?;
-    let echo = rig.echo.as_ref().ok_or("no echo")?;
-    let pushed = echo.pushed.as_ref().ok_or("nothing was pushed")?;
-    assert!(rt; pushed.as_slice() == fis);
-    let fell = echo.fell.as_ref().ok_or("nothing fell")?;
-    assert!(rt; is_unmarked(fell.as_slice(), fis));
-    Ok(())
-}
-
-/// Device 2 sends the FIS with this number, with PM Port 0.
-fn is_sent(
-    rt: &impl Abort,
-    alloc: Global,
-    rig: &mut Rig,
-    number: u32,
-    fis: &[u8],
-) -> Result<(), Fail> {
-    let answer = rig.step(alloc, &Step::DiskSend(2))?;
-    assert_eq!(rt; telling(&answer), Told::Sent(2, number));
-    assert!(rt;
-        matches!(&answer, Answer::Sent { bytes, .. } if is_unmarked(bytes.as_slice(), fis))
-    );
-    Ok(())
-}
-
-/// Device 2 sends a FIS, and the host takes it with PM Port 2.
-fn goes_up(
-    rt: &impl Abort,
-    alloc: Global,
-    rig: &mut Rig,
-    number: u32,
-    fis: &[u8],
-) -> Result<(), Fail> {
-    is_sent(rt, alloc, rig, number, fis)?;
-    let rows = [
-        (Step::PmFromDevice(2), Told::Offered(2, false)),
-        (Step::PmUp, Told::Up(2)),
-    ];
-    rig.answers(rt, alloc, &rows)?;
-    let answer = rig.step(alloc, &Step::HostTake)?;
-    assert_eq!(rt; telling(&answer), Told::Took(2, number));
-    assert!(rt; matches!(&answer, Answer::Took { conn: 1, bytes, .. } if bytes.as_slice() == fis));
-    Ok(())
-}
-
-/// Device 2 of three is given a write of sector 8.
-fn submit(rt: &impl Abort, alloc: Global, rig: &mut Rig) -> Result<(), Fail> {
-    rig.come(alloc)?;
-    let put = put(alloc, PLACE, &written())?;
-    rig.answers(rt, alloc, &[(put, Told::Put)])?;
-    rig.submits(rt, alloc, (2, Work::Write, 8, PLACE), 1)?;
-    let rows = [(Step::Tick, Told::Ticked), (Step::Tick, Told::Idle)];
-    rig.answers(rt, alloc, &rows)
-}
-
-/// The sector of a disk.
-fn sector(rig: &Rig, n: u8, lba: u32) -> Option<&[u8]> {
-    match rig.world.unit(n)? {
-        Unit::Disk(disk) => disk.sector(lba),
-        Unit::Scripted(_) => None,
+fn goes_down(rt: &impl Abort, rig: &mut Rig, fis: &[u8]) {
+    rig.answers(rt, &DOWN);
+    match rig.echo() {
+        Some(echo) => went_down(rt, echo, fis),
+        None => assert!(rt; false),
     }
 }
 
-/// The first byte of a sector of a disk.
-fn first(rig: &Rig, n: u8, lba: u32) -> Option<u8> {
-    sector(rig, n, lba)?.first().copied()
+/// Device 2 sends the FIS with this number, with PM Port 0, and the host takes it with PM Port 2.
+fn goes_up(rt: &impl Abort, rig: &mut Rig, number: u32, fis: &[u8]) {
+    is_told(rt, 0, rig.does(Act::DiskSend(2)), Told::Sent(2, 1, number));
+    assert!(rt; is_unmarked(rig.bytes().unwrap_or(&[]), fis));
+    let rows = [
+        (Act::PmFromDevice(2), Told::Offered(2, false)),
+        (Act::PmUp, Told::Up(2)),
+        (Act::HostTake, Told::Took(2, 1, number)),
+    ];
+    rig.answers(rt, &rows);
+    assert!(rt; rig.bytes() == Some(fis));
 }
 
+/// Device 2 of three is given a write of sector 8, of bytes that were put.
+const SUBMITTED: [(Act, Told); 3] = [
+    (Act::Submit(2, Work::Write, 8, PLACE), Told::Submitted(1)),
+    (Act::Tick, Told::Ticked),
+    (Act::Tick, Told::Idle),
+];
+
 /// The FISes of the write, one after another.
-fn write(rt: &impl Abort, alloc: Global, rig: &mut Rig) -> Result<(), Fail> {
-    goes_down(rt, alloc, rig, &COMMAND)?;
-    goes_up(rt, alloc, rig, 3, &ACCEPTED)?;
-    goes_up(rt, alloc, rig, 4, &SETUP)?;
-    goes_up(rt, alloc, rig, 5, &ACTIVATE)?;
-    goes_down(rt, alloc, rig, &data())?;
-    assert!(rt; sector(rig, 2, 8) == Some(written().as_slice()));
-    goes_up(rt, alloc, rig, 6, &ENDED)?;
-    let rows = [(Step::Tick, Told::Ticked), (Step::Poll, done(0))];
-    rig.answers(rt, alloc, &rows)
+fn writes(rt: &impl Abort, rig: &mut Rig) {
+    rig.answers(rt, &SUBMITTED);
+    goes_down(rt, rig, &COMMAND);
+    goes_up(rt, rig, 3, &ACCEPTED);
+    goes_up(rt, rig, 4, &SETUP);
+    goes_up(rt, rig, 5, &ACTIVATE);
+    goes_down(rt, rig, &data());
+    assert!(rt; rig.sector(2, 8) == Some(written().as_slice()));
+    goes_up(rt, rig, 6, &ENDED);
+    rig.answers(rt, &[(Act::Tick, Told::Ticked), (Act::Poll, FIRST_DONE)]);
+}
+
+/// The first byte of a sector of a disk is this one.
+fn begins_with(rig: &Rig, n: u8, lba: u32, byte: u8) -> bool {
+    match rig.sector(n, lba) {
+        Some(sector) => sector.first() == Some(&byte),
+        None => false,
+    }
+}
+
+/// Three disks that take requests, and the bytes to be written at their place.
+fn ready(rt: &impl Abort, alloc: Global) -> Result<Rig, Fail> {
+    let mut rig = Rig::new(alloc, 3, 1)?;
+    rig.show(Box::new(alloc, Echo::new(alloc)?)?);
+    assert!(rt; rig.come());
+    let put = Step::Put(PLACE, Bytes::from_slice(alloc, &written())?);
+    is_told(rt, 0, rig.gives(&put), Told::Put);
+    Ok(rig)
 }
 
 #[test]
 fn one_sector_is_written(rt: HostRuntime) -> Result<(), Fail> {
-    let alloc = rt.alloc();
-    let mut rig = Rig::new(alloc, 3, 1)?;
-    rig.echo = Some(Box::new(alloc, Echo::new(alloc)?)?);
-    submit(&rt, alloc, &mut rig)?;
-    write(&rt, alloc, &mut rig)?;
-    assert_eq!(rt;
-        [first(&rig, 1, 8), first(&rig, 2, 7), first(&rig, 2, 9)],
-        [Some(8), Some(7), Some(9)]
-    );
+    let mut rig = ready(&rt, rt.alloc())?;
+    writes(&rt, &mut rig);
+    assert!(rt; begins_with(&rig, 1, 8, 8));
+    assert!(rt; begins_with(&rig, 2, 7, 7));
+    assert!(rt; begins_with(&rig, 2, 9, 9));
     Ok(())
 }
