@@ -1,21 +1,21 @@
 -- Nothing is lost in one move, and so in a whole run.
 use Rattle.std.proofs.Common.{◌≡◌, ◌≢◌, ℕ, List, [], ◌∷◌, ◌++◌, Bool, true, false, cond, eqb, refl, sym, ap, subst, ◌∙◌, append_assoc, inl, inr}
-use Rattle.std.specs.Prelude.{◌==◌, Ok}
-use Rattle.std.proofs.lemmas.Bool.{cases_eq, eq-eqb, ne_eqb}
+use Rattle.std.specs.Prelude.{◌==◌, ◌&&◌, Ok}
+use Rattle.std.proofs.lemmas.Bool.{cases_Bool, cases_eq, eq-eqb, ne_eqb}
 use Rattle.std.proofs.lemmas.List.{append-nil}
 use Rattle.fis_view.specs.Frames.{Stamped, marked}
 use Rattle.multiplier.specs.Arbiter.{control_port}
 use Rattle.multiplier.specs.State.{rising}
 use Rattle.pm_world.specs.Places.{Places, IsOrderly, IsTold}
 use Rattle.pm_world.specs.Rules.{Rule, Run}
-use Rattle.pm_world.specs.Traffic.{sent_by, taken_by, sent, taken, all_marked, stamped, of_conn, waiting, transit, NothingLost}
+use Rattle.pm_world.specs.Traffic.{sent_by, taken_by, sent, taken, all_marked, stamped, of_conn, waiting, transit, is_removed, on_host_link, IsPrefixOf, NothingLost}
 use Rattle.hba_fbs.specs.declared.report.TakeReport.{TakeReport}
 use Rattle.pm_world.specs.declared.step.Step.{Step}
 use Rattle.pm_world.specs.declared.step.Answer.{Answer}
 use Rattle.pm_world.specs.declared.step.Answer.TheVariants as answer
 use Rattle.pm_world.proofs.Lists.{stamped-append, of_conn-append, all_marked-append, stamped-one, of_conn-one}
 use Rattle.pm_world.proofs.Moves.{Stays, Enters, Rises, Says, Leaves, GoesUp, Moves, rule_moves}
-use Rattle.pm_world.proofs.Orderly.{orderly_after}
+use Rattle.pm_world.proofs.Orderly.{orderly_after, removed_after}
 
 -- what is at a port and on the host's link decides what is on its way
 on_its_way : ℕ → ℕ → List Stamped → List Stamped → List (List ℕ)
@@ -24,10 +24,10 @@ on_its_way n c upward waits = stamped n c upward ++ all_marked n (of_conn c wait
 kept : (n c : ℕ) (old new : Places) → new.upward.frames ≡ old.upward.frames → waiting n new ≡ waiting n old → transit n c new ≡ transit n c old
 kept n c old new upward waits = rw (upward, waits)
 
-stays_conserves : (old new : Places) → Stays old new → (n c : ℕ) → transit n c new ≡ transit n c old
-stays_conserves old new m n c =
+stays_conserves : (old new : Places) → Stays old new → (n c : ℕ) → is_removed n c new ≡ false → transit n c new ≡ transit n c old
+stays_conserves old new m n c there =
     ap (λ frames. stamped n c frames ++ all_marked n (of_conn c (waiting n new))) m.upward
-    ∙ ap (λ bytes. stamped n c old.upward.frames ++ all_marked n bytes) (m.waits n c)
+    ∙ ap (λ bytes. stamped n c old.upward.frames ++ all_marked n bytes) (m.waits n c there)
 
 -- a frame of this port, as it waits, marked, and as it goes on
 marked_one : (n c : ℕ) (f : Stamped) → all_marked n (of_conn c (f ∷ [])) ≡ stamped n c (rising n f ∷ [])
@@ -87,28 +87,147 @@ leaves_conserves old new port conn number bytes report f told m n c =
     let split : stamped n c (f ∷ new.upward.frames) ≡ stamped n c (f ∷ []) ++ stamped n c new.upward.frames = stamped-append n c (f ∷ []) new.upward.frames in
     rw (m.waits n, m.upward, split, stamped-one n c f, told.port_is, told.conn_is, told.bytes_are, append_assoc)
 
--- what a step took and what is then on its way is what was on its way and what the step sent
-conserves : (old : Places) (a : Answer) (new : Places) → Moves old a new → (n c : ℕ) → n ≢ control_port → taken_by n c a ++ transit n c new ≡ transit n c old ++ all_marked n (sent_by n c a)
-conserves old (answer.Sent port conn number bytes) new m n c device = enters_conserves old new port conn number bytes m.0 m.1 m.2 n c
-conserves old (answer.Up port) new m n c device = goes_up_conserves old new port m n c device ∙ sym (append-nil (transit n c old))
-conserves old (answer.Took port conn number bytes report) new m n c device = leaves_conserves old new port conn number bytes report m.0 m.1 m.2 n c ∙ sym (append-nil (transit n c old))
-conserves old _ new m n c device = stays_conserves old new m n c ∙ sym (append-nil (transit n c old))
+-- what a step took and what is then on its way is what was on its way and what the step sent, where its removal is not
+-- recorded
+conserves : (old : Places) (a : Answer) (new : Places) → Moves old a new → (n c : ℕ) → n ≢ control_port → is_removed n c new ≡ false → taken_by n c a ++ transit n c new ≡ transit n c old ++ all_marked n (sent_by n c a)
+conserves old (answer.Sent port conn number bytes) new m n c device there = enters_conserves old new port conn number bytes m.0 m.1 m.2 n c
+conserves old (answer.Up port) new m n c device there = goes_up_conserves old new port m n c device ∙ sym (append-nil (transit n c old))
+conserves old (answer.Took port conn number bytes report) new m n c device there = leaves_conserves old new port conn number bytes report m.0 m.1 m.2 n c ∙ sym (append-nil (transit n c old))
+conserves old _ new m n c device there = stays_conserves old new m n c there ∙ sym (append-nil (transit n c old))
 
--- the same of a whole run
-run_conserves : (old : Places) (steps : List Step) (answers : List Answer) (new : Places) → IsOrderly old → Run old steps answers new → (n c : ℕ) → n ≢ control_port → taken n c answers ++ transit n c new ≡ transit n c old ++ all_marked n (sent n c answers)
-run_conserves old [] [] new orderly run n c device = rw run (sym (append-nil (transit n c old)))
-run_conserves old (s ∷ steps) (a ∷ answers) new orderly run n c device =
+-- ---- a connection that is removed
+
+-- nothing of it goes on the host's link
+rises_over : (old new : Places) (port : ℕ) (f : Stamped) → Rises port f old new → (n c : ℕ) → is_removed n c old ≡ true → on_host_link n c new ≡ on_host_link n c old
+rises_over old new port f m n c gone =
+    rw (m.upward, stamped-append n c old.upward.frames (rising port f ∷ []), none, append-nil)
+  where
+    none : stamped n c (rising port f ∷ []) ≡ []
+    none =
+        elim (cases_eq n port) [
+          | inl e ↦ elim (cases_eq f.stamp.conn c) [
+            | inl same ↦ let wrong : is_removed port f.stamp.conn old ≡ true = subst (λ d. is_removed port d old ≡ true) (sym same) (subst (λ k. is_removed k c old ≡ true) e gone) in let never = m.present in absurd (cc)
+            | inr differs ↦ let b : eqb f.stamp.conn c ≡ false = ne_eqb f.stamp.conn c differs in rw (stamped-one n c (rising port f), b, and_false (eqb port n))
+          ]
+          | inr other ↦ not_mine n c (rising port f) other
+        ]
+
+    and_false : (b : Bool) → (b && false) ≡ false
+    and_false true = refl
+    and_false false = refl
+
+says_over : (old new : Places) (f : Stamped) → Says f old new → (n c : ℕ) → n ≢ control_port → on_host_link n c new ≡ on_host_link n c old
+says_over old new f m n c device =
+    let none : stamped n c (f ∷ []) ≡ [] = not_mine n c f (λ e. device (e ∙ m.port_is)) in
+    rw (m.upward, stamped-append n c old.upward.frames (f ∷ []), none, append-nil)
+
+leaves_over : (old new : Places) (port conn number : ℕ) (bytes : List ℕ) (report : TakeReport) (f : Stamped) → IsTold f port conn number bytes → Leaves f old new → (n c : ℕ) → taken_by n c (answer.Took port conn number bytes report) ++ on_host_link n c new ≡ on_host_link n c old
+leaves_over old new port conn number bytes report f told m n c =
+    let split : stamped n c (f ∷ new.upward.frames) ≡ stamped n c (f ∷ []) ++ stamped n c new.upward.frames = stamped-append n c (f ∷ []) new.upward.frames in
+    rw (m.upward, split, stamped-one n c f, told.port_is, told.conn_is, told.bytes_are) refl
+
+-- what a step took of it and what is then on the host's link is what was there
+over : (old : Places) (a : Answer) (new : Places) → Moves old a new → (n c : ℕ) → n ≢ control_port → is_removed n c old ≡ true → taken_by n c a ++ on_host_link n c new ≡ on_host_link n c old
+over old (answer.Sent port conn number bytes) new m n c device gone = ap (stamped n c) m.2.upward
+over old (answer.Up port) new m n c device gone = elim m [ inl rose ↦ rises_over old new port rose.0 rose.1 n c gone | inr said ↦ says_over old new said.1.0 said.1.1 n c device ]
+over old (answer.Took port conn number bytes report) new m n c device gone = leaves_over old new port conn number bytes report m.0 m.1 m.2 n c
+over old _ new m n c device gone = ap (stamped n c) m.upward
+
+-- what a step took of any connection, and what is then on the host's link, begins what was on its way and what was sent
+arrives : (old : Places) (a : Answer) (new : Places) → Moves old a new → (n c : ℕ) → n ≢ control_port → IsPrefixOf (taken_by n c a ++ on_host_link n c new) (transit n c old ++ all_marked n (sent_by n c a))
+arrives old (answer.Sent port conn number bytes) new m n c device =
+    (all_marked n (of_conn c (waiting n new)), enters_conserves old new port conn number bytes m.0 m.1 m.2 n c)
+arrives old (answer.Up port) new m n c device =
+    (all_marked n (of_conn c (waiting n new)), goes_up_conserves old new port m n c device ∙ sym (append-nil (transit n c old)))
+arrives old (answer.Took port conn number bytes report) new m n c device = (
+  all_marked n (of_conn c (waiting n new)),
+  append_assoc (taken_by n c (answer.Took port conn number bytes report)) (on_host_link n c new) (all_marked n (of_conn c (waiting n new)))
+      ∙ leaves_conserves old new port conn number bytes report m.0 m.1 m.2 n c
+      ∙ sym (append-nil (transit n c old)),
+)
+arrives old _ new m n c device =
+    (all_marked n (of_conn c (waiting n old)), rw (ap (stamped n c) m.upward) (sym (append-nil (transit n c old))))
+
+-- ---- a whole run
+
+-- a removal stays recorded
+run_stays : (old : Places) (steps : List Step) (answers : List Answer) (new : Places) → IsOrderly old → Run old steps answers new → (n c : ℕ) → is_removed n c old ≡ true → is_removed n c new ≡ true
+run_stays old [] [] new orderly run n c gone = rw run gone
+run_stays old (s ∷ steps) (a ∷ answers) new orderly run n c gone =
+    run_stays run.0 steps answers new (orderly_after old s a run.0 orderly run.1) run.2 n c (removed_after old s a run.0 orderly run.1 n c gone)
+run_stays old [] (a ∷ answers) new orderly run n c gone = absurd run
+run_stays old (s ∷ steps) [] new orderly run n c gone = absurd run
+
+-- so one that is not recorded was not before
+run_never : (old : Places) (steps : List Step) (answers : List Answer) (new : Places) → IsOrderly old → Run old steps answers new → (n c : ℕ) → is_removed n c new ≡ false → is_removed n c old ≡ false
+run_never old steps answers new orderly run n c never =
+    elim (cases_Bool (is_removed n c old)) [
+      | inl gone ↦ let wrong = run_stays old steps answers new orderly run n c gone in absurd (cc)
+      | inr not_so ↦ not_so
+    ]
+
+run_conserves : (old : Places) (steps : List Step) (answers : List Answer) (new : Places) → IsOrderly old → Run old steps answers new → (n c : ℕ) → n ≢ control_port → is_removed n c new ≡ false → taken n c answers ++ transit n c new ≡ transit n c old ++ all_marked n (sent n c answers)
+run_conserves old [] [] new orderly run n c device never = rw run (sym (append-nil (transit n c old)))
+run_conserves old (s ∷ steps) (a ∷ answers) new orderly run n c device never =
     let mid = run.0 in
-    let first = conserves old a mid (rule_moves old s a mid orderly run.1) n c device in
-    let rest = run_conserves mid steps answers new (orderly_after old s a mid orderly run.1) run.2 n c device in
+    let still = orderly_after old s a mid orderly run.1 in
+    let first = conserves old a mid (rule_moves old s a mid orderly run.1) n c device (run_never mid steps answers new still run.2 n c never) in
+    let rest = run_conserves mid steps answers new still run.2 n c device never in
     rw (append_assoc, rest, ← append_assoc, first, append_assoc, all_marked-append n (sent_by n c a) (sent n c answers))
-run_conserves old [] (a ∷ answers) new orderly run n c device = absurd run
-run_conserves old (s ∷ steps) [] new orderly run n c device = absurd run
+run_conserves old [] (a ∷ answers) new orderly run n c device never = absurd run
+run_conserves old (s ∷ steps) [] new orderly run n c device never = absurd run
+
+run_over : (old : Places) (steps : List Step) (answers : List Answer) (new : Places) → IsOrderly old → Run old steps answers new → (n c : ℕ) → n ≢ control_port → is_removed n c old ≡ true → taken n c answers ++ on_host_link n c new ≡ on_host_link n c old
+run_over old [] [] new orderly run n c device gone = rw run refl
+run_over old (s ∷ steps) (a ∷ answers) new orderly run n c device gone =
+    let mid = run.0 in
+    let first = over old a mid (rule_moves old s a mid orderly run.1) n c device gone in
+    let rest = run_over mid steps answers new (orderly_after old s a mid orderly run.1) run.2 n c device (removed_after old s a mid orderly run.1 n c gone) in
+    rw (append_assoc, rest) first
+run_over old [] (a ∷ answers) new orderly run n c device gone = absurd run
+run_over old (s ∷ steps) [] new orderly run n c device gone = absurd run
+
+run_arrives : (old : Places) (steps : List Step) (answers : List Answer) (new : Places) → IsOrderly old → Run old steps answers new → (n c : ℕ) → n ≢ control_port → IsPrefixOf (taken n c answers ++ on_host_link n c new) (transit n c old ++ all_marked n (sent n c answers))
+run_arrives old [] [] new orderly run n c device = (all_marked n (of_conn c (waiting n old)), rw run (sym (append-nil (transit n c old))))
+run_arrives old (s ∷ steps) (a ∷ answers) new orderly run n c device =
+    let mid = run.0 in
+    let still = orderly_after old s a mid orderly run.1 in
+    let moves = rule_moves old s a mid orderly run.1 in
+    elim (cases_Bool (is_removed n c mid)) [
+      | inl gone ↦
+          let first = arrives old a mid moves n c device in
+          let rest = run_over mid steps answers new still run.2 n c device gone in
+          (first.0 ++ all_marked n (sent n c answers), ended (taken_by n c a) (taken n c answers) (on_host_link n c new) (on_host_link n c mid) first.0 (transit n c old ++ all_marked n (sent_by n c a)) (all_marked n (sent n c answers)) rest first.1 ∙ tail a answers)
+      | inr never ↦
+          let first = conserves old a mid moves n c device never in
+          let rest = run_arrives mid steps answers new still run.2 n c device in
+          (rest.0, went_on (taken_by n c a) (taken n c answers ++ on_host_link n c new) rest.0 (transit n c mid) (all_marked n (sent n c answers)) (transit n c old ++ all_marked n (sent_by n c a)) rest.1 first ∙ tail a answers)
+    ]
+  where
+    tail : (a : Answer) (answers : List Answer) → (transit n c old ++ all_marked n (sent_by n c a)) ++ all_marked n (sent n c answers) ≡ transit n c old ++ all_marked n (sent n c (a ∷ answers))
+    tail a answers = rw (append_assoc, all_marked-append n (sent_by n c a) (sent n c answers)) refl
+
+    ended : (t more host was rest whole sent : List (List ℕ)) → more ++ host ≡ was → (t ++ was) ++ rest ≡ whole → ((t ++ more) ++ host) ++ (rest ++ sent) ≡ whole ++ sent
+    ended t more host was rest whole sent e f =
+        ap (λ xs. xs ++ (rest ++ sent)) (append_assoc t more host ∙ ap (λ xs. t ++ xs) e)
+        ∙ sym (append_assoc (t ++ was) rest sent)
+        ∙ ap (λ xs. xs ++ sent) f
+
+    went_on : (t more rest between sent whole : List (List ℕ)) → more ++ rest ≡ between ++ sent → t ++ between ≡ whole → (t ++ more) ++ rest ≡ whole ++ sent
+    went_on t more rest between sent whole e f =
+        append_assoc t more rest ∙ ap (λ xs. t ++ xs) e ∙ sym (append_assoc t between sent) ∙ ap (λ xs. xs ++ sent) f
+run_arrives old [] (a ∷ answers) new orderly run n c device = absurd run
+run_arrives old (s ∷ steps) [] new orderly run n c device = absurd run
 
 pub nothing_lost : (old : Places) (steps : List Step) (answers : List Answer) (new : Places) → IsOrderly old → Run old steps answers new → NothingLost old answers new
 nothing_lost old steps answers new orderly run = record {
   conserved = run_conserves old steps answers new orderly run;
-  prefix = λ n c device. (transit n c new, run_conserves old steps answers new orderly run n c device);
+  over = run_over old steps answers new orderly run;
+  stays = run_stays old steps answers new orderly run;
+  arrives = run_arrives old steps answers new orderly run;
+  prefix = λ n c device.
+      let all = run_arrives old steps answers new orderly run n c device in
+      (on_host_link n c new ++ all.0, sym (append_assoc (taken n c answers) (on_host_link n c new) all.0) ∙ all.1);
 }
 
 -- a run goes on by one step

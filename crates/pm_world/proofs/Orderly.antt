@@ -1,25 +1,30 @@
 -- Every world is orderly: a new one is, and no step makes it otherwise.
 use Rattle.std.proofs.Common.{◌≡◌, ◌≢◌, ℕ, ◌<◌, ◌≤◌, ◌==◌, Bool, true, false, List, [], ◌∷◌, length, map, Option, Some, None, refl, sym, ap, ◌∙◌, subst, arith}
-use Rattle.std.specs.Prelude.{slice_set, is_none, nat_le, if◌then◌else◌, Ok, MatchOption, MatchBool, ◌&&◌, ◌%◌}
-use Rattle.std.proofs.lemmas.Bool.{eqb-true, leb-true}
+use Rattle.std.specs.Prelude.{slice_set, is_none, is_some, nat_le, if◌then◌else◌, Ok, MatchOption, MatchBool, ◌&&◌, ◌%◌}
+use Rattle.std.proofs.lemmas.Bool.{eqb-true, leb-false, leb-true}
+use Rattle.std.proofs.lemmas.Option.{same_Some}
 use Rattle.std.proofs.lemmas.List.{length-set, length-map, length-replicate}
 use Rattle.fis_view.specs.Frames.{Stamped}
 use Rattle.fis_view.specs.declared.frame.Stamp.{Stamp}
 use Rattle.fis_view.specs.declared.build.D2hFields.{D2hFields}
 use Rattle.disk_model.specs.declared.unit.Unit.{Unit}
-use Rattle.pm_ports.specs.Port.{PortState, empty_port, with_up, came_refusal as port_came_refusal}
+use Rattle.pm_ports.specs.Port.{PortState, empty_port, is_present, with_connection, with_removal, with_up, came_refusal as port_came_refusal, gone_refusal as port_gone_refusal}
+use Rattle.pm_ports.specs.declared.port.GoneError.TheVariants.{NotThere}
+use Rattle.pm_ports.specs.declared.port.PortError.TheVariants.{AlreadyThere, OldConnection}
 use Rattle.pm_control.specs.Answers.{IsAnswer, IsNotice, answer_to}
 use Rattle.pm_registers.specs.RegisterMap.{after_notice}
 use Rattle.multiplier.specs.Arbiter.{control_port}
 use Rattle.multiplier.specs.State.{PmState, control_stamp, counted, held, passes_to, pm_port, port_at, next_place, rising, with_port}
 use Rattle.multiplier.specs.Rules.{FromHostRule, PlaceGives, PortGives, ControlGives, ToControl, ToDevice, ToNobody, held_source, may_go_back}
-use Rattle.multiplier.specs.Rules.{with_device as connected}
+use Rattle.multiplier.specs.Rules.{with_device as connected, without_device}
 use Rattle.multiplier.specs.declared.given.Source.TheVariants as source
 use Rattle.multiplier.specs.declared.multiplier.Passed.{Passed}
 use Rattle.multiplier.specs.declared.multiplier.Passed.TheVariants as passed
 use Rattle.multiplier.proofs.Ports as ports
-use Rattle.pm_world.specs.Places.{Places, Place, Queue, IsOrderly, is_config, new_world, opening, with_device, with_multiplier, with_upward, with_downward, with_host}
-use Rattle.pm_world.specs.Rules.{OnDevice, OnDeviceAndMultiplier, PmPresenceRule, PmFromDeviceRule, PmDownRule, PmFromHostRule, PmUpRule, CameRule, DiskSendRule, InjectRule, DiskTakeRule, Rule, Run, Outcome, recorded}
+use Rattle.pm_world.specs.Places.{KnowsItsConnections, Places, Place, Queue, IsOrderly, is_config, new_world, opening, with_device, with_multiplier, with_upward, with_downward, with_host}
+use Rattle.pm_world.specs.Rules.{OnDevice, OnDeviceAndMultiplier, PmPresenceRule, PmFromDeviceRule, PmDownRule, PmFromHostRule, PmUpRule, CameRule, DiskSendRule, GoneRule, InjectRule, DiskTakeRule, Rule, Run, Outcome, recorded}
+use Rattle.pm_world.specs.declared.link.Change.{Change}
+use Rattle.pm_world.specs.declared.link.Change.TheVariants as change
 use Rattle.pm_world.specs.declared.step.Config.{Config}
 use Rattle.pm_world.specs.declared.step.Step.{Step}
 use Rattle.pm_world.specs.declared.step.Step.TheVariants as step
@@ -42,34 +47,97 @@ port_other pm n p m other = ports.other_port pm.ports n m p other
 pub record IsRoomy (pm : PmState) : Type 0 where
   pub room : length pm.ports ≡ 15
   pub answer : (frame : Stamped) → pm.answer ≡ Some frame → frame.stamp.port ≡ control_port
-  pub gone : (n : ℕ) → (port_at pm n).gone ≡ 0
+  pub knows : (n : ℕ) → KnowsItsConnections (port_at pm n)
 
--- as many ports, with as many connections gone
+-- what a port knows of connections
+abbrev known : PortState → Option ℕ × ℕ × ℕ
+known p = (p.present, p.last, p.gone)
+
+knows_as : (p q : PortState) → known p ≡ known q → KnowsItsConnections q → KnowsItsConnections p
+knows_as p q e is =
+    let there : p.present ≡ q.present = ap (λ (t : Option ℕ × ℕ × ℕ). t.0) e in
+    let last : p.last ≡ q.last = ap (λ (t : Option ℕ × ℕ × ℕ). t.1) e in
+    let gone : p.gone ≡ q.gone = ap (λ (t : Option ℕ × ℕ × ℕ). t.2) e in
+    record {
+      present = λ conn at.
+          let was = is.present conn (sym there ∙ at) in
+          let below : q.gone < conn = was.1 in
+          (was.0 ∙ sym last, omega (arith, gone));
+      last = let most : q.gone ≤ q.last = is.last in omega (arith, gone, last);
+    }
+
+-- as many ports, which know the same
 abbrev LikePorts : PmState → PmState → Type 0
-LikePorts old new = (length new.ports ≡ length old.ports) × ((n : ℕ) → (port_at new n).gone ≡ (port_at old n).gone)
+LikePorts old new = (length new.ports ≡ length old.ports) × ((n : ℕ) → known (port_at new n) ≡ known (port_at old n))
 
 same_ports : (old new : PmState) → new.ports ≡ old.ports → LikePorts old new
-same_ports old new e = (ap length e, λ n. ap (λ all. (ports.at all n).gone) e)
+same_ports old new e = (ap length e, λ n. ap (λ all. known (ports.at all n)) e)
 
 -- where nothing waits as the answer of the control port, or what waited before
 same_answer : (old new : PmState) → LikePorts old new → new.answer ≡ old.answer → IsRoomy old → IsRoomy new
-same_answer old new like same is = record { room = like.0 ∙ is.room; answer = λ frame e. is.answer frame (sym same ∙ e); gone = λ n. like.1 n ∙ is.gone n }
+same_answer old new like same is = record { room = like.0 ∙ is.room; answer = λ frame e. is.answer frame (sym same ∙ e); knows = λ n. knows_as (port_at new n) (port_at old n) (like.1 n) (is.knows n) }
 
 no_answer : (old new : PmState) → LikePorts old new → new.answer ≡ None → IsRoomy old → IsRoomy new
-no_answer old new like none is = record { room = like.0 ∙ is.room; answer = λ frame e. let wrong : None ≡ Some frame = sym none ∙ e in absurd (cc); gone = λ n. like.1 n ∙ is.gone n }
+no_answer old new like none is = record { room = like.0 ∙ is.room; answer = λ frame e. let wrong : None ≡ Some frame = sym none ∙ e in absurd (cc); knows = λ n. knows_as (port_at new n) (port_at old n) (like.1 n) (is.knows n) }
 
-ports_as : (old new : PmState) (n : ℕ) (p : PortState) → new.ports ≡ slice_set old.ports n p → p.gone ≡ (port_at old n).gone → LikePorts old new
-ports_as old new n p e same = (ap length e ∙ length-set old.ports n p, λ m. ap (λ all. (ports.at all m).gone) e ∙ ports.kept_part (λ q. q.gone) old.ports n p same m)
+ports_as : (old new : PmState) (n : ℕ) (p : PortState) → new.ports ≡ slice_set old.ports n p → known p ≡ known (port_at old n) → LikePorts old new
+ports_as old new n p e same = (ap length e ∙ length-set old.ports n p, λ m. ap (λ all. known (ports.at all m)) e ∙ ports.kept_part known old.ports n p same m)
 
 equal_roomy : {old new : PmState} → new ≡ old → IsRoomy old → IsRoomy new
 equal_roomy e is = subst IsRoomy (sym e) is
 
-recorded_roomy : (pm : PmState) (n conn : ℕ) → IsRoomy pm → IsRoomy (recorded pm n conn)
-recorded_roomy pm n conn is = by_test (is_none (port_came_refusal (port_at pm n) conn))
+-- a connection that is not refused is above the last one
+above_last : (there old : Bool) → is_none (if there then Some AlreadyThere else if old then Some OldConnection else None) ≡ true → old ≡ false
+above_last true old e = absurd (cc)
+above_last false true e = absurd (cc)
+above_last false false e = refl
+
+connected_knows : (p : PortState) (conn : ℕ) → nat_le conn p.last ≡ false → KnowsItsConnections p → KnowsItsConnections (with_connection p conn)
+connected_knows p conn above is =
+    let low : p.gone ≤ p.last = is.last in
+    let high : p.last < conn = leb-false conn p.last above in
+    record {
+      present = λ c e. let same : conn ≡ c = same_Some conn c e in (sym same, omega (arith, same));
+      last = omega arith;
+    }
+
+-- only the connection that is present can go
+is_there : (present : Option ℕ) (conn : ℕ) → is_none (if is_present present conn then None else Some NotThere) ≡ true → present ≡ Some conn
+is_there None conn e = absurd (cc)
+is_there (Some there) conn e = by_test (there == conn) (conn == there) refl e
   where
-    by_test : (b : Bool) → IsRoomy (if b then connected pm n conn else pm)
-    by_test true = record { room = length-set pm.ports n _ ∙ is.room; answer = is.answer; gone = λ m. ports.kept_part (λ q. q.gone) pm.ports n _ refl m ∙ is.gone m }
-    by_test false = is
+    by_test : (b c : Bool) → (conn == there) ≡ c → is_none (if c then None else Some NotThere) ≡ true → Some there ≡ Some conn
+    by_test b true same e = ap Some (sym (eqb-true conn there same))
+    by_test b false same e = absurd (cc)
+
+removed_knows : (p : PortState) (conn : ℕ) → p.present ≡ Some conn → KnowsItsConnections p → KnowsItsConnections (with_removal p conn)
+removed_knows p conn there is =
+    let last : conn ≡ p.last = (is.present conn there).0 in
+    record { present = λ c e. absurd (cc); last = omega (arith, last) }
+
+recorded_roomy : (pm : PmState) (n : ℕ) (c : Change) → IsRoomy pm → IsRoomy (recorded pm n c)
+recorded_roomy pm n (change.Came conn) is = by_test (is_none (port_came_refusal (port_at pm n) conn)) refl
+  where
+    by_test : (b : Bool) → is_none (port_came_refusal (port_at pm n) conn) ≡ b → IsRoomy (if b then connected pm n conn else pm)
+    by_test true none =
+        let above = above_last (is_some (port_at pm n).present) (nat_le conn (port_at pm n).last) none in
+        record {
+          room = length-set pm.ports n _ ∙ is.room;
+          answer = is.answer;
+          knows = ports.each_port (λ _ q. KnowsItsConnections q) pm.ports n _ (connected_knows (port_at pm n) conn above (is.knows n)) is.knows;
+        }
+    by_test false none = is
+recorded_roomy pm n (change.Gone conn) is = by_test (is_none (port_gone_refusal (port_at pm n) conn)) refl
+  where
+    by_test : (b : Bool) → is_none (port_gone_refusal (port_at pm n) conn) ≡ b → IsRoomy (if b then without_device pm n conn else pm)
+    by_test true none =
+        let there = is_there (port_at pm n).present conn none in
+        record {
+          room = length-set pm.ports n _ ∙ is.room;
+          answer = is.answer;
+          knows = ports.each_port (λ _ q. KnowsItsConnections q) pm.ports n _ (removed_knows (port_at pm n) conn there (is.knows n)) is.knows;
+        }
+    by_test false none = is
 
 presence_roomy : (n : ℕ) (old : Place) (pm : PmState) (a : Answer) (new : Place) (after : PmState) → PmPresenceRule n old pm (Ok a) new after → IsRoomy pm → IsRoomy after
 presence_roomy n old pm answer.Idle new after rule is = equal_roomy rule.2 is
@@ -104,12 +172,12 @@ control_roomy : (pm : PmState) (frame : Stamped) (p : Passed) (after : PmState) 
 control_roomy pm frame passed.Control after rule is = record {
   room = ap (λ (m : PmState). length m.ports) rule.2 ∙ is.room;
   answer = λ given e. ap (λ (s : Stamp). s.port) (stamped_so (answer_to pm.resetting pm.registers frame.bytes) (control_stamp pm) after.answer rule.1 given e);
-  gone = λ n. ap (λ (m : PmState). (port_at m n).gone) rule.2 ∙ is.gone n;
+  knows = λ n. subst (λ (m : PmState). KnowsItsConnections (port_at m n)) (sym rule.2) (is.knows n);
 }
 control_roomy pm frame _ after rule is = absurd rule
 
 port_roomy : (pm : PmState) (frame : Stamped) (o : Option ℕ) (p : Passed) (after : PmState) → MatchOption o (ToNobody pm (Ok p) after) (λ conn. ToDevice pm (pm_port frame) conn frame (Ok p) after) → IsRoomy pm → IsRoomy after
-port_roomy pm frame None passed.Dropped after rule is = equal_roomy rule (record { room = is.room; answer = is.answer; gone = is.gone })
+port_roomy pm frame None passed.Dropped after rule is = equal_roomy rule (record { room = is.room; answer = is.answer; knows = is.knows })
 port_roomy pm frame None _ after rule is = absurd rule
 port_roomy pm frame (Some conn) (passed.Down m) after rule is =
     same_answer pm after (ports_as pm after (pm_port frame) _ (ap (λ (q : PmState). q.ports) rule.2) refl) (ap (λ (q : PmState). q.answer) rule.2) is
@@ -161,11 +229,11 @@ heard_roomy old pm _ new after rule is = absurd rule
 -- ---- the world
 
 roomy : {now : Places} → IsOrderly now → IsRoomy now.multiplier
-roomy orderly = record { room = orderly.room; answer = orderly.answer; gone = orderly.gone }
+roomy orderly = record { room = orderly.room; answer = orderly.answer; knows = orderly.knows }
 
 -- as many devices, and a multiplier with room
 orderly_with : (old new : Places) → length new.devices ≡ length old.devices → IsRoomy new.multiplier → IsOrderly old → IsOrderly new
-orderly_with old new size is orderly = let most : length old.devices ≤ 15 = orderly.most in record { most = omega (arith, size, most); room = is.room; answer = is.answer; gone = is.gone }
+orderly_with old new size is orderly = let most : length old.devices ≤ 15 = orderly.most in record { most = omega (arith, size, most); room = is.room; answer = is.answer; knows = is.knows }
 
 module _ (old : Places) (n : ℕ) (a : Answer) (new : Places) (orderly : IsOrderly old) where
   alone : (R : Place → Outcome → Place → Type 0) → OnDevice old n (Ok a) new R → IsOrderly new
@@ -182,6 +250,7 @@ module _ (old : Places) (n : ℕ) (a : Answer) (new : Places) (orderly : IsOrder
 
 pub orderly_after : (old : Places) (s : Step) (a : Answer) (new : Places) → IsOrderly old → Rule old s (Ok a) new → IsOrderly new
 orderly_after old (step.Came n) a new orderly rule = alone old n a new orderly (CameRule n) rule
+orderly_after old (step.Gone n) a new orderly rule = alone old n a new orderly (GoneRule n) rule
 orderly_after old (step.DiskSend n) a new orderly rule = alone old n a new orderly (DiskSendRule n) rule
 orderly_after old (step.Inject n bytes) a new orderly rule = alone old n a new orderly (InjectRule n bytes) rule
 orderly_after old (step.DiskTake n) a new orderly rule = alone old n a new orderly (DiskTakeRule n) rule
@@ -222,5 +291,5 @@ opening_orderly config units fits = record {
       let le : length units ≤ 15 = at_most config (length units) fits in omega arith;
   room = length-replicate 15 empty_port;
   answer = λ frame e. absurd (cc);
-  gone = λ n. ap (λ (p : PortState). p.gone) (port_opening config units n);
+  knows = λ n. subst KnowsItsConnections (sym (port_opening config units n)) (record { present = λ conn e. absurd (cc); last = omega arith });
 }

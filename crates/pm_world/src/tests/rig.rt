@@ -22,6 +22,7 @@ pub(super) const MEMORY: u32 = 0x20_0000;
 #[derive(Clone, Copy)]
 pub(super) enum Act {
     Came(u8),
+    Gone(u8),
     DiskSend(u8),
     /// So many zeros are sent as the device at this port.
     Inject(u8, usize),
@@ -47,6 +48,7 @@ pub(super) enum Told {
     Idle,
     Blocked,
     Came(u8, u32),
+    Gone(u8, u32),
     /// Port, connection and number.
     Sent(u8, u32, u32),
     /// Port, and whether the frame was dropped.
@@ -76,6 +78,7 @@ pub(super) fn telling(answer: &Answer) -> Told {
         Answer::Idle => Told::Idle,
         Answer::Blocked => Told::Blocked,
         Answer::Came { port, conn } => Told::Came(*port, *conn),
+        Answer::Gone { port, conn } => Told::Gone(*port, *conn),
         Answer::Sent {
             port,
             conn,
@@ -155,6 +158,7 @@ fn bytes(alloc: Global, value: u8, count: usize) -> Result<Bytes, AllocError> {
 pub(super) fn step_of(alloc: Global, act: Act) -> Result<Step, AllocError> {
     let step = match act {
         Act::Came(n) => Step::Came(n),
+        Act::Gone(n) => Step::Gone(n),
         Act::DiskSend(n) => Step::DiskSend(n),
         Act::Inject(n, count) => Step::Inject(n, bytes(alloc, 0, count)?),
         Act::DiskTake(n) => Step::DiskTake(n),
