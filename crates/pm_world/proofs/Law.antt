@@ -163,7 +163,7 @@ arrives old _ new m n c device =
 -- ---- a whole run
 
 -- a removal stays recorded
-run_stays : (old : Places) (steps : List Step) (answers : List Answer) (new : Places) → IsOrderly old → Run old steps answers new → (n c : ℕ) → is_removed n c old ≡ true → is_removed n c new ≡ true
+pub run_stays : (old : Places) (steps : List Step) (answers : List Answer) (new : Places) → IsOrderly old → Run old steps answers new → (n c : ℕ) → is_removed n c old ≡ true → is_removed n c new ≡ true
 run_stays old [] [] new orderly run n c gone = rw run gone
 run_stays old (s ∷ steps) (a ∷ answers) new orderly run n c gone =
     run_stays run.0 steps answers new (orderly_after old s a run.0 orderly run.1) run.2 n c (removed_after old s a run.0 orderly run.1 n c gone)
