@@ -20,9 +20,11 @@ use Rattle.multiplier.specs.Rules.{with_device as connected, without_device}
 use Rattle.multiplier.specs.declared.given.Source.TheVariants as source
 use Rattle.multiplier.specs.declared.multiplier.Passed.{Passed}
 use Rattle.multiplier.specs.declared.multiplier.Passed.TheVariants as passed
+use Rattle.multiplier.proofs.Gone.{still_up_to}
 use Rattle.multiplier.proofs.Ports as ports
 use Rattle.pm_world.specs.Places.{KnowsItsConnections, Places, Place, Queue, IsOrderly, is_config, new_world, opening, with_device, with_multiplier, with_upward, with_downward, with_host}
 use Rattle.pm_world.specs.Rules.{OnDevice, OnDeviceAndMultiplier, PmPresenceRule, PmFromDeviceRule, PmDownRule, PmFromHostRule, PmUpRule, CameRule, DiskSendRule, GoneRule, InjectRule, DiskTakeRule, Rule, Run, Outcome, recorded}
+use Rattle.pm_world.specs.Traffic.{is_removed}
 use Rattle.pm_world.specs.declared.link.Change.{Change}
 use Rattle.pm_world.specs.declared.link.Change.TheVariants as change
 use Rattle.pm_world.specs.declared.step.Config.{Config}
@@ -73,18 +75,49 @@ LikePorts old new = (length new.ports ≡ length old.ports) × ((n : ℕ) → kn
 same_ports : (old new : PmState) → new.ports ≡ old.ports → LikePorts old new
 same_ports old new e = (ap length e, λ n. ap (λ all. known (ports.at all n)) e)
 
--- where nothing waits as the answer of the control port, or what waited before
-same_answer : (old new : PmState) → LikePorts old new → new.answer ≡ old.answer → IsRoomy old → IsRoomy new
-same_answer old new like same is = record { room = like.0 ∙ is.room; answer = λ frame e. is.answer frame (sym same ∙ e); knows = λ n. knows_as (port_at new n) (port_at old n) (like.1 n) (is.knows n) }
+-- no port forgets a removal
+abbrev pub Grows : PmState → PmState → Type 0
+Grows old new = (n : ℕ) → (port_at old n).gone ≤ (port_at new n).gone
 
-no_answer : (old new : PmState) → LikePorts old new → new.answer ≡ None → IsRoomy old → IsRoomy new
-no_answer old new like none is = record { room = like.0 ∙ is.room; answer = λ frame e. let wrong : None ≡ Some frame = sym none ∙ e in absurd (cc); knows = λ n. knows_as (port_at new n) (port_at old n) (like.1 n) (is.knows n) }
+-- the multiplier after a step: it is as the world asks, and forgot no removal
+abbrev Leads : PmState → PmState → Type 0
+Leads old new = IsRoomy new × Grows old new
+
+never_less : (a b : ℕ) → b ≡ a → a ≤ b
+never_less a b e = omega (arith, e)
+
+grows_as : (old new : PmState) → LikePorts old new → Grows old new
+grows_as old new like n = never_less (port_at old n).gone (port_at new n).gone (ap (λ (t : Option ℕ × ℕ × ℕ). t.2) (like.1 n))
+
+-- where nothing waits as the answer of the control port, or what waited before
+same_answer : (old new : PmState) → LikePorts old new → new.answer ≡ old.answer → IsRoomy old → Leads old new
+same_answer old new like same is = (
+  record {
+    room = like.0 ∙ is.room;
+    answer = λ frame e. is.answer frame (sym same ∙ e);
+    knows = λ n. knows_as (port_at new n) (port_at old n) (like.1 n) (is.knows n);
+  },
+  grows_as old new like,
+)
+
+no_answer : (old new : PmState) → LikePorts old new → new.answer ≡ None → IsRoomy old → Leads old new
+no_answer old new like none is = (
+  record {
+    room = like.0 ∙ is.room;
+    answer = λ frame e. let wrong : None ≡ Some frame = sym none ∙ e in absurd (cc);
+    knows = λ n. knows_as (port_at new n) (port_at old n) (like.1 n) (is.knows n);
+  },
+  grows_as old new like,
+)
 
 ports_as : (old new : PmState) (n : ℕ) (p : PortState) → new.ports ≡ slice_set old.ports n p → known p ≡ known (port_at old n) → LikePorts old new
 ports_as old new n p e same = (ap length e ∙ length-set old.ports n p, λ m. ap (λ all. known (ports.at all m)) e ∙ ports.kept_part known old.ports n p same m)
 
-equal_roomy : {old new : PmState} → new ≡ old → IsRoomy old → IsRoomy new
-equal_roomy e is = subst IsRoomy (sym e) is
+same_leads : (pm : PmState) → IsRoomy pm → Leads pm pm
+same_leads pm is = (is, λ n. never_less (port_at pm n).gone (port_at pm n).gone refl)
+
+equal_roomy : {old new : PmState} → new ≡ old → IsRoomy old → Leads old new
+equal_roomy {old} e is = subst (Leads old) (sym e) (same_leads old is)
 
 -- a connection that is not refused is above the last one
 above_last : (there old : Bool) → is_none (if there then Some AlreadyThere else if old then Some OldConnection else None) ≡ true → old ≡ false
@@ -115,36 +148,42 @@ removed_knows p conn there is =
     let last : conn ≡ p.last = (is.present conn there).0 in
     record { present = λ c e. absurd (cc); last = omega (arith, last) }
 
-recorded_roomy : (pm : PmState) (n : ℕ) (c : Change) → IsRoomy pm → IsRoomy (recorded pm n c)
+-- a change that is read off a presence link
+recorded_roomy : (pm : PmState) (n : ℕ) (c : Change) → IsRoomy pm → Leads pm (recorded pm n c)
 recorded_roomy pm n (change.Came conn) is = by_test (is_none (port_came_refusal (port_at pm n) conn)) refl
   where
-    by_test : (b : Bool) → is_none (port_came_refusal (port_at pm n) conn) ≡ b → IsRoomy (if b then connected pm n conn else pm)
+    by_test : (b : Bool) → is_none (port_came_refusal (port_at pm n) conn) ≡ b → Leads pm (if b then connected pm n conn else pm)
     by_test true none =
-        let above = above_last (is_some (port_at pm n).present) (nat_le conn (port_at pm n).last) none in
-        record {
-          room = length-set pm.ports n _ ∙ is.room;
-          answer = is.answer;
-          knows = ports.each_port (λ _ q. KnowsItsConnections q) pm.ports n _ (connected_knows (port_at pm n) conn above (is.knows n)) is.knows;
-        }
-    by_test false none = is
+        let above = above_last (is_some (port_at pm n).present) (nat_le conn (port_at pm n).last) none in (
+          record {
+            room = length-set pm.ports n _ ∙ is.room;
+            answer = is.answer;
+            knows = ports.each_port (λ _ q. KnowsItsConnections q) pm.ports n _ (connected_knows (port_at pm n) conn above (is.knows n)) is.knows;
+          },
+          λ m. never_less (port_at pm m).gone (port_at (connected pm n conn) m).gone (ports.kept_part (λ q. q.gone) pm.ports n (with_connection (port_at pm n) conn) refl m),
+        )
+    by_test false none = same_leads pm is
 recorded_roomy pm n (change.Gone conn) is = by_test (is_none (port_gone_refusal (port_at pm n) conn)) refl
   where
-    by_test : (b : Bool) → is_none (port_gone_refusal (port_at pm n) conn) ≡ b → IsRoomy (if b then without_device pm n conn else pm)
+    by_test : (b : Bool) → is_none (port_gone_refusal (port_at pm n) conn) ≡ b → Leads pm (if b then without_device pm n conn else pm)
     by_test true none =
         let there = is_there (port_at pm n).present conn none in
-        record {
-          room = length-set pm.ports n _ ∙ is.room;
-          answer = is.answer;
-          knows = ports.each_port (λ _ q. KnowsItsConnections q) pm.ports n _ (removed_knows (port_at pm n) conn there (is.knows n)) is.knows;
-        }
-    by_test false none = is
+        let above : (port_at pm n).gone < conn = ((is.knows n).present conn there).1 in (
+          record {
+            room = length-set pm.ports n _ ∙ is.room;
+            answer = is.answer;
+            knows = ports.each_port (λ _ q. KnowsItsConnections q) pm.ports n _ (removed_knows (port_at pm n) conn there (is.knows n)) is.knows;
+          },
+          ports.each_port (λ m q. (port_at pm m).gone ≤ q.gone) pm.ports n (with_removal (port_at pm n) conn) (omega arith) (λ m. never_less (port_at pm m).gone (port_at pm m).gone refl),
+        )
+    by_test false none = same_leads pm is
 
-presence_roomy : (n : ℕ) (old : Place) (pm : PmState) (a : Answer) (new : Place) (after : PmState) → PmPresenceRule n old pm (Ok a) new after → IsRoomy pm → IsRoomy after
+presence_roomy : (n : ℕ) (old : Place) (pm : PmState) (a : Answer) (new : Place) (after : PmState) → PmPresenceRule n old pm (Ok a) new after → IsRoomy pm → Leads pm after
 presence_roomy n old pm answer.Idle new after rule is = equal_roomy rule.2 is
-presence_roomy n old pm (answer.Presence p) new after rule is = equal_roomy rule.2.2 (recorded_roomy pm n rule.2.0 is)
+presence_roomy n old pm (answer.Presence p) new after rule is = subst (Leads pm) (sym rule.2.2) (recorded_roomy pm n rule.2.0 is)
 presence_roomy n old pm _ new after rule is = absurd rule
 
-device_roomy : (n : ℕ) (old : Place) (pm : PmState) (a : Answer) (new : Place) (after : PmState) → PmFromDeviceRule n old pm (Ok a) new after → IsRoomy pm → IsRoomy after
+device_roomy : (n : ℕ) (old : Place) (pm : PmState) (a : Answer) (new : Place) (after : PmState) → PmFromDeviceRule n old pm (Ok a) new after → IsRoomy pm → Leads pm after
 device_roomy n old pm answer.Idle new after rule is = equal_roomy rule.2 is
 device_roomy n old pm answer.Blocked new after rule is = equal_roomy rule.3 is
 device_roomy n old pm (answer.Offered p true) new after rule is = equal_roomy rule.2.2.1 is
@@ -152,7 +191,7 @@ device_roomy n old pm (answer.Offered p false) new after rule is =
     same_answer pm after (ports_as pm after n _ (ap (λ (m : PmState). m.ports) rule.2.2.2) refl) (ap (λ (m : PmState). m.answer) rule.2.2.2) is
 device_roomy n old pm _ new after rule is = absurd rule
 
-down_roomy : (n : ℕ) (old : Place) (pm : PmState) (a : Answer) (new : Place) (after : PmState) → PmDownRule n old pm (Ok a) new after → IsRoomy pm → IsRoomy after
+down_roomy : (n : ℕ) (old : Place) (pm : PmState) (a : Answer) (new : Place) (after : PmState) → PmDownRule n old pm (Ok a) new after → IsRoomy pm → Leads pm after
 down_roomy n old pm answer.Idle new after rule is = equal_roomy rule.3 is
 down_roomy n old pm answer.Blocked new after rule is = equal_roomy rule.2 is
 down_roomy n old pm (answer.Down p) new after rule is =
@@ -168,59 +207,63 @@ stamped_so None stamp (Some g) made frame e = absurd made
 stamped_so (Some fields) stamp None made frame e = absurd made
 stamped_so (Some fields) stamp (Some g) made frame e = subst (λ (o : Option Stamped). MatchOption o (Prim.Unit {0}) (λ f. f.stamp ≡ stamp)) e made.1
 
-control_roomy : (pm : PmState) (frame : Stamped) (p : Passed) (after : PmState) → ToControl pm frame (Ok p) after → IsRoomy pm → IsRoomy after
-control_roomy pm frame passed.Control after rule is = record {
-  room = ap (λ (m : PmState). length m.ports) rule.2 ∙ is.room;
-  answer = λ given e. ap (λ (s : Stamp). s.port) (stamped_so (answer_to pm.resetting pm.registers frame.bytes) (control_stamp pm) after.answer rule.1 given e);
-  knows = λ n. subst (λ (m : PmState). KnowsItsConnections (port_at m n)) (sym rule.2) (is.knows n);
-}
+control_roomy : (pm : PmState) (frame : Stamped) (p : Passed) (after : PmState) → ToControl pm frame (Ok p) after → IsRoomy pm → Leads pm after
+control_roomy pm frame passed.Control after rule is = (
+  record {
+    room = ap (λ (m : PmState). length m.ports) rule.2 ∙ is.room;
+    answer = λ given e. ap (λ (s : Stamp). s.port) (stamped_so (answer_to pm.resetting pm.registers frame.bytes) (control_stamp pm) after.answer rule.1 given e);
+    knows = λ n. subst (λ (m : PmState). KnowsItsConnections (port_at m n)) (sym rule.2) (is.knows n);
+  },
+  λ n. never_less (port_at pm n).gone (port_at after n).gone (ap (λ (m : PmState). (port_at m n).gone) rule.2),
+)
 control_roomy pm frame _ after rule is = absurd rule
 
-port_roomy : (pm : PmState) (frame : Stamped) (o : Option ℕ) (p : Passed) (after : PmState) → MatchOption o (ToNobody pm (Ok p) after) (λ conn. ToDevice pm (pm_port frame) conn frame (Ok p) after) → IsRoomy pm → IsRoomy after
-port_roomy pm frame None passed.Dropped after rule is = equal_roomy rule (record { room = is.room; answer = is.answer; knows = is.knows })
+port_roomy : (pm : PmState) (frame : Stamped) (o : Option ℕ) (p : Passed) (after : PmState) → MatchOption o (ToNobody pm (Ok p) after) (λ conn. ToDevice pm (pm_port frame) conn frame (Ok p) after) → IsRoomy pm → Leads pm after
+port_roomy pm frame None passed.Dropped after rule is =
+    subst (Leads pm) (sym rule) (record { room = is.room; answer = is.answer; knows = is.knows }, λ n. never_less (port_at pm n).gone (port_at pm n).gone refl)
 port_roomy pm frame None _ after rule is = absurd rule
 port_roomy pm frame (Some conn) (passed.Down m) after rule is =
     same_answer pm after (ports_as pm after (pm_port frame) _ (ap (λ (q : PmState). q.ports) rule.2) refl) (ap (λ (q : PmState). q.answer) rule.2) is
 port_roomy pm frame (Some conn) _ after rule is = absurd rule
 
-passed_roomy : (pm : PmState) (frame : Stamped) (p : Passed) (after : PmState) → FromHostRule pm frame (Ok p) after → IsRoomy pm → IsRoomy after
+passed_roomy : (pm : PmState) (frame : Stamped) (p : Passed) (after : PmState) → FromHostRule pm frame (Ok p) after → IsRoomy pm → Leads pm after
 passed_roomy pm frame p after rule is = by_test (pm_port frame == control_port) rule
   where
-    by_test : (b : Bool) → MatchBool b (ToControl pm frame (Ok p) after) (MatchOption (passes_to pm (pm_port frame)) (ToNobody pm (Ok p) after) (λ conn. ToDevice pm (pm_port frame) conn frame (Ok p) after)) → IsRoomy after
+    by_test : (b : Bool) → MatchBool b (ToControl pm frame (Ok p) after) (MatchOption (passes_to pm (pm_port frame)) (ToNobody pm (Ok p) after) (λ conn. ToDevice pm (pm_port frame) conn frame (Ok p) after)) → Leads pm after
     by_test true rule = control_roomy pm frame p after rule is
     by_test false rule = port_roomy pm frame (passes_to pm (pm_port frame)) p after rule is
 
 -- ---- a frame for the host
 
-gives_roomy : (pm : PmState) (place : ℕ) (frame : Stamped) (after : PmState) → PlaceGives pm place frame after → IsRoomy pm → IsRoomy after
+gives_roomy : (pm : PmState) (place : ℕ) (frame : Stamped) (after : PmState) → PlaceGives pm place frame after → IsRoomy pm → Leads pm after
 gives_roomy pm place frame after rule is = by_test (place == control_port) rule
   where
     control : (due : Bool) → MatchBool due
         (IsNotice true (control_stamp pm) (Some frame) × (after ≡ record pm { registers = after_notice pm.registers; number = counted pm.number; served = control_port; given = may_go_back pm source.Notice frame }))
-        ((pm.answer ≡ Some frame) × (after ≡ record pm { answer = None; served = control_port; given = may_go_back pm source.Answer frame })) → IsRoomy after
+        ((pm.answer ≡ Some frame) × (after ≡ record pm { answer = None; served = control_port; given = may_go_back pm source.Answer frame })) → Leads pm after
     control true rule = same_answer pm after (same_ports pm after (ap (λ (m : PmState). m.ports) rule.1)) (ap (λ (m : PmState). m.answer) rule.1) is
     control false rule = no_answer pm after (same_ports pm after (ap (λ (m : PmState). m.ports) rule.1)) (ap (λ (m : PmState). m.answer) rule.1) is
 
     port : (o : Option Stamped) → MatchOption o ⊥ (λ was. (was.stamp.port ≡ place) × (frame ≡ rising place was)
-        × (after ≡ record (with_port pm place (with_up (port_at pm place) None)) { served = place; given = may_go_back pm (held_source was) frame })) → IsRoomy after
+        × (after ≡ record (with_port pm place (with_up (port_at pm place) None)) { served = place; given = may_go_back pm (held_source was) frame })) → Leads pm after
     port None rule = absurd rule
     port (Some was) rule = same_answer pm after (ports_as pm after place _ (ap (λ (m : PmState). m.ports) rule.2) refl) (ap (λ (m : PmState). m.answer) rule.2) is
 
-    by_test : (b : Bool) → MatchBool b (ControlGives pm frame after) (PortGives pm place frame after) → IsRoomy after
+    by_test : (b : Bool) → MatchBool b (ControlGives pm frame after) (PortGives pm place frame after) → Leads pm after
     by_test true rule = control pm.registers.due rule
     by_test false rule = port (held pm place) rule
 
-next_roomy : (pm : PmState) (o : Option ℕ) (frame : Stamped) (after : PmState) → MatchOption o ⊥ (λ place. PlaceGives pm place frame after) → IsRoomy pm → IsRoomy after
+next_roomy : (pm : PmState) (o : Option ℕ) (frame : Stamped) (after : PmState) → MatchOption o ⊥ (λ place. PlaceGives pm place frame after) → IsRoomy pm → Leads pm after
 next_roomy pm None frame after rule is = absurd rule
 next_roomy pm (Some place) frame after rule is = gives_roomy pm place frame after rule is
 
-up_roomy : (pm : PmState) (upward : Queue) (a : Answer) (after : PmState) (new : Queue) → PmUpRule pm upward (Ok a) after new → IsRoomy pm → IsRoomy after
+up_roomy : (pm : PmState) (upward : Queue) (a : Answer) (after : PmState) (new : Queue) → PmUpRule pm upward (Ok a) after new → IsRoomy pm → Leads pm after
 up_roomy pm upward answer.Idle after new rule is = equal_roomy rule.2 is
 up_roomy pm upward answer.Blocked after new rule is = equal_roomy rule.1 is
 up_roomy pm upward (answer.Up n) after new rule is = next_roomy pm (next_place pm) rule.1.0 after rule.1.2 is
 up_roomy pm upward _ after new rule is = absurd rule
 
-heard_roomy : (old : Queue) (pm : PmState) (a : Answer) (new : Queue) (after : PmState) → PmFromHostRule old pm (Ok a) new after → IsRoomy pm → IsRoomy after
+heard_roomy : (old : Queue) (pm : PmState) (a : Answer) (new : Queue) (after : PmState) → PmFromHostRule old pm (Ok a) new after → IsRoomy pm → Leads pm after
 heard_roomy old pm answer.Idle new after rule is = equal_roomy rule.2 is
 heard_roomy old pm answer.Blocked new after rule is = equal_roomy rule.2 is
 heard_roomy old pm (answer.Passed p) new after rule is = passed_roomy pm rule.0.0 p after rule.0.2 is
@@ -231,42 +274,65 @@ heard_roomy old pm _ new after rule is = absurd rule
 roomy : {now : Places} → IsOrderly now → IsRoomy now.multiplier
 roomy orderly = record { room = orderly.room; answer = orderly.answer; knows = orderly.knows }
 
+-- the world after a step: it is orderly, and no port forgot a removal
+pub record Follows (old new : Places) : Type 0 where
+  pub orderly : IsOrderly new
+  pub grows : Grows old.multiplier new.multiplier
+
 -- as many devices, and a multiplier with room
-orderly_with : (old new : Places) → length new.devices ≡ length old.devices → IsRoomy new.multiplier → IsOrderly old → IsOrderly new
-orderly_with old new size is orderly = let most : length old.devices ≤ 15 = orderly.most in record { most = omega (arith, size, most); room = is.room; answer = is.answer; knows = is.knows }
+follows_with : (old new : Places) → length new.devices ≡ length old.devices → Leads old.multiplier new.multiplier → IsOrderly old → Follows old new
+follows_with old new size leads orderly =
+    let most : length old.devices ≤ 15 = orderly.most in
+    let is : IsRoomy new.multiplier = leads.0 in
+    record {
+      orderly = record { most = omega (arith, size, most); room = is.room; answer = is.answer; knows = is.knows };
+      grows = leads.1;
+    }
 
 module _ (old : Places) (n : ℕ) (a : Answer) (new : Places) (orderly : IsOrderly old) where
-  alone : (R : Place → Outcome → Place → Type 0) → OnDevice old n (Ok a) new R → IsOrderly new
+  alone : (R : Place → Outcome → Place → Type 0) → OnDevice old n (Ok a) new R → Follows old new
   alone R rule =
       let at : AtDevice old n (Ok a) new R = at_device old n a new R rule in
-      subst IsOrderly (sym at.new_is) (orderly_with old (with_device old n at.after) (length-set old.devices n at.after) (roomy orderly) orderly)
+      subst (Follows old) (sym at.new_is) (follows_with old (with_device old n at.after) (length-set old.devices n at.after) (same_leads old.multiplier (roomy orderly)) orderly)
 
-  both : (R : Place → PmState → Outcome → Place → PmState → Type 0) → ((place : Place) (after : Place) (left : PmState) → R place old.multiplier (Ok a) after left → IsRoomy old.multiplier → IsRoomy left)
-      → OnDeviceAndMultiplier old n (Ok a) new R → IsOrderly new
+  both : (R : Place → PmState → Outcome → Place → PmState → Type 0) → ((place : Place) (after : Place) (left : PmState) → R place old.multiplier (Ok a) after left → IsRoomy old.multiplier → Leads old.multiplier left)
+      → OnDeviceAndMultiplier old n (Ok a) new R → Follows old new
   both R keeps rule =
       let at : AtBoth old n (Ok a) new R = at_both old n a new R rule in
-      subst IsOrderly (sym at.new_is)
-      (orderly_with old (with_multiplier (with_device old n at.after) at.left) (length-set old.devices n at.after) (keeps at.place at.after at.left at.rule (roomy orderly)) orderly)
+      subst (Follows old) (sym at.new_is)
+      (follows_with old (with_multiplier (with_device old n at.after) at.left) (length-set old.devices n at.after) (keeps at.place at.after at.left at.rule (roomy orderly)) orderly)
+
+-- a step that leaves devices and multiplier
+aside : (old new left : Places) → new ≡ left → left.devices ≡ old.devices → left.multiplier ≡ old.multiplier → IsOrderly old → Follows old new
+aside old new left e devices same orderly = subst (Follows old) (sym e) (follows_with old left (ap length devices) (equal_roomy same (roomy orderly)) orderly)
+
+follows : (old : Places) (s : Step) (a : Answer) (new : Places) → IsOrderly old → Rule old s (Ok a) new → Follows old new
+follows old (step.Came n) a new orderly rule = alone old n a new orderly (CameRule n) rule
+follows old (step.Gone n) a new orderly rule = alone old n a new orderly (GoneRule n) rule
+follows old (step.DiskSend n) a new orderly rule = alone old n a new orderly (DiskSendRule n) rule
+follows old (step.Inject n bytes) a new orderly rule = alone old n a new orderly (InjectRule n bytes) rule
+follows old (step.DiskTake n) a new orderly rule = alone old n a new orderly (DiskTakeRule n) rule
+follows old (step.PmPresence n) a new orderly rule = both old n a new orderly (PmPresenceRule n) (λ place after left. presence_roomy n place old.multiplier a after left) rule
+follows old (step.PmFromDevice n) a new orderly rule = both old n a new orderly (PmFromDeviceRule n) (λ place after left. device_roomy n place old.multiplier a after left) rule
+follows old (step.PmDown n) a new orderly rule = both old n a new orderly (PmDownRule n) (λ place after left. down_roomy n place old.multiplier a after left) rule
+follows old step.PmFromHost a new orderly rule =
+    follows_with old new (ap (λ (w : Places). length w.devices) rule.1) (heard_roomy old.downward old.multiplier a new.downward new.multiplier rule.0 (roomy orderly)) orderly
+follows old step.PmUp a new orderly rule =
+    follows_with old new (ap (λ (w : Places). length w.devices) rule.1) (up_roomy old.multiplier old.upward a new.multiplier new.upward rule.0 (roomy orderly)) orderly
+follows old step.HostTake a new orderly rule = aside old new (with_host (with_upward old new.upward) new.host) rule.1 refl refl orderly
+follows old step.HostPush a new orderly rule = aside old new (with_downward (with_host old new.host) new.downward) rule.1 refl refl orderly
+follows old step.Tick a new orderly rule = aside old new (with_host old new.host) rule.1 refl refl orderly
+follows old (step.Submit dev request) a new orderly rule = aside old new (with_host old new.host) rule.1 refl refl orderly
+follows old step.Poll a new orderly rule = aside old new (with_host old new.host) rule.1 refl refl orderly
+follows old (step.Put at bytes) a new orderly rule = aside old new (with_host old new.host) rule.1 refl refl orderly
 
 pub orderly_after : (old : Places) (s : Step) (a : Answer) (new : Places) → IsOrderly old → Rule old s (Ok a) new → IsOrderly new
-orderly_after old (step.Came n) a new orderly rule = alone old n a new orderly (CameRule n) rule
-orderly_after old (step.Gone n) a new orderly rule = alone old n a new orderly (GoneRule n) rule
-orderly_after old (step.DiskSend n) a new orderly rule = alone old n a new orderly (DiskSendRule n) rule
-orderly_after old (step.Inject n bytes) a new orderly rule = alone old n a new orderly (InjectRule n bytes) rule
-orderly_after old (step.DiskTake n) a new orderly rule = alone old n a new orderly (DiskTakeRule n) rule
-orderly_after old (step.PmPresence n) a new orderly rule = both old n a new orderly (PmPresenceRule n) (λ place after left. presence_roomy n place old.multiplier a after left) rule
-orderly_after old (step.PmFromDevice n) a new orderly rule = both old n a new orderly (PmFromDeviceRule n) (λ place after left. device_roomy n place old.multiplier a after left) rule
-orderly_after old (step.PmDown n) a new orderly rule = both old n a new orderly (PmDownRule n) (λ place after left. down_roomy n place old.multiplier a after left) rule
-orderly_after old step.PmFromHost a new orderly rule =
-    orderly_with old new (ap (λ (w : Places). length w.devices) rule.1) (heard_roomy old.downward old.multiplier a new.downward new.multiplier rule.0 (roomy orderly)) orderly
-orderly_after old step.PmUp a new orderly rule =
-    orderly_with old new (ap (λ (w : Places). length w.devices) rule.1) (up_roomy old.multiplier old.upward a new.multiplier new.upward rule.0 (roomy orderly)) orderly
-orderly_after old step.HostTake a new orderly rule = subst IsOrderly (sym rule.1) (orderly_with old (with_host (with_upward old new.upward) new.host) refl (roomy orderly) orderly)
-orderly_after old step.HostPush a new orderly rule = subst IsOrderly (sym rule.1) (orderly_with old (with_downward (with_host old new.host) new.downward) refl (roomy orderly) orderly)
-orderly_after old step.Tick a new orderly rule = subst IsOrderly (sym rule.1) (orderly_with old (with_host old new.host) refl (roomy orderly) orderly)
-orderly_after old (step.Submit dev request) a new orderly rule = subst IsOrderly (sym rule.1) (orderly_with old (with_host old new.host) refl (roomy orderly) orderly)
-orderly_after old step.Poll a new orderly rule = subst IsOrderly (sym rule.1) (orderly_with old (with_host old new.host) refl (roomy orderly) orderly)
-orderly_after old (step.Put at bytes) a new orderly rule = subst IsOrderly (sym rule.1) (orderly_with old (with_host old new.host) refl (roomy orderly) orderly)
+orderly_after old s a new orderly rule = (follows old s a new orderly rule).orderly
+
+-- a removal that is recorded stays so
+pub removed_after : (old : Places) (s : Step) (a : Answer) (new : Places) → IsOrderly old → Rule old s (Ok a) new → (n c : ℕ) → is_removed n c old ≡ true → is_removed n c new ≡ true
+removed_after old s a new orderly rule n c gone =
+    still_up_to (port_at old.multiplier n).gone (port_at new.multiplier n).gone c ((follows old s a new orderly rule).grows n) gone
 
 pub run_orderly : (old : Places) (steps : List Step) (answers : List Answer) (new : Places) → IsOrderly old → Run old steps answers new → IsOrderly new
 run_orderly old [] [] new orderly run = subst IsOrderly (sym run) orderly

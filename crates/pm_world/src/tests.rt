@@ -2,6 +2,7 @@
 
 mod blocked;
 mod echo;
+mod found;
 mod going;
 mod memory;
 mod parts;

@@ -1,7 +1,7 @@
 //! A device that goes, and comes again.
 
 use super::rig::{Act, Rig, Told};
-use crate::{ConnCount, StepError};
+use crate::StepError;
 use hba_driver::{Completion, Outcome, Ticket, Work};
 use std::process::Abort;
 use std::test::Fail;
@@ -53,32 +53,68 @@ fn asks(rt: &impl Abort, rig: &mut Rig) {
     }
 }
 
-/// The counts of connection `conn` of port 1.
-fn counts(rig: &Rig, conn: u32) -> Option<(u64, u64)> {
-    let row = rig
-        .rows()
-        .iter()
-        .find(|row: &&ConnCount| row.port == 1 && row.conn == conn)?;
-    Some((row.sent, row.taken))
+/// It comes again and sends its signature, which the port holds. First the notification goes up.
+const COMES: [(Act, Told); 6] = [
+    (Act::Came(1), Told::Came(1, 2)),
+    (Act::PmPresence(1), Told::Presence(1)),
+    (Act::DiskSend(1), Told::Sent(1, 2, 0)),
+    (Act::PmFromDevice(1), Told::Offered(1, false)),
+    (Act::PmUp, Told::Up(15)),
+    (Act::PmUp, Told::Blocked),
+];
+
+/// The bit X of SError, PSCR[1]: a device was exchanged.
+const EXCHANGED: u32 = 0x0400_0000;
+
+/// Whether the multiplier shows that the device at port 1 was exchanged.
+fn is_exchanged(rig: &Rig) -> bool {
+    match rig.register(1, 1) {
+        Some(error) => error & EXCHANGED != 0,
+        None => false,
+    }
+}
+
+/// Nothing of port 1 goes up until the host has cleared that bit.
+fn waits_to_be_seen(rt: &impl Abort, rig: &mut Rig) {
+    for _ in 0..100 {
+        if !is_exchanged(rig) {
+            return;
+        }
+        let _ = rig.does(Act::HostTake);
+        let _ = rig.does(Act::Tick);
+        let _ = rig.does(Act::HostPush);
+        let up = rig.does(Act::PmUp);
+        assert_ne!(rt; up, Told::Up(1));
+        let _ = rig.does(Act::HostTake);
+        let _ = rig.does(Act::PmFromHost);
+    }
+    assert!(rt; !is_exchanged(rig));
 }
 
 /// A device goes in a read, and its request ends as removed; it comes again under the next connection.
 #[test]
 fn a_device_goes_and_comes_again(rt: HostRuntime) -> Result<(), Fail> {
     let mut rig = Rig::ready(rt.alloc(), 2)?;
-    assert_eq!(rt; counts(&rig, 1), Some((3, 3)));
+    assert_eq!(rt; rig.counted(1, 1), Some((3, 3)));
     asks(&rt, &mut rig);
     rig.answers(&rt, &SERVES);
     rig.answers(&rt, &GOES);
     assert!(rt; rig.settle());
-    assert_eq!(rt; counts(&rig, 1), Some((6, 4)));
+    assert_eq!(rt; rig.counted(1, 1), Some((6, 4)));
+    rig.answers(&rt, &[(Act::Poll, REMOVED)]);
+    rig.answers(&rt, &COMES);
+    waits_to_be_seen(&rt, &mut rig);
+    assert_eq!(rt; rig.counted(1, 2), Some((1, 0)));
     rig.answers(
         &rt,
-        &[(Act::Poll, REMOVED), (Act::Came(1), Told::Came(1, 2))],
+        &[
+            (Act::PmUp, Told::Up(1)),
+            (Act::HostTake, Told::Took(1, 2, 0)),
+        ],
     );
     assert!(rt; rig.settle());
-    assert_eq!(rt; counts(&rig, 2), Some((3, 3)));
-    assert_eq!(rt; counts(&rig, 1), Some((6, 4)));
+    assert_eq!(rt; rig.counted(1, 2), Some((3, 3)));
+    assert_eq!(rt; rig.counted(1, 1), Some((6, 4)));
     Ok(())
 }
 

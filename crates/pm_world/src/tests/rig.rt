@@ -231,6 +231,16 @@ fn byte_at(world: &World, at: u32) -> Option<u8> {
     world.memory().client().get(place as usize).copied()
 }
 
+/// A register of the multiplier, or of one of its ports.
+fn register_of(world: &World, port: u8, register: u16) -> Option<u32> {
+    world.multiplier().registers().read(port, register).ok()
+}
+
+/// A register of the host port.
+fn host_register(world: &World, offset: u32) -> Option<u32> {
+    world.host().read(offset).ok()
+}
+
 /// The sector of a disk.
 fn sector_of(world: &World, n: u8, lba: u32) -> Option<&[u8]> {
     match world.unit(n)? {
@@ -400,6 +410,25 @@ impl Rig {
 
     pub(super) fn rows(&self) -> &[ConnCount] {
         self.counts.rows()
+    }
+
+    /// How many FISes of a connection were sent, and how many of them taken.
+    pub(super) fn counted(&self, port: u8, conn: u32) -> Option<(u64, u64)> {
+        let row = self
+            .rows()
+            .iter()
+            .find(|row: &&ConnCount| row.port == port && row.conn == conn)?;
+        Some((row.sent, row.taken))
+    }
+
+    /// A register of the multiplier (port 15) or of one of its ports.
+    pub(super) fn register(&self, port: u8, register: u16) -> Option<u32> {
+        register_of(&self.world, port, register)
+    }
+
+    /// A register of the host port.
+    pub(super) fn host_register(&self, offset: u32) -> Option<u32> {
+        host_register(&self.world, offset)
     }
 
     pub(super) fn has_unit(&self, n: u8) -> bool {
