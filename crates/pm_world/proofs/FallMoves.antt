@@ -10,7 +10,7 @@ use Rattle.multiplier.specs.Rules.{FromDeviceRule, FromHostRule, NextUpRule}
 use Rattle.multiplier.specs.Passing.{lost_from}
 use Rattle.multiplier.specs.Rules.{with_device as connected, without_device}
 use Rattle.multiplier.specs.State.{PmState, falling, held, next_place, passes_to, pm_port, port_at, with_port}
-use Rattle.multiplier.proofs.Gone.{left_is}
+use Rattle.multiplier.proofs.Gone.{left_is as stayed}
 use Rattle.multiplier.proofs.Ports.{other_port, this_port}
 use Rattle.multiplier.specs.declared.multiplier.Passed.{Passed}
 use Rattle.multiplier.specs.declared.multiplier.Passed.TheVariants as passed
@@ -314,7 +314,7 @@ module _ (old : Places) (n : ℕ) (place after : Place) (left : PmState) (is : s
     removed = λ frame e.
         ap (λ (q : PortState). is_gone q frame.stamp.conn) is_now
         ∙ lost_is_up_to conn was frame (ap (λ (q : PortState). lost_from was q.down) (sym is_now) ∙ e);
-    waits = written_waits old.multiplier left n (with_removal (port_at old.multiplier n) conn) ports (λ frame e. inl (left_is conn was frame e).0);
+    waits = written_waits old.multiplier left n (with_removal (port_at old.multiplier n) conn) ports (λ frame e. inl (stayed conn was frame e).0);
   }
     where
       was : Option Stamped

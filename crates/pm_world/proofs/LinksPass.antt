@@ -14,8 +14,8 @@ use Rattle.pm_world.specs.Traffic.{held, is_removed, on_link}
 use Rattle.pm_world.specs.declared.step.Config.{Config}
 use Rattle.pm_world.specs.declared.step.Step.{Step}
 use Rattle.pm_world.specs.declared.step.Answer.{Answer}
-use Rattle.pm_world.proofs.Falls.{run_removed}
 use Rattle.pm_world.proofs.GoesOn.{nothing_left, option_fits, still}
+use Rattle.pm_world.proofs.Law.{run_stays}
 use Rattle.pm_world.proofs.LinksDown.{GoesDown, HasRoomDown, HaveRoomDown, down_fits, host_down-append, port_down-append, rule_goes_down}
 use Rattle.pm_world.proofs.LinksUp.{GoesUp, HasRoomUp, HaveRoomUp, host_up-append, link_fits, port_up-append, presence_fits, rule_goes_up}
 use Rattle.pm_world.proofs.Orderly.{opening_orderly, orderly_after}
@@ -150,7 +150,7 @@ run_passes capacity old (s ∷ steps) (a ∷ answers) new orderly run room =
     let one = rule_goes capacity old s a run.0 room orderly run.1 in
     let orderly_now : IsOrderly run.0 = orderly_after old s a run.0 orderly run.1 in
     let rest = run_passes capacity run.0 steps answers new orderly_now run.2 one.1 in
-    (passes-append capacity old run.0 new (a ∷ []) answers (run_removed run.0 steps answers new orderly_now run.2) one.0 rest.0, rest.1)
+    (passes-append capacity old run.0 new (a ∷ []) answers (run_stays run.0 steps answers new orderly_now run.2) one.0 rest.0, rest.1)
 run_passes capacity old [] (a ∷ answers) new orderly run room = absurd run
 run_passes capacity old (s ∷ steps) [] new orderly run room = absurd run
 
