@@ -7,6 +7,7 @@ pub mod Openings
 pub mod Prefix
 pub mod FallMoves
 pub mod Falls
+pub mod GoesOn
 pub mod LinksUp
 pub mod LinksDown
 pub mod LinksPass
