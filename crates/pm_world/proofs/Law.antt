@@ -213,21 +213,25 @@ run_arrives old (s ∷ steps) (a ∷ answers) new orderly run n c device =
       | inr never ↦
           let first = conserves old a mid moves n c device never in
           let rest = run_arrives mid steps answers new still run.2 n c device in
-          (rest.0, went_on (taken_by n c a) (taken n c answers ++ on_host_link n c new) rest.0 (transit n c mid) (all_marked n (sent n c answers)) (transit n c old ++ all_marked n (sent_by n c a)) rest.1 first ∙ tail a answers)
+          (rest.0, went_on (taken_by n c a) (taken n c answers) (on_host_link n c new) rest.0 (transit n c mid) (all_marked n (sent n c answers)) (transit n c old ++ all_marked n (sent_by n c a)) rest.1 first ∙ tail a answers)
     ]
   where
     tail : (a : Answer) (answers : List Answer) → (transit n c old ++ all_marked n (sent_by n c a)) ++ all_marked n (sent n c answers) ≡ transit n c old ++ all_marked n (sent n c (a ∷ answers))
     tail a answers = rw (append_assoc, all_marked-append n (sent_by n c a) (sent n c answers)) refl
 
-    ended : (t more host was rest whole sent : List (List ℕ)) → more ++ host ≡ was → (t ++ was) ++ rest ≡ whole → ((t ++ more) ++ host) ++ (rest ++ sent) ≡ whole ++ sent
-    ended t more host was rest whole sent e f =
-        ap (λ xs. xs ++ (rest ++ sent)) (append_assoc t more host ∙ ap (λ xs. t ++ xs) e)
-        ∙ sym (append_assoc (t ++ was) rest sent)
-        ∙ ap (λ xs. xs ++ sent) f
+    ended : (t more host was rest whole put : List (List ℕ)) → more ++ host ≡ was → (t ++ was) ++ rest ≡ whole → ((t ++ more) ++ host) ++ (rest ++ put) ≡ whole ++ put
+    ended t more host was rest whole put e f =
+        ap (λ xs. xs ++ (rest ++ put)) (append_assoc t more host ∙ ap (λ xs. t ++ xs) e)
+        ∙ sym (append_assoc (t ++ was) rest put)
+        ∙ ap (λ xs. xs ++ put) f
 
-    went_on : (t more rest between sent whole : List (List ℕ)) → more ++ rest ≡ between ++ sent → t ++ between ≡ whole → (t ++ more) ++ rest ≡ whole ++ sent
-    went_on t more rest between sent whole e f =
-        append_assoc t more rest ∙ ap (λ xs. t ++ xs) e ∙ sym (append_assoc t between sent) ∙ ap (λ xs. xs ++ sent) f
+    went_on : (t more host rest between put whole : List (List ℕ)) → (more ++ host) ++ rest ≡ between ++ put → t ++ between ≡ whole → ((t ++ more) ++ host) ++ rest ≡ whole ++ put
+    went_on t more host rest between put whole e f =
+        ap (λ xs. xs ++ rest) (append_assoc t more host)
+        ∙ append_assoc t (more ++ host) rest
+        ∙ ap (λ xs. t ++ xs) e
+        ∙ sym (append_assoc t between put)
+        ∙ ap (λ xs. xs ++ put) f
 run_arrives old [] (a ∷ answers) new orderly run n c device = absurd run
 run_arrives old (s ∷ steps) [] new orderly run n c device = absurd run
 

@@ -379,8 +379,8 @@ goes_held pm n frame e = by_place (forwards pm.registers n) (port_at pm n).prese
 goes_present : (pm : PmState) (n : ℕ) (frame : Stamped) → KnowsItsConnections (port_at pm n) → goes_next pm n ≡ Some frame → is_gone (port_at pm n) frame.stamp.conn ≡ false
 goes_present pm n frame knows e = by_place (forwards pm.registers n) (port_at pm n).present (port_at pm n).up (λ conn. knows.present conn) e
   where
-    above : (conn : ℕ) → (port_at pm n).gone < conn → is_gone (port_at pm n) conn ≡ false
-    above conn above = not_up_to (port_at pm n).gone conn (λ most. omega (arith, most, above))
+    not_gone : (conn : ℕ) → (port_at pm n).gone < conn → is_gone (port_at pm n) conn ≡ false
+    not_gone conn above = not_up_to (port_at pm n).gone conn (λ most. absurd (omega (arith, most, above)))
 
     by_test : (b : Bool) (present : Option ℕ) (f : Stamped) → ((conn : ℕ) → present ≡ Some conn → (conn ≡ (port_at pm n).last) × ((port_at pm n).gone < conn)) → only_if (b && is_of_present present f) f ≡ Some frame → is_gone (port_at pm n) frame.stamp.conn ≡ false
     by_test false present f is e = absurd (cc)
@@ -392,7 +392,7 @@ goes_present pm n frame knows e = by_place (forwards pm.registers n) (port_at pm
         by_conn true so e =
             let conn_is : f.stamp.conn ≡ conn = eqb-true f.stamp.conn conn so in
             let same : f ≡ frame = same_Some f frame e in
-            subst (λ (g : Stamped). is_gone (port_at pm n) g.stamp.conn ≡ false) same (rw conn_is (above conn (is conn refl).1))
+            subst (λ (g : Stamped). is_gone (port_at pm n) g.stamp.conn ≡ false) same (rw conn_is (not_gone conn (is conn refl).1))
 
     by_place : (b : Bool) (present : Option ℕ) (up : Option Stamped) → ((conn : ℕ) → present ≡ Some conn → (conn ≡ (port_at pm n).last) × ((port_at pm n).gone < conn)) → rises b present up ≡ Some frame → is_gone (port_at pm n) frame.stamp.conn ≡ false
     by_place b present None is e = absurd (cc)

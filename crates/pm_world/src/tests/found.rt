@@ -57,9 +57,13 @@ const CYCLE: [Act; 5] = [
     Act::PmFromHost,
 ];
 
-/// Device 1 goes, and after so many steps at the host this is done. Then all steps are done that can be.
-fn in_a_scan(alloc: Global, moments: usize, acts: &[Act]) -> Result<Rig, Fail> {
-    let mut rig = Rig::ready(alloc, 3)?;
+/// How many steps at the host lead past the scan.
+const MOMENTS: usize = 30;
+
+/// Of so many devices device 1 goes, and after so many steps at the host this is done. Then all steps are done that can
+/// be.
+fn in_a_scan(alloc: Global, ports: u8, moments: usize, acts: &[Act]) -> Result<Rig, Fail> {
+    let mut rig = Rig::ready(alloc, ports)?;
     let _ = rig.does(Act::Gone(1));
     let _ = rig.does(Act::PmPresence(1));
     for i in 0..moments {
@@ -79,9 +83,9 @@ fn in_a_scan(alloc: Global, moments: usize, acts: &[Act]) -> Result<Rig, Fail> {
 /// the write of PSCR[1]: both are found.
 #[test]
 fn no_removal_is_lost_in_a_scan(rt: HostRuntime) -> Result<(), Fail> {
-    for moments in 0..60 {
+    for moments in 0..MOMENTS {
         let acts = [Act::Gone(2), Act::PmPresence(2)];
-        let mut rig = in_a_scan(rt.alloc(), moments, &acts)?;
+        let mut rig = in_a_scan(rt.alloc(), 3, moments, &acts)?;
         rig.answers(
             &rt,
             &[
@@ -97,14 +101,14 @@ fn no_removal_is_lost_in_a_scan(rt: HostRuntime) -> Result<(), Fail> {
 /// The same device comes and goes again at any moment of the scan.
 #[test]
 fn a_short_visit_in_a_scan_is_found(rt: HostRuntime) -> Result<(), Fail> {
-    for moments in 0..60 {
+    for moments in 0..MOMENTS {
         let acts = [
             Act::Came(1),
             Act::PmPresence(1),
             Act::Gone(1),
             Act::PmPresence(1),
         ];
-        let mut rig = in_a_scan(rt.alloc(), moments, &acts)?;
+        let mut rig = in_a_scan(rt.alloc(), 2, moments, &acts)?;
         rig.answers(
             &rt,
             &[(request(1), NO_DEVICE), (Act::Came(1), Told::Came(1, 3))],
@@ -118,9 +122,9 @@ fn a_short_visit_in_a_scan_is_found(rt: HostRuntime) -> Result<(), Fail> {
 /// It comes again at any moment of the scan, and is ready in the end.
 #[test]
 fn a_new_device_in_a_scan_is_found(rt: HostRuntime) -> Result<(), Fail> {
-    for moments in 0..60 {
+    for moments in 0..MOMENTS {
         let acts = [Act::Came(1), Act::PmPresence(1)];
-        let mut rig = in_a_scan(rt.alloc(), moments, &acts)?;
+        let mut rig = in_a_scan(rt.alloc(), 2, moments, &acts)?;
         assert_eq!(rt; rig.counted(1, 2), Some((3, 3)));
         rig.answers(&rt, &[(request(1), Told::Submitted(1))]);
     }
