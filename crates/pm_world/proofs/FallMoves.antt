@@ -122,7 +122,7 @@ same_waits old new e = kept_waits old new (same_down old new e)
 -- so it is where one port is written over, and what it has then waited there before, or was passed to it
 written_waits : (old new : PmState) (n : ℕ) (p : PortState) → new.ports ≡ set old.ports n p → ((frame : Stamped) → p.down ≡ Some frame → ((port_at old n).down ≡ Some frame) ⊎ (passes_to old n ≡ Some frame.stamp.conn)) → (m : ℕ) → MayWait m old new
 written_waits old new n p now is m frame e =
-    by_ports old.ports n p m (λ at. subst (λ (k : ℕ). ((port_at old k).down ≡ Some frame) ⊎ (passes_to old k ≡ Some frame.stamp.conn)) (sym at) (is frame)) (λ e. inl e)
+    by_ports old.ports n p m (λ at here. subst (λ (k : ℕ). ((port_at old k).down ≡ Some frame) ⊎ (passes_to old k ≡ Some frame.stamp.conn)) (sym at) (is frame here)) (λ e. inl e)
     (sym (ap (λ (ports : List PortState). (get_or ports m empty_port).down) now) ∙ e)
   where
     by_ports : {C : Type 0} → (ports : List PortState) (n : ℕ) (p : PortState) (m : ℕ) → (m ≡ n → p.down ≡ Some frame → C) → ((get_or ports m empty_port).down ≡ Some frame → C) → (get_or (set ports n p) m empty_port).down ≡ Some frame → C
