@@ -122,15 +122,15 @@ same_waits old new e = kept_waits old new (same_down old new e)
 -- so it is where one port is written over, and what it has then waited there before, or was passed to it
 written_waits : (old new : PmState) (n : ℕ) (p : PortState) → new.ports ≡ set old.ports n p → ((frame : Stamped) → p.down ≡ Some frame → ((port_at old n).down ≡ Some frame) ⊎ (passes_to old n ≡ Some frame.stamp.conn)) → (m : ℕ) → MayWait m old new
 written_waits old new n p now is m frame e =
-    by_ports old.ports n p m (λ at. subst (λ (k : ℕ). ((port_at old k).down ≡ Some frame) ⊎ (passes_to old k ≡ Some frame.stamp.conn)) (sym at) (is frame)) (λ e. inl e)
+    by_ports old.ports n p m (λ at here. subst (λ (k : ℕ). ((port_at old k).down ≡ Some frame) ⊎ (passes_to old k ≡ Some frame.stamp.conn)) (sym at) (is frame here)) (λ e. inl e)
     (sym (ap (λ (ports : List PortState). (get_or ports m empty_port).down) now) ∙ e)
   where
     by_ports : {C : Type 0} → (ports : List PortState) (n : ℕ) (p : PortState) (m : ℕ) → (m ≡ n → p.down ≡ Some frame → C) → ((get_or ports m empty_port).down ≡ Some frame → C) → (get_or (set ports n p) m empty_port).down ≡ Some frame → C
-    by_ports [] n p m here else e = else e
-    by_ports (q ∷ ports) zero p zero here else e = here refl e
-    by_ports (q ∷ ports) zero p (suc m) here else e = else e
-    by_ports (q ∷ ports) (suc n) p zero here else e = else e
-    by_ports (q ∷ ports) (suc n) p (suc m) here else e = by_ports ports n p m (λ same. here (ap suc same)) else e
+    by_ports [] n p m here there e = there e
+    by_ports (q ∷ ports) zero p zero here there e = here refl e
+    by_ports (q ∷ ports) zero p (suc m) here there e = there e
+    by_ports (q ∷ ports) (suc n) p zero here there e = there e
+    by_ports (q ∷ ports) (suc n) p (suc m) here there e = by_ports ports n p m (λ same. here (ap suc same)) there e
 
 came_down : (pm : PmState) (n conn : ℕ) → KeepsDown pm (recorded pm n (change.Came conn))
 came_down pm n conn = by_test (is_none (port_came_refusal (port_at pm n) conn))

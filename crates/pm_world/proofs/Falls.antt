@@ -114,7 +114,7 @@ module _ (old : Places) (s : Step) (new : Places) where
     pushed = refl;
     passed = refl;
     ports = λ n. elim (cases_eq m n) [
-      | inl e ↦ rw (one n e) (nor_lost (rw (sym e) (sym l.here)))
+      | inl e ↦ rw (one n e) (nor_lost (landed n e))
       | inr other ↦ rw (ne_eqb m n other) (nor_lost (l.elsewhere n (λ e. other (sym e))))
     ];
     fell = λ n. refl;
@@ -126,6 +126,9 @@ module _ (old : Places) (s : Step) (new : Places) where
     waits = l.waits;
   }
     where
+      landed : (n : ℕ) → m ≡ n → frame ∷ falling_to n new ≡ falling_to n old
+      landed n e = rw (sym e) (sym l.here)
+
       one : (n : ℕ) → m ≡ n → disk_took n old s (answer.DiskTook m dropped) new ≡ frame ∷ []
       one n e = rw (sym e, eq-eqb m m refl) (ap (λ (xs : List Stamped). take 1 xs) l.first)
 
@@ -332,7 +335,7 @@ module _ (n c : ℕ) (old : Places) (s : Step) (a : Answer) (new : Places) (orde
   none_lost : waits_of n c old ≡ [] → of_connection c (lost_at n old s a new) ≡ []
   none_lost none =
       elim (fall.lost n) [
-        | inl no ↦ ap (of_connection c) no
+        | inl nothing ↦ ap (of_connection c) nothing
         | inr w ↦ ap (of_connection c) w.lost_is ∙ sym (ap (λ (o : Option Stamped). of_connection c (option_to_list o)) w.waited) ∙ none
       ]
 
@@ -385,7 +388,7 @@ over_each n c old (s ∷ steps) (a ∷ answers) new run orderly =
     sym (three c first (falling_to n new) rest) ∙ over_each n c mid steps answers new run.2 still ∙ two c (falling_to n mid) come in
     let both : (of left ++ of first) ++ of (falling_to n new) ++ (of lost ++ of rest) ≡ of (falling_to n old) ++ (of came ++ of come) =
     elim (fall.lost n) [
-      | inl no ↦ joined (of left) (of first) (of (falling_to n old)) (of (falling_to n mid)) (of (falling_to n new)) (of lost) (of came) (of come) one (of rest) later (ap of no)
+      | inl nothing ↦ joined (of left) (of first) (of (falling_to n old)) (of (falling_to n mid)) (of (falling_to n new)) (of lost) (of came) (of come) one (of rest) later (ap of nothing)
       | inr w ↦ elim (cases_eq w.frame.stamp.conn c) [
         | inl same ↦
             let none = run_over n c mid steps answers new run.2 still (subst (λ (k : ℕ). is_removed n k mid ≡ true) same w.removed) (ap (λ (o : Option Stamped). of (option_to_list o)) w.empty) in
@@ -411,7 +414,7 @@ over_kept n c old (s ∷ steps) (a ∷ answers) new run orderly never =
     let still = orderly_after old s a mid orderly run.1 in
     let none : of_connection c (lost_at n old s a mid) ≡ [] =
     elim ((rule_falls old s mid a orderly run.1).lost n) [
-      | inl no ↦ ap (of_connection c) no
+      | inl nothing ↦ ap (of_connection c) nothing
       | inr w ↦ elim (cases_eq w.frame.stamp.conn c) [
         | inl same ↦
             let wrong : is_removed n c new ≡ true = run_stays mid steps answers new still run.2 n c (subst (λ (k : ℕ). is_removed n k mid ≡ true) same w.removed) in

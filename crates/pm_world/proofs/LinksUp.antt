@@ -1,6 +1,6 @@
 -- In each step what goes up goes over links: over the link from each device, through the place of its port, and over the
 -- link to the host; and each connection that comes or goes does so over a presence link.
-use Rattle.std.proofs.Common.{◌≡◌, ◌≢◌, ℕ, ◌<◌, ◌≤◌, ◌+◌, ◌&&◌, List, [], ◌∷◌, ◌++◌, Option, Some, None, Bool, true, false, cond, if◌then◌else◌, refl, sym, ap, subst, ◌∙◌, inl, inr, map, length, filter, suc, arith, length-append}
+use Rattle.std.proofs.Common.{◌≡◌, ◌≢◌, ℕ, ◌<◌, ◌≤◌, ◌+◌, ◌==◌, ◌&&◌, List, [], ◌∷◌, ◌++◌, Option, Some, None, Bool, true, false, cond, if◌then◌else◌, refl, sym, ap, subst, ◌∙◌, inl, inr, map, length, filter, suc, arith, length-append}
 use Rattle.std.specs.Prelude.{slice_get, slice_set, option_to_list, MatchOption, Ok}
 use Rattle.std.specs.List.{flat_map}
 use Rattle.std.proofs.lemmas.Bool.{cases_eq, eq-eqb, ne_eqb}
@@ -20,6 +20,7 @@ use Rattle.multiplier.proofs.Ports.{at, has_up, kept_part, other_port, this_port
 use Rattle.multiplier.proofs.PutBack.{gives_held}
 use Rattle.hba_driver.specs.HostTurns.{Host}
 use Rattle.hba_driver.specs.declared.request.Request.{Request}
+use Rattle.pm_world.specs.Downward.{times}
 use Rattle.pm_world.specs.Links.{told_frame, told_of, changed_by, dropped_by, entered_by, is_offered, is_recorded, rose_by, took_by, on_presence, from_port, without, PortPasses, HostPasses}
 use Rattle.pm_world.specs.Places.{AreFull, Changes, IsFull, IsOrderly, IsTold, Place, Places, Queue, after_sending, frame_of, posted, pushed, with_device, with_host, with_multiplier, with_upward}
 use Rattle.pm_world.specs.Rules.{CameActs, CameRule, DiskSendActs, DiskSendRule, DiskTakeActs, DiskTakeRule, GoneActs, GoneRule, HostPushRule, HostTakeRule, InjectActs, InjectRule, PmDownRule, PmFromDeviceRule, PmFromHostRule, PmPresenceRule, PmUpRule, PollRule, PutRule, Rule, SubmitRule, TickRule}
@@ -358,10 +359,10 @@ module _ (capacity : ℕ) (old : Places) (n : ℕ) (place after : Place) (left :
   abbrev fits : HasRoomUp capacity place
   fits = rw is at (room.devices n)
 
-  abbrev then : Places
-  then = with_multiplier (with_device old n after) left
+  abbrev stepped : Places
+  stepped = with_multiplier (with_device old n after) left
 
-  presence_goes : (a : Answer) → n < length old.multiplier.ports → PmPresenceRule n place old.multiplier (Ok a) after left → GoesUp capacity old a then
+  presence_goes : (a : Answer) → n < length old.multiplier.ports → PmPresenceRule n place old.multiplier (Ok a) after left → GoesUp capacity old a stepped
   presence_goes answer.Idle there acts = same_at capacity old n place after left room is answer.Idle refl acts.1 (same_held acts.2)
   presence_goes (answer.Presence p) there acts =
       let up : after.up ≡ place.up = ap (λ (q : Place). q.up) acts.1 in
@@ -404,7 +405,7 @@ module _ (capacity : ℕ) (old : Places) (n : ℕ) (place after : Place) (left :
     held_now : (port_at left n).up ≡ Some (stamped n frame)
     held_now = ap (λ (q : PmState). (port_at q n).up) left_is ∙ ap (λ (q : PortState). q.up) (this_port old.multiplier.ports n holding there)
 
-    enters : GoesUp capacity old (answer.Offered p false) then
+    enters : GoesUp capacity old (answer.Offered p false) stepped
     enters =
         let presence : after.presence ≡ place.presence = ap (λ (q : Place). q.presence) after_is in
         let size : after.up.capacity ≡ place.up.capacity = ap (λ (q : Place). q.up.capacity) after_is in
@@ -441,7 +442,7 @@ module _ (capacity : ℕ) (old : Places) (n : ℕ) (place after : Place) (left :
     still_held : held n left ≡ held n old.multiplier
     still_held = ap (λ (q : PmState). held n q) left_is
 
-    drops : GoesUp capacity old (answer.Offered p true) then
+    drops : GoesUp capacity old (answer.Offered p true) stepped
     drops =
         let presence : after.presence ≡ place.presence = ap (λ (q : Place). q.presence) after_is in
         let size : after.up.capacity ≡ place.up.capacity = ap (λ (q : Place). q.up.capacity) after_is in
@@ -473,7 +474,7 @@ module _ (capacity : ℕ) (old : Places) (n : ℕ) (place after : Place) (left :
           presence_within = rw presence fits.presence_within;
         })
 
-  from_device_goes : (a : Answer) → n < length old.multiplier.ports → PmFromDeviceRule n place old.multiplier (Ok a) after left → GoesUp capacity old a then
+  from_device_goes : (a : Answer) → n < length old.multiplier.ports → PmFromDeviceRule n place old.multiplier (Ok a) after left → GoesUp capacity old a stepped
   from_device_goes answer.Idle there acts = same_at capacity old n place after left room is answer.Idle refl acts.1 (same_held acts.2)
   from_device_goes answer.Blocked there acts = same_at capacity old n place after left room is answer.Blocked refl acts.2 (same_held acts.3)
   from_device_goes (answer.Offered p true) there acts = drops acts.2.0 p acts.0 acts.2.1 acts.1 acts.2.2.1
@@ -481,7 +482,7 @@ module _ (capacity : ℕ) (old : Places) (n : ℕ) (place after : Place) (left :
   from_device_goes _ there acts = absurd acts
 
   -- a frame on its way down passes by
-  down_rests : (a : Answer) → PmDownRule n place old.multiplier (Ok a) after left → GoesUp capacity old a then
+  down_rests : (a : Answer) → PmDownRule n place old.multiplier (Ok a) after left → GoesUp capacity old a stepped
   down_rests answer.Idle acts = same_at capacity old n place after left room is answer.Idle refl acts.2 (same_held acts.3)
   down_rests answer.Blocked acts = same_at capacity old n place after left room is answer.Blocked refl acts.1 (same_held acts.2)
   down_rests (answer.Down port) acts =
@@ -729,13 +730,13 @@ each_offered n (a ∷ answers) = dropped_or_not n a answers (each_offered n answ
 module _ (capacity n : ℕ) (was mid now : Option Place) (held_was : List Stamped) (pm_mid pm_now : PmState) (first second : List Answer) (p : PortPasses capacity n was held_was first mid pm_mid)
     (q : PortPasses capacity n mid (held n pm_mid) second now pm_now) (stays : StillGone n pm_mid pm_now) where
   -- what entered the place of the port
-  abbrev entered_first : List Stamped
+  abbrev pub entered_first : List Stamped
   entered_first = map (stamped n) (without (flat_map (dropped_by n) first) p.passed)
 
-  abbrev entered_second : List Stamped
+  abbrev pub entered_second : List Stamped
   entered_second = map (stamped n) (without (flat_map (dropped_by n) second) q.passed)
 
-  entered_both : map (stamped n) (without (flat_map (dropped_by n) (first ++ second)) (p.passed ++ q.passed)) ≡ entered_first ++ entered_second
+  pub entered_both : map (stamped n) (without (flat_map (dropped_by n) (first ++ second)) (p.passed ++ q.passed)) ≡ entered_first ++ entered_second
   entered_both =
       ap (λ (drops : List Bool). map (stamped n) (without drops (p.passed ++ q.passed))) (flat_map-append (dropped_by n) first second)
       ∙ ap (map (stamped n)) (without-append (flat_map (dropped_by n) first) (flat_map (dropped_by n) second) p.passed q.passed (each_offered n first ∙ sym p.passed_is))
