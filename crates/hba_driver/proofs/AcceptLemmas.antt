@@ -21,32 +21,34 @@ use Rattle.hba_laws.proofs.StandLemmas.{some_inj}
 use Rattle.hba_driver.specs.declared.effect.Effect.{Effect}
 use Rattle.hba_driver.specs.declared.order.Order.{Order}
 use Rattle.hba_driver.specs.declared.order.Order.TheVariants.{ResetOn, ResetOff, AwaitSignature, CountPorts, SetMask, Enable, Open, Scan, Clear, Detect, Watch, NoMultiplier}
+use Rattle.hba_driver.specs.declared.path.Stage.{Stage}
+use Rattle.hba_driver.specs.declared.path.Stage.TheVariants.{Identify, ReadLog, AssertReset, ReleaseReset, AwaitReset}
 use Rattle.hba_driver.specs.declared.plan.Plan.{Plan}
 use Rattle.hba_driver.specs.declared.sight.Sight.{Sight}
 use Rattle.hba_driver.specs.declared.turn.Act.{Act}
 use Rattle.hba_driver.specs.declared.turn.Act.TheVariants as act
-use Rattle.hba_driver.specs.declared.turn.Turn.{Turn}
 use Rattle.hba_driver.specs.Accepted.{AreAccepted, TurnAccepts, TurnsAccept, WritesAreAccepted}
 use Rattle.hba_driver.specs.Drivers.{Driver, Entry, entry_at, is_issued}
-use Rattle.hba_driver.specs.Effects.{ActsAll, IsRuled, buffer_prd, effects_of, issuing, opening_write, order_effects, prds_with, sending, table_of}
+use Rattle.hba_driver.specs.Effects.{ActsAll, IsRuled, buffer_prd, effects_of, issuing, opening_write, order_effects, prds_with, sending, stage_effects, table_of}
 use Rattle.hba_driver.specs.Events.{AreDriven, IsSoundHost, events_over, opening_host, shared_by}
 use Rattle.hba_driver.specs.HostTurns.{Does, DoesAll, Host, HostTurn, Took, Pushed, Ticked, Submitted, Polled, Put, sight_in}
-use Rattle.hba_driver.specs.Orders.{control_port, identify_fields, is_queued, order_fields, request_fields}
+use Rattle.hba_driver.specs.Orders.{control, control_port, identify_fields, is_queued, log_fields, order_fields, request_fields}
+use Rattle.hba_driver.specs.Paths.{stage_fields}
 use Rattle.hba_driver.specs.Served.{IsServed, RunServes}
+use Rattle.hba_driver.specs.Sights.{file_shown}
 use Rattle.hba_driver.specs.Ticks.{done_ended, due, effects, effects_due, seen, turn}
 use Rattle.hba_driver.specs.Submits.{after_poll, lowest_ended}
-use Rattle.hba_driver.specs.Turns.{control_news, control_seen, control_turn, device_seen, identify_due, is_idle, issue_of, order_due, request_due, turn_of}
 use Rattle.hba_driver.proofs.DrivenLemmas.{past, tick_is}
-use Rattle.hba_driver.proofs.DueLemmas.{Due, Waiting, due_turn}
+use Rattle.hba_driver.proofs.DueLemmas.{Due, MayStep, Waiting, goes_turn}
 use Rattle.hba_driver.proofs.EventLemmas.{beside, sound_beside}
 use Rattle.hba_driver.proofs.FitLemmas.{AreFit, IsFit, fit_rephased, fit_turn}
 use Rattle.hba_driver.proofs.HistoryLemmas.{back_of}
-use Rattle.hba_driver.proofs.LifeLemmas.{keeps_done}
+use Rattle.hba_driver.proofs.LifeLemmas.{due_seen, keeps_seen}
 use Rattle.hba_driver.proofs.OpenLemmas.{IsOpen, IsUp, open_gives, open_of, open_port, open_took, opens_taken, up_of}
 use Rattle.hba_driver.proofs.ServedLemmas.{seen_served, turns_serve}
 use Rattle.hba_driver.proofs.ServingLemmas.{IsFree, not_busy}
 use Rattle.hba_driver.proofs.SoundLemmas.{hosts_stay_sound, sound_turn}
-use Rattle.hba_driver.proofs.TickingLemmas.{free_identify, free_order, not_both, request_port}
+use Rattle.hba_driver.proofs.TickingLemmas.{free_order, free_slot, not_both, request_port, step_dev}
 use Rattle.hba_driver.proofs.UpLemmas.{IsIssuedAt, Issues, Placed, free_by, issuing_taken, same_free, sntf_step}
 
 -- ---- what an act leaves, where the port takes it
@@ -196,6 +198,35 @@ identify_taken dev old new before after below up none free m acts =
     small : (n : ℕ) → n < 15 → n % 16 ≡ n
     small n h = omega (arith, h)
 
+-- ---- each stage of a path
+
+log_proper : (dev : ℕ) → is_proper (header_for (request_of (log_fields dev)) (table_of 30) 1) (request_of (log_fields dev)) 512 30 false ≡ true
+unfolding is_proper work_of
+log_proper dev = identify_test (dev % 16 == dev % 16) (equal_is (dev % 16) (dev % 16) refl)
+
+control_proper : (dev value : ℕ) → is_proper (header_for (request_of (control dev value)) (table_of 30) 0) (request_of (control dev value)) 0 30 false ≡ true
+unfolding is_proper work_of
+control_proper dev value = rw (equal_is (dev % 16) (dev % 16) refl) refl
+
+small_dev : (n : ℕ) → n < 15 → n % 16 ≡ n
+small_dev n h = omega (arith, h)
+
+control_taken : (dev value : ℕ) (old new : Port) (before after : Memory) → dev < 15 → IsUp old.registers → old.registers.armed ≡ 0 → issue_at old.slots 30 ≡ None
+    → (acts : ActsAll (sending 30 dev (control dev value) false) old before new after) → Taken (sending 30 dev (control dev value) false) old before new after acts
+control_taken dev value old new before after below up none free acts =
+    sending_taken 30 dev (control dev value) false old new before after (omega arith) (omega (arith, below)) up none free (small_dev dev below) refl (omega arith) (control_proper dev value) acts
+
+step_taken : (dev : ℕ) (stage : Stage) (old new : Port) (before after : Memory) → dev < 15 → IsUp old.registers → old.registers.armed ≡ 0 → issue_at old.slots 30 ≡ None → IsHostMemory before
+    → (acts : ActsAll (stage_effects dev stage) old before new after) → Taken (stage_effects dev stage) old before new after acts
+unfolding stage_fields
+step_taken dev Identify old new before after below up none free m acts = identify_taken dev old new before after below up none free m acts
+step_taken dev (ReadLog file) old new before after below up none free m acts =
+    sending_taken 30 dev (log_fields dev) true old new before after (omega arith) (omega (arith, below)) up none free (small_dev dev below) (buffer_usable (length before.client) m.client_least) (omega arith)
+    (log_proper dev) acts
+step_taken dev AssertReset old new before after below up none free m acts = control_taken dev 4 old new before after below up none free acts
+step_taken dev ReleaseReset old new before after below up none free m acts = control_taken dev 0 old new before after below up none free acts
+step_taken dev AwaitReset old new before after below up none free m acts = none_taken old new before after acts up none
+
 -- ---- a request is issued
 
 -- what is known of the driver that has looked at all that came, and of the port beside it
@@ -218,12 +249,12 @@ free_here d port memory k slot free = elim (cases_Bool (is_some (issue_at port.s
   | inr idle ↦ not_issued (issue_at port.slots slot) idle
 ]
 
-free_waiting : (d : Driver) (slot dev : ℕ) → Waiting d.entries slot dev → IsFree d slot
+free_waiting : (d : Driver) (slot dev : ℕ) → Waiting d.plan d.entries slot dev → IsFree d slot
 free_waiting d slot dev w n t (inl r) = absurd (not_both w.entry.head.phase w.waits_is (ap (λ (e : Entry). is_issued e.head) (some_inj w.entry r.entry (sym w.stands ∙ r.stands)) ∙ r.goes))
 free_waiting d slot dev w n t (inr (inl i)) = absurd (omega (arith, i.slot, w.below))
 free_waiting d slot dev w n t (inr (inr o)) = absurd (omega (arith, o.slot, w.below))
 
-pub issue_taken : (d : Driver) (slot dev : ℕ) (queued : Bool) (old new : Port) (before after : Memory) → Knows d old before → (w : Waiting d.entries slot dev) → is_queued w.entry.head.work ≡ queued
+pub issue_taken : (d : Driver) (slot dev : ℕ) (queued : Bool) (old new : Port) (before after : Memory) → Knows d old before → (w : Waiting d.plan d.entries slot dev) → is_queued w.entry.head.work ≡ queued
     → (acts : ActsAll (issuing slot dev queued) old before new after) → Issues slot dev queued (request_fields slot w.entry.head) old before new after acts
 issue_taken d slot dev queued old new before after k w queue acts =
     let e : Entry = w.entry in
@@ -247,16 +278,16 @@ issue_taken d slot dev queued old new before after k w queue acts =
 
 -- ---- each act
 
-pub act_taken : (d : Driver) (a : Option Act) (old new : Port) (before after : Memory) → Knows d old before → Due d.plan d.entries a → ((k : ℕ) → a ≡ Some (act.Opens k) → ⊥)
+pub act_taken : (d : Driver) (v : Sight) (a : Option Act) (old new : Port) (before after : Memory) → Knows d old before → Due v d.plan d.entries a → ((k : ℕ) → a ≡ Some (act.Opens k) → ⊥)
     → (acts : ActsAll (effects_due a) old before new after) → Taken (effects_due a) old before new after acts
 unfolding effects_of
-act_taken d None old new before after k due opens acts = none_taken old new before after acts k.up k.unarmed
-act_taken d (Some (act.Opens n)) old new before after k due opens acts = absurd (opens n refl)
-act_taken d (Some (act.Orders order)) old new before after k due opens acts =
+act_taken d v None old new before after k due opens acts = none_taken old new before after acts k.up k.unarmed
+act_taken d v (Some (act.Opens n)) old new before after k due opens acts = absurd (opens n refl)
+act_taken d v (Some (act.Orders order)) old new before after k due opens acts =
     order_taken order old new before after k.up k.unarmed (free_here d old before k 31 (free_order d due)) acts
-act_taken d (Some (act.Identifies dev)) old new before after k due opens acts =
-    identify_taken dev old new before after due.1 k.up k.unarmed (free_here d old before k 30 (free_identify d due.0)) k.sized acts
-act_taken d (Some (act.Issues slot dev queued)) old new before after k due opens acts =
+act_taken d v (Some (act.Steps dev stage)) old new before after k due opens acts =
+    step_taken dev stage old new before after (step_dev d dev stage k.served.bounded.path due) k.up k.unarmed (free_here d old before k 30 (free_slot d dev stage due)) k.sized acts
+act_taken d v (Some (act.Issues slot dev queued)) old new before after k due opens acts =
     let i : Issues slot dev queued (request_fields slot due.0.entry.head) old before new after acts = issue_taken d slot dev queued old new before after k due.0 due.1 acts in
     record { accepted = i.accepted; up = i.up; unarmed = i.unarmed }
 
@@ -277,74 +308,13 @@ knows_seen h w least = record {
   served = seen_served h.port h.memory h.driver w.past (sound_beside h.port h.memory w.sound.ruled w.sound.memory) w.served;
   fit = λ s f here.
       let d : Driver = h.driver in
-      let b = back_of (entry_at d.entries s) (entry_at (done_ended (sight_in h).issued d.entries) s) (keeps_done (sight_in h).issued d.entries s) f here in
+      let b = back_of (entry_at d.entries s) (entry_at (seen (sight_in h) d).entries s) (keeps_seen (sight_in h) d s) f here in
       subst (λ (x : Entry). IsFit s x h.memory) (sym b.2.same) (fit_rephased f.head.phase s b.0 h.memory (w.fit s b.0 b.1));
   ruled = w.sound.ruled;
   sized = w.sound.memory;
   up = up_of h.driver.plan.opened h.port.registers least w.sound.registers w.registers;
   unarmed = w.registers.unarmed;
 }
-
--- ---- an open port opens no more
-
-record OpensNone (a : Option Act) : Type 0 where
-  pub other : (k : ℕ) → a ≡ Some (act.Opens k) → ⊥
-
-none_not : (k : ℕ) → None ≡ Some (act.Opens k) → ⊥
-none_not k h = cc
-
-orders_not : (order : Order) (k : ℕ) → Some (act.Orders order) ≡ Some (act.Opens k) → ⊥
-orders_not order k h = cc
-
-identifies_not : (dev k : ℕ) → Some (act.Identifies dev) ≡ Some (act.Opens k) → ⊥
-identifies_not dev k h = cc
-
-issues_not : (slot dev : ℕ) (queued : Bool) (k : ℕ) → Some (act.Issues slot dev queued) ≡ Some (act.Opens k) → ⊥
-issues_not slot dev queued k h = cc
-
-no_none : OpensNone None
-no_none = record { other = none_not }
-
-no_map_order : (fields : Option H2dFields) (o : Order) → OpensNone (option_map (λ f. act.Orders o) fields)
-no_map_order None o = no_none
-no_map_order (Some f) o = record { other = orders_not o }
-
-no_map_identify : (o : Option ℕ) → OpensNone (option_map act.Identifies o)
-no_map_identify None = no_none
-no_map_identify (Some dev) = record { other = identifies_not dev }
-
-no_if : (b : Bool) (a : Option Act) → OpensNone a → OpensNone (if b then None else a)
-no_if true a h = no_none
-no_if false a h = h
-
-no_or : (a b : Option Act) → OpensNone a → OpensNone b → OpensNone (option_or a b)
-no_or None b h k = k
-no_or (Some a) b h k = h
-
-no_entry : (s : ℕ) (x : Option Entry) → OpensNone (issue_of s x)
-no_entry s None = no_none
-no_entry s (Some e) = record { other = issues_not s e.head.dev (is_queued e.head.work) }
-
-no_lowest : (entries : List (Option Entry)) (o : Option ℕ) → OpensNone (match_some o None (λ slot. issue_of slot (entry_at entries slot)))
-no_lowest entries None = no_none
-no_lowest entries (Some s) = no_entry s (entry_at entries s)
-
-no_turn_if : (b : Bool) (t u : Turn) → OpensNone t.act → OpensNone u.act → OpensNone (if b then t else u).act
-no_turn_if true t u h k = h
-no_turn_if false t u h k = k
-
-no_device : (v : Sight) (plan : Plan) (entries : List (Option Entry)) → OpensNone (option_or (identify_due v plan) (request_due plan entries))
-unfolding identify_due request_due
-no_device v plan entries = no_or _ _ (no_if (is_some plan.identifying) _ (no_map_identify _)) (no_lowest entries _)
-
-no_control : (v : Sight) (news : Bool) (plan : Plan) (entries : List (Option Entry)) → OpensNone (control_turn v news plan entries).act
-no_control v news plan entries =
-    no_turn_if (is_idle plan.order) _ _ no_none
-    (no_turn_if (is_some (order_due plan)) _ _ (no_if plan.asked _ (no_map_order (order_fields plan.order) plan.order)) (no_device v (device_seen v plan) entries))
-
-no_turn : (v : Sight) (plan : Plan) (entries : List (Option Entry)) → nat_lt plan.opened 7 ≡ false → OpensNone (turn_of v plan entries).act
-unfolding turn_of
-no_turn v plan entries h = rw h (no_control v (control_news v plan) (control_seen v plan) entries)
 
 -- ---- a tick
 
@@ -369,51 +339,39 @@ fine_opens k old new before after less driven is acts =
     let s = opens_taken k less old acts.0 before acts.1 acts.2 driven is in
     record { accepted = (s.0, tt); registers = open_port (k + 1) acts.0 new acts.4.0 s.1 }
 
-due_if : (b : Bool) (plan : Plan) (entries : List (Option Entry)) (a : Option Act) → Due plan entries a → Due plan entries (if b then None else a)
-due_if true plan entries a h = tt
-due_if false plan entries a h = h
-
 -- what the turn of an open port knows
 pub record Goes (h : Host) : Type 0 where
   pub knows : Knows (seen (sight_in h) h.driver) h.port h.memory
-  pub due_is : Due (seen (sight_in h) h.driver).plan (seen (sight_in h) h.driver).entries (due (sight_in h) h.driver)
+  pub due_is : Due (sight_in h) (seen (sight_in h) h.driver).plan (seen (sight_in h) h.driver).entries (due (sight_in h) h.driver)
   pub opens : (k : ℕ) → due (sight_in h) h.driver ≡ Some (act.Opens k) → ⊥
-
-more_is : (n : ℕ) → 7 ≤ n → nat_lt n 7 ≡ false
-more_is n h = le-ltb n 7 h
 
 pub goes_on : (h : Host) → IsOnWay h → 7 ≤ h.driver.plan.opened → Goes h
 goes_on h w least =
     let v : Sight = sight_in h in
-    let entries : List (Option Entry) = done_ended v.issued h.driver.entries in
-    let none : OpensNone (due v h.driver) = no_if v.faulted (turn v h.driver).act (no_turn v h.driver.plan entries (more_is h.driver.plan.opened least)) in
+    let opened : (turn v h.driver).plan.opened ≡ h.driver.plan.opened = (goes_turn v h.driver.plan (done_ended v.issued h.driver.entries)).opened in
     record {
       knows = knows_seen h w least;
-      due_is = due_if v.faulted (turn v h.driver).plan entries (turn v h.driver).act (due_turn v h.driver.plan entries);
-      opens = none.other;
+      due_is = due_seen v h.driver;
+      opens = λ k is.
+          let is_next : Due v (seen v h.driver).plan (seen v h.driver).entries (Some (act.Opens k)) =
+          subst (λ (a : Option Act). Due v (seen v h.driver).plan (seen v h.driver).entries a) is (due_seen v h.driver) in
+          omega (arith, least, opened, is_next.1);
     }
 
 pub tick_fine : (h : Host) (a : Bool) (new : Host) (does : Does h (Ticked a) new) → IsOnWay h
     → AreAccepted (effects (sight_in h) h.driver) h.port h.memory new.port new.memory does.does × IsOpen new.driver.plan.opened new.port.registers
-tick_fine h a new does w = elim (tick_is (sight_in h) h.driver) [
-  | inl rest ↦
-      let opened : new.driver.plan.opened ≡ h.driver.plan.opened = ap (λ (d : Driver). d.plan.opened) does.driver ∙ ap (λ (p : Plan). p.opened) rest.plan_is in
-      let f : Fine h.driver.plan.opened (effects (sight_in h) h.driver) h.port h.memory new.port new.memory does.does =
-      fine_by h.driver.plan.opened (effects (sight_in h) h.driver) [] h.port new.port h.memory new.memory rest.none does.does (fine_none h.driver.plan.opened h.port new.port h.memory new.memory w.registers) in
+tick_fine h a new does w = elim (tick_is (sight_in h) (file_shown new.port) h.driver) [
+  | inl first ↦
+      let k : ℕ = h.driver.plan.opened in
+      let opened : new.driver.plan.opened ≡ k + 1 = ap (λ (d : Driver). d.plan.opened) does.driver ∙ ap (λ (p : Plan). p.opened) first.plan_is in
+      let f : Fine (k + 1) (effects (sight_in h) h.driver) h.port h.memory new.port new.memory does.does =
+      fine_by (k + 1) (effects (sight_in h) h.driver) (opening_write k ∷ []) h.port new.port h.memory new.memory first.one does.does (fine_opens k h.port new.port h.memory new.memory first.less w.sound.registers w.registers) in
       (f.accepted, subst (λ (n : ℕ). IsOpen n new.port.registers) (sym opened) f.registers)
-  | inr some ↦ elim some [
-    | inl first ↦
-        let k : ℕ = h.driver.plan.opened in
-        let opened : new.driver.plan.opened ≡ k + 1 = ap (λ (d : Driver). d.plan.opened) does.driver ∙ ap (λ (p : Plan). p.opened) first.plan_is in
-        let f : Fine (k + 1) (effects (sight_in h) h.driver) h.port h.memory new.port new.memory does.does =
-        fine_by (k + 1) (effects (sight_in h) h.driver) (opening_write k ∷ []) h.port new.port h.memory new.memory first.one does.does (fine_opens k h.port new.port h.memory new.memory first.less w.sound.registers w.registers) in
-        (f.accepted, subst (λ (n : ℕ). IsOpen n new.port.registers) (sym opened) f.registers)
-    | inr going ↦
-        let g : Goes h = goes_on h w going.least in
-        let t : Taken (effects (sight_in h) h.driver) h.port h.memory new.port new.memory does.does =
-        act_taken (seen (sight_in h) h.driver) (due (sight_in h) h.driver) h.port new.port h.memory new.memory g.knows g.due_is g.opens does.does in
-        (t.accepted, open_of new.driver.plan.opened new.port.registers t.up t.unarmed)
-  ]
+  | inr going ↦
+      let g : Goes h = goes_on h w going.least in
+      let t : Taken (effects (sight_in h) h.driver) h.port h.memory new.port new.memory does.does =
+      act_taken (seen (sight_in h) h.driver) (sight_in h) (due (sight_in h) h.driver) h.port new.port h.memory new.memory g.knows g.due_is g.opens does.does in
+      (t.accepted, open_of new.driver.plan.opened new.port.registers t.up t.unarmed)
 ]
 
 -- ---- every turn

@@ -28,7 +28,7 @@ use Rattle.hba_laws.proofs.WithinLemmas.{the_transfer}
 use Rattle.hba_driver.specs.Drivers.{Driver, Entry, entry_at}
 use Rattle.hba_driver.specs.Effects.{table_of}
 use Rattle.hba_driver.specs.Laws.{Stands}
-use Rattle.hba_driver.specs.Served.{AreBounded, HasCommand, HasItsTable, HaveCommands, IsIdentify, IsIssueOf, IsOrdered, IsRequest, IsServed}
+use Rattle.hba_driver.specs.Served.{AreBounded, HasCommand, HasItsTable, HaveCommands, IsIssueOf, IsOrdered, IsRequest, IsServed, IsStep}
 
 -- ---- lists of events that serve
 

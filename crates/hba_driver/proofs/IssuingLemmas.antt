@@ -41,7 +41,7 @@ use Rattle.hba_laws.proofs.StandLemmas.{some_inj}
 use Rattle.hba_laws.proofs.TableLemmas.{stands_readable}
 use Rattle.hba_driver.specs.Drivers.{Driver}
 use Rattle.hba_driver.specs.Effects.{table_of}
-use Rattle.hba_driver.specs.Served.{HasItsTable, HaveCommands, IsIdentify, IsIssueOf, IsOrdered, IsRequest, IsServed}
+use Rattle.hba_driver.specs.Served.{HasItsTable, HaveCommands, IsIssueOf, IsOrdered, IsRequest, IsServed, IsStep}
 
 -- ---- the command that stands in a slot
 
@@ -261,7 +261,7 @@ or_cases (Some x) p a h = inl h
 
 -- an issue is one of the driver's
 abbrev pub From : Driver → (n s : ℕ) → Transfer → Type 0
-From d n s t = IsRequest d n s t ⊎ (IsIdentify d n s t ⊎ IsOrdered d n s t)
+From d n s t = IsRequest d n s t ⊎ (IsStep d n s t ⊎ IsOrdered d n s t)
 
 -- what stands in the slot may be issued
 abbrev pub MayIssue : Driver → (slot dev : ℕ) → List Prd → H2dFields → Type 0

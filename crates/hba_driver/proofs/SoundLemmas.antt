@@ -22,6 +22,7 @@ use Rattle.hba_laws.specs.Hosts as event
 use Rattle.hba_laws.proofs.KeptLemmas.{client_lens}
 use Rattle.hba_laws.proofs.SoundLemmas.{opens_sound}
 use Rattle.hba_driver.specs.declared.effect.Effect.{Effect}
+use Rattle.hba_driver.specs.declared.path.TaskFile.{TaskFile}
 use Rattle.hba_driver.specs.declared.plan.Device.TheVariants.{Absent}
 use Rattle.hba_driver.specs.declared.plan.Plan.{Plan}
 use Rattle.hba_driver.specs.declared.request.Request.{Request}
@@ -29,10 +30,10 @@ use Rattle.hba_driver.specs.Drivers.{AreRequests, Driver, Entry, entry_at}
 use Rattle.hba_driver.specs.Effects.{ActsAll, IsRuled, is_effect, opening_write}
 use Rattle.hba_driver.specs.Events.{AreDriven, HostsAreSound, IsSoundHost, KnowsNone, opening_host, shared_by}
 use Rattle.hba_driver.specs.HostTurns.{AreHosts, Does, DoesAll, Host, HostTurn, IsHost, Took, Pushed, Ticked, Submitted, Polled, Put, sight_in}
+use Rattle.hba_driver.specs.Sights.{file_shown}
 use Rattle.hba_driver.specs.Submits.{after_poll, lowest_ended, next_slot}
 use Rattle.hba_driver.specs.Ticks.{after_tick, effects}
 use Rattle.hba_driver.proofs.DrivenLemmas.{driven_open, driven_opens, none_ticked, past, tick_is}
-use Rattle.hba_driver.proofs.EffectLemmas.{none_acts}
 use Rattle.hba_driver.proofs.EventLemmas.{Left, beside_area, left_effects, same_sizes, sized, sized_effect}
 use Rattle.hba_driver.proofs.HistoryLemmas.{free_below, requests_turn}
 use Rattle.hba_driver.proofs.StandLemmas.{both, runs}
@@ -172,36 +173,32 @@ opened_sound k less old new before after is h m d = (
 sound_tick : (old : Host) (a : Bool) (new : Host) → Does old (Ticked a) new → IsSoundHost old → IsSoundHost new
 sound_tick old a new h s =
     let v = sight_in old in
+    let file : TaskFile = file_shown new.port in
     let d : Driver = old.driver in
-    let plan : new.driver.plan ≡ (after_tick v d).plan = plan_is (after_tick v d) new.driver h.driver in
-    let known : KnowsNone new.driver.plan = subst KnowsNone (sym plan) (none_ticked v d s.devices) in
-    elim (tick_is v d) [
-      | inl rest ↦
-          let same = none_acts old.port new.port old.memory new.memory (acts_of (effects v d) [] old.port new.port old.memory new.memory rest.none h.does) in
-          sound_by old (Ticked a) new h s h.ruled (same_sizes old.memory new.memory same.1 s.memory) (kept_port old.port new.port same.0) (plan ∙ rest.plan_is)
-      | inr some ↦ elim some [
-        | inl first ↦
-            let k : ℕ = d.plan.opened in
-            let both_are = opened_sound k first.less old.port new.port old.memory new.memory (subst (λ (es : List Effect). list_all is_effect es ≡ true) first.one h.possible)
-            (acts_of (effects v d) (opening_write k ∷ []) old.port new.port old.memory new.memory first.one h.does) s.memory s.registers in
-            record {
-              ruled = h.ruled;
-              memory = both_are.0;
-              requests = requests_turn old (Ticked a) new h s.requests;
-              registers = subst (λ (p : Plan). AreDriven p.opened new.port.registers) (sym (plan ∙ first.plan_is)) both_are.1;
-              devices = known;
-            }
-        | inr going ↦
-            let left : Left old.port new.port new.memory = left_effects (effects v d) old.port new.port old.memory new.memory h.possible going.quiet s.memory h.does in
-            record {
-              ruled = h.ruled;
-              memory = left.sizes;
-              requests = requests_turn old (Ticked a) new h s.requests;
-              registers = subst (λ (n : ℕ). AreDriven n new.port.registers) (sym (ap (λ (p : Plan). p.opened) plan ∙ going.opened_is))
-                  (driven_open d.plan.opened old.port.registers new.port.registers going.least left.place s.registers);
-              devices = known;
-            }
-      ]
+    let plan : new.driver.plan ≡ (after_tick v file d).plan = plan_is (after_tick v file d) new.driver h.driver in
+    let known : KnowsNone new.driver.plan = subst KnowsNone (sym plan) (none_ticked v file d s.devices) in
+    elim (tick_is v file d) [
+      | inl first ↦
+          let k : ℕ = d.plan.opened in
+          let both_are = opened_sound k first.less old.port new.port old.memory new.memory (subst (λ (es : List Effect). list_all is_effect es ≡ true) first.one h.possible)
+          (acts_of (effects v d) (opening_write k ∷ []) old.port new.port old.memory new.memory first.one h.does) s.memory s.registers in
+          record {
+            ruled = h.ruled;
+            memory = both_are.0;
+            requests = requests_turn old (Ticked a) new h s.requests;
+            registers = subst (λ (p : Plan). AreDriven p.opened new.port.registers) (sym (plan ∙ first.plan_is)) both_are.1;
+            devices = known;
+          }
+      | inr going ↦
+          let left : Left old.port new.port new.memory = left_effects (effects v d) old.port new.port old.memory new.memory h.possible going.quiet s.memory h.does in
+          record {
+            ruled = h.ruled;
+            memory = left.sizes;
+            requests = requests_turn old (Ticked a) new h s.requests;
+            registers = subst (λ (n : ℕ). AreDriven n new.port.registers) (sym (ap (λ (p : Plan). p.opened) plan ∙ going.opened_is))
+                (driven_open d.plan.opened old.port.registers new.port.registers going.least left.place s.registers);
+            devices = known;
+          }
     ]
 
 -- ---- each turn
