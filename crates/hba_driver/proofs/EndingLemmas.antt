@@ -1,5 +1,5 @@
 -- The two acts that end a fault leave it so that all that is issued is the driver's.
-use Rattle.std.proofs.Common.{◌≡◌, ◌≢◌, ℕ, ◌+◌, ◌*◌, ◌/◌, ◌<◌, Bool, true, false, ◌&&◌, nat_lt, List, [], ◌∷◌, ◌++◌, length, refl, sym, ◌∙◌, ap, subst, inl, inr, arith, Option, Some, None}
+use Rattle.std.proofs.Common.{◌≡◌, ◌≢◌, ℕ, ◌+◌, ◌*◌, ◌/◌, ◌<◌, ◌≤◌, Bool, true, false, ◌&&◌, nat_lt, List, [], ◌∷◌, ◌++◌, length, refl, sym, ◌∙◌, ap, subst, inl, inr, arith, Option, Some, None}
 use Rattle.std.specs.Prelude.{if◌then◌else◌, not, ◌%◌, ◌==◌}
 use Rattle.std.specs.List.{list_all}
 use Rattle.std.specs.Option.{option_or}
@@ -7,13 +7,15 @@ use Rattle.std.proofs.lemmas.Bool.{false≢true, lt-ltb, ne_eqb}
 use Rattle.std.proofs.lemmas.List.{length-map, length-set}
 use Rattle.std.proofs.lemmas.Nat.Bits.{bit_at-suc, bit_at_lowest}
 use Rattle.host_memory.specs.Memory.{IsHostMemory, Memory}
-use Rattle.port_errors.specs.Errors.{Errors, cleared_device}
+use Rattle.port_errors.specs.declared.cause.PortCause.{PortCause}
+use Rattle.port_errors.specs.Errors.{Errors, cleared_device, named_by, shown as errors_shown}
 use Rattle.slots.specs.Slots.{has_bit}
-use Rattle.hba_fbs.specs.Bits.{dec, en}
+use Rattle.hba_fbs.specs.Bits.{bit, dec, en}
 use Rattle.hba_fbs.specs.declared.error.WriteError.{WriteError}
 use Rattle.hba_fbs.specs.declared.register.Register.TheVariants.{Is, Cmd, Fbs}
 use Rattle.hba_fbs.specs.declared.registers.Registers.{Registers}
 use Rattle.hba_fbs.specs.Offsets.{register_at}
+use Rattle.hba_fbs.specs.Reading.{fbs_errors, value_of}
 use Rattle.hba_fbs.specs.Registers.{cmd_refusal, falls, own_refusal, running_if, written}
 use Rattle.hba_fbs.specs.Views.{Port}
 use Rattle.hba_fbs.specs.Writing.{Accepts, cleared_by, errors_after, slots_refusal, write_refusal}
@@ -22,6 +24,7 @@ use Rattle.hba_laws.specs.Delivering.{touched_by_clear}
 use Rattle.hba_laws.specs.History.{Emptied, Transfer, issued}
 use Rattle.hba_laws.specs.Hosts as event
 use Rattle.hba_laws.specs.Hosts.{HostEvent}
+use Rattle.hba_laws.proofs.StandLemmas.{some_inj}
 use Rattle.hba_driver.specs.declared.effect.Effect.TheVariants as effect
 use Rattle.hba_driver.specs.declared.path.Path.{Path}
 use Rattle.hba_driver.specs.declared.path.TaskFile.{TaskFile}
@@ -33,11 +36,13 @@ use Rattle.hba_driver.specs.declared.turn.Act.{Act}
 use Rattle.hba_driver.specs.declared.turn.Act.TheVariants as act
 use Rattle.hba_driver.specs.Drivers.{Driver, Entry, IsPath, entry_at, has_ended, rephase, rephase_all, rephased}
 use Rattle.hba_driver.specs.Effects.{Acts, ActsAll, IsRuled, clearing, effects_of, is_effect}
-use Rattle.hba_driver.specs.Events.{events_of_effect, events_of_effects}
+use Rattle.hba_driver.specs.Events.{IsSoundHost, events_of_effect, events_of_effects}
+use Rattle.hba_driver.specs.HostTurns.{Host, sight_in}
 use Rattle.hba_driver.specs.Paths.{reset_if_there}
-use Rattle.hba_driver.specs.Sights.{px_cmd, px_fbs, px_is}
-use Rattle.hba_driver.specs.Ticks.{acted, cleared_plan, effects_due, entries_after, from_reset, is_open, is_open_of, plan_after, recovering, stopped_plan}
-use Rattle.hba_driver.proofs.DueLemmas.{Due}
+use Rattle.hba_driver.specs.Sights.{faulty_in, px_cmd, px_fbs, px_is, shown, sight_of}
+use Rattle.hba_driver.specs.Ticks.{acted, cleared_plan, done_ended, effects_due, entries_after, from_reset, is_open, is_open_of, plan_after, recovering, stopped_plan, turn}
+use Rattle.hba_driver.proofs.DrivenLemmas.{not_below}
+use Rattle.hba_driver.proofs.DueLemmas.{Due, Runs, due_turn, runs_turn}
 use Rattle.hba_driver.proofs.EventLemmas.{beside, same_sizes, sound_beside}
 use Rattle.hba_driver.proofs.HistoryLemmas.{back_of}
 use Rattle.hba_driver.proofs.IssuingLemmas.{From}
@@ -200,6 +205,60 @@ clear_act D d file fs c dev old new before after may ruled m acts go =
     first_goes D d fs c (beside old before) (events_of_effect (effect.Writes px_is 1224736768) old before acts.1) (events_of_effect (effect.Writes px_fbs value) acts.0 acts.1 last ++ ends)
     (write_goes D d ((events_of_effect (effect.Writes px_fbs value) acts.0 acts.1 last ++ ends) ++ fs) c px_is 1224736768 old acts.0 before acts.1 refl (sound_beside old before ruled m) acts.2 second)
 
+-- ---- the device that PxFBS shows
+
+-- SDE, bit 2, and DWE, bits 19:16, beside EN, DEV and ADO
+sde_at : (e c d : ℕ) → e ≤ 1 → (e + 256 * c + 61440 + (4 + 65536 * d)) / 2 / 2 % 2 ≡ 1
+sde_at e c d h = omega (arith, h)
+
+none_at : (e c : ℕ) → e ≤ 1 → (e + 256 * c + 61440) / 2 / 2 % 2 ≡ 0
+none_at e c h = omega (arith, h)
+
+dwe_at : (e c d : ℕ) → e ≤ 1 → c < 16 → d < 16 → (e + 256 * c + 61440 + (4 + 65536 * d)) / 65536 % 16 ≡ d
+dwe_at e c d h k l = omega (arith, h, k, l)
+
+bit_most : (b : Bool) → bit en b ≤ 1
+bit_most true = omega arith
+bit_most false = omega arith
+
+-- bit 2 of a value
+second_bit : (n k : ℕ) → n / 2 / 2 % 2 ≡ k → has_bit n 2 ≡ (k == 1)
+second_bit n k h = ap (λ (m : ℕ). m == 1) (bit_at-suc n 1 ∙ bit_at-suc (n / 2) 0 ∙ bit_at_lowest (n / 2 / 2) ∙ h)
+
+shows_none : (n dev : ℕ) {P : Type 0} → has_bit n 2 ≡ false → faulty_in n ≡ Some dev → P
+shows_none n dev off h =
+    let bad : None ≡ Some dev = sym (ap (λ (b : Bool). if b then Some (n / 65536 % 16) else None) off) ∙ h in
+    cc
+
+shows_some : (n x dev : ℕ) → has_bit n 2 ≡ true → n / 65536 % 16 ≡ x → faulty_in n ≡ Some dev → x ≡ dev
+shows_some n x dev on is h =
+    let named : Some (n / 65536 % 16) ≡ Some dev = sym (ap (λ (b : Bool). if b then Some (n / 65536 % 16) else None) on) ∙ h in
+    sym is ∙ some_inj (n / 65536 % 16) dev named
+
+-- with SDE 0 no device is shown
+quiet_by : (on : Bool) (c dev : ℕ) {P : Type 0} → faulty_in (bit en on + 256 * c + 61440 + 0) ≡ Some dev → P
+quiet_by on c dev h =
+    let n : ℕ = bit en on + 256 * c + 61440 + 0 in
+    let is : n ≡ bit en on + 256 * c + 61440 = omega arith in
+    shows_none n dev (second_bit n 0 (ap (λ (m : ℕ). m / 2 / 2 % 2) is ∙ none_at (bit en on) c (bit_most on))) h
+
+faulty_by : (on : Bool) (c : ℕ) (o : Option ℕ) (p : Option PortCause) (dev : ℕ) → c < 16 → ((x : ℕ) → o ≡ Some x → x < 16)
+    → faulty_in (bit en on + 256 * c + 61440 + fbs_errors (errors_shown o p)) ≡ Some dev → (named_by (errors_shown o p) ≡ Some dev) × (dev < 16)
+faulty_by on c (Some x) None dev low below h =
+    let n : ℕ = bit en on + 256 * c + 61440 + (4 + 65536 * x) in
+    let is : x ≡ dev =
+    shows_some n x dev (second_bit n 1 (sde_at (bit en on) c x (bit_most on))) (dwe_at (bit en on) c x (bit_most on) low (below x refl)) h in
+    (ap Some is, subst (λ (k : ℕ). k < 16) is (below x refl))
+faulty_by on c (Some x) (Some cause) dev low below h = quiet_by on c dev h
+faulty_by on c None None dev low below h = quiet_by on c dev h
+faulty_by on c None (Some cause) dev low below h = quiet_by on c dev h
+
+-- what a tick sees of PxFBS is the device that DEC clears
+faulty_is : (port : Port) (memory : Memory) (dev : ℕ) → IsRuled port → (sight_of port memory).faulty ≡ Some dev → (cleared_device port.errors ≡ Some dev) × (dev < 16)
+unfolding sight_of shown register_at value_of
+faulty_is port memory dev ruled h =
+    faulty_by port.registers.switching port.registers.chosen port.errors.reported port.errors.port dev ruled.rules.registers.chosen (λ x is. (ruled.faults.reported_is_marked x is).0) h
+
 -- ---- each act
 
 -- what the acts that end a fault need of the port
@@ -220,3 +279,25 @@ each_act D d v file fs c (Some (act.Restarts k)) old new before after may due li
 each_act D d v file fs c (Some (act.Orders order)) old new before after may due list area ruled m is acts go = act_goes D d v file fs c (Some (act.Orders order)) old new before after refl due list area ruled m is acts go
 each_act D d v file fs c (Some (act.Steps dev stage)) old new before after may due list area ruled m is acts go = act_goes D d v file fs c (Some (act.Steps dev stage)) old new before after refl due list area ruled m is acts go
 each_act D d v file fs c (Some (act.Issues slot dev queued)) old new before after may due list area ruled m is acts go = act_goes D d v file fs c (Some (act.Issues slot dev queued)) old new before after refl due list area ruled m is acts go
+
+-- ---- an act that ends a fault is due only where the port runs
+
+may_of : (h : Host) (plan : Plan) (entries : List (Option Entry)) (a : Option Act) → IsSoundHost h → Due (sight_in h) plan entries a → Runs h.driver.plan a → MayEnd a h.port
+may_of h plan entries None s due runs = tt
+may_of h plan entries (Some (act.Opens k)) s due runs = tt
+may_of h plan entries (Some act.Stops) s due runs =
+    let opened : 7 ≤ h.driver.plan.opened = not_below h.driver.plan.opened 7 runs.0 in
+    record { receives = s.registers.receives (omega (arith, opened)); started = s.registers.starts opened (not_below h.driver.plan.restarted 2 runs.1) }
+may_of h plan entries (Some (act.Restarts k)) s due runs = tt
+may_of h plan entries (Some (act.Clears dev)) s due runs =
+    let shown_is = faulty_is h.port h.memory dev s.ruled due in
+    record { below = shown_is.1; switches = s.registers.switches (omega (arith, not_below h.driver.plan.opened 7 runs.0)); faulty = shown_is.0 }
+may_of h plan entries (Some (act.Orders order)) s due runs = tt
+may_of h plan entries (Some (act.Steps dev stage)) s due runs = tt
+may_of h plan entries (Some (act.Issues slot dev queued)) s due runs = tt
+
+pub may_end : (h : Host) → IsSoundHost h → MayEnd (turn (sight_in h) h.driver).act h.port
+may_end h s =
+    let v : Sight = sight_in h in
+    let done : List (Option Entry) = done_ended v.issued h.driver.entries in
+    may_of h (turn v h.driver).plan done (turn v h.driver).act s (due_turn v h.driver.plan done) (runs_turn v h.driver.plan done)

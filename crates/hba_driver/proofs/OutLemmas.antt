@@ -62,7 +62,7 @@ use Rattle.hba_driver.specs.Sights.{px_fbs, px_is}
 use Rattle.hba_driver.specs.Ticks.{effects_due}
 use Rattle.hba_driver.proofs.DrivenLemmas.{no_dec, tried_at}
 use Rattle.hba_driver.proofs.EffectLemmas.{all_at}
-use Rattle.hba_driver.proofs.EndingLemmas.{MayClear, is_accepted, may_then, only_cleared}
+use Rattle.hba_driver.proofs.EndingLemmas.{MayClear, MayEnd, is_accepted, may_then, only_cleared}
 use Rattle.hba_driver.proofs.StandLemmas.{both}
 use Rattle.hba_driver.proofs.TickingLemmas.{is_calm}
 use Rattle.hba_driver.proofs.TurnLemmas.{sound_shared}
@@ -319,7 +319,7 @@ lasting (Some Cmd) value = has_bit value 0
 lasting (Some Fbs) value = not (has_bit value dec)
 lasting o value = true
 
-abbrev pub lasting_effect : Effect → Bool
+abbrev lasting_effect : Effect → Bool
 lasting_effect (effect.Writes offset value) = lasting (register_at offset) value
 lasting_effect e = true
 
@@ -367,7 +367,7 @@ kept_effects (e ∷ es) old new before after dev s i calm other below acts table
     kept_effects es acts.0 new acts.1 after dev s i calm_is.1 others.1 below acts.4 acts.3.table
     (kept_effect e old acts.0 before acts.1 dev s i calm_is.0 others.0 below acts.2 table here)
 
-pub out_effects : (es : List Effect) (old new : Port) (before after : Memory) (slot dev : ℕ) → list_all lasting_effect es ≡ true → list_any (flushes dev) es ≡ false → dev < 16 → ActsAll es old before new after
+out_effects : (es : List Effect) (old new : Port) (before after : Memory) (slot dev : ℕ) → list_all lasting_effect es ≡ true → list_any (flushes dev) es ≡ false → dev < 16 → ActsAll es old before new after
     → IsTable old.slots → HasOut old slot dev → HasOut new slot dev
 out_effects es old new before after slot dev calm other below acts table h =
     record { issue = h.issue; is = kept_effects es old new before after dev slot h.issue calm other below acts table h.is; pio = h.pio; control = h.control }
@@ -393,7 +393,7 @@ lasting_restart : (k : ℕ) → lasting_effect (restart_write k) ≡ true
 unfolding restart_write register_at
 lasting_restart k = all_at lasting_effect restart_writes k _ refl refl
 
-pub lasting_act : (a : Option Act) → is_calm a ≡ true → ((k : ℕ) → a ≡ Some (act.Opens k) → ⊥) → list_all lasting_effect (effects_due a) ≡ true
+lasting_act : (a : Option Act) → is_calm a ≡ true → ((k : ℕ) → a ≡ Some (act.Opens k) → ⊥) → list_all lasting_effect (effects_due a) ≡ true
 unfolding effects_of
 lasting_act None calm opens = refl
 lasting_act (Some (act.Opens k)) calm opens = absurd (opens k refl)
@@ -406,7 +406,7 @@ lasting_act (Some (act.Issues slot dev queued)) calm opens = lasting_issuing slo
 
 -- ---- another device is cleared
 
-pub out_clear : (old new : Port) (before after : Memory) (slot dev k : ℕ) → dev < 16 → dev ≢ k → MayClear k old → IsTable old.slots → ActsAll (clearing k) old before new after → HasOut old slot dev → HasOut new slot dev
+out_clear : (old new : Port) (before after : Memory) (slot dev k : ℕ) → dev < 16 → dev ≢ k → MayClear k old → IsTable old.slots → ActsAll (clearing k) old before new after → HasOut old slot dev → HasOut new slot dev
 unfolding ActsAll register_at view_after
 out_clear old new before after slot dev k below other may table acts h =
     let value : ℕ = 256 * k + 3 in
@@ -421,6 +421,25 @@ out_clear old new before after slot dev k below other may table acts h =
       | inr refused ↦ subst (λ (p : Port). IsIssuedAt p dev slot h.issue) (sym refused.stays) first
     ] in
     record { issue = h.issue; is = subst (λ (p : Port). IsIssuedAt p dev slot h.issue) (sym acts.4.4.0) second; pio = h.pio; control = h.control }
+
+-- ---- each act, but one that stops the port
+
+pub out_act : (a : Option Act) (old new : Port) (before after : Memory) (slot dev : ℕ) → dev < 16 → MayEnd a old → (a ≡ Some act.Stops → ⊥) → ((k : ℕ) → a ≡ Some (act.Clears k) → dev ≢ k)
+    → ((k : ℕ) → a ≡ Some (act.Opens k) → ⊥) → list_any (flushes dev) (effects_due a) ≡ false → ActsAll (effects_due a) old before new after → IsTable old.slots → HasOut old slot dev → HasOut new slot dev
+unfolding effects_of
+out_act None old new before after slot dev below may stops clears opens other acts table h = out_effects [] old new before after slot dev refl other below acts table h
+out_act (Some (act.Opens k)) old new before after slot dev below may stops clears opens other acts table h = absurd (opens k refl)
+out_act (Some act.Stops) old new before after slot dev below may stops clears opens other acts table h = absurd (stops refl)
+out_act (Some (act.Clears k)) old new before after slot dev below may stops clears opens other acts table h =
+    out_clear old new before after slot dev k below (clears k refl) may table acts h
+out_act (Some (act.Restarts k)) old new before after slot dev below may stops clears opens other acts table h =
+    out_effects (effects_due (Some (act.Restarts k))) old new before after slot dev (lasting_act (Some (act.Restarts k)) refl opens) other below acts table h
+out_act (Some (act.Orders order)) old new before after slot dev below may stops clears opens other acts table h =
+    out_effects (effects_due (Some (act.Orders order))) old new before after slot dev (lasting_act (Some (act.Orders order)) refl opens) other below acts table h
+out_act (Some (act.Steps n stage)) old new before after slot dev below may stops clears opens other acts table h =
+    out_effects (effects_due (Some (act.Steps n stage))) old new before after slot dev (lasting_act (Some (act.Steps n stage)) refl opens) other below acts table h
+out_act (Some (act.Issues s n queued)) old new before after slot dev below may stops clears opens other acts table h =
+    out_effects (effects_due (Some (act.Issues s n queued))) old new before after slot dev (lasting_act (Some (act.Issues s n queued)) refl opens) other below acts table h
 
 -- ---- a write that opens the port
 

@@ -55,7 +55,7 @@ use Rattle.hba_driver.proofs.DoneLemmas.{free_slot}
 use Rattle.hba_driver.proofs.DrivenLemmas.{not_below, turn_opens}
 use Rattle.hba_driver.proofs.DueLemmas.{Due, due_turn, goes_turn}
 use Rattle.hba_driver.proofs.EventLemmas.{beside, beside_area, beside_same, does_store, sound_beside}
-use Rattle.hba_driver.proofs.EndingLemmas.{MayEnd, each_act}
+use Rattle.hba_driver.proofs.EndingLemmas.{MayEnd, each_act, may_end}
 use Rattle.hba_driver.proofs.HistoryLemmas.{PollFacts, back_of, free_below, free_other, freed, poll_facts}
 use Rattle.hba_driver.proofs.IssueLemmas.{Rest, calm_event, command_stays, rest_none, rest_then, spares_by, told_at}
 use Rattle.hba_driver.proofs.IssuingLemmas.{From}
@@ -324,7 +324,7 @@ turn_goes D fs c old (Pushed frame) new h s n go = λ past served.
     (same_driver D fs c old new h.driver go (touched (shared_by old) (event.Gave frame) ++ past)
     (calm_event old.driver (shared_by old) (shared_by new) (event.Gave frame) past host tt does (out_none (shared_by old) (outgoing old.port old.memory))
     (gives_commands (outgoing old.port old.memory) old.port new.port old.memory frame h.gives) (stands_turn old (Pushed frame) new h s n served.bounded served.commands) served))
-turn_goes D fs c old (Ticked a) new h s n go = tick_goes D fs c old a new h s go
+turn_goes D fs c old (Ticked a) new h s n go = tick_goes D fs c old a new h (may_end old s) s go
 turn_goes D fs c old (Submitted dev request ticket) new h s n go = λ past served.
     let host = sound_shared old s in
     let below : next_slot old.driver < 30 = free_below old.driver old.memory dev request h.accepted in

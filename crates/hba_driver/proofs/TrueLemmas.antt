@@ -1,5 +1,5 @@
 -- Done is true.
-use Rattle.std.proofs.Common.{◌≡◌, ℕ, ◌<◌, ◌≤◌, ◌⊎◌, Bool, true, false, ◌&&◌, nat_lt, List, [], ◌∷◌, length, refl, sym, ◌∙◌, ap, subst, inl, inr, arith, Option, Some, None}
+use Rattle.std.proofs.Common.{◌≡◌, ◌≢◌, ℕ, ◌<◌, ◌≤◌, ◌⊎◌, Bool, true, false, ◌&&◌, nat_lt, List, [], ◌∷◌, length, refl, sym, ◌∙◌, ap, subst, inl, inr, arith, Option, Some, None}
 use Rattle.std.specs.Prelude.{if◌then◌else◌, ◌==◌, ◌||◌, not}
 use Rattle.std.specs.List.{list_any}
 use Rattle.std.specs.Option.{option_map}
@@ -30,7 +30,7 @@ use Rattle.hba_driver.specs.declared.turn.Act.{Act}
 use Rattle.hba_driver.specs.declared.turn.Act.TheVariants as act
 use Rattle.hba_driver.specs.declared.turn.Turn.{Turn}
 use Rattle.hba_driver.specs.Done.{DoneIsTrue, WasCompleted, completes, is_completed, takes}
-use Rattle.hba_driver.specs.Drivers.{AreRequests, Driver, Entry, entry_at, has_ended, has_ended_in, holds, is_issued_in, rephase, rephase_all, rephased, waits, waits_in}
+use Rattle.hba_driver.specs.Drivers.{AreRequests, Driver, Entry, entry_at, has_ended, has_ended_in, holds, is_aside_in, is_issued_in, rephase, rephase_all, rephased, waits, waits_in}
 use Rattle.hba_driver.specs.Effects.{ActsAll, effects_of, issuing}
 use Rattle.hba_driver.specs.Events.{opening_host}
 use Rattle.hba_driver.specs.HostTurns.{Does, DoesAll, Host, HostTurn, Took, Pushed, Ticked, Submitted, Polled, Put, issued_by_act, issued_in_tick, sight_in, ticket_of}
@@ -44,14 +44,14 @@ use Rattle.hba_driver.proofs.ComeLemmas.{Fresh, comes_from, ticks}
 use Rattle.hba_driver.proofs.DoneLemmas.{done_is_free}
 use Rattle.hba_driver.proofs.DrivenLemmas.{not_below, tick_is, turn_opens}
 use Rattle.hba_driver.proofs.DueLemmas.{Due}
+use Rattle.hba_driver.proofs.EndingLemmas.{may_end}
 use Rattle.hba_driver.proofs.HistoryLemmas.{PollFacts, poll_facts, requests_turn}
 use Rattle.hba_driver.proofs.LifeLemmas.{entry_of_rephased, waiting_stays}
-use Rattle.hba_driver.proofs.OutLemmas.{HasOut, lasting_act, out_effects, out_opening, out_pushed, out_same, out_took}
+use Rattle.hba_driver.proofs.OutLemmas.{HasOut, out_act, out_opening, out_pushed, out_same, out_took}
 use Rattle.hba_driver.proofs.RequestLemmas.{set_cases}
 use Rattle.hba_driver.proofs.ServeLemmas.{ticks_serve}
 use Rattle.hba_driver.proofs.StageLemmas.{Stage, Idle, Out, Whole, stage_after, stage_by, stage_over, tells}
 use Rattle.hba_driver.proofs.StandLemmas.{in_slots}
-use Rattle.hba_driver.proofs.TickingLemmas.{is_calm}
 
 -- ---- phases
 
@@ -334,16 +334,16 @@ whole_ended ticket slot dev h stage e f w far here on file there is of_ticket of
           fits_ended stage h.port slot dev e.head.phase free.1 free.0 fits
     ]
 
--- a request that stays issued over a tick
-out_tick : (h : Host) (a : Bool) (new : Host) (slot dev : ℕ) → Does h (Ticked a) new → IsOnWay h → dev < 16 → list_any (flushes dev) (effects (sight_in h) h.driver) ≡ false → is_calm (due (sight_in h) h.driver) ≡ true
-    → HasOut h.port slot dev → HasOut new.port slot dev
-out_tick h a new slot dev does w below other calm out = elim (tick_is (sight_in h) (file_shown new.port) h.driver) [
+-- a request that stays issued over a tick, which neither stops the port nor clears its device
+out_tick : (h : Host) (a : Bool) (new : Host) (slot dev : ℕ) → Does h (Ticked a) new → IsOnWay h → dev < 16 → list_any (flushes dev) (effects (sight_in h) h.driver) ≡ false
+    → (due (sight_in h) h.driver ≡ Some act.Stops → ⊥) → ((k : ℕ) → due (sight_in h) h.driver ≡ Some (act.Clears k) → dev ≢ k) → HasOut h.port slot dev → HasOut new.port slot dev
+out_tick h a new slot dev does w below other stops clears out = elim (tick_is (sight_in h) (file_shown new.port) h.driver) [
   | inl first ↦
       let k : ℕ = h.driver.plan.opened in
       out_opening k h.port new.port h.memory new.memory slot dev (w.sound.registers.stopped (less_most k first.less)) below
       (subst (λ (es : List Effect). ActsAll es h.port h.memory new.port new.memory) first.one does.does) w.sound.ruled.table out
   | inr going ↦
-      out_effects (effects (sight_in h) h.driver) h.port new.port h.memory new.memory slot dev (lasting_act (due (sight_in h) h.driver) calm (goes_on h w going.least).opens) other below does.does w.sound.ruled.table out
+      out_act (due (sight_in h) h.driver) h.port new.port h.memory new.memory slot dev below (may_end h w.sound) stops clears (goes_on h w going.least).opens other does.does w.sound.ruled.table out
 ]
   where
     less_most : (n : ℕ) → n < 7 → n ≤ 6
@@ -387,6 +387,13 @@ module _ (ticket slot dev : ℕ) (h : Host) (a : Bool) (new : Host) (does : Does
         | inr other ↦ other
       ]
 
+      unstopped : f.head.phase ≡ Issued → due v h.driver ≡ Some act.Stops → ⊥
+      unstopped is stops = false≢true (sym (ap has_ended_in is) ∙ ticks_serve.stops v (file_shown new.port) h.driver slot f stops (here_after f here))
+
+      uncleared : f.head.phase ≡ Issued → (k : ℕ) → due v h.driver ≡ Some (act.Clears k) → dev ≢ k
+      uncleared is k clears same =
+          false≢true (sym (ap (λ (p : Phase). is_aside_in p || has_ended_in p) is) ∙ ticks_serve.withdraws v (file_shown new.port) h.driver k slot f clears (here_after f here) (of_dev ∙ same))
+
       stays : (e : Entry) → entry_at h.driver.entries slot ≡ Some e → GoesOn e f → e.head.ticket ≡ ticket → e.head.dev ≡ dev → f.head.phase ≡ Issued → (p : Phase) → e.head.phase ≡ p
           → (stage ≡ Whole) ⊎ ((stage ≡ Out) × HasOut new.port slot dev)
       stays e at on ticket_is dev_is is Waits was =
@@ -395,7 +402,7 @@ module _ (ticket slot dev : ℕ) (h : Host) (a : Bool) (new : Host) (does : Does
       stays e at on ticket_is dev_is is Issued was =
           elim (subst (λ (p : Phase). Fits stage h.port slot dev p) was (far e at ticket_is dev_is)) [
             | inl whole ↦ inl whole
-            | inr out ↦ inr (out.0, out_tick h a new slot dev does w (low e at dev_is) (unflushed is) out.1)
+            | inr out ↦ inr (out.0, out_tick h a new slot dev does w (low e at dev_is) (unflushed is) (unstopped is) (uncleared is) out.1)
           ]
       stays e at on ticket_is dev_is is Aside was =
           let goes : Goes Aside Issued = subst (λ (p : Phase). Goes Aside p) is (subst (λ (p : Phase). Goes p f.head.phase) was on.goes) in
