@@ -160,26 +160,28 @@ pub record PlanGoes (v : Sight) (p q : Plan) : Type 0 where
   pub path : has_bit v.issued 30 ≡ true → (x : Path) → p.path ≡ Some x → x.asked ≡ true → q.path ≡ Some x
   pub devices : length q.devices ≡ length p.devices
   pub opened : q.opened ≡ p.opened
+  pub restarted : q.restarted ≡ p.restarted
   pub low : IsPath p.path → IsPath q.path
 
 goes_same : (v : Sight) (p : Plan) → PlanGoes v p p
-goes_same v p = record { asked = λ b h. h; path = λ b x here a. here; devices = refl; opened = refl; low = λ h. h }
+goes_same v p = record { asked = λ b h. h; path = λ b x here a. here; devices = refl; opened = refl; restarted = refl; low = λ h. h }
 
 goes_then : (v : Sight) (p q r : Plan) → PlanGoes v p q → PlanGoes v q r → PlanGoes v p r
-goes_then v p q r h k = record { asked = λ b a. k.asked b (h.asked b a); path = λ b x here a. k.path b x (h.path b x here a) a; devices = k.devices ∙ h.devices; opened = k.opened ∙ h.opened; low = λ x. k.low (h.low x) }
+goes_then v p q r h k = record { asked = λ b a. k.asked b (h.asked b a); path = λ b x here a. k.path b x (h.path b x here a) a; devices = k.devices ∙ h.devices; opened = k.opened ∙ h.opened; restarted = k.restarted ∙ h.restarted; low = λ x. k.low (h.low x) }
 
 -- the rest of the plan is as it was
 record Alike (p q : Plan) : Type 0 where
   pub path : q.path ≡ p.path
   pub devices : length q.devices ≡ length p.devices
   pub opened : q.opened ≡ p.opened
+  pub restarted : q.restarted ≡ p.restarted
 
 alike_noted : (v : Sight) (order : Order) (plan : Plan) → Alike plan (noted v order plan)
 unfolding noted
-alike_noted v CountPorts plan = record { path = refl; devices = refl; opened = refl }
-alike_noted v Scan plan = record { path = refl; devices = refl; opened = refl }
-alike_noted v (Detect port) plan = record { path = refl; devices = length-set plan.devices port _; opened = refl }
-alike_noted v order plan = record { path = refl; devices = refl; opened = refl }
+alike_noted v CountPorts plan = record { path = refl; devices = refl; opened = refl; restarted = refl }
+alike_noted v Scan plan = record { path = refl; devices = refl; opened = refl; restarted = refl }
+alike_noted v (Detect port) plan = record { path = refl; devices = length-set plan.devices port _; opened = refl; restarted = refl }
+alike_noted v order plan = record { path = refl; devices = refl; opened = refl; restarted = refl }
 
 goes_answer : (v : Sight) (b c : Bool) (next plan : Plan) → has_bit v.issued 31 ≡ c → Alike plan next → PlanGoes v plan (if b && not c then next else plan)
 goes_answer v true true next plan is same = goes_same v plan
@@ -189,13 +191,15 @@ goes_answer v true false next plan is same = record {
   path = λ bit x here a. same.path ∙ here;
   devices = same.devices;
   opened = same.opened;
+  restarted = same.restarted;
   low = λ h. subst IsPath (sym same.path) h;
 }
 
 goes_answered : (v : Sight) (plan : Plan) → PlanGoes v plan (answered v plan)
 goes_answered v plan =
     let same : Alike plan (noted v plan.order plan) = alike_noted v plan.order plan in
-    goes_answer v plan.asked (has_bit v.issued 31) (with_next plan.order (noted v plan.order plan)) plan refl (record { path = same.path; devices = same.devices; opened = same.opened })
+    goes_answer v plan.asked (has_bit v.issued 31) (with_next plan.order (noted v plan.order plan)) plan refl
+    (record { path = same.path; devices = same.devices; opened = same.opened; restarted = same.restarted })
 
 goes_if : (v : Sight) (b : Bool) (p q r : Plan) → PlanGoes v p q → PlanGoes v p r → PlanGoes v p (if b then q else r)
 goes_if v true p q r h k = h
@@ -203,7 +207,7 @@ goes_if v false p q r h k = k
 
 goes_met : (v : Sight) (plan : Plan) → PlanGoes v plan (met v plan)
 goes_met v plan =
-    goes_if v plan.asked plan plan (record plan { order = met_order v plan.order }) (goes_same v plan) (record { asked = λ b h. h; path = λ b x here a. here; devices = refl; opened = refl; low = λ h. h })
+    goes_if v plan.asked plan plan (record plan { order = met_order v plan.order }) (goes_same v plan) (record { asked = λ b h. h; path = λ b x here a. here; devices = refl; opened = refl; restarted = refl; low = λ h. h })
 
 goes_control : (v : Sight) (plan : Plan) → PlanGoes v plan (control_seen v plan)
 goes_control v plan = goes_then v plan (answered v plan) (control_seen v plan) (goes_answered v plan) (goes_met v (answered v plan))
@@ -225,6 +229,12 @@ unfolding found_of
 opened_found v Identify dev plan = refl
 opened_found v (ReadLog file) dev plan = refl
 opened_found v stage dev plan = refl
+
+restarted_found : (v : Sight) (stage : Stage) (dev : ℕ) (plan : Plan) → (found_of v stage dev plan).restarted ≡ plan.restarted
+unfolding found_of
+restarted_found v Identify dev plan = refl
+restarted_found v (ReadLog file) dev plan = refl
+restarted_found v stage dev plan = refl
 
 path_low : (dev : ℕ) (stage : Option Stage) → dev < 15 → IsPath (path_to dev stage)
 path_low dev None h = tt
@@ -248,6 +258,7 @@ goes_back v bit path plan here is = by_asked path.asked bit is refl
       path = λ on x there ax. absurd (true≢false (sym on ∙ is));
       devices = length_found v path.stage path.dev plan;
       opened = opened_found v path.stage path.dev plan;
+      restarted = restarted_found v path.stage path.dev plan;
       low = λ h. path_low path.dev (next_stage path.stage) (subst IsPath here h);
     }
     by_asked false bit is a = goes_same v plan
@@ -265,6 +276,7 @@ goes_path_met v plan = record {
   path = λ b x here a. ap (option_map (met_path v)) here ∙ ap Some (met_asked v x a);
   devices = refl;
   opened = refl;
+  restarted = refl;
   low = λ h. met_low v plan.path h;
 }
 
@@ -284,3 +296,39 @@ unfolding turn_of
 goes_turn v plan entries =
     turn_if v (is_some (early_due v plan)) plan _ _ (goes_same v plan)
     (goes_then v plan (control_seen v plan) _ (goes_control v plan) (goes_control_turn v (control_news v plan) (control_seen v plan) entries))
+
+-- ---- what comes only once the port is open, and runs
+
+-- the writes that open the port come before those that start it again, and these before any other act
+abbrev pub Runs : Plan → Option Act → Type 0
+Runs plan None = Unit {0}
+Runs plan (Some (act.Opens k)) = Unit {0}
+Runs plan (Some (act.Restarts k)) = nat_lt plan.opened 7 ≡ false
+Runs plan (Some a) = (nat_lt plan.opened 7 ≡ false) × (nat_lt plan.restarted 2 ≡ false)
+
+runs_any : (plan : Plan) (a : Option Act) → nat_lt plan.opened 7 ≡ false → nat_lt plan.restarted 2 ≡ false → Runs plan a
+runs_any plan None open up = tt
+runs_any plan (Some (act.Opens k)) open up = tt
+runs_any plan (Some (act.Restarts k)) open up = open
+runs_any plan (Some a) open up = (open, up)
+
+runs_as : (p q : Plan) (a : Option Act) → q.opened ≡ p.opened → q.restarted ≡ p.restarted → Runs p a → Runs q a
+runs_as p q None open up h = tt
+runs_as p q (Some (act.Opens k)) open up h = tt
+runs_as p q (Some (act.Restarts k)) open up h = ap (λ (n : ℕ). nat_lt n 7) open ∙ h
+runs_as p q (Some a) open up h = (ap (λ (n : ℕ). nat_lt n 7) open ∙ h.0, ap (λ (n : ℕ). nat_lt n 2) up ∙ h.1)
+
+pub runs_turn : (v : Sight) (plan : Plan) (entries : List (Option Entry)) → Runs plan (turn_of v plan entries).act
+runs_turn v plan entries = by_tests (nat_lt plan.opened 7) (nat_lt plan.restarted 2) refl refl
+  where
+    by_tests : (b c : Bool) → nat_lt plan.opened 7 ≡ b → nat_lt plan.restarted 2 ≡ c → Runs plan (turn_of v plan entries).act
+    unfolding turn_of early_due
+    by_tests true c open up = rw open tt
+    by_tests false true open up = rw (open, up) open
+    by_tests false false open up = runs_any plan (turn_of v plan entries).act open up
+
+-- and so it is of the plan of the turn
+pub runs_then : (v : Sight) (plan : Plan) (entries : List (Option Entry)) → Runs (turn_of v plan entries).plan (turn_of v plan entries).act
+runs_then v plan entries =
+    let goes : PlanGoes v plan (turn_of v plan entries).plan = goes_turn v plan entries in
+    runs_as plan (turn_of v plan entries).plan (turn_of v plan entries).act goes.opened goes.restarted (runs_turn v plan entries)
