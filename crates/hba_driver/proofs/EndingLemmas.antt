@@ -58,7 +58,7 @@ stopped d = record d { plan = stopped_plan d.plan; entries = rephase_all is_open
 stopped_follows : (d : Driver) → Follows d (stopped d)
 unfolding stopped
 stopped_follows d = record {
-  devices = length-map reset_if_there d.plan.devices;
+  devices = length-map d.plan.devices reset_if_there;
   slots = length_of_rephased is_open (Ended PortError) d.entries;
   path = λ h. tt;
   entries = λ s f here.
