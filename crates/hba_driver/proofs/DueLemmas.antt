@@ -307,25 +307,25 @@ Runs plan (Some (act.Restarts k)) = nat_lt plan.opened 7 ≡ false
 Runs plan (Some a) = (nat_lt plan.opened 7 ≡ false) × (nat_lt plan.restarted 2 ≡ false)
 
 runs_any : (plan : Plan) (a : Option Act) → nat_lt plan.opened 7 ≡ false → nat_lt plan.restarted 2 ≡ false → Runs plan a
-runs_any plan None open up = tt
-runs_any plan (Some (act.Opens k)) open up = tt
-runs_any plan (Some (act.Restarts k)) open up = open
-runs_any plan (Some a) open up = (open, up)
+runs_any plan None ready up = tt
+runs_any plan (Some (act.Opens k)) ready up = tt
+runs_any plan (Some (act.Restarts k)) ready up = ready
+runs_any plan (Some a) ready up = (ready, up)
 
 runs_as : (p q : Plan) (a : Option Act) → q.opened ≡ p.opened → q.restarted ≡ p.restarted → Runs p a → Runs q a
-runs_as p q None open up h = tt
-runs_as p q (Some (act.Opens k)) open up h = tt
-runs_as p q (Some (act.Restarts k)) open up h = ap (λ (n : ℕ). nat_lt n 7) open ∙ h
-runs_as p q (Some a) open up h = (ap (λ (n : ℕ). nat_lt n 7) open ∙ h.0, ap (λ (n : ℕ). nat_lt n 2) up ∙ h.1)
+runs_as p q None ready up h = tt
+runs_as p q (Some (act.Opens k)) ready up h = tt
+runs_as p q (Some (act.Restarts k)) ready up h = ap (λ (n : ℕ). nat_lt n 7) ready ∙ h
+runs_as p q (Some a) ready up h = (ap (λ (n : ℕ). nat_lt n 7) ready ∙ h.0, ap (λ (n : ℕ). nat_lt n 2) up ∙ h.1)
+
+runs_by : (v : Sight) (plan : Plan) (entries : List (Option Entry)) (b c : Bool) → nat_lt plan.opened 7 ≡ b → nat_lt plan.restarted 2 ≡ c → Runs plan (turn_of v plan entries).act
+unfolding turn_of early_due
+runs_by v plan entries true c ready up = rw ready tt
+runs_by v plan entries false true ready up = rw (ready, up) ready
+runs_by v plan entries false false ready up = runs_any plan (turn_of v plan entries).act ready up
 
 pub runs_turn : (v : Sight) (plan : Plan) (entries : List (Option Entry)) → Runs plan (turn_of v plan entries).act
-runs_turn v plan entries = by_tests (nat_lt plan.opened 7) (nat_lt plan.restarted 2) refl refl
-  where
-    by_tests : (b c : Bool) → nat_lt plan.opened 7 ≡ b → nat_lt plan.restarted 2 ≡ c → Runs plan (turn_of v plan entries).act
-    unfolding turn_of early_due
-    by_tests true c open up = rw open tt
-    by_tests false true open up = rw (open, up) open
-    by_tests false false open up = runs_any plan (turn_of v plan entries).act open up
+runs_turn v plan entries = runs_by v plan entries (nat_lt plan.opened 7) (nat_lt plan.restarted 2) refl refl
 
 -- and so it is of the plan of the turn
 pub runs_then : (v : Sight) (plan : Plan) (entries : List (Option Entry)) → Runs (turn_of v plan entries).plan (turn_of v plan entries).act

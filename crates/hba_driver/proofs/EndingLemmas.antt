@@ -76,7 +76,7 @@ pub record MayStop (r : Registers) : Type 0 where
   pub receives : r.receives ≡ true
   pub started : r.started ≡ true
 
-stop_taken : (port : Port) (memory : Memory) → port.registers.receives ≡ true → write_refusal port memory px_cmd 131088 ≡ None
+pub stop_taken : (port : Port) (memory : Memory) → port.registers.receives ≡ true → write_refusal port memory px_cmd 131088 ≡ None
 unfolding cmd_refusal own_refusal slots_refusal register_at
 stop_taken port memory on = rw on refl
 
@@ -157,7 +157,7 @@ not_running : (b : Bool) → option_or (running_if (b && false)) None ≡ None
 not_running true = refl
 not_running false = refl
 
-clear_taken : (dev : ℕ) (port : Port) (memory : Memory) → port.registers.switching ≡ true → write_refusal port memory px_fbs (256 * dev + 3) ≡ None
+pub clear_taken : (dev : ℕ) (port : Port) (memory : Memory) → port.registers.switching ≡ true → write_refusal port memory px_fbs (256 * dev + 3) ≡ None
 unfolding own_refusal slots_refusal register_at
 clear_taken dev port memory on = rw (has_en dev, on) (not_running port.registers.started)
 

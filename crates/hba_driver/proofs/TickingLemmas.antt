@@ -48,7 +48,7 @@ use Rattle.hba_driver.specs.Paths.{reads_page, stage_fields}
 use Rattle.hba_driver.specs.Served.{IsServed}
 use Rattle.hba_driver.specs.Sights.{px_ci, px_fbs, px_sact, px_sntf}
 use Rattle.hba_driver.specs.Ticks.{acted, effects_due, entries_after, is_aside_of, is_open_of, plan_after, plan_without, removed, stage_ended, unless}
-use Rattle.hba_driver.proofs.DrivenLemmas.{place_effect}
+use Rattle.hba_driver.proofs.DrivenLemmas.{en_chosen, place_effect}
 use Rattle.hba_driver.proofs.DueLemmas.{Due, MayStep, Waiting}
 use Rattle.hba_driver.proofs.EffectLemmas.{all_at}
 use Rattle.hba_driver.proofs.EventLemmas.{beside, beside_same, same_sizes, sized_effect, sound_beside}
@@ -83,13 +83,13 @@ issuing_goes : (D d : Driver) (fs : List HostEvent) (c : event.Host) (slot dev :
     → Goes D d (events_of_effects (issuing slot dev queued) old before new after acts ++ fs) c (beside old before)
 unfolding ActsAll events_of_effects register_at
 issuing_goes D d fs c slot dev false prds fields old new before after below dev_below list stands may ruled m acts go =
-    let place = place_effect (effect.Writes px_fbs (256 * dev + 1)) old acts.0 before acts.1 refl acts.2 in
+    let place = place_effect (effect.Writes px_fbs (256 * dev + 1)) old acts.0 before acts.1 (en_chosen dev) acts.2 in
     let standing : Standing slot dev prds fields acts.1 = subst (Standing slot dev prds fields) (sym acts.2.1) stands in
     let rest = last_ci D d fs c slot dev prds fields acts.0 new acts.1 after below dev_below (place.list ∙ list) standing may acts.3 (same_sizes before acts.1 acts.2.1 m) acts.4 go in
     first_goes D d fs c (beside old before) (events_of_effect (effect.Writes px_fbs (256 * dev + 1)) old before acts.1) (events_of_effects (effect.Writes px_ci (2 ^ slot) ∷ []) acts.0 acts.1 new after acts.4)
     (write_goes D d (events_of_effects (effect.Writes px_ci (2 ^ slot) ∷ []) acts.0 acts.1 new after acts.4 ++ fs) c px_fbs (256 * dev + 1) old acts.0 before acts.1 refl (sound_beside old before ruled m) acts.2 rest)
 issuing_goes D d fs c slot dev true prds fields old new before after below dev_below list stands may ruled m acts go =
-    let place = place_effect (effect.Writes px_fbs (256 * dev + 1)) old acts.0 before acts.1 refl acts.2 in
+    let place = place_effect (effect.Writes px_fbs (256 * dev + 1)) old acts.0 before acts.1 (en_chosen dev) acts.2 in
     let next = place_effect (effect.Writes px_sact (2 ^ slot)) acts.0 acts.4.0 acts.1 acts.4.1 refl acts.4.2 in
     let m1 : IsHostMemory acts.1 = same_sizes before acts.1 acts.2.1 m in
     let m2 : IsHostMemory acts.4.1 = same_sizes acts.1 acts.4.1 acts.4.2.1 m1 in
