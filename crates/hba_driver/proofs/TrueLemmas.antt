@@ -39,11 +39,11 @@ use Rattle.hba_driver.specs.Orders.{request_fields, work_fields}
 use Rattle.hba_driver.specs.Sights.{file_shown}
 use Rattle.hba_driver.specs.Ticks.{acted, after_tick, done_ended, due, effects, effects_due, entries_after, is_aside_of, is_done, is_open, is_open_of, removed, seen, stage_ended, turn}
 use Rattle.hba_driver.proofs.AcceptLemmas as accept
-use Rattle.hba_driver.proofs.AcceptLemmas.{IsOnWay, goes_on, issue_taken, way_opens, way_turn}
+use Rattle.hba_driver.proofs.AcceptLemmas.{IsOnWay, goes_on, is_up, issue_taken, way_opens, way_turn}
 use Rattle.hba_driver.proofs.ComeLemmas.{Fresh, comes_from, ticks}
 use Rattle.hba_driver.proofs.DoneLemmas.{done_is_free}
 use Rattle.hba_driver.proofs.DrivenLemmas.{not_below, tick_is, turn_opens}
-use Rattle.hba_driver.proofs.DueLemmas.{Due}
+use Rattle.hba_driver.proofs.DueLemmas.{Due, Runs}
 use Rattle.hba_driver.proofs.EndingLemmas.{may_end}
 use Rattle.hba_driver.proofs.HistoryLemmas.{PollFacts, poll_facts, requests_turn}
 use Rattle.hba_driver.proofs.LifeLemmas.{entry_of_rephased, waiting_stays}
@@ -225,9 +225,10 @@ went_out h a new ticket does w i =
     let d : Driver = seen v h.driver in
     let g = goes_on h w (opened_first h i.slot i.dev i.queued i.is) in
     let waiting = subst (λ (x : Option Act). Due v d.plan d.entries x) i.is g.due_is in
+    let runs : Runs d.plan (Some (act.Issues i.slot i.dev i.queued)) = subst (λ (x : Option Act). Runs d.plan x) i.is g.runs in
     let same : waiting.0.entry ≡ i.entry = some_inj waiting.0.entry i.entry (sym waiting.0.stands ∙ i.there) in
     let acts : ActsAll (issuing i.slot i.dev i.queued) h.port h.memory new.port new.memory = subst (λ (x : Option Act). ActsAll (effects_due x) h.port h.memory new.port new.memory) i.is does.does in
-    let issued = issue_taken d i.slot i.dev i.queued h.port new.port h.memory new.memory g.knows waiting.0 waiting.1 acts in
+    let issued = issue_taken d i.slot i.dev i.queued h.port new.port h.memory new.memory g.knows (is_up d h.port h.memory g.knows runs.1) waiting.0 waiting.1 acts in
     let kinds = calm_request i.slot waiting.0.entry.head in
     let out : HasOut new.port i.slot i.dev = record {
       issue = new_issue i.dev (work_of (request_of (request_fields i.slot waiting.0.entry.head)));
