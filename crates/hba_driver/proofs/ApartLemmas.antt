@@ -1,8 +1,8 @@
 -- What is issued is apart, and what is put spares it.
-use Rattle.std.proofs.Common.{◌≡◌, ◌≢◌, ℕ, ◌+◌, ◌<◌, ◌≤◌, ◌⊎◌, Bool, true, false, List, [], ◌∷◌, ◌++◌, length, refl, sym, ◌∙◌, ap, subst, inl, inr, arith, Option, Some, None}
-use Rattle.std.specs.Prelude.{◌&&◌, ◌||◌, nat_le, nat_lt, slice_get}
+use Rattle.std.proofs.Common.{◌≡◌, ℕ, ◌+◌, ◌<◌, ◌≤◌, Bool, true, false, List, [], ◌∷◌, ◌++◌, refl, sym, ◌∙◌, ap, inl, inr, arith, Option, Some, None}
+use Rattle.std.specs.Prelude.{◌&&◌, ◌||◌, nat_lt}
 use Rattle.std.specs.List.{list_any}
-use Rattle.std.proofs.lemmas.Bool.{cases_Bool, cases_eq, cases_lt, false≢true, or_parts, true≢false}
+use Rattle.std.proofs.lemmas.Bool.{cases_Bool, cases_eq, false≢true, or_parts, true≢false}
 use Rattle.std.proofs.lemmas.Bool.Decides.{nat_tests}
 use Rattle.host_memory.specs.Memory.{client_start}
 use Rattle.host_memory.specs.Place.{place, total_of}
@@ -10,7 +10,7 @@ use Rattle.host_memory.specs.Reading.{have_overlap, share_with}
 use Rattle.host_memory.specs.declared.table.Prd.{Prd}
 use Rattle.host_memory.proofs.OverlapLemmas.{apart_from_overlap, list_any-true, share_with-true}
 use Rattle.host_memory.proofs.PlaceLemmas.{place_has, place_injective}
-use Rattle.hba_laws.specs.Client.{AreApart, AreOne, By, IsKept, IsReading, IsSpared, Touches, is_in, own}
+use Rattle.hba_laws.specs.Client.{AreApart, AreOne, By, IsKept, IsSpared, Touches, is_in}
 use Rattle.hba_laws.specs.Delivering.{by_device}
 use Rattle.hba_laws.specs.History.{Event, Transfer, issued}
 use Rattle.hba_laws.specs.History as h
@@ -19,7 +19,7 @@ use Rattle.hba_driver.specs.declared.path.Path.{Path}
 use Rattle.hba_driver.specs.Effects.{prds_with, buffer_prd}
 use Rattle.hba_driver.specs.Requests.{in_use, is_among, is_used_by, share_bytes}
 use Rattle.hba_driver.specs.Paths.{reads_page}
-use Rattle.hba_driver.specs.Served.{AreBounded, IsIssueOf, IsOrdered, IsRequest, IsStep, IssuesAreRequests}
+use Rattle.hba_driver.specs.Served.{AreBounded, IsIssueOf, IsRequest, IsStep, IssuesAreRequests}
 use Rattle.hba_driver.proofs.IssuingLemmas.{From}
 use Rattle.hba_driver.proofs.StandLemmas.{in_slots}
 use Rattle.hba_driver.proofs.SubmitLemmas.{none_conflict}

@@ -1,6 +1,6 @@
 -- What is true of port, driver and memory together: what each turn keeps of it.
 use Rattle.std.proofs.Common.{◌≡◌, ℕ, ◌+◌, ◌*◌, ◌/◌, ◌<◌, ◌≤◌, ◌⊎◌, ◌&&◌, Bool, true, false, nat_lt, nat_le, List, [], ◌∷◌, refl, sym, ◌∙◌, ap, subst, inl, inr, arith, Option, Some, None}
-use Rattle.std.specs.Prelude.{if◌then◌else◌, ◌==◌, ◌%◌, not, MatchOption}
+use Rattle.std.specs.Prelude.{if◌then◌else◌, ◌==◌, ◌%◌, MatchOption}
 use Rattle.std.proofs.lemmas.Nat.Bits.{bit_at-suc, bit_at_lowest}
 use Rattle.fis_view.specs.declared.build.H2dFields.{H2dFields}
 use Rattle.hba_fbs.specs.Bits.{dec, en, fre}
@@ -30,7 +30,7 @@ use Rattle.hba_driver.specs.declared.sight.Sight.{Sight}
 use Rattle.hba_driver.specs.declared.turn.Act.{Act}
 use Rattle.hba_driver.specs.declared.turn.Act.TheVariants as act
 use Rattle.hba_driver.specs.declared.turn.Turn.{Turn}
-use Rattle.hba_driver.specs.Drivers.{Driver, Entry, entry_at}
+use Rattle.hba_driver.specs.Drivers.{Driver, Entry}
 use Rattle.hba_driver.specs.Effects.{Acts, ActsAll, Tries, effects_of, issuing, opening_write, order_effects, restart_write, restart_writes, sending, stage_effects}
 use Rattle.hba_driver.specs.Events.{AreDriven, KnowsNone}
 use Rattle.hba_driver.specs.Orders.{order_fields}

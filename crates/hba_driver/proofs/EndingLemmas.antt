@@ -11,7 +11,6 @@ use Rattle.port_errors.specs.declared.cause.PortCause.{PortCause}
 use Rattle.port_errors.specs.Errors.{Errors, cleared_device, named_by, shown as errors_shown}
 use Rattle.slots.specs.Slots.{has_bit}
 use Rattle.hba_fbs.specs.Bits.{bit, dec, en}
-use Rattle.hba_fbs.specs.declared.error.WriteError.{WriteError}
 use Rattle.hba_fbs.specs.declared.register.Register.TheVariants.{Is, Cmd, Fbs}
 use Rattle.hba_fbs.specs.declared.registers.Registers.{Registers}
 use Rattle.hba_fbs.specs.Offsets.{register_at}
@@ -19,9 +18,9 @@ use Rattle.hba_fbs.specs.Reading.{fbs_errors, value_of}
 use Rattle.hba_fbs.specs.Registers.{cmd_refusal, falls, own_refusal, running_if, written}
 use Rattle.hba_fbs.specs.Views.{Port}
 use Rattle.hba_fbs.specs.Writing.{Accepts, cleared_by, errors_after, slots_refusal, write_refusal}
-use Rattle.hba_laws.specs.Client.{By, Stops, Touches, own}
+use Rattle.hba_laws.specs.Client.{Stops, Touches, own}
 use Rattle.hba_laws.specs.Delivering.{touched_by_clear}
-use Rattle.hba_laws.specs.History.{Emptied, Transfer, issued}
+use Rattle.hba_laws.specs.History.{Transfer, issued}
 use Rattle.hba_laws.specs.Hosts as event
 use Rattle.hba_laws.specs.Hosts.{HostEvent}
 use Rattle.hba_laws.proofs.StandLemmas.{some_inj}

@@ -1,8 +1,7 @@
 -- A request ends as failed by its device only where the device's log names it.
-use Rattle.std.proofs.Common.{◌≡◌, ℕ, Bool, true, false, ◌&&◌, List, refl, sym, ◌∙◌, ap, subst, inl, inr, Option, Some, None}
+use Rattle.std.proofs.Common.{◌≡◌, ℕ, Bool, true, false, ◌&&◌, List, refl, sym, ◌∙◌, ap, Option, Some, None}
 use Rattle.std.specs.Prelude.{if◌then◌else◌, ◌==◌, is_some}
-use Rattle.std.specs.Option.{option_map}
-use Rattle.std.proofs.lemmas.Bool.{cases_Bool, false≢true, true≢false}
+use Rattle.std.proofs.lemmas.Bool.{false≢true, true≢false}
 use Rattle.std.proofs.lemmas.Bool.Decides.{nat_tests}
 use Rattle.std.proofs.Common.{arith}
 use Rattle.slots.specs.Slots.{match_some}
@@ -21,8 +20,8 @@ use Rattle.hba_driver.specs.declared.turn.Logged.{Logged}
 use Rattle.hba_driver.specs.declared.turn.Turn.{Turn}
 use Rattle.hba_driver.specs.Drivers.{Driver, Entry, entry_at, has_ended, has_ended_in, is_aside, is_aside_in, rephase, rephase_all, rephased}
 use Rattle.hba_driver.specs.Faults.{ErrorsAreNamed, IsNamedBy}
-use Rattle.hba_driver.specs.Ticks.{acted, after_tick, done_ended, is_aside_of, is_done, is_named, is_named_of, log_outcome, logged_ended, seen, turn}
-use Rattle.hba_driver.specs.Turns.{control_news, control_seen, control_turn, device_logged, early_due, is_back, is_idle, logged_by, order_due, turn_of}
+use Rattle.hba_driver.specs.Ticks.{after_tick, done_ended, is_aside_of, is_done, is_named, is_named_of, log_outcome, logged_ended, seen, turn}
+use Rattle.hba_driver.specs.Turns.{control_seen, early_due, is_back, is_idle, logged_by, order_due, turn_of}
 use Rattle.hba_driver.proofs.DoneLemmas.{IsOwnEnd, acted_end, end_same, end_turned, seen_some, some_at}
 use Rattle.hba_driver.proofs.LifeLemmas.{entry_of_rephased}
 

@@ -26,7 +26,7 @@ use Rattle.hba_driver.specs.declared.turn.Logged.{Logged}
 use Rattle.hba_driver.specs.Drivers.{Driver, Entry, entry_at, has_ended_in, holds, is_aside, is_aside_in, is_issued_in, rephase, rephase_all, rephased, waits, waits_in}
 use Rattle.hba_driver.specs.Laws.{Goes, GoesOn, Kept, Keeps, TicksKeep}
 use Rattle.hba_driver.specs.Ticks.{acted, after_tick, done_ended, entries_after, is_aside_of, is_done, is_named_of, is_open, is_open_of, log_outcome, logged_ended, removed, seen, stage_ended, turn}
-use Rattle.hba_driver.specs.Turns.{may_issue, turn_of}
+use Rattle.hba_driver.specs.Turns.{may_issue}
 use Rattle.hba_driver.proofs.DueLemmas.{Due, Waiting, due_turn}
 
 -- ---- phases

@@ -22,7 +22,7 @@ use Rattle.hba_driver.specs.declared.turn.Turn.{Turn}
 use Rattle.hba_driver.specs.Drivers.{Driver, Entry}
 use Rattle.hba_driver.specs.Orders.{order_fields}
 use Rattle.hba_driver.specs.Ticks.{acts, any_done, done_ended, due, is_done, logged_ended, seen, turn}
-use Rattle.hba_driver.specs.Turns.{advanced, awaits, awaits_reset, control_news, control_seen, control_turn, device_logged, device_news, device_seen, early_due, is_back, is_idle, is_in_reset, is_out, logged_by, met, met_order, met_path, met_stage, order_due, path_met, path_news, turn_of}
+use Rattle.hba_driver.specs.Turns.{advanced, awaits, awaits_reset, control_news, control_seen, control_turn, device_news, device_seen, early_due, is_back, is_idle, is_in_reset, is_out, logged_by, met, met_order, met_path, met_stage, order_due, path_met, path_news, turn_of}
 use Rattle.hba_driver.proofs.ScanLemmas.{none_rephased}
 
 -- ---- slot 31

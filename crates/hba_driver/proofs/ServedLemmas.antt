@@ -1,13 +1,12 @@
 -- Each turn leaves it so that all that is issued is the driver's, and serves what is issued.
-use Rattle.std.proofs.Common.{◌≡◌, ◌≢◌, ℕ, ◌+◌, ◌*◌, ◌<◌, ◌≤◌, ◌⊎◌, Bool, true, false, ◌&&◌, ◌||◌, List, [], ◌∷◌, ◌++◌, length, replicate, set, refl, sym, ◌∙◌, ap, subst, inl, inr, arith, Option, Some, None}
+use Rattle.std.proofs.Common.{◌≡◌, ℕ, ◌+◌, ◌<◌, ◌≤◌, Bool, true, false, ◌&&◌, ◌||◌, List, [], ◌∷◌, ◌++◌, length, replicate, set, refl, sym, ◌∙◌, ap, subst, inl, inr, arith, Option, Some, None}
 use Rattle.std.specs.Prelude.{if◌then◌else◌, ◌==◌, ◌%◌, is_some, max, min, not, nat_lt}
-use Rattle.std.specs.List.{list_all, list_any}
-use Rattle.std.specs.Option.{option_map}
+use Rattle.std.specs.List.{list_any}
 use Rattle.std.proofs.lemmas.Bool.{cases_Bool, cases_eq, cases_lt, false≢true, le-ltb, or_parts, true≢false}
 use Rattle.std.proofs.lemmas.Bool.Decides.{nat_tests}
 use Rattle.std.proofs.lemmas.List.{get_or-replicate, get_or-set_other, get_or_past, length-replicate, length-set}
 use Rattle.fis_view.specs.Seen.{seen as seen_in}
-use Rattle.host_memory.specs.Memory.{IsHostMemory, Memory, is_memory_size}
+use Rattle.host_memory.specs.Memory.{Memory, is_memory_size}
 use Rattle.host_memory.specs.Reading.{AgreeFrom, share_byte, shares_with}
 use Rattle.host_memory.specs.declared.table.Prd.{Prd}
 use Rattle.hba_commands.specs.declared.command.Command.{Command}
@@ -21,13 +20,13 @@ use Rattle.hba_fbs.specs.Tables.{prds_of}
 use Rattle.hba_fbs.specs.Taking.{admitted, ignores, port_of}
 use Rattle.hba_fbs.specs.Views.{Port, last_command}
 use Rattle.hba_laws.specs.Client.{AreApart, By, IsKept, Puts, Touches, own}
-use Rattle.hba_laws.specs.Delivering.{SparesTables, event_sent, event_taken, is_control_issue, touched, touched_by_out}
+use Rattle.hba_laws.specs.Delivering.{SparesTables, event_taken, is_control_issue, touched, touched_by_out}
 use Rattle.hba_laws.specs.History.{Sent, SentControl, Transfer, issued}
 use Rattle.hba_laws.specs.Hosts as event
 use Rattle.hba_laws.specs.Hosts.{HostEvent}
 use Rattle.hba_laws.specs.Sound as sound
 use Rattle.hba_laws.proofs.DoneLemmas.{opens_untold}
-use Rattle.hba_laws.proofs.SpareLemmas.{NoneIssues, NotIssue, gives_commands, out_none, took_none}
+use Rattle.hba_laws.proofs.SpareLemmas.{NoneIssues, gives_commands, out_none, took_none}
 use Rattle.hba_driver.specs.declared.plan.Device.{Device}
 use Rattle.hba_driver.specs.declared.plan.Device.TheVariants.{Absent}
 use Rattle.hba_driver.specs.declared.request.Completion.{Completion}
@@ -38,26 +37,24 @@ use Rattle.hba_driver.specs.declared.request.SubmitError.TheVariants as refusal
 use Rattle.hba_driver.specs.declared.sight.Sight.{Sight}
 use Rattle.hba_driver.specs.declared.slot.Phase.{Phase}
 use Rattle.hba_driver.specs.declared.slot.Phase.TheVariants.{Waits, Issued, Aside, Ended}
-use Rattle.hba_driver.specs.declared.turn.Act.{Act}
-use Rattle.hba_driver.specs.declared.turn.Act.TheVariants as act
 use Rattle.hba_driver.specs.declared.turn.Turn.{Turn}
 use Rattle.hba_driver.specs.Drivers.{Driver, Entry, device_at, entry_at, has_ended, has_ended_in, holds, is_aside, is_aside_in, is_issued, is_issued_in, new_driver, rephase, rephased}
-use Rattle.hba_driver.specs.Effects.{ActsAll, IsRuled, buffer_prd, is_effect, table_of}
-use Rattle.hba_driver.specs.Events.{IsSoundHost, events_of, events_of_effects, events_over, opening_host, shared_by}
+use Rattle.hba_driver.specs.Effects.{buffer_prd, table_of}
+use Rattle.hba_driver.specs.Events.{IsSoundHost, events_of, events_over, opening_host, shared_by}
 use Rattle.hba_driver.specs.HostTurns.{Does, DoesAll, Host, HostTurn, Took, Pushed, Ticked, Submitted, Polled, Put, sight_in}
 use Rattle.hba_driver.specs.Requests.{device_refusal, is_bad_prd}
 use Rattle.hba_driver.specs.Served.{AreBounded, HasCommand, HaveCommands, IsBounded, IsIssueOf, IsServed, RunServes, TurnsServe}
 use Rattle.hba_driver.specs.Sights.{file_shown, sight_of}
-use Rattle.hba_driver.specs.Submits.{after_poll, after_submit, end_of, lowest_ended, new_entry, new_head, next_slot, submit_refusal}
-use Rattle.hba_driver.specs.Ticks.{acted, after_tick, done_ended, due, effects, effects_due, is_done, seen, turn}
-use Rattle.hba_driver.proofs.ApartLemmas.{issues_apart, kept_device, kept_one, puts_spare}
+use Rattle.hba_driver.specs.Submits.{after_submit, end_of, lowest_ended, new_entry, next_slot, submit_refusal}
+use Rattle.hba_driver.specs.Ticks.{after_tick, done_ended, is_done, seen, turn}
+use Rattle.hba_driver.proofs.ApartLemmas.{issues_apart, kept_device, puts_spare}
 use Rattle.hba_driver.proofs.DoneLemmas.{free_slot}
 use Rattle.hba_driver.proofs.DrivenLemmas.{not_below, turn_opens}
-use Rattle.hba_driver.proofs.DueLemmas.{Due, due_turn, goes_turn}
+use Rattle.hba_driver.proofs.DueLemmas.{goes_turn}
 use Rattle.hba_driver.proofs.EventLemmas.{beside, beside_area, beside_same, does_store, sound_beside}
 use Rattle.hba_driver.proofs.EndingLemmas.{MayEnd, each_act, may_end}
 use Rattle.hba_driver.proofs.HistoryLemmas.{PollFacts, back_of, free_below, free_other, freed, poll_facts}
-use Rattle.hba_driver.proofs.IssueLemmas.{Rest, calm_event, command_stays, rest_none, rest_then, spares_by, told_at}
+use Rattle.hba_driver.proofs.IssueLemmas.{calm_event, command_stays, rest_none, rest_then, spares_by, told_at}
 use Rattle.hba_driver.proofs.IssuingLemmas.{From}
 use Rattle.hba_driver.proofs.LifeLemmas.{due_seen, entry_of_rephased, keeps_seen, slots_seen, unaside_stays}
 use Rattle.hba_driver.proofs.RequestLemmas.{set_cases}

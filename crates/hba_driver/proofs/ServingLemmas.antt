@@ -1,13 +1,11 @@
 -- What each effect of a tick leaves of it that all that is issued is the driver's.
-use Rattle.std.proofs.Common.{◌≡◌, ◌≢◌, ℕ, ◌+◌, ◌*◌, ◌^◌, ◌<◌, ◌≤◌, ◌⊎◌, Bool, true, false, cond, eqb, ◌&&◌, List, [], ◌∷◌, ◌++◌, length, replicate, refl, sym, ◌∙◌, ap, subst, inl, inr, arith, append_assoc, Option, Some, None}
-use Rattle.std.specs.Prelude.{MatchOption, if◌then◌else◌, is_some, not}
-use Rattle.std.specs.List.{list_all}
-use Rattle.std.proofs.lemmas.Bool.{cases_Bool, cases_eq, cases_lt, eq-eqb, false≢true, true≢false}
+use Rattle.std.proofs.Common.{◌≡◌, ◌≢◌, ℕ, ◌+◌, ◌*◌, ◌^◌, ◌<◌, Bool, true, false, cond, List, [], ◌∷◌, ◌++◌, length, replicate, refl, sym, ◌∙◌, ap, subst, inl, inr, arith, append_assoc, Option, Some, None}
+use Rattle.std.specs.Prelude.{MatchOption, is_some}
+use Rattle.std.proofs.lemmas.Bool.{cases_lt, eq-eqb, true≢false}
 use Rattle.std.proofs.lemmas.List.{length-replicate}
 use Rattle.host_memory.specs.Memory.{IsHostMemory, Memory}
-use Rattle.host_memory.specs.Reading.{AgreeFrom, LieApart}
+use Rattle.host_memory.specs.Reading.{LieApart}
 use Rattle.host_memory.specs.declared.table.Prd.{Prd}
-use Rattle.hba_commands.specs.declared.command.Command.{Command}
 use Rattle.hba_commands.specs.Headers.{header_place}
 use Rattle.slots.specs.Slots.{Issue, issue_at, match_some}
 use Rattle.fis_view.specs.declared.build.H2dFields.{H2dFields}
@@ -22,7 +20,7 @@ use Rattle.hba_fbs.specs.Views.{Port}
 use Rattle.hba_fbs.specs.Writing.{Accepts, cleared_by, commands_after, write_refusal}
 use Rattle.hba_laws.specs.Client.{By, IsKept, Stops, Touches, own}
 use Rattle.hba_laws.specs.Delivering.{SparesTables, touched, touched_by_clear, touched_by_write}
-use Rattle.hba_laws.specs.History.{Emptied, Event, Transfer, issued}
+use Rattle.hba_laws.specs.History.{Emptied, Transfer, issued}
 use Rattle.hba_laws.specs.Hosts as event
 use Rattle.hba_laws.specs.Hosts.{HostEvent}
 use Rattle.hba_laws.specs.Sound as sound
@@ -32,16 +30,15 @@ use Rattle.hba_driver.specs.declared.effect.Effect.{Effect}
 use Rattle.hba_driver.specs.declared.effect.Effect.TheVariants as effect
 use Rattle.hba_driver.specs.declared.path.Path.{Path}
 use Rattle.hba_driver.specs.Drivers.{Driver, Entry, IsPath, entry_at, is_issued, rephased}
-use Rattle.hba_driver.specs.Effects.{Acts, ActsAll, IsRuled, Tries, is_effect, prds_with, table_of}
-use Rattle.hba_driver.specs.Events.{events_of_effect, events_of_effects, wrote_to}
-use Rattle.hba_driver.specs.Laws.{Stands}
+use Rattle.hba_driver.specs.Effects.{Acts, Tries, is_effect, prds_with, table_of}
+use Rattle.hba_driver.specs.Events.{events_of_effect, wrote_to}
 use Rattle.hba_driver.specs.Orders.{request_fields}
 use Rattle.hba_driver.specs.Served.{AreBounded, HasCommand, HaveCommands, IsBounded, IsServed}
 use Rattle.hba_driver.proofs.DrivenLemmas.{refusal_is}
 use Rattle.hba_driver.proofs.EventLemmas.{beside, beside_area, beside_same, does_store}
 use Rattle.hba_driver.proofs.IssueLemmas.{Rest, calm_event, command_stays, rest_then, spares_by, told_of}
 use Rattle.hba_driver.proofs.IssuingLemmas.{From, MayIssue, Standing, ci_served, kept_below}
-use Rattle.hba_driver.proofs.StandLemmas.{IsArea, Same, few_prds, header_area, in_slots, late, lt_of, same_act, same_beside, same_written, table_area}
+use Rattle.hba_driver.proofs.StandLemmas.{Same, few_prds, header_area, in_slots, late, lt_of, same_act, same_beside, same_written, table_area}
 
 -- ---- the driver goes on
 

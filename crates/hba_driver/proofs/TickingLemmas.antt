@@ -1,25 +1,23 @@
 -- A tick leaves it so that all that is issued is the driver's.
-use Rattle.std.proofs.Common.{◌≡◌, ◌≢◌, ℕ, ◌+◌, ◌*◌, ◌^◌, ◌<◌, ◌≤◌, ◌⊎◌, Bool, true, false, ◌&&◌, List, [], ◌∷◌, ◌++◌, length, set, refl, sym, ◌∙◌, ap, subst, inl, inr, arith, Option, Some, None}
+use Rattle.std.proofs.Common.{◌≡◌, ◌≢◌, ℕ, ◌+◌, ◌*◌, ◌^◌, ◌<◌, ◌⊎◌, Bool, true, false, ◌&&◌, List, [], ◌∷◌, ◌++◌, length, set, refl, sym, ◌∙◌, ap, subst, inl, inr, arith, Option, Some, None}
 use Rattle.std.specs.Prelude.{MatchOption, if◌then◌else◌, not, ◌%◌, ◌==◌}
 use Rattle.std.specs.List.{list_all}
 use Rattle.std.specs.Option.{option_map}
-use Rattle.std.proofs.lemmas.Bool.{cases_Bool, cases_eq, false≢true, ne_eqb, true≢false}
+use Rattle.std.proofs.lemmas.Bool.{cases_eq, false≢true, ne_eqb, true≢false}
 use Rattle.std.proofs.lemmas.List.{get_or-set_other, get_or-set_same, length-set}
 use Rattle.fis_view.specs.declared.build.H2dFields.{H2dFields}
 use Rattle.host_memory.specs.Memory.{IsHostMemory, Memory}
 use Rattle.host_memory.specs.declared.table.Prd.{Prd}
 use Rattle.hba_commands.specs.Requests.{request_of, work_of}
-use Rattle.slots.specs.Slots.{has_bit, match_some}
+use Rattle.slots.specs.Slots.{match_some}
 use Rattle.slots.specs.Work as moved
 use Rattle.slots.specs.declared.work.Work as slot_work
 use Rattle.hba_fbs.specs.declared.register.Register.{Register}
 use Rattle.hba_fbs.specs.Offsets.{register_at}
 use Rattle.hba_fbs.specs.Views.{Port}
-use Rattle.hba_laws.specs.Client.{Touches, own}
-use Rattle.hba_laws.specs.History.{Transfer, issued}
+use Rattle.hba_laws.specs.History.{Transfer}
 use Rattle.hba_laws.specs.Hosts as event
 use Rattle.hba_laws.specs.Hosts.{HostEvent}
-use Rattle.hba_laws.specs.Sound as sound
 use Rattle.hba_laws.proofs.StandLemmas.{some_inj}
 use Rattle.hba_driver.specs.declared.effect.Effect.{Effect}
 use Rattle.hba_driver.specs.declared.effect.Effect.TheVariants as effect
@@ -30,7 +28,6 @@ use Rattle.hba_driver.specs.declared.path.Stage.{Stage}
 use Rattle.hba_driver.specs.declared.path.Stage.TheVariants.{Identify, ReadLog, AssertReset, ReleaseReset}
 use Rattle.hba_driver.specs.declared.path.Stage.TheVariants as stage
 use Rattle.hba_driver.specs.declared.path.TaskFile.{TaskFile}
-use Rattle.hba_driver.specs.declared.plan.Plan.{Plan}
 use Rattle.hba_driver.specs.declared.sight.Sight.{Sight}
 use Rattle.hba_driver.specs.declared.request.Outcome.TheVariants.{Aborted, Removed}
 use Rattle.hba_driver.specs.declared.request.Work.{Work}
@@ -41,11 +38,10 @@ use Rattle.hba_driver.specs.declared.slot.Phase.TheVariants.{Waits, Issued, Asid
 use Rattle.hba_driver.specs.declared.turn.Act.{Act}
 use Rattle.hba_driver.specs.declared.turn.Act.TheVariants as act
 use Rattle.hba_driver.specs.Drivers.{Driver, Entry, IsPath, entry_at, is_issued, is_issued_in, is_read, rephase, rephase_all, rephased, waits, waits_in}
-use Rattle.hba_driver.specs.Effects.{ActsAll, IsRuled, buffer_prd, effects_of, is_effect, issuing, opening_write, opening_writes, order_effects, prds_with, restart_write, restart_writes, sending, stage_effects, table_of}
+use Rattle.hba_driver.specs.Effects.{ActsAll, IsRuled, effects_of, is_effect, issuing, opening_write, opening_writes, order_effects, prds_with, restart_write, restart_writes, sending, stage_effects}
 use Rattle.hba_driver.specs.Events.{events_of_effect, events_of_effects}
 use Rattle.hba_driver.specs.Orders.{control_port, order_fields, request_fields, work_fields}
 use Rattle.hba_driver.specs.Paths.{reads_page, stage_fields}
-use Rattle.hba_driver.specs.Served.{IsServed}
 use Rattle.hba_driver.specs.Sights.{px_ci, px_fbs, px_sact, px_sntf}
 use Rattle.hba_driver.specs.Ticks.{acted, effects_due, entries_after, is_aside_of, is_open_of, plan_after, plan_without, removed, stage_ended, unless}
 use Rattle.hba_driver.proofs.DrivenLemmas.{en_chosen, place_effect}

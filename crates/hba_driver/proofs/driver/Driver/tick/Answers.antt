@@ -1,4 +1,4 @@
-use Rattle.std.proofs.Common.{◌≡◌, ap, sym, ◌∙◌, Option, None}
+use Rattle.std.proofs.Common.{ap, sym, ◌∙◌, Option}
 use Rattle.hba_driver.specs.declared.turn.Act.{Act}
 use Rattle.hba_driver.specs.Ticks.{acted}
 use Rattle.hba_driver.proofs.EffectLemmas.{none_acts}
