@@ -2,6 +2,8 @@
 
 mod blocked;
 mod echo;
+mod found;
+mod going;
 mod memory;
 mod parts;
 mod reading;
