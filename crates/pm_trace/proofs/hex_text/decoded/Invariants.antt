@@ -1,7 +1,7 @@
 use Rattle.std.proofs.Common.{length}
 use Rattle.pm_trace.specs.Text.{without_blanks}
 use Rattle.pm_trace.proofs.HexTextLemmas.{SpellsOn}
-use Rattle.pm_trace.proofs.hex_text.bytes_of.Given as goal
+use Rattle.pm_trace.proofs.hex_text.decoded.Given as goal
 
 -- what is decoded, and then what the rest spells, is what the text spells
 abbrev pub invariant-pairs : goal.invariant-pairs

@@ -1,7 +1,7 @@
 use Rattle.std.proofs.Common.{◌≡◌, ◌∷◌, [], refl, sym, ◌∙◌}
 use Rattle.pm_trace.specs.Text.{without_blanks}
 use Rattle.pm_trace.proofs.HexTextLemmas.{nothing_read, next_pair, pair_refused, half_left, all_read}
-use Rattle.pm_trace.proofs.hex_text.bytes_of.Goals as goal
+use Rattle.pm_trace.proofs.hex_text.decoded.Goals as goal
 
 pub pairs-init : goal.pairs-init
 pairs-init c = nothing_read _ _ c.in_ok-bytes.ensures.items
