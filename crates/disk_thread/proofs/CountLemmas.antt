@@ -1,5 +1,5 @@
 -- The order of what a device gives, and the connection and number that come next.
-use Rattle.std.proofs.Common.{◌≡◌, ℕ, ◌+◌, List, [], ◌∷◌, ◌++◌, refl, subst, arith}
+use Rattle.std.proofs.Common.{◌≡◌, ℕ, ◌+◌, List, [], ◌∷◌, ◌++◌, subst, arith}
 use Rattle.fis_view.specs.Frames.{Stamped}
 use Rattle.link_items.specs.Beginnings.{device_starts}
 use Rattle.link_items.specs.OrderLaws.{IsAt}

@@ -1,13 +1,12 @@
 -- One deed more of a device.
-use Rattle.std.proofs.Common.{◌≡◌, ℕ, ◌+◌, Bool, true, false, List, [], ◌∷◌, ◌++◌, append_assoc, append-nil, refl, sym, ap, ◌∙◌, subst}
-use Rattle.std.specs.Prelude.{◌&&◌, ◌==◌, if◌then◌else◌, Option, Some, None}
+use Rattle.std.proofs.Common.{◌≡◌, ℕ, ◌+◌, true, false, List, [], ◌∷◌, ◌++◌, append_assoc, append-nil, refl, sym, ap, ◌∙◌, subst}
+use Rattle.std.specs.Prelude.{◌==◌, if◌then◌else◌, Option, Some, None}
 use Rattle.std.specs.List.{flat_map}
 use Rattle.std.specs.Option.{option_to_list}
 use Rattle.std.proofs.lemmas.Grind.{flat_map-append}
 use Rattle.std.proofs.lemmas.List.Concat.{flat_map-cons}
 use Rattle.fis_view.specs.Frames.{Stamped}
-use Rattle.disk_model.specs.Histories.{Happening, Received, Sent, Plugged, Plan, GoesOn, SendsNext}
-use Rattle.link_items.specs.declared.items.Presence.{Presence}
+use Rattle.disk_model.specs.Histories.{Happening, Received, Plugged, Plan, GoesOn, SendsNext}
 use Rattle.link_items.specs.declared.items.Presence.TheVariants.{Came, Gone}
 use Rattle.disk_thread.specs.Deeds.{Deed, plugged_in, pulled_out, took, gave, Standing, never_plugged, after_deed, hears, happens, MayBeDone, taken_by, given_by, told_by, after_deeds, history_of, MayAllBeDone}
 use Rattle.disk_thread.specs.Runs.{StationState, all_given, all_told, IsRun}
