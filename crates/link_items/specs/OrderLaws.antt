@@ -2,7 +2,7 @@
 use Rattle.std.specs.Prelude.{◌≡◌, ◌↔◌, ℕ, ◌+◌, ◌<◌, ◌≤◌, List, [], ◌∷◌, ◌++◌, length, map, slice_index, All}
 use Rattle.std.specs.List.{range_with_len}
 use Rattle.fis_view.specs.Frames.{Stamped}
-use Rattle.pm_threads.specs.Orders.{of_connection, of_port, control_port, IsNextOfDevice, InDeviceOrder, NoneAbove, IsNextAtHost, InStampedOrder}
+use Rattle.multiplier.specs.Orders.{of_connection, of_port, control_port, IsNextOfDevice, InDeviceOrder, IsNextAtHost, InStampedOrder, IsWithin}
 
 -- ---- a device
 
@@ -35,11 +35,6 @@ abbrev pub HostGoesOn : Type 0
 HostGoesOn = (fises : List Stamped) (f : Stamped)
     → InStampedOrder (fises ++ f ∷ [])
     ↔ (InStampedOrder fises × (f.stamp.port < control_port → IsNextAtHost fises f))
-
--- Bounds for port n: no FIS is of a later connection than conn, and no removal of a later one than gone is shown.
-pub record IsWithin (fises : List Stamped) (n conn gone : ℕ) : Type 0 where
-  pub highest : NoneAbove n conn fises
-  pub shown : All (λ g. g.stamp.port ≡ control_port → slice_index g.stamp.shown n ≤ gone) fises
 
 -- Two such bounds for each port tell which FIS may come next, but for its number, and go on with each FIS.
 pub record HostBounds : Type 0 where

@@ -1,6 +1,6 @@
 //! What may come next on a link.
 
-ghost use Rattle.pm_threads.specs.OrderLaws.{DeviceCounts, DeviceGoesOn, DeviceNumbers, HostBounds, HostGoesOn, HostNumbers};
+ghost use Rattle.link_items.specs.OrderLaws.{DeviceCounts, DeviceGoesOn, DeviceNumbers, HostBounds, HostGoesOn, HostNumbers};
 
 /// A law of the orders alone. One FIS more is in order exactly where it may follow the others. A device's connection and
 /// the number of its next FIS tell what it may send, and two bounds for each port what may go to the host. The numbers of

@@ -18,8 +18,8 @@ impl Model for FromDevice {
 }
 
 impl Item for FromDevice {
-    ghost use Rattle.pm_threads.specs.Orders.{InDeviceOrder};
-    ghost use Rattle.pm_threads.specs.Beginnings.{device_starts, device_prefixes};
+    ghost use Rattle.multiplier.specs.Orders.{InDeviceOrder};
+    ghost use Rattle.link_items.specs.Beginnings.{device_starts, device_prefixes};
 
     ghost in_order = { InDeviceOrder };
 
@@ -41,8 +41,8 @@ impl Model for ToHost {
 }
 
 impl Item for ToHost {
-    ghost use Rattle.pm_threads.specs.Orders.{InStampedOrder};
-    ghost use Rattle.pm_threads.specs.Beginnings.{stamped_starts, stamped_prefixes};
+    ghost use Rattle.multiplier.specs.Orders.{InStampedOrder};
+    ghost use Rattle.link_items.specs.Beginnings.{stamped_starts, stamped_prefixes};
 
     ghost in_order = { InStampedOrder };
 
@@ -67,6 +67,25 @@ impl Item for Down {
     ghost use Rattle.std.specs.Prelude.{⊤};
 
     ghost in_order = { λ fises. ⊤ };
+
+    ghost starts = { tt };
+
+    ghost prefixes = { λ front rest h. tt };
+}
+
+/// What a device's port is told: a connection came, or went.
+#[derive(Clone, Copy, Debug, PartialEq, Eq)]
+pub enum Presence {
+    /// The device was plugged in, under this connection.
+    Came(u32),
+    /// The device of this connection was pulled out.
+    Gone(u32),
+}
+
+impl Item for Presence {
+    ghost use Rattle.std.specs.Prelude.{⊤};
+
+    ghost in_order = { λ changes. ⊤ };
 
     ghost starts = { tt };
 

@@ -2,7 +2,7 @@
 use Rattle.std.specs.Prelude.{◌≡◌, List, [], ◌∷◌, ◌++◌, length}
 use Rattle.std.proofs.Common.{ap, sym, ◌∙◌, append_assoc, length-append, arith}
 use Rattle.fis_view.specs.Frames.{Stamped}
-use Rattle.pm_threads.specs.Orders.{InDeviceOrder, InStampedOrder}
+use Rattle.multiplier.specs.Orders.{InDeviceOrder, InStampedOrder}
 
 -- a list with an element is not empty
 pub some_element : {A : Type 0} (before rest : List A) (x : A) → before ++ x ∷ rest ≡ [] → ⊥

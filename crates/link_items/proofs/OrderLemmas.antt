@@ -5,9 +5,9 @@ use Rattle.std.specs.List.{range_with_len}
 use Rattle.std.proofs.lemmas.List.Elements.{filter-append, All-append, All-nil, All-cons}
 use Rattle.std.proofs.lemmas.Bool.{eq-eqb, eqb-true, ne_eqb, and_parts}
 use Rattle.fis_view.specs.Frames.{Stamped}
-use Rattle.pm_threads.specs.Orders.{of_connection, of_port, control_port, IsNextOfDevice, InDeviceOrder, IsNextAtHost, InStampedOrder}
-use Rattle.pm_threads.specs.Beginnings.{some_element, device_starts, device_prefixes, stamped_starts, stamped_prefixes}
-use Rattle.pm_threads.specs.OrderLaws.{DeviceGoesOn, DeviceCounts, DeviceNumbers, HostGoesOn, HostBounds, HostNumbers}
+use Rattle.multiplier.specs.Orders.{of_connection, of_port, control_port, IsNextOfDevice, InDeviceOrder, IsNextAtHost, InStampedOrder}
+use Rattle.link_items.specs.Beginnings.{some_element, device_starts, device_prefixes, stamped_starts, stamped_prefixes}
+use Rattle.link_items.specs.OrderLaws.{DeviceGoesOn, DeviceCounts, DeviceNumbers, HostGoesOn, HostBounds, HostNumbers}
 
 -- where an element of a list that is one longer stands: at the end, or before it
 stands : {A : Type 0} (before rest xs : List A) (x y : A) → before ++ y ∷ rest ≡ xs ++ x ∷ []

@@ -1,5 +1,5 @@
-use Rattle.pm_threads.proofs.OrderLemmas.{device_goes_on, device_counts, device_numbers, host_goes_on, host_bounds, host_numbers}
-use Rattle.pm_threads.proofs.orders.order_goes_on.Goals as goal
+use Rattle.link_items.proofs.OrderLemmas.{device_goes_on, device_counts, device_numbers, host_goes_on, host_bounds, host_numbers}
+use Rattle.link_items.proofs.orders.order_goes_on.Goals as goal
 
 pub returns-clause-device : goal.returns-clause-device
 returns-clause-device c = device_goes_on
