@@ -1,20 +1,19 @@
 -- More calls after others.
-use Rattle.std.proofs.Common.{◌≡◌, ◌==◌, ◌≤◌, ◌<◌, ℕ, zero, suc, Bool, true, false, List, [], ◌∷◌, ◌++◌, length, map, Option, Some, None, Result, Ok, Err, refl, sym, ap, ◌∙◌, subst, append_assoc, append-nil, arith}
+use Rattle.std.proofs.Common.{◌≡◌, ◌==◌, ◌≤◌, ℕ, zero, suc, Bool, true, false, List, [], ◌∷◌, ◌++◌, length, map, None, refl, sym, ap, ◌∙◌, subst, arith}
 use Rattle.std.specs.Prelude.{if◌then◌else◌, replicate, slice_index_or}
-use Rattle.std.specs.List.{flat_map}
 use Rattle.std.specs.Option.{option_to_list}
 use Rattle.std.proofs.lemmas.Grind.{flat_map-append}
 use Rattle.std.proofs.lemmas.List.{map-append}
 use Rattle.std.proofs.lemmas.List.Elements.{filter-append}
 use Rattle.fis_view.specs.Frames.{Stamped}
 use Rattle.pm_ports.specs.Port as port
-use Rattle.multiplier.specs.Orders.{InDeviceOrder, InStampedOrder}
+use Rattle.multiplier.specs.Orders.{InDeviceOrder}
 use Rattle.multiplier.specs.State.{PmState, IsSound as IsSoundPm, opening, port_at}
 use Rattle.multiplier.specs.Passing.{Call, DoesAll, Past, all_past, past_after, to_port}
 use Rattle.multiplier.specs.Stamping.{taken_by, taken_of, IsStamped}
 use Rattle.multiplier.proofs.Sound.{opens_sound}
 use Rattle.multiplier.proofs.StampLemmas.{begins_stamped, goes_up_stamped}
-use Rattle.pm_thread.specs.Runs.{PmView, IsRun, IsSound, frames_at, presence_at, commands_at, told_by, told_of, heard_by, heard_of, none_past}
+use Rattle.pm_thread.specs.Runs.{PmView, IsSound, frames_at, presence_at, commands_at, told_by, told_of, heard_by, heard_of, none_past}
 
 pub does_more : (past : Past) (old mid new : PmState) (calls more : List Call) → DoesAll past old calls mid → DoesAll (all_past past calls) mid more new → DoesAll past old (calls ++ more) new
 does_more past old mid new [] more all rest = subst (λ (pm : PmState). DoesAll past pm more new) all rest

@@ -2,12 +2,10 @@
 use Rattle.std.proofs.Common.{◌≡◌, ◌==◌, ◌≤◌, ◌<◌, ℕ, Bool, true, false, List, [], ◌∷◌, ◌++◌, length, Option, Some, None, Result, Ok, Err, refl, sym, ap, ◌∙◌, subst, append-nil, arith}
 use Rattle.std.specs.Prelude.{All, if◌then◌else◌, is_some, slice_index_or, slice_set}
 use Rattle.std.specs.Option.{option_to_list}
-use Rattle.std.specs.declared.alloc.AllocError.{AllocError}
 use Rattle.std.proofs.lemmas.List.{length-set}
 use Rattle.std.proofs.lemmas.Grind.{flat_map-append}
 use Rattle.ruled_links.specs.Links.{Seat}
 use Rattle.fis_view.specs.Frames.{Stamped}
-use Rattle.link_items.specs.declared.items.Presence.{Presence}
 use Rattle.link_items.specs.declared.items.Presence.TheVariants as presence
 use Rattle.pm_ports.specs.declared.port.GoneError.{GoneError}
 use Rattle.pm_ports.specs.declared.port.PortError.{PortError}
@@ -15,12 +13,11 @@ use Rattle.pm_ports.specs.declared.port.Offered.{Offered}
 use Rattle.multiplier.specs.Orders.{InDeviceOrder, InStampedOrder}
 use Rattle.multiplier.specs.State.{PmState, is_notice, opening, port_at}
 use Rattle.multiplier.specs.Rules.{CameRule, CanPutBackDown, CanPutBackUp, FromDeviceRule, FromHostRule, GoneRule, KeepsPorts, NextDownRule, NextUpRule, UndoesDown, UndoesUp}
-use Rattle.multiplier.specs.Passing.{Call, FromHost, FromDevice, Came, Gone, NextUp, PutBackUp, NextDown, PutBackDown, DoesAll, EndsWith, Past, Suits, all_past, but_last, lost_from, made_by, past_after, to_port}
+use Rattle.multiplier.specs.Passing.{Call, FromHost, FromDevice, Came, Gone, NextUp, PutBackUp, NextDown, PutBackDown, DoesAll, EndsWith, Past, all_past, lost_from, made_by, to_port}
 use Rattle.multiplier.specs.Stamping.{taken_by, taken_of}
 use Rattle.multiplier.specs.declared.multiplier.Passed.{Passed}
-use Rattle.multiplier.specs.declared.multiplier.PmRefusal.{PmRefusal}
 use Rattle.multiplier.proofs.PassingLemmas.{last_gone}
-use Rattle.pm_thread.specs.Runs.{PmView, PortSeats, IsRun, IsSound, IsUnused, frames_at, presence_at, commands_at, told_of, heard_of, none_past}
+use Rattle.pm_thread.specs.Runs.{PmView, PortSeats, IsSound, IsUnused, frames_at, presence_at, commands_at, heard_of, none_past}
 use Rattle.pm_thread.proofs.Seats.{at_kept, at_more, each_at, none_at}
 use Rattle.pm_thread.proofs.Calls.{down_more, does_more, past_more, sound_more, stamped_run}
 

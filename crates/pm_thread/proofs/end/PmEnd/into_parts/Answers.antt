@@ -1,6 +1,5 @@
-use Rattle.std.proofs.Common.{rules, ◌≡◌, ◌∙◌, sym, subst}
-use Rattle.pm_thread.specs.Passing.{Passes}
-use Rattle.pm_thread.specs.Runs.{PmView, IsSound}
+use Rattle.std.proofs.Common.{◌∙◌, subst}
+use Rattle.pm_thread.specs.Runs.{IsSound}
 use Rattle.pm_thread.proofs.Passes.{passes}
 use Rattle.pm_thread.proofs.end.PmEnd.into_parts.Goals as goal
 

@@ -1,5 +1,5 @@
-use Rattle.std.proofs.Common.{rules, ◌≡◌, ◌∷◌, [], ◌++◌, Ok, Some, refl, sym, ap, ◌∙◌, subst}
-use Rattle.multiplier.specs.Rules.{CanPutBackUp, KeepsPorts, NextUpRule, UndoesUp}
+use Rattle.std.proofs.Common.{rules, ◌≡◌, ◌∷◌, [], ◌++◌, Ok, Some, ◌∙◌, subst}
+use Rattle.multiplier.specs.Rules.{CanPutBackUp, NextUpRule, UndoesUp}
 use Rattle.pm_thread.proofs.Steps.{may_send, sends_up, keeps_up}
 use Rattle.pm_thread.proofs.worker.PmWorker.pass_up.Goals as goal
 
