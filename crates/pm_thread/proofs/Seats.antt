@@ -3,8 +3,8 @@ use Rattle.std.proofs.Common.{◌≡◌, ◌≢◌, ◌==◌, ◌<◌, ℕ, zero
 use Rattle.std.specs.Prelude.{All, if◌then◌else◌, slice_index_or, slice_set}
 use Rattle.std.proofs.Math.Seq.{map-set_same}
 use Rattle.std.proofs.lemmas.Bool.{cases_eq, eq-eqb, ne_eqb}
-use Rattle.std.proofs.lemmas.List.Elements.{All-tail}
-use Rattle.pm_thread.specs.Runs.{PmView, PortSeats, SameLinks, ends_of, at_port}
+use Rattle.std.proofs.lemmas.List.Elements.{All-cons, All-nil, All-tail}
+use Rattle.pm_thread.specs.Runs.{PmView, PortSeats, IsUnused, SameLinks, ends_of, at_port}
 
 module _ {A : Type 0} (part : PortSeats → List A) where
   -- a port that takes the place of one with the same part
@@ -63,3 +63,7 @@ same_links old new i q d set same host commands = record {
   host = ap (λ s. record { link = s.link; room = s.room }) host;
   commands = ap (λ s. record { link = s.link; room = s.room }) commands;
 }
+
+-- one port that nothing went over
+pub one_unused : (p : PortSeats) → p.commands.sent ≡ [] → p.frames.taken ≡ [] → p.presence.taken ≡ [] → All IsUnused (p ∷ [])
+one_unused p commands frames presence = All-cons IsUnused p [] (record { commands = commands; frames = frames; presence = presence }) (All-nil IsUnused)

@@ -16,3 +16,6 @@ mod worker;
 pub use end::PmEnd;
 pub use port::PmPort;
 pub use worker::PmWorker;
+
+#[cfg(test)]
+mod tests;
