@@ -326,14 +326,14 @@ all_over n c old [] (a ∷ answers) new orderly run device gone left = absurd ru
 all_over n c old (s ∷ steps) [] new orderly run device gone left = absurd run
 
 -- a run in two parts, by its answers
-record Parts (old : Places) (steps : List Step) (first later : List Answer) (new : Places) : Type 0 where
-  before : List Step
-  after : List Step
-  mid : Places
-  begins : Run old before first mid
-  goes_on : Run mid after later new
+pub record Parts (old : Places) (steps : List Step) (first later : List Answer) (new : Places) : Type 0 where
+  pub before : List Step
+  pub after : List Step
+  pub mid : Places
+  pub begins : Run old before first mid
+  pub goes_on : Run mid after later new
 
-in_parts : (first later : List Answer) (old : Places) (steps : List Step) (new : Places) → Run old steps (first ++ later) new → Parts old steps first later new
+pub in_parts : (first later : List Answer) (old : Places) (steps : List Step) (new : Places) → Run old steps (first ++ later) new → Parts old steps first later new
 in_parts [] later old steps new run = record { before = []; after = steps; mid = old; begins = refl; goes_on = run }
 in_parts (a ∷ first) later old (s ∷ steps) new run =
     let rest = in_parts first later run.0 steps new run.2 in

@@ -4,6 +4,7 @@ pub mod Orderly
 pub mod Moves
 pub mod Law
 pub mod Openings
+pub mod Recorded
 pub mod Prefix
 pub mod FallMoves
 pub mod Falls

@@ -52,7 +52,7 @@ pub record IsRoomy (pm : PmState) : Type 0 where
   pub knows : (n : ℕ) → KnowsItsConnections (port_at pm n)
 
 -- what a port knows of connections
-abbrev known : PortState → Option ℕ × ℕ × ℕ
+abbrev pub known : PortState → Option ℕ × ℕ × ℕ
 known p = (p.present, p.last, p.gone)
 
 knows_as : (p q : PortState) → known p ≡ known q → KnowsItsConnections q → KnowsItsConnections p
@@ -69,7 +69,7 @@ knows_as p q e is =
     }
 
 -- as many ports, which know the same
-abbrev LikePorts : PmState → PmState → Type 0
+abbrev pub LikePorts : PmState → PmState → Type 0
 LikePorts old new = (length new.ports ≡ length old.ports) × ((n : ℕ) → known (port_at new n) ≡ known (port_at old n))
 
 same_ports : (old new : PmState) → new.ports ≡ old.ports → LikePorts old new
@@ -79,15 +79,19 @@ same_ports old new e = (ap length e, λ n. ap (λ all. known (ports.at all n)) e
 abbrev pub Grows : PmState → PmState → Type 0
 Grows old new = (n : ℕ) → (port_at old n).gone ≤ (port_at new n).gone
 
--- the multiplier after a step: it is as the world asks, and forgot no removal
-abbrev Leads : PmState → PmState → Type 0
-Leads old new = IsRoomy new × Grows old new
+-- the multiplier after a step: it is as the world asks, and its ports know what they knew
+abbrev pub Leads : PmState → PmState → Type 0
+Leads old new = IsRoomy new × LikePorts old new
+
+-- or they know more removals
+abbrev pub Grown : PmState → PmState → Type 0
+Grown old new = IsRoomy new × Grows old new
 
 never_less : (a b : ℕ) → b ≡ a → a ≤ b
 never_less a b e = omega (arith, e)
 
-grows_as : (old new : PmState) → LikePorts old new → Grows old new
-grows_as old new like n = never_less (port_at old n).gone (port_at new n).gone (ap (λ (t : Option ℕ × ℕ × ℕ). t.2) (like.1 n))
+grown : (old new : PmState) → Leads old new → Grown old new
+grown old new is = (is.0, λ n. never_less (port_at old n).gone (port_at new n).gone (ap (λ (t : Option ℕ × ℕ × ℕ). t.2) (is.1.1 n)))
 
 -- where nothing waits as the answer of the control port, or what waited before
 same_answer : (old new : PmState) → LikePorts old new → new.answer ≡ old.answer → IsRoomy old → Leads old new
@@ -97,7 +101,7 @@ same_answer old new like same is = (
     answer = λ frame e. is.answer frame (sym same ∙ e);
     knows = λ n. knows_as (port_at new n) (port_at old n) (like.1 n) (is.knows n);
   },
-  grows_as old new like,
+  like,
 )
 
 no_answer : (old new : PmState) → LikePorts old new → new.answer ≡ None → IsRoomy old → Leads old new
@@ -107,14 +111,14 @@ no_answer old new like none is = (
     answer = λ frame e. let wrong : None ≡ Some frame = sym none ∙ e in absurd (cc);
     knows = λ n. knows_as (port_at new n) (port_at old n) (like.1 n) (is.knows n);
   },
-  grows_as old new like,
+  like,
 )
 
 ports_as : (old new : PmState) (n : ℕ) (p : PortState) → new.ports ≡ slice_set old.ports n p → known p ≡ known (port_at old n) → LikePorts old new
 ports_as old new n p e same = (ap length e ∙ length-set old.ports n p, λ m. ap (λ all. known (ports.at all m)) e ∙ ports.kept_part known old.ports n p same m)
 
 same_leads : (pm : PmState) → IsRoomy pm → Leads pm pm
-same_leads pm is = (is, λ n. never_less (port_at pm n).gone (port_at pm n).gone refl)
+same_leads pm is = (is, (refl, λ n. refl))
 
 equal_roomy : {old new : PmState} → new ≡ old → IsRoomy old → Leads old new
 equal_roomy {old} e is = subst (Leads old) (sym e) (same_leads old is)
@@ -149,10 +153,10 @@ removed_knows p conn there is =
     record { present = λ c e. absurd (cc); last = omega (arith, last) }
 
 -- a change that is read off a presence link
-recorded_roomy : (pm : PmState) (n : ℕ) (c : Change) → IsRoomy pm → Leads pm (recorded pm n c)
+recorded_roomy : (pm : PmState) (n : ℕ) (c : Change) → IsRoomy pm → Grown pm (recorded pm n c)
 recorded_roomy pm n (change.Came conn) is = by_test (is_none (port_came_refusal (port_at pm n) conn)) refl
   where
-    by_test : (b : Bool) → is_none (port_came_refusal (port_at pm n) conn) ≡ b → Leads pm (if b then connected pm n conn else pm)
+    by_test : (b : Bool) → is_none (port_came_refusal (port_at pm n) conn) ≡ b → Grown pm (if b then connected pm n conn else pm)
     by_test true none =
         let above = above_last (is_some (port_at pm n).present) (nat_le conn (port_at pm n).last) none in (
           record {
@@ -162,10 +166,10 @@ recorded_roomy pm n (change.Came conn) is = by_test (is_none (port_came_refusal 
           },
           λ m. never_less (port_at pm m).gone (port_at (connected pm n conn) m).gone (ports.kept_part (λ q. q.gone) pm.ports n (with_connection (port_at pm n) conn) refl m),
         )
-    by_test false none = same_leads pm is
+    by_test false none = grown pm pm (same_leads pm is)
 recorded_roomy pm n (change.Gone conn) is = by_test (is_none (port_gone_refusal (port_at pm n) conn)) refl
   where
-    by_test : (b : Bool) → is_none (port_gone_refusal (port_at pm n) conn) ≡ b → Leads pm (if b then without_device pm n conn else pm)
+    by_test : (b : Bool) → is_none (port_gone_refusal (port_at pm n) conn) ≡ b → Grown pm (if b then without_device pm n conn else pm)
     by_test true none =
         let there = is_there (port_at pm n).present conn none in
         let above : (port_at pm n).gone < conn = ((is.knows n).present conn there).1 in (
@@ -176,14 +180,14 @@ recorded_roomy pm n (change.Gone conn) is = by_test (is_none (port_gone_refusal 
           },
           ports.each_port (λ m q. (port_at pm m).gone ≤ q.gone) pm.ports n (with_removal (port_at pm n) conn) (omega arith) (λ m. never_less (port_at pm m).gone (port_at pm m).gone refl),
         )
-    by_test false none = same_leads pm is
+    by_test false none = grown pm pm (same_leads pm is)
 
-presence_roomy : (n : ℕ) (old : Place) (pm : PmState) (a : Answer) (new : Place) (after : PmState) → PmPresenceRule n old pm (Ok a) new after → IsRoomy pm → Leads pm after
-presence_roomy n old pm answer.Idle new after rule is = equal_roomy rule.2 is
-presence_roomy n old pm (answer.Presence p) new after rule is = subst (Leads pm) (sym rule.2.2) (recorded_roomy pm n rule.2.0 is)
+presence_roomy : (n : ℕ) (old : Place) (pm : PmState) (a : Answer) (new : Place) (after : PmState) → PmPresenceRule n old pm (Ok a) new after → IsRoomy pm → Grown pm after
+presence_roomy n old pm answer.Idle new after rule is = grown pm after (equal_roomy rule.2 is)
+presence_roomy n old pm (answer.Presence p) new after rule is = subst (Grown pm) (sym rule.2.2) (recorded_roomy pm n rule.2.0 is)
 presence_roomy n old pm _ new after rule is = absurd rule
 
-device_roomy : (n : ℕ) (old : Place) (pm : PmState) (a : Answer) (new : Place) (after : PmState) → PmFromDeviceRule n old pm (Ok a) new after → IsRoomy pm → Leads pm after
+pub device_roomy : (n : ℕ) (old : Place) (pm : PmState) (a : Answer) (new : Place) (after : PmState) → PmFromDeviceRule n old pm (Ok a) new after → IsRoomy pm → Leads pm after
 device_roomy n old pm answer.Idle new after rule is = equal_roomy rule.2 is
 device_roomy n old pm answer.Blocked new after rule is = equal_roomy rule.3 is
 device_roomy n old pm (answer.Offered p true) new after rule is = equal_roomy rule.2.2.1 is
@@ -191,7 +195,7 @@ device_roomy n old pm (answer.Offered p false) new after rule is =
     same_answer pm after (ports_as pm after n _ (ap (λ (m : PmState). m.ports) rule.2.2.2) refl) (ap (λ (m : PmState). m.answer) rule.2.2.2) is
 device_roomy n old pm _ new after rule is = absurd rule
 
-down_roomy : (n : ℕ) (old : Place) (pm : PmState) (a : Answer) (new : Place) (after : PmState) → PmDownRule n old pm (Ok a) new after → IsRoomy pm → Leads pm after
+pub down_roomy : (n : ℕ) (old : Place) (pm : PmState) (a : Answer) (new : Place) (after : PmState) → PmDownRule n old pm (Ok a) new after → IsRoomy pm → Leads pm after
 down_roomy n old pm answer.Idle new after rule is = equal_roomy rule.3 is
 down_roomy n old pm answer.Blocked new after rule is = equal_roomy rule.2 is
 down_roomy n old pm (answer.Down p) new after rule is =
@@ -214,13 +218,13 @@ control_roomy pm frame passed.Control after rule is = (
     answer = λ given e. ap (λ (s : Stamp). s.port) (stamped_so (answer_to pm.resetting pm.registers frame.bytes) (control_stamp pm) after.answer rule.1 given e);
     knows = λ n. subst (λ (m : PmState). KnowsItsConnections (port_at m n)) (sym rule.2) (is.knows n);
   },
-  λ n. never_less (port_at pm n).gone (port_at after n).gone (ap (λ (m : PmState). (port_at m n).gone) rule.2),
+  (ap (λ (m : PmState). length m.ports) rule.2, λ n. ap (λ (m : PmState). known (port_at m n)) rule.2),
 )
 control_roomy pm frame _ after rule is = absurd rule
 
 port_roomy : (pm : PmState) (frame : Stamped) (o : Option ℕ) (p : Passed) (after : PmState) → MatchOption o (ToNobody pm (Ok p) after) (λ conn. ToDevice pm (pm_port frame) conn frame (Ok p) after) → IsRoomy pm → Leads pm after
 port_roomy pm frame None passed.Dropped after rule is =
-    subst (Leads pm) (sym rule) (record { room = is.room; answer = is.answer; knows = is.knows }, λ n. never_less (port_at pm n).gone (port_at pm n).gone refl)
+    subst (Leads pm) (sym rule) (record { room = is.room; answer = is.answer; knows = is.knows }, (refl, λ n. refl))
 port_roomy pm frame None _ after rule is = absurd rule
 port_roomy pm frame (Some conn) (passed.Down m) after rule is =
     same_answer pm after (ports_as pm after (pm_port frame) _ (ap (λ (q : PmState). q.ports) rule.2) refl) (ap (λ (q : PmState). q.answer) rule.2) is
@@ -257,13 +261,13 @@ next_roomy : (pm : PmState) (o : Option ℕ) (frame : Stamped) (after : PmState)
 next_roomy pm None frame after rule is = absurd rule
 next_roomy pm (Some place) frame after rule is = gives_roomy pm place frame after rule is
 
-up_roomy : (pm : PmState) (upward : Queue) (a : Answer) (after : PmState) (new : Queue) → PmUpRule pm upward (Ok a) after new → IsRoomy pm → Leads pm after
+pub up_roomy : (pm : PmState) (upward : Queue) (a : Answer) (after : PmState) (new : Queue) → PmUpRule pm upward (Ok a) after new → IsRoomy pm → Leads pm after
 up_roomy pm upward answer.Idle after new rule is = equal_roomy rule.2 is
 up_roomy pm upward answer.Blocked after new rule is = equal_roomy rule.1 is
 up_roomy pm upward (answer.Up n) after new rule is = next_roomy pm (next_place pm) rule.1.0 after rule.1.2 is
 up_roomy pm upward _ after new rule is = absurd rule
 
-heard_roomy : (old : Queue) (pm : PmState) (a : Answer) (new : Queue) (after : PmState) → PmFromHostRule old pm (Ok a) new after → IsRoomy pm → Leads pm after
+pub heard_roomy : (old : Queue) (pm : PmState) (a : Answer) (new : Queue) (after : PmState) → PmFromHostRule old pm (Ok a) new after → IsRoomy pm → Leads pm after
 heard_roomy old pm answer.Idle new after rule is = equal_roomy rule.2 is
 heard_roomy old pm answer.Blocked new after rule is = equal_roomy rule.2 is
 heard_roomy old pm (answer.Passed p) new after rule is = passed_roomy pm rule.0.0 p after rule.0.2 is
@@ -271,7 +275,7 @@ heard_roomy old pm _ new after rule is = absurd rule
 
 -- ---- the world
 
-roomy : {now : Places} → IsOrderly now → IsRoomy now.multiplier
+pub roomy : {now : Places} → IsOrderly now → IsRoomy now.multiplier
 roomy orderly = record { room = orderly.room; answer = orderly.answer; knows = orderly.knows }
 
 -- the world after a step: it is orderly, and no port forgot a removal
@@ -280,7 +284,7 @@ pub record Follows (old new : Places) : Type 0 where
   pub grows : Grows old.multiplier new.multiplier
 
 -- as many devices, and a multiplier with room
-follows_with : (old new : Places) → length new.devices ≡ length old.devices → Leads old.multiplier new.multiplier → IsOrderly old → Follows old new
+follows_with : (old new : Places) → length new.devices ≡ length old.devices → Grown old.multiplier new.multiplier → IsOrderly old → Follows old new
 follows_with old new size leads orderly =
     let most : length old.devices ≤ 15 = orderly.most in
     let is : IsRoomy new.multiplier = leads.0 in
@@ -293,9 +297,9 @@ module _ (old : Places) (n : ℕ) (a : Answer) (new : Places) (orderly : IsOrder
   alone : (R : Place → Outcome → Place → Type 0) → OnDevice old n (Ok a) new R → Follows old new
   alone R rule =
       let at : AtDevice old n (Ok a) new R = at_device old n a new R rule in
-      subst (Follows old) (sym at.new_is) (follows_with old (with_device old n at.after) (length-set old.devices n at.after) (same_leads old.multiplier (roomy orderly)) orderly)
+      subst (Follows old) (sym at.new_is) (follows_with old (with_device old n at.after) (length-set old.devices n at.after) (grown old.multiplier old.multiplier (same_leads old.multiplier (roomy orderly))) orderly)
 
-  both : (R : Place → PmState → Outcome → Place → PmState → Type 0) → ((place : Place) (after : Place) (left : PmState) → R place old.multiplier (Ok a) after left → IsRoomy old.multiplier → Leads old.multiplier left)
+  both : (R : Place → PmState → Outcome → Place → PmState → Type 0) → ((place : Place) (after : Place) (left : PmState) → R place old.multiplier (Ok a) after left → IsRoomy old.multiplier → Grown old.multiplier left)
       → OnDeviceAndMultiplier old n (Ok a) new R → Follows old new
   both R keeps rule =
       let at : AtBoth old n (Ok a) new R = at_both old n a new R rule in
@@ -304,7 +308,7 @@ module _ (old : Places) (n : ℕ) (a : Answer) (new : Places) (orderly : IsOrder
 
 -- a step that leaves devices and multiplier
 aside : (old new left : Places) → new ≡ left → left.devices ≡ old.devices → left.multiplier ≡ old.multiplier → IsOrderly old → Follows old new
-aside old new left e devices same orderly = subst (Follows old) (sym e) (follows_with old left (ap length devices) (equal_roomy same (roomy orderly)) orderly)
+aside old new left e devices same orderly = subst (Follows old) (sym e) (follows_with old left (ap length devices) (grown old.multiplier left.multiplier (equal_roomy same (roomy orderly))) orderly)
 
 follows : (old : Places) (s : Step) (a : Answer) (new : Places) → IsOrderly old → Rule old s (Ok a) new → Follows old new
 follows old (step.Came n) a new orderly rule = alone old n a new orderly (CameRule n) rule
@@ -313,12 +317,12 @@ follows old (step.DiskSend n) a new orderly rule = alone old n a new orderly (Di
 follows old (step.Inject n bytes) a new orderly rule = alone old n a new orderly (InjectRule n bytes) rule
 follows old (step.DiskTake n) a new orderly rule = alone old n a new orderly (DiskTakeRule n) rule
 follows old (step.PmPresence n) a new orderly rule = both old n a new orderly (PmPresenceRule n) (λ place after left. presence_roomy n place old.multiplier a after left) rule
-follows old (step.PmFromDevice n) a new orderly rule = both old n a new orderly (PmFromDeviceRule n) (λ place after left. device_roomy n place old.multiplier a after left) rule
-follows old (step.PmDown n) a new orderly rule = both old n a new orderly (PmDownRule n) (λ place after left. down_roomy n place old.multiplier a after left) rule
+follows old (step.PmFromDevice n) a new orderly rule = both old n a new orderly (PmFromDeviceRule n) (λ place after left r is. grown old.multiplier left (device_roomy n place old.multiplier a after left r is)) rule
+follows old (step.PmDown n) a new orderly rule = both old n a new orderly (PmDownRule n) (λ place after left r is. grown old.multiplier left (down_roomy n place old.multiplier a after left r is)) rule
 follows old step.PmFromHost a new orderly rule =
-    follows_with old new (ap (λ (w : Places). length w.devices) rule.1) (heard_roomy old.downward old.multiplier a new.downward new.multiplier rule.0 (roomy orderly)) orderly
+    follows_with old new (ap (λ (w : Places). length w.devices) rule.1) (grown old.multiplier new.multiplier (heard_roomy old.downward old.multiplier a new.downward new.multiplier rule.0 (roomy orderly))) orderly
 follows old step.PmUp a new orderly rule =
-    follows_with old new (ap (λ (w : Places). length w.devices) rule.1) (up_roomy old.multiplier old.upward a new.multiplier new.upward rule.0 (roomy orderly)) orderly
+    follows_with old new (ap (λ (w : Places). length w.devices) rule.1) (grown old.multiplier new.multiplier (up_roomy old.multiplier old.upward a new.multiplier new.upward rule.0 (roomy orderly))) orderly
 follows old step.HostTake a new orderly rule = aside old new (with_host (with_upward old new.upward) new.host) rule.1 refl refl orderly
 follows old step.HostPush a new orderly rule = aside old new (with_downward (with_host old new.host) new.downward) rule.1 refl refl orderly
 follows old step.Tick a new orderly rule = aside old new (with_host old new.host) rule.1 refl refl orderly

@@ -14,6 +14,7 @@ use Rattle.pm_world.specs.Downward.{NothingLostDown, on_down_link}
 use Rattle.pm_world.specs.Isolation.{Isolates}
 use Rattle.pm_world.specs.Links.{KeepsLinks}
 use Rattle.pm_world.specs.Places.{Places}
+use Rattle.pm_world.specs.Removals.{TellsRemovals}
 use Rattle.pm_world.specs.Rules.{Run}
 use Rattle.pm_world.specs.Runs.{AfterEveryRun, Telling, over}
 use Rattle.pm_world.specs.Tickets.{KeepsTickets}
@@ -102,6 +103,7 @@ pub record ObeysLaws (old : Places) (steps : List Step) (answers : List Answer)
   pub nothing_lost : NothingLost old answers new
   pub on_the_way : FromEachWorld old steps answers new
       (λ mid later. NothingLost mid later new × NothingAfterRemoval mid later)
+  pub removals : TellsRemovals old answers new
   pub nothing_lost_down : NothingLostDown old steps answers new run
   pub prefix : TakenIsPrefix old answers
   pub own_port : AreOfTheirPorts old answers

@@ -260,13 +260,14 @@ impl Seat {
     }
 }
 
-/// Copies a frame's bytes where room was made for them.
+/// Copies a frame's bytes where room was made for them, and gives the room back that they do not need.
 fn copy_into(room: &mut Vec<u8>, bytes: &[u8])
     requires empty { room.old.items ≡ [] }
     requires room { length bytes.now ≤ vec_capacity room.old }
     ensures { room.new.items ≡ bytes.now }
 {
     let _ = room.extend_from_slice(bytes);
+    room.shrink_to_fit();
 }
 
 /// The frame of these bytes.

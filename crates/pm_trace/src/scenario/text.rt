@@ -131,15 +131,21 @@ impl fmt::Display for Reply {
 }
 
 fn write_ended<W: fmt::Write>(completion: &Completion, f: &mut fmt::Formatter<W>) -> fmt::Result {
-    let result = match completion.outcome {
-        Outcome::Done => "done",
-        Outcome::Removed => "removed",
-    };
     write!(
         f,
-        "ticket {} slot {} {result}",
+        "ticket {} slot {} ",
         completion.ticket.0, completion.slot
-    )
+    )?;
+    match completion.outcome {
+        Outcome::Done => write!(f, "done"),
+        Outcome::DeviceError { status, error } => write!(
+            f,
+            "device-error {status:02x} {error:02x}"
+        ),
+        Outcome::Aborted => write!(f, "aborted"),
+        Outcome::Removed => write!(f, "removed"),
+        Outcome::PortError => write!(f, "port-error"),
+    }
 }
 
 impl fmt::Display for FrameText {
