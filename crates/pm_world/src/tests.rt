@@ -2,6 +2,7 @@
 
 mod blocked;
 mod echo;
+mod faulting;
 mod memory;
 mod parts;
 mod reading;
