@@ -597,7 +597,7 @@ gone_recorded config units fits steps answers now run n =
     let r = run_records (new_world config units) steps answers now (opening_orderly config units fits) run n led in
     let told : r.read ++ on_presence (slice_get now.devices n) ≡ flat_map (changed_by n) answers = r.link ∙ ap (λ cs. cs ++ flat_map (changed_by n) answers) (nothing_posted config.capacity units n) in
     let read : recorded_at n answers ≡ r.read =
-        ap (λ k. take k (flat_map (changed_by n) answers)) (sym r.count) ∙ ap (take (length r.read)) (sym told) ∙ take_front r.read (on_presence (slice_get now.devices n)) in
+    ap (λ k. take k (flat_map (changed_by n) answers)) (sym r.count) ∙ ap (take (length r.read)) (sym told) ∙ take_front r.read (on_presence (slice_get now.devices n)) in
     let let_in : AreLetIn r.read nothing_known = subst (AreLetIn r.read) opens r.let_in in
     let knows : known (port_at now.multiplier n) ≡ all r.read nothing_known = r.knows ∙ ap (all r.read) opens in
     let highest : (all r.read nothing_known).2 ≡ max 0 (highest_gone r.read) = gone_is r.read nothing_known let_in sensible in
@@ -643,7 +643,7 @@ seen_over config units fits steps answers now run n c device first second later 
     let gone : (port_at parts.mid.multiplier n).gone ≡ highest_gone (recorded_at n first) = gone_recorded config units fits parts.before first parts.mid parts.begins n in
     let most : c ≤ highest_gone (recorded_at n first) = is.recorded in
     let removed : is_removed n c parts.mid ≡ true = up_to (port_at parts.mid.multiplier n).gone c is.some (omega (arith, gone, most)) in
-    let counts : times is_took first + length parts.mid.upward.frames ≡ times is_up first = run_counts opens parts.before first parts.mid orderly parts.begins in
+    let counts : times is_took first + length parts.mid.upward.frames ≡ 0 + times is_up first = run_counts opens parts.before first parts.mid orderly parts.begins in
     let both : times is_took (first ++ second) ≡ times is_took first + times is_took second = times-append is_took first second in
     let more : times is_up first < times is_took (first ++ second) = is.taken in
     let took : length parts.mid.upward.frames < times is_took second = omega (arith, counts, both, more) in
