@@ -4,6 +4,7 @@ mod blocked;
 mod echo;
 mod found;
 mod going;
+mod faulting;
 mod memory;
 mod parts;
 mod reading;

@@ -177,15 +177,36 @@ pub(super) fn step_of(alloc: Global, act: Act) -> Result<Step, AllocError> {
     Ok(step)
 }
 
+/// A disk of 16 sectors.
+fn disk(alloc: Global, plan: DiskPlan) -> Result<Unit, AllocError> {
+    match Disk::new(alloc, 16, plan) {
+        Ok(disk) => Ok(Unit::Disk(disk)),
+        Err(_) => Err(AllocError),
+    }
+}
+
 /// So many disks of 16 sectors.
 pub(super) fn disks(alloc: Global, count: u8) -> Result<Vec<Unit>, AllocError> {
     let mut units = Vec::new(alloc);
     for _ in 0..count {
-        match Disk::new(alloc, 16, DiskPlan::plain()) {
-            Ok(disk) => units.push(Unit::Disk(disk))?,
-            Err(_) => return Err(AllocError),
-        }
+        units.push(disk(alloc, DiskPlan::plain())?)?;
     }
+    Ok(units)
+}
+
+/// The plan of a disk of which one sector cannot be read.
+fn bad_plan(sector: u32) -> DiskPlan {
+    let mut plan = DiskPlan::plain();
+    if !plan.bad.is_full() {
+        plan.bad.push(sector);
+    }
+    plan
+}
+
+/// So many disks and one more, of which one sector cannot be read.
+fn disks_and_bad(alloc: Global, count: u8, sector: u32) -> Result<Vec<Unit>, AllocError> {
+    let mut units = disks(alloc, count)?;
+    units.push(disk(alloc, bad_plan(sector))?)?;
     Ok(units)
 }
 
@@ -194,14 +215,29 @@ pub(super) fn world_of(alloc: Global, config: Config, count: u8) -> Result<World
     World::new(alloc, config, disks(alloc, count)?)
 }
 
-/// A world of so many disks, with links of this capacity.
-fn world(alloc: Global, ports: u8, capacity: usize) -> Result<World, WorldError> {
-    let config = Config {
+/// So many ports, with links of this capacity.
+fn config(ports: u8, capacity: usize) -> Config {
+    Config {
         ports,
         capacity,
         memory: MEMORY,
-    };
-    world_of(alloc, config, ports)
+    }
+}
+
+/// A world of two disks and a third, of which one sector cannot be read.
+fn world_with_bad(alloc: Global, sector: u32) -> Result<World, WorldError> {
+    World::new(alloc, config(3, 1), disks_and_bad(alloc, 2, sector)?)
+}
+
+/// A world of so many disks, with links of this capacity.
+fn world(alloc: Global, ports: u8, capacity: usize) -> Result<World, WorldError> {
+    world_of(alloc, config(ports, capacity), ports)
+}
+
+/// PxIS and PxFBS, which tell of faults.
+fn faults(world: &World) -> [Option<u32>; 2] {
+    let port = world.host();
+    [port.read(0x10).ok(), port.read(0x40).ok()]
 }
 
 fn give_once(world: &mut World, alloc: Global, step: &Step) -> Result<Answer, StepError> {
@@ -278,15 +314,28 @@ impl Model for Rig {
 impl Rig {
     /// Of so many disks, none of which is plugged in.
     pub(super) fn new(alloc: Global, ports: u8, capacity: usize) -> Result<Rig, WorldError> {
-        let world = world(alloc, ports, capacity)?;
-        Ok(Rig {
+        Ok(Rig::of(alloc, world(alloc, ports, capacity)?, ports))
+    }
+
+    /// Of two disks and a third, of which one sector cannot be read; all take requests.
+    pub(super) fn with_bad(alloc: Global, sector: u32) -> Result<Rig, Fail> {
+        let mut rig = Rig::of(alloc, world_with_bad(alloc, sector)?, 3);
+        if rig.come() {
+            Ok(rig)
+        } else {
+            Err("no end".into())
+        }
+    }
+
+    fn of(alloc: Global, world: World, ports: u8) -> Rig {
+        Rig {
             alloc,
             world,
             ports,
             counts: Counts::new(alloc),
             bytes: None,
             echo: None,
-        })
+        }
     }
 
     /// Of so many disks that take requests, with links of one frame.
@@ -438,6 +487,11 @@ impl Rig {
     /// The byte of the client area at an address.
     pub(super) fn byte_at(&self, at: u32) -> Option<u8> {
         byte_at(&self.world, at)
+    }
+
+    /// PxIS and PxFBS, which tell of faults.
+    pub(super) fn faults(&self) -> [Option<u32>; 2] {
+        faults(&self.world)
     }
 
     /// The sector of a disk.
