@@ -2,6 +2,8 @@
 
 mod blocked;
 mod echo;
+mod found;
+mod going;
 mod faulting;
 mod memory;
 mod parts;

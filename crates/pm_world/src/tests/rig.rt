@@ -22,6 +22,7 @@ pub(super) const MEMORY: u32 = 0x20_0000;
 #[derive(Clone, Copy)]
 pub(super) enum Act {
     Came(u8),
+    Gone(u8),
     DiskSend(u8),
     /// So many zeros are sent as the device at this port.
     Inject(u8, usize),
@@ -47,6 +48,7 @@ pub(super) enum Told {
     Idle,
     Blocked,
     Came(u8, u32),
+    Gone(u8, u32),
     /// Port, connection and number.
     Sent(u8, u32, u32),
     /// Port, and whether the frame was dropped.
@@ -76,6 +78,7 @@ pub(super) fn telling(answer: &Answer) -> Told {
         Answer::Idle => Told::Idle,
         Answer::Blocked => Told::Blocked,
         Answer::Came { port, conn } => Told::Came(*port, *conn),
+        Answer::Gone { port, conn } => Told::Gone(*port, *conn),
         Answer::Sent {
             port,
             conn,
@@ -155,6 +158,7 @@ fn bytes(alloc: Global, value: u8, count: usize) -> Result<Bytes, AllocError> {
 pub(super) fn step_of(alloc: Global, act: Act) -> Result<Step, AllocError> {
     let step = match act {
         Act::Came(n) => Step::Came(n),
+        Act::Gone(n) => Step::Gone(n),
         Act::DiskSend(n) => Step::DiskSend(n),
         Act::Inject(n, count) => Step::Inject(n, bytes(alloc, 0, count)?),
         Act::DiskTake(n) => Step::DiskTake(n),
@@ -261,6 +265,16 @@ fn run(
 fn byte_at(world: &World, at: u32) -> Option<u8> {
     let place = at.checked_sub(CLIENT_START)?;
     world.memory().client().get(place as usize).copied()
+}
+
+/// A register of the multiplier, or of one of its ports.
+fn register_of(world: &World, port: u8, register: u16) -> Option<u32> {
+    world.multiplier().registers().read(port, register).ok()
+}
+
+/// A register of the host port.
+fn host_register(world: &World, offset: u32) -> Option<u32> {
+    world.host().read(offset).ok()
 }
 
 /// The sector of a disk.
@@ -445,6 +459,25 @@ impl Rig {
 
     pub(super) fn rows(&self) -> &[ConnCount] {
         self.counts.rows()
+    }
+
+    /// How many FISes of a connection were sent, and how many of them taken.
+    pub(super) fn counted(&self, port: u8, conn: u32) -> Option<(u64, u64)> {
+        let row = self
+            .rows()
+            .iter()
+            .find(|row: &&ConnCount| row.port == port && row.conn == conn)?;
+        Some((row.sent, row.taken))
+    }
+
+    /// A register of the multiplier (port 15) or of one of its ports.
+    pub(super) fn register(&self, port: u8, register: u16) -> Option<u32> {
+        register_of(&self.world, port, register)
+    }
+
+    /// A register of the host port.
+    pub(super) fn host_register(&self, offset: u32) -> Option<u32> {
+        host_register(&self.world, offset)
     }
 
     pub(super) fn has_unit(&self, n: u8) -> bool {
