@@ -49,10 +49,10 @@ fn a_read_lands_in_its_places(rt: HostRuntime) -> Result<(), Fail> {
     Ok(())
 }
 
-/// Sees that these FISes bring no byte of the read, and do not end it.
+/// Sees that these FISes bring no byte of the read and do not end it; the tick clears an error.
 fn assert_nothing_came<R: Abort + AllocGlobal>(rt: &R, frames: &[&str]) -> Result<(), AllocError> {
     let written = read_with(rt.alloc(), frames)?;
-    let end = b"\nnothing\nnothing\n10112a 00000000\n102000 0000\n1020d2 000000\n";
+    let end = b"\nmoved\nnothing\n10112a 00000000\n102000 0000\n1020d2 000000\n";
     assert!(rt; written.ends_with(end.as_slice()));
     Ok(())
 }
