@@ -2,6 +2,8 @@
 //! the control port, lets the new device in, and asks the disk for a sector. Each FIS that goes up is printed as its bytes.
 #![tactic(auto)]
 
+ghost use Rattle.std.specs.Prelude.{◌≡◌, ◌<◌};
+
 use disk_model::{Device, Disk, DiskPlan};
 use fis_view::{Frame, H2dFields, Stamp};
 use multiplier::Multiplier;
@@ -53,14 +55,19 @@ fn read() -> H2dFields {
 }
 
 /// Gives the multiplier a frame of the host. Where the place that it needs is taken, it is lost here.
-fn give(alloc: Global, pm: &mut Multiplier, fields: &H2dFields) -> Result<(), AllocError> {
+fn give(alloc: Global, pm: &mut Multiplier, fields: &H2dFields) -> Result<(), AllocError>
+    ensures { pm.new.registers.ports ≡ pm.old.registers.ports }
+{
     let frame = fis_view::h2d(alloc, fields, of_host())?;
     let _ = pm.from_host(alloc, frame);
     Ok(())
 }
 
 /// Lets all that waits for the disk down to it.
-fn serve(alloc: Global, pm: &mut Multiplier, disk: &mut Disk) -> Result<(), AllocError> {
+fn serve(alloc: Global, pm: &mut Multiplier, disk: &mut Disk) -> Result<(), AllocError>
+    requires { 0 < pm.old.registers.ports }
+    ensures { pm.new.registers.ports ≡ pm.old.registers.ports }
+{
     match pm.next_down(0) {
         Some(frame) => disk.on_frame(alloc, &frame),
         None => Ok(()),
@@ -73,7 +80,10 @@ fn send(
     pm: &mut Multiplier,
     disk: &mut Disk,
     number: u32,
-) -> Result<bool, AllocError> {
+) -> Result<bool, AllocError>
+    requires { 0 < pm.old.registers.ports }
+    ensures { pm.new.registers.ports ≡ pm.old.registers.ports }
+{
     let stamp = Stamp {
         port: 0,
         conn: 1,
@@ -87,7 +97,9 @@ fn send(
 }
 
 /// Prints the first 20 bytes of what goes up next.
-fn show(rt: &HostRuntime, pm: &mut Multiplier) -> io::Result<()> {
+fn show(rt: &HostRuntime, pm: &mut Multiplier) -> io::Result<()>
+    ensures { pm.new.registers.ports ≡ pm.old.registers.ports }
+{
     match pm.next_up(rt.alloc())? {
         Some(frame) => {
             let bytes = frame.bytes();
@@ -98,8 +110,20 @@ fn show(rt: &HostRuntime, pm: &mut Multiplier) -> io::Result<()> {
     }
 }
 
+/// The disk is plugged in at port 0, under connection 1, and the port records it.
+fn plug(alloc: Global, pm: &mut Multiplier, disk: &mut Disk) -> Result<(), AllocError>
+    requires { 0 < pm.old.registers.ports }
+    ensures { pm.new.registers.ports ≡ pm.old.registers.ports }
+{
+    disk.plugged(alloc)?;
+    let _ = pm.came(0, 1);
+    Ok(())
+}
+
 /// The host opens port 0: SControl 0, and then X of SError is cleared, before which nothing passes.
-fn open(rt: &HostRuntime, pm: &mut Multiplier) -> io::Result<()> {
+fn open(rt: &HostRuntime, pm: &mut Multiplier) -> io::Result<()>
+    ensures { pm.new.registers.ports ≡ pm.old.registers.ports }
+{
     give(rt.alloc(), pm, &register_write(2, 0, 0))?;
     show(rt, pm)?;
     give(rt.alloc(), pm, &register_write(1, 0, 4))?;
@@ -107,7 +131,10 @@ fn open(rt: &HostRuntime, pm: &mut Multiplier) -> io::Result<()> {
 }
 
 /// The disk tells its signature, is asked for a sector, and sends it.
-fn exchange(rt: &HostRuntime, pm: &mut Multiplier, disk: &mut Disk) -> io::Result<()> {
+fn exchange(rt: &HostRuntime, pm: &mut Multiplier, disk: &mut Disk) -> io::Result<()>
+    requires { 0 < pm.old.registers.ports }
+    ensures { pm.new.registers.ports ≡ pm.old.registers.ports }
+{
     send(rt.alloc(), pm, disk, 0)?;
     show(rt, pm)?;
     give(rt.alloc(), pm, &read())?;
@@ -124,8 +151,7 @@ fn main(rt: HostRuntime) -> io::Result<()> {
         return println!(rt; "no memory");
     };
     let mut pm = Multiplier::new(1);
-    disk.plugged(rt.alloc())?;
-    let _ = pm.came(0, 1);
+    plug(rt.alloc(), &mut pm, &mut disk)?;
     open(&rt, &mut pm)?;
     exchange(&rt, &mut pm, &mut disk)
 }
