@@ -1,0 +1,125 @@
+-- What the further DMA Setups of a command, a DMA Activate and Data leave of each queued command.
+use Rattle.std.proofs.Common.{◌≡◌, ◌&&◌, ◌==◌, ◌⊎◌, eqb, ℕ, zero, suc, ◌+◌, ◌-◌, ◌*◌, ◌≤◌, Bool, true, false, List, [], ◌∷◌, ◌++◌, length, refl, sym, ap, subst, ◌∙◌, inl, inr, Option, Some, None, arith}
+use Rattle.std.specs.Prelude.{not, if◌then◌else◌, slice_get, find, filter}
+use Rattle.std.specs.List.{list_any}
+use Rattle.std.proofs.lemmas.Bool.{cases_Bool, eq-eqb, eqb-true}
+use Rattle.disk_model.specs.declared.request.Command.{Command}
+use Rattle.disk_model.specs.Chunks.{put}
+use Rattle.disk_model.specs.Ends.{IsFree, MovesOther, has}
+use Rattle.disk_model.specs.Laws.{bytes_named}
+use Rattle.disk_model.specs.Ledger.{Ledger, Moving, activates, sets_up}
+use Rattle.hba_laws.specs.History.{Carried, History, SetUp, filled, filled_from, is_set_up, next_number, none_filled}
+use Rattle.disk_ends.specs.Same.{InLife, IsEndedBy, IsMovingAt, Moves, Open, ReadEnded, Stand, Unsent, Unset, WriteEnded}
+use Rattle.disk_ends.specs.Steps.{ActivatesKeep, SetupsGoOn}
+
+-- ## Whose data moves
+
+some_same : (u v : Moving) → Some u ≡ Some v → u ≡ v
+some_same u v e = cc e
+
+-- a slot whose data moves has the command's tag
+is_own : (s : ℕ) (c : Command) (u v : Moving) (k : Ledger) → k.moving ≡ Some v → k.moving ≡ Some u → u.command ≡ c → c.tag ≡ s → eqb v.command.tag s ≡ true
+is_own s c u v k moving here same tag =
+    let uv : u ≡ v = some_same u v (sym here ∙ moving) in
+    eq-eqb v.command.tag s (ap (λ (x : Moving). x.command.tag) (sym uv) ∙ ap (λ (q : Command). q.tag) same ∙ tag)
+
+pub not_own : (s : ℕ) (c : Command) (u v : Moving) (k : Ledger) → k.moving ≡ Some v → k.moving ≡ Some u → u.command ≡ c → c.tag ≡ s → eqb v.command.tag s ≡ false → ⊥
+not_own s c u v k moving here same tag other = cc (sym (is_own s c u v k moving here same tag) ∙ other)
+
+-- the data of another tag does not move
+none_of : (s : ℕ) (v : Moving) (k : Ledger) → k.moving ≡ Some v → v.command.tag ≡ s → MovesOther s k.moving → ⊥
+none_of s v k moving own other =
+    let differs : eqb v.command.tag s ≡ false = subst (MovesOther s) moving other in
+    cc (sym (eq-eqb v.command.tag s own) ∙ differs)
+
+-- where the data of another tag moves the slot is not set up
+pub unset_other : (s : ℕ) (c : Command) (v : Moving) (past : History) (k : Ledger) → k.moving ≡ Some v → eqb v.command.tag s ≡ false → c.tag ≡ s → InLife s c past k → is_set_up s past ≡ false
+unset_other s c v past k moving other tag (Unsent free unset none) = unset
+unset_other s c v past k moving other tag (Open found yet beside unset none) = unset
+unset_other s c v past k moving other tag (Moves u here same yet m) = absurd (not_own s c u v k moving here same tag other)
+unset_other s c v past k moving other tag (ReadEnded at r e there same stands) = subst (λ (m : Option Moving). Unset m (is_set_up s past)) moving e.unset
+unset_other s c v past k moving other tag (WriteEnded at w e there own from stands) = subst (λ (m : Option Moving). Unset m (is_set_up s past)) moving e.unset
+
+-- and it stands as it stood while that goes on
+pub other_life : (s : ℕ) (c : Command) (v w : Moving) (past later : History) (k : Ledger) → k.moving ≡ Some v → eqb v.command.tag s ≡ false → c.tag ≡ s → w.command ≡ v.command
+    → is_set_up s later ≡ false → filled s later ≡ filled s past → InLife s c past k → InLife s c later (record k { moving = Some w })
+other_life s c v w past later k moving other tag same unset fills life = by_life life
+  where
+    differs : eqb w.command.tag s ≡ false
+    differs = subst (λ (q : Command). eqb q.tag s ≡ false) (sym same) other
+
+    by_life : InLife s c past k → InLife s c later (record k { moving = Some w })
+    by_life (Unsent free set none) = Unsent (record { outstanding = free.outstanding; unanswered = free.unanswered; moving = differs }) unset (fills ∙ none)
+    by_life (Open found yet beside set none) = Open found yet differs unset (fills ∙ none)
+    by_life (Moves u here is yet m) = absurd (not_own s c u v k moving here is tag other)
+    by_life (ReadEnded at r e there is stands) =
+        ReadEnded at r (record { unanswered = e.unanswered; outstanding = e.outstanding; moving = differs; unset = unset }) there is (subst (λ (f : ℕ → Option ℕ). Stand f r.bytes) (sym fills) stands)
+    by_life (WriteEnded at x e there own from stands) =
+        WriteEnded at x (record { unanswered = e.unanswered; outstanding = e.outstanding; moving = differs; unset = unset }) there own from (subst (λ (f : ℕ → Option ℕ). Stand f x.bytes) (sym fills) stands)
+
+-- ## The slot's own data
+
+pub record IsMoved (s : ℕ) (c : Command) (v : Moving) (past : History) (k : Ledger) : Type 0 where
+  pub command : v.command ≡ c
+  pub yet : has s k.unanswered ≡ false
+  pub at : IsMovingAt s v past
+
+pub own_life : (s : ℕ) (c : Command) (v : Moving) (past : History) (k : Ledger) → k.moving ≡ Some v → v.command.tag ≡ s → InLife s c past k → IsMoved s c v past k
+own_life s c v past k moving own (Unsent free unset none) = absurd (none_of s v k moving own free.moving)
+own_life s c v past k moving own (Open found yet beside unset none) = absurd (none_of s v k moving own beside)
+own_life s c v past k moving own (Moves u here same yet m) =
+    let uv : u ≡ v = some_same u v (sym here ∙ moving) in
+    record {
+      command = subst (λ (x : Moving). x.command ≡ c) uv same;
+      yet = yet;
+      at = subst (λ (x : Moving). IsMovingAt s x past) uv m;
+    }
+own_life s c v past k moving own (ReadEnded at r e there same stands) = absurd (none_of s v k moving own e.moving)
+own_life s c v past k moving own (WriteEnded at w e there tag from stands) = absurd (none_of s v k moving own e.moving)
+
+-- ## A further DMA Setup
+
+setup_on : (s offset count : ℕ) (to_host : Bool) (c : Command) (v : Moving) (past : History) (k : Ledger) → k.moving ≡ Some v → c.tag ≡ s → offset + count ≤ 512 * v.command.count
+    → InLife s c past k → InLife s c (SetUp v.command.tag offset count to_host ∷ past) (sets_up k (Some v) v.command.tag offset count)
+setup_on s offset count to_host c v past k moving tag fits life = elim (cases_Bool (eqb v.command.tag s)) [
+  | inl is ↦
+      let own = own_life s c v past k moving (eqb-true v.command.tag s is) life in
+      let at : IsMovingAt s v past = own.at in
+      Moves (record v { setups = v.setups ++ record { at = offset; count = count } ∷ []; offset = offset; count = count; active = false }) refl own.command own.yet (record {
+        long = at.long;
+        set_up = is;
+        inside = fits;
+        fresh = inl (omega arith);
+        asked = λ e. cc e;
+        stands = at.stands;
+      })
+  | inr other ↦ other_life s c v (record v { setups = v.setups ++ record { at = offset; count = count } ∷ []; offset = offset; count = count; active = false }) past (SetUp v.command.tag offset count to_host ∷ past) k moving other tag refl other refl life
+]
+
+pub setups_go_on : SetupsGoOn
+setups_go_on s offset count to_host c v past k moving tag fits life =
+    subst (λ (m : Option Moving). InLife s c (SetUp v.command.tag offset count to_host ∷ past) (sets_up k m v.command.tag offset count)) (sym moving)
+    (setup_on s offset count to_host c v past k moving tag fits life)
+
+-- ## A DMA Activate, of which the host's history says nothing
+
+activate_on : (s : ℕ) (c : Command) (v : Moving) (past : History) (k : Ledger) → k.moving ≡ Some v → c.tag ≡ s → v.moved + v.count ≡ bytes_named v.setups
+    → InLife s c past k → InLife s c past (activates k (Some v))
+activate_on s c v past k moving tag in_turn life = elim (cases_Bool (eqb v.command.tag s)) [
+  | inl is ↦
+      let own = own_life s c v past k moving (eqb-true v.command.tag s is) life in
+      let at : IsMovingAt s v past = own.at in
+      Moves (record v { active = true }) refl own.command own.yet (record {
+        long = at.long;
+        set_up = at.set_up;
+        inside = at.inside;
+        fresh = at.fresh;
+        asked = λ e. in_turn;
+        stands = at.stands;
+      })
+  | inr other ↦ other_life s c v (record v { active = true }) past past k moving other tag refl (unset_other s c v past k moving other tag life) refl life
+]
+
+pub activates_keep : ActivatesKeep
+activates_keep s c v past k moving tag in_turn life =
+    subst (λ (m : Option Moving). InLife s c past (activates k m)) (sym moving) (activate_on s c v past k moving tag in_turn life)

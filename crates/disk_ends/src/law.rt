@@ -1,0 +1,32 @@
+//! Laws of a host's two views of a disk. The functions do nothing when they run.
+
+ghost use Rattle.disk_ends.specs.Same.{CommandsKeep, DataFills, IssuesKeep, SetupsStart};
+ghost use Rattle.disk_ends.specs.Steps.{ActivatesKeep, DataDown, DataUp, SetupsGoOn};
+
+/// A command that is issued in a slot whose tag is free, and then goes out, is one that the ledger
+/// has as outstanding with nothing filled; those of other slots stand as they stood.
+pub fn issues_and_commands_keep_the_same()
+    ensures issues { IssuesKeep }
+    ensures commands { CommandsKeep }
+{}
+
+/// The first DMA Setup of an outstanding command makes it the one whose data moves, a further one
+/// says where its next bytes lie, and a DMA Activate asks for them; the commands of other slots
+/// stand as they stood.
+pub fn setups_keep_the_same()
+    ensures starts { SetupsStart }
+    ensures goes_on { SetupsGoOn }
+    ensures activates { ActivatesKeep }
+{}
+
+/// Data of the command that moves fills each byte with the one that the ledger puts there.
+pub fn data_fills_what_moves()
+    ensures { DataFills }
+{}
+
+/// Data leaves each queued command of the device where the ledger says: the one that moves goes on
+/// or ends with just the bytes that were filled, those of other slots stand as they stood.
+pub fn data_keeps_the_same()
+    ensures up { DataUp }
+    ensures down { DataDown }
+{}

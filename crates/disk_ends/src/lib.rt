@@ -1,0 +1,10 @@
+//! The two views of one disk that a host has: the ledger that the FISes at its end of the link tell,
+//! and the history of the device's events at its port.
+#![tactic(auto)]
+
+mod law;
+
+pub use law::{
+    data_fills_what_moves, data_keeps_the_same, issues_and_commands_keep_the_same,
+    setups_keep_the_same,
+};
