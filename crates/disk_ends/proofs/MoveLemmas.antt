@@ -8,7 +8,7 @@ use Rattle.disk_model.specs.Chunks.{put}
 use Rattle.disk_model.specs.Ends.{IsFree, MovesOther, has}
 use Rattle.disk_model.specs.Laws.{bytes_named}
 use Rattle.disk_model.specs.Ledger.{Ledger, Moving, activates, sets_up}
-use Rattle.hba_laws.specs.History.{Carried, History, SetUp, filled, filled_from, is_set_up, next_number, none_filled}
+use Rattle.hba_laws.specs.History.{Carried, History, SetUp, filled, filled_from, is_at, is_set_up, next_number, none_filled, waiting_in}
 use Rattle.disk_ends.specs.Same.{InLife, IsEndedBy, IsMovingAt, Moves, Open, ReadEnded, Stand, Unsent, Unset, WriteEnded}
 use Rattle.disk_ends.specs.Steps.{ActivatesKeep, SetupsGoOn}
 
@@ -34,28 +34,28 @@ none_of s v k moving own other =
 
 -- where the data of another tag moves the slot is not set up
 pub unset_other : (s : ℕ) (c : Command) (v : Moving) (past : History) (k : Ledger) → k.moving ≡ Some v → eqb v.command.tag s ≡ false → c.tag ≡ s → InLife s c past k → is_set_up s past ≡ false
-unset_other s c v past k moving other tag (Unsent free unset none) = unset
+unset_other s c v past k moving other tag (Unsent free quiet unset none) = unset
 unset_other s c v past k moving other tag (Open found yet beside unset none) = unset
 unset_other s c v past k moving other tag (Moves u here same yet m) = absurd (not_own s c u v k moving here same tag other)
 unset_other s c v past k moving other tag (ReadEnded at r e there same stands) = subst (λ (m : Option Moving). Unset m (is_set_up s past)) moving e.unset
-unset_other s c v past k moving other tag (WriteEnded at w e there own from stands) = subst (λ (m : Option Moving). Unset m (is_set_up s past)) moving e.unset
+unset_other s c v past k moving other tag (WriteEnded at w e there same stands) = subst (λ (m : Option Moving). Unset m (is_set_up s past)) moving e.unset
 
 -- and it stands as it stood while that goes on
 pub other_life : (s : ℕ) (c : Command) (v w : Moving) (past later : History) (k : Ledger) → k.moving ≡ Some v → eqb v.command.tag s ≡ false → c.tag ≡ s → w.command ≡ v.command
-    → is_set_up s later ≡ false → filled s later ≡ filled s past → InLife s c past k → InLife s c later (record k { moving = Some w })
-other_life s c v w past later k moving other tag same unset fills life = by_life life
+    → waiting_in later ≡ waiting_in past → is_set_up s later ≡ false → filled s later ≡ filled s past → InLife s c past k → InLife s c later (record k { moving = Some w })
+other_life s c v w past later k moving other tag same waits unset fills life = by_life life
   where
     differs : eqb w.command.tag s ≡ false
     differs = subst (λ (q : Command). eqb q.tag s ≡ false) (sym same) other
 
     by_life : InLife s c past k → InLife s c later (record k { moving = Some w })
-    by_life (Unsent free set none) = Unsent (record { outstanding = free.outstanding; unanswered = free.unanswered; moving = differs }) unset (fills ∙ none)
+    by_life (Unsent free quiet set none) = Unsent (record { outstanding = free.outstanding; unanswered = free.unanswered; moving = differs }) (ap (is_at s) waits ∙ quiet) unset (fills ∙ none)
     by_life (Open found yet beside set none) = Open found yet differs unset (fills ∙ none)
     by_life (Moves u here is yet m) = absurd (not_own s c u v k moving here is tag other)
     by_life (ReadEnded at r e there is stands) =
         ReadEnded at r (record { unanswered = e.unanswered; outstanding = e.outstanding; moving = differs; unset = unset }) there is (subst (λ (f : ℕ → Option ℕ). Stand f r.bytes) (sym fills) stands)
-    by_life (WriteEnded at x e there own from stands) =
-        WriteEnded at x (record { unanswered = e.unanswered; outstanding = e.outstanding; moving = differs; unset = unset }) there own from (subst (λ (f : ℕ → Option ℕ). Stand f x.bytes) (sym fills) stands)
+    by_life (WriteEnded at x e there is stands) =
+        WriteEnded at x (record { unanswered = e.unanswered; outstanding = e.outstanding; moving = differs; unset = unset }) there is (subst (λ (f : ℕ → Option ℕ). Stand f x.bytes) (sym fills) stands)
 
 -- ## The slot's own data
 
@@ -65,7 +65,7 @@ pub record IsMoved (s : ℕ) (c : Command) (v : Moving) (past : History) (k : Le
   pub at : IsMovingAt s v past
 
 pub own_life : (s : ℕ) (c : Command) (v : Moving) (past : History) (k : Ledger) → k.moving ≡ Some v → v.command.tag ≡ s → InLife s c past k → IsMoved s c v past k
-own_life s c v past k moving own (Unsent free unset none) = absurd (none_of s v k moving own free.moving)
+own_life s c v past k moving own (Unsent free quiet unset none) = absurd (none_of s v k moving own free.moving)
 own_life s c v past k moving own (Open found yet beside unset none) = absurd (none_of s v k moving own beside)
 own_life s c v past k moving own (Moves u here same yet m) =
     let uv : u ≡ v = some_same u v (sym here ∙ moving) in
@@ -75,7 +75,7 @@ own_life s c v past k moving own (Moves u here same yet m) =
       at = subst (λ (x : Moving). IsMovingAt s x past) uv m;
     }
 own_life s c v past k moving own (ReadEnded at r e there same stands) = absurd (none_of s v k moving own e.moving)
-own_life s c v past k moving own (WriteEnded at w e there tag from stands) = absurd (none_of s v k moving own e.moving)
+own_life s c v past k moving own (WriteEnded at w e there same stands) = absurd (none_of s v k moving own e.moving)
 
 -- ## A further DMA Setup
 
@@ -93,7 +93,7 @@ setup_on s offset count to_host c v past k moving tag fits life = elim (cases_Bo
         asked = λ e. cc e;
         stands = at.stands;
       })
-  | inr other ↦ other_life s c v (record v { setups = v.setups ++ record { at = offset; count = count } ∷ []; offset = offset; count = count; active = false }) past (SetUp v.command.tag offset count to_host ∷ past) k moving other tag refl other refl life
+  | inr other ↦ other_life s c v (record v { setups = v.setups ++ record { at = offset; count = count } ∷ []; offset = offset; count = count; active = false }) past (SetUp v.command.tag offset count to_host ∷ past) k moving other tag refl refl other refl life
 ]
 
 pub setups_go_on : SetupsGoOn
@@ -117,7 +117,7 @@ activate_on s c v past k moving tag in_turn life = elim (cases_Bool (eqb v.comma
         asked = λ e. in_turn;
         stands = at.stands;
       })
-  | inr other ↦ other_life s c v (record v { active = true }) past past k moving other tag refl (unset_other s c v past k moving other tag life) refl life
+  | inr other ↦ other_life s c v (record v { active = true }) past past k moving other tag refl refl (unset_other s c v past k moving other tag life) refl life
 ]
 
 pub activates_keep : ActivatesKeep

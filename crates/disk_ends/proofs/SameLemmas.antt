@@ -3,7 +3,7 @@ use Rattle.std.proofs.Common.{◌≡◌, ◌&&◌, ◌==◌, ◌⊎◌, eqb, ℕ
 use Rattle.std.specs.Prelude.{nat_le, nat_lt, if◌then◌else◌, slice_get, find, replicate}
 use Rattle.std.specs.List.{list_any}
 use Rattle.std.specs.Option.{option_or}
-use Rattle.std.proofs.lemmas.Bool.{cases_Bool, and_parts, eq-eqb, eqb-true, or_from, or_parts, leb-true, ltb-true}
+use Rattle.std.proofs.lemmas.Bool.{cases_Bool, and_parts, eq-eqb, eqb-true, or_from, or_left, or_parts, or_right, leb-true, ltb-true, true≢false}
 use Rattle.std.proofs.lemmas.List.{length-replicate}
 use Rattle.std.proofs.lemmas.List.Folds.{find-append, list_any-append}
 use Rattle.disk_model.specs.declared.request.Command.{Command}
@@ -14,8 +14,8 @@ use Rattle.disk_model.specs.Laws.{bytes_named}
 use Rattle.disk_model.specs.Ledger.{Ledger, Moving, asks, starts_moving}
 use Rattle.disk_model.proofs.CrossLemmas.{opened, opens_free}
 use Rattle.disk_model.proofs.PutLemmas.{lie_where_put}
-use Rattle.hba_laws.specs.History.{Carried, History, Issued, Sent, SetUp, Transfer, filled, filled_from, is_set_up, next_number, none_filled}
-use Rattle.disk_ends.specs.Same.{CommandsKeep, DataFills, InLife, IsEndedBy, IsMovingAt, IssuesKeep, Moves, Open, ReadEnded, SetupsStart, Stand, Unsent, WriteEnded}
+use Rattle.hba_laws.specs.History.{Carried, History, Issued, Sent, SetUp, Transfer, filled, filled_from, is_at, is_set_up, next_number, none_filled, unless, waiting_in}
+use Rattle.disk_ends.specs.Same.{CommandsKeep, DataFills, InLife, IsEndedBy, IsMovingAt, IssuesKeep, Moves, Open, ReadEnded, SetupsStart, Stand, StandsOnce, Unsent, WriteEnded}
 
 -- ## Lists
 
@@ -63,34 +63,69 @@ moving_as s v past later set fills next m = record {
   stands = subst (λ (f : ℕ → Option ℕ). Stand f v.bytes) (sym fills) m.stands;
 }
 
-same_life : (s : ℕ) (c : Command) (past later : History) (k : Ledger) → is_set_up s later ≡ is_set_up s past → filled s later ≡ filled s past → next_number later ≡ next_number past
-    → InLife s c past k → InLife s c later k
-same_life s c past later k set fills next (Unsent free unset none) = Unsent free (set ∙ unset) (fills ∙ none)
-same_life s c past later k set fills next (Open found yet other unset none) = Open found yet other (set ∙ unset) (fills ∙ none)
-same_life s c past later k set fills next (Moves v moving same yet m) = Moves v moving same yet (moving_as s v past later set fills next m)
-same_life s c past later k set fills next (ReadEnded at r e there same stands) =
+pub same_life : (s : ℕ) (c : Command) (past later : History) (k : Ledger) → (is_at s (waiting_in past) ≡ false → is_at s (waiting_in later) ≡ false)
+    → is_set_up s later ≡ is_set_up s past → filled s later ≡ filled s past → next_number later ≡ next_number past → InLife s c past k → InLife s c later k
+same_life s c past later k waits set fills next (Unsent free quiet unset none) = Unsent free (waits quiet) (set ∙ unset) (fills ∙ none)
+same_life s c past later k waits set fills next (Open found yet other unset none) = Open found yet other (set ∙ unset) (fills ∙ none)
+same_life s c past later k waits set fills next (Moves v moving same yet m) = Moves v moving same yet (moving_as s v past later set fills next m)
+same_life s c past later k waits set fills next (ReadEnded at r e there same stands) =
     ReadEnded at r (subst (λ (b : Bool). IsEndedBy s b k) (sym set) e) there same (subst (λ (f : ℕ → Option ℕ). Stand f r.bytes) (sym fills) stands)
-same_life s c past later k set fills next (WriteEnded at w e there tag from stands) =
-    WriteEnded at w (subst (λ (b : Bool). IsEndedBy s b k) (sym set) e) there tag from (subst (λ (f : ℕ → Option ℕ). Stand f w.bytes) (sym fills) stands)
+same_life s c past later k waits set fills next (WriteEnded at w e there same stands) =
+    WriteEnded at w (subst (λ (b : Bool). IsEndedBy s b k) (sym set) e) there same (subst (λ (f : ℕ → Option ℕ). Stand f w.bytes) (sym fills) stands)
 
 -- ## A command is issued
+
+-- a slot for which another waits, or none
+not_at : (s : ℕ) (w : Option ℕ) (b : Bool) → is_at s w ≡ b → is_at s (unless b w) ≡ false
+not_at s w true e = refl
+not_at s w false e = e
+
+still_not_at : (s : ℕ) (w : Option ℕ) (b : Bool) → is_at s w ≡ false → is_at s (unless b w) ≡ false
+still_not_at s w true e = refl
+still_not_at s w false e = e
 
 issue_own : (s : ℕ) (c : Command) (t : Transfer) (past : History) (k : Ledger) → IsFree k s → InLife s c (Issued s t ∷ past) k
 issue_own s c t past k free =
     let is : eqb s s ≡ true = eq-eqb s s refl in
-    Unsent free (ap (λ (b : Bool). if b then false else is_set_up s past) is) (ap (λ (b : Bool). if b then none_filled else filled s past) is)
+    Unsent free (not_at s (waiting_in past) (is_at s (waiting_in past)) refl)
+    (ap (λ (b : Bool). if b then false else is_set_up s past) is) (ap (λ (b : Bool). if b then none_filled else filled s past) is)
 
 issue_other : (s slot : ℕ) (c : Command) (t : Transfer) (past : History) (k : Ledger) → eqb slot s ≡ false → InLife s c past k → InLife s c (Issued slot t ∷ past) k
 issue_other s slot c t past k other life =
-    same_life s c past (Issued slot t ∷ past) k (ap (λ (b : Bool). if b then false else is_set_up s past) other) (ap (λ (b : Bool). if b then none_filled else filled s past) other) refl life
+    same_life s c past (Issued slot t ∷ past) k (still_not_at s (waiting_in past) (is_at slot (waiting_in past))) (ap (λ (b : Bool). if b then false else is_set_up s past) other) (ap (λ (b : Bool). if b then none_filled else filled s past) other) refl life
 
 pub issues_keep : IssuesKeep
 issues_keep = record { own = issue_own; other = issue_other }
 
 -- ## A command goes out
 
-sent_own : (s : ℕ) (c : Command) (past : History) (k : Ledger) → c.tag ≡ s → IsFree k s → is_set_up s past ≡ false → filled s past ≡ none_filled → InLife s c (Sent s ∷ past) (opened k c)
-sent_own s c past k tag free unset none = Open (found_last s k.outstanding c free.outstanding tag) free.unanswered free.moving unset none
+-- where the tag is free nothing came of the command
+record IsFresh (s : ℕ) (past : History) : Type 0 where
+  unset : is_set_up s past ≡ false
+  none : filled s past ≡ none_filled
+
+stands_there : (s : ℕ) (us ahead behind : List ℕ) → us ≡ ahead ++ s ∷ behind → has s us ≡ true
+stands_there s us ahead behind is =
+    ap (has s) is ∙ list_any-append (λ (t : ℕ). t == s) ahead (s ∷ behind) ∙ or_right (has s ahead) (has s (s ∷ behind)) (or_left (s == s) (has s behind) (eq-eqb s s refl))
+
+-- a tag that stands among these is not free of them
+pub not_none : (s : ℕ) (us : List ℕ) → StandsOnce s us → has s us ≡ false → ⊥
+not_none s us once none = true≢false (sym (stands_there s us once.ahead once.behind once.is) ∙ none)
+
+-- data moves that is not of a free tag
+not_moving : (s : ℕ) (c : Command) (v : Moving) (m : Option Moving) → m ≡ Some v → v.command ≡ c → c.tag ≡ s → MovesOther s m → ⊥
+not_moving s c v m moving same tag other =
+    true≢false (sym (eq-eqb v.command.tag s (ap (λ (q : Command). q.tag) same ∙ tag)) ∙ subst (MovesOther s) moving other)
+
+fresh_life : (s : ℕ) (c : Command) (past : History) (k : Ledger) → c.tag ≡ s → IsFree k s → InLife s c past k → IsFresh s past
+fresh_life s c past k tag free (Unsent f quiet unset none) = record { unset = unset; none = none }
+fresh_life s c past k tag free (Open found yet other unset none) = record { unset = unset; none = none }
+fresh_life s c past k tag free (Moves v moving same yet m) = absurd (not_moving s c v k.moving moving same tag free.moving)
+fresh_life s c past k tag free (ReadEnded at r e there same stands) = absurd (not_none s k.unanswered e.unanswered free.unanswered)
+fresh_life s c past k tag free (WriteEnded at w e there same stands) = absurd (not_none s k.unanswered e.unanswered free.unanswered)
+
+sent_own : (s : ℕ) (c : Command) (past : History) (k : Ledger) → c.tag ≡ s → IsFree k s → IsFresh s past → InLife s c (Sent s ∷ past) (opened k c)
+sent_own s c past k tag free fresh = Open (found_last s k.outstanding c free.outstanding tag) free.unanswered free.moving fresh.unset fresh.none
 
 ended_beside : (s : ℕ) (b : Bool) (k : Ledger) (other : Command) → eqb other.tag s ≡ false → IsEndedBy s b k → IsEndedBy s b (opened k other)
 ended_beside s b k other differs e = record {
@@ -101,18 +136,18 @@ ended_beside s b k other differs e = record {
 }
 
 sent_other : (s : ℕ) (c other : Command) (past : History) (k : Ledger) → eqb other.tag s ≡ false → InLife s c past k → InLife s c (Sent other.tag ∷ past) (opened k other)
-sent_other s c other past k differs (Unsent free unset none) =
-    Unsent (record { outstanding = free_more s k.outstanding other free.outstanding differs; unanswered = free.unanswered; moving = free.moving }) unset none
+sent_other s c other past k differs (Unsent free quiet unset none) =
+    Unsent (record { outstanding = free_more s k.outstanding other free.outstanding differs; unanswered = free.unanswered; moving = free.moving }) differs unset none
 sent_other s c other past k differs (Open found yet beside unset none) = Open (found_more s k.outstanding other c found) yet beside unset none
 sent_other s c other past k differs (Moves v moving same yet m) = Moves v moving same yet (moving_as s v past (Sent other.tag ∷ past) refl refl refl m)
 sent_other s c other past k differs (ReadEnded at r e there same stands) = ReadEnded at r (ended_beside s (is_set_up s past) k other differs e) there same stands
-sent_other s c other past k differs (WriteEnded at w e there tag from stands) = WriteEnded at w (ended_beside s (is_set_up s past) k other differs e) there tag from stands
+sent_other s c other past k differs (WriteEnded at w e there same stands) = WriteEnded at w (ended_beside s (is_set_up s past) k other differs e) there same stands
 
 pub commands_keep : CommandsKeep
 commands_keep = record {
-  own = λ s c past k tag failed free unset none.
+  own = λ s c past k tag failed free life.
       let here : list_any (λ q. q.tag == c.tag) k.outstanding ≡ false = subst (λ (t : ℕ). list_any (λ q. q.tag == t) k.outstanding ≡ false) (sym tag) free.outstanding in
-      subst (λ (l : Ledger). InLife s c (Sent s ∷ past) l) (sym (opens_free k c failed here)) (sent_own s c past k tag free unset none);
+      subst (λ (l : Ledger). InLife s c (Sent s ∷ past) l) (sym (opens_free k c failed here)) (sent_own s c past k tag free (fresh_life s c past k tag free life));
   other = λ s c other past k differs failed free life.
       subst (λ (l : Ledger). InLife s c (Sent other.tag ∷ past) l) (sym (opens_free k other failed free.outstanding)) (sent_other s c other past k differs life);
 }
@@ -121,7 +156,7 @@ commands_keep = record {
 
 module _ (s tag offset count : ℕ) (to_host : Bool) (c q : Command) (past : History) (k : Ledger) (still : k.moving ≡ None) (found : find (λ p. p.tag == tag) k.outstanding ≡ Some q) (fits : offset + count ≤ 512 * q.count) where
   setup_own : tag ≡ s → eqb tag s ≡ true → InLife s c past k → InLife s c (SetUp tag offset count to_host ∷ past) (starts_moving k offset count (Some q))
-  setup_own at is (Unsent free unset none) = absurd (not_both s k.outstanding q (subst (λ (t : ℕ). find (λ p. p.tag == t) k.outstanding ≡ Some q) at found) free.outstanding)
+  setup_own at is (Unsent free quiet unset none) = absurd (not_both s k.outstanding q (subst (λ (t : ℕ). find (λ p. p.tag == t) k.outstanding ≡ Some q) at found) free.outstanding)
   setup_own at is (Open here yet other unset none) =
       let there : find (λ p. p.tag == s) k.outstanding ≡ Some q = subst (λ (t : ℕ). find (λ p. p.tag == t) k.outstanding ≡ Some q) at found in
       let both : Some q ≡ Some c = sym there ∙ here in
@@ -132,11 +167,11 @@ module _ (s tag offset count : ℕ) (to_host : Bool) (c q : Command) (past : His
         inside = fits;
         fresh = inl (omega arith);
         asked = λ e. cc e;
-        stands = λ i b e. let empty : filled s past i ≡ None = ap (λ (f : ℕ → Option ℕ). f i) none in cc (sym empty ∙ e);
+        stands = λ i b e. let empty : filled s past i ≡ None = ap (λ (f : ℕ → Option ℕ). f i) none in cc;
       })
   setup_own at is (Moves v moving same yet m) = cc (sym still ∙ moving)
   setup_own at is (ReadEnded n r e there same stands) = absurd (not_both s k.outstanding q (subst (λ (t : ℕ). find (λ p. p.tag == t) k.outstanding ≡ Some q) at found) e.outstanding)
-  setup_own at is (WriteEnded n w e there own from stands) = absurd (not_both s k.outstanding q (subst (λ (t : ℕ). find (λ p. p.tag == t) k.outstanding ≡ Some q) at found) e.outstanding)
+  setup_own at is (WriteEnded n w e there same stands) = absurd (not_both s k.outstanding q (subst (λ (t : ℕ). find (λ p. p.tag == t) k.outstanding ≡ Some q) at found) e.outstanding)
 
   differs : eqb tag s ≡ false → eqb q.tag s ≡ false
   differs other =
@@ -144,13 +179,13 @@ module _ (s tag offset count : ℕ) (to_host : Bool) (c q : Command) (past : His
       subst (λ (t : ℕ). eqb t s ≡ false) (sym is) other
 
   setup_other : eqb tag s ≡ false → InLife s c past k → InLife s c (SetUp tag offset count to_host ∷ past) (starts_moving k offset count (Some q))
-  setup_other other (Unsent free unset none) = Unsent (record { outstanding = free.outstanding; unanswered = free.unanswered; moving = differs other }) other none
+  setup_other other (Unsent free quiet unset none) = Unsent (record { outstanding = free.outstanding; unanswered = free.unanswered; moving = differs other }) quiet other none
   setup_other other (Open here yet beside unset none) = Open here yet (differs other) other none
   setup_other other (Moves v moving same yet m) = cc (sym still ∙ moving)
   setup_other other (ReadEnded n r e there same stands) =
       ReadEnded n r (record { unanswered = e.unanswered; outstanding = e.outstanding; moving = differs other; unset = other }) there same stands
-  setup_other other (WriteEnded n w e there own from stands) =
-      WriteEnded n w (record { unanswered = e.unanswered; outstanding = e.outstanding; moving = differs other; unset = other }) there own from stands
+  setup_other other (WriteEnded n w e there same stands) =
+      WriteEnded n w (record { unanswered = e.unanswered; outstanding = e.outstanding; moving = differs other; unset = other }) there same stands
 
 pub setups_start : SetupsStart
 setups_start s tag offset count to_host c q past k still found fits life = elim (cases_Bool (eqb tag s)) [

@@ -1,7 +1,7 @@
 -- What the ledger of a disk's FISes, as the host's end of the link tells it, and the history of the device's events at the
 -- host's port say of one queued command: where it stands, and that each byte which is filled is the byte that the ledger has
 -- there (Serial ATA 3.x, 13.6, native command queuing; AHCI 1.3.1, 5.3 and 9.3). No FIS is on its way between the two.
-use Rattle.std.specs.Prelude.{ℕ, ◌≡◌, ◌+◌, ◌*◌, ◌==◌, ◌≤◌, ◌⊎◌, Bool, true, false, List, [], ◌∷◌, length, slice_get, find, Option, Some, None}
+use Rattle.std.specs.Prelude.{ℕ, ◌≡◌, ◌+◌, ◌*◌, ◌==◌, ◌≤◌, ◌⊎◌, Bool, true, false, List, [], ◌∷◌, ◌++◌, length, slice_get, find, Option, Some, None}
 use Rattle.std.specs.List.{list_any}
 use Rattle.disk_model.specs.declared.request.Command.{Command}
 use Rattle.disk_model.specs.Chunks.{put}
@@ -9,7 +9,7 @@ use Rattle.disk_model.specs.Ends.{IsFree, MovesOther, has}
 use Rattle.disk_model.specs.Laws.{bytes_named}
 use Rattle.disk_model.specs.declared.request.Request.TheVariants.{Queue}
 use Rattle.disk_model.specs.Ledger.{Ledger, Moving, ReadOut, Written, asks, starts_moving}
-use Rattle.hba_laws.specs.History.{Carried, History, Issued, Sent, SetUp, Transfer, filled, filled_from, is_set_up, next_number, none_filled}
+use Rattle.hba_laws.specs.History.{Carried, History, Issued, Sent, SetUp, Transfer, filled, filled_from, is_at, is_set_up, next_number, none_filled, waiting_in}
 
 -- each filled byte is the one that stands in these bytes
 abbrev pub Stand : (ℕ → Option ℕ) → List ℕ → Type 0
@@ -20,15 +20,36 @@ abbrev pub Unset : Option Moving → Bool → Type 0
 Unset None set_up = Unit {0}
 Unset (Some v) set_up = set_up ≡ false
 
+-- the tag stands among these once
+pub record StandsOnce (s : ℕ) (tags : List ℕ) : Type 0 where
+  pub ahead : List ℕ
+  pub behind : List ℕ
+  pub is : tags ≡ ahead ++ s ∷ behind
+  pub not_ahead : has s ahead ≡ false
+  pub not_behind : has s behind ≡ false
+
 -- a tag that ended and was not answered, where the last DMA Setup was its own or not
 pub record IsEndedBy (s : ℕ) (set_up : Bool) (k : Ledger) : Type 0 where
-  pub unanswered : has s k.unanswered ≡ true
+  pub unanswered : StandsOnce s k.unanswered
   pub outstanding : list_any (λ q. q.tag == s) k.outstanding ≡ false
   pub moving : MovesOther s k.moving
   pub unset : Unset k.moving set_up
 
 abbrev pub IsEnded : ℕ → History → Ledger → Type 0
 IsEnded s past k = IsEndedBy s (is_set_up s past) k
+
+-- a read that ended is that of the command, and has as many bytes as that asks for
+pub record IsReadOf (c : Command) (r : ReadOut) : Type 0 where
+  pub command : r.command ≡ c
+  pub reads : c.write ≡ false
+  pub long : length r.bytes ≡ 512 * c.count
+
+-- a write that ended is that of the command, which has the tag
+pub record IsWriteOf (s : ℕ) (c : Command) (w : Written) : Type 0 where
+  pub tag : w.tag ≡ s
+  pub at : w.at ≡ 512 * c.lba
+  pub writes : c.write ≡ true
+  pub long : length w.bytes ≡ 512 * c.count
 
 -- The data of slot s moves: its DMA Setup was the last one, and the next byte is the first that it names, or all of them moved.
 pub record IsMovingAt (s : ℕ) (v : Moving) (past : History) : Type 0 where
@@ -42,15 +63,15 @@ pub record IsMovingAt (s : ℕ) (v : Moving) (past : History) : Type 0 where
 -- a queued command c that is issued in slot s, by what the FISes tell: it was not sent, it is outstanding, its data moves, or
 -- it ended
 pub data InLife (s : ℕ) (c : Command) (past : History) (k : Ledger) : Type 0 where
-  Unsent : IsFree k s → is_set_up s past ≡ false → filled s past ≡ none_filled → InLife s c past k
+  Unsent : IsFree k s → is_at s (waiting_in past) ≡ false → is_set_up s past ≡ false → filled s past ≡ none_filled → InLife s c past k
   Open : find (λ q. q.tag == s) k.outstanding ≡ Some c → has s k.unanswered ≡ false → MovesOther s k.moving
       → is_set_up s past ≡ false → filled s past ≡ none_filled → InLife s c past k
   Moves : (v : Moving) → k.moving ≡ Some v → v.command ≡ c → has s k.unanswered ≡ false → IsMovingAt s v past
       → InLife s c past k
-  ReadEnded : (at : ℕ) (r : ReadOut) → IsEnded s past k → slice_get k.reads at ≡ Some r → r.command ≡ c
+  ReadEnded : (at : ℕ) (r : ReadOut) → IsEnded s past k → slice_get k.reads at ≡ Some r → IsReadOf c r
       → Stand (filled s past) r.bytes → InLife s c past k
-  WriteEnded : (at : ℕ) (w : Written) → IsEnded s past k → slice_get k.writes at ≡ Some w → w.tag ≡ s
-      → w.at ≡ 512 * c.lba → Stand (filled s past) w.bytes → InLife s c past k
+  WriteEnded : (at : ℕ) (w : Written) → IsEnded s past k → slice_get k.writes at ≡ Some w → IsWriteOf s c w
+      → Stand (filled s past) w.bytes → InLife s c past k
 
 -- ---- the laws, a kind of event each
 
@@ -61,10 +82,10 @@ pub record IssuesKeep : Type 0 where
   pub other : (s slot : ℕ) (c : Command) (t : Transfer) (past : History) (k : Ledger) → (slot == s) ≡ false
       → InLife s c past k → InLife s c (Issued slot t ∷ past) k
 
--- the command of the slot goes out, and that of another slot
+-- the command of the slot goes out, where its tag is free, and that of another slot
 pub record CommandsKeep : Type 0 where
   pub own : (s : ℕ) (c : Command) (past : History) (k : Ledger) → c.tag ≡ s → k.failed ≡ false → IsFree k s
-      → is_set_up s past ≡ false → filled s past ≡ none_filled → InLife s c (Sent s ∷ past) (asks k (Queue c) k.failed)
+      → InLife s c past k → InLife s c (Sent s ∷ past) (asks k (Queue c) k.failed)
   pub other : (s : ℕ) (c other : Command) (past : History) (k : Ledger) → (other.tag == s) ≡ false → k.failed ≡ false
       → IsFree k other.tag → InLife s c past k → InLife s c (Sent other.tag ∷ past) (asks k (Queue other) k.failed)
 
