@@ -1,3 +1,4 @@
 pub mod SameLemmas
 pub mod MoveLemmas
 pub mod DataLemmas
+pub mod AnswerLemmas

@@ -1,5 +1,6 @@
 //! Laws of a host's two views of a disk. The functions do nothing when they run.
 
+ghost use Rattle.disk_ends.specs.Answers.{AnswersKeep, NamesKeep, OthersKeep};
 ghost use Rattle.disk_ends.specs.Same.{CommandsKeep, DataFills, IssuesKeep, SetupsStart};
 ghost use Rattle.disk_ends.specs.Steps.{ActivatesKeep, DataDown, DataUp, SetupsGoOn};
 
@@ -29,4 +30,17 @@ pub fn data_fills_what_moves()
 pub fn data_keeps_the_same()
     ensures up { DataUp }
     ensures down { DataDown }
+{}
+
+/// A command that is not queued goes out, a Register FIS answers it, a PIO Setup and a page come:
+/// each leaves the queued commands of other slots as they stood.
+pub fn answers_keep_the_same()
+    ensures others { OthersKeep }
+    ensures answers { AnswersKeep }
+{}
+
+/// A command that a Set Device Bits FIS names ended with just the bytes that were filled, and its
+/// tag is free afterwards.
+pub fn names_are_of_what_ended()
+    ensures { NamesKeep }
 {}
