@@ -136,11 +136,11 @@ only_bit s t mask is set = elim (cases_Bool (eqb s t)) [
 ]
 
 -- the tag that is named stands first
-record StandsFirst (s : ℕ) (us : List ℕ) : Type 0 where
-  rest : List ℕ
-  is : us ≡ s ∷ rest
+pub record StandsFirst (s : ℕ) (us : List ℕ) : Type 0 where
+  pub rest : List ℕ
+  pub is : us ≡ s ∷ rest
 
-named_first : (s mask : ℕ) (us : List ℕ) → Names us mask → has_bit mask s ≡ true → StandsFirst s us
+pub named_first : (s mask : ℕ) (us : List ℕ) → Names us mask → has_bit mask s ≡ true → StandsFirst s us
 named_first s mask [] names set = absurd names
 named_first s mask (u ∷ us) names set = record { rest = us; is = ap (λ (t : ℕ). t ∷ us) (only_bit s u mask names set) }
 

@@ -2,3 +2,5 @@ pub mod SameLemmas
 pub mod MoveLemmas
 pub mod DataLemmas
 pub mod AnswerLemmas
+pub mod TalkLemmas
+pub mod TogetherLemmas

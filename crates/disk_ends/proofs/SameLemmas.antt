@@ -37,7 +37,7 @@ found_passes p (x ∷ xs) q found = passes_head p x q (p x) (find p xs) refl fou
 not_both : (tag : ℕ) (cs : List Command) (q : Command) → find (λ c. c.tag == tag) cs ≡ Some q → list_any (λ c. c.tag == tag) cs ≡ false → ⊥
 not_both tag cs q found none = cc (sym found ∙ none_found (λ c. c.tag == tag) cs none)
 
-free_more : (s : ℕ) (cs : List Command) (c : Command) → list_any (λ q. q.tag == s) cs ≡ false → eqb c.tag s ≡ false → list_any (λ q. q.tag == s) (cs ++ c ∷ []) ≡ false
+pub free_more : (s : ℕ) (cs : List Command) (c : Command) → list_any (λ q. q.tag == s) cs ≡ false → eqb c.tag s ≡ false → list_any (λ q. q.tag == s) (cs ++ c ∷ []) ≡ false
 free_more s cs c none other = list_any-append (λ (q : Command). q.tag == s) cs (c ∷ []) ∙ or_from _ _ none (or_from _ _ other refl)
 
 found_more : (s : ℕ) (cs : List Command) (c q : Command) → find (λ p. p.tag == s) cs ≡ Some q → find (λ p. p.tag == s) (cs ++ c ∷ []) ≡ Some q

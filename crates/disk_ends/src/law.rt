@@ -3,6 +3,7 @@
 ghost use Rattle.disk_ends.specs.Answers.{AnswersKeep, NamesKeep, OthersKeep};
 ghost use Rattle.disk_ends.specs.Same.{CommandsKeep, DataFills, IssuesKeep, SetupsStart};
 ghost use Rattle.disk_ends.specs.Steps.{ActivatesKeep, DataDown, DataUp, SetupsGoOn};
+ghost use Rattle.disk_ends.specs.Together.{SameGoesOn};
 
 /// A command that is issued in a slot whose tag is free, and then goes out, is one that the ledger
 /// has as outstanding with nothing filled; those of other slots stand as they stood.
@@ -43,4 +44,10 @@ pub fn answers_keep_the_same()
 /// tag is free afterwards.
 pub fn names_are_of_what_ended()
     ensures { NamesKeep }
+{}
+
+/// From the moment that the disk is plugged in both views say the same of each slot, and they go on
+/// to do so at each command that is issued or goes out, and at each FIS of the disk.
+pub fn both_views_go_on_together()
+    ensures { SameGoesOn }
 {}
