@@ -1,5 +1,5 @@
 -- What answers, and commands that are not queued, leave of each queued command.
-use Rattle.std.proofs.Common.{◌≡◌, ◌==◌, ◌||◌, eqb, ℕ, ◌+◌, ◌*◌, Bool, true, false, List, [], ◌∷◌, ◌++◌, length, refl, sym, ap, subst, ◌∙◌, inl, inr, Option, Some, None}
+use Rattle.std.proofs.Common.{◌≡◌, ◌==◌, eqb, ℕ, Bool, true, false, List, [], ◌∷◌, ◌++◌, refl, sym, ap, subst, ◌∙◌, inl, inr, Option, None}
 use Rattle.std.specs.Prelude.{◌^◌, ◌≢◌, if◌then◌else◌, slice_get, find, drop}
 use Rattle.std.specs.Int.{bit_at}
 use Rattle.std.specs.List.{list_any}
@@ -13,9 +13,9 @@ use Rattle.disk_model.specs.Ends.{FitsRequest, IsFree, MovesOther, has}
 use Rattle.disk_model.specs.Ledger.{Ledger, Moving, Names, ReadOut, Written, answered, answers, asks, sends_data}
 use Rattle.disk_model.proofs.CrossLemmas.{alone, asks_fits, has_left}
 use Rattle.hba_laws.specs.History.{Answered, Carried, History, Named, PioSetUp, Sent, filled, filled_from, is_at, is_set_up, next_number, none_filled, waiting_in}
-use Rattle.disk_ends.specs.Same.{InLife, IsEndedBy, IsMovingAt, Moves, Open, ReadEnded, StandsOnce, Unsent, Unset, WriteEnded}
+use Rattle.disk_ends.specs.Same.{InLife, IsEndedBy, Moves, Open, ReadEnded, StandsOnce, Unsent, Unset, WriteEnded}
 use Rattle.disk_ends.specs.Answers.{AnswersKeep, ByRead, ByWrite, HasEnded, IsAlone, IsIdle, NamesKeep, OthersKeep}
-use Rattle.disk_ends.proofs.SameLemmas.{not_none, same_life}
+use Rattle.disk_ends.proofs.SameLemmas.{same_life}
 
 -- ## A ledger that says the same of queued commands
 

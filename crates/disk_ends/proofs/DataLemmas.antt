@@ -1,13 +1,12 @@
 -- What Data of the command that moves leaves of each queued command.
-use Rattle.std.proofs.Common.{◌≡◌, ◌&&◌, ◌||◌, ◌==◌, eqb, ℕ, zero, suc, ◌+◌, ◌-◌, ◌*◌, ◌≤◌, Bool, true, false, List, [], ◌∷◌, ◌++◌, append_assoc, length, refl, sym, ap, subst, ◌∙◌, inl, inr, Option, Some, None, arith}
+use Rattle.std.proofs.Common.{◌≡◌, ◌==◌, eqb, ℕ, zero, suc, ◌+◌, ◌*◌, Bool, true, false, List, [], ◌∷◌, ◌++◌, append_assoc, length, refl, sym, ap, subst, ◌∙◌, inl, inr, Option, Some, None, arith}
 use Rattle.std.specs.Prelude.{not, if◌then◌else◌, slice_get, find, filter}
 use Rattle.std.specs.List.{list_any}
 use Rattle.std.proofs.lemmas.Bool.{cases_Bool, eq-eqb, eqb-true, or_from}
-use Rattle.std.proofs.lemmas.List.Folds.{list_any-append}
 use Rattle.disk_model.specs.declared.request.Command.{Command}
 use Rattle.disk_model.specs.Chunks.{put}
-use Rattle.disk_model.specs.Ends.{IsAskedFor, IsFree, MovesOther, has}
-use Rattle.disk_model.specs.Laws.{CarriesNext, bytes_named}
+use Rattle.disk_model.specs.Ends.{MovesOther, has}
+use Rattle.disk_model.specs.Laws.{bytes_named}
 use Rattle.disk_model.specs.Ledger.{Ledger, Moving, ReadOut, Written, ends, sends_data, takes_data}
 use Rattle.disk_model.proofs.CrossLemmas.{after_bytes, but_free, data_down, goes_by, has_more, is_all, with_bytes}
 use Rattle.disk_model.proofs.PlaceLemmas.{length-put}

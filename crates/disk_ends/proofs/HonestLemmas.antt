@@ -1,7 +1,7 @@
 -- What a queued command that is done brought, or left on the medium.
-use Rattle.std.proofs.Common.{◌≡◌, ◌==◌, ◌&&◌, eqb, ℕ, zero, suc, ◌+◌, ◌*◌, ◌<◌, ◌≤◌, Bool, true, false, List, [], ◌∷◌, ◌++◌, length, refl, sym, ap, subst, ◌∙◌, inl, inr, Option, Some, None, Ok, Result, arith}
+use Rattle.std.proofs.Common.{◌≡◌, ◌==◌, ◌&&◌, ℕ, zero, suc, ◌+◌, ◌<◌, Bool, true, false, List, [], ◌∷◌, ◌++◌, get_or, refl, sym, ap, subst, ◌∙◌, inl, inr, Option, Some, None, Ok, Result, arith}
 use Rattle.std.specs.Prelude.{All, is_some, slice_get}
-use Rattle.std.specs.List.{get_or, list_all, range_with_len}
+use Rattle.std.specs.List.{range_with_len}
 use Rattle.std.proofs.lemmas.Bool.{and_parts, cases_Bool, eq-eqb, true≢false}
 use Rattle.std.proofs.lemmas.List.Elements.{All-head, All-tail}
 use Rattle.std.proofs.lemmas.List.Folds.{list_all_at}
@@ -14,18 +14,15 @@ use Rattle.fis_view.specs.declared.view.Fis.TheVariants as view
 use Rattle.fis_view.specs.declared.view.FisFault.{FisFault}
 use Rattle.slots.specs.Slots.{has_bit}
 use Rattle.slots.specs.Work.{is_queued}
-use Rattle.disk_model.specs.declared.plan.DiskPlan.{DiskPlan}
 use Rattle.disk_model.specs.declared.request.Command.{Command}
 use Rattle.disk_model.specs.Chunks.{sectors_at}
-use Rattle.disk_model.specs.Ends.{AnswersNext, AreEntered, AreRight, EndsAgree, IsBits, IsCareful, IsLinked, IsRight}
-use Rattle.disk_model.specs.Histories.{Happening, Sent}
-use Rattle.disk_model.specs.Ledger.{IsRead, IsSize, Ledger, Names, ReadOut, Written, ledger, listens, medium_with}
-use Rattle.disk_model.specs.Runs.{IsDiskRun}
+use Rattle.disk_model.specs.Ends.{AreEntered, AreRight, EndsAgree, IsBits, IsRight}
+use Rattle.disk_model.specs.Histories.{Sent}
+use Rattle.disk_model.specs.Ledger.{IsRead, Ledger, Names, ReadOut, Written, ledger, listens, medium_with}
 use Rattle.disk_model.proofs.EndsLemmas.{ends_agree}
-use Rattle.hba_laws.specs.History.{History, Named, Transfer, completes, filled, is_all_filled, issued}
+use Rattle.hba_laws.specs.History.{History, Named, Transfer, completes, filled, is_all_filled}
 use Rattle.disk_ends.specs.Same.{IsReadOf, IsWriteOf, Stand}
 use Rattle.disk_ends.specs.Answers.{ByRead, ByWrite, HasEnded}
-use Rattle.disk_ends.specs.Together.{Same}
 use Rattle.disk_ends.specs.Honest.{AreFilledBy, BroughtSectors, DoneIsHonest, IsDoneHonestly, IsOnMedium, NextIsRight}
 use Rattle.disk_ends.proofs.AnswerLemmas.{StandsFirst, named_first, names_keep}
 
@@ -88,7 +85,7 @@ named_by s mask past t done =
     record { bit = parts.0; filled_is = more.1 }
 
 other_way : {X : Type 0} (b : Bool) → b ≡ false → b ≡ true → X
-other_way b no yes = absurd (true≢false (sym yes ∙ no))
+other_way b unset set = absurd (true≢false (sym set ∙ unset))
 
 brought : (sectors s at : ℕ) (c : Command) (past : History) (t : Transfer) (k : Ledger) (r : ReadOut) → is_all_filled (filled s past) t.work.len ≡ true → All (IsRead sectors) k.reads → slice_get k.reads at ≡ Some r → IsReadOf c r → Stand (filled s past) r.bytes
     → BroughtSectors sectors c (filled s past) t.work.len k

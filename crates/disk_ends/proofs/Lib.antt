@@ -4,3 +4,4 @@ pub mod DataLemmas
 pub mod AnswerLemmas
 pub mod TalkLemmas
 pub mod TogetherLemmas
+pub mod HonestLemmas

@@ -1,15 +1,12 @@
 -- What the further DMA Setups of a command, a DMA Activate and Data leave of each queued command.
-use Rattle.std.proofs.Common.{◌≡◌, ◌&&◌, ◌==◌, ◌⊎◌, eqb, ℕ, zero, suc, ◌+◌, ◌-◌, ◌*◌, ◌≤◌, Bool, true, false, List, [], ◌∷◌, ◌++◌, length, refl, sym, ap, subst, ◌∙◌, inl, inr, Option, Some, None, arith}
-use Rattle.std.specs.Prelude.{not, if◌then◌else◌, slice_get, find, filter}
-use Rattle.std.specs.List.{list_any}
+use Rattle.std.proofs.Common.{◌≡◌, eqb, ℕ, ◌+◌, ◌*◌, ◌≤◌, Bool, true, false, [], ◌∷◌, ◌++◌, refl, sym, ap, subst, ◌∙◌, inl, inr, Option, Some, arith}
 use Rattle.std.proofs.lemmas.Bool.{cases_Bool, eq-eqb, eqb-true}
 use Rattle.disk_model.specs.declared.request.Command.{Command}
-use Rattle.disk_model.specs.Chunks.{put}
-use Rattle.disk_model.specs.Ends.{IsFree, MovesOther, has}
+use Rattle.disk_model.specs.Ends.{MovesOther, has}
 use Rattle.disk_model.specs.Laws.{bytes_named}
 use Rattle.disk_model.specs.Ledger.{Ledger, Moving, activates, sets_up}
-use Rattle.hba_laws.specs.History.{Carried, History, SetUp, filled, filled_from, is_at, is_set_up, next_number, none_filled, waiting_in}
-use Rattle.disk_ends.specs.Same.{InLife, IsEndedBy, IsMovingAt, Moves, Open, ReadEnded, Stand, Unsent, Unset, WriteEnded}
+use Rattle.hba_laws.specs.History.{History, SetUp, filled, is_at, is_set_up, waiting_in}
+use Rattle.disk_ends.specs.Same.{InLife, IsMovingAt, Moves, Open, ReadEnded, Stand, Unsent, Unset, WriteEnded}
 use Rattle.disk_ends.specs.Steps.{ActivatesKeep, SetupsGoOn}
 
 -- ## Whose data moves

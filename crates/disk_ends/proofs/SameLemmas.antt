@@ -7,11 +7,10 @@ use Rattle.std.proofs.lemmas.Bool.{cases_Bool, and_parts, eq-eqb, eqb-true, or_f
 use Rattle.std.proofs.lemmas.List.{length-replicate}
 use Rattle.std.proofs.lemmas.List.Folds.{find-append, list_any-append}
 use Rattle.disk_model.specs.declared.request.Command.{Command}
-use Rattle.disk_model.specs.declared.request.Request.TheVariants.{Queue}
 use Rattle.disk_model.specs.Chunks.{put}
 use Rattle.disk_model.specs.Ends.{IsFree, MovesOther, has}
 use Rattle.disk_model.specs.Laws.{bytes_named}
-use Rattle.disk_model.specs.Ledger.{Ledger, Moving, asks, starts_moving}
+use Rattle.disk_model.specs.Ledger.{Ledger, Moving, starts_moving}
 use Rattle.disk_model.proofs.CrossLemmas.{opened, opens_free}
 use Rattle.disk_model.proofs.PutLemmas.{lie_where_put}
 use Rattle.hba_laws.specs.History.{Carried, History, Issued, Sent, SetUp, Transfer, filled, filled_from, is_at, is_set_up, next_number, none_filled, unless, waiting_in}

@@ -1,15 +1,14 @@
 -- What each event leaves of the answers that are still to come.
-use Rattle.std.proofs.Common.{◌≡◌, ◌==◌, eqb, ℕ, ◌+◌, Bool, true, false, List, [], ◌∷◌, ◌++◌, refl, sym, ap, subst, ◌∙◌, inl, inr, Option, Some, None, Ok, arith}
+use Rattle.std.proofs.Common.{◌≡◌, ◌==◌, eqb, ℕ, Bool, false, List, [], ◌∷◌, ◌++◌, refl, sym, ap, subst, ◌∙◌, inl, inr, Option, Some, None, arith}
 use Rattle.std.specs.Prelude.{◌≢◌, if◌then◌else◌, drop, find}
 use Rattle.std.proofs.lemmas.Bool.{cases_Bool, eq-eqb, eqb-true, true≢false}
 use Rattle.std.proofs.lemmas.Bool.Decides.{nat_tests}
 use Rattle.fis_view.specs.Table.{BufferId, Setup, field}
-use Rattle.fis_view.specs.declared.view.Fis.TheVariants as view
 use Rattle.slots.specs.Slots.{match_some}
 use Rattle.disk_model.specs.declared.request.Command.{Command}
 use Rattle.disk_model.specs.declared.request.Request.{Request}
 use Rattle.disk_model.specs.declared.request.Request.TheVariants as asked
-use Rattle.disk_model.specs.Ends.{FitsRequest, PageAsked, Rests}
+use Rattle.disk_model.specs.Ends.{FitsRequest, Rests}
 use Rattle.disk_model.specs.Laws.{ActivatesRight, AnswersFirst, SetsUpRight, ShowsFirst, StartsOne}
 use Rattle.disk_model.specs.Ledger.{Accepts, Finishes, IdentifyData, Ledger, LogOf, Moving, Names, Refuses, Reply, ShowsPage, Signs, Wanted, answered}
 use Rattle.disk_model.proofs.CrossLemmas.{alone, opened}

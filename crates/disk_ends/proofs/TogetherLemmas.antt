@@ -1,8 +1,7 @@
 -- Both views of a disk go on to say the same.
-use Rattle.std.proofs.Common.{◌≡◌, ◌==◌, ◌&&◌, eqb, ℕ, ◌+◌, ◌*◌, ◌≤◌, Bool, true, false, List, [], ◌∷◌, ◌++◌, length, refl, sym, ap, subst, ◌∙◌, inl, inr, Option, Some, None, Ok, Err, Result}
+use Rattle.std.proofs.Common.{◌≡◌, ◌==◌, ◌&&◌, eqb, ℕ, Bool, true, false, List, [], ◌∷◌, ◌++◌, refl, sym, ap, subst, ◌∙◌, inl, inr, Option, Some, None, Ok, Err, Result}
 use Rattle.std.specs.Prelude.{◌≢◌, not, if◌then◌else◌, drop, find}
-use Rattle.std.specs.List.{list_any}
-use Rattle.std.proofs.lemmas.Bool.{and_parts, cases_Bool, eq-eqb, eqb-true, true≢false}
+use Rattle.std.proofs.lemmas.Bool.{and_parts, cases_Bool, eqb-true, true≢false}
 use Rattle.fis_view.specs.Table.{Bits, BufferId, EStatus, Offset, Pio, SActive, Setup, field}
 use Rattle.fis_view.specs.Table as table
 use Rattle.fis_view.specs.declared.view.Fis.{Fis}
@@ -16,15 +15,15 @@ use Rattle.disk_model.specs.declared.request.Command.{Command}
 use Rattle.disk_model.specs.declared.request.Request.{Request}
 use Rattle.disk_model.specs.declared.request.Request.TheVariants.{Queue}
 use Rattle.disk_model.specs.declared.request.Request.TheVariants as asked
-use Rattle.disk_model.specs.Ends.{FitsData, FitsRequest, IsAskedFor, IsFree, IsRight, MovesOther, PageAsked, has}
+use Rattle.disk_model.specs.Ends.{FitsData, FitsRequest, IsFree, IsRight, MovesOther, PageAsked}
 use Rattle.disk_model.specs.Histories.{Plugged}
 use Rattle.disk_model.specs.Laws.{ActivatesRight, AsksOnce, CarriesNext, CarriesRight, SetsUpNext, SetsUpRight, StartsOne}
-use Rattle.disk_model.specs.Ledger.{Ledger, Moving, Signs, activates, answered, answers, asks, empty, ends, has_error, listens, listens_up, sends_data, sets_up, starts_moving, takes_data}
+use Rattle.disk_model.specs.Ledger.{Ledger, Moving, Signs, activates, answers, asks, empty, ends, listens, listens_up, sends_data, sets_up, starts_moving, takes_data}
 use Rattle.disk_model.proofs.CrossLemmas.{after_bytes, alone, asks_fits, bits_up, but_free, data_down, goes_by, has_more, is_all, opened, opens_free, with_bytes}
 use Rattle.disk_model.proofs.EntersLemmas.{up_leaves}
-use Rattle.hba_laws.specs.History.{Answered, Carried, History, Issued, Named, PioSetUp, Sent, SetUp, Transfer, completes, is_at, is_set_up, issued, unless, waiting_in}
+use Rattle.hba_laws.specs.History.{Answered, Carried, History, Issued, Named, Sent, SetUp, Transfer, completes, is_at, issued, unless, waiting_in}
 use Rattle.disk_ends.specs.Same.{InLife}
-use Rattle.disk_ends.specs.Answers.{IsAlone, IsIdle}
+use Rattle.disk_ends.specs.Answers.{IsAlone}
 use Rattle.disk_ends.specs.Together.{EndsNamed, InTalk, NoneQueued, NothingWaits, QueuesOne, Replies, Same, SameGoesOn, is_sent, told, with_command}
 use Rattle.disk_ends.proofs.AnswerLemmas.{IsBeside, answers_keep, asks_beside, free_beside, names_keep, others_keep}
 use Rattle.disk_ends.proofs.DataLemmas.{data_comes_down, data_up}

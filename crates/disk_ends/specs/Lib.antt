@@ -2,3 +2,4 @@ pub mod Same
 pub mod Steps
 pub mod Answers
 pub mod Together
+pub mod Honest

@@ -1,7 +1,7 @@
 -- What the ledger of a disk's FISes, as the host's end of the link tells it, and the history of the device's events at the
 -- host's port say of one queued command: where it stands, and that each byte which is filled is the byte that the ledger has
 -- there (Serial ATA 3.x, 13.6, native command queuing; AHCI 1.3.1, 5.3 and 9.3). No FIS is on its way between the two.
-use Rattle.std.specs.Prelude.{ℕ, ◌≡◌, ◌+◌, ◌*◌, ◌==◌, ◌≤◌, ◌⊎◌, Bool, true, false, List, [], ◌∷◌, ◌++◌, length, slice_get, find, Option, Some, None}
+use Rattle.std.specs.Prelude.{ℕ, ◌≡◌, ◌+◌, ◌*◌, ◌==◌, ◌≤◌, ◌⊎◌, Bool, true, false, List, ◌∷◌, ◌++◌, length, slice_get, find, Option, Some, None}
 use Rattle.std.specs.List.{list_any}
 use Rattle.disk_model.specs.declared.request.Command.{Command}
 use Rattle.disk_model.specs.Chunks.{put}
@@ -9,7 +9,7 @@ use Rattle.disk_model.specs.Ends.{IsFree, MovesOther, has}
 use Rattle.disk_model.specs.Laws.{bytes_named}
 use Rattle.disk_model.specs.declared.request.Request.TheVariants.{Queue}
 use Rattle.disk_model.specs.Ledger.{Ledger, Moving, ReadOut, Written, asks, starts_moving}
-use Rattle.hba_laws.specs.History.{Carried, History, Issued, Sent, SetUp, Transfer, filled, filled_from, is_at, is_set_up, next_number, none_filled, waiting_in}
+use Rattle.hba_laws.specs.History.{Carried, History, Issued, Sent, SetUp, Transfer, filled, is_at, is_set_up, next_number, none_filled, waiting_in}
 
 -- each filled byte is the one that stands in these bytes
 abbrev pub Stand : (ℕ → Option ℕ) → List ℕ → Type 0

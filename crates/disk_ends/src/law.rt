@@ -1,6 +1,7 @@
 //! Laws of a host's two views of a disk. The functions do nothing when they run.
 
 ghost use Rattle.disk_ends.specs.Answers.{AnswersKeep, NamesKeep, OthersKeep};
+ghost use Rattle.disk_ends.specs.Honest.{DoneIsHonest, NextIsRight};
 ghost use Rattle.disk_ends.specs.Same.{CommandsKeep, DataFills, IssuesKeep, SetupsStart};
 ghost use Rattle.disk_ends.specs.Steps.{ActivatesKeep, DataDown, DataUp, SetupsGoOn};
 ghost use Rattle.disk_ends.specs.Together.{SameGoesOn};
@@ -50,4 +51,11 @@ pub fn names_are_of_what_ended()
 /// to do so at each command that is issued or goes out, and at each FIS of the disk.
 pub fn both_views_go_on_together()
     ensures { SameGoesOn }
+{}
+
+/// A queued command that is done was done honestly, whatever is on its way between disk and host: a
+/// read brought its sectors of the medium, and a write is on it.
+pub fn done_is_honest()
+    ensures next { NextIsRight }
+    ensures done { DoneIsHonest }
 {}
