@@ -46,10 +46,10 @@ life_beside s c past k x b (Unsent free quiet unset none) = Unsent (free_beside 
 life_beside s c past k x b (Open found yet other unset none) =
     Open (ap (find (λ (q : Command). q.tag == s)) b.outstanding ∙ found) (ap (has s) b.unanswered ∙ yet) (subst (MovesOther s) (sym b.moving) other) unset none
 life_beside s c past k x b (Moves v moving same yet m) = Moves v (b.moving ∙ moving) same (ap (has s) b.unanswered ∙ yet) m
-life_beside s c past k x b (ReadEnded at r e there same stands) =
-    ReadEnded at r (ended_same s (is_set_up s past) k x b e) (ap (λ (rs : List ReadOut). slice_get rs at) b.reads ∙ there) same stands
-life_beside s c past k x b (WriteEnded at w e there same stands) =
-    WriteEnded at w (ended_same s (is_set_up s past) k x b e) (ap (λ (ws : List Written). slice_get ws at) b.writes ∙ there) same stands
+life_beside s c past k x b (ReadEnded at r e quiet there same stands) =
+    ReadEnded at r (ended_same s (is_set_up s past) k x b e) quiet (ap (λ (rs : List ReadOut). slice_get rs at) b.reads ∙ there) same stands
+life_beside s c past k x b (WriteEnded at w e quiet there same stands) =
+    WriteEnded at w (ended_same s (is_set_up s past) k x b e) quiet (ap (λ (ws : List Written). slice_get ws at) b.writes ∙ there) same stands
 
 -- ## Where no queued command is there
 
@@ -70,10 +70,10 @@ idle_unsent s c past k idle (Open found yet other unset none) =
     let empty : find (λ q. q.tag == s) k.outstanding ≡ None = ap (find (λ (q : Command). q.tag == s)) idle.outstanding in
     cc (sym empty ∙ found)
 idle_unsent s c past k idle (Moves v moving same yet m) = cc (sym idle.moving ∙ moving)
-idle_unsent s c past k idle (ReadEnded at r e there same stands) =
+idle_unsent s c past k idle (ReadEnded at r e quiet there same stands) =
     let once : StandsOnce s k.unanswered = e.unanswered in
     absurd (once_empty s k.unanswered once.ahead once.behind idle.unanswered once.is)
-idle_unsent s c past k idle (WriteEnded at w e there same stands) =
+idle_unsent s c past k idle (WriteEnded at w e quiet there same stands) =
     let once : StandsOnce s k.unanswered = e.unanswered in
     absurd (once_empty s k.unanswered once.ahead once.behind idle.unanswered once.is)
 
@@ -186,8 +186,15 @@ name_ends : (s mask : ℕ) (c : Command) (past : History) (k : Ledger) → Names
 name_ends s mask c past k names set (Unsent free quiet unset none) = absurd (first_stands s k.unanswered (named_first s mask k.unanswered names set) free.unanswered)
 name_ends s mask c past k names set (Open found yet other unset none) = absurd (first_stands s k.unanswered (named_first s mask k.unanswered names set) yet)
 name_ends s mask c past k names set (Moves v moving same yet m) = absurd (first_stands s k.unanswered (named_first s mask k.unanswered names set) yet)
-name_ends s mask c past k names set (ReadEnded at r e there same stands) = ByRead at r there same stands
-name_ends s mask c past k names set (WriteEnded at w e there same stands) = ByWrite at w there same stands
+name_ends s mask c past k names set (ReadEnded at r e quiet there same stands) = ByRead at r there same stands
+name_ends s mask c past k names set (WriteEnded at w e quiet there same stands) = ByWrite at w there same stands
+
+name_quiet : (s mask : ℕ) (c : Command) (past : History) (k : Ledger) → Names k.unanswered mask → has_bit mask s ≡ true → InLife s c past k → is_at s (waiting_in past) ≡ false
+name_quiet s mask c past k names set (Unsent free quiet unset none) = quiet
+name_quiet s mask c past k names set (Open found yet other unset none) = absurd (first_stands s k.unanswered (named_first s mask k.unanswered names set) yet)
+name_quiet s mask c past k names set (Moves v moving same yet m) = m.quiet
+name_quiet s mask c past k names set (ReadEnded at r e quiet there same stands) = quiet
+name_quiet s mask c past k names set (WriteEnded at w e quiet there same stands) = quiet
 
 free_ended : (s mask error : ℕ) (b : Bool) (k : Ledger) → Names k.unanswered mask → has_bit mask s ≡ true → IsEndedBy s b k → IsFree (answers k error false) s
 free_ended s mask error b k names set e =
@@ -197,8 +204,8 @@ name_frees : (s mask error : ℕ) (c : Command) (past : History) (k : Ledger) �
 name_frees s mask error c past k names set (Unsent free quiet unset none) = absurd (first_stands s k.unanswered (named_first s mask k.unanswered names set) free.unanswered)
 name_frees s mask error c past k names set (Open found yet other unset none) = absurd (first_stands s k.unanswered (named_first s mask k.unanswered names set) yet)
 name_frees s mask error c past k names set (Moves v moving same yet m) = absurd (first_stands s k.unanswered (named_first s mask k.unanswered names set) yet)
-name_frees s mask error c past k names set (ReadEnded at r e there same stands) = free_ended s mask error (is_set_up s past) k names set e
-name_frees s mask error c past k names set (WriteEnded at w e there same stands) = free_ended s mask error (is_set_up s past) k names set e
+name_frees s mask error c past k names set (ReadEnded at r e quiet there same stands) = free_ended s mask error (is_set_up s past) k names set e
+name_frees s mask error c past k names set (WriteEnded at w e quiet there same stands) = free_ended s mask error (is_set_up s past) k names set e
 
 ended_left : (s mask error : ℕ) (b : Bool) (k : Ledger) → Names k.unanswered mask → has_bit mask s ≡ false → IsEndedBy s b k → IsEndedBy s b (answers k error false)
 ended_left s mask error b k names unset e =
@@ -209,9 +216,9 @@ name_other s mask error c past k names other (Unsent free quiet unset none) =
     Unsent (record { outstanding = free.outstanding; unanswered = has_left s k.unanswered free.unanswered; moving = free.moving }) quiet unset none
 name_other s mask error c past k names other (Open found yet beside unset none) = Open found (has_left s k.unanswered yet) beside unset none
 name_other s mask error c past k names other (Moves v moving same yet m) =
-    Moves v moving same (has_left s k.unanswered yet) (record { long = m.long; set_up = m.set_up; inside = m.inside; fresh = m.fresh; asked = m.asked; stands = m.stands })
-name_other s mask error c past k names other (ReadEnded at r e there same stands) = ReadEnded at r (ended_left s mask error (is_set_up s past) k names other e) there same stands
-name_other s mask error c past k names other (WriteEnded at w e there same stands) = WriteEnded at w (ended_left s mask error (is_set_up s past) k names other e) there same stands
+    Moves v moving same (has_left s k.unanswered yet) (record { long = m.long; quiet = m.quiet; set_up = m.set_up; inside = m.inside; fresh = m.fresh; asked = m.asked; stands = m.stands })
+name_other s mask error c past k names other (ReadEnded at r e quiet there same stands) = ReadEnded at r (ended_left s mask error (is_set_up s past) k names other e) quiet there same stands
+name_other s mask error c past k names other (WriteEnded at w e quiet there same stands) = WriteEnded at w (ended_left s mask error (is_set_up s past) k names other e) quiet there same stands
 
 pub names_keep : NamesKeep
-names_keep = record { own = name_ends; free = name_frees; other = name_other }
+names_keep = record { own = name_ends; answered = name_quiet; free = name_frees; other = name_other }

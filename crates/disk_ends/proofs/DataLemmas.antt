@@ -100,11 +100,11 @@ ends_beside s c v past later k x moving other tag goes waits set fills (Open fou
     (ap (has s) goes.unanswered ∙ has_more s v.command.tag k.unanswered yet other)
     (subst (MovesOther s) (sym goes.moving) tt) (set ∙ unset) (fills ∙ none)
 ends_beside s c v past later k x moving other tag goes waits set fills (Moves u here same yet m) = absurd (not_own s c u v k moving here same tag other)
-ends_beside s c v past later k x moving other tag goes waits set fills (ReadEnded at r e there same stands) =
-    ReadEnded at r (subst (λ (b : Bool). IsEndedBy s b x) (sym set) (still_ended s (is_set_up s past) v.command.tag k x other goes e)) (goes.reads at r there) same
+ends_beside s c v past later k x moving other tag goes waits set fills (ReadEnded at r e quiet there same stands) =
+    ReadEnded at r (subst (λ (b : Bool). IsEndedBy s b x) (sym set) (still_ended s (is_set_up s past) v.command.tag k x other goes e)) (ap (is_at s) waits ∙ quiet) (goes.reads at r there) same
     (subst (λ (f : ℕ → Option ℕ). Stand f r.bytes) (sym fills) stands)
-ends_beside s c v past later k x moving other tag goes waits set fills (WriteEnded at w e there same stands) =
-    WriteEnded at w (subst (λ (b : Bool). IsEndedBy s b x) (sym set) (still_ended s (is_set_up s past) v.command.tag k x other goes e)) (goes.writes at w there) same
+ends_beside s c v past later k x moving other tag goes waits set fills (WriteEnded at w e quiet there same stands) =
+    WriteEnded at w (subst (λ (b : Bool). IsEndedBy s b x) (sym set) (still_ended s (is_set_up s past) v.command.tag k x other goes e)) (ap (is_at s) waits ∙ quiet) (goes.writes at w there) same
     (subst (λ (f : ℕ → Option ℕ). Stand f w.bytes) (sym fills) stands)
 
 goes_beside : (k : Ledger) (w : Moving) (write : Bool) → EndsBeside w.command.tag k (ends k w write)
@@ -136,12 +136,16 @@ put_long s v bytes past long at =
     let whole = at.long in
     length-put v.bytes bytes v.offset (omega (arith, inside, whole, long)) ∙ whole
 
+moved_quiet : (s : ℕ) (c : Command) (v : Moving) (past : History) (k : Ledger) → IsMoved s c v past k → is_at s (waiting_in past) ≡ false
+moved_quiet s c v past k m = let at : IsMovingAt s v past = m.at in at.quiet
+
 data_own : (s : ℕ) (c : Command) (v : Moving) (bytes : List ℕ) (past : History) (k : Ledger) (b write : Bool) → v.command.tag ≡ s → v.command.write ≡ write → length bytes ≡ v.count → v.moved + length bytes ≡ bytes_named v.setups
     → IsMoved s c v past k → InLife s c (Carried bytes ∷ past) (after_bytes k (with_bytes v bytes) b write)
 data_own s c v bytes past k false write own way long in_turn m =
     let at : IsMovingAt s v past = m.at in
     Moves (with_bytes v bytes) refl m.command m.yet (record {
       long = put_long s v bytes past long at;
+      quiet = at.quiet;
       set_up = at.set_up;
       inside = at.inside;
       fresh = inr in_turn;
@@ -150,7 +154,7 @@ data_own s c v bytes past k false write own way long in_turn m =
     })
 data_own s c v bytes past k true true own way long in_turn m =
     WriteEnded (length k.writes) (record { tag = v.command.tag; at = 512 * v.command.lba; bytes = put v.bytes v.offset bytes })
-    (ends_own s (is_set_up s past) k (with_bytes v bytes) true own m.yet) (get_last k.writes _)
+    (ends_own s (is_set_up s past) k (with_bytes v bytes) true own m.yet) (moved_quiet s c v past k m) (get_last k.writes _)
     (record {
       tag = own;
       at = ap (λ (q : Command). 512 * q.lba) m.command;
@@ -160,7 +164,7 @@ data_own s c v bytes past k true true own way long in_turn m =
     (data_fills s v bytes past m.at long in_turn)
 data_own s c v bytes past k true false own way long in_turn m =
     ReadEnded (length k.reads) (record { command = v.command; before = v.before; bytes = put v.bytes v.offset bytes })
-    (ends_own s (is_set_up s past) k (with_bytes v bytes) false own m.yet) (get_last k.reads _)
+    (ends_own s (is_set_up s past) k (with_bytes v bytes) false own m.yet) (moved_quiet s c v past k m) (get_last k.reads _)
     (record {
       command = m.command;
       reads = ap (λ (q : Command). q.write) (sym m.command) ∙ way;

@@ -34,8 +34,8 @@ pub unset_other : (s : ℕ) (c : Command) (v : Moving) (past : History) (k : Led
 unset_other s c v past k moving other tag (Unsent free quiet unset none) = unset
 unset_other s c v past k moving other tag (Open found yet beside unset none) = unset
 unset_other s c v past k moving other tag (Moves u here same yet m) = absurd (not_own s c u v k moving here same tag other)
-unset_other s c v past k moving other tag (ReadEnded at r e there same stands) = subst (λ (m : Option Moving). Unset m (is_set_up s past)) moving e.unset
-unset_other s c v past k moving other tag (WriteEnded at w e there same stands) = subst (λ (m : Option Moving). Unset m (is_set_up s past)) moving e.unset
+unset_other s c v past k moving other tag (ReadEnded at r e quiet there same stands) = subst (λ (m : Option Moving). Unset m (is_set_up s past)) moving e.unset
+unset_other s c v past k moving other tag (WriteEnded at w e quiet there same stands) = subst (λ (m : Option Moving). Unset m (is_set_up s past)) moving e.unset
 
 -- and it stands as it stood while that goes on
 pub other_life : (s : ℕ) (c : Command) (v w : Moving) (past later : History) (k : Ledger) → k.moving ≡ Some v → eqb v.command.tag s ≡ false → c.tag ≡ s → w.command ≡ v.command
@@ -49,10 +49,10 @@ other_life s c v w past later k moving other tag same waits unset fills life = b
     by_life (Unsent free quiet set none) = Unsent (record { outstanding = free.outstanding; unanswered = free.unanswered; moving = differs }) (ap (is_at s) waits ∙ quiet) unset (fills ∙ none)
     by_life (Open found yet beside set none) = Open found yet differs unset (fills ∙ none)
     by_life (Moves u here is yet m) = absurd (not_own s c u v k moving here is tag other)
-    by_life (ReadEnded at r e there is stands) =
-        ReadEnded at r (record { unanswered = e.unanswered; outstanding = e.outstanding; moving = differs; unset = unset }) there is (subst (λ (f : ℕ → Option ℕ). Stand f r.bytes) (sym fills) stands)
-    by_life (WriteEnded at x e there is stands) =
-        WriteEnded at x (record { unanswered = e.unanswered; outstanding = e.outstanding; moving = differs; unset = unset }) there is (subst (λ (f : ℕ → Option ℕ). Stand f x.bytes) (sym fills) stands)
+    by_life (ReadEnded at r e quiet there is stands) =
+        ReadEnded at r (record { unanswered = e.unanswered; outstanding = e.outstanding; moving = differs; unset = unset }) (ap (is_at s) waits ∙ quiet) there is (subst (λ (f : ℕ → Option ℕ). Stand f r.bytes) (sym fills) stands)
+    by_life (WriteEnded at x e quiet there is stands) =
+        WriteEnded at x (record { unanswered = e.unanswered; outstanding = e.outstanding; moving = differs; unset = unset }) (ap (is_at s) waits ∙ quiet) there is (subst (λ (f : ℕ → Option ℕ). Stand f x.bytes) (sym fills) stands)
 
 -- ## The slot's own data
 
@@ -71,8 +71,8 @@ own_life s c v past k moving own (Moves u here same yet m) =
       yet = yet;
       at = subst (λ (x : Moving). IsMovingAt s x past) uv m;
     }
-own_life s c v past k moving own (ReadEnded at r e there same stands) = absurd (none_of s v k moving own e.moving)
-own_life s c v past k moving own (WriteEnded at w e there same stands) = absurd (none_of s v k moving own e.moving)
+own_life s c v past k moving own (ReadEnded at r e quiet there same stands) = absurd (none_of s v k moving own e.moving)
+own_life s c v past k moving own (WriteEnded at w e quiet there same stands) = absurd (none_of s v k moving own e.moving)
 
 -- ## A further DMA Setup
 
@@ -84,6 +84,7 @@ setup_on s offset count to_host c v past k moving tag fits life = elim (cases_Bo
       let at : IsMovingAt s v past = own.at in
       Moves (record v { setups = v.setups ++ record { at = offset; count = count } ∷ []; offset = offset; count = count; active = false }) refl own.command own.yet (record {
         long = at.long;
+        quiet = at.quiet;
         set_up = is;
         inside = fits;
         fresh = inl (omega arith);
@@ -108,6 +109,7 @@ activate_on s c v past k moving tag in_turn life = elim (cases_Bool (eqb v.comma
       let at : IsMovingAt s v past = own.at in
       Moves (record v { active = true }) refl own.command own.yet (record {
         long = at.long;
+        quiet = at.quiet;
         set_up = at.set_up;
         inside = at.inside;
         fresh = at.fresh;

@@ -51,10 +51,11 @@ found_last s cs c none is =
 
 -- ## A history that says the same of a slot
 
-moving_as : (s : ℕ) (v : Moving) (past later : History) → is_set_up s later ≡ is_set_up s past → filled s later ≡ filled s past → next_number later ≡ next_number past
+moving_as : (s : ℕ) (v : Moving) (past later : History) → (is_at s (waiting_in past) ≡ false → is_at s (waiting_in later) ≡ false) → is_set_up s later ≡ is_set_up s past → filled s later ≡ filled s past → next_number later ≡ next_number past
     → IsMovingAt s v past → IsMovingAt s v later
-moving_as s v past later set fills next m = record {
+moving_as s v past later waits set fills next m = record {
   long = m.long;
+  quiet = waits m.quiet;
   set_up = set ∙ m.set_up;
   inside = m.inside;
   fresh = subst (λ (n : ℕ). (n ≡ v.offset) ⊎ (v.moved ≡ bytes_named v.setups)) (sym next) m.fresh;
@@ -66,11 +67,11 @@ pub same_life : (s : ℕ) (c : Command) (past later : History) (k : Ledger) → 
     → is_set_up s later ≡ is_set_up s past → filled s later ≡ filled s past → next_number later ≡ next_number past → InLife s c past k → InLife s c later k
 same_life s c past later k waits set fills next (Unsent free quiet unset none) = Unsent free (waits quiet) (set ∙ unset) (fills ∙ none)
 same_life s c past later k waits set fills next (Open found yet other unset none) = Open found yet other (set ∙ unset) (fills ∙ none)
-same_life s c past later k waits set fills next (Moves v moving same yet m) = Moves v moving same yet (moving_as s v past later set fills next m)
-same_life s c past later k waits set fills next (ReadEnded at r e there same stands) =
-    ReadEnded at r (subst (λ (b : Bool). IsEndedBy s b k) (sym set) e) there same (subst (λ (f : ℕ → Option ℕ). Stand f r.bytes) (sym fills) stands)
-same_life s c past later k waits set fills next (WriteEnded at w e there same stands) =
-    WriteEnded at w (subst (λ (b : Bool). IsEndedBy s b k) (sym set) e) there same (subst (λ (f : ℕ → Option ℕ). Stand f w.bytes) (sym fills) stands)
+same_life s c past later k waits set fills next (Moves v moving same yet m) = Moves v moving same yet (moving_as s v past later waits set fills next m)
+same_life s c past later k waits set fills next (ReadEnded at r e quiet there same stands) =
+    ReadEnded at r (subst (λ (b : Bool). IsEndedBy s b k) (sym set) e) (waits quiet) there same (subst (λ (f : ℕ → Option ℕ). Stand f r.bytes) (sym fills) stands)
+same_life s c past later k waits set fills next (WriteEnded at w e quiet there same stands) =
+    WriteEnded at w (subst (λ (b : Bool). IsEndedBy s b k) (sym set) e) (waits quiet) there same (subst (λ (f : ℕ → Option ℕ). Stand f w.bytes) (sym fills) stands)
 
 -- ## A command is issued
 
@@ -79,7 +80,7 @@ not_at : (s : ℕ) (w : Option ℕ) (b : Bool) → is_at s w ≡ b → is_at s (
 not_at s w true e = refl
 not_at s w false e = e
 
-still_not_at : (s : ℕ) (w : Option ℕ) (b : Bool) → is_at s w ≡ false → is_at s (unless b w) ≡ false
+pub still_not_at : (s : ℕ) (w : Option ℕ) (b : Bool) → is_at s w ≡ false → is_at s (unless b w) ≡ false
 still_not_at s w true e = refl
 still_not_at s w false e = e
 
@@ -120,8 +121,8 @@ fresh_life : (s : ℕ) (c : Command) (past : History) (k : Ledger) → c.tag ≡
 fresh_life s c past k tag free (Unsent f quiet unset none) = record { unset = unset; none = none }
 fresh_life s c past k tag free (Open found yet other unset none) = record { unset = unset; none = none }
 fresh_life s c past k tag free (Moves v moving same yet m) = absurd (not_moving s c v k.moving moving same tag free.moving)
-fresh_life s c past k tag free (ReadEnded at r e there same stands) = absurd (not_none s k.unanswered e.unanswered free.unanswered)
-fresh_life s c past k tag free (WriteEnded at w e there same stands) = absurd (not_none s k.unanswered e.unanswered free.unanswered)
+fresh_life s c past k tag free (ReadEnded at r e quiet there same stands) = absurd (not_none s k.unanswered e.unanswered free.unanswered)
+fresh_life s c past k tag free (WriteEnded at w e quiet there same stands) = absurd (not_none s k.unanswered e.unanswered free.unanswered)
 
 sent_own : (s : ℕ) (c : Command) (past : History) (k : Ledger) → c.tag ≡ s → IsFree k s → IsFresh s past → InLife s c (Sent s ∷ past) (opened k c)
 sent_own s c past k tag free fresh = Open (found_last s k.outstanding c free.outstanding tag) free.unanswered free.moving fresh.unset fresh.none
@@ -138,9 +139,9 @@ sent_other : (s : ℕ) (c other : Command) (past : History) (k : Ledger) → eqb
 sent_other s c other past k differs (Unsent free quiet unset none) =
     Unsent (record { outstanding = free_more s k.outstanding other free.outstanding differs; unanswered = free.unanswered; moving = free.moving }) differs unset none
 sent_other s c other past k differs (Open found yet beside unset none) = Open (found_more s k.outstanding other c found) yet beside unset none
-sent_other s c other past k differs (Moves v moving same yet m) = Moves v moving same yet (moving_as s v past (Sent other.tag ∷ past) refl refl refl m)
-sent_other s c other past k differs (ReadEnded at r e there same stands) = ReadEnded at r (ended_beside s (is_set_up s past) k other differs e) there same stands
-sent_other s c other past k differs (WriteEnded at w e there same stands) = WriteEnded at w (ended_beside s (is_set_up s past) k other differs e) there same stands
+sent_other s c other past k differs (Moves v moving same yet m) = Moves v moving same yet (moving_as s v past (Sent other.tag ∷ past) (λ quiet. differs) refl refl refl m)
+sent_other s c other past k differs (ReadEnded at r e quiet there same stands) = ReadEnded at r (ended_beside s (is_set_up s past) k other differs e) differs there same stands
+sent_other s c other past k differs (WriteEnded at w e quiet there same stands) = WriteEnded at w (ended_beside s (is_set_up s past) k other differs e) differs there same stands
 
 pub commands_keep : CommandsKeep
 commands_keep = record {
@@ -153,7 +154,7 @@ commands_keep = record {
 
 -- ## The first DMA Setup of a command
 
-module _ (s tag offset count : ℕ) (to_host : Bool) (c q : Command) (past : History) (k : Ledger) (still : k.moving ≡ None) (found : find (λ p. p.tag == tag) k.outstanding ≡ Some q) (fits : offset + count ≤ 512 * q.count) where
+module _ (s tag offset count : ℕ) (to_host : Bool) (c q : Command) (past : History) (k : Ledger) (still : k.moving ≡ None) (found : find (λ p. p.tag == tag) k.outstanding ≡ Some q) (answered : is_at tag (waiting_in past) ≡ false) (fits : offset + count ≤ 512 * q.count) where
   setup_own : tag ≡ s → eqb tag s ≡ true → InLife s c past k → InLife s c (SetUp tag offset count to_host ∷ past) (starts_moving k offset count (Some q))
   setup_own at is (Unsent free quiet unset none) = absurd (not_both s k.outstanding q (subst (λ (t : ℕ). find (λ p. p.tag == t) k.outstanding ≡ Some q) at found) free.outstanding)
   setup_own at is (Open here yet other unset none) =
@@ -162,6 +163,7 @@ module _ (s tag offset count : ℕ) (to_host : Bool) (c q : Command) (past : His
       let same : q ≡ c = cc both in
       Moves (record { command = q; before = k.writes; bytes = replicate (512 * q.count) 0; moved = 0; setups = record { at = offset; count = count } ∷ []; offset = offset; count = count; active = false }) refl same yet (record {
         long = length-replicate (512 * q.count) 0;
+        quiet = subst (λ (n : ℕ). is_at n (waiting_in past) ≡ false) at answered;
         set_up = is;
         inside = fits;
         fresh = inl (omega arith);
@@ -169,8 +171,8 @@ module _ (s tag offset count : ℕ) (to_host : Bool) (c q : Command) (past : His
         stands = λ i b e. let empty : filled s past i ≡ None = ap (λ (f : ℕ → Option ℕ). f i) none in cc;
       })
   setup_own at is (Moves v moving same yet m) = cc (sym still ∙ moving)
-  setup_own at is (ReadEnded n r e there same stands) = absurd (not_both s k.outstanding q (subst (λ (t : ℕ). find (λ p. p.tag == t) k.outstanding ≡ Some q) at found) e.outstanding)
-  setup_own at is (WriteEnded n w e there same stands) = absurd (not_both s k.outstanding q (subst (λ (t : ℕ). find (λ p. p.tag == t) k.outstanding ≡ Some q) at found) e.outstanding)
+  setup_own at is (ReadEnded n r e quiet there same stands) = absurd (not_both s k.outstanding q (subst (λ (t : ℕ). find (λ p. p.tag == t) k.outstanding ≡ Some q) at found) e.outstanding)
+  setup_own at is (WriteEnded n w e quiet there same stands) = absurd (not_both s k.outstanding q (subst (λ (t : ℕ). find (λ p. p.tag == t) k.outstanding ≡ Some q) at found) e.outstanding)
 
   differs : eqb tag s ≡ false → eqb q.tag s ≡ false
   differs other =
@@ -181,15 +183,15 @@ module _ (s tag offset count : ℕ) (to_host : Bool) (c q : Command) (past : His
   setup_other other (Unsent free quiet unset none) = Unsent (record { outstanding = free.outstanding; unanswered = free.unanswered; moving = differs other }) quiet other none
   setup_other other (Open here yet beside unset none) = Open here yet (differs other) other none
   setup_other other (Moves v moving same yet m) = cc (sym still ∙ moving)
-  setup_other other (ReadEnded n r e there same stands) =
-      ReadEnded n r (record { unanswered = e.unanswered; outstanding = e.outstanding; moving = differs other; unset = other }) there same stands
-  setup_other other (WriteEnded n w e there same stands) =
-      WriteEnded n w (record { unanswered = e.unanswered; outstanding = e.outstanding; moving = differs other; unset = other }) there same stands
+  setup_other other (ReadEnded n r e quiet there same stands) =
+      ReadEnded n r (record { unanswered = e.unanswered; outstanding = e.outstanding; moving = differs other; unset = other }) quiet there same stands
+  setup_other other (WriteEnded n w e quiet there same stands) =
+      WriteEnded n w (record { unanswered = e.unanswered; outstanding = e.outstanding; moving = differs other; unset = other }) quiet there same stands
 
 pub setups_start : SetupsStart
-setups_start s tag offset count to_host c q past k still found fits life = elim (cases_Bool (eqb tag s)) [
-  | inl is ↦ setup_own s tag offset count to_host c q past k still found fits (eqb-true tag s is) is life
-  | inr other ↦ setup_other s tag offset count to_host c q past k still found fits other life
+setups_start s tag offset count to_host c q past k still found answered fits life = elim (cases_Bool (eqb tag s)) [
+  | inl is ↦ setup_own s tag offset count to_host c q past k still found answered fits (eqb-true tag s is) is life
+  | inr other ↦ setup_other s tag offset count to_host c q past k still found answered fits other life
 ]
 
 -- ## Data

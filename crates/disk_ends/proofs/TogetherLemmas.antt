@@ -1,13 +1,13 @@
 -- Both views of a disk go on to say the same.
 use Rattle.std.proofs.Common.{◌≡◌, ◌==◌, ◌&&◌, eqb, ℕ, Bool, true, false, List, [], ◌∷◌, ◌++◌, refl, sym, ap, subst, ◌∙◌, inl, inr, Option, Some, None, Ok, Err, Result}
 use Rattle.std.specs.Prelude.{◌≢◌, not, if◌then◌else◌, drop, find}
-use Rattle.std.proofs.lemmas.Bool.{and_parts, cases_Bool, eqb-true, true≢false}
+use Rattle.std.proofs.lemmas.Bool.{and_parts, cases_Bool, eq-eqb, eqb-true, true≢false}
 use Rattle.fis_view.specs.Table.{Bits, BufferId, EStatus, Offset, Pio, SActive, Setup, field}
 use Rattle.fis_view.specs.Table as table
 use Rattle.fis_view.specs.declared.view.Fis.{Fis}
 use Rattle.fis_view.specs.declared.view.Fis.TheVariants as view
 use Rattle.fis_view.specs.declared.view.FisFault.{FisFault}
-use Rattle.slots.specs.Slots.{has_bit, is_pio, match_some}
+use Rattle.slots.specs.Slots.{has_bit, is_pio}
 use Rattle.slots.specs.Work.{is_queued}
 use Rattle.slots.specs.declared.work.Kind.{Kind}
 use Rattle.slots.specs.declared.work.Kind.TheVariants.{QueuedRead, QueuedWrite, PioIn, NoData, Control}
@@ -19,17 +19,17 @@ use Rattle.disk_model.specs.Ends.{FitsData, FitsRequest, IsFree, IsRight, MovesO
 use Rattle.disk_model.specs.Histories.{Plugged}
 use Rattle.disk_model.specs.Laws.{ActivatesRight, AsksOnce, CarriesNext, CarriesRight, SetsUpNext, SetsUpRight, StartsOne}
 use Rattle.disk_model.specs.Ledger.{Ledger, Moving, Signs, activates, answers, asks, empty, ends, listens, listens_up, sends_data, sets_up, starts_moving, takes_data}
-use Rattle.disk_model.proofs.CrossLemmas.{after_bytes, alone, asks_fits, bits_up, but_free, data_down, goes_by, has_more, is_all, opened, opens_free, with_bytes}
+use Rattle.disk_model.proofs.CrossLemmas.{after_bytes, alone, asks_fits, bits_up, but_free, data_down, found_not, goes_by, has_more, is_all, opened, opens_free, with_bytes}
 use Rattle.disk_model.proofs.EntersLemmas.{up_leaves}
-use Rattle.hba_laws.specs.History.{Answered, Carried, History, Issued, Named, Sent, SetUp, Transfer, completes, is_at, issued, unless, waiting_in}
+use Rattle.hba_laws.specs.History.{Answered, Carried, History, Issued, Named, Sent, SetUp, Transfer, completes, is_at, is_set_up, issued, unless, waiting_in}
 use Rattle.disk_ends.specs.Same.{InLife}
 use Rattle.disk_ends.specs.Answers.{IsAlone}
-use Rattle.disk_ends.specs.Together.{EndsNamed, InTalk, NoneQueued, NothingWaits, QueuesOne, Replies, Same, SameGoesOn, is_sent, told, with_command}
+use Rattle.disk_ends.specs.Together.{InTalk, IsHeard, IsUntouched, IsWaited, NoneQueued, NothingWaits, QueuesOne, Replies, Same, SameGoesOn, is_sent, told, with_command}
 use Rattle.disk_ends.proofs.AnswerLemmas.{IsBeside, answers_keep, asks_beside, free_beside, names_keep, others_keep}
 use Rattle.disk_ends.proofs.DataLemmas.{data_comes_down, data_up}
 use Rattle.disk_ends.proofs.MoveLemmas.{activates_keep, setups_go_on}
-use Rattle.disk_ends.proofs.SameLemmas.{commands_keep, free_more, issues_keep, setups_start}
-use Rattle.disk_ends.proofs.TalkLemmas.{idle_activates, idle_moves, idle_names, idle_sets_up, page_idle, shows_idle, talk_asks, talk_issues, talk_page, talk_queues, talk_register, talk_shown, talk_stays}
+use Rattle.disk_ends.proofs.SameLemmas.{commands_keep, free_more, issues_keep, setups_start, still_not_at}
+use Rattle.disk_ends.proofs.TalkLemmas.{IsQuiet, Stays, idle_activates, idle_moves, idle_names, idle_sets_up, page_idle, quiet, shows_idle, talk_asks, talk_issues, talk_page, talk_queues, talk_register, talk_shown, talk_stays, waited_on}
 
 -- ## What stays issued
 
@@ -38,9 +38,6 @@ none_some t e = cc e
 
 same_some : (u t : Transfer) → Some u ≡ Some t → u ≡ t
 same_some u t e = cc e
-
-abbrev Stays : Option Transfer → (Transfer → Bool) → Option Transfer
-Stays o test = match_some o None (λ u. unless (test u) (Some u))
 
 was_one : (u t : Transfer) (test : Transfer → Bool) (b : Bool) → test u ≡ b → unless b (Some u) ≡ Some t → (Some u ≡ Some t) × (test t ≡ false)
 was_one u t test true is e = absurd (none_some t e)
@@ -73,6 +70,7 @@ record Leaves (commands : ℕ → Command) (past later : History) (k x : Ledger)
   free : (s : ℕ) → NoneQueued (issued s past) → IsFree k s → IsFree x s
   ends : (s : ℕ) (t : Transfer) → issued s past ≡ Some t → is_queued t.work.kind ≡ true → test s t ≡ true → InLife s (commands s) past k → IsFree x s
   unsent : (s : ℕ) → is_sent s later ≡ false → (is_sent s past ≡ false) × (IsFree k s → IsFree x s)
+  untouched : (s : ℕ) → is_sent s later ≡ false → IsFree k s → IsUntouched s past → IsUntouched s later
   talk : InTalk past k → InTalk later x
 
 same_after : (commands : ℕ → Command) (past later : History) (k x : Ledger) → Leaves commands past later k x → Same commands past k → Same commands later x
@@ -86,6 +84,10 @@ same_after commands past later k x l same = record {
       none_by (issued s past) (l.test s) (λ before. l.free s before (same.free s before))
       (λ t there queued ended. l.ends s t there queued ended (same.live s t there queued)) (subst NoneQueued (l.issued_is s) none);
   unsent = λ s sent. let before = l.unsent s sent in before.1 (same.unsent s before.0);
+  untouched = λ s t there sent.
+      let before = was (issued s past) (l.test s) t (sym (l.issued_is s) ∙ there) in
+      let yet = l.unsent s sent in
+      l.untouched s sent (same.unsent s yet.0) (same.untouched s t before.0 yet.0);
   talk = l.talk same.talk;
 }
 
@@ -134,10 +136,20 @@ opens_same commands tags = record {
   live = λ s t there queued. absurd (none_some t there);
   free = λ s none. record { outstanding = refl; unanswered = refl; moving = tt };
   unsent = λ s sent. record { outstanding = refl; unanswered = refl; moving = tt };
+  untouched = λ s t there sent. absurd (none_some t there);
   talk = Replies Signs (record { outstanding = refl; unanswered = refl; moving = refl }) refl tt refl;
 }
 
 -- ## A command is issued
+
+-- a slot of which another answer is awaited, or none
+not_at : (s slot : ℕ) (w : Option ℕ) (b : Bool) → slot ≡ s → is_at slot w ≡ b → is_at s (unless b w) ≡ false
+not_at s slot w true is e = refl
+not_at s slot w false is e = ap (λ (n : ℕ). is_at n w) (sym is) ∙ e
+
+record IsUntouchedBy (s : ℕ) (at_it set_up : Bool) : Type 0 where
+  quiet : at_it ≡ false
+  unset : set_up ≡ false
 
 issue_live : (commands : ℕ → Command) (s slot : ℕ) (c : Command) (t u : Transfer) (past : History) (k : Ledger) (b : Bool) → eqb slot s ≡ b → issued slot past ≡ None → Same commands past k
     → (if b then Some t else issued s past) ≡ Some u → is_queued u.work.kind ≡ true → InLife s (if b then c else commands s) (Issued slot t ∷ past) k
@@ -163,6 +175,15 @@ issue_unsent commands s slot past k true at free same sent =
     same.free s (subst NoneQueued (sym before) tt)
 issue_unsent commands s slot past k false other free same sent = same.unsent s sent
 
+issue_touch : (commands : ℕ → Command) (s slot : ℕ) (t u : Transfer) (past : History) (k : Ledger) (b : Bool) → eqb slot s ≡ b → Same commands past k
+    → (if b then Some t else issued s past) ≡ Some u → (if b then false else is_sent s past) ≡ false → IsUntouchedBy s (is_at s (unless (is_at slot (waiting_in past)) (waiting_in past))) (if b then false else is_set_up s past)
+issue_touch commands s slot t u past k true at same there sent =
+    let is : slot ≡ s = eqb-true slot s at in
+    record { quiet = not_at s slot (waiting_in past) (is_at slot (waiting_in past)) is refl; unset = refl }
+issue_touch commands s slot t u past k false other same there sent =
+    let before : IsUntouched s past = same.untouched s u there sent in
+    record { quiet = still_not_at s (waiting_in past) (is_at slot (waiting_in past)) before.quiet; unset = before.unset }
+
 issue_tag : (commands : ℕ → Command) (s slot : ℕ) (c : Command) (b : Bool) → eqb slot s ≡ b → c.tag ≡ slot → ((n : ℕ) → (commands n).tag ≡ n) → (if b then c else commands s).tag ≡ s
 issue_tag commands s slot c true at tag tags = tag ∙ eqb-true slot s at
 issue_tag commands s slot c false at tag tags = tags s
@@ -174,6 +195,9 @@ issues_same commands slot c t past k free tag same = record {
   live = λ s u there queued. issue_live commands s slot c t u past k (eqb slot s) refl free same there queued;
   free = λ s none. issue_free commands s slot t past k (eqb slot s) refl free same none;
   unsent = λ s sent. issue_unsent commands s slot past k (eqb slot s) refl free same sent;
+  untouched = λ s u there sent.
+      let n = issue_touch commands s slot t u past k (eqb slot s) refl same there sent in
+      record { quiet = n.quiet; unset = n.unset };
   talk = talk_issues slot t past k free same.talk;
 }
 
@@ -211,9 +235,10 @@ queue_live commands s slot past k same free life = elim (cases_Bool (eqb slot s)
       (commands_keep.other s (commands s) (commands slot) past k differs same.fine its life)
 ]
 
-queues_same : (commands : ℕ → Command) (slot : ℕ) (t : Transfer) (past : History) (k : Ledger) → issued slot past ≡ Some t → is_queued t.work.kind ≡ true → is_sent slot past ≡ false → k.awaited ≡ [] → NothingWaits past
+queues_same : (commands : ℕ → Command) (slot : ℕ) (t : Transfer) (past : History) (k : Ledger) → issued slot past ≡ Some t → is_queued t.work.kind ≡ true → is_sent slot past ≡ false → k.awaited ≢ Signs ∷ [] → NothingWaits past
     → Same commands past k → QueuesOne commands slot past k
-queues_same commands slot t past k there queued sent empty nothing same =
+queues_same commands slot t past k there queued sent signed nothing same =
+    let silent : IsQuiet k = quiet past k nothing signed same.talk in
     let free : IsFree k slot = same.unsent slot sent in
     let tag : (commands slot).tag ≡ slot = same.tags slot in
     let its : IsFree k (commands slot).tag = subst (IsFree k) (sym tag) free in
@@ -221,7 +246,7 @@ queues_same commands slot t past k there queued sent empty nothing same =
     let stays : (s : ℕ) → eqb slot s ≡ false → IsFree k s → IsFree (asks k (Queue (commands slot)) k.failed) s =
     λ s other f. subst (λ (x : Ledger). IsFree x s) (sym is) (opened_free s k (commands slot) (subst (λ (n : ℕ). eqb n s ≡ false) (sym tag) other) f) in
     record {
-      fits = (its, empty);
+      fits = (its, silent.awaited);
       same = same_after commands past (Sent slot ∷ past) k (asks k (Queue (commands slot)) k.failed) (record {
         test = λ s u. false;
         issued_is = λ s. refl;
@@ -230,7 +255,8 @@ queues_same commands slot t past k there queued sent empty nothing same =
         free = λ s none f. stays s (queued_here slot s t past there queued none) f;
         ends = λ s u here q ended life. false_true ended;
         unsent = λ s unsent. let before = sent_before s slot past (eqb slot s) refl unsent in (before.1, stays s before.0);
-        talk = λ talk. subst (InTalk (Sent slot ∷ past)) (sym is) (talk_queues slot (commands slot) past k empty nothing talk);
+        untouched = λ s unsent f before. let other = sent_before s slot past (eqb slot s) refl unsent in record { quiet = other.0; unset = before.unset };
+        talk = λ talk. subst (InTalk (Sent slot ∷ past)) (sym is) (talk_queues slot t (commands slot) past k there queued silent);
       }) same;
     }
 
@@ -251,9 +277,10 @@ alone_failed k asked.Identify failed one fits = failed
 alone_failed k asked.Flush failed one fits = failed
 alone_failed k asked.Other failed one fits = failed
 
-asks_same : (commands : ℕ → Command) (slot : ℕ) (t : Transfer) (request : Request) (past : History) (k : Ledger) → issued slot past ≡ Some t → is_queued t.work.kind ≡ false → IsAlone request → FitsRequest k request
+asks_same : (commands : ℕ → Command) (slot : ℕ) (t : Transfer) (request : Request) (past : History) (k : Ledger) → issued slot past ≡ Some t → is_queued t.work.kind ≡ false → is_sent slot past ≡ false → IsAlone request → FitsRequest k request
     → Same commands past k → Same commands (Sent slot ∷ past) (asks k request k.failed)
-asks_same commands slot t request past k there not_queued one fits same =
+asks_same commands slot t request past k there not_queued sent one fits same =
+    let fresh : IsUntouched slot past = same.untouched slot t there sent in
     let is : asks k request k.failed ≡ alone k request = asks_fits k request same.fine fits in
     let beside : IsBeside k (asks k request k.failed) = asks_beside k request same.fine one fits in
     same_after commands past (Sent slot ∷ past) k (asks k request k.failed) (record {
@@ -264,17 +291,18 @@ asks_same commands slot t request past k there not_queued one fits same =
       free = λ s none f. free_beside s k (asks k request k.failed) beside f;
       ends = λ s u here q ended life. false_true ended;
       unsent = λ s unsent. let before = sent_before s slot past (eqb slot s) refl unsent in (before.1, free_beside s k (asks k request k.failed) beside);
-      talk = λ talk. subst (InTalk (Sent slot ∷ past)) (sym is) (talk_asks slot t request past k there one fits);
+      untouched = λ s unsent f before. let other = sent_before s slot past (eqb slot s) refl unsent in record { quiet = other.0; unset = before.unset };
+      talk = λ talk. subst (InTalk (Sent slot ∷ past)) (sym is) (talk_asks slot t request past k there not_queued fresh.unset one fits);
     }) same
 
 -- ## FISes of the disk
 
 takes_setup : (commands : ℕ → Command) (f : List ℕ) (past : History) (k : Ledger) (m : Option Moving) (o : Option Command) → k.moving ≡ m → find (λ q. q.tag == field Setup BufferId f) k.outstanding ≡ o
-    → IsRight k (Ok (view.DmaSetup f)) → (s : ℕ) → (commands s).tag ≡ s → InLife s (commands s) past k → InLife s (commands s) (told (Ok (view.DmaSetup f)) ++ past) (listens_up k (Ok (view.DmaSetup f)))
-takes_setup commands f past k None None moving found right s tag life =
+    → IsRight k (Ok (view.DmaSetup f)) → is_at (field Setup BufferId f) (waiting_in past) ≡ false → (s : ℕ) → (commands s).tag ≡ s → InLife s (commands s) past k → InLife s (commands s) (told (Ok (view.DmaSetup f)) ++ past) (listens_up k (Ok (view.DmaSetup f)))
+takes_setup commands f past k None None moving found right answered_yet s tag life =
     let first : SetsUpRight k None f = subst (λ (v : Option Moving). SetsUpRight k v f) moving right.moves in
     absurd (subst (λ (q : Option Command). StartsOne q f) found first)
-takes_setup commands f past k None (Some q) moving found right s tag life =
+takes_setup commands f past k None (Some q) moving found right answered_yet s tag life =
     let at = field Setup Offset f in
     let count = field Setup table.Count f in
     let first : SetsUpRight k None f = subst (λ (v : Option Moving). SetsUpRight k v f) moving right.moves in
@@ -282,8 +310,8 @@ takes_setup commands f past k None (Some q) moving found right s tag life =
     let up : listens_up k (Ok (view.DmaSetup f)) ≡ starts_moving k at count (Some q) =
     ap (λ (v : Option Moving). sets_up k v (field Setup BufferId f) at count) moving ∙ ap (starts_moving k at count) found in
     subst (λ (x : Ledger). InLife s (commands s) (told (Ok (view.DmaSetup f)) ++ past) x) (sym up)
-    (setups_start s (field Setup BufferId f) at count (field Setup table.D f == 1) (commands s) q past k moving found next.inside life)
-takes_setup commands f past k (Some v) o moving found right s tag life =
+    (setups_start s (field Setup BufferId f) at count (field Setup table.D f == 1) (commands s) q past k moving found answered_yet next.inside life)
+takes_setup commands f past k (Some v) o moving found right answered_yet s tag life =
     let at = field Setup Offset f in
     let count = field Setup table.Count f in
     let next : SetsUpRight k (Some v) f = subst (λ (m : Option Moving). SetsUpRight k m f) moving right.moves in
@@ -309,9 +337,9 @@ set_up_answers k (Some v) o f moving found right =
 
 -- a FIS that completes nothing that is queued
 up_same : (commands : ℕ → Command) (fis : Result Fis FisFault) (past later : History) (k : Ledger) (test : ℕ → Transfer → Bool) → IsRight k fis → ((s : ℕ) → issued s later ≡ Stays (issued s past) (test s))
-    → ((s : ℕ) (t : Transfer) → is_queued t.work.kind ≡ true → test s t ≡ true → ⊥) → ((s : ℕ) → is_sent s later ≡ is_sent s past) → (k.failed ≡ false → (listens_up k fis).failed ≡ false)
+    → ((s : ℕ) (t : Transfer) → is_queued t.work.kind ≡ true → test s t ≡ true → ⊥) → ((s : ℕ) → is_sent s later ≡ is_sent s past) → ((s : ℕ) → IsFree k s → IsUntouched s past → IsUntouched s later) → (k.failed ≡ false → (listens_up k fis).failed ≡ false)
     → ((s : ℕ) → InLife s (commands s) past k → InLife s (commands s) later (listens_up k fis)) → (InTalk past k → InTalk later (listens_up k fis)) → Same commands past k → Same commands later (listens_up k fis)
-up_same commands fis past later k test right issued_is never sent_is fine live talk same =
+up_same commands fis past later k test right issued_is never sent_is untouched fine live talk same =
     same_after commands past later k (listens_up k fis) (record {
       test = test;
       issued_is = issued_is;
@@ -320,17 +348,42 @@ up_same commands fis past later k test right issued_is never sent_is fine live t
       free = λ s none free. free_up k fis s right free;
       ends = λ s t there queued ended life. absurd (never s t queued ended);
       unsent = λ s unsent. (sym (sent_is s) ∙ unsent, free_up k fis s right);
+      untouched = λ s unsent. untouched s;
       talk = talk;
     }) same
 
-takes_set_up : (commands : ℕ → Command) (f : List ℕ) (past : History) (k : Ledger) → IsRight k (Ok (view.DmaSetup f)) → Same commands past k → Same commands (told (Ok (view.DmaSetup f)) ++ past) (listens_up k (Ok (view.DmaSetup f)))
-takes_set_up commands f past k right same =
+-- the tag of a DMA Setup is not free
+set_up_beside : (k : Ledger) (m : Option Moving) (o : Option Command) (f : List ℕ) (s : ℕ) → k.moving ≡ m → find (λ q. q.tag == field Setup BufferId f) k.outstanding ≡ o → IsRight k (Ok (view.DmaSetup f)) → IsFree k s → eqb (field Setup BufferId f) s ≡ false
+set_up_beside k None None f s moving found right free =
+    let first : SetsUpRight k None f = subst (λ (v : Option Moving). SetsUpRight k v f) moving right.moves in
+    absurd (subst (λ (q : Option Command). StartsOne q f) found first)
+set_up_beside k None (Some q) f s moving found right free =
+    let first : SetsUpRight k None f = subst (λ (v : Option Moving). SetsUpRight k v f) moving right.moves in
+    let next : SetsUpNext q 0 [] f = subst (λ (q : Option Command). StartsOne q f) found first in
+    ap (λ (n : ℕ). eqb n s) next.tag ∙ found_not (λ (x : Command). x.tag == field Setup BufferId f) (λ (x : Command). x.tag == s) k.outstanding q found free.outstanding
+set_up_beside k (Some v) o f s moving found right free =
+    let next : SetsUpRight k (Some v) f = subst (λ (m : Option Moving). SetsUpRight k m f) moving right.moves in
+    let rest : SetsUpNext v.command v.moved v.setups f = next.1 in
+    ap (λ (n : ℕ). eqb n s) rest.tag ∙ subst (MovesOther s) moving free.moving
+
+-- a queued command that waits goes on to do so where data moves
+waits_on : (past later : History) (e : ℕ → Transfer → Bool) → waiting_in later ≡ waiting_in past → ((s : ℕ) → issued s later ≡ Stays (issued s past) (e s)) → ((s : ℕ) (t : Transfer) → is_queued t.work.kind ≡ true → e s t ≡ true → ⊥) → IsWaited true past → IsWaited true later
+waits_on past later e waits issued_is never w = waited_on true past later w (e w.slot) waits (issued_is w.slot) (not_true (e w.slot w.transfer) (never w.slot w.transfer w.kind))
+  where
+    not_true : (b : Bool) → (b ≡ true → ⊥) → b ≡ false
+    not_true true no_one = absurd (no_one refl)
+    not_true false no_one = refl
+
+takes_set_up : (commands : ℕ → Command) (f : List ℕ) (past : History) (k : Ledger) → IsRight k (Ok (view.DmaSetup f)) → is_at (field Setup BufferId f) (waiting_in past) ≡ false → Same commands past k → Same commands (told (Ok (view.DmaSetup f)) ++ past) (listens_up k (Ok (view.DmaSetup f)))
+takes_set_up commands f past k right answered_yet same =
     let x : Ledger = listens_up k (Ok (view.DmaSetup f)) in
     let is = set_up_answers k k.moving (find (λ q. q.tag == field Setup BufferId f) k.outstanding) f refl refl right in
     up_same commands (Ok (view.DmaSetup f)) past (told (Ok (view.DmaSetup f)) ++ past) k (λ s t. false) right (λ s. refl) (λ s t queued ended. true≢false (sym ended)) (λ s. refl)
+    (λ s free u. record { quiet = u.quiet; unset = set_up_beside k k.moving (find (λ q. q.tag == field Setup BufferId f) k.outstanding) f s refl refl right free })
     (λ fine. is.2 ∙ fine)
-    (λ s life. takes_setup commands f past k k.moving (find (λ q. q.tag == field Setup BufferId f) k.outstanding) refl refl right s (same.tags s) life)
-    (talk_stays past (told (Ok (view.DmaSetup f)) ++ past) k (listens_up k (Ok (view.DmaSetup f))) is.0 is.1 (idle_sets_up f k right.moves)) same
+    (λ s life. takes_setup commands f past k k.moving (find (λ q. q.tag == field Setup BufferId f) k.outstanding) refl refl right answered_yet s (same.tags s) life)
+    (talk_stays past (told (Ok (view.DmaSetup f)) ++ past) k (listens_up k (Ok (view.DmaSetup f))) is.0 is.1 (idle_sets_up f k right.moves)
+    (waits_on past (told (Ok (view.DmaSetup f)) ++ past) (λ s t. false) refl (λ s. refl) (λ s t queued ended. true≢false (sym ended)))) same
 
 activates_by : (commands : ℕ → Command) (f : List ℕ) (past : History) (k : Ledger) (m : Option Moving) → k.moving ≡ m → IsRight k (Ok (view.DmaActivate f)) → Same commands past k → Same commands past (activates k k.moving)
 activates_by commands f past k None moving right same = absurd (subst ActivatesRight moving right.moves)
@@ -338,9 +391,10 @@ activates_by commands f past k (Some v) moving right same =
     let asks_once : AsksOnce v = subst ActivatesRight moving right.moves in
     let up : activates k k.moving ≡ activates k (Some v) = ap (activates k) moving in
     up_same commands (Ok (view.DmaActivate f)) past past k (λ s t. false) right (λ s. stays_all (issued s past)) (λ s t queued ended. true≢false (sym ended)) (λ s. refl)
+    (λ s free u. u)
     (λ fine. ap (λ (x : Ledger). x.failed) up ∙ fine)
     (λ s life. activates_keep s (commands s) v past k moving (same.tags s) asks_once.in_turn life)
-    (talk_stays past past k (activates k k.moving) (ap (λ (x : Ledger). x.awaited) up) (ap (λ (x : Ledger). x.pages) up) (idle_activates k right.moves)) same
+    (talk_stays past past k (activates k k.moving) (ap (λ (x : Ledger). x.awaited) up) (ap (λ (x : Ledger). x.pages) up) (idle_activates k right.moves) (λ w. w)) same
   where
     stays_all : (o : Option Transfer) → o ≡ Stays o (λ t. false)
     stays_all None = refl
@@ -361,6 +415,7 @@ takes_bytes commands f past k None moving right same =
     let pages : k.pages ≢ [] = subst (PageAsked k) moving right.asked in
     let up : sends_data k k.moving (drop 4 f) ≡ record k { pages = drop 1 k.pages } = ap (λ (m : Option Moving). sends_data k m (drop 4 f)) moving in
     up_same commands (Ok (view.Payload f)) past (Carried (drop 4 f) ∷ past) k (λ s t. completes s (Carried (drop 4 f)) past t.work) right (λ s. refl) (never_by_data (drop 4 f) past) (λ s. refl)
+    (λ s free u. record { quiet = u.quiet; unset = u.unset })
     (λ fine. ap (λ (x : Ledger). x.failed) up ∙ fine)
     (λ s life. answers_keep.page s (commands s) (drop 4 f) past k (page_idle past k pages same.talk) life)
     (λ talk. subst (InTalk (Carried (drop 4 f) ∷ past)) (sym up) (talk_page (drop 4 f) past k pages talk)) same
@@ -371,9 +426,11 @@ takes_bytes commands f past k (Some v) moving right same =
     ap (λ (m : Option Moving). sends_data k m (drop 4 f)) moving ∙ goes_by k (with_bytes v (drop 4 f)) (is_all (with_bytes v (drop 4 f))) false refl carries.reads in
     let is = bytes_answers k (with_bytes v (drop 4 f)) (is_all (with_bytes v (drop 4 f))) false in
     up_same commands (Ok (view.Payload f)) past (Carried (drop 4 f) ∷ past) k (λ s t. completes s (Carried (drop 4 f)) past t.work) right (λ s. refl) (never_by_data (drop 4 f) past) (λ s. refl)
+    (λ s free u. record { quiet = u.quiet; unset = u.unset })
     (λ fine. ap (λ (x : Ledger). x.failed) up ∙ is.2 ∙ fine)
     (λ s life. data_up s (commands s) v (drop 4 f) past k moving (same.tags s) carries life)
-    (talk_stays past (Carried (drop 4 f) ∷ past) k (sends_data k k.moving (drop 4 f)) (ap (λ (x : Ledger). x.awaited) up ∙ is.0) (ap (λ (x : Ledger). x.pages) up ∙ is.1) (idle_moves k v moving)) same
+    (talk_stays past (Carried (drop 4 f) ∷ past) k (sends_data k k.moving (drop 4 f)) (ap (λ (x : Ledger). x.awaited) up ∙ is.0) (ap (λ (x : Ledger). x.pages) up ∙ is.1) (idle_moves k v moving)
+    (waits_on past (Carried (drop 4 f) ∷ past) (λ s t. completes s (Carried (drop 4 f)) past t.work) refl (λ s. refl) (never_by_data (drop 4 f) past))) same
 
 gives_bytes : (commands : ℕ → Command) (bytes : List ℕ) (past : History) (k : Ledger) (m : Option Moving) → k.moving ≡ m → FitsData m bytes → Same commands past k → Same commands (Carried bytes ∷ past) (takes_data k k.moving bytes)
 gives_bytes commands bytes past k None moving asked same = absurd asked
@@ -390,12 +447,14 @@ gives_bytes commands bytes past k (Some v) moving asked same =
       free = λ s none free. stays s free;
       ends = λ s t there queued ended life. absurd (never_by_data bytes past s t queued ended);
       unsent = λ s unsent. (unsent, stays s);
-      talk = talk_stays past (Carried bytes ∷ past) k (takes_data k k.moving bytes) (ap (λ (x : Ledger). x.awaited) down ∙ is.0) (ap (λ (x : Ledger). x.pages) down ∙ is.1) (idle_moves k v moving);
+      talk = talk_stays past (Carried bytes ∷ past) k (takes_data k k.moving bytes) (ap (λ (x : Ledger). x.awaited) down ∙ is.0) (ap (λ (x : Ledger). x.pages) down ∙ is.1) (idle_moves k v moving)
+          (waits_on past (Carried bytes ∷ past) (λ s t. completes s (Carried bytes) past t.work) refl (λ s. refl) (never_by_data bytes past));
+      untouched = λ s unsent free u. record { quiet = u.quiet; unset = u.unset };
     }) same
 
 -- ---- a Set Device Bits FIS
 
-bits_same : (commands : ℕ → Command) (f : List ℕ) (past : History) (k : Ledger) → IsRight k (Ok (view.SetBits f)) → EndsNamed past (Ok (view.SetBits f)) → Same commands past k
+bits_same : (commands : ℕ → Command) (f : List ℕ) (past : History) (k : Ledger) → IsRight k (Ok (view.SetBits f)) → IsHeard past (Ok (view.SetBits f)) → Same commands past k
     → Same commands (Named (field Bits SActive f) ∷ past) (answers k (field Bits table.Error f) false)
 bits_same commands f past k right ended same =
     let mask = field Bits SActive f in
@@ -411,9 +470,24 @@ bits_same commands f past k right ended same =
       free = λ s none free. stays s free;
       ends = λ s t there queued done life. names_keep.free s mask error (commands s) past k names (and_parts _ _ done).0 life;
       unsent = λ s unsent. (unsent, stays s);
-      talk = talk_stays past (Named mask ∷ past) k (answers k error false) refl refl (idle_names mask k names);
+      untouched = λ s unsent free u. record { quiet = u.quiet; unset = u.unset };
+      talk = talk_stays past (Named mask ∷ past) k (answers k error false) refl refl (idle_names mask k names) waits;
     }) same
   where
+    -- what is named was answered, so that it is not the command that waits
+    unended : (w : IsWaited true past) (b : Bool) → completes w.slot (Named (field Bits SActive f)) past w.transfer.work ≡ b → b ≡ false
+    unended w false is = refl
+    unended w true is =
+        let named : has_bit (field Bits SActive f) w.slot ≡ true = (and_parts _ _ is).0 in
+        let answered_yet : is_at w.slot (waiting_in past) ≡ false =
+        names_keep.answered w.slot (field Bits SActive f) (commands w.slot) past k (right.answers right.fine) named (same.live w.slot w.transfer w.there w.kind) in
+        absurd (true≢false (sym (ap (is_at w.slot) w.waits ∙ eq-eqb w.slot w.slot refl) ∙ answered_yet))
+
+    waits : IsWaited true past → IsWaited true (Named (field Bits SActive f) ∷ past)
+    waits w =
+        waited_on true past (Named (field Bits SActive f) ∷ past) w (λ t. completes w.slot (Named (field Bits SActive f)) past t.work) refl refl
+        (unended w (completes w.slot (Named (field Bits SActive f)) past w.transfer.work) refl)
+
     unnamed : (s : ℕ) (t : Transfer) → issued s past ≡ Some t → is_queued t.work.kind ≡ true → completes s (Named (field Bits SActive f)) past t.work ≡ false → has_bit (field Bits SActive f) s ≡ false
     unnamed s t there queued going = elim (cases_Bool (has_bit (field Bits SActive f) s)) [
       | inl named ↦ absurd (true≢false (sym (ended s t there queued named) ∙ going))
@@ -422,20 +496,22 @@ bits_same commands f past k right ended same =
 
 -- ---- each kind
 
-takes_same : (commands : ℕ → Command) (fis : Result Fis FisFault) (past : History) (k : Ledger) → IsRight k fis → EndsNamed past fis → Same commands past k → Same commands (told fis ++ past) (listens_up k fis)
+takes_same : (commands : ℕ → Command) (fis : Result Fis FisFault) (past : History) (k : Ledger) → IsRight k fis → IsHeard past fis → Same commands past k → Same commands (told fis ++ past) (listens_up k fis)
 takes_same commands (Ok (view.RegH2D f)) past k right ended same = same
 takes_same commands (Ok (view.RegD2H f)) past k right ended same =
     up_same commands (Ok (view.RegD2H f)) past (Answered ∷ past) k (λ s t. completes s Answered past t.work) right (λ s. refl)
-    (λ s t queued done. no_answer (is_at s (waiting_in past)) (is_queued t.work.kind) _ queued done) (λ s. refl) (λ fine. fine)
+    (λ s t queued done. no_answer (is_at s (waiting_in past)) (is_queued t.work.kind) _ queued done) (λ s. refl)
+    (λ s free u. record { quiet = refl; unset = u.unset }) (λ fine. fine)
     (λ s life. answers_keep.register s (commands s) past k life) (talk_register f past k right.replies) same
 takes_same commands (Ok (view.SetBits f)) past k right ended same =
     subst (Same commands (Named (field Bits SActive f) ∷ past)) (sym (bits_up k f right.fine)) (bits_same commands f past k right ended same)
 takes_same commands (Ok (view.DmaActivate f)) past k right ended same = activates_by commands f past k k.moving refl right same
-takes_same commands (Ok (view.DmaSetup f)) past k right ended same = takes_set_up commands f past k right same
+takes_same commands (Ok (view.DmaSetup f)) past k right ended same = takes_set_up commands f past k right ended same
 takes_same commands (Ok (view.PioSetup f)) past k right ended same =
     let count = field Pio table.Transfer f in
     let ends_with = field Pio EStatus f in
-    up_same commands (Ok (view.PioSetup f)) past (told (Ok (view.PioSetup f)) ++ past) k (λ s t. false) right (λ s. refl) (λ s t queued done. true≢false (sym done)) (λ s. refl) (λ fine. fine)
+    up_same commands (Ok (view.PioSetup f)) past (told (Ok (view.PioSetup f)) ++ past) k (λ s t. false) right (λ s. refl) (λ s t queued done. true≢false (sym done)) (λ s. refl)
+    (λ s free u. record { quiet = u.quiet; unset = u.quiet }) (λ fine. fine)
     (λ s life. answers_keep.shows s count ends_with (field Pio table.D f == 1) (commands s) past k (shows_idle f past k right.replies same.talk) life)
     (talk_shown f count ends_with (field Pio table.D f == 1) past k right.replies) same
 takes_same commands (Ok (view.Payload f)) past k right ended same = takes_bytes commands f past k k.moving refl right same

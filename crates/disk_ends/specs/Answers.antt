@@ -7,7 +7,7 @@ use Rattle.disk_model.specs.declared.request.Request.{Request}
 use Rattle.disk_model.specs.declared.request.Request.TheVariants as asked
 use Rattle.disk_model.specs.Ends.{FitsRequest, IsFree}
 use Rattle.disk_model.specs.Ledger.{Ledger, Names, ReadOut, Written, answered, answers, asks, sends_data}
-use Rattle.hba_laws.specs.History.{Answered, Carried, History, Named, PioSetUp, Sent, filled}
+use Rattle.hba_laws.specs.History.{Answered, Carried, History, Named, PioSetUp, Sent, filled, is_at, waiting_in}
 use Rattle.disk_ends.specs.Same.{InLife, IsReadOf, IsWriteOf, Stand}
 
 -- no queued command is outstanding or to be answered, and no data of one moves
@@ -47,11 +47,13 @@ pub data HasEnded (s : ℕ) (c : Command) (past : History) (k : Ledger) : Type 0
   ByWrite : (at : ℕ) (w : Written) → slice_get k.writes at ≡ Some w → IsWriteOf s c w
       → Stand (filled s past) w.bytes → HasEnded s c past k
 
--- A Set Device Bits FIS without ERR names the tag that ended first. The command of a slot that it names ended, and the
--- tag is free from then on; those of other slots stand as they stood.
+-- A Set Device Bits FIS without ERR names the tag that ended first. The command of a slot that it names ended, was
+-- answered before, and its tag is free from then on; those of other slots stand as they stood.
 pub record NamesKeep : Type 0 where
   pub own : (s mask : ℕ) (c : Command) (past : History) (k : Ledger) → Names k.unanswered mask
       → has_bit mask s ≡ true → InLife s c past k → HasEnded s c past k
+  pub answered : (s mask : ℕ) (c : Command) (past : History) (k : Ledger) → Names k.unanswered mask
+      → has_bit mask s ≡ true → InLife s c past k → is_at s (waiting_in past) ≡ false
   pub free : (s mask error : ℕ) (c : Command) (past : History) (k : Ledger)
       → Names k.unanswered mask → has_bit mask s ≡ true → InLife s c past k
       → IsFree (answers k error false) s

@@ -51,9 +51,10 @@ pub record IsWriteOf (s : ℕ) (c : Command) (w : Written) : Type 0 where
   pub writes : c.write ≡ true
   pub long : length w.bytes ≡ 512 * c.count
 
--- The data of slot s moves: its DMA Setup was the last one, and the next byte is the first that it names, or all of them moved.
+-- The data of slot s moves: it was answered, its DMA Setup was the last one, and the next byte is the first that it names, or all of them moved.
 pub record IsMovingAt (s : ℕ) (v : Moving) (past : History) : Type 0 where
   pub long : length v.bytes ≡ 512 * v.command.count
+  pub quiet : is_at s (waiting_in past) ≡ false
   pub set_up : is_set_up s past ≡ true
   pub inside : v.offset + v.count ≤ 512 * v.command.count
   pub fresh : (next_number past ≡ v.offset) ⊎ (v.moved ≡ bytes_named v.setups)
@@ -68,9 +69,9 @@ pub data InLife (s : ℕ) (c : Command) (past : History) (k : Ledger) : Type 0 w
       → is_set_up s past ≡ false → filled s past ≡ none_filled → InLife s c past k
   Moves : (v : Moving) → k.moving ≡ Some v → v.command ≡ c → has s k.unanswered ≡ false → IsMovingAt s v past
       → InLife s c past k
-  ReadEnded : (at : ℕ) (r : ReadOut) → IsEnded s past k → slice_get k.reads at ≡ Some r → IsReadOf c r
+  ReadEnded : (at : ℕ) (r : ReadOut) → IsEnded s past k → is_at s (waiting_in past) ≡ false → slice_get k.reads at ≡ Some r → IsReadOf c r
       → Stand (filled s past) r.bytes → InLife s c past k
-  WriteEnded : (at : ℕ) (w : Written) → IsEnded s past k → slice_get k.writes at ≡ Some w → IsWriteOf s c w
+  WriteEnded : (at : ℕ) (w : Written) → IsEnded s past k → is_at s (waiting_in past) ≡ false → slice_get k.writes at ≡ Some w → IsWriteOf s c w
       → Stand (filled s past) w.bytes → InLife s c past k
 
 -- ---- the laws, a kind of event each
@@ -89,10 +90,10 @@ pub record CommandsKeep : Type 0 where
   pub other : (s : ℕ) (c other : Command) (past : History) (k : Ledger) → (other.tag == s) ≡ false → k.failed ≡ false
       → IsFree k other.tag → InLife s c past k → InLife s c (Sent other.tag ∷ past) (asks k (Queue other) k.failed)
 
--- the first DMA Setup of an outstanding command: where it is the slot's, its data moves
+-- the first DMA Setup of an outstanding command, which was answered: where it is the slot's, its data moves
 abbrev pub SetupsStart : Type 0
 SetupsStart = (s tag offset count : ℕ) (to_host : Bool) (c q : Command) (past : History) (k : Ledger) → k.moving ≡ None
-    → find (λ p. p.tag == tag) k.outstanding ≡ Some q → offset + count ≤ 512 * q.count → InLife s c past k
+    → find (λ p. p.tag == tag) k.outstanding ≡ Some q → is_at tag (waiting_in past) ≡ false → offset + count ≤ 512 * q.count → InLife s c past k
     → InLife s c (SetUp tag offset count to_host ∷ past) (starts_moving k offset count (Some q))
 
 -- Data of the command that moves, no more of it than its DMA Setup named: where it is the slot's, each byte that it fills is the

@@ -19,49 +19,56 @@ use Rattle.disk_model.specs.Histories.{Plugged}
 use Rattle.disk_model.specs.Ledger.{Accepts, Finishes, Ledger, Refuses, Reply, ShowsPage, Signs, Wanted}
 use Rattle.disk_model.specs.Ledger.{asks, empty, listens, listens_up, takes_data}
 use Rattle.hba_laws.specs.History.{Answered, Carried, History, Issued, Named, PioSetUp, Sent, SetUp}
-use Rattle.hba_laws.specs.History.{Transfer, completes, is_at, issued, waiting_in}
+use Rattle.hba_laws.specs.History.{Transfer, completes, is_at, is_set_up, issued, waiting_in}
 use Rattle.disk_ends.specs.Answers.{IsAlone, IsIdle}
 use Rattle.disk_ends.specs.Same.{InLife}
 
 -- ---- what is still to be answered
 
--- these answers accept queued commands
-abbrev pub AllAccept : List Reply → Type 0
-AllAccept [] = Unit {0}
-AllAccept (Accepts ∷ later) = AllAccept later
-AllAccept (_ ∷ later) = ⊥
-
--- it comes in a Register FIS, and does not accept a queued command
-abbrev pub IsOwnReply : Reply → Type 0
-IsOwnReply Signs = Unit {0}
-IsOwnReply Accepts = ⊥
-IsOwnReply Finishes = Unit {0}
-IsOwnReply Refuses = Unit {0}
-IsOwnReply ShowsPage = ⊥
+-- no answer, or one that accepts a queued command
+abbrev pub AtMostAccepts : List Reply → Type 0
+AtMostAccepts [] = Unit {0}
+AtMostAccepts (Accepts ∷ []) = Unit {0}
+AtMostAccepts (_ ∷ later) = ⊥
 
 abbrev pub AtMostOne : List Wanted → Type 0
 AtMostOne [] = Unit {0}
 AtMostOne (page ∷ []) = Unit {0}
 AtMostOne (page ∷ another ∷ later) = ⊥
 
--- the command that went out last is issued, and was not answered
-pub record IsWaited (past : History) : Type 0 where
+-- the command that went out last is issued, and was not answered; it is a queued one, or not
+pub record IsWaited (queued : Bool) (past : History) : Type 0 where
   pub slot : ℕ
   pub transfer : Transfer
+  pub kind : is_queued transfer.work.kind ≡ queued
   pub waits : waiting_in past ≡ Some slot
   pub there : issued slot past ≡ Some transfer
+
+-- and no setup since its issue is for it
+pub record IsWaitedUnset (past : History) : Type 0 where
+  pub waited : IsWaited false past
+  pub unset : is_set_up waited.slot past ≡ false
+
+-- an answer that comes in a Register FIS, and not to a queued command: the signature of a device that was plugged in
+-- answers none
+abbrev pub IsOwnReply : Reply → History → Type 0
+IsOwnReply Signs past = Unit {0}
+IsOwnReply Accepts past = ⊥
+IsOwnReply Finishes past = IsWaited false past
+IsOwnReply Refuses past = IsWaited false past
+IsOwnReply ShowsPage past = ⊥
 
 -- no command that is issued waits for its answer
 abbrev pub NothingWaits : History → Type 0
 NothingWaits past = (s : ℕ) (t : Transfer) → issued s past ≡ Some t → is_at s (waiting_in past) ≡ false
 
--- The answers to come are those of queued commands; or there are no queued commands, and an answer of another kind is to
--- come, a PIO Setup, or the page that it announced.
+-- Nothing is to be answered but a queued command; or there are no queued commands, and an answer of another kind is to
+-- come, a PIO Setup, or the page that it announced. The command of which it is waits at the port.
 pub data InTalk (past : History) (k : Ledger) : Type 0 where
-  Queues : AllAccept k.awaited → k.pages ≡ [] → InTalk past k
-  Replies : (reply : Reply) → IsIdle k → k.awaited ≡ reply ∷ [] → IsOwnReply reply → k.pages ≡ [] → InTalk past k
-  Shows : IsIdle k → k.awaited ≡ ShowsPage ∷ [] → AtMostOne k.pages → (k.pages ≢ [] → IsWaited past) → InTalk past k
-  Pages : (page : Wanted) → IsIdle k → k.awaited ≡ [] → k.pages ≡ page ∷ [] → IsWaited past → InTalk past k
+  Queues : AtMostAccepts k.awaited → (k.awaited ≢ [] → IsWaited true past) → k.pages ≡ [] → InTalk past k
+  Replies : (reply : Reply) → IsIdle k → k.awaited ≡ reply ∷ [] → IsOwnReply reply past → k.pages ≡ [] → InTalk past k
+  Shows : IsIdle k → k.awaited ≡ ShowsPage ∷ [] → AtMostOne k.pages → IsWaitedUnset past → InTalk past k
+  Pages : (page : Wanted) → IsIdle k → k.awaited ≡ [] → k.pages ≡ page ∷ [] → IsWaited false past → InTalk past k
 
 -- ---- both views
 
@@ -77,6 +84,11 @@ abbrev pub NoneQueued : Option Transfer → Type 0
 NoneQueued None = Unit {0}
 NoneQueued (Some t) = is_queued t.work.kind ≡ false
 
+-- no answer is awaited for what is issued there, and no setup is for it
+pub record IsUntouched (s : ℕ) (past : History) : Type 0 where
+  pub quiet : is_at s (waiting_in past) ≡ false
+  pub unset : is_set_up s past ≡ false
+
 -- A queued command that is issued stands in the ledger as its events say, and its tag is its slot's number. The tag of a
 -- slot without one, or whose command was not sent, is free.
 pub record Same (commands : ℕ → Command) (past : History) (k : Ledger) : Type 0 where
@@ -86,6 +98,7 @@ pub record Same (commands : ℕ → Command) (past : History) (k : Ledger) : Typ
       → InLife s (commands s) past k
   pub free : (s : ℕ) → NoneQueued (issued s past) → IsFree k s
   pub unsent : (s : ℕ) → is_sent s past ≡ false → IsFree k s
+  pub untouched : (s : ℕ) (t : Transfer) → issued s past ≡ Some t → is_sent s past ≡ false → IsUntouched s past
   pub talk : InTalk past k
 
 -- ---- the events
@@ -105,11 +118,13 @@ told (Ok (view.SetBits f)) = Named (field Bits SActive f) ∷ []
 told (Ok (view.RegD2H f)) = Answered ∷ []
 told _ = []
 
--- a Set Device Bits FIS completes each queued command that it names
-abbrev pub EndsNamed : History → Result Fis FisFault → Type 0
-EndsNamed past (Ok (view.SetBits f)) = (s : ℕ) (t : Transfer) → issued s past ≡ Some t → is_queued t.work.kind ≡ true
+-- The port refuses nothing of the FIS: a Set Device Bits FIS completes each queued command that it names, and the command
+-- of a DMA Setup was answered.
+abbrev pub IsHeard : History → Result Fis FisFault → Type 0
+IsHeard past (Ok (view.DmaSetup f)) = is_at (field Setup BufferId f) (waiting_in past) ≡ false
+IsHeard past (Ok (view.SetBits f)) = (s : ℕ) (t : Transfer) → issued s past ≡ Some t → is_queued t.work.kind ≡ true
     → has_bit (field Bits SActive f) s ≡ true → completes s (Named (field Bits SActive f)) past t.work ≡ true
-EndsNamed past _ = Unit {0}
+IsHeard past _ = Unit {0}
 
 -- the queued command of a slot goes out
 pub record QueuesOne (commands : ℕ → Command) (slot : ℕ) (past : History) (k : Ledger) : Type 0 where
@@ -125,17 +140,17 @@ pub record SameGoesOn : Type 0 where
   pub issues : (commands : ℕ → Command) (slot : ℕ) (c : Command) (t : Transfer) (past : History) (k : Ledger)
       → issued slot past ≡ None → c.tag ≡ slot → Same commands past k
       → Same (with_command commands slot c) (Issued slot t ∷ past) k
-  -- a queued command goes out for the first time, while no other is to be answered
+  -- a queued command goes out for the first time, once the device signed and while no other waits for its answer
   pub queues : (commands : ℕ → Command) (slot : ℕ) (t : Transfer) (past : History) (k : Ledger)
-      → issued slot past ≡ Some t → is_queued t.work.kind ≡ true → is_sent slot past ≡ false → k.awaited ≡ []
+      → issued slot past ≡ Some t → is_queued t.work.kind ≡ true → is_sent slot past ≡ false → k.awaited ≢ Signs ∷ []
       → NothingWaits past → Same commands past k → QueuesOne commands slot past k
   -- another command goes out, where the ledger rests
   pub asks_other : (commands : ℕ → Command) (slot : ℕ) (t : Transfer) (request : Request) (past : History) (k : Ledger)
-      → issued slot past ≡ Some t → is_queued t.work.kind ≡ false → IsAlone request → FitsRequest k request
-      → Same commands past k → Same commands (Sent slot ∷ past) (asks k request k.failed)
+      → issued slot past ≡ Some t → is_queued t.work.kind ≡ false → is_sent slot past ≡ false → IsAlone request
+      → FitsRequest k request → Same commands past k → Same commands (Sent slot ∷ past) (asks k request k.failed)
   -- a FIS of the disk comes
   pub takes : (commands : ℕ → Command) (fis : Result Fis FisFault) (past : History) (k : Ledger) → IsRight k fis
-      → EndsNamed past fis → Same commands past k → Same commands (told fis ++ past) (listens_up k fis)
+      → IsHeard past fis → Same commands past k → Same commands (told fis ++ past) (listens_up k fis)
   -- Data goes out that was asked for
   pub gives : (commands : ℕ → Command) (bytes : List ℕ) (past : History) (k : Ledger) → FitsData k.moving bytes
       → Same commands past k → Same commands (Carried bytes ∷ past) (takes_data k k.moving bytes)
