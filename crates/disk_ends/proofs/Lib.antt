@@ -5,3 +5,4 @@ pub mod AnswerLemmas
 pub mod TalkLemmas
 pub mod TogetherLemmas
 pub mod HonestLemmas
+pub mod HeardLemmas

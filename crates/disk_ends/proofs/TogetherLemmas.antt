@@ -353,7 +353,7 @@ up_same commands fis past later k test right issued_is never sent_is untouched f
     }) same
 
 -- the tag of a DMA Setup is not free
-set_up_beside : (k : Ledger) (m : Option Moving) (o : Option Command) (f : List ℕ) (s : ℕ) → k.moving ≡ m → find (λ q. q.tag == field Setup BufferId f) k.outstanding ≡ o → IsRight k (Ok (view.DmaSetup f)) → IsFree k s → eqb (field Setup BufferId f) s ≡ false
+pub set_up_beside : (k : Ledger) (m : Option Moving) (o : Option Command) (f : List ℕ) (s : ℕ) → k.moving ≡ m → find (λ q. q.tag == field Setup BufferId f) k.outstanding ≡ o → IsRight k (Ok (view.DmaSetup f)) → IsFree k s → eqb (field Setup BufferId f) s ≡ false
 set_up_beside k None None f s moving found right free =
     let first : SetsUpRight k None f = subst (λ (v : Option Moving). SetsUpRight k v f) moving right.moves in
     absurd (subst (λ (q : Option Command). StartsOne q f) found first)

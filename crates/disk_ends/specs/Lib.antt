@@ -3,3 +3,4 @@ pub mod Steps
 pub mod Answers
 pub mod Together
 pub mod Honest
+pub mod Heard

@@ -1,6 +1,7 @@
 //! Laws of a host's two views of a disk. The functions do nothing when they run.
 
 ghost use Rattle.disk_ends.specs.Answers.{AnswersKeep, NamesKeep, OthersKeep};
+ghost use Rattle.disk_ends.specs.Heard.{HeardAsTold};
 ghost use Rattle.disk_ends.specs.Honest.{DoneIsHonest, NextIsRight};
 ghost use Rattle.disk_ends.specs.Same.{CommandsKeep, DataFills, IssuesKeep, SetupsStart};
 ghost use Rattle.disk_ends.specs.Steps.{ActivatesKeep, DataDown, DataUp, SetupsGoOn};
@@ -58,4 +59,10 @@ pub fn both_views_go_on_together()
 pub fn done_is_honest()
     ensures next { NextIsRight }
     ensures done { DoneIsHonest }
+{}
+
+/// A FIS of the disk that a host port hears, and of which it reports nothing wrong, is to the
+/// device's history just what it tells.
+pub fn fises_are_heard_as_told()
+    ensures { HeardAsTold }
 {}
