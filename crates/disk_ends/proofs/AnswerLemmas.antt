@@ -13,7 +13,7 @@ use Rattle.disk_model.specs.Ends.{FitsRequest, IsFree, MovesOther, has}
 use Rattle.disk_model.specs.Ledger.{Ledger, Moving, Names, ReadOut, Written, answered, answers, asks, sends_data}
 use Rattle.disk_model.proofs.CrossLemmas.{alone, asks_fits, has_left}
 use Rattle.hba_laws.specs.History.{Answered, Carried, History, Named, PioSetUp, Sent, filled, filled_from, is_at, is_set_up, next_number, none_filled, waiting_in}
-use Rattle.disk_ends.specs.Same.{InLife, IsEndedBy, Moves, Open, ReadEnded, StandsOnce, Unsent, Unset, WriteEnded}
+use Rattle.disk_ends.specs.Same.{InLife, IsEndedBy, IsLastOf, Moves, Open, ReadEnded, StandsOnce, Unsent, Unset, WriteEnded}
 use Rattle.disk_ends.specs.Answers.{AnswersKeep, ByRead, ByWrite, HasEnded, IsAlone, IsIdle, NamesKeep, OthersKeep}
 use Rattle.disk_ends.proofs.SameLemmas.{same_life}
 
@@ -92,14 +92,14 @@ asks_beside k request failed one fits = subst (IsBeside k) (sym (asks_fits k req
 
 pub others_keep : OthersKeep
 others_keep s slot c request past k other failed one fits life =
-    same_life s c past (Sent slot ∷ past) (asks k request k.failed) (λ quiet. other) refl refl refl
+    same_life s c past (Sent slot ∷ past) (asks k request k.failed) (λ quiet. other) refl refl refl refl
     (life_beside s c past k (asks k request k.failed) (asks_beside k request failed one fits) life)
 
 -- ## Answers
 
 register_keeps : (s : ℕ) (c : Command) (past : History) (k : Ledger) → InLife s c past k → InLife s c (Answered ∷ past) (answered k)
 register_keeps s c past k life =
-    same_life s c past (Answered ∷ past) (answered k) (λ quiet. refl) refl refl refl
+    same_life s c past (Answered ∷ past) (answered k) (λ quiet. refl) refl refl refl refl
     (life_beside s c past k (answered k) (record { outstanding = refl; unanswered = refl; moving = refl; writes = refl; reads = refl }) life)
 
 show_keeps : (s count ends : ℕ) (to_host : Bool) (c : Command) (past : History) (k : Ledger) → IsIdle k → InLife s c past k → InLife s c (PioSetUp count to_host ends ∷ past) (answered k)
@@ -216,7 +216,9 @@ name_other s mask error c past k names other (Unsent free quiet unset none) =
     Unsent (record { outstanding = free.outstanding; unanswered = has_left s k.unanswered free.unanswered; moving = free.moving }) quiet unset none
 name_other s mask error c past k names other (Open found yet beside unset none) = Open found (has_left s k.unanswered yet) beside unset none
 name_other s mask error c past k names other (Moves v moving same yet m) =
-    Moves v moving same (has_left s k.unanswered yet) (record { long = m.long; quiet = m.quiet; set_up = m.set_up; inside = m.inside; fresh = m.fresh; asked = m.asked; stands = m.stands })
+    let n : IsLastOf v past = m.names in
+    Moves v moving same (has_left s k.unanswered yet)
+    (record { long = m.long; quiet = m.quiet; set_up = m.set_up; inside = m.inside; names = record { setup = n.setup; last = n.last; offset = n.offset; count = n.count }; fresh = m.fresh; asked = m.asked; stands = m.stands })
 name_other s mask error c past k names other (ReadEnded at r e quiet there same stands) = ReadEnded at r (ended_left s mask error (is_set_up s past) k names other e) quiet there same stands
 name_other s mask error c past k names other (WriteEnded at w e quiet there same stands) = WriteEnded at w (ended_left s mask error (is_set_up s past) k names other e) quiet there same stands
 

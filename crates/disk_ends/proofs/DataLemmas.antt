@@ -11,7 +11,7 @@ use Rattle.disk_model.specs.Ledger.{Ledger, Moving, ReadOut, Written, ends, send
 use Rattle.disk_model.proofs.CrossLemmas.{after_bytes, but_free, data_down, goes_by, has_more, is_all, with_bytes}
 use Rattle.disk_model.proofs.PlaceLemmas.{length-put}
 use Rattle.hba_laws.specs.History.{Carried, History, filled, filled_from, is_at, is_set_up, next_number, waiting_in}
-use Rattle.disk_ends.specs.Same.{InLife, IsEndedBy, IsMovingAt, Moves, Open, ReadEnded, Stand, StandsOnce, Unsent, Unset, WriteEnded}
+use Rattle.disk_ends.specs.Same.{InLife, IsEndedBy, IsLastOf, IsMovingAt, Moves, Open, ReadEnded, Stand, StandsOnce, Unsent, Unset, WriteEnded}
 use Rattle.disk_ends.proofs.MoveLemmas.{IsMoved, not_own, other_life, own_life, unset_other}
 use Rattle.disk_ends.proofs.SameLemmas.{data_fills}
 use Rattle.disk_ends.specs.Steps.{DataDown, DataUp}
@@ -136,6 +136,9 @@ put_long s v bytes past long at =
     let whole = at.long in
     length-put v.bytes bytes v.offset (omega (arith, inside, whole, long)) ∙ whole
 
+names_on : (s : ℕ) (v : Moving) (bytes : List ℕ) (past : History) → IsMovingAt s v past → IsLastOf (with_bytes v bytes) (Carried bytes ∷ past)
+names_on s v bytes past at = let n : IsLastOf v past = at.names in record { setup = n.setup; last = n.last; offset = n.offset; count = n.count }
+
 moved_quiet : (s : ℕ) (c : Command) (v : Moving) (past : History) (k : Ledger) → IsMoved s c v past k → is_at s (waiting_in past) ≡ false
 moved_quiet s c v past k m = let at : IsMovingAt s v past = m.at in at.quiet
 
@@ -148,6 +151,7 @@ data_own s c v bytes past k false write own way long in_turn m =
       quiet = at.quiet;
       set_up = at.set_up;
       inside = at.inside;
+      names = names_on s v bytes past at;
       fresh = inr in_turn;
       asked = λ e. cc e;
       stands = data_fills s v bytes past at long in_turn;

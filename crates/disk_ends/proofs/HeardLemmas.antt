@@ -57,11 +57,11 @@ use Rattle.disk_ends.proofs.TogetherLemmas.{set_up_beside}
 
 -- ## Events as lists
 
-abbrev list_of : Option Event → History
+abbrev pub list_of : Option Event → History
 list_of None = []
 list_of (Some e) = e ∷ []
 
-own_list : (dev : ℕ) (o : Option Event) → own dev (by_device dev o) ≡ list_of o
+pub own_list : (dev : ℕ) (o : Option Event) → own dev (by_device dev o) ≡ list_of o
 own_list dev None = refl
 own_list dev (Some e) = ap (λ (b : Bool). if b then e ∷ [] else []) (eq-eqb dev dev refl)
 
@@ -173,12 +173,12 @@ none_issue : (t : Transfer) → Some (work_of_transfer t) ≡ None → ⊥
 none_issue t e = cc e
 
 -- what the history has issued in a slot stands there
-record IsThere (own : DeviceSlots) (s : ℕ) (t : Transfer) : Type 0 where
-  issue : Issue
-  there : own_issue own s ≡ Some issue
-  work : t.work ≡ issue.work
+pub record IsThere (own : DeviceSlots) (s : ℕ) (t : Transfer) : Type 0 where
+  pub issue : Issue
+  pub there : own_issue own s ≡ Some issue
+  pub work : t.work ≡ issue.work
 
-there_by : (own : DeviceSlots) (s : ℕ) (t : Transfer) (o : Option Issue) → own_issue own s ≡ o → Some (work_of_transfer t) ≡ option_map work_of_issue o → IsThere own s t
+pub there_by : (own : DeviceSlots) (s : ℕ) (t : Transfer) (o : Option Issue) → own_issue own s ≡ o → Some (work_of_transfer t) ≡ option_map work_of_issue o → IsThere own s t
 there_by own s t None is same = absurd (none_issue t same)
 there_by own s t (Some i) is same = record { issue = i; there = is; work = let e : Some t.work ≡ Some i.work = same in cc e }
 
@@ -289,14 +289,14 @@ no_fault None device port = refl
 no_fault (Some (fault.Device c)) device port = cc device
 no_fault (Some (fault.Port c)) device port = cc port
 
-not_ignored : (host new : Host) (frame : List ℕ) (report : TakeReport) (b : Bool) → ignores (port_of frame) host.port frame ≡ b → IsTakenWell host frame report new → b ≡ false
+pub not_ignored : (host new : Host) (frame : List ℕ) (report : TakeReport) (b : Bool) → ignores (port_of frame) host.port frame ≡ b → IsTakenWell host frame report new → b ≡ false
 not_ignored host new frame report false is well = refl
 not_ignored host new frame report true is well =
     let takes : TakesFrame host frame report new = well.takes in
     let reports = (takes.ignored is).reports in
     absurd (true≢false (sym (ap (λ (r : TakeReport). r.ignored) reports) ∙ well.heard))
 
-heard_fine : (host new : Host) (frame : List ℕ) (report : TakeReport) → ignores (port_of frame) host.port frame ≡ false → IsTakenWell host frame report new
+pub heard_fine : (host new : Host) (frame : List ℕ) (report : TakeReport) → ignores (port_of frame) host.port frame ≡ false → IsTakenWell host frame report new
     → (heard_now host.port host.memory (port_of frame) (admitted (port_of frame) (seen frame))).fault ≡ None
 unfolding heard_report
 heard_fine host new frame report heard_it well =

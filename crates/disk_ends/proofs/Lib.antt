@@ -6,3 +6,8 @@ pub mod TalkLemmas
 pub mod TogetherLemmas
 pub mod HonestLemmas
 pub mod HeardLemmas
+pub mod JoinLemmas
+pub mod ShortLemmas
+pub mod IssueJoins
+pub mod HostedLemmas
+pub mod SizeLemmas

@@ -1,12 +1,12 @@
 -- What the further DMA Setups of a command, a DMA Activate and Data leave of each queued command.
-use Rattle.std.proofs.Common.{◌≡◌, eqb, ℕ, ◌+◌, ◌*◌, ◌≤◌, Bool, true, false, [], ◌∷◌, ◌++◌, refl, sym, ap, subst, ◌∙◌, inl, inr, Option, Some, arith}
+use Rattle.std.proofs.Common.{◌≡◌, eqb, ℕ, ◌+◌, ◌*◌, ◌≤◌, Bool, true, false, [], ◌∷◌, ◌++◌, refl, sym, ap, subst, ◌∙◌, inl, inr, Option, Some, arith, None}
 use Rattle.std.proofs.lemmas.Bool.{cases_Bool, eq-eqb, eqb-true}
 use Rattle.disk_model.specs.declared.request.Command.{Command}
 use Rattle.disk_model.specs.Ends.{MovesOther, has}
 use Rattle.disk_model.specs.Laws.{bytes_named}
 use Rattle.disk_model.specs.Ledger.{Ledger, Moving, activates, sets_up}
 use Rattle.hba_laws.specs.History.{History, SetUp, filled, is_at, is_set_up, waiting_in}
-use Rattle.disk_ends.specs.Same.{InLife, IsMovingAt, Moves, Open, ReadEnded, Stand, Unsent, Unset, WriteEnded}
+use Rattle.disk_ends.specs.Same.{InLife, IsLastOf, IsMovingAt, Moves, Open, ReadEnded, Stand, Unsent, Unset, WriteEnded}
 use Rattle.disk_ends.specs.Steps.{ActivatesKeep, SetupsGoOn}
 
 -- ## Whose data moves
@@ -87,7 +87,8 @@ setup_on s offset count to_host c v past k moving tag fits life = elim (cases_Bo
         quiet = at.quiet;
         set_up = is;
         inside = fits;
-        fresh = inl (omega arith);
+        names = record { setup = record { slot = v.command.tag; offset = offset; count = count; to_host = to_host; ends = None }; last = refl; offset = refl; count = refl };
+        fresh = inl refl;
         asked = λ e. cc e;
         stands = at.stands;
       })
@@ -101,6 +102,9 @@ setups_go_on s offset count to_host c v past k moving tag fits life =
 
 -- ## A DMA Activate, of which the host's history says nothing
 
+names_of : (s : ℕ) (v : Moving) (past : History) → IsMovingAt s v past → IsLastOf (record v { active = true }) past
+names_of s v past at = let n : IsLastOf v past = at.names in record { setup = n.setup; last = n.last; offset = n.offset; count = n.count }
+
 activate_on : (s : ℕ) (c : Command) (v : Moving) (past : History) (k : Ledger) → k.moving ≡ Some v → c.tag ≡ s → v.moved + v.count ≡ bytes_named v.setups
     → InLife s c past k → InLife s c past (activates k (Some v))
 activate_on s c v past k moving tag in_turn life = elim (cases_Bool (eqb v.command.tag s)) [
@@ -112,6 +116,7 @@ activate_on s c v past k moving tag in_turn life = elim (cases_Bool (eqb v.comma
         quiet = at.quiet;
         set_up = at.set_up;
         inside = at.inside;
+        names = names_of s v past at;
         fresh = at.fresh;
         asked = λ e. in_turn;
         stands = at.stands;

@@ -6,6 +6,7 @@ use Rattle.std.specs.Option.{option_or}
 use Rattle.std.proofs.lemmas.Bool.{cases_Bool, and_parts, eq-eqb, eqb-true, or_from, or_left, or_parts, or_right, leb-true, ltb-true, true≢false}
 use Rattle.std.proofs.lemmas.List.{length-replicate}
 use Rattle.std.proofs.lemmas.List.Folds.{find-append, list_any-append}
+use Rattle.slots.specs.Slots.{match_some}
 use Rattle.disk_model.specs.declared.request.Command.{Command}
 use Rattle.disk_model.specs.Chunks.{put}
 use Rattle.disk_model.specs.Ends.{IsFree, MovesOther, has}
@@ -13,8 +14,8 @@ use Rattle.disk_model.specs.Laws.{bytes_named}
 use Rattle.disk_model.specs.Ledger.{Ledger, Moving, starts_moving}
 use Rattle.disk_model.proofs.CrossLemmas.{opened, opens_free}
 use Rattle.disk_model.proofs.PutLemmas.{lie_where_put}
-use Rattle.hba_laws.specs.History.{Carried, History, Issued, Sent, SetUp, Transfer, filled, filled_from, is_at, is_set_up, next_number, none_filled, unless, waiting_in}
-use Rattle.disk_ends.specs.Same.{CommandsKeep, DataFills, InLife, IsEndedBy, IsMovingAt, IssuesKeep, Moves, Open, ReadEnded, SetupsStart, Stand, StandsOnce, Unsent, WriteEnded}
+use Rattle.hba_laws.specs.History.{Carried, History, Issued, Sent, SetUp, Setup, Transfer, carried, filled, filled_from, is_at, is_set_up, last_setup, next_number, none_filled, unless, waiting_in}
+use Rattle.disk_ends.specs.Same.{CommandsKeep, DataFills, InLife, IsEndedBy, IsLastOf, IsMovingAt, IssuesKeep, Moves, Open, ReadEnded, SetupsStart, Stand, StandsOnce, Unsent, WriteEnded}
 
 -- ## Lists
 
@@ -51,26 +52,30 @@ found_last s cs c none is =
 
 -- ## A history that says the same of a slot
 
-moving_as : (s : ℕ) (v : Moving) (past later : History) → (is_at s (waiting_in past) ≡ false → is_at s (waiting_in later) ≡ false) → is_set_up s later ≡ is_set_up s past → filled s later ≡ filled s past → next_number later ≡ next_number past
+names_as : (v : Moving) (past later : History) → last_setup later ≡ last_setup past → IsLastOf v past → IsLastOf v later
+names_as v past later same names = record { setup = names.setup; last = same ∙ names.last; offset = names.offset; count = names.count }
+
+moving_as : (s : ℕ) (v : Moving) (past later : History) → (is_at s (waiting_in past) ≡ false → is_at s (waiting_in later) ≡ false) → is_set_up s later ≡ is_set_up s past → filled s later ≡ filled s past → last_setup later ≡ last_setup past → carried later ≡ carried past
     → IsMovingAt s v past → IsMovingAt s v later
-moving_as s v past later waits set fills next m = record {
+moving_as s v past later waits set fills last since m = record {
   long = m.long;
   quiet = waits m.quiet;
   set_up = set ∙ m.set_up;
   inside = m.inside;
-  fresh = subst (λ (n : ℕ). (n ≡ v.offset) ⊎ (v.moved ≡ bytes_named v.setups)) (sym next) m.fresh;
+  names = names_as v past later last m.names;
+  fresh = subst (λ (n : ℕ). (n ≡ 0) ⊎ (v.moved ≡ bytes_named v.setups)) (sym since) m.fresh;
   asked = m.asked;
   stands = subst (λ (f : ℕ → Option ℕ). Stand f v.bytes) (sym fills) m.stands;
 }
 
 pub same_life : (s : ℕ) (c : Command) (past later : History) (k : Ledger) → (is_at s (waiting_in past) ≡ false → is_at s (waiting_in later) ≡ false)
-    → is_set_up s later ≡ is_set_up s past → filled s later ≡ filled s past → next_number later ≡ next_number past → InLife s c past k → InLife s c later k
-same_life s c past later k waits set fills next (Unsent free quiet unset none) = Unsent free (waits quiet) (set ∙ unset) (fills ∙ none)
-same_life s c past later k waits set fills next (Open found yet other unset none) = Open found yet other (set ∙ unset) (fills ∙ none)
-same_life s c past later k waits set fills next (Moves v moving same yet m) = Moves v moving same yet (moving_as s v past later waits set fills next m)
-same_life s c past later k waits set fills next (ReadEnded at r e quiet there same stands) =
+    → is_set_up s later ≡ is_set_up s past → filled s later ≡ filled s past → last_setup later ≡ last_setup past → carried later ≡ carried past → InLife s c past k → InLife s c later k
+same_life s c past later k waits set fills last since (Unsent free quiet unset none) = Unsent free (waits quiet) (set ∙ unset) (fills ∙ none)
+same_life s c past later k waits set fills last since (Open found yet other unset none) = Open found yet other (set ∙ unset) (fills ∙ none)
+same_life s c past later k waits set fills last since (Moves v moving same yet m) = Moves v moving same yet (moving_as s v past later waits set fills last since m)
+same_life s c past later k waits set fills last since (ReadEnded at r e quiet there same stands) =
     ReadEnded at r (subst (λ (b : Bool). IsEndedBy s b k) (sym set) e) (waits quiet) there same (subst (λ (f : ℕ → Option ℕ). Stand f r.bytes) (sym fills) stands)
-same_life s c past later k waits set fills next (WriteEnded at w e quiet there same stands) =
+same_life s c past later k waits set fills last since (WriteEnded at w e quiet there same stands) =
     WriteEnded at w (subst (λ (b : Bool). IsEndedBy s b k) (sym set) e) (waits quiet) there same (subst (λ (f : ℕ → Option ℕ). Stand f w.bytes) (sym fills) stands)
 
 -- ## A command is issued
@@ -92,7 +97,7 @@ issue_own s c t past k free =
 
 issue_other : (s slot : ℕ) (c : Command) (t : Transfer) (past : History) (k : Ledger) → eqb slot s ≡ false → InLife s c past k → InLife s c (Issued slot t ∷ past) k
 issue_other s slot c t past k other life =
-    same_life s c past (Issued slot t ∷ past) k (still_not_at s (waiting_in past) (is_at slot (waiting_in past))) (ap (λ (b : Bool). if b then false else is_set_up s past) other) (ap (λ (b : Bool). if b then none_filled else filled s past) other) refl life
+    same_life s c past (Issued slot t ∷ past) k (still_not_at s (waiting_in past) (is_at slot (waiting_in past))) (ap (λ (b : Bool). if b then false else is_set_up s past) other) (ap (λ (b : Bool). if b then none_filled else filled s past) other) refl refl life
 
 pub issues_keep : IssuesKeep
 issues_keep = record { own = issue_own; other = issue_other }
@@ -139,7 +144,7 @@ sent_other : (s : ℕ) (c other : Command) (past : History) (k : Ledger) → eqb
 sent_other s c other past k differs (Unsent free quiet unset none) =
     Unsent (record { outstanding = free_more s k.outstanding other free.outstanding differs; unanswered = free.unanswered; moving = free.moving }) differs unset none
 sent_other s c other past k differs (Open found yet beside unset none) = Open (found_more s k.outstanding other c found) yet beside unset none
-sent_other s c other past k differs (Moves v moving same yet m) = Moves v moving same yet (moving_as s v past (Sent other.tag ∷ past) (λ quiet. differs) refl refl refl m)
+sent_other s c other past k differs (Moves v moving same yet m) = Moves v moving same yet (moving_as s v past (Sent other.tag ∷ past) (λ quiet. differs) refl refl refl refl m)
 sent_other s c other past k differs (ReadEnded at r e quiet there same stands) = ReadEnded at r (ended_beside s (is_set_up s past) k other differs e) differs there same stands
 sent_other s c other past k differs (WriteEnded at w e quiet there same stands) = WriteEnded at w (ended_beside s (is_set_up s past) k other differs e) differs there same stands
 
@@ -166,7 +171,8 @@ module _ (s tag offset count : ℕ) (to_host : Bool) (c q : Command) (past : His
         quiet = subst (λ (n : ℕ). is_at n (waiting_in past) ≡ false) at answered;
         set_up = is;
         inside = fits;
-        fresh = inl (omega arith);
+        names = record { setup = record { slot = tag; offset = offset; count = count; to_host = to_host; ends = None }; last = refl; offset = refl; count = refl };
+        fresh = inl refl;
         asked = λ e. cc e;
         stands = λ i b e. let empty : filled s past i ≡ None = ap (λ (f : ℕ → Option ℕ). f i) none in cc;
       })
@@ -227,7 +233,11 @@ data_put s v bytes past m long all =
     let fits : v.offset + length bytes ≤ length v.bytes = omega (arith, inside, whole, long) in
     let puts : Stand (filled_from v.offset bytes (filled s past)) (put v.bytes v.offset bytes) = stand_put (filled s past) v.bytes bytes v.offset fits m.stands in
     elim m.fresh [
-      | inl next ↦ subst (λ (n : ℕ). Stand (filled_from n bytes (filled s past)) (put v.bytes v.offset bytes)) (sym next) puts
+      | inl none ↦
+          let names : IsLastOf v past = m.names in
+          let at = names.offset in
+          let next : next_number past ≡ v.offset = ap (λ (o : Option Setup). match_some o 0 (λ g. g.offset + carried past)) names.last ∙ (omega (arith, at, none)) in
+          subst (λ (n : ℕ). Stand (filled_from n bytes (filled s past)) (put v.bytes v.offset bytes)) (sym next) puts
       | inr moved ↦
           let none : length bytes ≡ 0 = omega (arith, moved, all) in
           λ i b e. puts i b (none_more (filled s past) bytes v.offset i none ∙ sym (none_more (filled s past) bytes (next_number past) i none) ∙ e)

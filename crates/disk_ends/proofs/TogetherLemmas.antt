@@ -1,6 +1,7 @@
 -- Both views of a disk go on to say the same.
 use Rattle.std.proofs.Common.{◌≡◌, ◌==◌, ◌&&◌, eqb, ℕ, Bool, true, false, List, [], ◌∷◌, ◌++◌, refl, sym, ap, subst, ◌∙◌, inl, inr, Option, Some, None, Ok, Err, Result}
 use Rattle.std.specs.Prelude.{◌≢◌, not, if◌then◌else◌, drop, find}
+use Rattle.std.specs.List.{list_any}
 use Rattle.std.proofs.lemmas.Bool.{and_parts, cases_Bool, eq-eqb, eqb-true, true≢false}
 use Rattle.fis_view.specs.Table.{Bits, BufferId, EStatus, Offset, Pio, SActive, Setup, field}
 use Rattle.fis_view.specs.Table as table
@@ -15,8 +16,7 @@ use Rattle.disk_model.specs.declared.request.Command.{Command}
 use Rattle.disk_model.specs.declared.request.Request.{Request}
 use Rattle.disk_model.specs.declared.request.Request.TheVariants.{Queue}
 use Rattle.disk_model.specs.declared.request.Request.TheVariants as asked
-use Rattle.disk_model.specs.Ends.{FitsData, FitsRequest, IsFree, IsRight, MovesOther, PageAsked}
-use Rattle.disk_model.specs.Histories.{Plugged}
+use Rattle.disk_model.specs.Ends.{FitsData, FitsRequest, IsFree, IsRight, MovesOther, PageAsked, has}
 use Rattle.disk_model.specs.Laws.{ActivatesRight, AsksOnce, CarriesNext, CarriesRight, SetsUpNext, SetsUpRight, StartsOne}
 use Rattle.disk_model.specs.Ledger.{Ledger, Moving, Signs, activates, answers, asks, empty, ends, listens, listens_up, sends_data, sets_up, starts_moving, takes_data}
 use Rattle.disk_model.proofs.CrossLemmas.{after_bytes, alone, asks_fits, bits_up, but_free, data_down, found_not, goes_by, has_more, is_all, opened, opens_free, with_bytes}
@@ -96,19 +96,19 @@ same_after commands past later k x l same = record {
 false_true : {X : Type 0} → false ≡ true → X
 false_true e = absurd (true≢false (sym e))
 
-no_answer : (a q c : Bool) → q ≡ true → (a && not q && c) ≡ true → ⊥
+pub no_answer : (a q c : Bool) → q ≡ true → (a && not q && c) ≡ true → ⊥
 no_answer a false c queued e = true≢false (sym queued)
 no_answer true true true queued e = true≢false (sym e)
 no_answer true true false queued e = true≢false (sym e)
 no_answer false true true queued e = true≢false (sym e)
 no_answer false true false queued e = true≢false (sym e)
 
-no_end : (a p c d : Bool) → p ≡ false → (a && p && c && d) ≡ true → ⊥
+pub no_end : (a p c d : Bool) → p ≡ false → (a && p && c && d) ≡ true → ⊥
 no_end a true c d pio e = true≢false pio
 no_end true false c d pio e = true≢false (sym e)
 no_end false false c d pio e = true≢false (sym e)
 
-not_pio : (kind : Kind) → is_queued kind ≡ true → is_pio kind ≡ false
+pub not_pio : (kind : Kind) → is_queued kind ≡ true → is_pio kind ≡ false
 not_pio QueuedRead queued = refl
 not_pio QueuedWrite queued = refl
 not_pio PioIn queued = absurd (true≢false (sym queued))
@@ -129,15 +129,23 @@ free_ends s k w true false other free = record { outstanding = but_free s w.comm
 
 -- ## The plugging
 
-opens_same : (commands : ℕ → Command) → ((s : ℕ) → (commands s).tag ≡ s) → Same commands [] (listens empty Plugged)
-opens_same commands tags = record {
-  fine = refl;
+idle_free : (s : ℕ) (k : Ledger) → IsIdle k → IsFree k s
+idle_free s k idle = record {
+  outstanding = ap (list_any (λ (q : Command). q.tag == s)) idle.outstanding;
+  unanswered = ap (has s) idle.unanswered;
+  moving = subst (MovesOther s) (sym idle.moving) tt;
+}
+
+opens_same : (commands : ℕ → Command) (past : History) (k : Ledger) → ((s : ℕ) → (commands s).tag ≡ s) → ((s : ℕ) → issued s past ≡ None) → k.failed ≡ false → IsIdle k → k.awaited ≡ Signs ∷ [] → k.pages ≡ []
+    → Same commands past k
+opens_same commands past k tags nothing fine idle signs none = record {
+  fine = fine;
   tags = tags;
-  live = λ s t there queued. absurd (none_some t there);
-  free = λ s none. record { outstanding = refl; unanswered = refl; moving = tt };
-  unsent = λ s sent. record { outstanding = refl; unanswered = refl; moving = tt };
-  untouched = λ s t there sent. absurd (none_some t there);
-  talk = Replies Signs (record { outstanding = refl; unanswered = refl; moving = refl }) refl tt refl;
+  live = λ s t there queued. absurd (none_some t (sym (nothing s) ∙ there));
+  free = λ s unqueued. idle_free s k idle;
+  unsent = λ s sent. idle_free s k idle;
+  untouched = λ s t there sent. absurd (none_some t (sym (nothing s) ∙ there));
+  talk = Replies Signs idle signs tt none;
 }
 
 -- ## A command is issued

@@ -4,3 +4,5 @@ pub mod Answers
 pub mod Together
 pub mod Honest
 pub mod Heard
+pub mod Joined
+pub mod Hosted

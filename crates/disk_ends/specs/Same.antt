@@ -9,7 +9,7 @@ use Rattle.disk_model.specs.Ends.{IsFree, MovesOther, has}
 use Rattle.disk_model.specs.Laws.{bytes_named}
 use Rattle.disk_model.specs.declared.request.Request.TheVariants.{Queue}
 use Rattle.disk_model.specs.Ledger.{Ledger, Moving, ReadOut, Written, asks, starts_moving}
-use Rattle.hba_laws.specs.History.{Carried, History, Issued, Sent, SetUp, Transfer, filled, is_at, is_set_up, next_number, none_filled, waiting_in}
+use Rattle.hba_laws.specs.History.{Carried, History, Issued, Sent, SetUp, Setup, Transfer, carried, filled, is_at, is_set_up, last_setup, none_filled, waiting_in}
 
 -- each filled byte is the one that stands in these bytes
 abbrev pub Stand : (ℕ → Option ℕ) → List ℕ → Type 0
@@ -51,13 +51,21 @@ pub record IsWriteOf (s : ℕ) (c : Command) (w : Written) : Type 0 where
   pub writes : c.write ≡ true
   pub long : length w.bytes ≡ 512 * c.count
 
--- The data of slot s moves: it was answered, its DMA Setup was the last one, and the next byte is the first that it names, or all of them moved.
+-- the last setup of the history is that of the data that moves
+pub record IsLastOf (v : Moving) (past : History) : Type 0 where
+  pub setup : Setup
+  pub last : last_setup past ≡ Some setup
+  pub offset : setup.offset ≡ v.offset
+  pub count : setup.count ≡ v.count
+
+-- The data of slot s moves: it was answered, its DMA Setup was the last one, and nothing came since, or all of it moved.
 pub record IsMovingAt (s : ℕ) (v : Moving) (past : History) : Type 0 where
   pub long : length v.bytes ≡ 512 * v.command.count
   pub quiet : is_at s (waiting_in past) ≡ false
   pub set_up : is_set_up s past ≡ true
   pub inside : v.offset + v.count ≤ 512 * v.command.count
-  pub fresh : (next_number past ≡ v.offset) ⊎ (v.moved ≡ bytes_named v.setups)
+  pub names : IsLastOf v past
+  pub fresh : (carried past ≡ 0) ⊎ (v.moved ≡ bytes_named v.setups)
   pub asked : v.active ≡ true → v.moved + v.count ≡ bytes_named v.setups
   pub stands : Stand (filled s past) v.bytes
 

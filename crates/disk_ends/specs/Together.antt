@@ -15,9 +15,8 @@ use Rattle.disk_model.specs.declared.request.Command.{Command}
 use Rattle.disk_model.specs.declared.request.Request.{Request}
 use Rattle.disk_model.specs.declared.request.Request.TheVariants.{Queue}
 use Rattle.disk_model.specs.Ends.{FitsData, FitsRequest, IsFree, IsRight}
-use Rattle.disk_model.specs.Histories.{Plugged}
 use Rattle.disk_model.specs.Ledger.{Accepts, Finishes, Ledger, Refuses, Reply, ShowsPage, Signs, Wanted}
-use Rattle.disk_model.specs.Ledger.{asks, empty, listens, listens_up, takes_data}
+use Rattle.disk_model.specs.Ledger.{asks, listens_up, takes_data}
 use Rattle.hba_laws.specs.History.{Answered, Carried, History, Issued, Named, PioSetUp, Sent, SetUp}
 use Rattle.hba_laws.specs.History.{Transfer, completes, is_at, is_set_up, issued, waiting_in}
 use Rattle.disk_ends.specs.Answers.{IsAlone, IsIdle}
@@ -132,10 +131,12 @@ pub record QueuesOne (commands : ℕ → Command) (slot : ℕ) (past : History) 
   pub fits : FitsRequest k (Queue (commands slot))
   pub same : Same commands (Sent slot ∷ past) (asks k (Queue (commands slot)) k.failed)
 
--- From the plugging on both views say the same, and go on to do so at each event.
+-- Both views say the same from where nothing is issued or outstanding, and go on to do so at each event.
 pub record SameGoesOn : Type 0 where
-  pub opens : (commands : ℕ → Command) → ((s : ℕ) → (commands s).tag ≡ s)
-      → Same commands [] (listens empty Plugged)
+  -- the device is to sign, after it was plugged in or reset, and nothing is issued
+  pub opens : (commands : ℕ → Command) (past : History) (k : Ledger) → ((s : ℕ) → (commands s).tag ≡ s)
+      → ((s : ℕ) → issued s past ≡ None) → k.failed ≡ false → IsIdle k → k.awaited ≡ Signs ∷ [] → k.pages ≡ []
+      → Same commands past k
   -- a command is issued in a slot that is free
   pub issues : (commands : ℕ → Command) (slot : ℕ) (c : Command) (t : Transfer) (past : History) (k : Ledger)
       → issued slot past ≡ None → c.tag ≡ slot → Same commands past k

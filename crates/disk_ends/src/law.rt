@@ -3,6 +3,9 @@
 ghost use Rattle.disk_ends.specs.Answers.{AnswersKeep, NamesKeep, OthersKeep};
 ghost use Rattle.disk_ends.specs.Heard.{HeardAsTold};
 ghost use Rattle.disk_ends.specs.Honest.{DoneIsHonest, NextIsRight};
+ghost use Rattle.disk_ends.specs.Hosted.{HostedIsKept, NextIsShort};
+ghost use Rattle.disk_ends.specs.Joined.{JoinsCommands, JoinsData, JoinsFrames};
+ghost use Rattle.disk_ends.specs.Joined.{JoinsIssues, ReportsHonestly, StaysJoined};
 ghost use Rattle.disk_ends.specs.Same.{CommandsKeep, DataFills, IssuesKeep, SetupsStart};
 ghost use Rattle.disk_ends.specs.Steps.{ActivatesKeep, DataDown, DataUp, SetupsGoOn};
 ghost use Rattle.disk_ends.specs.Together.{SameGoesOn};
@@ -65,4 +68,28 @@ pub fn done_is_honest()
 /// device's history just what it tells.
 pub fn fises_are_heard_as_told()
     ensures { HeardAsTold }
+{}
+
+/// The view that a host port has of a disk, its history and the ledger go on to agree at each FIS
+/// that the port hears and at each that it gives; and what it gives fits the ledger.
+pub fn port_and_ledger_stay_joined()
+    ensures frames { JoinsFrames }
+    ensures commands { JoinsCommands }
+    ensures data { JoinsData }
+    ensures issues { JoinsIssues }
+    ensures stays { StaysJoined }
+{}
+
+/// Whatever a host does with a disk from its plugging on, as long as its port refuses and empties
+/// nothing, it is careful, and its port agrees with the ledger; and no DMA Setup of a disk names
+/// more than a Data FIS holds.
+pub fn hosts_are_careful()
+    ensures kept { HostedIsKept }
+    ensures short { NextIsShort }
+{}
+
+/// What a report of the port says is done, at a FIS that is the next to come from a disk, was done
+/// honestly.
+pub fn reports_are_honest()
+    ensures { ReportsHonestly }
 {}
