@@ -1,9 +1,9 @@
 -- A host whose port refuses nothing of a disk is careful, and joined with the disk's ledger.
-use Rattle.std.proofs.Common.{◌≡◌, ℕ, ◌<◌, Bool, true, false, List, [], ◌∷◌, ◌++◌, refl, sym, ap, subst, ◌∙◌, Option, Some, None, Ok}
+use Rattle.std.proofs.Common.{◌≡◌, ℕ, ◌<◌, Bool, true, false, List, [], ◌∷◌, ◌++◌, refl, sym, ap, subst, ◌∙◌, Option, Some, None, Ok, arith}
 use Rattle.std.specs.Prelude.{◌≢◌, is_some}
 use Rattle.std.specs.Option.{option_map}
 use Rattle.std.proofs.lemmas.Bool.{true≢false}
-use Rattle.fis_view.specs.Frames.{Stamped}
+use Rattle.fis_view.specs.Frames.{IsFrame, Stamped, marked}
 use Rattle.fis_view.specs.Seen.{seen}
 use Rattle.slots.specs.Slots.{Issue, own_issue}
 use Rattle.slots.specs.declared.table.Context.{Context}
@@ -19,9 +19,12 @@ use Rattle.hba_laws.specs.History.{History, Transfer, issued}
 use Rattle.hba_laws.specs.Hosts.{Host}
 use Rattle.disk_ends.specs.Joined.{IsJoined, JoinsGiven}
 use Rattle.disk_ends.specs.Together.{Same, told}
-use Rattle.disk_ends.specs.Hosted.{HostedIsKept, IsHosted, IsKept, gives, hears, issues, plugged, sends, stays}
+use Rattle.disk_ends.specs.Hosted.{HostedIsKept, IsHosted, IsKept, asks, gives, hears, issues, plugged, sends, stays}
+use Rattle.disk_ends.specs.Marked.{IsHeardAlike}
+use Rattle.disk_ends.proofs.MarkedLemmas.{marks_tell_nothing}
 use Rattle.disk_ends.proofs.IssueJoins.{joins_issues, none_where, stays_joined}
-use Rattle.disk_ends.proofs.JoinLemmas.{joins_commands, joins_data, joins_frames}
+use Rattle.disk_ends.proofs.JoinLemmas.{joins_frames}
+use Rattle.disk_ends.proofs.OrderJoins.{joins_commands, joins_data, joins_others}
 use Rattle.disk_ends.proofs.TogetherLemmas.{same_goes_on}
 
 -- ## One happening more
@@ -88,31 +91,43 @@ kept_plugged n host commands past history none tags =
       });
     }
 
-kept_given : (n : ℕ) (new : Host) (frame : Stamped) (given : List Happening) (e : event.Event) (commands : ℕ → Command) (past : History) → IsCareful given → JoinsGiven n commands frame.bytes e past (ledger given) new
-    → IsKept n new (given ++ Received frame.bytes ∷ []) commands (e ∷ past)
-kept_given n new frame given e commands past careful j = kept_more n new given (Received frame.bytes) commands (e ∷ past) careful j.fits j.joined
+kept_given : (n : ℕ) (new : Host) (frame : Stamped) (given : List Happening) (e : event.Event) (commands : ℕ → Command) (past : History) → IsFrame frame.bytes → IsCareful given
+    → JoinsGiven n commands frame.bytes e past (ledger given) new → IsKept n new (given ++ Received (marked frame.bytes 0) ∷ []) commands (e ∷ past)
+kept_given n new frame given e commands past framed careful j =
+    let a : IsHeardAlike (ledger given) frame.bytes (marked frame.bytes 0) = marks_tell_nothing (ledger given) frame.bytes 0 framed (omega arith) in
+    kept_more n new given (Received (marked frame.bytes 0)) commands (e ∷ past) careful (a.fits j.fits)
+    (subst (IsJoined n commands new (e ∷ past)) (sym a.down) j.joined)
 
 kept : (n : ℕ) (host : Host) (given : List Happening) (commands : ℕ → Command) (past : History) → n < 15 → IsHosted n host given commands past → IsKept n host given commands past
 kept n host given commands past below (plugged h c p history none tags) = kept_plugged n h c p history none tags
 kept n host given commands past below (stays old new g c p same hosted) =
     let before : IsKept n old g c p = kept n old g c p below hosted in
     record { careful = before.careful; joined = stays_joined n old new c p (ledger g) same before.joined }
-kept n host given commands past below (hears old new frame report g c p sound framed from_n well right short hosted) =
+kept n host given commands past below (hears old new bytes report g c p sound plain framed from_n well right short hosted) =
     let before : IsKept n old g c p = kept n old g c p below hosted in
-    let lt : port_of frame < 15 = subst (λ (m : ℕ). m < 15) (sym from_n) below in
-    let joined : IsJoined (port_of frame) c old p (ledger g) = subst (λ (m : ℕ). IsJoined m c old p (ledger g)) (sym from_n) before.joined in
-    let next : IsJoined (port_of frame) c new (told (seen frame) ++ p) (listens (ledger g) (Sent frame)) = joins_frames old new frame report c p (ledger g) sound framed lt well right short joined in
-    kept_more n new g (Sent frame) c (told (seen frame) ++ p) before.careful tt (subst (λ (m : ℕ). IsJoined m c new (told (seen frame) ++ p) (listens (ledger g) (Sent frame))) from_n next)
+    let lt : port_of (marked bytes n) < 15 = subst (λ (m : ℕ). m < 15) (sym from_n) below in
+    let small : n < 16 = omega (arith, below) in
+    let a : IsHeardAlike (ledger g) bytes (marked bytes n) = marks_tell_nothing (ledger g) bytes n plain small in
+    let joined : IsJoined (port_of (marked bytes n)) c old p (ledger g) = subst (λ (m : ℕ). IsJoined m c old p (ledger g)) (sym from_n) before.joined in
+    let next : IsJoined (port_of (marked bytes n)) c new (told (seen (marked bytes n)) ++ p) (listens (ledger g) (Sent (marked bytes n))) =
+    joins_frames old new (marked bytes n) report c p (ledger g) sound framed lt well (a.right right) (a.short short) joined in
+    let mine : IsJoined n c new (told (seen (marked bytes n)) ++ p) (listens (ledger g) (Sent (marked bytes n))) =
+    subst (λ (m : ℕ). IsJoined m c new (told (seen (marked bytes n)) ++ p) (listens (ledger g) (Sent (marked bytes n)))) from_n next in
+    kept_more n new g (Sent bytes) c (told (seen (marked bytes n)) ++ p) before.careful tt (subst (IsJoined n c new (told (seen (marked bytes n)) ++ p)) a.up mine)
 kept n host given commands past below (issues old new value g c next p sound chosen does tags names hosted) =
     let before : IsKept n old g c p = kept n old g c p below hosted in
     record { careful = before.careful; joined = joins_issues n value old new c next p (ledger g) sound below chosen does tags names before.joined }
-kept n host given commands past below (sends old new frame slot command f t g c p sound does out here queued cfis request signed hosted) =
+kept n host given commands past below (sends old new frame slot command f t g c p sound framed does out here queued cfis request signed hosted) =
     let before : IsKept n old g c p = kept n old g c p below hosted in
-    kept_given n new frame g (event.Sent slot) c p before.careful
+    kept_given n new frame g (event.Sent slot) c p framed before.careful
     (joins_commands n slot old new frame command f t c p (ledger g) sound below does out here queued cfis request signed before.joined)
-kept n host given commands past below (gives old new frame offset len command g c p sound does out hosted) =
+kept n host given commands past below (asks old new frame slot command f t g c p sound framed does out here not_queued control cfis one none signed hosted) =
     let before : IsKept n old g c p = kept n old g c p below hosted in
-    kept_given n new frame g (event.Carried _) c p before.careful (joins_data n offset len old new frame command c p (ledger g) sound below does out before.joined)
+    kept_given n new frame g (event.Sent slot) c p framed before.careful
+    (joins_others n slot old new frame command f t c p (ledger g) sound below does out here not_queued control cfis one none signed before.joined)
+kept n host given commands past below (gives old new frame offset len command g c p sound framed does out hosted) =
+    let before : IsKept n old g c p = kept n old g c p below hosted in
+    kept_given n new frame g (event.Carried _) c p framed before.careful (joins_data n offset len old new frame command c p (ledger g) sound below does out before.joined)
 
 pub hosted_is_kept : HostedIsKept
 hosted_is_kept n host given commands past below hosted = kept n host given commands past below hosted

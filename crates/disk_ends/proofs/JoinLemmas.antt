@@ -73,12 +73,12 @@ use Rattle.disk_ends.proofs.TogetherLemmas.{same_goes_on}
 -- ## What was sent stays so
 
 -- what is issued was issued before, and was sent where it is
-record WasSent (old : DeviceSlots) (s : ℕ) (i : Issue) : Type 0 where
-  before : Issue
-  there : own_issue old s ≡ Some before
-  sent : before.sent ≡ i.sent
+pub record WasSent (old : DeviceSlots) (s : ℕ) (i : Issue) : Type 0 where
+  pub before : Issue
+  pub there : own_issue old s ≡ Some before
+  pub sent : before.sent ≡ i.sent
 
-abbrev KeepsSent : DeviceSlots → DeviceSlots → Type 0
+abbrev pub KeepsSent : DeviceSlots → DeviceSlots → Type 0
 KeepsSent old new = (s : ℕ) (i : Issue) → own_issue new s ≡ Some i → WasSent old s i
 
 stays_sent : (own : DeviceSlots) → KeepsSent own own
@@ -100,7 +100,7 @@ changed_by own s i f keeps None is there = cc there
 changed_by own s i f keeps (Some j) is there = let same : f j ≡ i = cc there in record { before = j; there = is; sent = sym (keeps j) ∙ ap (λ (x : Issue). x.sent) same }
 
 -- a change of one slot's issue that leaves whether it was sent
-set_sent : (own new : DeviceSlots) (slot : ℕ) (f : Issue → Issue) → ((j : Issue) → (f j).sent ≡ j.sent) → new.issues ≡ set own.issues slot (option_map f (own_issue own slot)) → KeepsSent own new
+pub set_sent : (own new : DeviceSlots) (slot : ℕ) (f : Issue → Issue) → ((j : Issue) → (f j).sent ≡ j.sent) → new.issues ≡ set own.issues slot (option_map f (own_issue own slot)) → KeepsSent own new
 set_sent own new slot f keeps is s i there = elim (cases_eq s slot) [
   | inl same ↦ elim (cases_lt slot (length own.issues)) [
     | inl lt ↦
@@ -198,7 +198,7 @@ NotActivated (happening.Carried wrote finishes) = Unit {0}
 abbrev Before : DeviceSlots → DeviceSlots → Type 0
 Before old new = (c : Context) → new.context ≡ Some c → c.activated ≡ true → old.context ≡ Some c
 
-inactive : {X : Type 0} (a c : Context) → Some a ≡ Some c → a.activated ≡ false → c.activated ≡ true → X
+pub inactive : {X : Type 0} (a c : Context) → Some a ≡ Some c → a.activated ≡ false → c.activated ≡ true → X
 inactive a c same unset set =
     let is : a ≡ c = cc same in
     absurd (true≢false (sym set ∙ subst (λ (x : Context). x.activated ≡ false) is unset))
@@ -301,7 +301,7 @@ quiet_data own state sound count (Some c) =
 
 -- ---- and leaves what the ledger has of it
 
-asked_same : (c : Context) (k x : Ledger) → x.moving ≡ k.moving → IsAskedBy c k → IsAskedBy c x
+pub asked_same : (c : Context) (k x : Ledger) → x.moving ≡ k.moving → IsAskedBy c k → IsAskedBy c x
 asked_same c k x same a = record { current = a.current; moving = same ∙ a.moving; tag = a.tag; writes = a.writes; asked = a.asked; left = a.left }
 
 -- a disk sends neither DMA Setup nor DMA Activate nor Data while a write waits for Data
@@ -476,175 +476,3 @@ joins_frames host new frame report commands past k sound framed below well right
   where
     below_16 : (n : ℕ) → n < 15 → n < 16
     below_16 n lt = omega arith
-
--- ## A command goes out
-
-not_control : (kind : Kind) → is_queued kind ≡ true → is_control kind ≡ false
-not_control QueuedRead queued = refl
-not_control QueuedWrite queued = refl
-not_control PioIn queued = absurd (true≢false (sym queued))
-not_control NoData queued = absurd (true≢false (sym queued))
-not_control Control queued = absurd (true≢false (sym queued))
-
--- what is known of a command that goes out
-record GoesOn (n slot : ℕ) (host : Host) : Type 0 where
-  issue : Issue
-  at_table : issue_at host.port.slots slot ≡ Some issue
-  there : own_issue (view_of n host.port).slots slot ≡ Some issue
-  unsent : issue.sent ≡ false
-  none_waits : is_control issue.work.kind ≡ false → waiting (view_of n host.port).slots ≡ None
-
-goes_on_out : (n slot : ℕ) (host : Host) (command : issued_command.Command) → IsHost host → GoesOut host.port (Order n slot command) → GoesOn n slot host
-unfolding GoesOut
-goes_on_out n slot host command sound goes =
-    let long = sound.slots.slots in
-    let lt : slot < 32 = goes.3 in
-    let here : own_issue (slots_of goes.0.dev host.port.slots) slot ≡ Some goes.0 = own_here slot host.port.slots goes.0 (omega (arith, long, lt)) goes.1 in
-    record {
-      issue = goes.0;
-      at_table = goes.1;
-      there = subst (λ (d : ℕ). own_issue (slots_of d host.port.slots) slot ≡ Some goes.0) (sym goes.2) here;
-      unsent = goes.4;
-      none_waits = λ other. subst (λ (d : ℕ). waiting (slots_of d host.port.slots) ≡ None) (sym goes.2) (goes.5 other);
-    }
-
-nothing_waits : (n : ℕ) (v : DeviceView) (past : History) → IsOwn n v.slots → IsTold v past → waiting v.slots ≡ None → NothingWaits past
-nothing_waits n v past is history none s t here =
-    let there : IsThere v.slots s t = there_by v.slots s t (own_issue v.slots s) refl (sym (ap (option_map work_of_transfer) here) ∙ history.issued s) in
-    let agrees : IssueAgrees s there.issue v.slots.context past = history.agrees.issues_agree s there.issue there.there in
-    agrees.waits_is ∙ none_waits n v.slots is none s there.issue there.there
-
-sent_one : (i : Issue) (o : Option Issue) → option_map sent_issue o ≡ Some i → true ≡ i.sent
-sent_one i None e = cc e
-sent_one i (Some j) e = let same_issue : sent_issue j ≡ i = cc e in ap (λ (x : Issue). x.sent) same_issue
-
-sent_after_by : (own : DeviceSlots) (slot s : ℕ) (past : History) (i : Issue) (b : Bool) → eqb slot s ≡ b → SentAgrees own past → own_issue (with_sent own slot) s ≡ Some i
-    → (if b then true else is_sent s past) ≡ i.sent
-sent_after_by own slot s past i true same agrees there =
-    let at : s ≡ slot = sym (eqb-true slot s same) in
-    let here : own_issue (with_sent own slot) slot ≡ Some i = ap (λ (n : ℕ). own_issue (with_sent own slot) n) (sym at) ∙ there in
-    elim (cases_lt slot (length own.issues)) [
-      | inl lt ↦
-          let now : own_issue (with_sent own slot) slot ≡ option_map sent_issue (own_issue own slot) = get_or-set_same own.issues slot (option_map sent_issue (own_issue own slot)) None lt in
-          sent_one i (own_issue own slot) (sym now ∙ here)
-      | inr past_end ↦
-          let long = length-set own.issues slot (option_map sent_issue (own_issue own slot)) in
-          let now : own_issue (with_sent own slot) slot ≡ None = get_or_past (set own.issues slot (option_map sent_issue (own_issue own slot))) slot None (omega (arith, long, past_end)) in
-          cc (sym now ∙ here)
-    ]
-sent_after_by own slot s past i false other agrees there =
-    let apart : s ≢ slot = λ e. true≢false (sym (eq-eqb slot s (sym e)) ∙ other) in
-    let now : own_issue (with_sent own slot) s ≡ own_issue own s = get_or-set_other own.issues slot s (option_map sent_issue (own_issue own slot)) None apart in
-    agrees s i (sym now ∙ there)
-
-pub joins_commands : JoinsCommands
-joins_commands n slot host new frame command f t commands past k sound below does out here queued cfis request signed joined =
-    let v : DeviceView = view_of n host.port in
-    let owns : IsOwn n v.slots = is_own n host.port.slots sound.slots in
-    let goes : GoesOut host.port (Order n slot command) = subst (GoesOut host.port) out (goes_out host.port host.memory) in
-    let g : GoesOn n slot host = goes_on_out n slot host command sound goes in
-    let sends = subst (λ (o : Outgoing). Gives o host.port host.memory (Some frame) new.port) out does.0 in
-    let at : IsThere v.slots slot t = there_by v.slots slot t (own_issue v.slots slot) refl (sym (ap (option_map work_of_transfer) here) ∙ joined.history.issued slot) in
-    let one : at.issue ≡ g.issue = let e : Some at.issue ≡ Some g.issue = sym at.there ∙ g.there in cc e in
-    let kind : is_control g.issue.work.kind ≡ false =
-    not_control g.issue.work.kind (subst (λ (i : Issue). is_queued i.work.kind ≡ true) one (ap (λ (w : Work). is_queued w.kind) (sym at.work) ∙ queued)) in
-    let unsent : is_sent slot past ≡ false = joined.sent slot g.issue g.there ∙ g.unsent in
-    let waits : NothingWaits past = nothing_waits n v past owns joined.history (g.none_waits kind) in
-    let q : QueuesOne commands slot past k = same_goes_on.queues commands slot t past k here queued unsent signed waits joined.same in
-    let frame_is : frame.bytes ≡ command.cfis = ap (λ (x : Stamped). x.bytes) sends.frame_is in
-    let shown : seen frame.bytes ≡ Ok (view.RegH2D f) = ap seen frame_is ∙ cfis in
-    let later : listens k (told_of.Received frame.bytes) ≡ asks k (Queue (commands slot)) k.failed =
-    ap (listens_down k) shown ∙ ap (λ (r : Request). asks k r k.failed) request in
-    let fits_fis : Fits k (Ok (view.RegH2D f)) = (joined.same.fine, subst (FitsRequest k) (sym request) q.fits) in
-    let tag_is : (commands slot).tag ≡ slot = joined.same.tags slot in
-    let free : IsFree k (commands slot).tag = q.fits.0 in
-    let moving_same : (asks k (Queue (commands slot)) k.failed).moving ≡ k.moving = ap (λ (x : Ledger). x.moving) (opens_free k (commands slot) joined.same.fine free.outstanding) in
-    let not_order : holds is_control_issue (issue_at host.port.slots slot) ≡ false = ap (holds is_control_issue) g.at_table ∙ kind in
-    let event_is : event_sent host.port.slots slot ≡ event.Sent slot = ap (λ (b : Bool). if b then event.SentControl slot else event.Sent slot) not_order in
-    let told_next : IsHistoryOf n new (own n (touched_by_out host (outgoing host.port host.memory)) ++ past) = step n host sound past joined.history (Gave (Some frame)) new (omega (arith, below)) tt does in
-    let touch_is : own n (touched_by_out host (outgoing host.port host.memory)) ++ past ≡ event.Sent slot ∷ past =
-    ap (λ (o : Outgoing). own n (touched_by_out host o) ++ past) out ∙ own_one n n (event_sent host.port.slots slot) past refl ∙ ap (λ (e : Event). e ∷ past) event_is in
-    let own_control : holds (λ issue. is_control issue.work.kind) (own_issue v.slots slot) ≡ false = ap (holds (λ (issue : Issue). is_control issue.work.kind)) g.there ∙ kind in
-    let slots_is : (view_of n new.port).slots ≡ with_sent v.slots slot =
-    ap (λ (x : DeviceView). x.slots) sends.own ∙ ap (λ (b : Bool). if b then freed (is_slot slot) v.slots else with_sent v.slots slot) own_control in
-    record {
-      fits = subst (Fits k) (sym shown) fits_fis;
-      joined = record {
-        history = subst (IsHistoryOf n new) touch_is told_next;
-        same = subst (Same commands (event.Sent slot ∷ past)) (sym later) q.same;
-        sent = λ s i there. sent_after_by v.slots slot s past i (eqb slot s) refl joined.sent (sym (ap (λ (o : DeviceSlots). own_issue o s) slots_is) ∙ there);
-        short = λ w now. joined.short w (sym (ap (λ (x : Ledger). x.moving) later ∙ moving_same) ∙ now);
-        active = λ c now set.
-            asked_same c k (listens k (told_of.Received frame.bytes)) (ap (λ (x : Ledger). x.moving) later ∙ moving_same)
-            (joined.active c (sym (ap (λ (o : DeviceSlots). o.context) slots_is) ∙ now) set);
-      };
-    }
-
--- ## Data goes out
-
--- what is known of data that goes out
-record IsDue (n len : ℕ) (host : Host) : Type 0 where
-  context : Context
-  now : (view_of n host.port).slots.context ≡ Some context
-  asked : context.activated ≡ true
-  long : len ≡ payload_len context
-
-due_out : (n offset len : ℕ) (host : Host) (command : issued_command.Command) → GoesOut host.port (Data n offset len command) → IsDue n len host
-unfolding GoesOut
-due_out n offset len host command goes = record { context = goes.0; now = goes.1; asked = goes.2; long = goes.3 }
-
-is_payload_by : (bytes : List ℕ) → 4 ≤ length bytes → length bytes ≤ 8192 → length bytes % 4 ≡ 0 → IsPayload bytes
-is_payload_by bytes low high dwords = grind (arith, nat_tests)
-
-pub joins_data : JoinsData
-joins_data n offset len host new frame command commands past k sound below does out joined =
-    let w : DeviceView = view_of n host.port in
-    let owns : IsOwn n w.slots = is_own n host.port.slots sound.slots in
-    let bytes : List ℕ = gathered (prds_of host.memory command) offset len host.memory.client in
-    let goes : GoesOut host.port (Data n offset len command) = subst (GoesOut host.port) out (goes_out host.port host.memory) in
-    let due : IsDue n len host = due_out n offset len host command goes in
-    let sends = subst (λ (o : Outgoing). Gives o host.port host.memory (Some frame) new.port) out does.0 in
-    let a : IsAskedBy due.context k = joined.active due.context due.now due.asked in
-    let short : a.current.count ≤ 8192 = joined.short a.current a.moving in
-    let has : HasContext n w.slots due.context = owns.contexts due.context due.now in
-    let left_is : due.context.left ≡ a.current.count = a.left in
-    let size = due.long in
-    let dwords = has.is.left_dwords in
-    let some = (has.is.activates due.asked).1 in
-    let long : length (gathered (prds_of host.memory command) offset len host.memory.client) ≡ len = length-map-range_with_len _ 0 len in
-    let all : length (gathered (prds_of host.memory command) offset len host.memory.client) ≡ a.current.count = omega (arith, long, size, left_is, short) in
-    let payload : IsPayload (gathered (prds_of host.memory command) offset len host.memory.client) =
-    is_payload_by (gathered (prds_of host.memory command) offset len host.memory.client) (omega (arith, all, left_is, some, dwords)) (omega (arith, all, short)) (omega (arith, all, left_is, dwords)) in
-    let frame_is : frame.bytes ≡ data_fis n (gathered (prds_of host.memory command) offset len host.memory.client) = ap (λ (x : Stamped). x.bytes) sends.frame_is in
-    let shown : seen frame.bytes ≡ Ok (view.Payload (data_fis n (gathered (prds_of host.memory command) offset len host.memory.client))) =
-    ap seen frame_is ∙ payload_seen n (gathered (prds_of host.memory command) offset len host.memory.client) payload in
-    let asked_for : IsAskedFor a.current (gathered (prds_of host.memory command) offset len host.memory.client) = record {
-      writes = a.writes;
-      asked = a.asked;
-      long = all;
-    } in
-    let fits_data : FitsData k.moving (gathered (prds_of host.memory command) offset len host.memory.client) =
-    subst (λ (m : Option Moving). FitsData m (gathered (prds_of host.memory command) offset len host.memory.client)) (sym a.moving) asked_for in
-    let later : listens k (told_of.Received frame.bytes) ≡ takes_data k k.moving (gathered (prds_of host.memory command) offset len host.memory.client) = ap (listens_down k) shown in
-    let told_next : IsHistoryOf n new (own n (touched_by_out host (outgoing host.port host.memory)) ++ past) = step n host sound past joined.history (Gave (Some frame)) new (omega (arith, below)) tt does in
-    let touch_is : own n (touched_by_out host (outgoing host.port host.memory)) ++ past ≡ event.Carried (gathered (prds_of host.memory command) offset len host.memory.client) ∷ past =
-    ap (λ (o : Outgoing). own n (touched_by_out host o) ++ past) out ∙ own_one n n (event.Carried (gathered (prds_of host.memory command) offset len host.memory.client)) past refl in
-    let slots_is : (view_of n new.port).slots ≡ gone_over (payload_len due.context) due.context w.slots =
-    ap (λ (x : DeviceView). x.slots) sends.own ∙ ap (λ (o : Option Context). match_some o w.slots (λ c. gone_over (payload_len c) c w.slots)) due.now in
-    record {
-      fits = subst (Fits k) (sym shown) fits_data;
-      joined = record {
-        history = subst (IsHistoryOf n new) touch_is told_next;
-        same = subst (Same commands (event.Carried (gathered (prds_of host.memory command) offset len host.memory.client) ∷ past)) (sym later)
-            (same_goes_on.gives commands (gathered (prds_of host.memory command) offset len host.memory.client) past k fits_data joined.same);
-        sent = λ s i there.
-            let before : WasSent w.slots s i =
-            set_sent w.slots (gone_over (payload_len due.context) due.context w.slots) due.context.slot (moved_over due.context.next (payload_len due.context)) (λ j. refl) refl s i
-            (sym (ap (λ (o : DeviceSlots). own_issue o s) slots_is) ∙ there) in
-            joined.sent s before.before before.there ∙ before.sent;
-        short = subst AreShort (sym later) (short_down k a.current (gathered (prds_of host.memory command) offset len host.memory.client) a.moving asked_for joined.short);
-        active = λ c now set.
-            let gone_on : Some (moved_on (payload_len due.context) due.context) ≡ Some c = sym (ap (λ (o : DeviceSlots). o.context) slots_is) ∙ now in
-            inactive (moved_on (payload_len due.context) due.context) c gone_on refl set;
-      };
-    }

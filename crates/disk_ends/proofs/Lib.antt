@@ -11,3 +11,6 @@ pub mod ShortLemmas
 pub mod IssueJoins
 pub mod HostedLemmas
 pub mod SizeLemmas
+pub mod OrderJoins
+pub mod MarkedLemmas
+pub mod ReportLemmas

@@ -2,7 +2,7 @@
 use Rattle.std.proofs.Common.{◌≡◌, ◌==◌, ◌&&◌, eqb, ℕ, Bool, true, false, List, [], ◌∷◌, ◌++◌, refl, sym, ap, subst, ◌∙◌, inl, inr, Option, Some, None, Ok, Err, Result}
 use Rattle.std.specs.Prelude.{◌≢◌, not, if◌then◌else◌, drop, find}
 use Rattle.std.specs.List.{list_any}
-use Rattle.std.proofs.lemmas.Bool.{and_parts, cases_Bool, eq-eqb, eqb-true, true≢false}
+use Rattle.std.proofs.lemmas.Bool.{and_parts, cases_Bool, eq-eqb, eqb-true, or_parts, true≢false}
 use Rattle.fis_view.specs.Table.{Bits, BufferId, EStatus, Offset, Pio, SActive, Setup, field}
 use Rattle.fis_view.specs.Table as table
 use Rattle.fis_view.specs.declared.view.Fis.{Fis}
@@ -16,7 +16,7 @@ use Rattle.disk_model.specs.declared.request.Command.{Command}
 use Rattle.disk_model.specs.declared.request.Request.{Request}
 use Rattle.disk_model.specs.declared.request.Request.TheVariants.{Queue}
 use Rattle.disk_model.specs.declared.request.Request.TheVariants as asked
-use Rattle.disk_model.specs.Ends.{FitsData, FitsRequest, IsFree, IsRight, MovesOther, PageAsked, has}
+use Rattle.disk_model.specs.Ends.{FitsData, FitsRequest, IsFree, IsRight, MovesOther, PageAsked, Rests, has}
 use Rattle.disk_model.specs.Laws.{ActivatesRight, AsksOnce, CarriesNext, CarriesRight, SetsUpNext, SetsUpRight, StartsOne}
 use Rattle.disk_model.specs.Ledger.{Ledger, Moving, Signs, activates, answers, asks, empty, ends, listens, listens_up, sends_data, sets_up, starts_moving, takes_data}
 use Rattle.disk_model.proofs.CrossLemmas.{after_bytes, alone, asks_fits, bits_up, but_free, data_down, found_not, goes_by, has_more, is_all, opened, opens_free, with_bytes}
@@ -24,7 +24,7 @@ use Rattle.disk_model.proofs.EntersLemmas.{up_leaves}
 use Rattle.hba_laws.specs.History.{Answered, Carried, History, Issued, Named, Sent, SetUp, Transfer, completes, is_at, is_set_up, issued, unless, waiting_in}
 use Rattle.disk_ends.specs.Same.{InLife}
 use Rattle.disk_ends.specs.Answers.{IsAlone}
-use Rattle.disk_ends.specs.Together.{InTalk, IsHeard, IsUntouched, IsWaited, NoneQueued, NothingWaits, QueuesOne, Replies, Same, SameGoesOn, is_sent, told, with_command}
+use Rattle.disk_ends.specs.Together.{AsksOne, InTalk, IsHeard, IsUntouched, IsWaited, NoneQueued, NothingWaits, QueuesOne, Replies, Same, SameGoesOn, is_sent, told, with_command}
 use Rattle.disk_ends.proofs.AnswerLemmas.{IsBeside, answers_keep, asks_beside, free_beside, names_keep, others_keep}
 use Rattle.disk_ends.proofs.DataLemmas.{data_comes_down, data_up}
 use Rattle.disk_ends.proofs.MoveLemmas.{activates_keep, setups_go_on}
@@ -285,9 +285,9 @@ alone_failed k asked.Identify failed one fits = failed
 alone_failed k asked.Flush failed one fits = failed
 alone_failed k asked.Other failed one fits = failed
 
-asks_same : (commands : ℕ → Command) (slot : ℕ) (t : Transfer) (request : Request) (past : History) (k : Ledger) → issued slot past ≡ Some t → is_queued t.work.kind ≡ false → is_sent slot past ≡ false → IsAlone request → FitsRequest k request
+rest_asks : (commands : ℕ → Command) (slot : ℕ) (t : Transfer) (request : Request) (past : History) (k : Ledger) → issued slot past ≡ Some t → is_queued t.work.kind ≡ false → is_sent slot past ≡ false → IsAlone request → FitsRequest k request
     → Same commands past k → Same commands (Sent slot ∷ past) (asks k request k.failed)
-asks_same commands slot t request past k there not_queued sent one fits same =
+rest_asks commands slot t request past k there not_queued sent one fits same =
     let fresh : IsUntouched slot past = same.untouched slot t there sent in
     let is : asks k request k.failed ≡ alone k request = asks_fits k request same.fine fits in
     let beside : IsBeside k (asks k request k.failed) = asks_beside k request same.fine one fits in
@@ -302,6 +302,51 @@ asks_same commands slot t request past k there not_queued sent one fits same =
       untouched = λ s unsent f before. let other = sent_before s slot past (eqb slot s) refl unsent in record { quiet = other.0; unset = before.unset };
       talk = λ talk. subst (InTalk (Sent slot ∷ past)) (sym is) (talk_asks slot t request past k there not_queued fresh.unset one fits);
     }) same
+
+-- ---- where no tag is in use the ledger rests
+
+no_tags : (k : Ledger) (cs : List Command) → k.outstanding ≡ cs → ((s : ℕ) → IsFree k s) → k.outstanding ≡ []
+no_tags k [] is free = is
+no_tags k (c ∷ cs) is free =
+    let f : IsFree k c.tag = free c.tag in
+    let parts = or_parts (c.tag == c.tag) (list_any (λ q. q.tag == c.tag) cs) (sym (ap (list_any (λ (q : Command). q.tag == c.tag)) is) ∙ f.outstanding) in
+    absurd (true≢false (sym (eq-eqb c.tag c.tag refl) ∙ parts.0))
+
+none_ended : (k : Ledger) (us : List ℕ) → k.unanswered ≡ us → ((s : ℕ) → IsFree k s) → k.unanswered ≡ []
+none_ended k [] is free = is
+none_ended k (u ∷ us) is free =
+    let f : IsFree k u = free u in
+    let parts = or_parts (u == u) (has u us) (sym (ap (has u) is) ∙ f.unanswered) in
+    absurd (true≢false (sym (eq-eqb u u refl) ∙ parts.0))
+
+none_moves : (k : Ledger) (m : Option Moving) → k.moving ≡ m → ((s : ℕ) → IsFree k s) → k.moving ≡ None
+none_moves k None is free = is
+none_moves k (Some v) is free =
+    let f : IsFree k v.command.tag = free v.command.tag in
+    let other : eqb v.command.tag v.command.tag ≡ false = subst (MovesOther v.command.tag) is f.moving in
+    absurd (true≢false (sym (eq-eqb v.command.tag v.command.tag refl) ∙ other))
+
+fits_alone : (k : Ledger) (request : Request) → IsAlone request → Rests k → FitsRequest k request
+fits_alone k (asked.Reset on) one rests = absurd one
+fits_alone k (asked.Queue c) one rests = absurd one
+fits_alone k asked.ReadErrorLog one rests = rests
+fits_alone k asked.Identify one rests = rests
+fits_alone k asked.Flush one rests = rests
+fits_alone k asked.Other one rests = rests
+
+asks_same : (commands : ℕ → Command) (slot : ℕ) (t : Transfer) (request : Request) (past : History) (k : Ledger) → issued slot past ≡ Some t → is_queued t.work.kind ≡ false → is_sent slot past ≡ false → IsAlone request
+    → ((s : ℕ) → NoneQueued (issued s past)) → k.awaited ≢ Signs ∷ [] → NothingWaits past → Same commands past k → AsksOne commands slot request past k
+asks_same commands slot t request past k there not_queued sent one none signed nothing same =
+    let free : (s : ℕ) → IsFree k s = λ s. same.free s (none s) in
+    let silent : IsQuiet k = quiet past k nothing signed same.talk in
+    let fits : FitsRequest k request = fits_alone k request one (record {
+      outstanding = no_tags k k.outstanding refl free;
+      unanswered = none_ended k k.unanswered refl free;
+      awaited = silent.awaited;
+      pages = silent.pages;
+      moving = none_moves k k.moving refl free;
+    }) in
+    record { fits = fits; same = rest_asks commands slot t request past k there not_queued sent one fits same }
 
 -- ## FISes of the disk
 

@@ -16,9 +16,9 @@ pub record IsIdle (k : Ledger) : Type 0 where
   pub unanswered : k.unanswered ≡ []
   pub moving : k.moving ≡ None
 
--- a command that is not queued
+-- a command, and not a queued one
 abbrev pub IsAlone : Request → Type 0
-IsAlone (asked.Reset on) = Unit {0}
+IsAlone (asked.Reset on) = ⊥
 IsAlone (asked.Queue c) = ⊥
 IsAlone asked.ReadErrorLog = Unit {0}
 IsAlone asked.Identify = Unit {0}

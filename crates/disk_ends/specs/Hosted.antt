@@ -2,11 +2,11 @@
 -- (AHCI 1.3.1, 5.3; Serial ATA 3.x, 13.6, native command queuing): its port, the device's history and the ledger agree all
 -- the time, and each FIS that it gave fits what was told before.
 use Rattle.std.specs.Prelude.{ℕ, ◌≡◌, ◌≢◌, ◌<◌, ◌++◌, true, false, List, [], ◌∷◌, Option, Some, None, Ok}
-use Rattle.fis_view.specs.Frames.{IsFrame, Stamped}
+use Rattle.fis_view.specs.Frames.{IsFrame, Stamped, marked}
 use Rattle.fis_view.specs.Seen.{seen}
 use Rattle.fis_view.specs.declared.view.Fis.TheVariants as view
 use Rattle.hba_commands.specs.declared.command.Command as issued_command
-use Rattle.slots.specs.Slots.{own_issue}
+use Rattle.slots.specs.Slots.{is_control, own_issue}
 use Rattle.slots.specs.Work.{is_queued}
 use Rattle.hba_fbs.specs.declared.register.Register.TheVariants.{Ci}
 use Rattle.hba_fbs.specs.declared.report.TakeReport.{TakeReport}
@@ -30,11 +30,13 @@ use Rattle.hba_laws.specs.History as event
 use Rattle.hba_laws.specs.History.{History, Transfer, issued}
 use Rattle.hba_laws.specs.Hosts.{Does, Gave, Host, Wrote}
 use Rattle.hba_laws.specs.Sound.{IsHost}
+use Rattle.disk_ends.specs.Answers.{IsAlone}
 use Rattle.disk_ends.specs.Heard.{IsTakenWell}
 use Rattle.disk_ends.specs.Joined.{IsJoined, IsShort}
-use Rattle.disk_ends.specs.Together.{told}
+use Rattle.disk_ends.specs.Together.{NoneQueued, told}
 
--- The port hears n, with these happenings at its end of the link, these commands of its slots and this history of its events.
+-- What goes between a host and a device has PM Port 0 at the device's end of the link, and the device's port at the host's.
+-- The port hears n, with these happenings (as the device sees them) at its end of the link, these commands of its slots and this history of its events.
 pub data IsHosted (n : ℕ) : Host → List Happening → (ℕ → Command) → History → Type 0 where
   -- the disk is plugged in while nothing of it is issued
   plugged : (host : Host) (commands : ℕ → Command) (past : History) → IsHistoryOf n host past
@@ -43,11 +45,12 @@ pub data IsHosted (n : ℕ) : Host → List Happening → (ℕ → Command) → 
   -- what happens at the port leaves the view of n, and is no event of it
   stays : (host new : Host) (given : List Happening) (commands : ℕ → Command) (past : History)
       → view_of n new.port ≡ view_of n host.port → IsHosted n host given commands past → IsHosted n new given commands past
-  -- a FIS comes that is right by what was told before, and nothing is wrong with it
-  hears : (host new : Host) (frame : List ℕ) (report : TakeReport) (given : List Happening) (commands : ℕ → Command)
-      (past : History) → IsHost host → IsFrame frame → port_of frame ≡ n → IsTakenWell host frame report new
-      → IsRight (ledger given) (seen frame) → IsShort (seen frame) → IsHosted n host given commands past
-      → IsHosted n new (given ++ Sent frame ∷ []) commands (told (seen frame) ++ past)
+  -- a FIS comes, marked with its port, that is right by what was told before, and nothing is wrong with it
+  hears : (host new : Host) (bytes : List ℕ) (report : TakeReport) (given : List Happening) (commands : ℕ → Command)
+      (past : History) → IsHost host → IsFrame bytes → IsFrame (marked bytes n) → port_of (marked bytes n) ≡ n
+      → IsTakenWell host (marked bytes n) report new → IsRight (ledger given) (seen bytes) → IsShort (seen bytes)
+      → IsHosted n host given commands past
+      → IsHosted n new (given ++ Sent bytes ∷ []) commands (told (seen (marked bytes n)) ++ past)
   -- commands are issued in slots of it
   issues : (host new : Host) (value : ℕ) (given : List Happening) (commands next : ℕ → Command) (past : History)
       → IsHost host → host.port.registers.chosen ≡ n → Does host (Wrote Ci value) new → ((s : ℕ) → (next s).tag ≡ s)
@@ -55,16 +58,26 @@ pub data IsHosted (n : ℕ) : Host → List Happening → (ℕ → Command) → 
       → IsHosted n host given commands past → IsHosted n new given next (own n (touched host (Wrote Ci value)) ++ past)
   -- the queued command of a slot goes out, once the device signed
   sends : (host new : Host) (frame : Stamped) (slot : ℕ) (command : issued_command.Command) (f : List ℕ) (t : Transfer)
-      (given : List Happening) (commands : ℕ → Command) (past : History) → IsHost host → Does host (Gave (Some frame)) new
+      (given : List Happening) (commands : ℕ → Command) (past : History) → IsHost host → IsFrame frame.bytes
+      → Does host (Gave (Some frame)) new
       → outgoing host.port host.memory ≡ Order n slot command → issued slot past ≡ Some t → is_queued t.work.kind ≡ true
       → seen command.cfis ≡ Ok (view.RegH2D f) → request_of f ≡ Queue (commands slot)
       → (ledger given).awaited ≢ Signs ∷ [] → IsHosted n host given commands past
-      → IsHosted n new (given ++ Received frame.bytes ∷ []) commands (event.Sent slot ∷ past)
+      → IsHosted n new (given ++ Received (marked frame.bytes 0) ∷ []) commands (event.Sent slot ∷ past)
+  -- another command goes out, while no queued one is issued
+  asks : (host new : Host) (frame : Stamped) (slot : ℕ) (command : issued_command.Command) (f : List ℕ) (t : Transfer)
+      (given : List Happening) (commands : ℕ → Command) (past : History) → IsHost host → IsFrame frame.bytes
+      → Does host (Gave (Some frame)) new
+      → outgoing host.port host.memory ≡ Order n slot command → issued slot past ≡ Some t → is_queued t.work.kind ≡ false
+      → is_control t.work.kind ≡ false → seen command.cfis ≡ Ok (view.RegH2D f) → IsAlone (request_of f)
+      → ((s : ℕ) → NoneQueued (issued s past)) → (ledger given).awaited ≢ Signs ∷ [] → IsHosted n host given commands past
+      → IsHosted n new (given ++ Received (marked frame.bytes 0) ∷ []) commands (event.Sent slot ∷ past)
   -- Data goes out
   gives : (host new : Host) (frame : Stamped) (offset len : ℕ) (command : issued_command.Command) (given : List Happening)
-      (commands : ℕ → Command) (past : History) → IsHost host → Does host (Gave (Some frame)) new
+      (commands : ℕ → Command) (past : History) → IsHost host → IsFrame frame.bytes
+      → Does host (Gave (Some frame)) new
       → outgoing host.port host.memory ≡ Data n offset len command → IsHosted n host given commands past
-      → IsHosted n new (given ++ Received frame.bytes ∷ []) commands
+      → IsHosted n new (given ++ Received (marked frame.bytes 0) ∷ []) commands
       (event.Carried (gathered (prds_of host.memory command) offset len host.memory.client) ∷ past)
 
 -- the host is careful, and joined with the disk's ledger

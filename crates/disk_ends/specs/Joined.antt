@@ -1,8 +1,8 @@
 -- A host port, its device's history and the ledger of the FISes at its end of the link, joined: at each FIS that the port
 -- hears or gives all three go on to agree (AHCI 1.3.1, 5.3, how a port takes and sends FISes; Serial ATA 3.x, 13.6, native
 -- command queuing).
-use Rattle.std.specs.Prelude.{ℕ, ◌≡◌, ◌≢◌, ◌<◌, ◌≤◌, ◌++◌, true, List, [], ◌∷◌, Option, Some, None, Result, Ok}
-use Rattle.fis_view.specs.Frames.{IsFrame, Stamped}
+use Rattle.std.specs.Prelude.{ℕ, ◌≡◌, ◌≢◌, ◌<◌, ◌≤◌, ◌++◌, true, List, [], ◌∷◌, false, Option, Some, None, Result, Ok}
+use Rattle.fis_view.specs.Frames.{IsFrame, Stamped, marked}
 use Rattle.fis_view.specs.Table.{Setup, field}
 use Rattle.fis_view.specs.Table as table
 use Rattle.fis_view.specs.Seen.{seen}
@@ -10,7 +10,7 @@ use Rattle.fis_view.specs.declared.view.Fis.{Fis}
 use Rattle.fis_view.specs.declared.view.FisFault.{FisFault}
 use Rattle.fis_view.specs.declared.view.Fis.TheVariants as view
 use Rattle.hba_commands.specs.declared.command.Command as issued_command
-use Rattle.slots.specs.Slots.{DeviceSlots, Issue, has_bit, own_issue}
+use Rattle.slots.specs.Slots.{DeviceSlots, Issue, has_bit, is_control, own_issue}
 use Rattle.slots.specs.Work.{is_queued}
 use Rattle.slots.specs.declared.table.Context.{Context}
 use Rattle.hba_fbs.specs.declared.register.Register.TheVariants.{Ci}
@@ -35,9 +35,10 @@ use Rattle.hba_laws.specs.History as event
 use Rattle.hba_laws.specs.History.{History, Transfer, filled, issued}
 use Rattle.hba_laws.specs.Hosts.{Does, Gave, Host, Wrote}
 use Rattle.hba_laws.specs.Sound.{IsHost}
+use Rattle.disk_ends.specs.Answers.{IsAlone}
 use Rattle.disk_ends.specs.Heard.{IsTakenWell}
 use Rattle.disk_ends.specs.Honest.{IsDoneHonestly}
-use Rattle.disk_ends.specs.Together.{Same, is_sent, told}
+use Rattle.disk_ends.specs.Together.{NoneQueued, Same, is_sent, told}
 
 -- the port holds a command as sent where the history says so
 abbrev pub SentAgrees : DeviceSlots → History → Type 0
@@ -93,6 +94,18 @@ JoinsCommands =
     → IsJoined n commands host past k
     → JoinsGiven n commands frame.bytes (event.Sent slot) past k new
 
+-- another command goes out, while no queued one is issued, once the device signed
+abbrev pub JoinsOthers : Type 0
+JoinsOthers =
+    (n slot : ℕ) (host new : Host) (frame : Stamped) (command : issued_command.Command) (f : List ℕ) (t : Transfer)
+    (commands : ℕ → Command) (past : History) (k : Ledger)
+    → IsHost host → n < 15 → Does host (Gave (Some frame)) new → outgoing host.port host.memory ≡ Order n slot command
+    → issued slot past ≡ Some t → is_queued t.work.kind ≡ false → is_control t.work.kind ≡ false
+    → seen command.cfis ≡ Ok (view.RegH2D f) → IsAlone (request_of f)
+    → ((s : ℕ) → NoneQueued (issued s past)) → k.awaited ≢ Signs ∷ []
+    → IsJoined n commands host past k
+    → JoinsGiven n commands frame.bytes (event.Sent slot) past k new
+
 -- data of a write goes out, all that its DMA Setup names
 abbrev pub JoinsData : Type 0
 JoinsData =
@@ -120,14 +133,15 @@ StaysJoined =
     (n : ℕ) (host new : Host) (commands : ℕ → Command) (past : History) (k : Ledger)
     → view_of n new.port ≡ view_of n host.port → IsJoined n commands host past k → IsJoined n commands new past k
 
--- A queued command that a report says is done was done honestly.
+-- A queued command that a report says is done, at a FIS that came next from the disk and was marked with its port, was done
+-- honestly.
 abbrev pub ReportsHonestly : Type 0
 ReportsHonestly =
-    (plan : DiskPlan) (sectors : ℕ) (disk given : List Happening) (down up : List (List ℕ)) (frame : List ℕ)
-    → IsSize plan sectors → IsDiskRun plan sectors disk → IsLinked disk given down (frame ∷ up) → IsCareful given
-    → (host new : Host) (report : TakeReport) (commands : ℕ → Command) (past : History)
-    → IsHost host → IsFrame frame → port_of frame < 15 → IsTakenWell host frame report new
-    → IsJoined (port_of frame) commands host past (ledger given)
+    (plan : DiskPlan) (sectors : ℕ) (disk given : List Happening) (down up : List (List ℕ)) (bytes : List ℕ)
+    → IsSize plan sectors → IsDiskRun plan sectors disk → IsLinked disk given down (bytes ∷ up) → IsCareful given
+    → (n : ℕ) (host new : Host) (report : TakeReport) (commands : ℕ → Command) (past : History)
+    → IsHost host → n < 15 → IsFrame bytes → IsFrame (marked bytes n) → port_of (marked bytes n) ≡ n
+    → IsTakenWell host (marked bytes n) report new → IsJoined n commands host past (ledger given)
     → (s : ℕ) (t : Transfer) → s < 32 → issued s past ≡ Some t → is_queued t.work.kind ≡ true
     → has_bit report.done s ≡ true
     → IsDoneHonestly sectors (commands s) (filled s past) t.work.len (ledger disk) (ledger given)

@@ -6,3 +6,4 @@ pub mod Honest
 pub mod Heard
 pub mod Joined
 pub mod Hosted
+pub mod Marked

@@ -131,6 +131,11 @@ pub record QueuesOne (commands : ℕ → Command) (slot : ℕ) (past : History) 
   pub fits : FitsRequest k (Queue (commands slot))
   pub same : Same commands (Sent slot ∷ past) (asks k (Queue (commands slot)) k.failed)
 
+-- another command of a slot goes out
+pub record AsksOne (commands : ℕ → Command) (slot : ℕ) (request : Request) (past : History) (k : Ledger) : Type 0 where
+  pub fits : FitsRequest k request
+  pub same : Same commands (Sent slot ∷ past) (asks k request k.failed)
+
 -- Both views say the same from where nothing is issued or outstanding, and go on to do so at each event.
 pub record SameGoesOn : Type 0 where
   -- the device is to sign, after it was plugged in or reset, and nothing is issued
@@ -145,10 +150,11 @@ pub record SameGoesOn : Type 0 where
   pub queues : (commands : ℕ → Command) (slot : ℕ) (t : Transfer) (past : History) (k : Ledger)
       → issued slot past ≡ Some t → is_queued t.work.kind ≡ true → is_sent slot past ≡ false → k.awaited ≢ Signs ∷ []
       → NothingWaits past → Same commands past k → QueuesOne commands slot past k
-  -- another command goes out, where the ledger rests
+  -- another command goes out, while no queued one is issued, after the device signed and while none waits for its answer
   pub asks_other : (commands : ℕ → Command) (slot : ℕ) (t : Transfer) (request : Request) (past : History) (k : Ledger)
       → issued slot past ≡ Some t → is_queued t.work.kind ≡ false → is_sent slot past ≡ false → IsAlone request
-      → FitsRequest k request → Same commands past k → Same commands (Sent slot ∷ past) (asks k request k.failed)
+      → ((s : ℕ) → NoneQueued (issued s past)) → k.awaited ≢ Signs ∷ [] → NothingWaits past → Same commands past k
+      → AsksOne commands slot request past k
   -- a FIS of the disk comes
   pub takes : (commands : ℕ → Command) (fis : Result Fis FisFault) (past : History) (k : Ledger) → IsRight k fis
       → IsHeard past fis → Same commands past k → Same commands (told fis ++ past) (listens_up k fis)

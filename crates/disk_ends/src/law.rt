@@ -5,7 +5,8 @@ ghost use Rattle.disk_ends.specs.Heard.{HeardAsTold};
 ghost use Rattle.disk_ends.specs.Honest.{DoneIsHonest, NextIsRight};
 ghost use Rattle.disk_ends.specs.Hosted.{HostedIsKept, NextIsShort};
 ghost use Rattle.disk_ends.specs.Joined.{JoinsCommands, JoinsData, JoinsFrames};
-ghost use Rattle.disk_ends.specs.Joined.{JoinsIssues, ReportsHonestly, StaysJoined};
+ghost use Rattle.disk_ends.specs.Joined.{JoinsIssues, JoinsOthers, ReportsHonestly, StaysJoined};
+ghost use Rattle.disk_ends.specs.Marked.{MarksTellNothing};
 ghost use Rattle.disk_ends.specs.Same.{CommandsKeep, DataFills, IssuesKeep, SetupsStart};
 ghost use Rattle.disk_ends.specs.Steps.{ActivatesKeep, DataDown, DataUp, SetupsGoOn};
 ghost use Rattle.disk_ends.specs.Together.{SameGoesOn};
@@ -75,17 +76,19 @@ pub fn fises_are_heard_as_told()
 pub fn port_and_ledger_stay_joined()
     ensures frames { JoinsFrames }
     ensures commands { JoinsCommands }
+    ensures others { JoinsOthers }
     ensures data { JoinsData }
     ensures issues { JoinsIssues }
     ensures stays { StaysJoined }
 {}
 
 /// Whatever a host does with a disk from its plugging on, as long as its port refuses and empties
-/// nothing, it is careful, and its port agrees with the ledger; and no DMA Setup of a disk names
-/// more than a Data FIS holds.
+/// nothing, it is careful, and its port agrees with the ledger; no DMA Setup of a disk names more
+/// than a Data FIS holds; and the ledger hears the same of a FIS whatever its PM Port.
 pub fn hosts_are_careful()
     ensures kept { HostedIsKept }
     ensures short { NextIsShort }
+    ensures marks { MarksTellNothing }
 {}
 
 /// What a report of the port says is done, at a FIS that is the next to come from a disk, was done

@@ -1,4 +1,5 @@
 use Rattle.disk_ends.proofs.HostedLemmas.{hosted_is_kept}
+use Rattle.disk_ends.proofs.MarkedLemmas.{marks_tell_nothing}
 use Rattle.disk_ends.proofs.SizeLemmas.{next_short}
 use Rattle.disk_ends.proofs.law.hosts_are_careful.Goals as goal
 
@@ -7,3 +8,6 @@ returns-clause-kept c = hosted_is_kept
 
 pub returns-clause-short : goal.returns-clause-short
 returns-clause-short c = next_short
+
+pub returns-clause-marks : goal.returns-clause-marks
+returns-clause-marks c = marks_tell_nothing

@@ -1,5 +1,6 @@
 use Rattle.disk_ends.proofs.IssueJoins.{joins_issues, stays_joined}
-use Rattle.disk_ends.proofs.JoinLemmas.{joins_commands, joins_data, joins_frames}
+use Rattle.disk_ends.proofs.JoinLemmas.{joins_frames}
+use Rattle.disk_ends.proofs.OrderJoins.{joins_commands, joins_data, joins_others}
 use Rattle.disk_ends.proofs.law.port_and_ledger_stay_joined.Goals as goal
 
 pub returns-clause-frames : goal.returns-clause-frames
@@ -16,3 +17,6 @@ returns-clause-issues c = joins_issues
 
 pub returns-clause-stays : goal.returns-clause-stays
 returns-clause-stays c = stays_joined
+
+pub returns-clause-others : goal.returns-clause-others
+returns-clause-others c = joins_others
