@@ -19,7 +19,8 @@ use Rattle.hba_fbs.specs.declared.register.Register.TheVariants.{Ci}
 use Rattle.hba_fbs.specs.declared.report.TakeReport.{TakeReport}
 use Rattle.hba_fbs.specs.Issuing.{asked, issue_with, issued_slots, view_issued}
 use Rattle.hba_fbs.specs.Taking.{port_of}
-use Rattle.hba_fbs.specs.Views.{DeviceView, view_of}
+use Rattle.hba_fbs.specs.Views.{DeviceView, Port, view_of}
+use Rattle.hba_fbs.specs.Writing.{view_after}
 use Rattle.disk_model.specs.declared.request.Command.{Command}
 use Rattle.disk_model.specs.Ends.{IsRight}
 use Rattle.disk_model.specs.Ledger.{Ledger, ledger}
@@ -147,6 +148,12 @@ none_asked : (o : Option issued_command.Command) (p : Option Transfer) (t : Tran
 none_asked None p t free there = refl
 none_asked (Some command) p t free there = absurd (some_issued p t (free refl) there)
 
+-- the view of the device for which commands are issued
+view_issued_is : (n value : ℕ) (port : Port) (memory : Memory) → port.registers.chosen ≡ n → view_after Ci port memory value n ≡ view_issued port.registers memory value (view_of n port)
+unfolding view_after
+view_issued_is n value port memory chosen =
+    ap (λ (b : Bool). if b then view_issued port.registers memory value (view_of n port) else view_of n port) (eq-eqb n port.registers.chosen (sym chosen))
+
 pub joins_issues : JoinsIssues
 joins_issues n value host new commands next past k sound below chosen does tags names joined =
     let r = host.port.registers in
@@ -162,7 +169,7 @@ joins_issues n value host new commands next past k sound below chosen does tags 
     let touch_is : own n (touched host (Wrote Ci value)) ++ past ≡ history_below host.memory (asked host.port.registers host.memory value) past 32 =
     ap (λ (d : ℕ). own n (issued_below d host.memory (asked host.port.registers host.memory value) 32) ++ past) chosen ∙ own_below_is n host.memory (asked host.port.registers host.memory value) past 32 in
     let view_is : view_of n new.port ≡ view_issued host.port.registers host.memory value v =
-    does.1.views n (omega (arith, below)) ∙ ap (λ (b : Bool). if b then view_issued host.port.registers host.memory value v else v) (eq-eqb n host.port.registers.chosen (sym chosen)) in
+    does.1.views n (omega (arith, below)) ∙ view_issued_is n value host.port host.memory chosen in
     record {
       history = step n host sound past joined.history (Wrote Ci value) new (omega (arith, below)) tt does;
       same = subst (λ (h : History). Same next h k) (sym touch_is) (same_below host.memory (asked host.port.registers host.memory value) next past k free 32 (omega arith) named);

@@ -406,7 +406,7 @@ module _ (dev : ℕ) (v : DeviceView) (sound : Bool) (frame : List ℕ) (command
   asks_quietly r h right quiet c now set = asked_up c k (active c (moved_before v.slots h.happening quiet c now set) set) r right
 
   asks_activate : (f : List ℕ) (b : Bool) → may_activate v.slots.context ≡ b → IsRight k (Ok (view.DmaActivate f)) → Asks (Ok (view.DmaActivate f)) (if b then quietly v.state happening.Activated else faulty v.state cause.Stray)
-  asks_activate f false may right = asks_quietly (Ok (view.DmaActivate f)) (faulty v.state cause.Stray) right tt
+  asks_activate f false may right c now set = asks_quietly (Ok (view.DmaActivate f)) (faulty v.state cause.Stray) right tt c now set
   asks_activate f true may right c now set = by_moving k.moving refl (v.slots.context) refl
     where
       by_moving : (m : Option Moving) → k.moving ≡ m → (o : Option Context) → v.slots.context ≡ o → IsAskedBy c (activates k k.moving)

@@ -224,39 +224,15 @@ pub record IsMarkedBits (old new g : List ℕ) : Type 0 where
 
 bits_by : (kind : Kind) (b : Bool) (old new g : List ℕ) → (if b then Ok (view_as kind new) else Err WrongLength) ≡ Ok (view.SetBits g)
     → ((if b then Ok (view_as kind old) else Err WrongLength) ≡ Ok (view.SetBits old)) × (g ≡ new)
-bits_by kind false old new g e = absurd (no_view g e)
-  where
-    no_view : (g : List ℕ) → Err WrongLength ≡ Ok (view.SetBits g) → ⊥
-    no_view g e = cc e
+bits_by kind false old new g e = absurd (cc e)
 bits_by Bits true old new g e = let same : new ≡ g = cc e in (refl, sym same)
-bits_by H2d true old new g e = absurd (no_bits e)
-  where
-    no_bits : Ok (view.RegH2D new) ≡ Ok (view.SetBits g) → ⊥
-    no_bits e = cc e
-bits_by D2h true old new g e = absurd (no_bits e)
-  where
-    no_bits : Ok (view.RegD2H new) ≡ Ok (view.SetBits g) → ⊥
-    no_bits e = cc e
-bits_by Activate true old new g e = absurd (no_bits e)
-  where
-    no_bits : Ok (view.DmaActivate new) ≡ Ok (view.SetBits g) → ⊥
-    no_bits e = cc e
-bits_by Setup true old new g e = absurd (no_bits e)
-  where
-    no_bits : Ok (view.DmaSetup new) ≡ Ok (view.SetBits g) → ⊥
-    no_bits e = cc e
-bits_by table.Data true old new g e = absurd (no_bits e)
-  where
-    no_bits : Ok (view.Payload new) ≡ Ok (view.SetBits g) → ⊥
-    no_bits e = cc e
-bits_by Pio true old new g e = absurd (no_bits e)
-  where
-    no_bits : Ok (view.PioSetup new) ≡ Ok (view.SetBits g) → ⊥
-    no_bits e = cc e
-bits_by Other true old new g e = absurd (no_bits e)
-  where
-    no_bits : Ok (view.Unknown new) ≡ Ok (view.SetBits g) → ⊥
-    no_bits e = cc e
+bits_by H2d true old new g e = absurd (cc e)
+bits_by D2h true old new g e = absurd (cc e)
+bits_by Activate true old new g e = absurd (cc e)
+bits_by Setup true old new g e = absurd (cc e)
+bits_by table.Data true old new g e = absurd (cc e)
+bits_by Pio true old new g e = absurd (cc e)
+bits_by Other true old new g e = absurd (cc e)
 
 pub bits_of_marked : (port : ℕ) (old g : List ℕ) → IsFrame old → port < 16 → seen (marked old port) ≡ Ok (view.SetBits g) → IsMarkedBits old (marked old port) g
 unfolding seen

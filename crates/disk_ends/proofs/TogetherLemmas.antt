@@ -23,7 +23,7 @@ use Rattle.disk_model.proofs.CrossLemmas.{after_bytes, alone, asks_fits, bits_up
 use Rattle.disk_model.proofs.EntersLemmas.{up_leaves}
 use Rattle.hba_laws.specs.History.{Answered, Carried, History, Issued, Named, Sent, SetUp, Transfer, completes, is_at, is_set_up, issued, unless, waiting_in}
 use Rattle.disk_ends.specs.Same.{InLife}
-use Rattle.disk_ends.specs.Answers.{IsAlone}
+use Rattle.disk_ends.specs.Answers.{IsAlone, IsIdle}
 use Rattle.disk_ends.specs.Together.{AsksOne, InTalk, IsHeard, IsUntouched, IsWaited, NoneQueued, NothingWaits, QueuesOne, Replies, Same, SameGoesOn, is_sent, told, with_command}
 use Rattle.disk_ends.proofs.AnswerLemmas.{IsBeside, answers_keep, asks_beside, free_beside, names_keep, others_keep}
 use Rattle.disk_ends.proofs.DataLemmas.{data_comes_down, data_up}
