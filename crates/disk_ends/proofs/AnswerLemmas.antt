@@ -44,7 +44,8 @@ ended_same s set_up k x b e = record {
 pub life_beside : (s : ℕ) (c : Command) (past : History) (k x : Ledger) → IsBeside k x → InLife s c past k → InLife s c past x
 life_beside s c past k x b (Unsent free quiet unset none) = Unsent (free_beside s k x b free) quiet unset none
 life_beside s c past k x b (Open found yet other unset none) =
-    Open (ap (find (λ (q : Command). q.tag == s)) b.outstanding ∙ found) (ap (has s) b.unanswered ∙ yet) (subst (MovesOther s) (sym b.moving) other) unset none
+    Open (ap (find (λ (q : Command). q.tag == s)) b.outstanding ∙ found) (ap (has s) b.unanswered
+    ∙ yet) (subst (MovesOther s) (sym b.moving) other) unset none
 life_beside s c past k x b (Moves v moving same yet m) = Moves v (b.moving ∙ moving) same (ap (has s) b.unanswered ∙ yet) m
 life_beside s c past k x b (ReadEnded at r e quiet there same stands) =
     ReadEnded at r (ended_same s (is_set_up s past) k x b e) quiet (ap (λ (rs : List ReadOut). slice_get rs at) b.reads ∙ there) same stands
@@ -102,18 +103,21 @@ register_keeps s c past k life =
     same_life s c past (Answered ∷ past) (answered k) (λ quiet. refl) refl refl refl refl
     (life_beside s c past k (answered k) (record { outstanding = refl; unanswered = refl; moving = refl; writes = refl; reads = refl }) life)
 
-show_keeps : (s count ends : ℕ) (to_host : Bool) (c : Command) (past : History) (k : Ledger) → IsIdle k → InLife s c past k → InLife s c (PioSetUp count to_host ends ∷ past) (answered k)
+show_keeps : (s count ends : ℕ) (to_host : Bool) (c : Command) (past : History) (k : Ledger) → IsIdle k → InLife s c past k
+    → InLife s c (PioSetUp count to_host ends ∷ past) (answered k)
 show_keeps s count ends to_host c past k idle life =
     let u : IsUnsent s past k = idle_unsent s c past k idle life in
     let free : IsFree k s = u.free in
     Unsent (record { outstanding = free.outstanding; unanswered = free.unanswered; moving = free.moving }) u.quiet u.quiet u.none
 
-page_keeps : (s : ℕ) (c : Command) (bytes : List ℕ) (past : History) (k : Ledger) → IsIdle k → InLife s c past k → InLife s c (Carried bytes ∷ past) (sends_data k k.moving bytes)
+page_keeps : (s : ℕ) (c : Command) (bytes : List ℕ) (past : History) (k : Ledger) → IsIdle k → InLife s c past k
+    → InLife s c (Carried bytes ∷ past) (sends_data k k.moving bytes)
 page_keeps s c bytes past k idle life =
     let u : IsUnsent s past k = idle_unsent s c past k idle life in
     let free : IsFree k s = u.free in
     let unset : is_set_up s past ≡ false = u.unset in
-    let fills : filled s (Carried bytes ∷ past) ≡ filled s past = ap (λ (t : Bool). if t then filled_from (next_number past) bytes (filled s past) else filled s past) unset in
+    let fills : filled s (Carried bytes ∷ past) ≡ filled s past =
+    ap (λ (t : Bool). if t then filled_from (next_number past) bytes (filled s past) else filled s past) unset in
     subst (λ (m : Option Moving). InLife s c (Carried bytes ∷ past) (sends_data k m bytes)) (sym idle.moving)
     (Unsent (record { outstanding = free.outstanding; unanswered = free.unanswered; moving = free.moving }) u.quiet unset (fills ∙ u.none))
 
@@ -156,7 +160,8 @@ heads : (u t : ℕ) (us ts : List ℕ) → u ∷ us ≡ t ∷ ts → u ≡ t
 heads u t us ts e = cc e
 
 -- and nowhere else, so that it is gone once it is named
-gone_by : (s : ℕ) (us rest ahead behind : List ℕ) → us ≡ s ∷ rest → us ≡ ahead ++ s ∷ behind → has s ahead ≡ false → has s behind ≡ false → has s (drop 1 us) ≡ false
+gone_by : (s : ℕ) (us rest ahead behind : List ℕ) → us ≡ s ∷ rest → us ≡ ahead ++ s ∷ behind → has s ahead ≡ false → has s behind ≡ false
+    → has s (drop 1 us) ≡ false
 gone_by s us rest [] behind first is not_ahead not_behind = ap (λ (ts : List ℕ). has s (drop 1 ts)) is ∙ not_behind
 gone_by s us rest (a ∷ ahead) behind first is not_ahead not_behind =
     let same : a ≡ s = heads a s (ahead ++ s ∷ behind) rest (sym is ∙ first) in
@@ -167,7 +172,8 @@ gone : (s : ℕ) (us : List ℕ) → StandsFirst s us → StandsOnce s us → ha
 gone s us first once = gone_by s us first.rest once.ahead once.behind first.is once.is once.not_ahead once.not_behind
 
 -- another that stands there once goes on to do so
-left_by : (s mask : ℕ) (us ahead behind : List ℕ) → us ≡ ahead ++ s ∷ behind → has s ahead ≡ false → has s behind ≡ false → Names us mask → has_bit mask s ≡ false → StandsOnce s (drop 1 us)
+left_by : (s mask : ℕ) (us ahead behind : List ℕ) → us ≡ ahead ++ s ∷ behind → has s ahead ≡ false → has s behind ≡ false → Names us mask
+    → has_bit mask s ≡ false → StandsOnce s (drop 1 us)
 left_by s mask us [] behind is not_ahead not_behind names unset =
     let named : mask ≡ 2 ^ s = subst (λ (ts : List ℕ). Names ts mask) is names in
     absurd (true≢false (sym (own_bit s mask named) ∙ unset))
@@ -182,45 +188,73 @@ left_by s mask us (a ∷ ahead) behind is not_ahead not_behind names unset = rec
 once_left : (s mask : ℕ) (us : List ℕ) → StandsOnce s us → Names us mask → has_bit mask s ≡ false → StandsOnce s (drop 1 us)
 once_left s mask us once names unset = left_by s mask us once.ahead once.behind once.is once.not_ahead once.not_behind names unset
 
-name_ends : (s mask : ℕ) (c : Command) (past : History) (k : Ledger) → Names k.unanswered mask → has_bit mask s ≡ true → InLife s c past k → HasEnded s c past k
-name_ends s mask c past k names set (Unsent free quiet unset none) = absurd (first_stands s k.unanswered (named_first s mask k.unanswered names set) free.unanswered)
-name_ends s mask c past k names set (Open found yet other unset none) = absurd (first_stands s k.unanswered (named_first s mask k.unanswered names set) yet)
+name_ends : (s mask : ℕ) (c : Command) (past : History) (k : Ledger) → Names k.unanswered mask → has_bit mask s ≡ true → InLife s c past k
+    → HasEnded s c past k
+name_ends s mask c past k names set (Unsent free quiet unset none) =
+    absurd (first_stands s k.unanswered (named_first s mask k.unanswered names set) free.unanswered)
+name_ends s mask c past k names set (Open found yet other unset none) =
+    absurd (first_stands s k.unanswered (named_first s mask k.unanswered names set) yet)
 name_ends s mask c past k names set (Moves v moving same yet m) = absurd (first_stands s k.unanswered (named_first s mask k.unanswered names set) yet)
 name_ends s mask c past k names set (ReadEnded at r e quiet there same stands) = ByRead at r there same stands
 name_ends s mask c past k names set (WriteEnded at w e quiet there same stands) = ByWrite at w there same stands
 
-name_quiet : (s mask : ℕ) (c : Command) (past : History) (k : Ledger) → Names k.unanswered mask → has_bit mask s ≡ true → InLife s c past k → is_at s (waiting_in past) ≡ false
+name_quiet : (s mask : ℕ) (c : Command) (past : History) (k : Ledger) → Names k.unanswered mask → has_bit mask s ≡ true → InLife s c past k
+    → is_at s (waiting_in past) ≡ false
 name_quiet s mask c past k names set (Unsent free quiet unset none) = quiet
-name_quiet s mask c past k names set (Open found yet other unset none) = absurd (first_stands s k.unanswered (named_first s mask k.unanswered names set) yet)
+name_quiet s mask c past k names set (Open found yet other unset none) =
+    absurd (first_stands s k.unanswered (named_first s mask k.unanswered names set) yet)
 name_quiet s mask c past k names set (Moves v moving same yet m) = m.quiet
 name_quiet s mask c past k names set (ReadEnded at r e quiet there same stands) = quiet
 name_quiet s mask c past k names set (WriteEnded at w e quiet there same stands) = quiet
 
-free_ended : (s mask error : ℕ) (b : Bool) (k : Ledger) → Names k.unanswered mask → has_bit mask s ≡ true → IsEndedBy s b k → IsFree (answers k error false) s
+free_ended : (s mask error : ℕ) (b : Bool) (k : Ledger) → Names k.unanswered mask → has_bit mask s ≡ true → IsEndedBy s b k
+    → IsFree (answers k error false) s
 free_ended s mask error b k names set e =
-    record { outstanding = e.outstanding; unanswered = gone s k.unanswered (named_first s mask k.unanswered names set) e.unanswered; moving = e.moving }
+    record {
+      outstanding = e.outstanding;
+      unanswered = gone s k.unanswered
+          (named_first s mask k.unanswered names set) e.unanswered;
+      moving = e.moving;
+    }
 
-name_frees : (s mask error : ℕ) (c : Command) (past : History) (k : Ledger) → Names k.unanswered mask → has_bit mask s ≡ true → InLife s c past k → IsFree (answers k error false) s
-name_frees s mask error c past k names set (Unsent free quiet unset none) = absurd (first_stands s k.unanswered (named_first s mask k.unanswered names set) free.unanswered)
-name_frees s mask error c past k names set (Open found yet other unset none) = absurd (first_stands s k.unanswered (named_first s mask k.unanswered names set) yet)
-name_frees s mask error c past k names set (Moves v moving same yet m) = absurd (first_stands s k.unanswered (named_first s mask k.unanswered names set) yet)
+name_frees : (s mask error : ℕ) (c : Command) (past : History) (k : Ledger) → Names k.unanswered mask → has_bit mask s ≡ true → InLife s c past k
+    → IsFree (answers k error false) s
+name_frees s mask error c past k names set (Unsent free quiet unset none) =
+    absurd (first_stands s k.unanswered (named_first s mask k.unanswered names set) free.unanswered)
+name_frees s mask error c past k names set (Open found yet other unset none) =
+    absurd (first_stands s k.unanswered (named_first s mask k.unanswered names set) yet)
+name_frees s mask error c past k names set (Moves v moving same yet m) =
+    absurd (first_stands s k.unanswered (named_first s mask k.unanswered names set) yet)
 name_frees s mask error c past k names set (ReadEnded at r e quiet there same stands) = free_ended s mask error (is_set_up s past) k names set e
 name_frees s mask error c past k names set (WriteEnded at w e quiet there same stands) = free_ended s mask error (is_set_up s past) k names set e
 
-ended_left : (s mask error : ℕ) (b : Bool) (k : Ledger) → Names k.unanswered mask → has_bit mask s ≡ false → IsEndedBy s b k → IsEndedBy s b (answers k error false)
+ended_left : (s mask error : ℕ) (b : Bool) (k : Ledger) → Names k.unanswered mask → has_bit mask s ≡ false → IsEndedBy s b k
+    → IsEndedBy s b (answers k error false)
 ended_left s mask error b k names unset e =
     record { unanswered = once_left s mask k.unanswered e.unanswered names unset; outstanding = e.outstanding; moving = e.moving; unset = e.unset }
 
-name_other : (s mask error : ℕ) (c : Command) (past : History) (k : Ledger) → Names k.unanswered mask → has_bit mask s ≡ false → InLife s c past k → InLife s c (Named mask ∷ past) (answers k error false)
+name_other : (s mask error : ℕ) (c : Command) (past : History) (k : Ledger) → Names k.unanswered mask → has_bit mask s ≡ false → InLife s c past k
+    → InLife s c (Named mask ∷ past) (answers k error false)
 name_other s mask error c past k names other (Unsent free quiet unset none) =
     Unsent (record { outstanding = free.outstanding; unanswered = has_left s k.unanswered free.unanswered; moving = free.moving }) quiet unset none
 name_other s mask error c past k names other (Open found yet beside unset none) = Open found (has_left s k.unanswered yet) beside unset none
 name_other s mask error c past k names other (Moves v moving same yet m) =
     let n : IsLastOf v past = m.names in
     Moves v moving same (has_left s k.unanswered yet)
-    (record { long = m.long; quiet = m.quiet; set_up = m.set_up; inside = m.inside; names = record { setup = n.setup; last = n.last; offset = n.offset; count = n.count }; fresh = m.fresh; asked = m.asked; stands = m.stands })
-name_other s mask error c past k names other (ReadEnded at r e quiet there same stands) = ReadEnded at r (ended_left s mask error (is_set_up s past) k names other e) quiet there same stands
-name_other s mask error c past k names other (WriteEnded at w e quiet there same stands) = WriteEnded at w (ended_left s mask error (is_set_up s past) k names other e) quiet there same stands
+    (record {
+      long = m.long;
+      quiet = m.quiet;
+      set_up = m.set_up;
+      inside = m.inside;
+      names = record { setup = n.setup; last = n.last; offset = n.offset; count = n.count };
+      fresh = m.fresh;
+      asked = m.asked;
+      stands = m.stands;
+    })
+name_other s mask error c past k names other (ReadEnded at r e quiet there same stands) =
+    ReadEnded at r (ended_left s mask error (is_set_up s past) k names other e) quiet there same stands
+name_other s mask error c past k names other (WriteEnded at w e quiet there same stands) =
+    WriteEnded at w (ended_left s mask error (is_set_up s past) k names other e) quiet there same stands
 
 pub names_keep : NamesKeep
 names_keep = record { own = name_ends; answered = name_quiet; free = name_frees; other = name_other }

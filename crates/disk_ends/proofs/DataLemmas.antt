@@ -44,7 +44,8 @@ once_last s u us same none =
     record { ahead = us; behind = []; is = ap (λ (t : ℕ). us ++ t ∷ []) same; not_ahead = none; not_behind = refl }
 
 -- a filter by a tag leaves none of it
-dropped : (s : ℕ) (q : Command) (b : Bool) (rest : List Command) → eqb q.tag s ≡ b → list_any (λ c. c.tag == s) rest ≡ false → list_any (λ c. c.tag == s) (if not b then q ∷ rest else rest) ≡ false
+dropped : (s : ℕ) (q : Command) (b : Bool) (rest : List Command) → eqb q.tag s ≡ b → list_any (λ c. c.tag == s) rest ≡ false
+    → list_any (λ c. c.tag == s) (if not b then q ∷ rest else rest) ≡ false
 dropped s q true rest is none = none
 dropped s q false rest is none = or_from (q.tag == s) (list_any (λ (c : Command). c.tag == s) rest) is none
 
@@ -54,20 +55,25 @@ but_none s (q ∷ cs) = dropped s q (eqb q.tag s) (filter (λ (q : Command). not
 
 -- and what is found by another tag
 found_here : (s other : ℕ) (q c : Command) (a b : Bool) (before after : List Command) → eqb q.tag s ≡ a → eqb q.tag other ≡ b → eqb other s ≡ false
-    → (if a then Some q else find (λ p. p.tag == s) before) ≡ Some c → (find (λ p. p.tag == s) before ≡ Some c → find (λ p. p.tag == s) after ≡ Some c)
+    → (if a then Some q else find (λ p. p.tag == s) before) ≡ Some c
+    → (find (λ p. p.tag == s) before ≡ Some c → find (λ p. p.tag == s) after ≡ Some c)
     → find (λ p. p.tag == s) (if not b then q ∷ after else after) ≡ Some c
 found_here s other q c true true before after is there differs found more =
     let a : q.tag ≡ s = eqb-true q.tag s is in
     let b : q.tag ≡ other = eqb-true q.tag other there in
     cc (sym (eq-eqb other s (sym b ∙ a)) ∙ differs)
-found_here s other q c true false before after is there differs found more = ap (λ (t : Bool). if t then Some q else find (λ (p : Command). p.tag == s) after) is ∙ found
+found_here s other q c true false before after is there differs found more =
+    ap (λ (t : Bool). if t then Some q else find (λ (p : Command). p.tag == s) after) is ∙ found
 found_here s other q c false true before after is there differs found more = more found
-found_here s other q c false false before after is there differs found more = ap (λ (t : Bool). if t then Some q else find (λ (p : Command). p.tag == s) after) is ∙ more found
+found_here s other q c false false before after is there differs found more =
+    ap (λ (t : Bool). if t then Some q else find (λ (p : Command). p.tag == s) after) is ∙ more found
 
-found_kept : (s other : ℕ) (cs : List Command) (c : Command) → eqb other s ≡ false → find (λ p. p.tag == s) cs ≡ Some c → find (λ p. p.tag == s) (filter (λ q. not (q.tag == other)) cs) ≡ Some c
+found_kept : (s other : ℕ) (cs : List Command) (c : Command) → eqb other s ≡ false → find (λ p. p.tag == s) cs ≡ Some c
+    → find (λ p. p.tag == s) (filter (λ q. not (q.tag == other)) cs) ≡ Some c
 found_kept s other [] c differs found = cc found
 found_kept s other (q ∷ cs) c differs found =
-    found_here s other q c (eqb q.tag s) (eqb q.tag other) cs (filter (λ (q : Command). not (q.tag == other)) cs) refl refl differs found (found_kept s other cs c differs)
+    found_here s other q c (eqb q.tag s) (eqb q.tag other) cs (filter (λ (q : Command). not (q.tag == other)) cs) refl refl differs found
+    (found_kept s other cs c differs)
 
 -- ## Another command ends
 
@@ -87,8 +93,10 @@ still_ended s b tag k x other goes e = record {
   unset = subst (λ (m : Option Moving). Unset m b) (sym goes.moving) tt;
 }
 
-ends_beside : (s : ℕ) (c : Command) (v : Moving) (past later : History) (k x : Ledger) → k.moving ≡ Some v → eqb v.command.tag s ≡ false → c.tag ≡ s → EndsBeside v.command.tag k x
-    → waiting_in later ≡ waiting_in past → is_set_up s later ≡ is_set_up s past → filled s later ≡ filled s past → InLife s c past k → InLife s c later x
+ends_beside : (s : ℕ) (c : Command) (v : Moving) (past later : History) (k x : Ledger) → k.moving ≡ Some v → eqb v.command.tag s ≡ false → c.tag ≡ s
+    → EndsBeside v.command.tag k x
+    → waiting_in later ≡ waiting_in past → is_set_up s later ≡ is_set_up s past → filled s later ≡ filled s past → InLife s c past k
+    → InLife s c later x
 ends_beside s c v past later k x moving other tag goes waits set fills (Unsent free quiet unset none) =
     Unsent (record {
       outstanding = ap (list_any (λ (q : Command). q.tag == s)) goes.outstanding ∙ but_free s v.command.tag k.outstanding free.outstanding;
@@ -99,12 +107,15 @@ ends_beside s c v past later k x moving other tag goes waits set fills (Open fou
     Open (ap (find (λ (p : Command). p.tag == s)) goes.outstanding ∙ found_kept s v.command.tag k.outstanding c other found)
     (ap (has s) goes.unanswered ∙ has_more s v.command.tag k.unanswered yet other)
     (subst (MovesOther s) (sym goes.moving) tt) (set ∙ unset) (fills ∙ none)
-ends_beside s c v past later k x moving other tag goes waits set fills (Moves u here same yet m) = absurd (not_own s c u v k moving here same tag other)
+ends_beside s c v past later k x moving other tag goes waits set fills (Moves u here same yet m) =
+    absurd (not_own s c u v k moving here same tag other)
 ends_beside s c v past later k x moving other tag goes waits set fills (ReadEnded at r e quiet there same stands) =
-    ReadEnded at r (subst (λ (b : Bool). IsEndedBy s b x) (sym set) (still_ended s (is_set_up s past) v.command.tag k x other goes e)) (ap (is_at s) waits ∙ quiet) (goes.reads at r there) same
+    ReadEnded at r (subst (λ (b : Bool). IsEndedBy s b x) (sym set) (still_ended s (is_set_up s past) v.command.tag k x other goes e))
+    (ap (is_at s) waits ∙ quiet) (goes.reads at r there) same
     (subst (λ (f : ℕ → Option ℕ). Stand f r.bytes) (sym fills) stands)
 ends_beside s c v past later k x moving other tag goes waits set fills (WriteEnded at w e quiet there same stands) =
-    WriteEnded at w (subst (λ (b : Bool). IsEndedBy s b x) (sym set) (still_ended s (is_set_up s past) v.command.tag k x other goes e)) (ap (is_at s) waits ∙ quiet) (goes.writes at w there) same
+    WriteEnded at w (subst (λ (b : Bool). IsEndedBy s b x) (sym set) (still_ended s (is_set_up s past) v.command.tag k x other goes e))
+    (ap (is_at s) waits ∙ quiet) (goes.writes at w there) same
     (subst (λ (f : ℕ → Option ℕ). Stand f w.bytes) (sym fills) stands)
 
 goes_beside : (k : Ledger) (w : Moving) (write : Bool) → EndsBeside w.command.tag k (ends k w write)
@@ -113,16 +124,19 @@ goes_beside k w false = record { outstanding = refl; unanswered = refl; moving =
 
 -- ## The slot's own command ends
 
-ends_own : (s : ℕ) (b : Bool) (k : Ledger) (w : Moving) (write : Bool) → w.command.tag ≡ s → has s k.unanswered ≡ false → IsEndedBy s b (ends k w write)
+ends_own : (s : ℕ) (b : Bool) (k : Ledger) (w : Moving) (write : Bool) → w.command.tag ≡ s → has s k.unanswered ≡ false
+    → IsEndedBy s b (ends k w write)
 ends_own s b k w true own yet = record {
   unanswered = once_last s w.command.tag k.unanswered own yet;
-  outstanding = subst (λ (t : ℕ). list_any (λ c. c.tag == s) (filter (λ q. not (q.tag == t)) k.outstanding) ≡ false) (sym own) (but_none s k.outstanding);
+  outstanding =
+      subst (λ (t : ℕ). list_any (λ c. c.tag == s) (filter (λ q. not (q.tag == t)) k.outstanding) ≡ false) (sym own) (but_none s k.outstanding);
   moving = tt;
   unset = tt;
 }
 ends_own s b k w false own yet = record {
   unanswered = once_last s w.command.tag k.unanswered own yet;
-  outstanding = subst (λ (t : ℕ). list_any (λ c. c.tag == s) (filter (λ q. not (q.tag == t)) k.outstanding) ≡ false) (sym own) (but_none s k.outstanding);
+  outstanding =
+      subst (λ (t : ℕ). list_any (λ c. c.tag == s) (filter (λ q. not (q.tag == t)) k.outstanding) ≡ false) (sym own) (but_none s k.outstanding);
   moving = tt;
   unset = tt;
 }
@@ -130,7 +144,8 @@ ends_own s b k w false own yet = record {
 -- ## Data
 
 -- bytes that are put within data leave it as long as it is
-put_long : (s : ℕ) (v : Moving) (bytes : List ℕ) (past : History) → length bytes ≡ v.count → IsMovingAt s v past → length (put v.bytes v.offset bytes) ≡ 512 * v.command.count
+put_long : (s : ℕ) (v : Moving) (bytes : List ℕ) (past : History) → length bytes ≡ v.count → IsMovingAt s v past
+    → length (put v.bytes v.offset bytes) ≡ 512 * v.command.count
 put_long s v bytes past long at =
     let inside = at.inside in
     let whole = at.long in
@@ -142,7 +157,8 @@ names_on s v bytes past at = let n : IsLastOf v past = at.names in record { setu
 moved_quiet : (s : ℕ) (c : Command) (v : Moving) (past : History) (k : Ledger) → IsMoved s c v past k → is_at s (waiting_in past) ≡ false
 moved_quiet s c v past k m = let at : IsMovingAt s v past = m.at in at.quiet
 
-data_own : (s : ℕ) (c : Command) (v : Moving) (bytes : List ℕ) (past : History) (k : Ledger) (b write : Bool) → v.command.tag ≡ s → v.command.write ≡ write → length bytes ≡ v.count → v.moved + length bytes ≡ bytes_named v.setups
+data_own : (s : ℕ) (c : Command) (v : Moving) (bytes : List ℕ) (past : History) (k : Ledger) (b write : Bool) → v.command.tag ≡ s
+    → v.command.write ≡ write → length bytes ≡ v.count → v.moved + length bytes ≡ bytes_named v.setups
     → IsMoved s c v past k → InLife s c (Carried bytes ∷ past) (after_bytes k (with_bytes v bytes) b write)
 data_own s c v bytes past k false write own way long in_turn m =
     let at : IsMovingAt s v past = m.at in
@@ -176,14 +192,20 @@ data_own s c v bytes past k true false own way long in_turn m =
     })
     (data_fills s v bytes past m.at long in_turn)
 
-data_beside : (s : ℕ) (c : Command) (v : Moving) (bytes : List ℕ) (past : History) (k : Ledger) (b write : Bool) → k.moving ≡ Some v → eqb v.command.tag s ≡ false → c.tag ≡ s
-    → filled s (Carried bytes ∷ past) ≡ filled s past → is_set_up s past ≡ false → InLife s c past k → InLife s c (Carried bytes ∷ past) (after_bytes k (with_bytes v bytes) b write)
-data_beside s c v bytes past k false write moving other tag fills unset life = other_life s c v (with_bytes v bytes) past (Carried bytes ∷ past) k moving other tag refl refl unset fills life
+data_beside : (s : ℕ) (c : Command) (v : Moving) (bytes : List ℕ) (past : History) (k : Ledger) (b write : Bool) → k.moving ≡ Some v
+    → eqb v.command.tag s ≡ false → c.tag ≡ s
+    → filled s (Carried bytes ∷ past) ≡ filled s past → is_set_up s past ≡ false → InLife s c past k
+    → InLife s c (Carried bytes ∷ past) (after_bytes k (with_bytes v bytes) b write)
+data_beside s c v bytes past k false write moving other tag fills unset life =
+    other_life s c v (with_bytes v bytes) past (Carried bytes ∷ past) k moving other tag refl refl unset fills life
 data_beside s c v bytes past k true write moving other tag fills unset life =
-    ends_beside s c v past (Carried bytes ∷ past) k (ends k (with_bytes v bytes) write) moving other tag (goes_beside k (with_bytes v bytes) write) refl refl fills life
+    ends_beside s c v past (Carried bytes ∷ past) k (ends k (with_bytes v bytes) write) moving other tag
+    (goes_beside k (with_bytes v bytes) write) refl refl fills life
 
-data_keeps : (s : ℕ) (c : Command) (v : Moving) (bytes : List ℕ) (past : History) (k : Ledger) (b write : Bool) → k.moving ≡ Some v → c.tag ≡ s → v.command.write ≡ write → length bytes ≡ v.count
-    → (IsMovingAt s v past → v.moved + length bytes ≡ bytes_named v.setups) → InLife s c past k → InLife s c (Carried bytes ∷ past) (after_bytes k (with_bytes v bytes) b write)
+data_keeps : (s : ℕ) (c : Command) (v : Moving) (bytes : List ℕ) (past : History) (k : Ledger) (b write : Bool) → k.moving ≡ Some v → c.tag ≡ s
+    → v.command.write ≡ write → length bytes ≡ v.count
+    → (IsMovingAt s v past → v.moved + length bytes ≡ bytes_named v.setups) → InLife s c past k
+    → InLife s c (Carried bytes ∷ past) (after_bytes k (with_bytes v bytes) b write)
 data_keeps s c v bytes past k b write moving tag way long in_turn life = elim (cases_Bool (eqb v.command.tag s)) [
   | inl is ↦
       let tags : v.command.tag ≡ s = eqb-true v.command.tag s is in
@@ -191,7 +213,8 @@ data_keeps s c v bytes past k b write moving tag way long in_turn life = elim (c
       data_own s c v bytes past k b write tags way long (in_turn own.at) own
   | inr other ↦
       let unset : is_set_up s past ≡ false = unset_other s c v past k moving other tag life in
-      let fills : filled s (Carried bytes ∷ past) ≡ filled s past = ap (λ (t : Bool). if t then filled_from (next_number past) bytes (filled s past) else filled s past) unset in
+      let fills : filled s (Carried bytes ∷ past) ≡ filled s past =
+      ap (λ (t : Bool). if t then filled_from (next_number past) bytes (filled s past) else filled s past) unset in
       data_beside s c v bytes past k b write moving other tag fills unset life
 ]
 
@@ -208,4 +231,5 @@ data_comes_down s c v bytes past k moving tag asked life =
     data_down k v bytes (is_all (with_bytes v bytes)) moving asked refl in
     let long : length bytes ≡ v.count = asked.long in
     subst (λ (l : Ledger). InLife s c (Carried bytes ∷ past) l) (sym after)
-    (data_keeps s c v bytes past k (is_all (with_bytes v bytes)) true moving tag asked.writes long (λ m. ap (λ (n : ℕ). v.moved + n) long ∙ m.asked asked.asked) life)
+    (data_keeps s c v bytes past k (is_all (with_bytes v bytes)) true moving tag asked.writes long
+    (λ m. ap (λ (n : ℕ). v.moved + n) long ∙ m.asked asked.asked) life)

@@ -35,7 +35,8 @@ at_place P (y ∷ xs) zero x there all = let same : y ≡ x = cc there in subst 
 at_place P (y ∷ xs) (suc i) x there all = at_place P xs i x there (All-tail P y xs all)
 
 -- and where it does not hold of the last ones it stands among those before them
-before_last : {X : Type 0} (P : X → Type 0) (xs ys : List X) (i : ℕ) (x : X) → slice_get (xs ++ ys) i ≡ Some x → All P ys → (P x → ⊥) → slice_get xs i ≡ Some x
+before_last : {X : Type 0} (P : X → Type 0) (xs ys : List X) (i : ℕ) (x : X) → slice_get (xs ++ ys) i ≡ Some x → All P ys → (P x → ⊥)
+    → slice_get xs i ≡ Some x
 before_last P [] ys i x there all not = absurd (not (at_place P ys i x there all))
 before_last P (y ∷ xs) ys zero x there all not = there
 before_last P (y ∷ xs) ys (suc i) x there all not = before_last P xs ys i x there all not
@@ -53,7 +54,8 @@ byte_at g len i all lt =
       | inl here ↦ the_byte (g i) here
       | inr missing ↦
           let zero_first : 0 + i ≡ i = omega arith in
-          let at : is_some (g (get_or (range_with_len 0 len) i 0)) ≡ false = ap (λ k. is_some (g k)) (get_or-range_with_len 0 len i 0 lt ∙ zero_first) ∙ missing in
+          let at : is_some (g (get_or (range_with_len 0 len) i 0)) ≡ false =
+          ap (λ k. is_some (g k)) (get_or-range_with_len 0 len i 0 lt ∙ zero_first) ∙ missing in
           absurd (true≢false (sym all ∙ list_all_at (λ k. is_some (g k)) (range_with_len 0 len) i 0 (omega (arith, long)) at))
     ]
 
@@ -87,11 +89,15 @@ named_by s mask past t done =
 other_way : {X : Type 0} (b : Bool) → b ≡ false → b ≡ true → X
 other_way b unset set = absurd (true≢false (sym set ∙ unset))
 
-brought : (sectors s at : ℕ) (c : Command) (past : History) (t : Transfer) (k : Ledger) (r : ReadOut) → is_all_filled (filled s past) t.work.len ≡ true → All (IsRead sectors) k.reads → slice_get k.reads at ≡ Some r → IsReadOf c r → Stand (filled s past) r.bytes
+brought : (sectors s at : ℕ) (c : Command) (past : History) (t : Transfer) (k : Ledger) (r : ReadOut)
+    → is_all_filled (filled s past) t.work.len ≡ true → All (IsRead sectors) k.reads → slice_get k.reads at ≡ Some r → IsReadOf c r
+    → Stand (filled s past) r.bytes
     → BroughtSectors sectors c (filled s past) t.work.len k
 brought sectors s at c past t k r all reads there of stands =
-    let bytes : r.bytes ≡ sectors_at (medium_with sectors r.before) r.command.lba r.command.count = at_place (IsRead sectors) k.reads at r there reads in
-    let is : r.bytes ≡ sectors_at (medium_with sectors r.before) c.lba c.count = bytes ∙ ap (λ (q : Command). sectors_at (medium_with sectors r.before) q.lba q.count) of.command in
+    let bytes : r.bytes ≡ sectors_at (medium_with sectors r.before) r.command.lba r.command.count =
+    at_place (IsRead sectors) k.reads at r there reads in
+    let is : r.bytes ≡ sectors_at (medium_with sectors r.before) c.lba c.count =
+    bytes ∙ ap (λ (q : Command). sectors_at (medium_with sectors r.before) q.lba q.count) of.command in
     record {
       at = at;
       read = r;
@@ -100,28 +106,34 @@ brought sectors s at c past t k r all reads there of stands =
       bytes = subst (AreFilledBy (filled s past) t.work.len) is (fills_all (filled s past) t.work.len r.bytes all stands);
     }
 
-entered : (s at : ℕ) (c : Command) (past : History) (t : Transfer) (disk k : Ledger) (w : Written) → c.tag ≡ s → is_all_filled (filled s past) t.work.len ≡ true → AreEntered disk k s → slice_get k.writes at ≡ Some w → IsWriteOf s c w → Stand (filled s past) w.bytes
+entered : (s at : ℕ) (c : Command) (past : History) (t : Transfer) (disk k : Ledger) (w : Written) → c.tag ≡ s
+    → is_all_filled (filled s past) t.work.len ≡ true → AreEntered disk k s → slice_get k.writes at ≡ Some w → IsWriteOf s c w
+    → Stand (filled s past) w.bytes
     → IsOnMedium c (filled s past) t.work.len disk
 entered s at c past t disk k w tag all on there of stands =
     let here : slice_get (disk.writes ++ on.later) at ≡ Some w = ap (λ (ws : List Written). slice_get ws at) (sym on.same) ∙ there in
     record {
       at = at;
       written = w;
-      entered = before_last (λ (x : Written). (x.tag == s) ≡ false) disk.writes on.later at w here on.others (λ other. true≢false (sym (eq-eqb w.tag s of.tag) ∙ other));
+      entered =
+          before_last (λ (x : Written). (x.tag == s) ≡ false) disk.writes on.later at w here on.others
+          (λ other. true≢false (sym (eq-eqb w.tag s of.tag) ∙ other));
       tag = of.tag ∙ sym tag;
       place = of.at;
       long = of.long;
       bytes = fills_all (filled s past) t.work.len w.bytes all stands;
     }
 
-done_by : (sectors s : ℕ) (c : Command) (past : History) (t : Transfer) (disk k : Ledger) → c.tag ≡ s → is_all_filled (filled s past) t.work.len ≡ true → All (IsRead sectors) k.reads → AreEntered disk k s → HasEnded s c past k
+done_by : (sectors s : ℕ) (c : Command) (past : History) (t : Transfer) (disk k : Ledger) → c.tag ≡ s
+    → is_all_filled (filled s past) t.work.len ≡ true → All (IsRead sectors) k.reads → AreEntered disk k s → HasEnded s c past k
     → IsDoneHonestly sectors c (filled s past) t.work.len disk k
 done_by sectors s c past t disk k tag all reads on (ByRead at r there of stands) =
     record { reads = λ way. brought sectors s at c past t k r all reads there of stands; writes = λ way. other_way c.write of.reads way }
 done_by sectors s c past t disk k tag all reads on (ByWrite at w there of stands) =
     record { reads = λ way. other_way c.write way of.writes; writes = λ way. entered s at c past t disk k w tag all on there of stands }
 
-names_of : (k : Ledger) (fis : Result Fis FisFault) (f : List ℕ) → fis ≡ Ok (view.SetBits f) → IsRight k fis → Names k.unanswered (field Bits SActive f)
+names_of : (k : Ledger) (fis : Result Fis FisFault) (f : List ℕ) → fis ≡ Ok (view.SetBits f) → IsRight k fis
+    → Names k.unanswered (field Bits SActive f)
 names_of k fis f is right =
     let r : IsRight k (Ok (view.SetBits f)) = subst (IsRight k) is right in
     r.answers r.fine

@@ -1,49 +1,32 @@
 -- Commands are issued, and reports say that they are done, at a port that is joined to a disk's ledger.
-use Rattle.std.proofs.Common.{◌≡◌, ◌==◌, ◌&&◌, eqb, ℕ, zero, suc, ◌+◌, ◌<◌, ◌≤◌, Bool, true, false, List, [], ◌∷◌, ◌++◌, drop, length, refl, sym, ap, subst, ◌∙◌, inl, inr, Option, Some, None, Ok, Err, Result, arith}
-use Rattle.std.specs.Prelude.{◌≢◌, if◌then◌else◌, is_some, nat_lt, not}
+use Rattle.std.proofs.Common.{◌≡◌, eqb, ℕ, zero, suc, ◌<◌, ◌≤◌, Bool, true, false, ◌∷◌, ◌++◌, refl, sym, ap, subst, ◌∙◌, inl, inr, Option, Some, None, arith}
+use Rattle.std.specs.Prelude.{if◌then◌else◌, is_some}
 use Rattle.std.specs.Option.{option_map}
-use Rattle.std.proofs.lemmas.Bool.{and_parts, cases_Bool, cases_lt, eq-eqb, eqb-true, le-ltb, lt-ltb, true≢false}
-use Rattle.fis_view.specs.Frames.{IsFrame}
-use Rattle.fis_view.specs.Table.{Bits, BufferId, SActive, Setup, field}
-use Rattle.fis_view.specs.Table as table
-use Rattle.fis_view.specs.Seen.{seen}
-use Rattle.fis_view.specs.declared.view.Fis.{Fis}
-use Rattle.fis_view.specs.declared.view.Fis.TheVariants as view
-use Rattle.fis_view.specs.declared.view.FisFault.{FisFault}
+use Rattle.std.proofs.lemmas.Bool.{cases_Bool, cases_lt, eq-eqb, eqb-true, le-ltb, lt-ltb, true≢false}
 use Rattle.host_memory.specs.Memory.{Memory}
 use Rattle.hba_commands.specs.declared.command.Command as issued_command
-use Rattle.slots.specs.Slots.{DeviceSlots, Issue, has_bit, is_pio, issue_at, match_some, new_issue, own_issue, owned_by}
-use Rattle.slots.specs.Work.{is_queued}
+use Rattle.slots.specs.Slots.{Issue, new_issue, own_issue, owned_by}
 use Rattle.slots.specs.declared.table.Context.{Context}
 use Rattle.hba_fbs.specs.declared.register.Register.TheVariants.{Ci}
-use Rattle.hba_fbs.specs.declared.report.TakeReport.{TakeReport}
 use Rattle.hba_fbs.specs.Issuing.{asked, issue_with, issued_slots, view_issued}
-use Rattle.hba_fbs.specs.Taking.{port_of}
 use Rattle.hba_fbs.specs.Views.{DeviceView, Port, view_of}
 use Rattle.hba_fbs.specs.Writing.{view_after}
 use Rattle.disk_model.specs.declared.request.Command.{Command}
-use Rattle.disk_model.specs.Ends.{IsRight}
-use Rattle.disk_model.specs.Ledger.{Ledger, ledger}
-use Rattle.hba_laws.specs.Agreement.{IsHistoryOf, IsTold, work_of_issue, work_of_transfer}
+use Rattle.disk_model.specs.Ledger.{Ledger}
+use Rattle.hba_laws.specs.Agreement.{IsTold, work_of_issue, work_of_transfer}
 use Rattle.hba_laws.specs.Client.{own}
-use Rattle.hba_laws.specs.Delivering.{by_device, completes_now, event_taken, issued_below, touched}
-use Rattle.hba_laws.specs.History as event
-use Rattle.hba_laws.specs.History.{Event, History, Issued, Named, Transfer, completes, issued, waiting_in, is_at}
-use Rattle.hba_laws.specs.Hosts.{Does, Host, Took, Wrote}
-use Rattle.hba_laws.specs.Sound.{IsHost}
-use Rattle.hba_laws.proofs.DoneLemmas.{done_is_completed}
+use Rattle.hba_laws.specs.Delivering.{issued_below, touched}
+use Rattle.hba_laws.specs.History.{History, Issued, Transfer, issued}
+use Rattle.hba_laws.specs.Hosts.{Wrote}
 use Rattle.hba_laws.proofs.EventLemmas.{step}
 use Rattle.hba_laws.proofs.IssueLemmas.{asked_free, history_below, own_below_is, transfer_of, with_issued}
 use Rattle.hba_laws.proofs.ViewLemmas.{IsOwn, ext, is_own, issue_below, own_below, own_issued}
 use Rattle.slots.proofs.TableLemmas.{own_at}
 use Rattle.disk_ends.specs.Same.{InLife}
-use Rattle.disk_ends.specs.Together.{Same, is_sent, told, with_command}
-use Rattle.disk_ends.specs.Heard.{IsTakenWell, IsToldSo}
-use Rattle.disk_ends.specs.Honest.{IsDoneHonestly}
-use Rattle.disk_ends.specs.Joined.{IsAskedBy, IsJoined, JoinsIssues, ReportsHonestly, SentAgrees, StaysJoined}
-use Rattle.disk_ends.proofs.HeardLemmas.{heard_as_told, list_of, own_list, there_by}
-use Rattle.disk_ends.proofs.HonestLemmas.{done_is_honest, next_right}
-use Rattle.disk_ends.proofs.TogetherLemmas.{no_answer, no_end, not_pio, same_goes_on}
+use Rattle.disk_ends.specs.Together.{Same, is_sent, with_command}
+use Rattle.disk_ends.specs.Joined.{IsAskedBy, JoinsIssues, SentAgrees, StaysJoined}
+use Rattle.disk_ends.proofs.HeardLemmas.{there_by}
+use Rattle.disk_ends.proofs.TogetherLemmas.{same_goes_on}
 
 -- ## Commands are issued
 
@@ -54,13 +37,15 @@ own_command : (commands : ℕ → Command) (slot s : ℕ) (b : Bool) → eqb slo
 own_command commands slot s true is = ap commands (eqb-true slot s is)
 own_command commands slot s false is = refl
 
-issue_one : (commands : ℕ → Command) (slot : ℕ) (t : Transfer) (past : History) (k : Ledger) → issued slot past ≡ None → Same commands past k → Same commands (Issued slot t ∷ past) k
+issue_one : (commands : ℕ → Command) (slot : ℕ) (t : Transfer) (past : History) (k : Ledger) → issued slot past ≡ None → Same commands past k
+    → Same commands (Issued slot t ∷ past) k
 issue_one commands slot t past k free same =
     same_map (with_command commands slot (commands slot)) commands (Issued slot t ∷ past) k (λ s. own_command commands slot s (eqb slot s) refl)
     (same_goes_on.issues commands slot (commands slot) t past k free (same.tags slot) same)
 
 -- the map may name another command where none is issued
-same_named : (commands next : ℕ → Command) (past : History) (k : Ledger) → ((s : ℕ) → (next s).tag ≡ s) → ((s : ℕ) (t : Transfer) → issued s past ≡ Some t → next s ≡ commands s) → Same commands past k → Same next past k
+same_named : (commands next : ℕ → Command) (past : History) (k : Ledger) → ((s : ℕ) → (next s).tag ≡ s)
+    → ((s : ℕ) (t : Transfer) → issued s past ≡ Some t → next s ≡ commands s) → Same commands past k → Same next past k
 same_named commands next past k tags names same = record {
   fine = same.fine;
   tags = tags;
@@ -71,7 +56,8 @@ same_named commands next past k tags names same = record {
   talk = same.talk;
 }
 
-module _ (memory : Memory) (asks : ℕ → Option issued_command.Command) (commands : ℕ → Command) (past : History) (k : Ledger) (free : (s : ℕ) → s < 32 → is_some (asks s) ≡ true → issued s past ≡ None) where
+module _ (memory : Memory) (asks : ℕ → Option issued_command.Command) (commands : ℕ → Command) (past : History) (k : Ledger) (free : (s : ℕ) → s < 32
+    → is_some (asks s) ≡ true → issued s past ≡ None) where
   later_slot : (m s : ℕ) → suc m ≤ s → eqb m s ≡ false
   later_slot m s above = elim (cases_Bool (eqb m s)) [
     | inl is ↦ let same : m ≡ s = eqb-true m s is in absurd (omega (arith, same, above))
@@ -86,10 +72,12 @@ module _ (memory : Memory) (asks : ℕ → Option issued_command.Command) (comma
   above zero s lt = refl
   above (suc m) s lt = above_one m s (asks m) (history_below memory asks past m) lt ∙ above m s (omega (arith, lt))
 
-  one_more : (m : ℕ) (o : Option issued_command.Command) → m < 32 → asks m ≡ o → Same commands (history_below memory asks past m) k → Same commands (with_issued memory m o (history_below memory asks past m)) k
+  one_more : (m : ℕ) (o : Option issued_command.Command) → m < 32 → asks m ≡ o → Same commands (history_below memory asks past m) k
+      → Same commands (with_issued memory m o (history_below memory asks past m)) k
   one_more m None lt is same = same
   one_more m (Some command) lt is same =
-      issue_one commands m (transfer_of memory command) (history_below memory asks past m) k (above m m (omega arith) ∙ free m lt (ap is_some is)) same
+      issue_one commands m (transfer_of memory command) (history_below memory asks past m) k (above m m (omega arith)
+      ∙ free m lt (ap is_some is)) same
 
   same_below : (m : ℕ) → m ≤ 32 → Same commands past k → Same commands (history_below memory asks past m) k
   same_below zero lt same = same
@@ -97,7 +85,8 @@ module _ (memory : Memory) (asks : ℕ → Option issued_command.Command) (comma
 
   -- ---- what was sent
 
-  unsent_one : (m s : ℕ) (o : Option issued_command.Command) (h : History) (b : Bool) → eqb m s ≡ b → asks m ≡ o → is_some (asks s) ≡ true → (b ≡ false → is_sent s h ≡ false) → is_sent s (with_issued memory m o h) ≡ false
+  unsent_one : (m s : ℕ) (o : Option issued_command.Command) (h : History) (b : Bool) → eqb m s ≡ b → asks m ≡ o → is_some (asks s) ≡ true
+      → (b ≡ false → is_sent s h ≡ false) → is_sent s (with_issued memory m o h) ≡ false
   unsent_one m s None h true is none some before =
       let at : asks s ≡ None = ap asks (sym (eqb-true m s is)) ∙ none in
       absurd (true≢false (sym some ∙ ap is_some at))
@@ -116,7 +105,8 @@ module _ (memory : Memory) (asks : ℕ → Option issued_command.Command) (comma
         | inr at ↦ let same : m ≡ s = omega (arith, lt, at) in absurd (true≢false (sym (eq-eqb m s same) ∙ other))
       ]
 
-  as_sent_one : (m s : ℕ) (o : Option issued_command.Command) (h : History) (b : Bool) → eqb m s ≡ b → asks m ≡ o → asks s ≡ None → is_sent s (with_issued memory m o h) ≡ is_sent s h
+  as_sent_one : (m s : ℕ) (o : Option issued_command.Command) (h : History) (b : Bool) → eqb m s ≡ b → asks m ≡ o → asks s ≡ None
+      → is_sent s (with_issued memory m o h) ≡ is_sent s h
   as_sent_one m s None h b is here none = refl
   as_sent_one m s (Some command) h true is here none =
       let at : Some command ≡ None = sym here ∙ ap asks (eqb-true m s is) ∙ none in
@@ -130,7 +120,9 @@ module _ (memory : Memory) (asks : ℕ → Option issued_command.Command) (comma
   as_sent zero s none = refl
   as_sent (suc m) s none = as_sent_one m s (asks m) (history_below memory asks past m) (eqb m s) refl refl none ∙ as_sent m s none
 
-  sent_with : (dev s : ℕ) (i : Issue) (o : Option issued_command.Command) (old : Option Issue) → s < 32 → asks s ≡ o → ((j : Issue) → old ≡ Some j → is_sent s past ≡ j.sent) → issue_with dev o old ≡ Some i → is_sent s (history_below memory asks past 32) ≡ i.sent
+  sent_with : (dev s : ℕ) (i : Issue) (o : Option issued_command.Command) (old : Option Issue) → s < 32 → asks s ≡ o
+      → ((j : Issue) → old ≡ Some j → is_sent s past ≡ j.sent) → issue_with dev o old ≡ Some i
+      → is_sent s (history_below memory asks past 32) ≡ i.sent
   sent_with dev s i None old lt is before there = as_sent 32 s is ∙ before i there
   sent_with dev s i (Some command) old lt is before there =
       let one : new_issue dev command.work ≡ i = cc there in
@@ -149,10 +141,12 @@ none_asked None p t free there = refl
 none_asked (Some command) p t free there = absurd (some_issued p t (free refl) there)
 
 -- the view of the device for which commands are issued
-view_issued_is : (n value : ℕ) (port : Port) (memory : Memory) → port.registers.chosen ≡ n → view_after Ci port memory value n ≡ view_issued port.registers memory value (view_of n port)
+view_issued_is : (n value : ℕ) (port : Port) (memory : Memory) → port.registers.chosen ≡ n
+    → view_after Ci port memory value n ≡ view_issued port.registers memory value (view_of n port)
 unfolding view_after
 view_issued_is n value port memory chosen =
-    ap (λ (b : Bool). if b then view_issued port.registers memory value (view_of n port) else view_of n port) (eq-eqb n port.registers.chosen (sym chosen))
+    ap (λ (b : Bool). if b then view_issued port.registers memory value (view_of n port) else view_of n port)
+    (eq-eqb n port.registers.chosen (sym chosen))
 
 pub joins_issues : JoinsIssues
 joins_issues n value host new commands next past k sound below chosen does tags names joined =
@@ -162,28 +156,40 @@ joins_issues n value host new commands next past k sound below chosen does tags 
     let owns : IsOwn n v.slots = is_own n host.port.slots sound.slots in
     let long = sound.slots.slots in
     let free : (s : ℕ) → s < 32 → is_some (asked host.port.registers host.memory value s) ≡ true → issued s past ≡ None =
-    λ s lt some. none_where (issued s past) (joined.history.issued s ∙ ap (option_map work_of_issue) (own_at n host.port.slots s (omega (arith, lt, long)) ∙ ap (owned_by n) (asked_free host.port host.memory value s does.0 lt some))) in
+    λ s lt some. none_where (issued s past) (joined.history.issued s
+    ∙ ap (option_map work_of_issue) (own_at n host.port.slots s (omega (arith, lt, long))
+    ∙ ap (owned_by n) (asked_free host.port host.memory value s does.0 lt some))) in
     let named : Same next past k = same_named commands next past k tags (λ s t there.
     let at = there_by v.slots s t (own_issue v.slots s) refl (sym (ap (option_map work_of_transfer) there) ∙ joined.history.issued s) in
-    names s (none_asked (asked host.port.registers host.memory value s) (issued s past) t (free s (own_below n s v.slots at.issue owns at.there)) there)) joined.same in
+    names s (none_asked (asked host.port.registers host.memory value s) (issued s past) t
+    (free s (own_below n s v.slots at.issue owns at.there)) there)) joined.same in
     let touch_is : own n (touched host (Wrote Ci value)) ++ past ≡ history_below host.memory (asked host.port.registers host.memory value) past 32 =
-    ap (λ (d : ℕ). own n (issued_below d host.memory (asked host.port.registers host.memory value) 32) ++ past) chosen ∙ own_below_is n host.memory (asked host.port.registers host.memory value) past 32 in
+    ap (λ (d : ℕ). own n (issued_below d host.memory (asked host.port.registers host.memory value) 32) ++ past) chosen
+    ∙ own_below_is n host.memory (asked host.port.registers host.memory value) past 32 in
     let view_is : view_of n new.port ≡ view_issued host.port.registers host.memory value v =
     does.1.views n (omega (arith, below)) ∙ view_issued_is n value host.port host.memory chosen in
     record {
       history = step n host sound past joined.history (Wrote Ci value) new (omega (arith, below)) tt does;
-      same = subst (λ (h : History). Same next h k) (sym touch_is) (same_below host.memory (asked host.port.registers host.memory value) next past k free 32 (omega arith) named);
+      same =
+          subst (λ (h : History). Same next h k) (sym touch_is)
+          (same_below host.memory (asked host.port.registers host.memory value) next past k free 32 (omega arith) named);
       sent = λ s i there.
-          let here : own_issue (issued_slots host.port.registers.chosen (asked host.port.registers host.memory value) v.slots) s ≡ Some i = sym (ap (λ (w : DeviceView). own_issue w.slots s) view_is) ∙ there in
+          let here : own_issue (issued_slots host.port.registers.chosen (asked host.port.registers host.memory value) v.slots) s ≡ Some i =
+          sym (ap (λ (w : DeviceView). own_issue w.slots s) view_is) ∙ there in
           let by_slot : issue_below host.port.registers.chosen (asked host.port.registers host.memory value) (own_issue v.slots) 32 s ≡ Some i =
-          sym (ap (λ (f : ℕ → Option Issue). f s) (own_issued host.port.registers.chosen (asked host.port.registers host.memory value) v.slots 32 owns.long)) ∙ here in
+          sym (ap (λ (f : ℕ → Option Issue). f s)
+          (own_issued host.port.registers.chosen (asked host.port.registers host.memory value) v.slots 32 owns.long)) ∙ here in
           ap (is_sent s) touch_is ∙ elim (cases_lt s 32) [
             | inl lt ↦
-                let with_it = sym (ap (λ (b : Bool). if b then issue_with host.port.registers.chosen (asked host.port.registers host.memory value s) (own_issue v.slots s) else own_issue v.slots s) (lt-ltb s 32 lt)) ∙ by_slot in
-                sent_with host.memory (asked host.port.registers host.memory value) next past k free host.port.registers.chosen s i (asked host.port.registers host.memory value s) (own_issue v.slots s) lt refl (λ j old. joined.sent s j old) with_it
+                let with_it =
+                sym (ap (λ (b : Bool). if b then issue_with host.port.registers.chosen (asked host.port.registers host.memory value s)
+                (own_issue v.slots s) else own_issue v.slots s) (lt-ltb s 32 lt)) ∙ by_slot in
+                sent_with host.memory (asked host.port.registers host.memory value) next past k free host.port.registers.chosen s i
+                (asked host.port.registers host.memory value s) (own_issue v.slots s) lt refl (λ j old. joined.sent s j old) with_it
             | inr ge ↦
                 let old : own_issue v.slots s ≡ Some i =
-                sym (ap (λ (b : Bool). if b then issue_with host.port.registers.chosen (asked host.port.registers host.memory value s) (own_issue v.slots s) else own_issue v.slots s) (le-ltb s 32 ge)) ∙ by_slot in
+                sym (ap (λ (b : Bool). if b then issue_with host.port.registers.chosen (asked host.port.registers host.memory value s)
+                (own_issue v.slots s) else own_issue v.slots s) (le-ltb s 32 ge)) ∙ by_slot in
                 let lt : s < 32 = own_below n s v.slots i owns old in
                 absurd (omega (arith, lt, ge))
           ];

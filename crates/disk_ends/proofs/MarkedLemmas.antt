@@ -1,6 +1,6 @@
 -- The ledger hears the same of a frame and of the marked one.
-use Rattle.std.proofs.Common.{◌≡◌, ◌==◌, ℕ, ◌%◌, ◌<◌, ◌≤◌, Bool, true, false, List, [], ◌∷◌, drop, length, refl, sym, ap, subst, ◌∙◌, Option, Some, None, Ok, Err, Result}
-use Rattle.std.specs.Prelude.{◌≢◌, if◌then◌else◌, find}
+use Rattle.std.proofs.Common.{◌≡◌, ◌==◌, ℕ, ◌%◌, ◌<◌, ◌≤◌, Bool, true, false, List, [], ◌∷◌, length, refl, sym, ap, subst, ◌∙◌, Option, Some, None, Ok, Err, Result}
+use Rattle.std.specs.Prelude.{if◌then◌else◌, find}
 use Rattle.fis_view.specs.Frames.{IsFrame, marked}
 use Rattle.fis_view.specs.Marks.{IsMarked}
 use Rattle.fis_view.specs.Table.{Activate, Bits, BufferId, C, D2h, H2d, Kind, Name, Other, Pio, PmPort, SActive, Setup, field}
@@ -13,10 +13,9 @@ use Rattle.fis_view.specs.declared.view.FisFault.TheVariants.{WrongLength}
 use Rattle.fis_view.proofs.MarkLemmas.{is_marked}
 use Rattle.disk_model.specs.declared.request.Command.{Command}
 use Rattle.disk_model.specs.declared.request.Request.{Request}
-use Rattle.disk_model.specs.Ends.{DataAsked, Fits, FitsData, FitsRequest, IsRight, PageAsked}
-use Rattle.disk_model.specs.Histories.{Received, Sent}
-use Rattle.disk_model.specs.Laws.{Answers, AnswersFirst, CarriesRight, IsRegister, MovesRight, SetsUpNext, SetsUpRight, ShowsFirst, StartsOne}
-use Rattle.disk_model.specs.Ledger.{Accepts, AnswersOne, Finishes, Ledger, Moving, Names, Refuses, Reply, ShowsPage, Signs, Stretch, answers, asks, has_error, listens, listens_down, listens_up, sends_data, sets_up, takes_data}
+use Rattle.disk_model.specs.Ends.{Fits, FitsData, FitsRequest, IsRight}
+use Rattle.disk_model.specs.Laws.{AnswersFirst, CarriesRight, IsRegister, SetsUpNext, SetsUpRight, ShowsFirst, StartsOne}
+use Rattle.disk_model.specs.Ledger.{Accepts, Finishes, Ledger, Moving, Names, Refuses, Reply, ShowsPage, Signs, Stretch, answers, asks, has_error, listens_down, listens_up, sends_data, sets_up, takes_data}
 use Rattle.disk_model.specs.Requests.{request_of}
 use Rattle.disk_ends.specs.Joined.{IsShort}
 use Rattle.disk_ends.specs.Marked.{IsHeardAlike, MarksTellNothing}
@@ -80,7 +79,8 @@ module _ (k : Ledger) (old new : List ℕ) (port : ℕ) (m : IsMarked port old n
   same_show (Accepts ∷ xs) shows = absurd shows
   same_show (Finishes ∷ xs) shows = absurd shows
   same_show (Refuses ∷ xs) shows = absurd shows
-  same_show (ShowsPage ∷ xs) shows = (same_register Pio 1 0x58 0 0 shows.0, m.fields Pio table.D (λ e. cc e) ∙ shows.1, m.fields Pio table.Transfer (λ e. cc e) ∙ shows.2)
+  same_show (ShowsPage ∷ xs) shows =
+      (same_register Pio 1 0x58 0 0 shows.0, m.fields Pio table.D (λ e. cc e) ∙ shows.1, m.fields Pio table.Transfer (λ e. cc e) ∙ shows.2)
 
   alike_pio : IsAlike (Ok (view.PioSetup old)) (Ok (view.PioSetup new))
   alike_pio = record {
@@ -96,7 +96,9 @@ module _ (k : Ledger) (old new : List ℕ) (port : ℕ) (m : IsMarked port old n
 
   alike_bits : IsAlike (Ok (view.SetBits old)) (Ok (view.SetBits new))
   alike_bits = record {
-    up = ap (λ (b : Bool). answers k (field Bits table.Error new) b) same_error ∙ ap (λ (n : ℕ). answers k n (has_error old)) (m.fields Bits table.Error (λ e. cc e));
+    up =
+        ap (λ (b : Bool). answers k (field Bits table.Error new) b) same_error
+        ∙ ap (λ (n : ℕ). answers k n (has_error old)) (m.fields Bits table.Error (λ e. cc e));
     down = refl;
     right = λ right. record {
       moves = tt;
@@ -130,7 +132,8 @@ module _ (k : Ledger) (old new : List ℕ) (port : ℕ) (m : IsMarked port old n
   same_setup : (v : Option Moving) → SetsUpRight k v old → SetsUpRight k v new
   same_setup None right =
       let tag = m.fields Setup BufferId (λ e. cc e) in
-      subst (λ (n : ℕ). StartsOne (find (λ c. c.tag == n) k.outstanding) new) (sym tag) (same_start (find (λ c. c.tag == field Setup BufferId old) k.outstanding) right)
+      subst (λ (n : ℕ). StartsOne (find (λ c. c.tag == n) k.outstanding) new) (sym tag)
+      (same_start (find (λ c. c.tag == field Setup BufferId old) k.outstanding) right)
   same_setup (Some v) right = (right.0, same_next v.command v.moved v.setups right.1)
 
   alike_setup : IsAlike (Ok (view.DmaSetup old)) (Ok (view.DmaSetup new))
@@ -162,7 +165,15 @@ module _ (k : Ledger) (old new : List ℕ) (port : ℕ) (m : IsMarked port old n
   alike_data = record {
     up = ap (λ (bytes : List ℕ). sends_data k k.moving bytes) m.payload;
     down = ap (λ (bytes : List ℕ). takes_data k k.moving bytes) m.payload;
-    right = λ right. record { moves = subst (λ (bytes : List ℕ). CarriesRight k.moving bytes) (sym m.payload) right.moves; answers = tt; replies = tt; asked = right.asked; fine = refl };
+    right =
+        λ right. record {
+          moves = subst (λ (bytes : List ℕ). CarriesRight k.moving bytes)
+              (sym m.payload) right.moves;
+          answers = tt;
+          replies = tt;
+          asked = right.asked;
+          fine = refl;
+        };
     fits = λ fits. subst (λ (bytes : List ℕ). FitsData k.moving bytes) (sym m.payload) fits;
     short = λ few. tt;
   }
@@ -186,7 +197,8 @@ module _ (k : Ledger) (old new : List ℕ) (port : ℕ) (m : IsMarked port old n
   alike_kind Bits = alike_bits
   alike_kind Other = alike_other
 
-  alike_by : (b : Bool) (kind : Kind) → IsAlike (if b then Ok (view_as kind old) else Err WrongLength) (if b then Ok (view_as kind new) else Err WrongLength)
+  alike_by : (b : Bool) (kind : Kind)
+      → IsAlike (if b then Ok (view_as kind old) else Err WrongLength) (if b then Ok (view_as kind new) else Err WrongLength)
   alike_by true kind = alike_kind kind
   alike_by false kind = record {
     up = refl;
@@ -203,7 +215,8 @@ module _ (k : Ledger) (old new : List ℕ) (port : ℕ) (m : IsMarked port old n
   heard_alike : IsHeardAlike k old new
   heard_alike =
       let b : Bool = may_have (kind_of old) (length old) in
-      let a : IsAlike (if may_have (kind_of old) (length old) then Ok (view_as (kind_of old) old) else Err WrongLength) (if may_have (kind_of old) (length old) then Ok (view_as (kind_of old) new) else Err WrongLength) =
+      let a : IsAlike (if may_have (kind_of old) (length old) then Ok (view_as (kind_of old) old) else Err WrongLength)
+      (if may_have (kind_of old) (length old) then Ok (view_as (kind_of old) new) else Err WrongLength) =
       alike_by (may_have (kind_of old) (length old)) (kind_of old) in
       record {
         up = ap (listens_up k) m.view ∙ a.up ∙ sym (ap (listens_up k) seen_old);
@@ -234,7 +247,8 @@ bits_by table.Data true old new g e = absurd (cc e)
 bits_by Pio true old new g e = absurd (cc e)
 bits_by Other true old new g e = absurd (cc e)
 
-pub bits_of_marked : (port : ℕ) (old g : List ℕ) → IsFrame old → port < 16 → seen (marked old port) ≡ Ok (view.SetBits g) → IsMarkedBits old (marked old port) g
+pub bits_of_marked : (port : ℕ) (old g : List ℕ) → IsFrame old → port < 16 → seen (marked old port) ≡ Ok (view.SetBits g)
+    → IsMarkedBits old (marked old port) g
 unfolding seen
 bits_of_marked port old g frame below is =
     let m : IsMarked port old (marked old port) = is_marked old port frame below in

@@ -60,7 +60,8 @@ unset_issue slot t past free u =
     }
 
 -- it waits on where an event does not complete it
-pub waited_on : (q : Bool) (past later : History) (w : IsWaited q past) (test : Transfer → Bool) → waiting_in later ≡ waiting_in past → issued w.slot later ≡ Stays (issued w.slot past) test → test w.transfer ≡ false → IsWaited q later
+pub waited_on : (q : Bool) (past later : History) (w : IsWaited q past) (test : Transfer → Bool) → waiting_in later ≡ waiting_in past
+    → issued w.slot later ≡ Stays (issued w.slot past) test → test w.transfer ≡ false → IsWaited q later
 waited_on q past later w test waits issued_is going = record {
   slot = w.slot;
   transfer = w.transfer;
@@ -69,7 +70,8 @@ waited_on q past later w test waits issued_is going = record {
   there = issued_is ∙ ap (λ (o : Option Transfer). Stays o test) w.there ∙ ap (λ (b : Bool). unless b (Some w.transfer)) going;
 }
 
-waited_sent : (q : Bool) (slot : ℕ) (t : Transfer) (past : History) → issued slot past ≡ Some t → is_queued t.work.kind ≡ q → IsWaited q (Sent slot ∷ past)
+waited_sent : (q : Bool) (slot : ℕ) (t : Transfer) (past : History) → issued slot past ≡ Some t → is_queued t.work.kind ≡ q
+    → IsWaited q (Sent slot ∷ past)
 waited_sent q slot t past there kind =
     record { slot = slot; transfer = t; kind = kind; waits = refl; there = ap (λ (o : Option Transfer). match_some o None (λ u. Some u)) there }
 
@@ -97,7 +99,8 @@ none_left (p ∷ q ∷ ps) few = absurd few
 
 -- ## Commands
 
-own_issue : (reply : Reply) (slot : ℕ) (t : Transfer) (past : History) → issued slot past ≡ None → IsOwnReply reply past → IsOwnReply reply (Issued slot t ∷ past)
+own_issue : (reply : Reply) (slot : ℕ) (t : Transfer) (past : History) → issued slot past ≡ None → IsOwnReply reply past
+    → IsOwnReply reply (Issued slot t ∷ past)
 own_issue Signs slot t past free own = tt
 own_issue Accepts slot t past free own = own
 own_issue Finishes slot t past free own = waited_issue false slot t past free own
@@ -115,11 +118,13 @@ pub record IsQuiet (k : Ledger) : Type 0 where
   pub awaited : k.awaited ≡ []
   pub pages : k.pages ≡ []
 
-quiet_queue : (past : History) (k : Ledger) (xs : List Reply) → k.awaited ≡ xs → NothingWaits past → (k.awaited ≢ [] → IsWaited true past) → k.pages ≡ [] → IsQuiet k
+quiet_queue : (past : History) (k : Ledger) (xs : List Reply) → k.awaited ≡ xs → NothingWaits past → (k.awaited ≢ [] → IsWaited true past)
+    → k.pages ≡ [] → IsQuiet k
 quiet_queue past k [] is nothing waits none = record { awaited = is; pages = none }
 quiet_queue past k (x ∷ xs) is nothing waits none = absurd (one_waits true past (waits (λ empty. cc (sym empty ∙ is))) nothing)
 
-quiet_reply : (past : History) (k : Ledger) (reply : Reply) → k.awaited ≡ reply ∷ [] → NothingWaits past → k.awaited ≢ Signs ∷ [] → IsOwnReply reply past → IsQuiet k
+quiet_reply : (past : History) (k : Ledger) (reply : Reply) → k.awaited ≡ reply ∷ [] → NothingWaits past → k.awaited ≢ Signs ∷ []
+    → IsOwnReply reply past → IsQuiet k
 quiet_reply past k Signs is nothing signed own = absurd (signed is)
 quiet_reply past k Accepts is nothing signed own = absurd own
 quiet_reply past k Finishes is nothing signed own = absurd (one_waits false past own nothing)
@@ -132,39 +137,51 @@ quiet past k nothing signed (Replies reply idle is own none) = quiet_reply past 
 quiet past k nothing signed (Shows idle is few unset) = absurd (one_waits false past unset.waited nothing)
 quiet past k nothing signed (Pages page idle is one waited) = absurd (one_waits false past waited nothing)
 
-pub talk_queues : (slot : ℕ) (t : Transfer) (c : Command) (past : History) (k : Ledger) → issued slot past ≡ Some t → is_queued t.work.kind ≡ true → IsQuiet k → InTalk (Sent slot ∷ past) (opened k c)
+pub talk_queues : (slot : ℕ) (t : Transfer) (c : Command) (past : History) (k : Ledger) → issued slot past ≡ Some t → is_queued t.work.kind ≡ true
+    → IsQuiet k → InTalk (Sent slot ∷ past) (opened k c)
 talk_queues slot t c past k there queued quiet =
-    Queues (subst (λ (xs : List Reply). AtMostAccepts (xs ++ Accepts ∷ [])) (sym quiet.awaited) tt) (λ some. waited_sent true slot t past there queued) quiet.pages
+    Queues (subst (λ (xs : List Reply). AtMostAccepts (xs ++ Accepts ∷ [])) (sym quiet.awaited) tt)
+    (λ some. waited_sent true slot t past there queued) quiet.pages
 
 one_more : {X : Type 0} (xs : List X) (x : X) → xs ≡ [] → xs ++ x ∷ [] ≡ x ∷ []
 one_more xs x empty = ap (λ ys. ys ++ x ∷ []) empty
 
-talk_shows : (slot : ℕ) (t : Transfer) (past : History) (k x : Ledger) (page : Wanted) → issued slot past ≡ Some t → is_queued t.work.kind ≡ false → is_set_up slot past ≡ false → Rests k
-    → x.outstanding ≡ k.outstanding → x.unanswered ≡ k.unanswered → x.moving ≡ k.moving → x.awaited ≡ k.awaited ++ ShowsPage ∷ [] → x.pages ≡ k.pages ++ page ∷ [] → InTalk (Sent slot ∷ past) x
+talk_shows : (slot : ℕ) (t : Transfer) (past : History) (k x : Ledger) (page : Wanted) → issued slot past ≡ Some t → is_queued t.work.kind ≡ false
+    → is_set_up slot past ≡ false → Rests k
+    → x.outstanding ≡ k.outstanding → x.unanswered ≡ k.unanswered → x.moving ≡ k.moving → x.awaited ≡ k.awaited ++ ShowsPage ∷ []
+    → x.pages ≡ k.pages ++ page ∷ [] → InTalk (Sent slot ∷ past) x
 unfolding waited_sent
 talk_shows slot t past k x page there kind unset rests outstanding unanswered moving awaited pages =
     Shows (record { outstanding = outstanding ∙ rests.outstanding; unanswered = unanswered ∙ rests.unanswered; moving = moving ∙ rests.moving })
     (awaited ∙ one_more k.awaited ShowsPage rests.awaited) (subst AtMostOne (sym (pages ∙ one_more k.pages page rests.pages)) tt)
     (record { waited = waited_sent false slot t past there kind; unset = unset })
 
-talk_replies : (slot : ℕ) (past : History) (k x : Ledger) (reply : Reply) → IsOwnReply reply (Sent slot ∷ past) → Rests k → x.outstanding ≡ k.outstanding → x.unanswered ≡ k.unanswered → x.moving ≡ k.moving
+talk_replies : (slot : ℕ) (past : History) (k x : Ledger) (reply : Reply) → IsOwnReply reply (Sent slot ∷ past) → Rests k
+    → x.outstanding ≡ k.outstanding → x.unanswered ≡ k.unanswered → x.moving ≡ k.moving
     → x.awaited ≡ k.awaited ++ reply ∷ [] → x.pages ≡ k.pages → InTalk (Sent slot ∷ past) x
 talk_replies slot past k x reply own rests outstanding unanswered moving awaited pages =
     Replies reply (record { outstanding = outstanding ∙ rests.outstanding; unanswered = unanswered ∙ rests.unanswered; moving = moving ∙ rests.moving })
     (awaited ∙ one_more k.awaited reply rests.awaited) own (pages ∙ rests.pages)
 
-pub talk_asks : (slot : ℕ) (t : Transfer) (request : Request) (past : History) (k : Ledger) → issued slot past ≡ Some t → is_queued t.work.kind ≡ false → is_set_up slot past ≡ false → IsAlone request → FitsRequest k request → InTalk (Sent slot ∷ past) (alone k request)
+pub talk_asks : (slot : ℕ) (t : Transfer) (request : Request) (past : History) (k : Ledger) → issued slot past ≡ Some t
+    → is_queued t.work.kind ≡ false → is_set_up slot past ≡ false → IsAlone request → FitsRequest k request
+    → InTalk (Sent slot ∷ past) (alone k request)
 talk_asks slot t (asked.Reset on) past k there kind unset one fits = absurd fits
 talk_asks slot t (asked.Queue c) past k there kind unset one fits = absurd one
-talk_asks slot t asked.ReadErrorLog past k there kind unset one fits = talk_shows slot t past k (alone k asked.ReadErrorLog) (LogOf k.failure) there kind unset fits refl refl refl refl refl
-talk_asks slot t asked.Identify past k there kind unset one fits = talk_shows slot t past k (alone k asked.Identify) IdentifyData there kind unset fits refl refl refl refl refl
-talk_asks slot t asked.Flush past k there kind unset one fits = talk_replies slot past k (alone k asked.Flush) Finishes (waited_sent false slot t past there kind) fits refl refl refl refl refl
-talk_asks slot t asked.Other past k there kind unset one fits = talk_replies slot past k (alone k asked.Other) Refuses (waited_sent false slot t past there kind) fits refl refl refl refl refl
+talk_asks slot t asked.ReadErrorLog past k there kind unset one fits =
+    talk_shows slot t past k (alone k asked.ReadErrorLog) (LogOf k.failure) there kind unset fits refl refl refl refl refl
+talk_asks slot t asked.Identify past k there kind unset one fits =
+    talk_shows slot t past k (alone k asked.Identify) IdentifyData there kind unset fits refl refl refl refl refl
+talk_asks slot t asked.Flush past k there kind unset one fits =
+    talk_replies slot past k (alone k asked.Flush) Finishes (waited_sent false slot t past there kind) fits refl refl refl refl refl
+talk_asks slot t asked.Other past k there kind unset one fits =
+    talk_replies slot past k (alone k asked.Other) Refuses (waited_sent false slot t past there kind) fits refl refl refl refl refl
 
 -- ## FISes of the disk
 
 -- one that no disk sends where no queued command is there leaves the answers as they are
-pub talk_stays : (past later : History) (k x : Ledger) → x.awaited ≡ k.awaited → x.pages ≡ k.pages → (IsIdle k → ⊥) → (IsWaited true past → IsWaited true later) → InTalk past k → InTalk later x
+pub talk_stays : (past later : History) (k x : Ledger) → x.awaited ≡ k.awaited → x.pages ≡ k.pages → (IsIdle k → ⊥)
+    → (IsWaited true past → IsWaited true later) → InTalk past k → InTalk later x
 talk_stays past later k x awaited pages busy on (Queues few waits none) =
     Queues (subst AtMostAccepts (sym awaited) few) (λ some. on (waits (λ empty. some (awaited ∙ empty)))) (pages ∙ none)
 talk_stays past later k x awaited pages busy on (Replies reply idle is own none) = absurd (busy idle)
@@ -212,14 +229,18 @@ shows_idle f past k right (Pages page idle is one waited) = idle
 waited_setup : (count ends : ℕ) (to_host : Bool) (past : History) → IsWaited false past → IsWaited false (PioSetUp count to_host ends ∷ past)
 waited_setup count ends to_host past w = waited_on false past (PioSetUp count to_host ends ∷ past) w (λ t. false) refl refl refl
 
-shows_page : (count ends : ℕ) (to_host : Bool) (past : History) (k : Ledger) (ps : List Wanted) → k.pages ≡ ps → AtMostOne ps → IsIdle k → k.awaited ≡ ShowsPage ∷ [] → IsWaited false past → InTalk (PioSetUp count to_host ends ∷ past) (answered k)
-shows_page count ends to_host past k [] pages few idle is waited = done_talking (PioSetUp count to_host ends ∷ past) (answered k) (none_after k.awaited ShowsPage is) pages
+shows_page : (count ends : ℕ) (to_host : Bool) (past : History) (k : Ledger) (ps : List Wanted) → k.pages ≡ ps → AtMostOne ps → IsIdle k
+    → k.awaited ≡ ShowsPage ∷ [] → IsWaited false past → InTalk (PioSetUp count to_host ends ∷ past) (answered k)
+shows_page count ends to_host past k [] pages few idle is waited =
+    done_talking (PioSetUp count to_host ends ∷ past) (answered k) (none_after k.awaited ShowsPage is) pages
 shows_page count ends to_host past k (page ∷ []) pages few idle is waited =
-    Pages page (record { outstanding = idle.outstanding; unanswered = idle.unanswered; moving = idle.moving }) (none_after k.awaited ShowsPage is) pages
+    Pages page (record { outstanding = idle.outstanding; unanswered = idle.unanswered; moving = idle.moving })
+    (none_after k.awaited ShowsPage is) pages
     (waited_setup count ends to_host past waited)
 shows_page count ends to_host past k (page ∷ more ∷ ps) pages few idle is waited = absurd few
 
-pub talk_shown : (f : List ℕ) (count ends : ℕ) (to_host : Bool) (past : History) (k : Ledger) → ShowsFirst k.awaited f → InTalk past k → InTalk (PioSetUp count to_host ends ∷ past) (answered k)
+pub talk_shown : (f : List ℕ) (count ends : ℕ) (to_host : Bool) (past : History) (k : Ledger) → ShowsFirst k.awaited f → InTalk past k
+    → InTalk (PioSetUp count to_host ends ∷ past) (answered k)
 talk_shown f count ends to_host past k right (Queues few waits none) = absurd (shows_none k.awaited f few right)
 talk_shown f count ends to_host past k right (Replies reply idle is own none) = absurd (shown_reply reply past f k is own right)
 talk_shown f count ends to_host past k right (Shows idle is few unset) = shows_page count ends to_host past k k.pages refl few idle is unset.waited
@@ -242,17 +263,22 @@ unfolding waited_on
 unset_data bytes past u =
     let w : IsWaited false past = u.waited in
     record {
-      waited = waited_on false past (Carried bytes ∷ past) w (λ t. completes w.slot (Carried bytes) past t.work) refl refl (not_ended (is_set_up w.slot past) _ _ _ u.unset);
+      waited =
+          waited_on false past (Carried bytes ∷ past) w (λ t. completes w.slot (Carried bytes) past t.work) refl refl
+          (not_ended (is_set_up w.slot past) _ _ _ u.unset);
       unset = u.unset;
     }
 
-pub talk_page : (bytes : List ℕ) (past : History) (k : Ledger) → k.pages ≢ [] → InTalk past k → InTalk (Carried bytes ∷ past) (record k { pages = drop 1 k.pages })
+pub talk_page : (bytes : List ℕ) (past : History) (k : Ledger) → k.pages ≢ [] → InTalk past k
+    → InTalk (Carried bytes ∷ past) (record k { pages = drop 1 k.pages })
 talk_page bytes past k asks (Queues few waits none) = absurd (asks none)
 talk_page bytes past k asks (Replies reply idle is own none) = absurd (asks none)
 talk_page bytes past k asks (Shows idle is few unset) =
     let none : drop 1 k.pages ≡ [] = none_left k.pages few in
-    Shows (record { outstanding = idle.outstanding; unanswered = idle.unanswered; moving = idle.moving }) is (subst AtMostOne (sym none) tt) (unset_data bytes past unset)
-talk_page bytes past k asks (Pages page idle is one waited) = done_talking (Carried bytes ∷ past) (record k { pages = drop 1 k.pages }) is (none_after k.pages page one)
+    Shows (record { outstanding = idle.outstanding; unanswered = idle.unanswered; moving = idle.moving }) is (subst AtMostOne (sym none) tt)
+    (unset_data bytes past unset)
+talk_page bytes past k asks (Pages page idle is one waited) =
+    done_talking (Carried bytes ∷ past) (record k { pages = drop 1 k.pages }) is (none_after k.pages page one)
 
 -- ## What no disk sends where no queued command is there
 

@@ -1,5 +1,5 @@
--- What a FIS of a disk is to the device's history at a host port that hears it and reports nothing wrong (AHCI 1.3.1, 5.3.13,
--- how a port takes each type of FIS; Serial ATA 3.x, 10.5, FIS types).
+-- What a FIS of a disk is to the device's history at a host port that hears it and reports nothing
+-- wrong (AHCI 1.3.1, 5.3.13, how a port takes each type of FIS; Serial ATA 3.x, 10.5, FIS types).
 use Rattle.std.specs.Prelude.{ℕ, ◌≡◌, ◌<◌, false, List, None}
 use Rattle.fis_view.specs.Seen.{seen}
 use Rattle.hba_fbs.specs.declared.report.TakeReport.{TakeReport}
@@ -16,8 +16,10 @@ use Rattle.hba_laws.specs.Hosts.{Host, TakesFrame, Took}
 use Rattle.hba_laws.specs.Sound.{IsHost}
 use Rattle.disk_ends.specs.Together.{IsHeard, Same, told}
 
--- the port hears the frame of a device that is in no software reset, and reports nothing wrong with it
-pub record IsTakenWell (host : Host) (frame : List ℕ) (report : TakeReport) (new : Host) : Type 0 where
+-- the port hears the frame of a device that is in no software reset, and reports nothing wrong with
+-- it
+pub record IsTakenWell (host : Host) (frame : List ℕ) (report : TakeReport)
+    (new : Host) : Type 0 where
   pub takes : TakesFrame host frame report new
   pub steady : (view_of (port_of frame) host.port).state.resetting ≡ false
   pub heard : report.ignored ≡ false
@@ -25,13 +27,17 @@ pub record IsTakenWell (host : Host) (frame : List ℕ) (report : TakeReport) (n
   pub no_stop : report.stopped ≡ None
 
 -- to the history of its device the frame is what it tells, and nothing of it was refused
-pub record IsToldSo (host : Host) (frame : List ℕ) (report : TakeReport) (past : History) : Type 0 where
+pub record IsToldSo (host : Host) (frame : List ℕ) (report : TakeReport)
+    (past : History) : Type 0 where
   pub events : own (port_of frame) (touched host (Took frame report)) ≡ told (seen frame)
   pub heard : IsHeard past (seen frame)
 
--- So it is with each FIS that is right by the ledger, where that and the history say the same of the device.
+-- So it is with each FIS that is right by the ledger, where that and the history say the same of
+-- the device.
 abbrev pub HeardAsTold : Type 0
 HeardAsTold =
-    (host new : Host) (frame : List ℕ) (report : TakeReport) (commands : ℕ → Command) (past : History) (k : Ledger)
-    → IsHost host → port_of frame < 15 → IsTakenWell host frame report new → IsHistoryOf (port_of frame) host past
+    (host new : Host) (frame : List ℕ) (report : TakeReport) (commands : ℕ
+    → Command) (past : History) (k : Ledger)
+    → IsHost host → port_of frame < 15 → IsTakenWell host frame report new
+    → IsHistoryOf (port_of frame) host past
     → Same commands past k → IsRight k (seen frame) → IsToldSo host frame report past
