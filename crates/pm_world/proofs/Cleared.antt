@@ -460,7 +460,7 @@ gives_other n pm frame left below is answers (Answers next there e) = λ port_is
     absurd (omega (arith, below, port_is, control))
 
 up_other : (n : ℕ) (pm : PmState) (upward : Queue) (a : Answer) (left : PmState) (new : Queue) → n < 15 → IsWaiting n pm.registers → ((f : Stamped) → pm.answer ≡ Some f → f.stamp.port ≡ control_port) → PmUpRule pm upward (Ok a) left new
-    → is_up_from n a ≡ false
+    → is_up_from n step.PmUp a ≡ false
 up_other n pm upward answer.Idle left new below is answers acts = refl
 up_other n pm upward answer.Blocked left new below is answers acts = refl
 up_other n pm upward (answer.Up k) left new below is answers acts =
