@@ -1,6 +1,6 @@
 -- A port that told of a new device forwards nothing until bit X of its PSCR[1] is cleared: in each step, and so in each run.
-use Rattle.std.proofs.Common.{◌≡◌, ◌≢◌, ℕ, zero, suc, ◌+◌, ◌*◌, ◌/◌, ◌%◌, ◌^◌, ◌<◌, ◌≤◌, ◌==◌, ◌&&◌, min, max, Bool, true, false, not, if◌then◌else◌, List, [], ◌∷◌, ◌++◌, length, flat_map, take, replicate, Option, Some, None, Ok, get_or, set, refl, sym, ap, subst, ◌∙◌, inl, inr, bit_and, bit_or, arith}
-use Rattle.std.specs.Prelude.{◌⊎◌, ◌||◌, is_none, is_some, nat_lt, MatchOption, MatchBool, slice_index_or}
+use Rattle.std.proofs.Common.{◌≡◌, ◌≢◌, ℕ, zero, suc, ◌+◌, ◌%◌, ◌<◌, ◌==◌, ◌&&◌, min, max, Bool, true, false, not, if◌then◌else◌, List, [], ◌∷◌, ◌++◌, length, flat_map, take, replicate, Option, Some, None, Ok, get_or, set, refl, sym, ap, subst, ◌∙◌, inl, inr, bit_and, bit_or, arith}
+use Rattle.std.specs.Prelude.{◌||◌, is_none, is_some, nat_lt, MatchOption, MatchBool}
 use Rattle.std.specs.Int.{bit_at}
 use Rattle.std.specs.List.{list_any}
 use Rattle.std.proofs.lemmas.Bool.{cases_eq, eqb-true, eq-eqb, ne_eqb}
@@ -18,7 +18,7 @@ use Rattle.pm_control.specs.Answers.{registers_after_request}
 use Rattle.pm_control.specs.Requests.{request_in}
 use Rattle.pm_control.specs.declared.request.Request.{Request}
 use Rattle.pm_control.specs.declared.request.Request.TheVariants.{Read, Write, Unknown, Reset, EndReset}
-use Rattle.pm_ports.specs.Port.{PortState, came_refusal, gone_refusal, rises, with_connection, with_down, with_removal, with_up}
+use Rattle.pm_ports.specs.Port.{PortState, came_refusal, gone_refusal, rises, with_connection, with_removal, with_up}
 use Rattle.multiplier.specs.Passing.{falls}
 use Rattle.multiplier.specs.Rules.{FromHostRule, ToControl, ToDevice, ToNobody, ToPort, with_device as connected, without_device}
 use Rattle.multiplier.specs.State.{PmState, passes_to, pm_port, port_at}
@@ -30,7 +30,7 @@ use Rattle.disk_model.specs.declared.unit.Unit.{Unit}
 use Rattle.pm_world.specs.Cleared.{EachWaits, NewDevicesWait, PassesNone, clears_x, is_cleared, is_up_from}
 use Rattle.pm_world.specs.Downward.{fell_to}
 use Rattle.pm_world.specs.Places.{IsOrderly, Place, Places, Queue, new_world}
-use Rattle.pm_world.specs.Rules.{CameRule, DiskSendRule, DiskTakeRule, GoneRule, InjectRule, OnDevice, Outcome, PmDownRule, PmFromDeviceRule, PmFromHostRule, PmPresenceRule, PmUpRule, Rule, Run, offered, recorded}
+use Rattle.pm_world.specs.Rules.{CameRule, DiskSendRule, DiskTakeRule, GoneRule, InjectRule, OnDevice, Outcome, PmDownRule, PmFromDeviceRule, PmFromHostRule, PmPresenceRule, PmUpRule, Rule, Run, recorded}
 use Rattle.pm_world.specs.declared.link.Change.{Change}
 use Rattle.pm_world.specs.declared.link.Change.TheVariants as change
 use Rattle.pm_world.specs.declared.step.Config.{Config}
@@ -195,7 +195,7 @@ request_waits m n (Some (Read at)) none is = is
 request_waits m n (Some (Write at value)) none is =
     write_keeps Told m n at.port at.register value
     (λ here told. written_told (map.port_at m at.port) at.register value (λ first.
-        x_unshared value (third_fails (at.port == n) (at.register == 1) (shares value bit_x) none (eq-eqb at.port n here) (eq-eqb at.register 1 first))) told) is
+    x_unshared value (third_fails (at.port == n) (at.register == 1) (shares value bit_x) none (eq-eqb at.port n here) (eq-eqb at.register 1 first))) told) is
 request_waits m n (Some Unknown) none is = is
 request_waits m n (Some Reset) none is = is
 request_waits m n (Some EndReset) none is = is

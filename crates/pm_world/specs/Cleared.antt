@@ -1,7 +1,7 @@
 -- What passes the port of a new device: nothing, up or down, until the host has cleared what the port told
 -- of its coming (Serial ATA 3.x, 16.3, port multiplier: presence of a device on a port; 16.4.2: PSCR[1], bit
 -- X, a device was exchanged). A FIS that the host sent before it did so is for the device before.
-use Rattle.std.specs.Prelude.{ℕ, ◌≡◌, ◌≢◌, ◌==◌, ◌&&◌, Bool, false, List, [], ◌∷◌, ◌++◌, take, Option, Some, None}
+use Rattle.std.specs.Prelude.{ℕ, ◌≡◌, ◌≢◌, ◌==◌, ◌&&◌, Bool, false, List, [], ◌∷◌, ◌++◌, take, Option, Some}
 use Rattle.std.specs.List.{list_any}
 use Rattle.fis_view.specs.Frames.{Stamped}
 use Rattle.pm_registers.specs.Bits.{shares}
