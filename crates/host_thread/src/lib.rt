@@ -18,3 +18,6 @@ mod worker;
 pub use end::HostEnd;
 pub use plan::{Ended, Planned, State};
 pub use worker::HostWorker;
+
+#[cfg(test)]
+mod tests;
