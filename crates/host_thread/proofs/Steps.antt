@@ -1,5 +1,5 @@
 -- What one step leaves of a run of the host's worker.
-use Rattle.std.proofs.Common.{◌≡◌, ◌≢◌, ◌<◌, ℕ, zero, suc, List, [], ◌∷◌, ◌++◌, length, map, replicate, Option, Some, None, refl, sym, ap, ◌∙◌, subst, inl, inr, append_assoc, append-nil, arith}
+use Rattle.std.proofs.Common.{◌≡◌, ◌<◌, ℕ, zero, suc, List, [], ◌∷◌, ◌++◌, length, map, replicate, Some, None, refl, sym, ap, ◌∙◌, subst, inl, inr, append_assoc, append-nil, arith}
 use Rattle.std.specs.Prelude.{slice_index_or, slice_set}
 use Rattle.std.specs.List.{Contains, flat_map}
 use Rattle.std.specs.Option.{option_to_list}
@@ -19,7 +19,7 @@ use Rattle.host_thread.specs.declared.plan.Ended.TheVariants as ended
 use Rattle.host_thread.specs.declared.plan.Planned.{Planned}
 use Rattle.host_thread.specs.declared.plan.State.{State}
 use Rattle.host_thread.specs.declared.plan.State.TheVariants as state
-use Rattle.host_thread.specs.Runs.{HostView, IsRun, GoesOn, Same, AreTrue, IsTrue, WasPolled, WasRefused, starting, took_by, pushed_by}
+use Rattle.host_thread.specs.Runs.{HostView, IsRun, GoesOn, Same, AreTrue, IsTrue, WasRefused, starting, took_by, pushed_by}
 
 -- ---- turns, and then turns
 
@@ -129,7 +129,7 @@ module _ (old : HostView) where
       goes_more old new (Pushed (Some frame) ∷ []) (new.host, does, refl)
       (ap (λ s. map (λ f. f.bytes) s.taken) frames ∙ bytes_same)
       (ap (λ s. s.sent ++ option_to_list new.hand) commands ∙ ap (λ h. old.commands.sent ++ option_to_list h) hand
-        ∙ ap (λ l. l ++ frame ∷ []) (sym (append-nil old.commands.sent)) ∙ ap (λ h. (old.commands.sent ++ option_to_list h) ++ frame ∷ []) (sym empty)) plan
+      ∙ ap (λ l. l ++ frame ∷ []) (sym (append-nil old.commands.sent)) ∙ ap (λ h. (old.commands.sent ++ option_to_list h) ++ frame ∷ []) (sym empty)) plan
       (λ start turns all h. subst (λ (s : List State). AreTrue start (turns ++ Pushed (Some frame) ∷ []) old.plan s) (sym states) (keeps (Pushed (Some frame) ∷ []) start turns all h))
 
   -- nothing is done, but a FIS moves from the hand onto its link
@@ -152,7 +152,7 @@ module _ (old : HostView) where
       let turn : HostTurn = Submitted p.dev p.request ticket.0 in
       goes_more old (with_states host (slice_set old.states i (state.Submitted ticket))) (turn ∷ []) (host, does, refl) bytes_same sent_same refl
       (λ start turns all h. all_true_set start (turns ++ turn ∷ []) old.plan old.states i (state.Submitted ticket) (keeps (turn ∷ []) start turns all h)
-        (λ d. subst (λ (o : Planned). IsTrue start (turns ++ turn ∷ []) o (state.Submitted ticket)) (any_default old.plan i q d there) (one_is_there turns turn)))
+      (λ d. subst (λ (o : Planned). IsTrue start (turns ++ turn ∷ []) o (state.Submitted ticket)) (any_default old.plan i q d there) (one_is_there turns turn)))
 
   -- or refused
   pub refuses : (host : Host) (i : ℕ) (q : Planned) (refusal : SubmitError) → i < length old.plan → host ≡ old.host
@@ -161,8 +161,8 @@ module _ (old : HostView) where
   refuses host i q refusal there same refused =
       goes_more old (with_states host (slice_set old.states i (state.Ended (ended.Refused refusal)))) [] same bytes_same sent_same refl
       (λ start turns all h. all_true_set start (turns ++ []) old.plan old.states i (state.Ended (ended.Refused refusal)) (keeps [] start turns all h)
-        (λ d. subst (λ (o : Planned). WasRefused start (turns ++ []) o refusal) (any_default old.plan i q d there)
-          (record { before = turns; rest = []; are = refl; host = old.host; does = all; refused = refused })))
+      (λ d. subst (λ (o : Planned). WasRefused start (turns ++ []) o refusal) (any_default old.plan i q d there)
+      (record { before = turns; rest = []; are = refl; host = old.host; does = all; refused = refused })))
 
   -- a request is polled that is none of the plan
   pub polls_other : (host : Host) (completion : Completion) → Polls old.host completion host → GoesOn old (with_host host)
@@ -175,12 +175,12 @@ module _ (old : HostView) where
   polls host completion i there does is =
       goes_more old (with_states host (slice_set old.states i (state.Ended (ended.Polled completion.outcome)))) (Polled completion ∷ []) (host, does, refl) bytes_same sent_same refl
       (λ start turns all h.
-        let more : List HostTurn = turns ++ Polled completion ∷ [] in
-        let kept : AreTrue start more old.plan old.states = keeps (Polled completion ∷ []) start turns all h in
-        all_true_set start more old.plan old.states i (state.Ended (ended.Polled completion.outcome)) kept (λ d.
-        let p : Planned = slice_index_or old.plan i d in
-        let was : Contains more (Submitted p.dev p.request completion.ticket.0) = subst (λ (t : State). IsTrue start more p t) is (kept.each i d state.Waits there) in
-        record { completion = completion; taken = was; polled = one_is_there turns (Polled completion); ended_so = refl }))
+      let more : List HostTurn = turns ++ Polled completion ∷ [] in
+      let kept : AreTrue start more old.plan old.states = keeps (Polled completion ∷ []) start turns all h in
+      all_true_set start more old.plan old.states i (state.Ended (ended.Polled completion.outcome)) kept (λ d.
+      let p : Planned = slice_index_or old.plan i d in
+      let was : Contains more (Submitted p.dev p.request completion.ticket.0) = subst (λ (t : State). IsTrue start more p t) is (kept.each i d state.Waits there) in
+      record { completion = completion; taken = was; polled = one_is_there turns (Polled completion); ended_so = refl }))
 
 -- ---- a new worker
 

@@ -49,7 +49,15 @@ impl<'a> HostEnd<'a> {
     }
 
     /// The seats and the memory, and the plan with what became of each of its requests. What was taken is in stamped order.
-    pub fn into_parts(self) -> (Rx<'a, ToHost>, Tx<'a, Down>, HostMemory, Vec<Planned>, Vec<State>)
+    pub fn into_parts(
+        self,
+    ) -> (
+        Rx<'a, ToHost>,
+        Tx<'a, Down>,
+        HostMemory,
+        Vec<Planned>,
+        Vec<State>,
+    )
         ensures frames { result.0 ≡ self.entry.frames }
         ensures commands { result.1 ≡ self.entry.commands }
         ensures memory { result.2 ≡ self.entry.host.memory }

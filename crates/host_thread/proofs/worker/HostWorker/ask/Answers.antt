@@ -1,4 +1,4 @@
-use Rattle.std.proofs.Common.{rules, ◌≡◌, Some, None, refl, sym, subst}
+use Rattle.std.proofs.Common.{rules, ◌≡◌, Some, None, refl, subst}
 use Rattle.hba_driver.specs.HostTurns.{Pushes}
 use Rattle.host_thread.specs.Runs.{HostView, GoesOn}
 use Rattle.host_thread.proofs.Steps.{with_host, asks_none, asks_some}

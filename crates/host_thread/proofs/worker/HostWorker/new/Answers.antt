@@ -12,8 +12,7 @@ use Rattle.host_thread.proofs.worker.HostWorker.new.Goals as goal
 pub invariant_of-result : goal.invariant_of-result
 invariant_of-result c =
     let states : c.in_ok-states.states.items ≡ replicate (length c.args.plan.items) Waits = search rules in
-    let rows : c.new-2.result.items ≡ [] = search rules in
-    (
+    let rows : c.new-2.result.items ≡ [] = search rules in (
       record {
         order = subst InStampedOrder (sym c.requires.up) stamped_starts;
         all = ap length states ∙ length-replicate _ _;
