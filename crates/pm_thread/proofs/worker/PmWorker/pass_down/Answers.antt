@@ -12,8 +12,7 @@ invariant_of-self-in-Ok g c =
       pm = c.self.inside.pm;
       ports = c.self.inside.ports.items;
       host = c.self.inside.host;
-      commands =
-          c.self.inside.commands;
+      commands = c.self.inside.commands;
       hand = c.self.inside.hand;
     } in
     let ports = w.ports in
@@ -35,8 +34,7 @@ invariant_of-self-in-Err g c =
       pm = c.self.inside.pm;
       ports = c.self.inside.ports.items;
       host = c.self.inside.host;
-      commands =
-          c.self.inside.commands;
+      commands = c.self.inside.commands;
       hand = c.self.inside.hand;
     } in
     let ports = w.ports in
@@ -62,8 +60,7 @@ returns-in-Ok-clause-links g c =
       pm = c.self.inside.pm;
       ports = c.self.inside.ports.items;
       host = c.self.inside.host;
-      commands =
-          c.self.inside.commands;
+      commands = c.self.inside.commands;
       hand = c.self.inside.hand;
     } in
     let q : PortSeats = record { commands = c.send.new.self; frames = c.port.inside.frames; presence = c.port.inside.presence } in
@@ -73,8 +70,7 @@ returns-in-Ok-clause-links g c =
     let stays : ends_of q ≡ ends_of (record {
       commands = c.port.inside.commands;
       frames = c.port.inside.frames;
-      presence =
-          c.port.inside.presence;
+      presence = c.port.inside.presence;
     }) =
     (λ i. record {
       commands = record { link = link i; room = room i };

@@ -14,8 +14,7 @@ invariant_of-self-2 g c =
       pm = c.self.inside.pm;
       ports = c.self.inside.ports.items;
       host = c.self.inside.host;
-      commands =
-          c.self.inside.commands;
+      commands = c.self.inside.commands;
       hand = c.self.inside.hand;
     } in
     let ports = w.ports in
@@ -39,8 +38,7 @@ returns-clause-links g c =
       pm = c.self.inside.pm;
       ports = c.self.inside.ports.items;
       host = c.self.inside.host;
-      commands =
-          c.self.inside.commands;
+      commands = c.self.inside.commands;
       hand = c.self.inside.hand;
     } in
     let q : PortSeats = record { commands = c.port.inside.commands; frames = c.take.new.self; presence = c.port.inside.presence } in
@@ -50,8 +48,7 @@ returns-clause-links g c =
     let stays : ends_of q ≡ ends_of (record {
       commands = c.port.inside.commands;
       frames = c.port.inside.frames;
-      presence =
-          c.port.inside.presence;
+      presence = c.port.inside.presence;
     }) =
     (λ i. record {
       commands = record { link = c.port.inside.commands.link; room = c.port.inside.commands.room };

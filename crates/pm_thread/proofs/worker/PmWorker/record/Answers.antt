@@ -12,8 +12,7 @@ invariant_of-self-in-Some-Came g c =
       pm = c.self.inside.pm;
       ports = c.self.inside.ports.items;
       host = c.self.inside.host;
-      commands =
-          c.self.inside.commands;
+      commands = c.self.inside.commands;
       hand = c.self.inside.hand;
     } in
     let ports = w.ports in
@@ -35,8 +34,7 @@ invariant_of-self-in-Some-Gone g c =
       pm = c.self.inside.pm;
       ports = c.self.inside.ports.items;
       host = c.self.inside.host;
-      commands =
-          c.self.inside.commands;
+      commands = c.self.inside.commands;
       hand = c.self.inside.hand;
     } in
     let ports = w.ports in
@@ -58,8 +56,7 @@ returns-in-Some-Came-clause-links g c =
       pm = c.self.inside.pm;
       ports = c.self.inside.ports.items;
       host = c.self.inside.host;
-      commands =
-          c.self.inside.commands;
+      commands = c.self.inside.commands;
       hand = c.self.inside.hand;
     } in
     let q : PortSeats = record { commands = c.port.inside.commands; frames = c.port.inside.frames; presence = c.take.new.self } in
@@ -69,8 +66,7 @@ returns-in-Some-Came-clause-links g c =
     let stays : ends_of q ≡ ends_of (record {
       commands = c.port.inside.commands;
       frames = c.port.inside.frames;
-      presence =
-          c.port.inside.presence;
+      presence = c.port.inside.presence;
     }) =
     (λ i. record {
       commands = record { link = c.port.inside.commands.link; room = c.port.inside.commands.room };
@@ -87,8 +83,7 @@ returns-in-Some-Gone-clause-links g c =
       pm = c.self.inside.pm;
       ports = c.self.inside.ports.items;
       host = c.self.inside.host;
-      commands =
-          c.self.inside.commands;
+      commands = c.self.inside.commands;
       hand = c.self.inside.hand;
     } in
     let q : PortSeats = record { commands = c.port.inside.commands; frames = c.port.inside.frames; presence = c.take.new.self } in
@@ -98,8 +93,7 @@ returns-in-Some-Gone-clause-links g c =
     let stays : ends_of q ≡ ends_of (record {
       commands = c.port.inside.commands;
       frames = c.port.inside.frames;
-      presence =
-          c.port.inside.presence;
+      presence = c.port.inside.presence;
     }) =
     (λ i. record {
       commands = record { link = c.port.inside.commands.link; room = c.port.inside.commands.room };
