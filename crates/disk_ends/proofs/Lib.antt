@@ -1,0 +1,16 @@
+pub mod SameLemmas
+pub mod MoveLemmas
+pub mod DataLemmas
+pub mod AnswerLemmas
+pub mod TalkLemmas
+pub mod TogetherLemmas
+pub mod HonestLemmas
+pub mod HeardLemmas
+pub mod JoinLemmas
+pub mod ShortLemmas
+pub mod IssueJoins
+pub mod HostedLemmas
+pub mod SizeLemmas
+pub mod OrderJoins
+pub mod MarkedLemmas
+pub mod ReportLemmas
