@@ -25,7 +25,8 @@ CountsOne port conn old new =
 abbrev pub no_row : Row
 no_row = record { port = 0; conn = 0; count = 0 }
 
--- The rows count what was taken of each connection of a device port. No count is above 2^32, since numbers are below.
+-- The rows count what was taken of each connection of a device port. No count is above 2^32, since
+-- numbers are below.
 pub record AreCounted (rows : List Row) (taken : List Stamped) : Type 0 where
   pub counts : (n c : ℕ) → n < control_port → count_on n c rows ≡ length (of_port n c taken)
   pub few : (n c : ℕ) → count_on n c rows ≤ 2 ^ 32

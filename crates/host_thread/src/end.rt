@@ -48,7 +48,8 @@ impl<'a> HostEnd<'a> {
         self.worker.taken_on(port, conn)
     }
 
-    /// The seats and the memory, and the plan with what became of each of its requests. What was taken is in stamped order.
+    /// The seats and the memory, and the plan with what became of each of its requests. What was
+    /// taken is in stamped order.
     pub fn into_parts(
         self,
     ) -> (

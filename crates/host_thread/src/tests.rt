@@ -67,8 +67,9 @@ fn first_down<R: Wait>(rt: &R, down: &mut Rx<'_, Down>) -> Option<u8> {
     down.take(rt).map(|item| item.0.pm_port())
 }
 
-/// A host with so many reads to do works for ten turns. Answers whether a read is open then, how many FISes were taken of
-/// connection 2 of port 3, and the PM Port of the first FIS that went down.
+/// A host with so many reads to do works for ten turns. Answers whether a read is open then, how
+/// many FISes were taken of connection 2 of port 3, and the PM Port of the first FIS that went
+/// down.
 fn worked<R: Wait>(
     rt: &R,
     alloc: Global,

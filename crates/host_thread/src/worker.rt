@@ -62,7 +62,8 @@ impl<'a> Model for HostWorker<'a> {
 }
 
 impl<'a> HostWorker<'a> {
-    /// A new port and a new driver beside this memory, over links that nothing went over. No request of the plan was taken.
+    /// A new port and a new driver beside this memory, over links that nothing went over. No
+    /// request of the plan was taken.
     pub fn new(
         alloc: Global,
         frames: Rx<'a, ToHost>,
@@ -147,7 +148,8 @@ impl<'a> HostWorker<'a> {
         }
     }
 
-    /// Submits the next request of the plan, where it need not wait. One that is refused for now is tried again.
+    /// Submits the next request of the plan, where it need not wait. One that is refused for now is
+    /// tried again.
     fn submit(&mut self) -> bool
         ensures run { GoesOn self.old self.new }
         ensures same { Same self.old self.new }
