@@ -1,0 +1,2 @@
+pub mod WiredLemmas
+pub mod RunLemmas

@@ -1,0 +1,12 @@
+//! Laws of the two ends of a disk's link in a world. The functions do nothing when they run.
+
+ghost use Rattle.world_ends.specs.Wired.{DisksStayLinked, PluggedIsLinked, RunsStayLinked};
+
+/// What a disk and the host did at their ends of the disk's link, and what is on its way between
+/// them, are linked from the plugging on, and go on to be so at each step of a world and over each
+/// run of it.
+pub fn disks_stay_linked()
+    ensures plugged { PluggedIsLinked }
+    ensures steps { DisksStayLinked }
+    ensures runs { RunsStayLinked }
+{}
