@@ -1,19 +1,16 @@
 -- A disk and the host stay linked over each run of a world.
-use Rattle.std.proofs.Common.{◌≡◌, ◌≢◌, ◌==◌, ◌||◌, ◌⊎◌, eqb, ℕ, ◌+◌, Bool, true, false, List, [], ◌∷◌, ◌++◌, append_assoc, refl, sym, ap, subst, ◌∙◌, inl, inr, Option, Some, None, Ok, Err, map}
-use Rattle.std.specs.Prelude.{if◌then◌else◌, slice_get, slice_set, take, MatchOption, not}
+use Rattle.std.proofs.Common.{◌≡◌, ◌≢◌, ◌==◌, eqb, ℕ, Bool, true, false, List, [], ◌∷◌, ◌++◌, append_assoc, refl, sym, ap, subst, ◌∙◌, inl, inr, Option, Some, None, Ok}
+use Rattle.std.specs.Prelude.{if◌then◌else◌, slice_get, slice_set, MatchOption}
 use Rattle.std.specs.List.{list_any}
-use Rattle.std.proofs.lemmas.Bool.{cases_eq, eq-eqb, eqb-true, or_parts, true≢false}
+use Rattle.std.proofs.lemmas.Bool.{cases_eq, eqb-true, or_parts, true≢false}
 use Rattle.std.proofs.lemmas.List.{append-nil}
-use Rattle.fis_view.specs.Frames.{Stamped}
 use Rattle.fis_view.specs.Seen.{seen}
-use Rattle.multiplier.specs.Arbiter.{control_port}
 use Rattle.multiplier.specs.State.{PmState}
 use Rattle.disk_model.specs.Ends.{begins, reports}
 use Rattle.disk_model.specs.Histories.{Happening, Plugged, Received, Sent}
-use Rattle.pm_world.specs.Downward.{on_down_link}
 use Rattle.pm_world.specs.Laws.{happens}
-use Rattle.pm_world.specs.Places.{IsOrderly, Place, Places, after_sending, with_device, with_multiplier}
-use Rattle.pm_world.specs.Rules.{CameActs, CameRule, DiskSendActs, DiskSendRule, DiskTakeActs, DiskTakeRule, InjectActs, InjectRule, PmDownRule, PmFromDeviceRule, PmPresenceRule, Rule, Run, came_refusal, largest}
+use Rattle.pm_world.specs.Places.{Place, Places, after_sending, with_device, with_multiplier}
+use Rattle.pm_world.specs.Rules.{CameActs, CameRule, DiskSendActs, DiskSendRule, DiskTakeActs, DiskTakeRule, InjectActs, InjectRule, PmDownRule, PmFromDeviceRule, PmPresenceRule, Rule, came_refusal, largest}
 use Rattle.pm_world.specs.Runs.{over}
 use Rattle.pm_world.specs.Traffic.{transit}
 use Rattle.pm_world.specs.declared.step.Step.{Step}
@@ -21,12 +18,11 @@ use Rattle.pm_world.specs.declared.step.Step.TheVariants as step
 use Rattle.pm_world.specs.declared.step.StepError.TheVariants as error
 use Rattle.pm_world.specs.declared.step.Answer.{Answer}
 use Rattle.pm_world.specs.declared.step.Answer.TheVariants as answer
-use Rattle.pm_world.proofs.FallMoves.{Rests, rule_moves_down}
-use Rattle.pm_world.proofs.Law.{nothing_lost}
+use Rattle.pm_world.proofs.FallMoves.{rule_moves_down}
 use Rattle.pm_world.proofs.Lists.{slice_get-set_other, slice_get-set_same}
 use Rattle.pm_world.proofs.Orderly.{orderly_after}
 use Rattle.pm_world.proofs.Steps.{AtBoth, AtDevice, at_both, at_device}
-use Rattle.world_ends.specs.Wired.{AreFine, GoesOn, IsAtHostOver, IsSteady, IsThere, IsWired, PluggedIsLinked, RunsStayLinked, StaysWired, befalls, descending, injects}
+use Rattle.world_ends.specs.Wired.{AreAmong, AreFine, GoesOn, IsSteady, IsThere, IsWired, PluggedIsLinked, RunsStayLinked, StaysWired, befalls, descending, injects}
 use Rattle.world_ends.proofs.WiredLemmas.{disks_stay_linked, one_step, rests_below}
 
 -- ## The unit stays there

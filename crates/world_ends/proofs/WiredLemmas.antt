@@ -1,28 +1,26 @@
 -- A disk and the host stay linked at each step of a world.
-use Rattle.std.proofs.Common.{◌≡◌, ◌≢◌, ◌==◌, ◌&&◌, ◌⊎◌, eqb, ℕ, zero, suc, Bool, true, false, List, [], ◌∷◌, ◌++◌, append_assoc, drop, length, map, refl, sym, ap, subst, ◌∙◌, inl, inr, Option, Some, None, Ok}
+use Rattle.std.proofs.Common.{◌≡◌, ◌≢◌, ◌==◌, ◌&&◌, ◌⊎◌, eqb, ℕ, Bool, true, false, List, [], ◌∷◌, ◌++◌, append_assoc, drop, length, map, refl, sym, ap, subst, ◌∙◌, inl, inr, Option, Some, None, Ok}
 use Rattle.std.specs.Prelude.{if◌then◌else◌, slice_get, take, MatchBool, MatchOption}
 use Rattle.std.specs.List.{flat_map}
-use Rattle.std.proofs.lemmas.Bool.{cases_Bool, cases_eq, eq-eqb, eqb-true, ne_eqb, true≢false}
+use Rattle.std.proofs.lemmas.Bool.{cases_eq, eq-eqb, ne_eqb, true≢false}
 use Rattle.std.proofs.lemmas.List.{append-nil, map-append}
 use Rattle.fis_view.specs.Frames.{Stamped, marked}
-use Rattle.fis_view.specs.Seen.{seen}
 use Rattle.hba_fbs.specs.declared.report.TakeReport.{TakeReport}
 use Rattle.multiplier.specs.Arbiter.{control_port}
-use Rattle.multiplier.specs.Rules.{FromHostRule, ToControl, ToDevice, ToNobody, ToPort}
+use Rattle.multiplier.specs.Rules.{ToControl, ToDevice, ToNobody, ToPort}
 use Rattle.multiplier.specs.State.{PmState, falling, passes_to, pm_port}
-use Rattle.multiplier.specs.declared.multiplier.Passed.{Passed}
 use Rattle.multiplier.specs.declared.multiplier.Passed.TheVariants as passed
-use Rattle.disk_model.specs.Ends.{IsLinked, comes, gives, reports, sends, takes}
+use Rattle.disk_model.specs.Ends.{IsLinked, comes, gives, sends, takes}
 use Rattle.disk_model.specs.Histories.{Happening, Plugged, Received, Sent}
 use Rattle.pm_world.specs.Downward.{falling_to, on_down_link}
 use Rattle.pm_world.specs.Places.{IsOrderly, Places}
-use Rattle.pm_world.specs.Rules.{Rule, Run}
+use Rattle.pm_world.specs.Rules.{Rule}
 use Rattle.pm_world.specs.Traffic.{NothingLost, all_marked, sent_by, taken_by, transit}
 use Rattle.pm_world.specs.declared.step.Step.{Step}
 use Rattle.pm_world.specs.declared.step.Step.TheVariants as step
 use Rattle.pm_world.specs.declared.step.Answer.{Answer}
 use Rattle.pm_world.specs.declared.step.Answer.TheVariants as answer
-use Rattle.pm_world.proofs.FallMoves.{Ends, Goes, Lands, MovesDown, Rests, Starts, rule_moves_down}
+use Rattle.pm_world.proofs.FallMoves.{Ends, Goes, Lands, Rests, Starts, rule_moves_down}
 use Rattle.pm_world.proofs.Law.{nothing_lost}
 use Rattle.pm_world.proofs.Lists.{all_marked-append}
 use Rattle.pm_world.proofs.Steps.{at_both, at_device}
