@@ -14,3 +14,4 @@ pub mod SizeLemmas
 pub mod OrderJoins
 pub mod MarkedLemmas
 pub mod ReportLemmas
+pub mod ElsewhereLemmas

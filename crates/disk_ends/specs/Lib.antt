@@ -7,3 +7,4 @@ pub mod Heard
 pub mod Joined
 pub mod Hosted
 pub mod Marked
+pub mod Elsewhere

@@ -49,52 +49,87 @@ place_of c (Some p) place is there =
     let same : p ≡ place = cc is in
     record { plugged = subst (λ (q : Place). q.plugged ≡ true) same there.0; conn = subst (λ (q : Place). q.conn ≡ c) same there.1 }
 
-written_there : (n c m : ℕ) (devices : List Place) (place after : Place) → slice_get devices m ≡ Some place → (n ≡ m → KeepsPlace place after) → IsPlugged c (slice_get devices n) → IsPlugged c (slice_get (slice_set devices m after) n)
+written_there : (n c m : ℕ) (devices : List Place) (place after : Place) → slice_get devices m ≡ Some place → (n ≡ m → KeepsPlace place after)
+    → IsPlugged c (slice_get devices n) → IsPlugged c (slice_get (slice_set devices m after) n)
 written_there n c m devices place after is keeps there = elim (cases_eq n m) [
   | inl same ↦
       let p : IsPlace c (slice_get devices n) place = place_of c (slice_get devices n) place (ap (slice_get devices) same ∙ is) there in
       let k : KeepsPlace place after = keeps same in
-      subst (IsPlugged c) (sym (ap (slice_get (slice_set devices m after)) same ∙ slice_get-set_same devices m place after is)) (k.plugged ∙ p.plugged, k.conn ∙ p.conn)
+      subst (IsPlugged c) (sym (ap (slice_get (slice_set devices m after)) same ∙ slice_get-set_same devices m place after is)) (
+        k.plugged
+            ∙ p.plugged,
+        k.conn ∙ p.conn,
+      )
   | inr other ↦ subst (IsPlugged c) (sym (slice_get-set_other devices m n after other)) there
 ]
 
 keeps_send : (m : ℕ) (old : Place) (a : Answer) (new : Place) → DiskSendActs m old a new → KeepsPlace old new
 keeps_send m old answer.Idle new acts = same_place old new acts.1
 keeps_send m old answer.Blocked new acts = same_place old new acts.2
-keeps_send m old (answer.Sent p conn number bytes) new acts = let is : new ≡ after_sending m old bytes new.unit = acts.5 in record { plugged = ap (λ (p : Place). p.plugged) is; conn = ap (λ (p : Place). p.conn) is }
+keeps_send m old
+    (answer.Sent p conn number bytes) new acts = let is : new ≡ after_sending m old bytes new.unit = acts.5 in record {
+      plugged = ap
+          (λ (p : Place). p.plugged) is;
+      conn = ap (λ (p : Place). p.conn) is;
+    }
 keeps_send m old _ new acts = absurd acts
 
 keeps_inject : (m : ℕ) (given : List ℕ) (old : Place) (a : Answer) (new : Place) → InjectActs m given old a new → KeepsPlace old new
 keeps_inject m given old answer.Blocked new acts = same_place old new acts.1
-keeps_inject m given old (answer.Sent p conn number bytes) new acts = let is : new ≡ after_sending m old given old.unit = acts.5 in record { plugged = ap (λ (p : Place). p.plugged) is; conn = ap (λ (p : Place). p.conn) is }
+keeps_inject m given old
+    (answer.Sent p conn number bytes) new acts = let is : new ≡ after_sending m old given old.unit = acts.5 in record {
+      plugged = ap
+          (λ (p : Place). p.plugged) is;
+      conn = ap (λ (p : Place). p.conn) is;
+    }
 keeps_inject m given old _ new acts = absurd acts
 
 keeps_take : (m : ℕ) (old : Place) (a : Answer) (new : Place) → DiskTakeActs m old a new → KeepsPlace old new
 keeps_take m old answer.Idle new acts = same_place old new acts.1
-keeps_take m old (answer.DiskTook p dropped) new acts = let is = acts.2 in record { plugged = ap (λ (p : Place). p.plugged) is; conn = ap (λ (p : Place). p.conn) is }
+keeps_take m old
+    (answer.DiskTook p dropped) new acts = let is = acts.2 in record {
+      plugged = ap (λ (p : Place). p.plugged) is;
+      conn = ap
+          (λ (p : Place). p.conn) is;
+    }
 keeps_take m old _ new acts = absurd acts
 
-keeps_presence : (m : ℕ) (old : Place) (pm : PmState) (a : Answer) (new : Place) (after : PmState) → PmPresenceRule m old pm (Ok a) new after → KeepsPlace old new
+keeps_presence : (m : ℕ) (old : Place) (pm : PmState) (a : Answer) (new : Place) (after : PmState) → PmPresenceRule m old pm (Ok a) new after
+    → KeepsPlace old new
 keeps_presence m old pm answer.Idle new after rule = same_place old new rule.1
-keeps_presence m old pm (answer.Presence p) new after rule = let is = rule.1 in record { plugged = ap (λ (p : Place). p.plugged) is; conn = ap (λ (p : Place). p.conn) is }
+keeps_presence m old pm
+    (answer.Presence p) new after rule = let is = rule.1 in record {
+      plugged = ap (λ (p : Place). p.plugged) is;
+      conn = ap
+          (λ (p : Place). p.conn) is;
+    }
 keeps_presence m old pm _ new after rule = absurd rule
 
-keeps_from_device : (m : ℕ) (old : Place) (pm : PmState) (a : Answer) (new : Place) (after : PmState) → PmFromDeviceRule m old pm (Ok a) new after → KeepsPlace old new
+keeps_from_device : (m : ℕ) (old : Place) (pm : PmState) (a : Answer) (new : Place) (after : PmState) → PmFromDeviceRule m old pm (Ok a) new after
+    → KeepsPlace old new
 keeps_from_device m old pm answer.Idle new after rule = same_place old new rule.1
 keeps_from_device m old pm answer.Blocked new after rule = same_place old new rule.2
-keeps_from_device m old pm (answer.Offered p dropped) new after rule = let is = rule.1 in record { plugged = ap (λ (p : Place). p.plugged) is; conn = ap (λ (p : Place). p.conn) is }
+keeps_from_device m old pm
+    (answer.Offered p dropped) new after rule = let is = rule.1 in record {
+      plugged = ap (λ (p : Place). p.plugged) is;
+      conn = ap
+          (λ (p : Place). p.conn) is;
+    }
 keeps_from_device m old pm _ new after rule = absurd rule
 
-keeps_down : (m : ℕ) (old : Place) (pm : PmState) (a : Answer) (new : Place) (after : PmState) → PmDownRule m old pm (Ok a) new after → KeepsPlace old new
+keeps_down : (m : ℕ) (old : Place) (pm : PmState) (a : Answer) (new : Place) (after : PmState) → PmDownRule m old pm (Ok a) new after
+    → KeepsPlace old new
 keeps_down m old pm answer.Idle new after rule = same_place old new rule.2
 keeps_down m old pm answer.Blocked new after rule = same_place old new rule.1
-keeps_down m old pm (answer.Down p) new after rule = let is = rule.2.2 in record { plugged = ap (λ (p : Place). p.plugged) is; conn = ap (λ (p : Place). p.conn) is }
+keeps_down m old pm
+    (answer.Down p) new after rule = let is = rule.2.2 in record { plugged = ap (λ (p : Place). p.plugged) is; conn = ap (λ (p : Place). p.conn) is }
 keeps_down m old pm _ new after rule = absurd rule
 
 -- a unit that is plugged in does not come
 refuses_plugged : (place : Place) (b : Bool) → place.plugged ≡ b → came_refusal place ≡ None → b ≡ false
 refuses_plugged place true is none =
-    let some : came_refusal place ≡ Some error.AlreadyThere = ap (λ (b : Bool). if b then Some error.AlreadyThere else (if place.conn == largest then Some error.Spent else None)) is in
+    let some : came_refusal place ≡ Some error.AlreadyThere =
+    ap (λ (b : Bool). if b then Some error.AlreadyThere else (if place.conn == largest then Some error.Spent else None)) is in
     cc (sym none ∙ some)
 refuses_plugged place false is none = refl
 
@@ -104,11 +139,13 @@ not_here n c m old place is none there same =
     true≢false (sym p.plugged ∙ refuses_plugged place place.plugged refl none)
 
 module _ (n c : ℕ) (old : Places) (a : Answer) (new : Places) (there : IsThere n c old) where
-  at_one : (m : ℕ) (place after : Place) → slice_get old.devices m ≡ Some place → new ≡ with_device old m after → (n ≡ m → KeepsPlace place after) → IsThere n c new
+  at_one : (m : ℕ) (place after : Place) → slice_get old.devices m ≡ Some place → new ≡ with_device old m after → (n ≡ m → KeepsPlace place after)
+      → IsThere n c new
   at_one m place after is new_is keeps =
       subst (λ (w : Places). IsThere n c w) (sym new_is) (written_there n c m old.devices place after is keeps there)
 
-  at_two : (m : ℕ) (place after : Place) (left : PmState) → slice_get old.devices m ≡ Some place → new ≡ with_multiplier (with_device old m after) left → (n ≡ m → KeepsPlace place after) → IsThere n c new
+  at_two : (m : ℕ) (place after : Place) (left : PmState) → slice_get old.devices m ≡ Some place
+      → new ≡ with_multiplier (with_device old m after) left → (n ≡ m → KeepsPlace place after) → IsThere n c new
   at_two m place after left is new_is keeps =
       subst (λ (w : Places). IsThere n c w) (sym new_is) (written_there n c m old.devices place after is keeps there)
 
@@ -162,12 +199,14 @@ module _ (n c : ℕ) (old new : Places) (port conn number : ℕ) (bytes : List �
   abbrev a : Answer
   a = answer.Sent port conn number bytes
 
-  sending : (s : Step) → injects n s ≡ false → Rule old s (Ok (answer.Sent port conn number bytes)) new → IsSending n c old s port conn number bytes new
+  sending : (s : Step) → injects n s ≡ false → Rule old s (Ok (answer.Sent port conn number bytes)) new
+      → IsSending n c old s port conn number bytes new
   sending (step.DiskSend m) clean rule =
       let d : AtDevice old m (Ok a) new (DiskSendRule m) = at_device old m a new (DiskSendRule m) rule in
       let acts : DiskSendActs m d.place a d.after = d.rule.1 in
       let at : m ≡ n = sym acts.1 ∙ eqb-true port n here in
-      let p : IsPlace c (slice_get old.devices n) d.place = place_of c (slice_get old.devices n) d.place (ap (slice_get old.devices) (sym at) ∙ d.is) there in
+      let p : IsPlace c (slice_get old.devices n) d.place =
+      place_of c (slice_get old.devices n) d.place (ap (slice_get old.devices) (sym at) ∙ d.is) there in
       record { conn_is = acts.2 ∙ p.conn; happened = if_some (port == n) (Sent bytes ∷ []) here }
   sending (step.Inject m given) clean rule =
       let d : AtDevice old m (Ok a) new (InjectRule m given) = at_device old m a new (InjectRule m given) rule in
@@ -188,7 +227,8 @@ module _ (n c : ℕ) (old new : Places) (port conn number : ℕ) (bytes : List �
   sending (step.Put at bytes) clean rule = absurd rule.0
 
 -- another port's
-sent_elsewhere : (n : ℕ) (old : Places) (s : Step) (port conn number : ℕ) (bytes : List ℕ) (new : Places) → eqb port n ≡ false → happens n old s (answer.Sent port conn number bytes) new ≡ []
+sent_elsewhere : (n : ℕ) (old : Places) (s : Step) (port conn number : ℕ) (bytes : List ℕ) (new : Places) → eqb port n ≡ false
+    → happens n old s (answer.Sent port conn number bytes) new ≡ []
 sent_elsewhere n old (step.DiskSend m) port conn number bytes new other = if_none (port == n) (Sent bytes ∷ []) other
 sent_elsewhere n old _ port conn number bytes new other = refl
 
@@ -218,12 +258,14 @@ coming n c old new port conn (step.Submit dev request) there rule = absurd rule.
 coming n c old new port conn step.Poll there rule = absurd rule.0
 coming n c old new port conn (step.Put at bytes) there rule = absurd rule.0
 
-came_elsewhere : (n : ℕ) (old : Places) (s : Step) (port conn : ℕ) (new : Places) → eqb port n ≡ false → happens n old s (answer.Came port conn) new ≡ []
+came_elsewhere : (n : ℕ) (old : Places) (s : Step) (port conn : ℕ) (new : Places) → eqb port n ≡ false
+    → happens n old s (answer.Came port conn) new ≡ []
 came_elsewhere n old (step.Came m) port conn new other = if_none (port == n) (Plugged ∷ []) other
 came_elsewhere n old _ port conn new other = refl
 
 -- the unit takes a FIS in a step of its own
-taking : (n : ℕ) (old new : Places) (port : ℕ) (s : Step) → Rule old s (Ok (answer.DiskTook port false)) new → befalls n old (answer.DiskTook port false) ≡ happens n old s (answer.DiskTook port false) new
+taking : (n : ℕ) (old new : Places) (port : ℕ) (s : Step) → Rule old s (Ok (answer.DiskTook port false)) new
+    → befalls n old (answer.DiskTook port false) ≡ happens n old s (answer.DiskTook port false) new
 taking n old new port (step.DiskTake m) rule = refl
 taking n old new port (step.Came m) rule = absurd (at_device old m (answer.DiskTook port false) new (CameRule m) rule).rule.1
 taking n old new port (step.DiskSend m) rule = absurd (at_device old m (answer.DiskTook port false) new (DiskSendRule m) rule).rule.1
@@ -249,21 +291,28 @@ record IsKnown (n c : ℕ) (old : Places) (s : Step) (a : Answer) (new : Places)
 fine_one : (bytes : List ℕ) (events : List Happening) → events ≡ Sent bytes ∷ [] → AreFine events → reports (seen bytes) ≡ false
 fine_one bytes events is fine = let all : AreFine (Sent bytes ∷ []) = subst AreFine is fine in all.0
 
-known_sent : (n c : ℕ) (old : Places) (s : Step) (port conn number : ℕ) (bytes : List ℕ) (new : Places) (b : Bool) → eqb port n ≡ b → IsThere n c old → injects n s ≡ false → Rule old s (Ok (answer.Sent port conn number bytes)) new
+known_sent : (n c : ℕ) (old : Places) (s : Step) (port conn number : ℕ) (bytes : List ℕ) (new : Places) (b : Bool) → eqb port n ≡ b → IsThere n c old
+    → injects n s ≡ false → Rule old s (Ok (answer.Sent port conn number bytes)) new
     → AreFine (happens n old s (answer.Sent port conn number bytes) new) → IsKnown n c old s (answer.Sent port conn number bytes) new
 known_sent n c old s port conn number bytes new true here there clean rule fine =
     let k : IsSending n c old s port conn number bytes new = sending n c old new port conn number bytes there here s clean rule in
-    record { same = if_some (port == n) (Sent bytes ∷ []) here ∙ sym k.happened; steady = λ e. (k.conn_is, fine_one bytes (happens n old s (answer.Sent port conn number bytes) new) k.happened fine) }
+    record {
+      same = if_some (port == n) (Sent bytes ∷ []) here
+          ∙ sym k.happened;
+      steady = λ e. (k.conn_is, fine_one bytes (happens n old s (answer.Sent port conn number bytes) new) k.happened fine);
+    }
 known_sent n c old s port conn number bytes new false other there clean rule fine = record {
   same = if_none (port == n) (Sent bytes ∷ []) other ∙ sym (sent_elsewhere n old s port conn number bytes new other);
   steady = λ here. absurd (true≢false (sym here ∙ other));
 }
 
-known : (n c : ℕ) (old : Places) (s : Step) (a : Answer) (new : Places) → IsThere n c old → injects n s ≡ false → Rule old s (Ok a) new → AreFine (happens n old s a new) → IsKnown n c old s a new
+known : (n c : ℕ) (old : Places) (s : Step) (a : Answer) (new : Places) → IsThere n c old → injects n s ≡ false → Rule old s (Ok a) new
+    → AreFine (happens n old s a new) → IsKnown n c old s a new
 known n c old s (answer.Came port conn) new there clean rule fine =
     let other : eqb port n ≡ false = coming n c old new port conn s there rule in
     record { same = if_none (port == n) (Plugged ∷ []) other ∙ sym (came_elsewhere n old s port conn new other); steady = other }
-known n c old s (answer.Sent port conn number bytes) new there clean rule fine = known_sent n c old s port conn number bytes new (port == n) refl there clean rule fine
+known n c old s (answer.Sent port conn number bytes) new there clean rule fine =
+    known_sent n c old s port conn number bytes new (port == n) refl there clean rule fine
 known n c old s (answer.DiskTook port false) new there clean rule fine = record { same = taking n old new port s rule; steady = tt }
 known n c old s (answer.DiskTook port true) new there clean rule fine = record { same = dropped_tells s; steady = tt }
   where
@@ -294,22 +343,28 @@ runs_stay_linked n c old [] [] new run disk given device orderly there clean fin
   is = refl;
   there = subst (λ (p : Places). IsThere n c p) (sym run) there;
   wired = subst (λ (p : Places). IsWired n c p (disk ++ []) (given ++ [])) (sym run)
-      (subst (λ (xs : List Happening). IsWired n c old (disk ++ []) xs) (sym (append-nil given)) (subst (λ (xs : List Happening). IsWired n c old xs given) (sym (append-nil disk)) w));
+      (subst (λ (xs : List Happening). IsWired n c old (disk ++ []) xs) (sym (append-nil given))
+      (subst (λ (xs : List Happening). IsWired n c old xs given) (sym (append-nil disk)) w));
 }
 runs_stay_linked n c old (s ∷ steps) (a ∷ answers) new run disk given device orderly there clean fine w =
     let parts = or_parts (injects n s) (list_any (injects n) steps) clean in
     let both = fine_front (happens n old s a run.0) (over (happens n) run.0 steps answers new run.2) fine in
     let k : IsKnown n c old s a run.0 = known n c old s a run.0 there parts.0 run.1 both.0 in
     let g : GoesOn n c old a run.0 disk given = disks_stay_linked n c old run.0 s a disk given device orderly run.1 k.steady w in
-    let mid : IsWired n c run.0 (disk ++ happens n old s a run.0) (given ++ g.heard) = subst (λ (xs : List Happening). IsWired n c run.0 (disk ++ xs) (given ++ g.heard)) k.same g.wired in
+    let mid : IsWired n c run.0 (disk ++ happens n old s a run.0) (given ++ g.heard) =
+    subst (λ (xs : List Happening). IsWired n c run.0 (disk ++ xs) (given ++ g.heard)) k.same g.wired in
     let rest : StaysWired n c run.0 steps answers new run.2 (disk ++ happens n old s a run.0) (given ++ g.heard) =
-    runs_stay_linked n c run.0 steps answers new run.2 (disk ++ happens n old s a run.0) (given ++ g.heard) device (orderly_after old s a run.0 orderly run.1) (there_after n c old a run.0 there s run.1) parts.1 both.1 mid in
+    runs_stay_linked n c run.0 steps answers new run.2 (disk ++ happens n old s a run.0) (given ++ g.heard) device
+    (orderly_after old s a run.0 orderly run.1) (there_after n c old a run.0 there s run.1) parts.1 both.1 mid in
     record {
       heard = g.heard ++ rest.heard;
       is = (g.heard, rest.heard, refl, g.is, rest.is);
       there = rest.there;
-      wired = subst (λ (xs : List Happening). IsWired n c new (disk ++ (happens n old s a run.0 ++ over (happens n) run.0 steps answers new run.2)) xs) (append_assoc given g.heard rest.heard)
-          (subst (λ (xs : List Happening). IsWired n c new xs ((given ++ g.heard) ++ rest.heard)) (append_assoc disk (happens n old s a run.0) (over (happens n) run.0 steps answers new run.2)) rest.wired);
+      wired =
+          subst (λ (xs : List Happening). IsWired n c new (disk ++ (happens n old s a run.0 ++ over (happens n) run.0 steps answers new run.2)) xs)
+          (append_assoc given g.heard rest.heard)
+          (subst (λ (xs : List Happening). IsWired n c new xs ((given ++ g.heard) ++ rest.heard))
+          (append_assoc disk (happens n old s a run.0) (over (happens n) run.0 steps answers new run.2)) rest.wired);
     }
 runs_stay_linked n c old [] (a ∷ answers) new run disk given device orderly there clean fine w = absurd run
 runs_stay_linked n c old (s ∷ steps) [] new run disk given device orderly there clean fine w = absurd run
@@ -322,9 +377,19 @@ plugged_is_linked n c old new device orderly rule empty below =
     let d : AtDevice old n (Ok (answer.Came n c)) new (CameRule n) = at_device old n (answer.Came n c) new (CameRule n) rule in
     let acts : CameActs n d.place (answer.Came n c) d.after = d.rule.1 in
     let after_is = acts.3 in
-    let here : slice_get new.devices n ≡ Some d.after = ap (λ (w : Places). slice_get w.devices n) d.new_is ∙ slice_get-set_same old.devices n d.place d.after d.is in
-    let still : (k : ℕ) → transit n k new ≡ [] = λ k. one_step n k old new (step.Came n) (answer.Came n c) device orderly rule ∙ append-nil (transit n k old) ∙ empty k in
+    let here : slice_get new.devices n ≡ Some d.after =
+    ap (λ (w : Places). slice_get w.devices n) d.new_is ∙ slice_get-set_same old.devices n d.place d.after d.is in
+    let still : (k : ℕ) → transit n k new ≡ [] =
+    λ k. one_step n k old new (step.Came n) (answer.Came n c) device orderly rule ∙ append-nil (transit n k old) ∙ empty k in
     let low : descending n new ≡ [] = rests_below n old new (rule_moves_down old (step.Came n) (answer.Came n c) new rule) ∙ below in (
       subst (IsPlugged c) (sym here) (ap (λ (p : Place). p.plugged) after_is, ap (λ (p : Place). p.conn) after_is ∙ sym acts.1),
-      record { down = []; up = []; linked = begins; above = still c; alone = λ k other. still k; below = subst (λ (xs : List (List ℕ)). AreAmong xs []) (sym low) tt },
+      record {
+        down = [];
+        up = [];
+        linked = begins;
+        above = still c;
+        alone = λ k other. still k;
+        below = subst
+            (λ (xs : List (List ℕ)). AreAmong xs []) (sym low) tt;
+      },
     )

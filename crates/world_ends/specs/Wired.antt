@@ -1,7 +1,8 @@
 -- The two ends of a disk's link in a world: what a disk and the host did at their ends, and what is
 -- on its way between them, over the multiplier and its links (Serial ATA 3.x, 16.3, port
 -- multiplier: frame transmission, PM Port).
-use Rattle.std.specs.Prelude.{ℕ, ◌≡◌, ◌≢◌, ◌==◌, ◌⊎◌, if◌then◌else◌, Bool, true, false, List, [], ◌∷◌}
+use Rattle.std.specs.Prelude.{ℕ, ◌≡◌, ◌≢◌, ◌==◌, ◌⊎◌, if◌then◌else◌, Bool, true, false, List, []}
+use Rattle.std.specs.Prelude.{◌∷◌}
 use Rattle.std.specs.Prelude.{◌++◌, drop, length, map, take, MatchBool, MatchOption, Ok, slice_get}
 use Rattle.std.specs.List.{flat_map, list_any}
 use Rattle.fis_view.specs.Frames.{Stamped, marked}
@@ -83,11 +84,18 @@ IsSteady n c (answer.Sent port conn number bytes) =
     (port == n) ≡ true → (conn ≡ c) × (reports (seen bytes) ≡ false)
 IsSteady n c a = Unit {0}
 
+-- these bytes are the next to come to the host
+pub record IsNext (plain : List ℕ) (disk given : List Happening) : Type 0 where
+  pub down : List (List ℕ)
+  pub up : List (List ℕ)
+  pub linked : IsLinked disk given down (plain ∷ up)
+
 -- what a step leaves of it
 pub record GoesOn (n c : ℕ) (old : Places) (a : Answer) (new : Places)
     (disk given : List Happening) : Type 0 where
   pub heard : List Happening
   pub is : IsAtHost n old a new heard
+  pub next : (plain : List ℕ) → heard ≡ Sent plain ∷ [] → IsNext plain disk given
   pub wired : IsWired n c new (disk ++ befalls n old a) (given ++ heard)
 
 -- so it is with each step
