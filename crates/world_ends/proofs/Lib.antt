@@ -1,2 +1,3 @@
 pub mod WiredLemmas
 pub mod RunLemmas
+pub mod TookLemmas

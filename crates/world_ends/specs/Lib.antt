@@ -1,1 +1,2 @@
 pub mod Wired
+pub mod Honest

@@ -1,5 +1,6 @@
 //! Laws of the two ends of a disk's link in a world. The functions do nothing when they run.
 
+ghost use Rattle.world_ends.specs.Honest.{TookIsHonest};
 ghost use Rattle.world_ends.specs.Wired.{DisksStayLinked, PluggedIsLinked, RunsStayLinked};
 
 /// What a disk and the host did at their ends of the disk's link, and what is on its way between
@@ -9,4 +10,10 @@ pub fn disks_stay_linked()
     ensures plugged { PluggedIsLinked }
     ensures steps { DisksStayLinked }
     ensures runs { RunsStayLinked }
+{}
+
+/// What a report says is done, at a FIS that the host of a world takes of a disk, was done honestly,
+/// where nothing went wrong since the disk was plugged in.
+pub fn taken_is_honest()
+    ensures { TookIsHonest }
 {}
