@@ -1,24 +1,22 @@
 -- What is none of a device's leaves its view, and is no event of its history.
-use Rattle.std.proofs.Common.{◌≡◌, ◌≢◌, eqb, ℕ, ◌<◌, Bool, true, false, List, [], ◌∷◌, refl, sym, ap, ◌∙◌, Option, Some, None}
-use Rattle.std.specs.Prelude.{if◌then◌else◌, MatchOption}
+use Rattle.std.proofs.Common.{◌≡◌, ◌≢◌, ℕ, Bool, true, false, List, [], ◌∷◌, refl, sym, ap, ◌∙◌, Option, Some, None}
+use Rattle.std.specs.Prelude.{if◌then◌else◌}
 use Rattle.std.proofs.lemmas.Bool.{ne_eqb}
 use Rattle.fis_view.specs.Frames.{Stamped}
-use Rattle.host_memory.specs.Memory.{Memory}
 use Rattle.hba_fbs.specs.declared.register.Register.{Register}
 use Rattle.hba_fbs.specs.declared.register.Register.TheVariants.{Ci, Clb, Clbu, Cmd, Fb, Fbs, Fbu, Ie, Is, Sact, Serr, Sig, Sntf, Tfd}
 use Rattle.hba_fbs.specs.declared.report.TakeReport.{TakeReport}
 use Rattle.hba_fbs.specs.Issuing.{asked, view_issued}
-use Rattle.hba_fbs.specs.Registers.{falls}
 use Rattle.hba_fbs.specs.Sending.{Data, Gives, Nothing, Order, Outgoing, Unreadable, outgoing}
 use Rattle.hba_fbs.specs.Taking.{ignores, port_of}
-use Rattle.hba_fbs.specs.Views.{DeviceView, Port, stopped_view, view_of}
-use Rattle.hba_fbs.specs.Writing.{cleared_by, is_device, view_after, view_cleared}
-use Rattle.hba_laws.specs.Client.{By, Stops, Touches, own}
-use Rattle.hba_laws.specs.Delivering.{by_device, event_taken, issued_below, touched_by_clear, touched_by_out, touched_by_write}
+use Rattle.hba_fbs.specs.Views.{Port, stopped_view, view_of}
+use Rattle.hba_fbs.specs.Writing.{cleared_by, is_device, view_after}
+use Rattle.hba_laws.specs.Client.{By, Stops, own}
+use Rattle.hba_laws.specs.Delivering.{by_device, event_taken, touched_by_clear, touched_by_out, touched_by_write}
 use Rattle.hba_laws.specs.History.{Emptied, Event}
-use Rattle.hba_laws.specs.Hosts.{Does, Flushed, Gave, Host, HostEvent, Put, Rewrote, Stored, TakesFrame, Took, Wrote}
+use Rattle.hba_laws.specs.Hosts.{Flushed, Gave, Host, Put, Rewrote, Stored, TakesFrame, Took, Wrote}
 use Rattle.hba_laws.proofs.IssueLemmas.{other_below}
-use Rattle.disk_ends.specs.Elsewhere.{IsElsewhere, IsForOther, LeavesDevice, OthersLeaveDevice, WritesElsewhere}
+use Rattle.disk_ends.specs.Elsewhere.{IsForOther, OthersLeaveDevice, WritesElsewhere}
 
 other_event : (n dev : ℕ) (o : Option Event) → n ≢ dev → own n (by_device dev o) ≡ []
 other_event n dev None other = refl

@@ -15,3 +15,4 @@ pub mod OrderJoins
 pub mod MarkedLemmas
 pub mod ReportLemmas
 pub mod ElsewhereLemmas
+pub mod CalmLemmas

@@ -1,6 +1,6 @@
 -- What happens at a host port and is none of one device's (AHCI 1.3.1, chapter 9, FIS-based
 -- Switching): it leaves the device's view, and is no event of its history.
-use Rattle.std.specs.Prelude.{ℕ, ◌≡◌, ◌≢◌, ◌<◌, false, List, [], Option, Some}
+use Rattle.std.specs.Prelude.{ℕ, ◌≡◌, ◌≢◌, ◌<◌, false, [], Some}
 use Rattle.hba_fbs.specs.declared.register.Register.{Register}
 use Rattle.hba_fbs.specs.declared.register.Register.TheVariants.{Ci, Cmd, Fbs}
 use Rattle.hba_fbs.specs.Registers.{falls}

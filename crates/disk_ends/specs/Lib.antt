@@ -8,3 +8,4 @@ pub mod Joined
 pub mod Hosted
 pub mod Marked
 pub mod Elsewhere
+pub mod Calm

@@ -1,6 +1,7 @@
 //! Laws of a host's two views of a disk. The functions do nothing when they run.
 
 ghost use Rattle.disk_ends.specs.Answers.{AnswersKeep, NamesKeep, OthersKeep};
+ghost use Rattle.disk_ends.specs.Calm.{CalmRunsKeep};
 ghost use Rattle.disk_ends.specs.Elsewhere.{OthersLeaveDevice};
 ghost use Rattle.disk_ends.specs.Heard.{HeardAsTold};
 ghost use Rattle.disk_ends.specs.Honest.{DoneIsHonest, NextIsRight};
@@ -99,7 +100,9 @@ pub fn reports_are_honest()
 {}
 
 /// What happens at a host port and is none of a device's leaves the device's view, and is no event
-/// of its history.
+/// of its history; so a host keeps what it has of a device over events that are none of it, or issue
+/// commands for it.
 pub fn others_leave_a_device()
-    ensures { OthersLeaveDevice }
+    ensures others { OthersLeaveDevice }
+    ensures calm { CalmRunsKeep }
 {}
