@@ -455,7 +455,7 @@ first_same f g xs ys all here there = let e : g ∷ ys ≡ f ∷ xs = sym there 
 
 -- ## All of them
 
-drop_front : (xs ys : List Stamped) → drop (length xs) (xs ++ ys) ≡ ys
+pub drop_front : (xs ys : List Stamped) → drop (length xs) (xs ++ ys) ≡ ys
 drop_front [] ys = refl
 drop_front (x ∷ xs) ys = drop_front xs ys
 

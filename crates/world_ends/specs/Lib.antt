@@ -1,2 +1,3 @@
 pub mod Wired
 pub mod Honest
+pub mod Given

@@ -1,5 +1,6 @@
 //! Laws of the two ends of a disk's link in a world. The functions do nothing when they run.
 
+ghost use Rattle.world_ends.specs.Given.{PushedFits};
 ghost use Rattle.world_ends.specs.Honest.{TookIsHonest};
 ghost use Rattle.world_ends.specs.Wired.{DisksStayLinked, PluggedIsLinked, RunsStayLinked};
 
@@ -13,7 +14,9 @@ pub fn disks_stay_linked()
 {}
 
 /// What a report says is done, at a FIS that the host of a world takes of a disk, was done honestly,
-/// where nothing went wrong since the disk was plugged in.
+/// where nothing went wrong since the disk was plugged in; and what the host gives to the disk fits
+/// what was told before.
 pub fn taken_is_honest()
-    ensures { TookIsHonest }
+    ensures taken { TookIsHonest }
+    ensures given { PushedFits }
 {}
