@@ -1,5 +1,5 @@
 -- What the host of a world gives to a disk fits what was told before.
-use Rattle.std.proofs.Common.{◌≡◌, ◌≢◌, ◌==◌, eqb, ℕ, ◌<◌, ◌%◌, Bool, true, false, List, [], ◌∷◌, ◌++◌, drop, length, map, refl, sym, ap, subst, ◌∙◌, inl, inr, Option, Some, None, Ok, arith}
+use Rattle.std.proofs.Common.{◌≡◌, ◌≢◌, ℕ, ◌<◌, ◌%◌, Bool, List, [], ◌∷◌, ◌++◌, drop, length, map, refl, sym, ap, subst, ◌∙◌, inl, inr, Some, Ok, arith}
 use Rattle.std.specs.Prelude.{if◌then◌else◌, slice_index}
 use Rattle.std.specs.List.{flat_map}
 use Rattle.std.proofs.lemmas.Bool.{cases_Bool, cases_eq, eq-eqb, ne_eqb}
@@ -9,7 +9,6 @@ use Rattle.hba_commands.specs.declared.command.Command as issued_command
 use Rattle.slots.specs.Work.{is_queued}
 use Rattle.hba_fbs.specs.Sending.{Data, Gives, Nothing, Order, Outgoing, Unreadable, data_fis, gathered, outgoing}
 use Rattle.hba_fbs.specs.Tables.{prds_of}
-use Rattle.hba_fbs.specs.Views.{view_of}
 use Rattle.multiplier.specs.Arbiter.{control_port}
 use Rattle.multiplier.specs.State.{pm_port}
 use Rattle.disk_model.specs.declared.request.Command.{Command}
@@ -19,11 +18,11 @@ use Rattle.hba_laws.specs.History.{History}
 use Rattle.hba_laws.specs.Hosts as event
 use Rattle.hba_laws.specs.Sound.{IsHost}
 use Rattle.hba_driver.specs.Events.{shared_by}
-use Rattle.hba_driver.specs.HostTurns.{Host, Pushes}
+use Rattle.hba_driver.specs.HostTurns.{Pushes}
 use Rattle.disk_ends.specs.Elsewhere.{IsForOther, LeavesDevice}
 use Rattle.disk_ends.specs.Hosted.{IsHosted, asks, gives, sends, stays}
 use Rattle.disk_ends.proofs.ElsewhereLemmas.{others_leave_device}
-use Rattle.pm_world.specs.Places.{IsOrderly, Places, Queue, pushed}
+use Rattle.pm_world.specs.Places.{Places, Queue, pushed}
 use Rattle.pm_world.specs.Rules.{CameRule, DiskSendRule, DiskTakeRule, InjectRule, PmDownRule, PmFromDeviceRule, PmPresenceRule, Rule}
 use Rattle.pm_world.specs.declared.step.Step.{Step}
 use Rattle.pm_world.specs.declared.step.Step.TheVariants as step

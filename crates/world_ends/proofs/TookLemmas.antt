@@ -1,23 +1,19 @@
 -- What a host takes of a disk brought what it says.
-use Rattle.std.proofs.Common.{◌≡◌, ◌≢◌, ◌==◌, ◌&&◌, eqb, ℕ, ◌+◌, ◌*◌, ◌<◌, ◌%◌, Bool, true, false, List, [], ◌∷◌, ◌++◌, length, refl, sym, ap, subst, ◌∙◌, Option, Some, None, Ok, arith}
+use Rattle.std.proofs.Common.{◌≡◌, ◌≢◌, ◌==◌, ◌&&◌, ℕ, ◌+◌, ◌*◌, ◌%◌, Bool, true, false, List, [], ◌∷◌, ◌++◌, sym, ap, subst, ◌∙◌, Ok, arith}
 use Rattle.std.specs.Prelude.{◌/◌, IsTrue, MatchBool, nat_le, slice_index}
 use Rattle.std.proofs.lemmas.Bool.{true≢false}
 use Rattle.std.proofs.lemmas.List.{append-nil, length-set}
 use Rattle.fis_view.specs.Frames.{IsFrame, marked}
 use Rattle.fis_view.specs.Seen.{seen}
-use Rattle.slots.specs.Slots.{has_bit}
 use Rattle.hba_fbs.specs.declared.report.TakeReport.{TakeReport}
 use Rattle.hba_fbs.specs.Taking.{port_of}
 use Rattle.multiplier.specs.Arbiter.{control_port}
-use Rattle.disk_model.specs.declared.request.Command.{Command}
 use Rattle.disk_model.specs.Ends.{IsCareful, IsLinked, IsRight}
 use Rattle.disk_model.specs.Histories.{Happening, Sent}
 use Rattle.disk_model.specs.Ledger.{ledger}
-use Rattle.hba_laws.specs.History.{History}
-use Rattle.hba_laws.specs.Hosts as event
 use Rattle.hba_laws.specs.Hosts.{TakesFrame}
 use Rattle.hba_driver.specs.Events.{shared_by}
-use Rattle.hba_driver.specs.HostTurns.{Host, Tooks}
+use Rattle.hba_driver.specs.HostTurns.{Tooks}
 use Rattle.disk_ends.specs.Heard.{IsTakenWell}
 use Rattle.disk_ends.specs.Hosted.{IsHosted, IsKept, hears}
 use Rattle.disk_ends.specs.Joined.{IsShort}
@@ -32,7 +28,7 @@ use Rattle.pm_world.specs.declared.step.Step.{Step}
 use Rattle.pm_world.specs.declared.step.Step.TheVariants as step
 use Rattle.pm_world.specs.declared.step.Answer.TheVariants as answer
 use Rattle.pm_world.proofs.Steps.{at_both, at_device}
-use Rattle.world_ends.specs.Honest.{IsReportedWell, IsTakenHonestly, TookIsHonest}
+use Rattle.world_ends.specs.Honest.{TookIsHonest}
 use Rattle.world_ends.specs.Wired.{GoesOn, IsNext, IsWired}
 use Rattle.world_ends.proofs.WiredLemmas.{disks_stay_linked}
 
