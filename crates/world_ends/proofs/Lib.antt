@@ -2,3 +2,4 @@ pub mod WiredLemmas
 pub mod RunLemmas
 pub mod TookLemmas
 pub mod GivenLemmas
+pub mod BroughtLemmas

@@ -1,5 +1,6 @@
 //! Laws of the two ends of a disk's link in a world. The functions do nothing when they run.
 
+ghost use Rattle.world_ends.specs.Brought.{TookBrings};
 ghost use Rattle.world_ends.specs.Given.{PushedFits};
 ghost use Rattle.world_ends.specs.Honest.{TookIsHonest};
 ghost use Rattle.world_ends.specs.Wired.{DisksStayLinked, PluggedIsLinked, RunsStayLinked};
@@ -19,4 +20,10 @@ pub fn disks_stay_linked()
 pub fn taken_is_honest()
     ensures taken { TookIsHonest }
     ensures given { PushedFits }
+{}
+
+/// When a queued read is reported as done, each of its bytes stands in client memory at its place,
+/// and they are the sectors of the disk as they were when it started the read.
+pub fn reads_are_brought()
+    ensures brought { TookBrings }
 {}
