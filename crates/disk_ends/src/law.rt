@@ -100,8 +100,8 @@ pub fn reports_are_honest()
 {}
 
 /// What happens at a host port and is none of a device's leaves the device's view, and is no event
-/// of its history; so a host keeps what it has of a device over events that are none of it, or issue
-/// commands for it.
+/// of its history; so a host keeps what it has of a device over events that are none of it, or
+/// issue commands for it.
 pub fn others_leave_a_device()
     ensures others { OthersLeaveDevice }
     ensures calm { CalmRunsKeep }

@@ -43,11 +43,11 @@ leaves_filled m s (Some e) touches w queued done =
     ∙ fills_nothing s e (own m touches) w queued done
 
 pub took_brings : TookBrings
-took_brings plan sectors n c old new s port conn number bytes report disk given commands touches below orderly rule here port_is size run wired hosted sound well
-    delivers slot t low reading queued reads named =
+took_brings plan sectors n c old new s port conn number bytes report disk given commands touches below orderly rule here port_is
+    size run wired hosted sound well delivers slot t low reading queued reads named =
     let honest : IsTakenHonestly sectors n c new bytes report disk given commands (own n touches) =
-    took_is_honest plan sectors n c old new s port conn number bytes report disk given commands (own n touches) below orderly rule here port_is size run wired
-    hosted sound well in
+    took_is_honest plan sectors n c old new s port conn number bytes report disk given commands (own n touches) below orderly rule here
+    port_is size run wired hosted sound well in
     let brought : BroughtSectors sectors (commands slot) (filled slot (own n touches)) t.work.len (ledger given) =
     (honest.done slot t low reading.is queued named).reads reads in
     let its : IsReading (port_of bytes) slot t touches = subst (λ (m : ℕ). IsReading m slot t touches) (sym port_is) reading in

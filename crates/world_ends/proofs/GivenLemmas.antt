@@ -119,7 +119,8 @@ module _ (n c : ℕ) (old new : Places) (disk given : List Happening) (commands 
         let alone = o.other other in
         with_one (told_as.Sent slot ∷ past) port
         (asks (shared_by old.host)
-        (shared_by new.host) g.frame slot command o.fis o.transfer given commands past sound framed does out o.there other o.control o.cfis alone.0 alone.1 o.signed hosted)
+        (shared_by new.host) g.frame slot command o.fis o.transfer given commands past sound framed
+        does out o.there other o.control o.cfis alone.0 alone.1 o.signed hosted)
   ]
 
   port_of_data : (dev : ℕ) (bytes : List ℕ) → dev < 16 → g.frame.bytes ≡ data_fis dev bytes → pm_port g.frame ≡ dev

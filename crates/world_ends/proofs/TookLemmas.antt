@@ -68,7 +68,8 @@ plain_frame plain n framed =
     subst (λ (k : ℕ). IsTrue (nat_le 4 k && nat_le k 8196 && k % 4 == 0)) (length-set plain 1 (slice_index plain 1 / 16 * 16 + n)) framed
 
 pub took_is_honest : TookIsHonest
-took_is_honest plan sectors n c old new s port conn number bytes report disk given commands past below orderly rule here port_is size run wired hosted sound well =
+took_is_honest plan sectors n c old new s port conn number bytes report disk given commands past below orderly rule here port_is
+    size run wired hosted sound well =
     let device : n ≢ control_port = λ e. absurd (omega (arith, e, below)) in
     let g : GoesOn n c old (answer.Took port conn number bytes report) new disk given =
     disks_stay_linked n c old new s (answer.Took port conn number bytes report) disk given device orderly rule tt wired in

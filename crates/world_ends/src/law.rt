@@ -14,9 +14,9 @@ pub fn disks_stay_linked()
     ensures runs { RunsStayLinked }
 {}
 
-/// What a report says is done, at a FIS that the host of a world takes of a disk, was done honestly,
-/// where nothing went wrong since the disk was plugged in; and what the host gives to the disk fits
-/// what was told before.
+/// What a report says is done, at a FIS that the host of a world takes of a disk, was done
+/// honestly, where nothing went wrong since the disk was plugged in; and what the host gives to the
+/// disk fits what was told before.
 pub fn taken_is_honest()
     ensures taken { TookIsHonest }
     ensures given { PushedFits }
