@@ -14,3 +14,5 @@ pub mod SizeLemmas
 pub mod OrderJoins
 pub mod MarkedLemmas
 pub mod ReportLemmas
+pub mod ElsewhereLemmas
+pub mod CalmLemmas

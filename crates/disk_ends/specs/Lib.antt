@@ -7,3 +7,5 @@ pub mod Heard
 pub mod Joined
 pub mod Hosted
 pub mod Marked
+pub mod Elsewhere
+pub mod Calm

@@ -1,6 +1,8 @@
 //! Laws of a host's two views of a disk. The functions do nothing when they run.
 
 ghost use Rattle.disk_ends.specs.Answers.{AnswersKeep, NamesKeep, OthersKeep};
+ghost use Rattle.disk_ends.specs.Calm.{CalmRunsKeep};
+ghost use Rattle.disk_ends.specs.Elsewhere.{OthersLeaveDevice};
 ghost use Rattle.disk_ends.specs.Heard.{HeardAsTold};
 ghost use Rattle.disk_ends.specs.Honest.{DoneIsHonest, NextIsRight};
 ghost use Rattle.disk_ends.specs.Hosted.{HostedIsKept, NextIsShort};
@@ -95,4 +97,12 @@ pub fn hosts_are_careful()
 /// honestly.
 pub fn reports_are_honest()
     ensures { ReportsHonestly }
+{}
+
+/// What happens at a host port and is none of a device's leaves the device's view, and is no event
+/// of its history; so a host keeps what it has of a device over events that are none of it, or
+/// issue commands for it.
+pub fn others_leave_a_device()
+    ensures others { OthersLeaveDevice }
+    ensures calm { CalmRunsKeep }
 {}

@@ -1,0 +1,5 @@
+pub mod WiredLemmas
+pub mod RunLemmas
+pub mod TookLemmas
+pub mod GivenLemmas
+pub mod BroughtLemmas
