@@ -23,7 +23,7 @@ use Rattle.disk_ends.specs.Elsewhere.{IsForOther, LeavesDevice}
 use Rattle.disk_ends.specs.Hosted.{IsHosted, asks, gives, sends, stays}
 use Rattle.disk_ends.proofs.ElsewhereLemmas.{others_leave_device}
 use Rattle.pm_world.specs.Places.{Places, Queue, pushed}
-use Rattle.pm_world.specs.Rules.{CameRule, DiskSendRule, DiskTakeRule, InjectRule, PmDownRule, PmFromDeviceRule, PmPresenceRule, Rule}
+use Rattle.pm_world.specs.Rules.{CameRule, DiskSendRule, DiskTakeRule, GoneRule, InjectRule, PmDownRule, PmFromDeviceRule, PmPresenceRule, Rule}
 use Rattle.pm_world.specs.declared.step.Step.{Step}
 use Rattle.pm_world.specs.declared.step.Step.TheVariants as step
 use Rattle.pm_world.specs.declared.step.Answer.TheVariants as answer
@@ -42,6 +42,7 @@ record HasGiven (old new : Places) : Type 0 where
 host_gives : (old new : Places) (s : Step) → Rule old s (Ok answer.Pushed) new → HasGiven old new
 host_gives old new step.HostPush rule = let r = rule.0.1 in record { frame = r.0; pushes = r.1; link = r.2 }
 host_gives old new (step.Came m) rule = absurd (at_device old m answer.Pushed new (CameRule m) rule).rule.1
+host_gives old new (step.Gone m) rule = absurd (at_device old m answer.Pushed new (GoneRule m) rule).rule.1
 host_gives old new (step.DiskSend m) rule = absurd (at_device old m answer.Pushed new (DiskSendRule m) rule).rule.1
 host_gives old new (step.Inject m given) rule = absurd (at_device old m answer.Pushed new (InjectRule m given) rule).rule.1
 host_gives old new (step.DiskTake m) rule = absurd (at_device old m answer.Pushed new (DiskTakeRule m) rule).rule

@@ -1,3 +1,4 @@
+pub mod KeptLemmas
 pub mod WiredLemmas
 pub mod RunLemmas
 pub mod TookLemmas

@@ -23,7 +23,7 @@ use Rattle.disk_ends.proofs.HostedLemmas.{hosted_is_kept}
 use Rattle.disk_ends.proofs.ReportLemmas.{reports_honestly}
 use Rattle.disk_ends.proofs.SizeLemmas.{next_short}
 use Rattle.pm_world.specs.Places.{Places}
-use Rattle.pm_world.specs.Rules.{CameRule, DiskSendRule, DiskTakeRule, InjectRule, PmDownRule, PmFromDeviceRule, PmPresenceRule, Rule}
+use Rattle.pm_world.specs.Rules.{CameRule, DiskSendRule, DiskTakeRule, GoneRule, InjectRule, PmDownRule, PmFromDeviceRule, PmPresenceRule, Rule}
 use Rattle.pm_world.specs.declared.step.Step.{Step}
 use Rattle.pm_world.specs.declared.step.Step.TheVariants as step
 use Rattle.pm_world.specs.declared.step.Answer.TheVariants as answer
@@ -38,6 +38,8 @@ host_takes : (old new : Places) (s : Step) (port conn number : ℕ) (bytes : Lis
 host_takes old new step.HostTake port conn number bytes report rule = rule.0.2
 host_takes old new (step.Came m) port conn number bytes report rule =
     absurd (at_device old m (answer.Took port conn number bytes report) new (CameRule m) rule).rule.1
+host_takes old new (step.Gone m) port conn number bytes report rule =
+    absurd (at_device old m (answer.Took port conn number bytes report) new (GoneRule m) rule).rule.1
 host_takes old new (step.DiskSend m) port conn number bytes report rule =
     absurd (at_device old m (answer.Took port conn number bytes report) new (DiskSendRule m) rule).rule.1
 host_takes old new (step.Inject m given) port conn number bytes report rule =

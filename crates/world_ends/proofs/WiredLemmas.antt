@@ -1,31 +1,34 @@
 -- A disk and the host stay linked at each step of a world.
 use Rattle.std.proofs.Common.{◌≡◌, ◌≢◌, ◌==◌, ◌&&◌, ◌⊎◌, eqb, ℕ, Bool, true, false, List, [], ◌∷◌, ◌++◌, append_assoc, drop, length, map, refl, sym, ap, subst, ◌∙◌, inl, inr, Option, Some, None, Ok}
-use Rattle.std.specs.Prelude.{if◌then◌else◌, slice_get, take, MatchBool, MatchOption}
+use Rattle.std.specs.Prelude.{if◌then◌else◌, option_to_list, slice_get, take, MatchBool, MatchOption}
 use Rattle.std.specs.List.{flat_map}
-use Rattle.std.proofs.lemmas.Bool.{cases_eq, eq-eqb, ne_eqb, true≢false}
+use Rattle.std.proofs.lemmas.Bool.{cases_Bool, cases_eq, eq-eqb, ne_eqb, true≢false}
 use Rattle.std.proofs.lemmas.List.{append-nil, map-append}
 use Rattle.fis_view.specs.Frames.{Stamped, marked}
 use Rattle.hba_fbs.specs.declared.report.TakeReport.{TakeReport}
 use Rattle.multiplier.specs.Arbiter.{control_port}
 use Rattle.multiplier.specs.Rules.{ToControl, ToDevice, ToNobody, ToPort}
-use Rattle.multiplier.specs.State.{PmState, falling, passes_to, pm_port}
+use Rattle.multiplier.specs.Passing.{lost_from}
+use Rattle.multiplier.specs.State.{PmState, falling, passes_to, pm_port, port_at}
 use Rattle.multiplier.specs.declared.multiplier.Passed.TheVariants as passed
 use Rattle.disk_model.specs.Ends.{IsLinked, comes, gives, sends, takes}
 use Rattle.disk_model.specs.Histories.{Happening, Plugged, Received, Sent}
 use Rattle.pm_world.specs.Downward.{falling_to, on_down_link}
 use Rattle.pm_world.specs.Places.{IsOrderly, Places}
 use Rattle.pm_world.specs.Rules.{Rule}
-use Rattle.pm_world.specs.Traffic.{NothingLost, all_marked, sent_by, taken_by, transit}
+use Rattle.pm_world.specs.Traffic.{NothingLost, all_marked, is_removed, on_host_link, sent_by, taken_by, transit}
 use Rattle.pm_world.specs.declared.step.Step.{Step}
 use Rattle.pm_world.specs.declared.step.Step.TheVariants as step
 use Rattle.pm_world.specs.declared.step.Answer.{Answer}
 use Rattle.pm_world.specs.declared.step.Answer.TheVariants as answer
-use Rattle.pm_world.proofs.FallMoves.{Ends, Goes, Lands, Rests, Starts, rule_moves_down}
+use Rattle.pm_world.proofs.FallMoves.{Ends, Goes, Lands, Loses, Rests, Starts, rule_moves_down}
 use Rattle.pm_world.proofs.Law.{nothing_lost}
+use Rattle.pm_world.proofs.Orderly.{removed_after}
 use Rattle.pm_world.proofs.Lists.{all_marked-append}
 use Rattle.pm_world.proofs.Steps.{at_both, at_device}
-use Rattle.pm_world.specs.Rules.{CameRule, DiskSendRule, DiskTakeRule, InjectRule, PmDownRule, PmFromDeviceRule, PmPresenceRule}
-use Rattle.world_ends.specs.Wired.{AreAmong, DisksStayLinked, GoesOn, IsAtHost, IsNext, IsSteady, IsWired, befalls, descending, for_port}
+use Rattle.pm_world.specs.Rules.{CameRule, DiskSendRule, DiskTakeRule, GoneRule, InjectRule, PmDownRule, PmFromDeviceRule, PmPresenceRule}
+use Rattle.world_ends.specs.Wired.{AreAmong, DisksStayLinked, GoesOn, IsAtHost, IsAway, IsNext, IsSteady, IsUnremoved, IsWired, befalls, descending, for_port}
+use Rattle.world_ends.proofs.KeptLemmas.{steady_unremoved, unremoved}
 
 -- ## Some of a list
 
@@ -82,10 +85,10 @@ among_split x xs (y ∷ ys) (inr later) =
 
 -- one step takes and sends this
 pub one_step : (n d : ℕ) (old new : Places) (s : Step) (a : Answer) → n ≢ control_port → IsOrderly old → Rule old s (Ok a) new
-    → taken_by n d a ++ transit n d new ≡ transit n d old ++ all_marked n (sent_by n d a)
-one_step n d old new s a device orderly rule =
+    → is_removed n d new ≡ false → taken_by n d a ++ transit n d new ≡ transit n d old ++ all_marked n (sent_by n d a)
+one_step n d old new s a device orderly rule there =
     let lost : NothingLost old (a ∷ []) new = nothing_lost old (s ∷ []) (a ∷ []) new orderly (new, rule, refl) in
-    let whole = lost.conserved n d device in
+    let whole = lost.conserved n d device there in
     ap (λ (xs : List (List ℕ)). xs ++ transit n d new) (sym (append-nil (taken_by n d a))) ∙ whole
     ∙ ap (λ (xs : List (List ℕ)). transit n d old ++ all_marked n xs) (append-nil (sent_by n d a))
 
@@ -116,19 +119,43 @@ unsent_other n c d (answer.Sent port conn number bytes) steady other =
     if_false (port == n && conn == d) (bytes ∷ []) (and_false (port == n) (conn == d) (λ here. ne_eqb conn d (λ e. other (sym e ∙ (steady here).0))))
 unsent_other n c d _ steady other = refl
 
+-- what is away stays so, and nothing of it is taken
+pub away_after : (n d : ℕ) (old new : Places) (s : Step) (a : Answer) → n ≢ control_port → IsOrderly old → Rule old s (Ok a) new → IsAway n d old
+    → sent_by n d a ≡ [] → (taken_by n d a ≡ []) × IsAway n d new
+away_after n d old new s a device orderly rule none unsent = elim (cases_Bool (is_removed n d old)) [
+  | inl gone ↦
+      let over = lost.over n d device gone in
+      let both = none_both (taken_by n d a ++ []) (on_host_link n d new) (over ∙ none.0) in
+      let stays : is_removed n d new ≡ true = removed_after old s a new orderly rule n d gone in
+      (sym (append-nil (taken_by n d a)) ∙ both.0, (both.1, λ there. absurd (true≢false (sym stays ∙ there))))
+  | inr there ↦
+      let before : transit n d old ++ all_marked n (sent_by n d a ++ []) ≡ [] =
+      ap (λ (xs : List (List ℕ)). xs ++ all_marked n (sent_by n d a ++ [])) (none.1 there)
+      ∙ ap (λ (xs : List (List ℕ)). all_marked n (xs ++ [])) unsent in
+      let arrives = lost.arrives n d device in
+      let front = none_both ((taken_by n d a ++ []) ++ on_host_link n d new) arrives.0 (arrives.1 ∙ before) in
+      let both = none_both (taken_by n d a ++ []) (on_host_link n d new) front.0 in (
+        sym (append-nil (taken_by n d a)) ∙ both.0,
+        (both.1, λ still.
+            let whole = one_step n d old new s a device orderly rule still in
+            (none_both (taken_by n d a) (transit n d new)
+            (whole ∙ ap (λ (xs : List (List ℕ)). xs ++ all_marked n (sent_by n d a)) (none.1 there) ∙ ap (all_marked n) unsent)).1),
+      )
+]
+  where
+    lost : NothingLost old (a ∷ []) new
+    lost = nothing_lost old (s ∷ []) (a ∷ []) new orderly (new, rule, refl)
+
 -- nor taken
 none_other : (n c d : ℕ) (old new : Places) (s : Step) (a : Answer) → n ≢ control_port → IsOrderly old → Rule old s (Ok a) new → IsSteady n c a
-    → d ≢ c → transit n d old ≡ [] → (taken_by n d a ≡ []) × (transit n d new ≡ [])
-none_other n c d old new s a device orderly rule steady other none =
-    none_both (taken_by n d a) (transit n d new)
-    (one_step n d old new s a device orderly rule ∙ ap (λ (xs : List (List ℕ)). xs ++ all_marked n (sent_by n d a)) none
-    ∙ ap (all_marked n) (unsent_other n c d a steady other))
+    → d ≢ c → IsAway n d old → (taken_by n d a ≡ []) × IsAway n d new
+none_other n c d old new s a device orderly rule steady other none = away_after n d old new s a device orderly rule none (unsent_other n c d a steady other)
 
 -- a step that neither takes nor sends
 still_above : (n c : ℕ) (old new : Places) (s : Step) (a : Answer) → n ≢ control_port → IsOrderly old → Rule old s (Ok a) new → taken_by n c a ≡ []
-    → sent_by n c a ≡ [] → transit n c new ≡ transit n c old
-still_above n c old new s a device orderly rule untaken unsent =
-    ap (λ (xs : List (List ℕ)). xs ++ transit n c new) (sym untaken) ∙ one_step n c old new s a device orderly rule
+    → sent_by n c a ≡ [] → is_removed n c new ≡ false → transit n c new ≡ transit n c old
+still_above n c old new s a device orderly rule untaken unsent there =
+    ap (λ (xs : List (List ℕ)). xs ++ transit n c new) (sym untaken) ∙ one_step n c old new s a device orderly rule there
     ∙ ap (λ (xs : List (List ℕ)). transit n c old ++ all_marked n xs) unsent ∙ append-nil (transit n c old)
 
 -- ## What goes down
@@ -145,14 +172,15 @@ flat_more n (x ∷ xs) f =
 
 -- ## Where nothing happens at either end
 
-wired_same : (n c : ℕ) (old new : Places) (disk given : List Happening) → transit n c new ≡ transit n c old → ((d : ℕ) → d ≢ c → transit n d new ≡ [])
-    → descending n new ≡ descending n old → IsWired n c old disk given → IsWired n c new disk given
-wired_same n c old new disk given above alone below w = record {
+wired_same : (n c : ℕ) (old new : Places) (disk given : List Happening) → transit n c new ≡ transit n c old → ((d : ℕ) → d ≢ c → IsAway n d new)
+    → IsUnremoved n c new → descending n new ≡ descending n old → IsWired n c old disk given → IsWired n c new disk given
+wired_same n c old new disk given above alone kept below w = record {
   down = w.down;
   up = w.up;
   linked = w.linked;
   above = above ∙ w.above;
   alone = alone;
+  kept = kept;
   below = subst (λ (xs : List (List ℕ)). AreAmong xs w.down) (sym below) w.below;
 }
 
@@ -172,13 +200,20 @@ only_given (x ∷ xs) plain e = cc e
 
 module _ (n c : ℕ) (old new : Places) (s : Step) (disk given : List Happening) (device : n ≢ control_port) (orderly : IsOrderly old)
     (w : IsWired n c old disk given) where
-  alone_after : (a : Answer) → Rule old s (Ok a) new → IsSteady n c a → (d : ℕ) → d ≢ c → transit n d new ≡ []
+  alone_after : (a : Answer) → Rule old s (Ok a) new → IsSteady n c a → (d : ℕ) → d ≢ c → IsAway n d new
   alone_after a rule steady d other = (none_other n c d old new s a device orderly rule steady other (w.alone d other)).1
+
+  kept_after : (a : Answer) → Rule old s (Ok a) new → IsSteady n c a → IsUnremoved n c new
+  kept_after a rule steady = steady_unremoved n c old new s a orderly rule steady w.kept
+
+  there_after : (a : Answer) → Rule old s (Ok a) new → IsSteady n c a → is_removed n c new ≡ false
+  there_after a rule steady = unremoved n c new (kept_after a rule steady)
 
   nothing : (a : Answer) → Rule old s (Ok a) new → IsSteady n c a → taken_by n c a ≡ [] → sent_by n c a ≡ [] → descending n new ≡ descending n old
       → IsWired n c new disk given
   nothing a rule steady untaken unsent below =
-      wired_same n c old new disk given (still_above n c old new s a device orderly rule untaken unsent) (alone_after a rule steady) below w
+      wired_same n c old new disk given (still_above n c old new s a device orderly rule untaken unsent (there_after a rule steady)) (alone_after a rule steady)
+      (kept_after a rule steady) below w
 
   -- ---- a FIS is sent
 
@@ -193,14 +228,15 @@ module _ (n c : ℕ) (old new : Places) (s : Step) (disk given : List Happening)
         up = w.up ++ bytes ∷ [];
         linked = sends disk given w.down w.up bytes (steady here).1 w.linked;
         above =
-            one_step n c old new s (answer.Sent port conn number bytes) device orderly rule
+            one_step n c old new s (answer.Sent port conn number bytes) device orderly rule (there_after (answer.Sent port conn number bytes) rule steady)
             ∙ ap (λ (xs : List (List ℕ)). transit n c old ++ all_marked n xs) is
             ∙ ap (λ (xs : List (List ℕ)). xs ++ all_marked n (bytes ∷ [])) w.above
             ∙ sym (all_marked-append n w.up (bytes ∷ []));
         alone = alone_after (answer.Sent port conn number bytes) rule steady;
+        kept = kept_after (answer.Sent port conn number bytes) rule steady;
         below =
             subst (λ (xs : List (List ℕ)). AreAmong xs w.down)
-            (sym (rests_below n old new (rule_moves_down old s (answer.Sent port conn number bytes) new rule))) w.below;
+            (sym (rests_below n old new (rule_moves_down old s (answer.Sent port conn number bytes) new orderly rule))) w.below;
       }
 
   sent_by_case : (port conn number : ℕ) (bytes : List ℕ) (b : Bool) → eqb port n ≡ b → Rule old s (Ok (answer.Sent port conn number bytes)) new
@@ -212,7 +248,7 @@ module _ (n c : ℕ) (old new : Places) (s : Step) (disk given : List Happening)
       if_false (port == n && conn == c) (bytes ∷ []) (and_false (port == n) (conn == c) (λ here. absurd (true≢false (sym here ∙ other)))) in
       subst (λ (xs : List Happening). IsWired n c new xs given) (sym (append-nil disk))
       (nothing (answer.Sent port conn number bytes) rule steady refl is
-      (rests_below n old new (rule_moves_down old s (answer.Sent port conn number bytes) new rule)))
+      (rests_below n old new (rule_moves_down old s (answer.Sent port conn number bytes) new orderly rule)))
 
   -- ---- a FIS is taken by the host
 
@@ -223,9 +259,9 @@ module _ (n c : ℕ) (old new : Places) (s : Step) (disk given : List Happening)
     wired : IsWired n c new disk_now (given ++ Sent plain ∷ [])
 
   first_of : (bytes : List ℕ) (rest : List (List ℕ)) (up : List (List ℕ)) → w.up ≡ up → bytes ∷ rest ≡ all_marked n up → transit n c new ≡ rest
-      → ((d : ℕ) → d ≢ c → transit n d new ≡ []) → descending n new ≡ descending n old → Comes bytes disk
-  first_of bytes rest [] is same left alone below = cc same
-  first_of bytes rest (u ∷ up) is same left alone below =
+      → ((d : ℕ) → d ≢ c → IsAway n d new) → IsUnremoved n c new → descending n new ≡ descending n old → Comes bytes disk
+  first_of bytes rest [] is same left alone kept below = cc same
+  first_of bytes rest (u ∷ up) is same left alone kept below =
       let linked : IsLinked disk given w.down (u ∷ up) = subst (IsLinked disk given w.down) is w.linked in
       let first : bytes ≡ marked u n = cc same in
       let others : rest ≡ all_marked n up = cc same in
@@ -239,6 +275,7 @@ module _ (n c : ℕ) (old new : Places) (s : Step) (disk given : List Happening)
           linked = takes disk given w.down up u linked;
           above = left ∙ others;
           alone = alone;
+          kept = kept;
           below = subst (λ (xs : List (List ℕ)). AreAmong xs w.down) (sym below) w.below;
         };
       }
@@ -255,9 +292,10 @@ module _ (n c : ℕ) (old new : Places) (s : Step) (disk given : List Happening)
             ap (λ (d : ℕ). taken_by n d (answer.Took port conn number bytes report)) (sym same) ∙ taken in
             let whole : bytes ∷ transit n c new ≡ all_marked n w.up =
             ap (λ (xs : List (List ℕ)). xs ++ transit n c new) (sym mine)
-            ∙ one_step n c old new s (answer.Took port conn number bytes report) device orderly rule ∙ append-nil (transit n c old) ∙ w.above in
+            ∙ one_step n c old new s (answer.Took port conn number bytes report) device orderly rule (there_after (answer.Took port conn number bytes report) rule tt) ∙ append-nil (transit n c old) ∙ w.above in
             first_of bytes (transit n c new) w.up refl whole refl (alone_after (answer.Took port conn number bytes report) rule tt)
-            (rests_below n old new (rule_moves_down old s (answer.Took port conn number bytes report) new rule))
+            (kept_after (answer.Took port conn number bytes report) rule tt)
+            (rests_below n old new (rule_moves_down old s (answer.Took port conn number bytes report) new orderly rule))
         | inr other ↦
             let none =
             (none_other n c conn old new s (answer.Took port conn number bytes report) device orderly rule tt other (w.alone conn other)).0 in
@@ -289,7 +327,7 @@ module _ (n c : ℕ) (old new : Places) (s : Step) (disk given : List Happening)
         next = λ plain e. absurd (none_sent plain e);
         wired = subst (IsWired n c new disk) (sym (append-nil given))
             (nothing (answer.Took port conn number bytes report) rule tt none refl
-            (rests_below n old new (rule_moves_down old s (answer.Took port conn number bytes report) new rule)));
+            (rests_below n old new (rule_moves_down old s (answer.Took port conn number bytes report) new orderly rule)));
       }
 
   -- ---- a FIS goes down
@@ -299,7 +337,7 @@ module _ (n c : ℕ) (old new : Places) (s : Step) (disk given : List Happening)
   pushed_case f b is rule starts = by_port b is
     where
       same : transit n c new ≡ transit n c old
-      same = still_above n c old new s answer.Pushed device orderly rule refl refl
+      same = still_above n c old new s answer.Pushed device orderly rule refl refl (there_after answer.Pushed rule tt)
 
       whole : (b : Bool) → eqb (pm_port f) n ≡ b → descending n new ≡ descending n old ++ (if b then marked f.bytes 0 ∷ [] else [])
       whole b is =
@@ -317,6 +355,7 @@ module _ (n c : ℕ) (old new : Places) (s : Step) (disk given : List Happening)
         linked = gives disk given w.down w.up (marked f.bytes 0) w.linked;
         above = same ∙ w.above;
         alone = alone_after answer.Pushed rule tt;
+        kept = kept_after answer.Pushed rule tt;
         below =
             subst (λ (xs : List (List ℕ)). AreAmong xs (w.down ++ marked f.bytes 0 ∷ [])) (sym (whole true is))
             (among_more (descending n old) w.down (marked f.bytes 0) w.below);
@@ -339,8 +378,9 @@ module _ (n c : ℕ) (old new : Places) (s : Step) (disk given : List Happening)
         down = w.down;
         up = w.up;
         linked = w.linked;
-        above = still_above n c old new s a device orderly rule untaken unsent ∙ w.above;
+        above = still_above n c old new s a device orderly rule untaken unsent (there_after a rule steady) ∙ w.above;
         alone = alone_after a rule steady;
+        kept = kept_after a rule steady;
         below = subst (λ (xs : List Stamped). AreAmong (map (λ g. g.bytes) xs ++ flat_map (for_port n) new.downward.frames) w.down) (sym falls) less;
       }
 
@@ -364,6 +404,39 @@ module _ (n c : ℕ) (old new : Places) (s : Step) (disk given : List Happening)
     | inr other ↦ gone_case (answer.Passed (passed.Down m)) f rule tt refl refl goes.link (goes.elsewhere n other)
   ]
 
+  -- ---- a removal is recorded
+
+  -- what waited at the port for a device that is gone is dropped
+  loses_here : Rule old s (Ok (answer.Presence n)) new → Loses n old new → IsWired n c new disk given
+  loses_here rule loses =
+      let a : Answer = answer.Presence n in
+      let bytes : List Stamped → List (List ℕ) = λ (xs : List Stamped). map (λ g. g.bytes) xs in
+      let lost : List Stamped = option_to_list (lost_from (port_at old.multiplier n).down (port_at new.multiplier n).down) in
+      let link : List (List ℕ) = flat_map (for_port n) new.downward.frames in
+      let split : descending n old ≡ (bytes (falling_to n new) ++ bytes lost) ++ link =
+      ap (λ (xs : List Stamped). map (λ g. g.bytes) xs ++ flat_map (for_port n) old.downward.frames) (sym loses.here)
+      ∙ ap (λ (xs : List Stamped). map (λ g. g.bytes) (falling_to n new ++ lost) ++ flat_map (for_port n) xs) (sym loses.link)
+      ∙ ap (λ (xs : List (List ℕ)). xs ++ link) (map-append (λ (g : Stamped). g.bytes) (falling_to n new) lost) in
+      record {
+        down = w.down;
+        up = w.up;
+        linked = w.linked;
+        above = still_above n c old new s (answer.Presence n) device orderly rule refl refl (there_after (answer.Presence n) rule tt) ∙ w.above;
+        alone = alone_after (answer.Presence n) rule tt;
+        kept = kept_after (answer.Presence n) rule tt;
+        below = among_but (bytes (falling_to n new)) (bytes lost) link w.down (subst (λ (xs : List (List ℕ)). AreAmong xs w.down) split w.below);
+      }
+
+  loses_case : (m : ℕ) → Rule old s (Ok (answer.Presence m)) new → Loses m old new → IsWired n c new disk given
+  loses_case m rule loses = elim (cases_eq n m) [
+    | inl same ↦
+        loses_here (subst (λ (k : ℕ). Rule old s (Ok (answer.Presence k)) new) (sym same) rule) (subst (λ (k : ℕ). Loses k old new) (sym same) loses)
+    | inr other ↦
+        nothing (answer.Presence m) rule tt refl refl
+        (ap (λ (xs : List Stamped). map (λ g. g.bytes) xs ++ flat_map (for_port n) new.downward.frames) (loses.elsewhere n other)
+        ∙ ap (λ (xs : List Stamped). map (λ g. g.bytes) (falling_to n old) ++ flat_map (for_port n) xs) loses.link)
+  ]
+
   -- ---- the device takes a FIS
 
   lands_here : (f : Stamped) (dropped : Bool) → Rule old s (Ok (answer.DiskTook n dropped)) new → Lands n f old new
@@ -385,16 +458,18 @@ module _ (n c : ℕ) (old new : Places) (s : Step) (disk given : List Happening)
         up = w.up;
         linked =
             comes disk given split.before split.after w.up f.bytes (subst (λ (xs : List (List ℕ)). IsLinked disk given xs w.up) split.is w.linked);
-        above = still_above n c old new s (answer.DiskTook n false) device orderly rule refl refl ∙ w.above;
+        above = still_above n c old new s (answer.DiskTook n false) device orderly rule refl refl (there_after (answer.DiskTook n false) rule tt) ∙ w.above;
         alone = alone_after (answer.DiskTook n false) rule tt;
+        kept = kept_after (answer.DiskTook n false) rule tt;
         below = split.rest;
       }
       by_drop true rule = subst (λ (xs : List Happening). IsWired n c new xs given) (sym (append-nil disk)) (record {
         down = w.down;
         up = w.up;
         linked = w.linked;
-        above = still_above n c old new s (answer.DiskTook n true) device orderly rule refl refl ∙ w.above;
+        above = still_above n c old new s (answer.DiskTook n true) device orderly rule refl refl (there_after (answer.DiskTook n true) rule tt) ∙ w.above;
         alone = alone_after (answer.DiskTook n true) rule tt;
+        kept = kept_after (answer.DiskTook n true) rule tt;
         below = among_without [] f.bytes (descending n new) w.down (subst (λ (xs : List (List ℕ)). AreAmong xs w.down) first w.below);
       })
 
@@ -427,6 +502,7 @@ to_port pm frame m after false rule = to_device pm frame m after (passes_to pm (
 
 passed_port : (old new : Places) (s : Step) (m : ℕ) → Rule old s (Ok (answer.Passed (passed.Down m))) new → IsPassed old new m
 passed_port old new (step.Came k) m rule = absurd (at_device old k (answer.Passed (passed.Down m)) new (CameRule k) rule).rule.1
+passed_port old new (step.Gone k) m rule = absurd (at_device old k (answer.Passed (passed.Down m)) new (GoneRule k) rule).rule.1
 passed_port old new (step.DiskSend k) m rule = absurd (at_device old k (answer.Passed (passed.Down m)) new (DiskSendRule k) rule).rule.1
 passed_port old new (step.Inject k bytes) m rule = absurd (at_device old k (answer.Passed (passed.Down m)) new (InjectRule k bytes) rule).rule.1
 passed_port old new (step.DiskTake k) m rule = absurd (at_device old k (answer.Passed (passed.Down m)) new (DiskTakeRule k) rule).rule
@@ -538,15 +614,18 @@ pub disks_stay_linked : DisksStayLinked
 disks_stay_linked n c old new s (answer.Came port conn) disk given device orderly rule steady w =
     nothing_on n c old new (answer.Came port conn) disk given (if_none (port == n) (Plugged ∷ []) steady) refl
     (nothing n c old new s disk given device orderly w (answer.Came port conn) rule steady refl refl
-    (rests_below n old new (rule_moves_down old s (answer.Came port conn) new rule)))
+    (rests_below n old new (rule_moves_down old s (answer.Came port conn) new orderly rule)))
+disks_stay_linked n c old new s (answer.Presence m) disk given device orderly rule steady w =
+    nothing_on n c old new (answer.Presence m) disk given refl refl
+    (loses_case n c old new s disk given device orderly w m rule (rule_moves_down old s (answer.Presence m) new orderly rule))
 disks_stay_linked n c old new s (answer.Sent port conn number bytes) disk given device orderly rule steady w =
     at_disk n c old new (answer.Sent port conn number bytes) disk given (if port == n then Sent bytes ∷ [] else []) refl refl
     (sent_by_case n c old new s disk given device orderly w port conn number bytes (port == n) refl rule steady)
 disks_stay_linked n c old new s (answer.DiskTook m dropped) disk given device orderly rule steady w =
-    let moves = rule_moves_down old s (answer.DiskTook m dropped) new rule in
+    let moves = rule_moves_down old s (answer.DiskTook m dropped) new orderly rule in
     disk_takes n c old new s m moves.0 dropped disk given device orderly rule moves.1 w
 disks_stay_linked n c old new s (answer.Passed (passed.Down m)) disk given device orderly rule steady w =
-    let moves = rule_moves_down old s (answer.Passed (passed.Down m)) new rule in
+    let moves = rule_moves_down old s (answer.Passed (passed.Down m)) new orderly rule in
     let p : IsPassed old new m = passed_port old new s m rule in
     let goes : Goes m moves.0 old new = moves.1 in
     let same : p.frame ≡ moves.0 = first_same moves.0 p.frame new.downward.frames p.rest old.downward.frames goes.link p.link in
@@ -554,12 +633,12 @@ disks_stay_linked n c old new s (answer.Passed (passed.Down m)) disk given devic
     nothing_on n c old new (answer.Passed (passed.Down m)) disk given refl refl
     (goes_case n c old new s disk given device orderly w m moves.0 port rule goes)
 disks_stay_linked n c old new s (answer.Passed passed.Control) disk given device orderly rule steady w =
-    let moves = rule_moves_down old s (answer.Passed passed.Control) new rule in
+    let moves = rule_moves_down old s (answer.Passed passed.Control) new orderly rule in
     let ends : Ends moves.0 old new = moves.1 in
     nothing_on n c old new (answer.Passed passed.Control) disk given refl refl
     (gone_case n c old new s disk given device orderly w (answer.Passed passed.Control) moves.0 rule tt refl refl ends.link (ends.falls n))
 disks_stay_linked n c old new s (answer.Passed passed.Dropped) disk given device orderly rule steady w =
-    let moves = rule_moves_down old s (answer.Passed passed.Dropped) new rule in
+    let moves = rule_moves_down old s (answer.Passed passed.Dropped) new orderly rule in
     let ends : Ends moves.0 old new = moves.1 in
     nothing_on n c old new (answer.Passed passed.Dropped) disk given refl refl
     (gone_case n c old new s disk given device orderly w (answer.Passed passed.Dropped) moves.0 rule tt refl refl ends.link (ends.falls n))
@@ -567,7 +646,7 @@ disks_stay_linked n c old new s (answer.Took port conn number bytes report) disk
     let k = took_by_case n c old new s disk given device orderly w port conn number bytes report (port == n) refl rule in
     at_host n c old new (answer.Took port conn number bytes report) disk given k.heard refl k.is k.next k.wired
 disks_stay_linked n c old new s answer.Pushed disk given device orderly rule steady w =
-    let moves = rule_moves_down old s answer.Pushed new rule in
+    let moves = rule_moves_down old s answer.Pushed new orderly rule in
     let f : Stamped = moves.0 in
     let more : flat_map (for_port n) (drop (length old.downward.frames) new.downward.frames) ≡ for_port n moves.0 =
     ap (λ (xs : List Stamped). flat_map (for_port n) xs) (started old new moves.0 moves.1) ∙ append-nil (for_port n moves.0) in
@@ -576,4 +655,4 @@ disks_stay_linked n c old new s answer.Pushed disk given device orderly rule ste
     (pushed_case n c old new s disk given device orderly w moves.0 (pm_port moves.0 == n) refl rule moves.1)
 disks_stay_linked n c old new s a disk given device orderly rule steady w =
     nothing_on n c old new a disk given refl refl
-    (nothing n c old new s disk given device orderly w a rule steady refl refl (rests_below n old new (rule_moves_down old s a new rule)))
+    (nothing n c old new s disk given device orderly w a rule steady refl refl (rests_below n old new (rule_moves_down old s a new orderly rule)))
