@@ -1,7 +1,7 @@
 -- A connection that is not unplugged is not removed, whatever a world does.
-use Rattle.std.proofs.Common.{◌≡◌, ◌≢◌, ℕ, suc, ◌+◌, ◌<◌, ◌≤◌, ◌==◌, Bool, true, false, eqb, List, [], ◌∷◌, ◌++◌, map, length, refl, sym, ap, subst, ◌∙◌, inl, inr, Option, Some, None, Ok, zero, arith}
+use Rattle.std.proofs.Common.{◌≡◌, ◌≢◌, ℕ, suc, ◌+◌, ◌<◌, ◌≤◌, Bool, true, false, List, [], ◌∷◌, ◌++◌, map, refl, sym, ap, subst, ◌∙◌, inl, inr, Option, Some, Ok, zero, arith}
 use Rattle.std.specs.Prelude.{if◌then◌else◌, is_none, slice_get, slice_set}
-use Rattle.std.proofs.lemmas.Bool.{cases_eq, eq-eqb, eqb-true, true≢false}
+use Rattle.std.proofs.lemmas.Bool.{cases_eq, eq-eqb, true≢false}
 use Rattle.std.proofs.lemmas.Option.{same_Some}
 use Rattle.disk_model.specs.declared.unit.Unit.{Unit}
 use Rattle.multiplier.proofs.Gone.{not_up_to}
@@ -10,7 +10,7 @@ use Rattle.multiplier.specs.Rules.{with_device as connected, without_device}
 use Rattle.multiplier.specs.State.{PmState, port_at}
 use Rattle.pm_ports.specs.Port.{PortState, came_refusal as port_came_refusal, gone_refusal as port_gone_refusal, with_connection, with_removal}
 use Rattle.pm_world.specs.Links.{on_presence}
-use Rattle.pm_world.specs.Places.{IsOrderly, Place, Places, is_config, new_world, opening, with_device, with_multiplier}
+use Rattle.pm_world.specs.Places.{IsOrderly, Place, Places, new_world, opening, with_device, with_multiplier}
 use Rattle.pm_world.specs.Rules.{CameActs, CameRule, DiskSendActs, DiskSendRule, DiskTakeActs, DiskTakeRule, GoneActs, GoneRule, InjectActs, InjectRule, PmDownRule, PmFromDeviceRule, PmPresenceRule, Rule, Run, recorded}
 use Rattle.pm_world.specs.Runs.{AfterEveryRun}
 use Rattle.pm_world.specs.Traffic.{is_removed}
@@ -300,11 +300,11 @@ module _ (n : ℕ) (old new : Places) (a : Answer) (q : Place) (now : slice_get 
           goes = subst (λ (j : ℕ). GoesBefore j (suc place.conn) a) (sym same) keeps.goes;
         }
     | inr other ↦ record {
-        place = q;
-        is = sym (slice_get-set_other old.devices m n after other) ∙ sym (ap (λ (ds : List Place). slice_get ds n) new_is) ∙ now;
-        conn = not_less q.conn q.conn refl;
-        goes = keeps.other n other (suc q.conn);
-      }
+      place = q;
+      is = sym (slice_get-set_other old.devices m n after other) ∙ sym (ap (λ (ds : List Place). slice_get ds n) new_is) ∙ now;
+      conn = not_less q.conn q.conn refl;
+      goes = keeps.other n other (suc q.conn);
+    }
   ]
 
   was_same : new.devices ≡ old.devices → GoesBefore n (suc q.conn) a → Was n old a q

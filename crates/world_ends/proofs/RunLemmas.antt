@@ -12,7 +12,6 @@ use Rattle.pm_world.specs.Laws.{happens}
 use Rattle.pm_world.specs.Places.{Place, Places, after_sending, with_device, with_multiplier}
 use Rattle.pm_world.specs.Rules.{CameActs, CameRule, DiskSendActs, DiskSendRule, DiskTakeActs, DiskTakeRule, GoneActs, GoneRule, InjectActs, InjectRule, PmDownRule, PmFromDeviceRule, PmPresenceRule, Rule, came_refusal, largest}
 use Rattle.pm_world.specs.Runs.{over}
-use Rattle.pm_world.specs.Traffic.{transit}
 use Rattle.pm_world.specs.declared.step.Step.{Step}
 use Rattle.pm_world.specs.declared.step.Step.TheVariants as step
 use Rattle.pm_world.specs.declared.step.StepError.TheVariants as error
@@ -23,8 +22,8 @@ use Rattle.pm_world.proofs.Lists.{slice_get-set_other, slice_get-set_same}
 use Rattle.pm_world.proofs.Orderly.{orderly_after}
 use Rattle.pm_world.proofs.Steps.{AtBoth, AtDevice, at_both, at_device}
 use Rattle.world_ends.specs.Wired.{AreAmong, AreFine, GoesOn, IsSteady, IsThere, IsAway, IsUnremoved, IsWired, PluggedIsLinked, RunsStayLinked, StaysWired, befalls, descending, injects, unplugs}
-use Rattle.world_ends.proofs.KeptLemmas.{came_unremoved, steady_unremoved, unremoved}
-use Rattle.world_ends.proofs.WiredLemmas.{away_after, disks_stay_linked, one_step, rests_below}
+use Rattle.world_ends.proofs.KeptLemmas.{came_unremoved, unremoved}
+use Rattle.world_ends.proofs.WiredLemmas.{away_after, disks_stay_linked, rests_below}
 
 -- ## The unit stays there
 

@@ -136,10 +136,13 @@ away_after n d old new s a device orderly rule none unsent = elim (cases_Bool (i
       let front = none_both ((taken_by n d a ++ []) ++ on_host_link n d new) arrives.0 (arrives.1 ∙ before) in
       let both = none_both (taken_by n d a ++ []) (on_host_link n d new) front.0 in (
         sym (append-nil (taken_by n d a)) ∙ both.0,
-        (both.1, λ still.
-            let whole = one_step n d old new s a device orderly rule still in
-            (none_both (taken_by n d a) (transit n d new)
-            (whole ∙ ap (λ (xs : List (List ℕ)). xs ++ all_marked n (sent_by n d a)) (none.1 there) ∙ ap (all_marked n) unsent)).1),
+        (
+          both.1,
+          λ still.
+              let whole = one_step n d old new s a device orderly rule still in
+              (none_both (taken_by n d a) (transit n d new)
+              (whole ∙ ap (λ (xs : List (List ℕ)). xs ++ all_marked n (sent_by n d a)) (none.1 there) ∙ ap (all_marked n) unsent)).1,
+        ),
       )
 ]
   where
