@@ -1,2 +1,1 @@
-pub mod OrderLemmas
 pub mod Replicas

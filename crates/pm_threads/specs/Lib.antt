@@ -1,4 +1,1 @@
-pub mod Beginnings
 pub mod Links
-pub mod OrderLaws
-pub mod Orders

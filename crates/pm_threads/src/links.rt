@@ -4,7 +4,7 @@ ghost use Rattle.std.specs.Prelude.{◌≡◌, ◌↔◌, true, false, IfOk};
 ghost use Rattle.ruled_links.specs.Links.{is_capacity};
 ghost use Rattle.pm_threads.specs.Links.{is_config, new_device, new_links};
 
-use crate::items::{Down, FromDevice, ToHost};
+use link_items::{Down, FromDevice, Presence, ToHost};
 use ruled_links::{Link, LinkError};
 use std::alloc::Global;
 use std::marker::Model;
@@ -42,7 +42,7 @@ impl From<LinkError> for LinksError {
 struct DeviceLinks {
     up: Link<FromDevice>,
     down: Link<Down>,
-    presence: Link<u32>,
+    presence: Link<Presence>,
 }
 
 impl Model for DeviceLinks {

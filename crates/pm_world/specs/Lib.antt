@@ -6,6 +6,8 @@ pub mod Counting
 pub mod Downward
 pub mod Turns
 pub mod Links
+pub mod Removals
+pub mod Cleared
 pub mod Delivery
 pub mod Apart
 pub mod Tickets

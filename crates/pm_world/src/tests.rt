@@ -2,6 +2,9 @@
 
 mod blocked;
 mod echo;
+mod faulting;
+mod found;
+mod going;
 mod memory;
 mod parts;
 mod reading;

@@ -1,0 +1,83 @@
+-- What the thread of a device does, deed by deed. The FISes and their stamps are those of the device's links; what happens to
+-- the device itself is its history, with its own words.
+use Rattle.std.specs.Prelude.{ℕ, ◌≡◌, ◌+◌, ◌==◌, ◌&&◌, Bool, true, false, if◌then◌else◌, List, [], ◌∷◌, ◌++◌, ⊤}
+use Rattle.fis_view.specs.Frames.{Stamped}
+use Rattle.disk_model.specs.Histories.{Happening, Received, Sent, Plugged}
+use Rattle.link_items.specs.declared.items.Presence.{Presence}
+use Rattle.link_items.specs.declared.items.Presence.TheVariants.{Came, Gone}
+
+pub data Deed : Type 0 where
+  -- the device was plugged in, under this connection
+  plugged_in : ℕ → Deed
+  -- the device was pulled out, and this connection is over
+  pulled_out : ℕ → Deed
+  -- this FIS of the host was taken
+  took : Stamped → Deed
+  -- the device gave this FIS
+  gave : Stamped → Deed
+
+-- the connection that a device has, or had last (0 before the first), and whether it is plugged in
+pub record Standing : Type 0 where
+  pub conn : ℕ
+  pub plugged : Bool
+
+-- before the first deed
+abbrev pub never_plugged : Standing
+never_plugged = record { conn = 0; plugged = false }
+
+abbrev pub after_deed : Standing → Deed → Standing
+after_deed s (plugged_in c) = record { conn = c; plugged = true }
+after_deed s (pulled_out c) = record { conn = s.conn; plugged = false }
+after_deed s (took f) = s
+after_deed s (gave f) = s
+
+-- whether the device hears this FIS of the host: it is plugged in, under the connection of the FIS
+abbrev pub hears : Standing → Stamped → Bool
+hears s f = s.plugged && f.stamp.conn == s.conn
+
+-- what the deed is to the device
+abbrev pub happens : Standing → Deed → List Happening
+happens s (plugged_in c) = Plugged ∷ []
+happens s (pulled_out c) = []
+happens s (took f) = if hears s f then Received f.bytes ∷ [] else []
+happens s (gave f) = Sent f.bytes ∷ []
+
+-- When a deed may be done by the device at port n. Each connection is one above the last, and a device gives a FIS under the
+-- connection that it has; it is one that the device may send.
+abbrev pub MayBeDone : (List ℕ → Type 0) → ℕ → Standing → Deed → Type 0
+MayBeDone MaySend n s (plugged_in c) = (s.plugged ≡ false) × (c ≡ s.conn + 1)
+MayBeDone MaySend n s (pulled_out c) = (s.plugged ≡ true) × (c ≡ s.conn)
+MayBeDone MaySend n s (took f) = ⊤
+MayBeDone MaySend n s (gave f) =
+    (s.plugged ≡ true) × (f.stamp.port ≡ n) × (f.stamp.conn ≡ s.conn) × MaySend f.bytes
+
+-- ---- which links they went over
+
+abbrev pub taken_by : Deed → List Stamped
+taken_by (took f) = f ∷ []
+taken_by _ = []
+
+abbrev pub given_by : Deed → List Stamped
+given_by (gave f) = f ∷ []
+given_by _ = []
+
+abbrev pub told_by : Deed → List Presence
+told_by (plugged_in c) = Came c ∷ []
+told_by (pulled_out c) = Gone c ∷ []
+told_by _ = []
+
+-- ---- many deeds, in one order
+
+unfoldable pub after_deeds : Standing → List Deed → Standing
+after_deeds s [] = s
+after_deeds s (d ∷ ds) = after_deeds (after_deed s d) ds
+
+unfoldable pub history_of : Standing → List Deed → List Happening
+history_of s [] = []
+history_of s (d ∷ ds) = happens s d ++ history_of (after_deed s d) ds
+
+-- each may be done after those before it
+unfoldable pub MayAllBeDone : (List Happening → List ℕ → Type 0) → ℕ → Standing → List Happening → List Deed → Type 0
+MayAllBeDone MaySend n s history [] = ⊤
+MayAllBeDone MaySend n s history (d ∷ ds) =
+    MayBeDone (MaySend history) n s d × MayAllBeDone MaySend n (after_deed s d) (history ++ happens s d) ds

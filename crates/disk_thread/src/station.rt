@@ -1,0 +1,247 @@
+//! A device at its port.
+
+ghost use Rattle.std.specs.Prelude.{◌≡◌, [], length, OnOk};
+ghost use Rattle.multiplier.specs.Orders.{of_connection};
+ghost use Rattle.disk_thread.specs.Runs.{GoesOnRunning, IsAtSamePort, IsRun, all_given};
+
+use crate::gate::Gate;
+use disk_model::Device;
+use fis_view::{Frame, Stamp};
+use link_items::{Down, FromDevice, Presence};
+use ruled_links::{Full, Rx, Tx};
+use runner::Fault;
+use std::alloc::Global;
+use std::marker::Model;
+use std::sync::Wait;
+
+/// A device with the seats of its links, and a place before each link on which it sends.
+#[derive(Drop)]
+pub struct Station<'a, D: Device + Drop> {
+    unit: D,
+    port: u8,
+    conn: u32,
+    plugged: bool,
+    number: u32,
+    commands: Rx<'a, Down>,
+    frames: Tx<'a, FromDevice>,
+    presence: Tx<'a, Presence>,
+    hand: Option<Frame>,
+    note: Option<Presence>,
+    /// How many FISes the device gave on each connection before this one, from 0 on.
+    past: Vec<u32>,
+    given: u64,
+}
+
+impl<'a, D: Device + Drop> Model for Station<'a, D> {
+    ghost use Rattle.std.specs.Prelude.{◌++◌};
+    ghost use Rattle.std.specs.Option.{option_to_list};
+    ghost use Rattle.disk_thread.specs.Runs.{ArePast, IsCounted, StationState};
+
+    ghost Value = { StationState D };
+
+    ghost view = { λ s. record {
+      unit = s.unit;
+      port = s.port;
+      standing = record { conn = s.conn; plugged = s.plugged };
+      number = s.number;
+      commands = s.commands;
+      frames = s.frames;
+      presence = s.presence;
+      hand = s.hand;
+      note = s.note;
+    } };
+
+    ghost invariant = { λ s. IsCounted (s.frames.sent ++ option_to_list s.hand) s.conn s.number
+        × ArePast s.past.items s.conn (s.frames.sent ++ option_to_list s.hand) };
+}
+
+impl<'a, D: Device + Drop> Station<'a, D> {
+    /// A device that was not plugged in yet, with seats that were not used. It has run no deed.
+    pub fn new(
+        alloc: Global,
+        port: u8,
+        unit: D,
+        commands: Rx<'a, Down>,
+        frames: Tx<'a, FromDevice>,
+        presence: Tx<'a, Presence>,
+    ) -> Self
+        requires commands { commands.taken ≡ [] }
+        requires frames { frames.sent ≡ [] }
+        requires presence { presence.sent ≡ [] }
+        ensures run { IsRun D.plan_of D.stands_for D.may_send unit result }
+        ensures port { result.port ≡ port }
+        ensures commands { result.commands ≡ commands.entry }
+        ensures frames { result.frames ≡ frames.entry }
+        ensures presence { result.presence ≡ presence.entry }
+    {
+        Station {
+            unit,
+            port,
+            conn: 0,
+            plugged: false,
+            number: 0,
+            commands,
+            frames,
+            presence,
+            hand: None,
+            note: None,
+            past: Vec::new(alloc),
+            given: 0,
+        }
+    }
+
+    /// The connection that the device has, or had last: 0 before the first.
+    pub fn conn(&self) -> u32
+        ensures { result ≡ self.now.standing.conn }
+    {
+        self.conn
+    }
+
+    /// How many FISes the device gave on this connection.
+    #[tactic(auto, using(crate::proofs::CountLemmas::none_later))]
+    pub fn given_on(&self, conn: u32) -> u64
+        ensures { result ≡ length (of_connection conn (all_given self.now)) }
+    {
+        if conn == self.conn {
+            return u64::from(self.number);
+        }
+        if conn > self.conn {
+            return 0;
+        }
+        u64::from(self.past[conn as usize])
+    }
+
+    /// How many FISes the device gave, up to the largest number.
+    pub(crate) fn given(&self) -> u64 {
+        self.given
+    }
+
+    /// Pulls the device out, if it is plugged in and that was told. It may come again under a later connection.
+    pub(crate) fn pull(&mut self) -> bool
+        ensures run { GoesOnRunning D.plan_of D.stands_for D.may_send self.old self.new }
+        ensures port { IsAtSamePort self.old self.new }
+    {
+        if !self.plugged || self.note.is_some() || self.conn == u32::MAX {
+            return false;
+        }
+        self.plugged = false;
+        self.note = Some(Presence::Gone(self.conn));
+        true
+    }
+
+    /// Plugs the device in under its next connection, if it is out and that was told.
+    pub(crate) fn plug(&mut self, alloc: Global) -> Result<bool, Fault>
+        ensures run { OnOk result (GoesOnRunning D.plan_of D.stands_for D.may_send self.old self.new) }
+        ensures port { IsAtSamePort self.old self.new }
+    {
+        if self.plugged || self.note.is_some() || self.conn == u32::MAX {
+            return Ok(false);
+        }
+        if self.unit.plugged(alloc).is_err() {
+            return Err(Fault::OutOfMemory);
+        }
+        if self.past.push(self.number).is_err() {
+            return Err(Fault::OutOfMemory);
+        }
+        self.conn += 1;
+        self.plugged = true;
+        self.number = 0;
+        self.note = Some(Presence::Came(self.conn));
+        Ok(true)
+    }
+
+    /// Tells that a connection came or went, once there is room on the link.
+    pub(crate) fn tell<R: Wait>(&mut self, rt: &R) -> bool
+        ensures run { GoesOnRunning D.plan_of D.stands_for D.may_send self.old self.new }
+        ensures port { IsAtSamePort self.old self.new }
+    {
+        let Some(change) = self.note.take() else {
+            return false;
+        };
+        match self.presence.send(rt, change) {
+            Ok(()) => true,
+            Err(Full(change)) => {
+                self.note = Some(change);
+                false
+            }
+        }
+    }
+
+    /// Takes a FIS of the host off its link, if the device is plugged in. It passes the gate, and the device sees it if it
+    /// is for its connection.
+    pub(crate) fn take<R: Wait, G: Gate>(
+        &mut self,
+        rt: &R,
+        alloc: Global,
+        gate: &G,
+    ) -> Result<bool, Fault>
+        ensures run { OnOk result (GoesOnRunning D.plan_of D.stands_for D.may_send self.old self.new) }
+        ensures port { IsAtSamePort self.old self.new }
+    {
+        if !self.plugged || self.note.is_some() {
+            return Ok(false);
+        }
+        let Some(Down(frame)) = self.commands.take(rt) else {
+            return Ok(false);
+        };
+        if gate.enter(self.port).is_err() {
+            return Err(Fault::GateShut);
+        }
+        if frame.stamp().conn == self.conn && self.unit.on_frame(alloc, &frame).is_err() {
+            return Err(Fault::OutOfMemory);
+        }
+        Ok(true)
+    }
+
+    /// Lets the device give its next FIS, if it is plugged in, that was told, and the one before has left.
+    pub(crate) fn give(&mut self, alloc: Global) -> Result<bool, Fault>
+        ensures run { OnOk result (GoesOnRunning D.plan_of D.stands_for D.may_send self.old self.new) }
+        ensures port { IsAtSamePort self.old self.new }
+    {
+        if self.hand.is_some() || !self.plugged || self.note.is_some() || self.number == u32::MAX {
+            return Ok(false);
+        }
+        let stamp = Stamp {
+            port: self.port,
+            conn: self.conn,
+            number: self.number,
+            shown: [0; 15],
+        };
+        match self.unit.next_out(alloc, stamp) {
+            Ok(Some(frame)) => {
+                self.hand = Some(frame);
+                self.number += 1;
+                self.given = self.given.saturating_add(1);
+                Ok(true)
+            }
+            Ok(None) => Ok(false),
+            Err(_) => Err(Fault::OutOfMemory),
+        }
+    }
+
+    /// Sends the FIS in the hand, once there is room on the link.
+    pub(crate) fn send<R: Wait>(&mut self, rt: &R) -> bool
+        ensures run { GoesOnRunning D.plan_of D.stands_for D.may_send self.old self.new }
+        ensures port { IsAtSamePort self.old self.new }
+    {
+        let Some(frame) = self.hand.take() else {
+            return false;
+        };
+        match self.frames.send(rt, FromDevice(frame)) {
+            Ok(()) => true,
+            Err(Full(FromDevice(frame))) => {
+                self.hand = Some(frame);
+                false
+            }
+        }
+    }
+
+    /// The seats, once the run is over.
+    pub fn into_seats(self) -> (Rx<'a, Down>, Tx<'a, FromDevice>, Tx<'a, Presence>)
+        ensures commands { result.0 ≡ self.entry.commands }
+        ensures frames { result.1 ≡ self.entry.frames }
+        ensures presence { result.2 ≡ self.entry.presence }
+    {
+        (self.commands, self.frames, self.presence)
+    }
+}

@@ -1,0 +1,123 @@
+//! A device's thread.
+
+ghost use Rattle.std.specs.Prelude.{◌≡◌, ◌<◌, length, IfSome, OnOk};
+ghost use Rattle.disk_thread.specs.Runs.{GoesOnRunning, IsAtSamePort};
+
+use crate::gate::Gate;
+use crate::station::Station;
+use disk_model::Device;
+use runner::{Fault, Worker};
+use std::alloc::Global;
+use std::marker::Model;
+use std::sync::Wait;
+use std::sync::atomic::{AtomicBool, Ordering};
+use std::thread;
+
+/// A device at its port, the gate of its FISes, and after how many of its FISes each pull is due.
+#[derive(Drop)]
+pub struct DiskWorker<'a, 'g, D: Device + Drop, G: Gate> {
+    station: Station<'a, D>,
+    gate: &'g G,
+    alloc: Global,
+    pulls: Vec<u32>,
+}
+
+impl<'a, 'g, D: Device + Drop, G: Gate> Model for DiskWorker<'a, 'g, D, G> {
+    ghost use Rattle.disk_thread.specs.Runs.{StationState};
+
+    ghost Value = { StationState D };
+
+    ghost view = { λ w. w.station };
+}
+
+/// What the thread of a device leaves, with the fault that ended it, if one did.
+#[derive(Drop)]
+pub struct DiskEnd<'a, D: Device + Drop> {
+    pub station: Station<'a, D>,
+    pub fault: Option<Fault>,
+}
+
+/// The place of a pull that is due after so many FISes.
+fn due(pulls: &[u32], given: u64) -> Option<usize>
+    ensures { IfSome result (λ i. i < length pulls.now) }
+{
+    pulls.iter().position(|after| u64::from(*after) <= given)
+}
+
+impl<'a, 'g, D: Device + Drop, G: Gate> DiskWorker<'a, 'g, D, G> {
+    /// A worker for this device. It is pulled out, and plugged in again, after as many FISes as each of the pulls says.
+    pub fn new(station: Station<'a, D>, gate: &'g G, alloc: Global, pulls: Vec<u32>) -> Self
+        ensures { result ≡ station.entry }
+    {
+        DiskWorker {
+            station,
+            gate,
+            alloc,
+            pulls,
+        }
+    }
+
+    /// Pulls the device out if a pull is due.
+    fn pull(&mut self) -> bool
+        ensures run { GoesOnRunning D.plan_of D.stands_for D.may_send self.old self.new }
+        ensures port { IsAtSamePort self.old self.new }
+    {
+        let Some(i) = due(self.pulls.as_slice(), self.station.given()) else {
+            return false;
+        };
+        if !self.station.pull() {
+            return false;
+        }
+        self.pulls.swap_remove(i);
+        true
+    }
+
+    /// Tries each step once, and says whether anything moved.
+    fn turn<R: Wait>(&mut self, rt: &R) -> Result<bool, Fault>
+        ensures run { OnOk result (GoesOnRunning D.plan_of D.stands_for D.may_send self.old self.new) }
+        ensures port { IsAtSamePort self.old self.new }
+    {
+        let pulled = self.pull();
+        let plugged = self.station.plug(self.alloc)?;
+        let told = self.station.tell(rt);
+        let took = self.station.take(rt, self.alloc, self.gate)?;
+        let gave = self.station.give(self.alloc)?;
+        let sent = self.station.send(rt);
+        Ok(pulled || plugged || told || took || gave || sent)
+    }
+}
+
+impl<'a, 'g, D: Device + Drop + Send, G: Gate + Sync> Worker for DiskWorker<'a, 'g, D, G> {
+    type End = DiskEnd<'a, D>;
+
+    ghost use Rattle.std.specs.Prelude.{◌≡◌, None};
+    ghost use Rattle.disk_thread.specs.Runs.{GoesOnRunning, IsAtSamePort};
+
+    ghost ended = { λ worker end. IsAtSamePort worker end.station
+        × (end.fault ≡ None → GoesOnRunning D.plan_of D.stands_for D.may_send worker end.station) };
+
+    fn work<R: Wait>(mut self, rt: &R, stop: &AtomicBool, turns: u64) -> DiskEnd<'a, D> {
+        let mut fault = None;
+        for _ in 0..turns {
+            if stop.load(Ordering::SeqCst) {
+                break;
+            }
+            match self.turn(rt) {
+                Ok(true) => {}
+                Ok(false) => thread::yield_now(),
+                Err(e) => {
+                    fault = Some(e);
+                    break;
+                }
+            }
+        }
+        stop.store(true, Ordering::SeqCst);
+        let DiskWorker {
+            station,
+            gate: _,
+            alloc: _,
+            pulls: _,
+        } = self;
+        DiskEnd { station, fault }
+    }
+}

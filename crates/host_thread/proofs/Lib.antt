@@ -1,0 +1,3 @@
+pub mod Polling
+pub mod Steps
+pub mod Tallies

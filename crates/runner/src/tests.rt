@@ -1,0 +1,84 @@
+//! What no clause says: that all workers work at the same time, and that refused memory is answered once all have ended.
+
+ghost use Rattle.std.specs.Prelude.{◌≡◌};
+
+use crate::{Worker, run_three};
+use std::alloc::{AllocError, Global};
+use std::sync::Wait;
+use std::sync::atomic::{AtomicBool, AtomicU64, Ordering};
+use std::test::Fail;
+use std::thread;
+
+/// Says that it is there, and waits until so many others are.
+#[derive(Drop)]
+struct Guest<'a> {
+    number: u64,
+    there: &'a AtomicU64,
+    all: u64,
+}
+
+impl<'a> Worker for Guest<'a> {
+    type End = Option<u64>;
+
+    ghost use Rattle.std.specs.Prelude.{◌≡◌, IfSome};
+
+    ghost ended = { λ guest end. IfSome end (λ n. n ≡ guest.number) };
+
+    fn work<R: Wait>(self, _rt: &R, stop: &AtomicBool, turns: u64) -> Option<u64> {
+        self.there.fetch_add(1, Ordering::SeqCst);
+        for _ in 0..turns {
+            if stop.load(Ordering::SeqCst) {
+                return None;
+            }
+            if self.there.load(Ordering::SeqCst) >= self.all {
+                return Some(self.number);
+            }
+            thread::yield_now();
+        }
+        stop.store(true, Ordering::SeqCst);
+        None
+    }
+}
+
+/// So many guests beside two more: who has met all others.
+fn met<R: Wait + thread::Threads + Sync>(
+    rt: &R,
+    alloc: Global,
+    many: u64,
+) -> Result<(Vec<Option<u64>>, Option<u64>, Option<u64>), AllocError> {
+    let there = AtomicU64::new(0);
+    let all = many.saturating_add(2);
+    let mut guests = Vec::new(alloc);
+    for number in 0..many {
+        guests.push(Guest {
+            number,
+            there: &there,
+            all,
+        })?;
+    }
+    let one = Guest {
+        number: 100,
+        there: &there,
+        all,
+    };
+    let other = Guest {
+        number: 200,
+        there: &there,
+        all,
+    };
+    let stop = AtomicBool::new(false);
+    run_three(rt, alloc, guests, one, other, &stop, 100_000_000)
+}
+
+#[test]
+fn all_are_there_at_once(rt: HostRuntime) -> Result<(), Fail> {
+    for many in [0, 1, 15] {
+        let (ends, one, other) = met(&rt, rt.alloc(), many)?;
+        assert_eq!(rt; (one, other), (Some(100), Some(200)));
+        for (i, end) in ends.iter().enumerate() {
+            assert_eq!(rt; *end, Some(i as u64));
+        }
+        assert_eq!(rt; ends.len() as u64, many);
+    }
+    Ok(())
+}
