@@ -1,11 +1,12 @@
 -- A device at its port, with the seats of its links, and what a run of it is.
-use Rattle.std.specs.Prelude.{ℕ, ◌≡◌, List, ◌++◌, Option}
+use Rattle.std.specs.Prelude.{ℕ, ◌≡◌, ◌<◌, List, ◌++◌, length, Option}
+use Rattle.std.proofs.Common.{get_or}
 use Rattle.std.specs.List.{flat_map}
 use Rattle.std.specs.Option.{option_to_list}
 use Rattle.fis_view.specs.Frames.{Stamped}
 use Rattle.disk_model.specs.Histories.{Happening, Plan}
 use Rattle.ruled_links.specs.Links.{Seat}
-use Rattle.multiplier.specs.Orders.{InDeviceOrder}
+use Rattle.multiplier.specs.Orders.{InDeviceOrder, of_connection}
 use Rattle.link_items.specs.OrderLaws.{IsAt}
 use Rattle.link_items.specs.declared.items.Presence.{Presence}
 use Rattle.disk_thread.specs.Deeds.{Deed, Standing, never_plugged, after_deeds, history_of, MayAllBeDone, taken_by, given_by, told_by}
@@ -40,6 +41,11 @@ all_told s = s.presence.sent ++ option_to_list s.note
 pub record IsCounted (fises : List Stamped) (conn number : ℕ) : Type 0 where
   pub order : InDeviceOrder fises
   pub at : IsAt fises conn number
+
+-- how many of these FISes are of each connection before this one, from 0 on
+pub record ArePast (past : List ℕ) (conn : ℕ) (fises : List Stamped) : Type 0 where
+  pub long : length past ≡ conn
+  pub each : (c other : ℕ) → c < conn → get_or past c other ≡ length (of_connection c fises)
 
 -- A run of the device that was given in: there is one order of deeds, each of which might be done after those before it,
 -- that led to what the station is now. The device stands for its history with theirs at the end, and the lists of the seats

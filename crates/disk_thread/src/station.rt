@@ -1,7 +1,8 @@
 //! A device at its port.
 
-ghost use Rattle.std.specs.Prelude.{◌≡◌, [], OnOk, IfOk};
-ghost use Rattle.disk_thread.specs.Runs.{GoesOnRunning, IsAtSamePort, IsRun};
+ghost use Rattle.std.specs.Prelude.{◌≡◌, [], length, OnOk};
+ghost use Rattle.multiplier.specs.Orders.{of_connection};
+ghost use Rattle.disk_thread.specs.Runs.{GoesOnRunning, IsAtSamePort, IsRun, all_given};
 
 use crate::gate::Gate;
 use disk_model::Device;
@@ -26,13 +27,15 @@ pub struct Station<'a, D: Device + Drop> {
     presence: Tx<'a, Presence>,
     hand: Option<Frame>,
     note: Option<Presence>,
+    /// How many FISes the device gave on each connection before this one, from 0 on.
+    past: Vec<u32>,
     given: u64,
 }
 
 impl<'a, D: Device + Drop> Model for Station<'a, D> {
     ghost use Rattle.std.specs.Prelude.{◌++◌};
     ghost use Rattle.std.specs.Option.{option_to_list};
-    ghost use Rattle.disk_thread.specs.Runs.{IsCounted, StationState};
+    ghost use Rattle.disk_thread.specs.Runs.{ArePast, IsCounted, StationState};
 
     ghost Value = { StationState D };
 
@@ -48,12 +51,14 @@ impl<'a, D: Device + Drop> Model for Station<'a, D> {
       note = s.note;
     } };
 
-    ghost invariant = { λ s. IsCounted (s.frames.sent ++ option_to_list s.hand) s.conn s.number };
+    ghost invariant = { λ s. IsCounted (s.frames.sent ++ option_to_list s.hand) s.conn s.number
+        × ArePast s.past.items s.conn (s.frames.sent ++ option_to_list s.hand) };
 }
 
 impl<'a, D: Device + Drop> Station<'a, D> {
     /// A device that was not plugged in yet, with seats that were not used. It has run no deed.
     pub fn new(
+        alloc: Global,
         port: u8,
         unit: D,
         commands: Rx<'a, Down>,
@@ -80,8 +85,30 @@ impl<'a, D: Device + Drop> Station<'a, D> {
             presence,
             hand: None,
             note: None,
+            past: Vec::new(alloc),
             given: 0,
         }
+    }
+
+    /// The connection that the device has, or had last: 0 before the first.
+    pub fn conn(&self) -> u32
+        ensures { result ≡ self.now.standing.conn }
+    {
+        self.conn
+    }
+
+    /// How many FISes the device gave on this connection.
+    #[tactic(auto, using(crate::proofs::CountLemmas::none_later))]
+    pub fn given_on(&self, conn: u32) -> u64
+        ensures { result ≡ length (of_connection conn (all_given self.now)) }
+    {
+        if conn == self.conn {
+            return u64::from(self.number);
+        }
+        if conn > self.conn {
+            return 0;
+        }
+        u64::from(self.past[conn as usize])
     }
 
     /// How many FISes the device gave, up to the largest number.
@@ -111,6 +138,9 @@ impl<'a, D: Device + Drop> Station<'a, D> {
             return Ok(false);
         }
         if self.unit.plugged(alloc).is_err() {
+            return Err(Fault::OutOfMemory);
+        }
+        if self.past.push(self.number).is_err() {
             return Err(Fault::OutOfMemory);
         }
         self.conn += 1;

@@ -97,7 +97,7 @@ fn worked(
             .map_err(|_| "full")?;
     }
     let disk = Disk::new(alloc, 16, DiskPlan::plain())?;
-    let station = Station::new(3, disk, taken, given, posted);
+    let station = Station::new(alloc, 3, disk, taken, given, posted);
     let pulls = Vec::from_slice(alloc, pulls)?;
     let door = Door { open };
     let stop = AtomicBool::new(false);

@@ -1,8 +1,8 @@
 use Rattle.std.proofs.Common.{rules, ◌≡◌, ◌++◌, true, None, refl, sym, ap, subst, ◌∙◌, append-nil}
 use Rattle.std.specs.Option.{option_to_list}
 use Rattle.disk_model.specs.Histories.{SendsNext}
-use Rattle.disk_thread.specs.Runs.{IsCounted, IsRun}
-use Rattle.disk_thread.proofs.CountLemmas.{counted_more}
+use Rattle.disk_thread.specs.Runs.{ArePast, IsCounted, IsRun}
+use Rattle.disk_thread.proofs.CountLemmas.{counted_more, past_more}
 use Rattle.disk_thread.proofs.DeedLemmas.{run_gave}
 use Rattle.disk_thread.proofs.station.Station.give.Goals as goal
 
@@ -12,9 +12,10 @@ invariant_of-self g c =
     let empty : c.self.inside.hand ≡ None = search rules in
     let of_conn : c.in-Ok-Some.frame.stamp.conn ≡ c.self.inside.conn = search rules in
     let of_number : c.in-Ok-Some.frame.stamp.number ≡ c.self.inside.number = search rules in
-    counted_more sent _ _ c.in-Ok-Some.frame
-    (subst (λ l. IsCounted l c.self.inside.conn c.self.inside.number) (ap (λ o. sent ++ option_to_list o) empty ∙ append-nil sent) c.self.invariant)
-    of_conn of_number
+    let same : sent ++ option_to_list c.self.inside.hand ≡ sent = ap (λ o. sent ++ option_to_list o) empty ∙ append-nil sent in
+    let counted : IsCounted sent c.self.inside.conn c.self.inside.number = subst (λ l. IsCounted l c.self.inside.conn c.self.inside.number) same c.self.invariant.0 in
+    let past : ArePast c.self.inside.past.items c.self.inside.conn sent = subst (λ l. ArePast c.self.inside.past.items c.self.inside.conn l) same c.self.invariant.1 in
+    (counted_more sent _ _ c.in-Ok-Some.frame counted of_conn of_number, past_more _ sent _ c.in-Ok-Some.frame past of_conn)
 
 pub returns-in-Ok-Some-clause-run : goal.returns-in-Ok-Some-clause-run
 returns-in-Ok-Some-clause-run g c opening r =

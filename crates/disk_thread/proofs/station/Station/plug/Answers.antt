@@ -1,12 +1,14 @@
-use Rattle.std.proofs.Common.{rules, ◌≡◌, false, None, refl, sym, subst}
+use Rattle.std.proofs.Common.{rules, ◌≡◌, ◌++◌, ◌∷◌, [], false, None, refl, sym, subst}
 use Rattle.disk_model.specs.Histories.{GoesOn, Plugged}
 use Rattle.disk_thread.specs.Runs.{IsRun}
-use Rattle.disk_thread.proofs.CountLemmas.{counted_comes}
+use Rattle.disk_thread.proofs.CountLemmas.{counted_comes, past_comes}
 use Rattle.disk_thread.proofs.DeedLemmas.{run_plugged}
 use Rattle.disk_thread.proofs.station.Station.plug.Goals as goal
 
 pub invariant_of-self-2 : goal.invariant_of-self-2
-invariant_of-self-2 g c = counted_comes _ _ _ c.self.invariant
+invariant_of-self-2 g c =
+    let is : c.push.new.self.items ≡ c.self.inside.past.items ++ c.self.inside.number ∷ [] = search rules in
+    (counted_comes _ _ _ c.self.invariant.0, rw is (past_comes _ _ _ _ c.self.invariant.0 c.self.invariant.1))
 
 pub returns-clause-run : goal.returns-clause-run
 returns-clause-run g c opening r =
