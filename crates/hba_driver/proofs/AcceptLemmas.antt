@@ -1,9 +1,8 @@
 -- The port takes every write of a tick.
-use Rattle.std.proofs.Common.{◌≡◌, ℕ, ◌+◌, ◌<◌, ◌≤◌, Bool, true, false, ◌&&◌, nat_lt, List, [], ◌∷◌, length, replicate, refl, sym, ◌∙◌, ap, subst, inl, inr, arith, Option, Some, None}
-use Rattle.std.specs.Prelude.{◌||◌, ◌==◌, ◌%◌, if◌then◌else◌, is_some, not, slice_set}
+use Rattle.std.proofs.Common.{◌≡◌, ℕ, ◌+◌, ◌*◌, ◌<◌, ◌≤◌, Bool, true, false, ◌&&◌, nat_lt, List, [], ◌∷◌, length, replicate, refl, sym, ◌∙◌, ap, subst, inl, inr, arith, Option, Some, None}
+use Rattle.std.specs.Prelude.{◌||◌, ◌==◌, ◌%◌, if◌then◌else◌, is_some, not}
 use Rattle.std.proofs.lemmas.Bool.{cases_Bool, cases_eq, cases_lt, false≢true, le-ltb, true≢false}
 use Rattle.std.proofs.lemmas.Bool.Decides.{nat_tests}
-use Rattle.std.specs.Option.{option_map, option_or}
 use Rattle.std.proofs.lemmas.List.{get_or-replicate, get_or_past, length-replicate}
 use Rattle.fis_view.specs.declared.build.H2dFields.{H2dFields}
 use Rattle.host_memory.specs.Memory.{IsHostMemory, Memory, is_memory_size}
@@ -12,57 +11,58 @@ use Rattle.hba_commands.specs.Commands.{is_proper}
 use Rattle.hba_commands.specs.Requests.{request_of, work_of}
 use Rattle.hba_commands.specs.Writing.{header_for, total_if_usable}
 use Rattle.slots.specs.Slots.{Issue, issue_at, match_some, no_own_slots, own_issue}
+use Rattle.hba_fbs.specs.declared.register.Register.TheVariants.{Is, Cmd, Fbs}
 use Rattle.hba_fbs.specs.declared.registers.Registers.{Registers}
+use Rattle.hba_fbs.specs.Offsets.{register_at}
+use Rattle.hba_fbs.specs.Registers.{falls, own_refusal, written}
 use Rattle.hba_fbs.specs.Views.{DeviceView, Flushes, Port}
 use Rattle.hba_fbs.specs.Sending.{outgoing}
+use Rattle.hba_fbs.specs.Writing.{Accepts, slots_refusal, write_refusal}
 use Rattle.hba_laws.specs.Client.{Touches}
 use Rattle.hba_laws.specs.Delivering.{touches_after}
 use Rattle.hba_laws.proofs.StandLemmas.{some_inj}
 use Rattle.hba_driver.specs.declared.effect.Effect.{Effect}
+use Rattle.hba_driver.specs.declared.effect.Effect.TheVariants as effect
 use Rattle.hba_driver.specs.declared.order.Order.{Order}
 use Rattle.hba_driver.specs.declared.order.Order.TheVariants.{ResetOn, ResetOff, AwaitSignature, CountPorts, SetMask, Enable, Open, Scan, Clear, Detect, Watch, NoMultiplier}
-use Rattle.hba_driver.specs.declared.plan.Plan.{Plan}
+use Rattle.hba_driver.specs.declared.path.Stage.{Stage}
+use Rattle.hba_driver.specs.declared.path.Stage.TheVariants.{Identify, ReadLog, AssertReset, ReleaseReset, AwaitReset}
 use Rattle.hba_driver.specs.declared.sight.Sight.{Sight}
 use Rattle.hba_driver.specs.declared.turn.Act.{Act}
 use Rattle.hba_driver.specs.declared.turn.Act.TheVariants as act
-use Rattle.hba_driver.specs.declared.turn.Turn.{Turn}
 use Rattle.hba_driver.specs.Accepted.{AreAccepted, TurnAccepts, TurnsAccept, WritesAreAccepted}
 use Rattle.hba_driver.specs.Drivers.{Driver, Entry, entry_at, is_issued}
-use Rattle.hba_driver.specs.Effects.{ActsAll, IsRuled, buffer_prd, effects_of, issuing, opening_write, order_effects, prds_with, sending, table_of}
+use Rattle.hba_driver.specs.Effects.{ActsAll, IsRuled, buffer_prd, clearing, effects_of, issuing, opening_write, order_effects, prds_with, restart_write, sending, stage_effects, table_of}
 use Rattle.hba_driver.specs.Events.{AreDriven, IsSoundHost, events_over, opening_host, shared_by}
 use Rattle.hba_driver.specs.HostTurns.{Does, DoesAll, Host, HostTurn, Took, Pushed, Ticked, Submitted, Polled, Put, sight_in}
-use Rattle.hba_driver.specs.Orders.{control_port, identify_fields, is_queued, order_fields, request_fields}
+use Rattle.hba_driver.specs.Orders.{control, control_port, identify_fields, is_queued, log_fields, order_fields, request_fields}
+use Rattle.hba_driver.specs.Paths.{stage_fields}
 use Rattle.hba_driver.specs.Served.{IsServed, RunServes}
+use Rattle.hba_driver.specs.Sights.{file_shown, px_cmd, px_fbs}
 use Rattle.hba_driver.specs.Ticks.{done_ended, due, effects, effects_due, seen, turn}
-use Rattle.hba_driver.specs.Submits.{after_poll, lowest_ended}
-use Rattle.hba_driver.specs.Turns.{control_news, control_seen, control_turn, device_seen, identify_due, is_idle, issue_of, order_due, request_due, turn_of}
-use Rattle.hba_driver.proofs.DrivenLemmas.{past, tick_is}
-use Rattle.hba_driver.proofs.DueLemmas.{Due, Waiting, due_turn}
+use Rattle.hba_driver.proofs.DrivenLemmas.{not_below, tick_is}
+use Rattle.hba_driver.proofs.DueLemmas.{Due, PlanGoes, Runs, Waiting, goes_turn, runs_then}
+use Rattle.hba_driver.proofs.EndingLemmas.{clear_taken, is_accepted, stop_taken}
 use Rattle.hba_driver.proofs.EventLemmas.{beside, sound_beside}
 use Rattle.hba_driver.proofs.FitLemmas.{AreFit, IsFit, fit_rephased, fit_turn}
 use Rattle.hba_driver.proofs.HistoryLemmas.{back_of}
-use Rattle.hba_driver.proofs.LifeLemmas.{keeps_done}
-use Rattle.hba_driver.proofs.OpenLemmas.{IsOpen, IsUp, open_gives, open_of, open_port, open_took, opens_taken, up_of}
+use Rattle.hba_driver.proofs.LifeLemmas.{due_seen, keeps_seen}
+use Rattle.hba_driver.proofs.OpenLemmas.{IsUp, opens_taken, restart_taken, stays_gives, stays_took, up_of, zero_either}
 use Rattle.hba_driver.proofs.ServedLemmas.{seen_served, turns_serve}
 use Rattle.hba_driver.proofs.ServingLemmas.{IsFree, not_busy}
 use Rattle.hba_driver.proofs.SoundLemmas.{hosts_stay_sound, sound_turn}
-use Rattle.hba_driver.proofs.TickingLemmas.{free_identify, free_order, not_both, request_port}
+use Rattle.hba_driver.proofs.TickingLemmas.{free_order, free_slot, not_both, request_port, step_dev}
 use Rattle.hba_driver.proofs.UpLemmas.{IsIssuedAt, Issues, Placed, free_by, issuing_taken, same_free, sntf_step}
 
 -- ---- what an act leaves, where the port takes it
 
 pub record Taken (es : List Effect) (old : Port) (before : Memory) (new : Port) (after : Memory) (acts : ActsAll es old before new after) : Type 0 where
   pub accepted : AreAccepted es old before new after acts
-  pub up : IsUp new.registers
   pub unarmed : new.registers.armed ≡ 0
 
-none_taken : (old new : Port) (before after : Memory) (acts : ActsAll [] old before new after) → IsUp old.registers → old.registers.armed ≡ 0 → Taken [] old before new after acts
+none_taken : (old new : Port) (before after : Memory) (acts : ActsAll [] old before new after) → old.registers.armed ≡ 0 → Taken [] old before new after acts
 unfolding ActsAll AreAccepted
-none_taken old new before after acts up none = record {
-  accepted = tt;
-  up = subst (λ (p : Port). IsUp p.registers) (sym acts.0) up;
-  unarmed = ap (λ (p : Port). p.registers.armed) acts.0 ∙ none;
-}
+none_taken old new before after acts none = record { accepted = tt; unarmed = ap (λ (p : Port). p.registers.armed) acts.0 ∙ none }
 
 -- a command of the driver's own
 sending_taken : (slot dev : ℕ) (fields : H2dFields) (buffer : Bool) (old new : Port) (before after : Memory) → slot < 32 → dev < 16 → IsUp old.registers → old.registers.armed ≡ 0 → issue_at old.slots slot ≡ None
@@ -83,7 +83,7 @@ sending_taken slot dev fields buffer old new before after below dev_below up non
     let i : Issues slot dev false fields acts.0 acts.1 new after acts.4 =
     issuing_taken slot dev false (prds_with buffer) fields acts.0 new acts.1 after below dev_below (subst (λ (p : Port). IsUp p.registers) (sym acts.2.0) up)
     (ap (λ (p : Port). p.registers.armed) acts.2.0 ∙ none) (ap (λ (p : Port). issue_at p.slots slot) acts.2.0 ∙ free) placed acts.4 in
-    record { accepted = (tt, i.accepted); up = i.up; unarmed = i.unarmed }
+    record { accepted = (tt, i.accepted); unarmed = i.unarmed }
 
 -- ---- orders
 
@@ -118,7 +118,7 @@ command_effects o = match_some o [] (λ f. sending 31 control_port f false)
 
 command_taken : (o : Option H2dFields) (old new : Port) (before after : Memory) → ((f : H2dFields) → o ≡ Some f → IsOrderly f) → IsUp old.registers → old.registers.armed ≡ 0 → issue_at old.slots 31 ≡ None
     → (acts : ActsAll (command_effects o) old before new after) → Taken (command_effects o) old before new after acts
-command_taken None old new before after is up none free acts = none_taken old new before after acts up none
+command_taken None old new before after is up none free acts = none_taken old new before after acts none
 command_taken (Some f) old new before after is up none free acts =
     sending_taken 31 control_port f false old new before after (omega arith) (omega arith) up none free (ap (λ (k : ℕ). k % 16) (is f refl).to) refl (omega arith) (is f refl).proper acts
 
@@ -155,7 +155,7 @@ order_taken Scan old new before after up none free acts =
     let s = sntf_step old acts.0 before acts.1 up acts.2 in
     let c : Taken (command_effects (order_fields Scan)) acts.0 acts.1 new after acts.4 =
     command_taken (order_fields Scan) acts.0 new acts.1 after (orderly Scan) s.0.up (s.1 ∙ none) (same_free old acts.0 31 acts.3.table s.0.views free) acts.4 in
-    record { accepted = (s.0.accepted, c.accepted); up = c.up; unarmed = c.unarmed }
+    record { accepted = (s.0.accepted, c.accepted); unarmed = c.unarmed }
 order_taken (Clear port) old new before after up none free acts =
     let flushed : Flushes old port acts.0 = acts.2.0 in
     let next : acts.4.0 ≡ acts.0 = acts.4.2.0 in
@@ -165,7 +165,7 @@ order_taken (Clear port) old new before after up none free acts =
     let c : Taken (command_effects (order_fields (Clear port))) acts.4.0 acts.4.1 new after acts.4.4 =
     command_taken (order_fields (Clear port)) acts.4.0 new acts.4.1 after (orderly (Clear port)) (subst (λ (p : Port). IsUp p.registers) (sym next) up1)
     (ap (λ (p : Port). p.registers.armed) next ∙ none1) (ap (λ (p : Port). issue_at p.slots 31) next ∙ free1) acts.4.4 in
-    record { accepted = (tt, (tt, c.accepted)); up = c.up; unarmed = c.unarmed }
+    record { accepted = (tt, (tt, c.accepted)); unarmed = c.unarmed }
 
 -- ---- the identify command
 
@@ -196,6 +196,63 @@ identify_taken dev old new before after below up none free m acts =
     small : (n : ℕ) → n < 15 → n % 16 ≡ n
     small n h = omega (arith, h)
 
+-- ---- each stage of a path
+
+log_proper : (dev : ℕ) → is_proper (header_for (request_of (log_fields dev)) (table_of 30) 1) (request_of (log_fields dev)) 512 30 false ≡ true
+unfolding is_proper work_of
+log_proper dev = identify_test (dev % 16 == dev % 16) (equal_is (dev % 16) (dev % 16) refl)
+
+control_proper : (dev value : ℕ) → is_proper (header_for (request_of (control dev value)) (table_of 30) 0) (request_of (control dev value)) 0 30 false ≡ true
+unfolding is_proper work_of
+control_proper dev value = rw (equal_is (dev % 16) (dev % 16) refl) refl
+
+small_dev : (n : ℕ) → n < 15 → n % 16 ≡ n
+small_dev n h = omega (arith, h)
+
+control_taken : (dev value : ℕ) (old new : Port) (before after : Memory) → dev < 15 → IsUp old.registers → old.registers.armed ≡ 0 → issue_at old.slots 30 ≡ None
+    → (acts : ActsAll (sending 30 dev (control dev value) false) old before new after) → Taken (sending 30 dev (control dev value) false) old before new after acts
+control_taken dev value old new before after below up none free acts =
+    sending_taken 30 dev (control dev value) false old new before after (omega arith) (omega (arith, below)) up none free (small_dev dev below) refl (omega arith) (control_proper dev value) acts
+
+step_taken : (dev : ℕ) (stage : Stage) (old new : Port) (before after : Memory) → dev < 15 → IsUp old.registers → old.registers.armed ≡ 0 → issue_at old.slots 30 ≡ None → IsHostMemory before
+    → (acts : ActsAll (stage_effects dev stage) old before new after) → Taken (stage_effects dev stage) old before new after acts
+unfolding stage_fields
+step_taken dev Identify old new before after below up none free m acts = identify_taken dev old new before after below up none free m acts
+step_taken dev (ReadLog file) old new before after below up none free m acts =
+    sending_taken 30 dev (log_fields dev) true old new before after (omega arith) (omega (arith, below)) up none free (small_dev dev below) (buffer_usable (length before.client) m.client_least) (omega arith)
+    (log_proper dev) acts
+step_taken dev AssertReset old new before after below up none free m acts = control_taken dev 4 old new before after below up none free acts
+step_taken dev ReleaseReset old new before after below up none free m acts = control_taken dev 0 old new before after below up none free acts
+step_taken dev AwaitReset old new before after below up none free m acts = none_taken old new before after acts none
+
+-- ---- the writes that stop the port, start it again, and clear a device
+
+stops_taken : (old new : Port) (before after : Memory) → old.registers.receives ≡ true → old.registers.armed ≡ 0 → (acts : ActsAll (effect.Writes px_cmd 131088 ∷ []) old before new after)
+    → Taken (effect.Writes px_cmd 131088 ∷ []) old before new after acts
+unfolding ActsAll AreAccepted register_at written
+stops_taken old new before after on none acts =
+    let free : write_refusal old before px_cmd 131088 ≡ None = stop_taken old before on in
+    let accepts : Accepts old before Cmd 131088 acts.0 = acts.2.0.accepted free in
+    record { accepted = (free, tt); unarmed = ap (λ (p : Port). p.registers.armed) acts.4.0 ∙ ap (λ (r : Registers). r.armed) accepts.registers ∙ zero_either (falls old.registers 131088) old.registers.armed none }
+
+restarts_taken : (k n : ℕ) (old new : Port) (before after : Memory) → k < 2 → 7 ≤ n → AreDriven n k old.registers → old.registers.armed ≡ 0 → (acts : ActsAll (restart_write k ∷ []) old before new after)
+    → Taken (restart_write k ∷ []) old before new after acts
+unfolding ActsAll AreAccepted
+restarts_taken k n old new before after less least driven none acts =
+    let s = restart_taken k n less least old acts.0 before acts.1 acts.2 driven in
+    record { accepted = (s.0, tt); unarmed = ap (λ (p : Port). p.registers.armed) acts.4.0 ∙ s.2 none }
+
+clears_taken : (dev : ℕ) (old new : Port) (before after : Memory) → old.registers.switching ≡ true → old.registers.armed ≡ 0 → (acts : ActsAll (clearing dev) old before new after)
+    → Taken (clearing dev) old before new after acts
+unfolding ActsAll AreAccepted register_at written own_refusal slots_refusal
+clears_taken dev old new before after on none acts =
+    let first : Accepts old before Is 1224736768 acts.0 = is_accepted 1224736768 old acts.0 before acts.1 acts.2 in
+    let switches : acts.0.registers.switching ≡ true = ap (λ (r : Registers). r.switching) first.registers ∙ on in
+    let unarmed : acts.0.registers.armed ≡ 0 = ap (λ (r : Registers). r.armed) first.registers ∙ none in
+    let free : write_refusal acts.0 acts.1 px_fbs (256 * dev + 3) ≡ None = clear_taken dev acts.0 acts.1 switches in
+    let second : Accepts acts.0 acts.1 Fbs (256 * dev + 3) acts.4.0 = acts.4.2.0.accepted free in
+    record { accepted = (refl, (free, tt)); unarmed = ap (λ (p : Port). p.registers.armed) acts.4.4.0 ∙ ap (λ (r : Registers). r.armed) second.registers ∙ unarmed }
+
 -- ---- a request is issued
 
 -- what is known of the driver that has looked at all that came, and of the port beside it
@@ -205,8 +262,13 @@ pub record Knows (d : Driver) (port : Port) (memory : Memory) : Type 0 where
   pub fit : AreFit d memory
   pub ruled : IsRuled port
   pub sized : IsHostMemory memory
-  pub up : IsUp port.registers
+  pub least : 7 ≤ d.plan.opened
+  pub driven : AreDriven d.plan.opened d.plan.restarted port.registers
   pub unarmed : port.registers.armed ≡ 0
+
+-- a port that is not to be started again runs
+pub is_up : (d : Driver) (port : Port) (memory : Memory) → Knows d port memory → nat_lt d.plan.restarted 2 ≡ false → IsUp port.registers
+is_up d port memory k more = up_of d.plan.opened d.plan.restarted port.registers k.least (not_below d.plan.restarted 2 more) k.driven
 
 not_issued : (o : Option Issue) → is_some o ≡ false → o ≡ None
 not_issued None h = refl
@@ -218,14 +280,14 @@ free_here d port memory k slot free = elim (cases_Bool (is_some (issue_at port.s
   | inr idle ↦ not_issued (issue_at port.slots slot) idle
 ]
 
-free_waiting : (d : Driver) (slot dev : ℕ) → Waiting d.entries slot dev → IsFree d slot
+free_waiting : (d : Driver) (slot dev : ℕ) → Waiting d.plan d.entries slot dev → IsFree d slot
 free_waiting d slot dev w n t (inl r) = absurd (not_both w.entry.head.phase w.waits_is (ap (λ (e : Entry). is_issued e.head) (some_inj w.entry r.entry (sym w.stands ∙ r.stands)) ∙ r.goes))
 free_waiting d slot dev w n t (inr (inl i)) = absurd (omega (arith, i.slot, w.below))
 free_waiting d slot dev w n t (inr (inr o)) = absurd (omega (arith, o.slot, w.below))
 
-pub issue_taken : (d : Driver) (slot dev : ℕ) (queued : Bool) (old new : Port) (before after : Memory) → Knows d old before → (w : Waiting d.entries slot dev) → is_queued w.entry.head.work ≡ queued
+pub issue_taken : (d : Driver) (slot dev : ℕ) (queued : Bool) (old new : Port) (before after : Memory) → Knows d old before → IsUp old.registers → (w : Waiting d.plan d.entries slot dev) → is_queued w.entry.head.work ≡ queued
     → (acts : ActsAll (issuing slot dev queued) old before new after) → Issues slot dev queued (request_fields slot w.entry.head) old before new after acts
-issue_taken d slot dev queued old new before after k w queue acts =
+issue_taken d slot dev queued old new before after k up w queue acts =
     let e : Entry = w.entry in
     let stood = k.served.commands slot e w.stands in
     let bounds = k.served.bounded.entries slot e w.stands in
@@ -239,7 +301,7 @@ issue_taken d slot dev queued old new before after k w queue acts =
       few = bounds.few;
       proper = subst (λ (b : Bool). is_proper (header_for (request_of (request_fields slot e.head)) (table_of slot) (length e.prds)) (request_of (request_fields slot e.head)) (total_of e.prds) slot b ≡ true) queue fit.proper;
     } in
-    issuing_taken slot dev queued e.prds (request_fields slot e.head) old new before after (omega (arith, w.below)) (subst (λ (n : ℕ). n < 16) w.of_dev (omega (arith, bounds.dev))) k.up k.unarmed
+    issuing_taken slot dev queued e.prds (request_fields slot e.head) old new before after (omega (arith, w.below)) (subst (λ (n : ℕ). n < 16) w.of_dev (omega (arith, bounds.dev))) up k.unarmed
     (free_here d old before k slot (free_waiting d slot dev w)) placed acts
   where
     small : (n : ℕ) → n < 15 → n % 16 ≡ n
@@ -247,173 +309,99 @@ issue_taken d slot dev queued old new before after k w queue acts =
 
 -- ---- each act
 
-pub act_taken : (d : Driver) (a : Option Act) (old new : Port) (before after : Memory) → Knows d old before → Due d.plan d.entries a → ((k : ℕ) → a ≡ Some (act.Opens k) → ⊥)
+pub act_taken : (d : Driver) (v : Sight) (a : Option Act) (old new : Port) (before after : Memory) → Knows d old before → Due v d.plan d.entries a → Runs d.plan a → ((k : ℕ) → a ≡ Some (act.Opens k) → ⊥)
     → (acts : ActsAll (effects_due a) old before new after) → Taken (effects_due a) old before new after acts
 unfolding effects_of
-act_taken d None old new before after k due opens acts = none_taken old new before after acts k.up k.unarmed
-act_taken d (Some (act.Opens n)) old new before after k due opens acts = absurd (opens n refl)
-act_taken d (Some (act.Orders order)) old new before after k due opens acts =
-    order_taken order old new before after k.up k.unarmed (free_here d old before k 31 (free_order d due)) acts
-act_taken d (Some (act.Identifies dev)) old new before after k due opens acts =
-    identify_taken dev old new before after due.1 k.up k.unarmed (free_here d old before k 30 (free_identify d due.0)) k.sized acts
-act_taken d (Some (act.Issues slot dev queued)) old new before after k due opens acts =
-    let i : Issues slot dev queued (request_fields slot due.0.entry.head) old before new after acts = issue_taken d slot dev queued old new before after k due.0 due.1 acts in
-    record { accepted = i.accepted; up = i.up; unarmed = i.unarmed }
+act_taken d v None old new before after k due runs opens acts = none_taken old new before after acts k.unarmed
+act_taken d v (Some (act.Opens n)) old new before after k due runs opens acts = absurd (opens n refl)
+act_taken d v (Some act.Stops) old new before after k due runs opens acts = stops_taken old new before after (is_up d old before k runs.1).receives k.unarmed acts
+act_taken d v (Some (act.Restarts n)) old new before after k due runs opens acts =
+    restarts_taken n d.plan.opened old new before after (subst (λ (m : ℕ). m < 2) (sym due.0) due.1) k.least (subst (λ (m : ℕ). AreDriven d.plan.opened m old.registers) (sym due.0) k.driven) k.unarmed acts
+act_taken d v (Some (act.Clears dev)) old new before after k due runs opens acts = clears_taken dev old new before after (is_up d old before k runs.1).switches k.unarmed acts
+act_taken d v (Some (act.Orders order)) old new before after k due runs opens acts =
+    order_taken order old new before after (is_up d old before k runs.1) k.unarmed (free_here d old before k 31 (free_order d due)) acts
+act_taken d v (Some (act.Steps dev stage)) old new before after k due runs opens acts =
+    step_taken dev stage old new before after (step_dev d dev stage k.served.bounded.path due) (is_up d old before k runs.1) k.unarmed (free_here d old before k 30 (free_slot d dev stage due)) k.sized acts
+act_taken d v (Some (act.Issues slot dev queued)) old new before after k due runs opens acts =
+    let i : Issues slot dev queued (request_fields slot due.0.entry.head) old before new after acts = issue_taken d slot dev queued old new before after k (is_up d old before k runs.1) due.0 due.1 acts in
+    record { accepted = i.accepted; unarmed = i.unarmed }
 
 -- ---- a host on its way
 
--- what is true of a host over turns from an opening, beside that it is sound
+-- what is true of a host over turns from an opening, beside that it is sound: between two turns no bit of PxSACT waits for its command
 pub record IsOnWay (h : Host) : Type 0 where
   pub sound : IsSoundHost h
   pub past : Touches
   pub served : IsServed h.driver (shared_by h) past
-  pub registers : IsOpen h.driver.plan.opened h.port.registers
+  pub unarmed : h.port.registers.armed ≡ 0
   pub fit : AreFit h.driver h.memory
 
 -- what a tick of an open port knows
 pub knows_seen : (h : Host) → IsOnWay h → 7 ≤ h.driver.plan.opened → Knows (seen (sight_in h) h.driver) h.port h.memory
-knows_seen h w least = record {
-  past = w.past;
-  served = seen_served h.port h.memory h.driver w.past (sound_beside h.port h.memory w.sound.ruled w.sound.memory) w.served;
-  fit = λ s f here.
-      let d : Driver = h.driver in
-      let b = back_of (entry_at d.entries s) (entry_at (done_ended (sight_in h).issued d.entries) s) (keeps_done (sight_in h).issued d.entries s) f here in
-      subst (λ (x : Entry). IsFit s x h.memory) (sym b.2.same) (fit_rephased f.head.phase s b.0 h.memory (w.fit s b.0 b.1));
-  ruled = w.sound.ruled;
-  sized = w.sound.memory;
-  up = up_of h.driver.plan.opened h.port.registers least w.sound.registers w.registers;
-  unarmed = w.registers.unarmed;
-}
-
--- ---- an open port opens no more
-
-record OpensNone (a : Option Act) : Type 0 where
-  pub other : (k : ℕ) → a ≡ Some (act.Opens k) → ⊥
-
-none_not : (k : ℕ) → None ≡ Some (act.Opens k) → ⊥
-none_not k h = cc
-
-orders_not : (order : Order) (k : ℕ) → Some (act.Orders order) ≡ Some (act.Opens k) → ⊥
-orders_not order k h = cc
-
-identifies_not : (dev k : ℕ) → Some (act.Identifies dev) ≡ Some (act.Opens k) → ⊥
-identifies_not dev k h = cc
-
-issues_not : (slot dev : ℕ) (queued : Bool) (k : ℕ) → Some (act.Issues slot dev queued) ≡ Some (act.Opens k) → ⊥
-issues_not slot dev queued k h = cc
-
-no_none : OpensNone None
-no_none = record { other = none_not }
-
-no_map_order : (fields : Option H2dFields) (o : Order) → OpensNone (option_map (λ f. act.Orders o) fields)
-no_map_order None o = no_none
-no_map_order (Some f) o = record { other = orders_not o }
-
-no_map_identify : (o : Option ℕ) → OpensNone (option_map act.Identifies o)
-no_map_identify None = no_none
-no_map_identify (Some dev) = record { other = identifies_not dev }
-
-no_if : (b : Bool) (a : Option Act) → OpensNone a → OpensNone (if b then None else a)
-no_if true a h = no_none
-no_if false a h = h
-
-no_or : (a b : Option Act) → OpensNone a → OpensNone b → OpensNone (option_or a b)
-no_or None b h k = k
-no_or (Some a) b h k = h
-
-no_entry : (s : ℕ) (x : Option Entry) → OpensNone (issue_of s x)
-no_entry s None = no_none
-no_entry s (Some e) = record { other = issues_not s e.head.dev (is_queued e.head.work) }
-
-no_lowest : (entries : List (Option Entry)) (o : Option ℕ) → OpensNone (match_some o None (λ slot. issue_of slot (entry_at entries slot)))
-no_lowest entries None = no_none
-no_lowest entries (Some s) = no_entry s (entry_at entries s)
-
-no_turn_if : (b : Bool) (t u : Turn) → OpensNone t.act → OpensNone u.act → OpensNone (if b then t else u).act
-no_turn_if true t u h k = h
-no_turn_if false t u h k = k
-
-no_device : (v : Sight) (plan : Plan) (entries : List (Option Entry)) → OpensNone (option_or (identify_due v plan) (request_due plan entries))
-unfolding identify_due request_due
-no_device v plan entries = no_or _ _ (no_if (is_some plan.identifying) _ (no_map_identify _)) (no_lowest entries _)
-
-no_control : (v : Sight) (news : Bool) (plan : Plan) (entries : List (Option Entry)) → OpensNone (control_turn v news plan entries).act
-no_control v news plan entries =
-    no_turn_if (is_idle plan.order) _ _ no_none
-    (no_turn_if (is_some (order_due plan)) _ _ (no_if plan.asked _ (no_map_order (order_fields plan.order) plan.order)) (no_device v (device_seen v plan) entries))
-
-no_turn : (v : Sight) (plan : Plan) (entries : List (Option Entry)) → nat_lt plan.opened 7 ≡ false → OpensNone (turn_of v plan entries).act
-unfolding turn_of
-no_turn v plan entries h = rw h (no_control v (control_news v plan) (control_seen v plan) entries)
+knows_seen h w least =
+    let v : Sight = sight_in h in
+    let goes : PlanGoes v h.driver.plan (turn v h.driver).plan = goes_turn v h.driver.plan (done_ended v.issued h.driver.entries) in
+    record {
+      past = w.past;
+      served = seen_served h.port h.memory h.driver w.past (sound_beside h.port h.memory w.sound.ruled w.sound.memory) w.served;
+      fit = λ s f here.
+          let d : Driver = h.driver in
+          let b = back_of (entry_at d.entries s) (entry_at (seen (sight_in h) d).entries s) (keeps_seen (sight_in h) d s) f here in
+          subst (λ (x : Entry). IsFit s x h.memory) (sym b.2.same) (fit_rephased f.head.phase s b.0 h.memory (w.fit s b.0 b.1));
+      ruled = w.sound.ruled;
+      sized = w.sound.memory;
+      least = subst (λ (n : ℕ). 7 ≤ n) (sym goes.opened) least;
+      driven =
+          subst (λ (n : ℕ). AreDriven n (turn v h.driver).plan.restarted h.port.registers) (sym goes.opened)
+          (subst (λ (m : ℕ). AreDriven h.driver.plan.opened m h.port.registers) (sym goes.restarted) w.sound.registers);
+      unarmed = w.unarmed;
+    }
 
 -- ---- a tick
 
--- the port takes the writes, and its registers are as they are after so many of the seven
-record Fine (n : ℕ) (es : List Effect) (old : Port) (before : Memory) (new : Port) (after : Memory) (acts : ActsAll es old before new after) : Type 0 where
-  pub accepted : AreAccepted es old before new after acts
-  pub registers : IsOpen n new.registers
-
-fine_by : (n : ℕ) (es fs : List Effect) (old new : Port) (before after : Memory) → es ≡ fs → (acts : ActsAll es old before new after) → ((x : ActsAll fs old before new after) → Fine n fs old before new after x)
-    → Fine n es old before new after acts
-fine_by n es fs old new before after is acts h =
-    subst (λ (gs : List Effect). (x : ActsAll gs old before new after) → Fine n gs old before new after x) (sym is) h acts
-
-fine_none : (n : ℕ) (old new : Port) (before after : Memory) → IsOpen n old.registers → (acts : ActsAll [] old before new after) → Fine n [] old before new after acts
+-- the write that opens the port is taken
+opening_taken : (k m : ℕ) (old new : Port) (before after : Memory) → k < 7 → AreDriven k m old.registers → old.registers.armed ≡ 0 → (acts : ActsAll (opening_write k ∷ []) old before new after)
+    → Taken (opening_write k ∷ []) old before new after acts
 unfolding ActsAll AreAccepted
-fine_none n old new before after is acts = record { accepted = tt; registers = open_port n old new acts.0 is }
+opening_taken k m old new before after less driven none acts =
+    let s = opens_taken k m less old acts.0 before acts.1 acts.2 driven in
+    record { accepted = (s.0, tt); unarmed = ap (λ (p : Port). p.registers.armed) acts.4.0 ∙ s.2 none }
 
-fine_opens : (k : ℕ) (old new : Port) (before after : Memory) → k < 7 → AreDriven k old.registers → IsOpen k old.registers → (acts : ActsAll (opening_write k ∷ []) old before new after)
-    → Fine (k + 1) (opening_write k ∷ []) old before new after acts
-unfolding ActsAll AreAccepted
-fine_opens k old new before after less driven is acts =
-    let s = opens_taken k less old acts.0 before acts.1 acts.2 driven is in
-    record { accepted = (s.0, tt); registers = open_port (k + 1) acts.0 new acts.4.0 s.1 }
-
-due_if : (b : Bool) (plan : Plan) (entries : List (Option Entry)) (a : Option Act) → Due plan entries a → Due plan entries (if b then None else a)
-due_if true plan entries a h = tt
-due_if false plan entries a h = h
+taken_by : (es fs : List Effect) (old new : Port) (before after : Memory) → es ≡ fs → (acts : ActsAll es old before new after) → ((x : ActsAll fs old before new after) → Taken fs old before new after x)
+    → Taken es old before new after acts
+taken_by es fs old new before after is acts h =
+    subst (λ (gs : List Effect). (x : ActsAll gs old before new after) → Taken gs old before new after x) (sym is) h acts
 
 -- what the turn of an open port knows
 pub record Goes (h : Host) : Type 0 where
   pub knows : Knows (seen (sight_in h) h.driver) h.port h.memory
-  pub due_is : Due (seen (sight_in h) h.driver).plan (seen (sight_in h) h.driver).entries (due (sight_in h) h.driver)
+  pub due_is : Due (sight_in h) (seen (sight_in h) h.driver).plan (seen (sight_in h) h.driver).entries (due (sight_in h) h.driver)
+  pub runs : Runs (seen (sight_in h) h.driver).plan (due (sight_in h) h.driver)
   pub opens : (k : ℕ) → due (sight_in h) h.driver ≡ Some (act.Opens k) → ⊥
-
-more_is : (n : ℕ) → 7 ≤ n → nat_lt n 7 ≡ false
-more_is n h = le-ltb n 7 h
 
 pub goes_on : (h : Host) → IsOnWay h → 7 ≤ h.driver.plan.opened → Goes h
 goes_on h w least =
     let v : Sight = sight_in h in
-    let entries : List (Option Entry) = done_ended v.issued h.driver.entries in
-    let none : OpensNone (due v h.driver) = no_if v.faulted (turn v h.driver).act (no_turn v h.driver.plan entries (more_is h.driver.plan.opened least)) in
+    let opened : (turn v h.driver).plan.opened ≡ h.driver.plan.opened = (goes_turn v h.driver.plan (done_ended v.issued h.driver.entries)).opened in
     record {
       knows = knows_seen h w least;
-      due_is = due_if v.faulted (turn v h.driver).plan entries (turn v h.driver).act (due_turn v h.driver.plan entries);
-      opens = none.other;
+      due_is = due_seen v h.driver;
+      runs = runs_then v h.driver.plan (done_ended v.issued h.driver.entries);
+      opens = λ k is.
+          let is_next : Due v (seen v h.driver).plan (seen v h.driver).entries (Some (act.Opens k)) =
+          subst (λ (a : Option Act). Due v (seen v h.driver).plan (seen v h.driver).entries a) is (due_seen v h.driver) in
+          omega (arith, least, opened, is_next.1);
     }
 
-pub tick_fine : (h : Host) (a : Bool) (new : Host) (does : Does h (Ticked a) new) → IsOnWay h
-    → AreAccepted (effects (sight_in h) h.driver) h.port h.memory new.port new.memory does.does × IsOpen new.driver.plan.opened new.port.registers
-tick_fine h a new does w = elim (tick_is (sight_in h) h.driver) [
-  | inl rest ↦
-      let opened : new.driver.plan.opened ≡ h.driver.plan.opened = ap (λ (d : Driver). d.plan.opened) does.driver ∙ ap (λ (p : Plan). p.opened) rest.plan_is in
-      let f : Fine h.driver.plan.opened (effects (sight_in h) h.driver) h.port h.memory new.port new.memory does.does =
-      fine_by h.driver.plan.opened (effects (sight_in h) h.driver) [] h.port new.port h.memory new.memory rest.none does.does (fine_none h.driver.plan.opened h.port new.port h.memory new.memory w.registers) in
-      (f.accepted, subst (λ (n : ℕ). IsOpen n new.port.registers) (sym opened) f.registers)
-  | inr some ↦ elim some [
-    | inl first ↦
-        let k : ℕ = h.driver.plan.opened in
-        let opened : new.driver.plan.opened ≡ k + 1 = ap (λ (d : Driver). d.plan.opened) does.driver ∙ ap (λ (p : Plan). p.opened) first.plan_is in
-        let f : Fine (k + 1) (effects (sight_in h) h.driver) h.port h.memory new.port new.memory does.does =
-        fine_by (k + 1) (effects (sight_in h) h.driver) (opening_write k ∷ []) h.port new.port h.memory new.memory first.one does.does (fine_opens k h.port new.port h.memory new.memory first.less w.sound.registers w.registers) in
-        (f.accepted, subst (λ (n : ℕ). IsOpen n new.port.registers) (sym opened) f.registers)
-    | inr going ↦
-        let g : Goes h = goes_on h w going.least in
-        let t : Taken (effects (sight_in h) h.driver) h.port h.memory new.port new.memory does.does =
-        act_taken (seen (sight_in h) h.driver) (due (sight_in h) h.driver) h.port new.port h.memory new.memory g.knows g.due_is g.opens does.does in
-        (t.accepted, open_of new.driver.plan.opened new.port.registers t.up t.unarmed)
-  ]
+pub tick_taken : (h : Host) (a : Bool) (new : Host) (does : Does h (Ticked a) new) → IsOnWay h → Taken (effects (sight_in h) h.driver) h.port h.memory new.port new.memory does.does
+tick_taken h a new does w = elim (tick_is (sight_in h) (file_shown new.port) h.driver) [
+  | inl first ↦
+      let k : ℕ = h.driver.plan.opened in
+      taken_by (effects (sight_in h) h.driver) (opening_write k ∷ []) h.port new.port h.memory new.memory first.one does.does
+      (opening_taken k h.driver.plan.restarted h.port new.port h.memory new.memory first.less w.sound.registers w.unarmed)
+  | inr going ↦
+      let g : Goes h = goes_on h w going.least in
+      act_taken (seen (sight_in h) h.driver) (sight_in h) (due (sight_in h) h.driver) h.port new.port h.memory new.memory g.knows g.due_is g.runs g.opens does.does
 ]
 
 -- ---- every turn
@@ -421,27 +409,16 @@ tick_fine h a new does w = elim (tick_is (sight_in h) h.driver) [
 abbrev one_turn : (old : Host) (t : HostTurn) (new : Host) → Does old t new → DoesAll old (t ∷ []) new
 one_turn old t new h = (new, h, refl)
 
-polled_plan : (d : Driver) → (after_poll d).plan ≡ d.plan
-unfolding after_poll
-polled_plan d = by_slot (lowest_ended d.entries)
-  where
-    by_slot : (o : Option ℕ) → (match_some o d (λ slot. let x : Driver = record d { entries = slice_set d.entries slot None } in x)).plan ≡ d.plan
-    by_slot None = refl
-    by_slot (Some slot) = refl
+same_armed : (p q : Port) → q ≡ p → p.registers.armed ≡ 0 → q.registers.armed ≡ 0
+same_armed p q is none = ap (λ (x : Port). x.registers.armed) is ∙ none
 
-open_turn : (old : Host) (t : HostTurn) (new : Host) → Does old t new → IsOnWay old → IsOpen new.driver.plan.opened new.port.registers
-open_turn old (Took frame report) new h w =
-    subst (λ (d : Driver). IsOpen d.plan.opened new.port.registers) (sym h.driver) (open_took old.driver.plan.opened old new frame report h w.registers)
-open_turn old (Pushed frame) new h w =
-    subst (λ (d : Driver). IsOpen d.plan.opened new.port.registers) (sym h.driver) (open_gives old.driver.plan.opened (outgoing old.port old.memory) old.port old.memory frame new.port h.gives w.registers)
-open_turn old (Ticked a) new h w = (tick_fine old a new h w).1
-open_turn old (Submitted dev request ticket) new h w =
-    subst (λ (d : Driver). IsOpen d.plan.opened new.port.registers) (sym h.taken.driver) (open_port old.driver.plan.opened old.port new.port h.port w.registers)
-open_turn old (Polled c) new h w =
-    subst (λ (n : ℕ). IsOpen n new.port.registers) (sym (ap (λ (d : Driver). d.plan.opened) h.driver ∙ ap (λ (p : Plan). p.opened) (polled_plan old.driver)))
-    (open_port old.driver.plan.opened old.port new.port h.port w.registers)
-open_turn old (Put at bytes) new h w =
-    subst (λ (d : Driver). IsOpen d.plan.opened new.port.registers) (sym h.driver) (open_port old.driver.plan.opened old.port new.port h.port w.registers)
+unarmed_turn : (old : Host) (t : HostTurn) (new : Host) → Does old t new → IsOnWay old → new.port.registers.armed ≡ 0
+unarmed_turn old (Took frame report) new h w = (stays_took old new frame report h).armed ∙ w.unarmed
+unarmed_turn old (Pushed frame) new h w = (stays_gives (outgoing old.port old.memory) old.port old.memory frame new.port h.gives).armed ∙ w.unarmed
+unarmed_turn old (Ticked a) new h w = (tick_taken old a new h w).unarmed
+unarmed_turn old (Submitted dev request ticket) new h w = same_armed old.port new.port h.port w.unarmed
+unarmed_turn old (Polled c) new h w = same_armed old.port new.port h.port w.unarmed
+unarmed_turn old (Put at bytes) new h w = same_armed old.port new.port h.port w.unarmed
 
 pub way_turn : (old : Host) (t : HostTurn) (new : Host) → Does old t new → IsOnWay old → IsOnWay new
 way_turn old t new h w =
@@ -451,7 +428,7 @@ way_turn old t new h w =
       sound = next;
       past = touches_after w.past (shared_by old) (shared_by new) (events_over old new (t ∷ []) (one_turn old t new h)) r.runs;
       served = r.last;
-      registers = open_turn old t new h w;
+      unarmed = unarmed_turn old t new h w;
       fit = fit_turn old t new h w.sound next w.served.bounded w.fit;
     }
 
@@ -469,14 +446,14 @@ way_opens given len right = record {
   sound = hosts_stay_sound.opens given len right;
   past = [];
   served = turns_serve.opens given len right;
-  registers = record { list_high = past 2 0 refl; area_high = past 4 0 refl; switches = past 5 0 refl; receives = past 6 0 refl; starts = past 7 0 refl; unarmed = refl };
+  unarmed = refl;
   fit = λ s e here. none_here s e here;
 }
 
 turn_accepts : (old : Host) (t : HostTurn) (new : Host) (h : Does old t new) → IsOnWay old → TurnAccepts old t new h
 turn_accepts old (Took frame report) new h w = tt
 turn_accepts old (Pushed frame) new h w = tt
-turn_accepts old (Ticked a) new h w = (tick_fine old a new h w).0
+turn_accepts old (Ticked a) new h w = (tick_taken old a new h w).accepted
 turn_accepts old (Submitted dev request ticket) new h w = tt
 turn_accepts old (Polled c) new h w = tt
 turn_accepts old (Put at bytes) new h w = tt

@@ -1,8 +1,8 @@
 -- What is issued is apart, and what is put spares it.
-use Rattle.std.proofs.Common.{◌≡◌, ◌≢◌, ℕ, ◌+◌, ◌<◌, ◌≤◌, ◌⊎◌, Bool, true, false, List, [], ◌∷◌, ◌++◌, length, refl, sym, ◌∙◌, ap, subst, inl, inr, arith, Option, Some, None}
-use Rattle.std.specs.Prelude.{◌&&◌, ◌||◌, nat_le, nat_lt, slice_get}
+use Rattle.std.proofs.Common.{◌≡◌, ℕ, ◌+◌, ◌<◌, ◌≤◌, Bool, true, false, List, [], ◌∷◌, ◌++◌, refl, sym, ◌∙◌, ap, inl, inr, arith, Option, Some, None}
+use Rattle.std.specs.Prelude.{◌&&◌, ◌||◌, nat_lt}
 use Rattle.std.specs.List.{list_any}
-use Rattle.std.proofs.lemmas.Bool.{cases_Bool, cases_eq, cases_lt, false≢true, or_parts, true≢false}
+use Rattle.std.proofs.lemmas.Bool.{cases_Bool, cases_eq, false≢true, or_parts, true≢false}
 use Rattle.std.proofs.lemmas.Bool.Decides.{nat_tests}
 use Rattle.host_memory.specs.Memory.{client_start}
 use Rattle.host_memory.specs.Place.{place, total_of}
@@ -10,14 +10,16 @@ use Rattle.host_memory.specs.Reading.{have_overlap, share_with}
 use Rattle.host_memory.specs.declared.table.Prd.{Prd}
 use Rattle.host_memory.proofs.OverlapLemmas.{apart_from_overlap, list_any-true, share_with-true}
 use Rattle.host_memory.proofs.PlaceLemmas.{place_has, place_injective}
-use Rattle.hba_laws.specs.Client.{AreApart, AreOne, By, IsKept, IsReading, IsSpared, Touches, is_in, own}
+use Rattle.hba_laws.specs.Client.{AreApart, AreOne, By, IsKept, IsSpared, Touches, is_in}
 use Rattle.hba_laws.specs.Delivering.{by_device}
 use Rattle.hba_laws.specs.History.{Event, Transfer, issued}
 use Rattle.hba_laws.specs.History as h
 use Rattle.hba_driver.specs.Drivers.{AreRequests, Driver, Entry, entry_at, is_read}
-use Rattle.hba_driver.specs.Effects.{buffer_prd}
+use Rattle.hba_driver.specs.declared.path.Path.{Path}
+use Rattle.hba_driver.specs.Effects.{prds_with, buffer_prd}
 use Rattle.hba_driver.specs.Requests.{in_use, is_among, is_used_by, share_bytes}
-use Rattle.hba_driver.specs.Served.{AreBounded, IsIdentify, IsIssueOf, IsOrdered, IsRequest, IssuesAreRequests}
+use Rattle.hba_driver.specs.Paths.{reads_page}
+use Rattle.hba_driver.specs.Served.{AreBounded, IsIssueOf, IsRequest, IsStep, IssuesAreRequests}
 use Rattle.hba_driver.proofs.IssuingLemmas.{From}
 use Rattle.hba_driver.proofs.StandLemmas.{in_slots}
 use Rattle.hba_driver.proofs.SubmitLemmas.{none_conflict}
@@ -49,6 +51,11 @@ none_in t i is below =
     let none : total_of t.table ≡ 0 = ap total_of is in
     omega (arith, none, below)
 
+-- no entry shares a byte with others
+beside_by : (b : Bool) (prds : List Prd) → share_with (buffer_prd ∷ []) prds ≡ false → share_with (prds_with b) prds ≡ false
+beside_by true prds h = h
+beside_by false prds h = refl
+
 module _ (d : Driver) (past : Touches) (issues : IssuesAreRequests d past) (bounded : AreBounded d) (requests : AreRequests d.given d.entries) where
   both_requests : (n s m r i j : ℕ) (t u : Transfer) → IsRequest d n s t → IsRequest d m r u → Rattle.slots.specs.Work.is_read t.work.kind ≡ true → have_overlap t.table ≡ false → i < total_of t.table → j < total_of u.table
       → place t.table i ≡ place u.table j → AreOne n s i m r j
@@ -67,10 +74,11 @@ module _ (d : Driver) (past : Touches) (issues : IssuesAreRequests d past) (boun
   ]
 
   -- the driver's buffer is apart from requests
-  request_beside : (n s m r i j : ℕ) (t u : Transfer) → IsIdentify d n s t → IsRequest d m r u → i < total_of t.table → j < total_of u.table → place t.table i ≡ place u.table j → ⊥
+  request_beside : (n s m r i j : ℕ) (t u : Transfer) → IsStep d n s t → IsRequest d m r u → i < total_of t.table → j < total_of u.table → place t.table i ≡ place u.table j → ⊥
   request_beside n s m r i j t u a b below below_other same =
       let none : share_with t.table u.table ≡ false =
-      ap (λ (l : List Prd). share_with l u.table) a.table ∙ ap (λ (l : List Prd). share_with (buffer_prd ∷ []) l) b.table ∙ (bounded.entries r b.entry b.stands).beyond in
+      ap (λ (l : List Prd). share_with l u.table) a.table ∙ ap (λ (l : List Prd). share_with (prds_with (reads_page a.path.stage)) l) b.table
+      ∙ beside_by (reads_page a.path.stage) b.entry.prds (bounded.entries r b.entry b.stands).beyond in
       other_places t.table u.table i j none below below_other same
 
   apart_by : (n s m r i j : ℕ) (t u : Transfer) → From d n s t → From d m r u → Rattle.slots.specs.Work.is_read t.work.kind ≡ true → have_overlap t.table ≡ false → i < total_of t.table → j < total_of u.table
@@ -81,11 +89,13 @@ module _ (d : Driver) (past : Touches) (issues : IssuesAreRequests d past) (boun
   apart_by n s m r i j t u (inl a) (inl b) reads apart below below_other same = both_requests n s m r i j t u a b reads apart below below_other same
   apart_by n s m r i j t u (inl a) (inr (inl b)) reads apart below below_other same = absurd (request_beside m r n s j i u t b a below_other below (sym same))
   apart_by n s m r i j t u (inr (inl a)) (inl b) reads apart below below_other same = absurd (request_beside n s m r i j t u a b below below_other same)
-  apart_by n s m r i j t u (inr (inl a)) (inr (inl b)) reads apart below below_other same = record {
-    devices = some_same n m (sym a.of_dev ∙ b.of_dev);
-    slots = a.slot ∙ sym b.slot;
-    numbers = one_place t.table u.table i j (a.table ∙ sym b.table) apart below below_other same;
-  }
+  apart_by n s m r i j t u (inr (inl a)) (inr (inl b)) reads apart below below_other same =
+      let one : a.path ≡ b.path = some_same a.path b.path (sym a.goes ∙ b.goes) in
+      record {
+        devices = sym a.of_dev ∙ ap (λ (p : Path). p.dev) one ∙ b.of_dev;
+        slots = a.slot ∙ sym b.slot;
+        numbers = one_place t.table u.table i j (a.table ∙ ap (λ (p : Path). prds_with (reads_page p.stage)) one ∙ sym b.table) apart below below_other same;
+      }
 
   pub issues_apart : AreApart past
   issues_apart n s m r i j t u a b below below_other same =
@@ -127,10 +137,14 @@ module _ (d : Driver) (past : Touches) (issues : IssuesAreRequests d past) (boun
 
     in_none : (n s i : ℕ) (t : Transfer) → From d n s t → i < total_of t.table → is_in at len (place t.table i) ≡ true → ⊥
     in_none n s i t (inr (inr a)) below h = none_in t i a.table below
-    in_none n s i t (inr (inl a)) below h =
-        let hit : is_among at len (buffer_prd ∷ []) ≡ true = ap (is_among at len) (sym a.table) ∙ among t.table i below h in
-        let free : is_among at len (buffer_prd ∷ []) ≡ false = ap (λ (b : Bool). b || false) (spared_parts (place t.table i) h).0 in
-        true≢false (sym hit ∙ free)
+    in_none n s i t (inr (inl a)) below h = by_stage (reads_page a.path.stage) a.table
+      where
+        by_stage : (b : Bool) → t.table ≡ prds_with b → ⊥
+        by_stage true is =
+            let hit : is_among at len (buffer_prd ∷ []) ≡ true = ap (is_among at len) (sym is) ∙ among t.table i below h in
+            let free : is_among at len (buffer_prd ∷ []) ≡ false = ap (λ (b : Bool). b || false) (spared_parts (place t.table i) h).0 in
+            true≢false (sym hit ∙ free)
+        by_stage false is = none_in t i is below
     in_none n s i t (inl a) below h =
         let hit : is_used_by at len (Some a.entry) ≡ true = ap (is_among at len) (sym a.table) ∙ among t.table i below h in
         let lies : s < 30 = in_slots d.entries s a.entry bounded.slots a.stands in

@@ -4,6 +4,7 @@ use Rattle.std.proofs.lemmas.Bool.{true≢false}
 use Rattle.hba_driver.specs.Drivers.{Driver, Entry, entry_at}
 use Rattle.hba_driver.specs.HostTurns.{Does, Host, HostTurn, Took, Pushed, Ticked, Submitted, Polled, Put, sight_in}
 use Rattle.hba_driver.specs.Laws.{GoesOn}
+use Rattle.hba_driver.specs.Sights.{file_shown}
 use Rattle.hba_driver.specs.Submits.{new_entry, next_slot}
 use Rattle.hba_driver.specs.Ticks.{after_tick}
 use Rattle.hba_driver.proofs.HistoryLemmas.{PollFacts, back_of, freed, poll_facts, some_same}
@@ -40,7 +41,7 @@ comes_from old (Took frame report) new h s f here = inl (stood_same old.driver n
 comes_from old (Pushed frame) new h s f here = inl (stood_same old.driver new.driver (Pushed frame) s f h.driver here)
 comes_from old (Ticked a) new h s f here =
     let d : Driver = old.driver in
-    let b = back_of (entry_at d.entries s) (entry_at (after_tick (sight_in old) d).entries s) (keeps_tick (sight_in old) d s) f (ap (λ (x : Driver). entry_at x.entries s) (sym h.driver) ∙ here) in
+    let b = back_of (entry_at d.entries s) (entry_at (after_tick (sight_in old) (file_shown new.port) d).entries s) (keeps_tick (sight_in old) (file_shown new.port) d s) f (ap (λ (x : Driver). entry_at x.entries s) (sym h.driver) ∙ here) in
     inl (record { entry = b.0; here = b.1; on = b.2; still = λ k. absurd (true≢false k) })
 comes_from old (Submitted dev request ticket) new h s f here =
     let d : Driver = old.driver in

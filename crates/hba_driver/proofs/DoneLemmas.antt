@@ -16,16 +16,22 @@ use Rattle.hba_fbs.specs.Reading.{value_of}
 use Rattle.hba_fbs.specs.Views.{Port}
 use Rattle.hba_driver.specs.declared.order.Order.{Order}
 use Rattle.hba_driver.specs.declared.order.Order.TheVariants.{Clear}
-use Rattle.hba_driver.specs.declared.request.Outcome.TheVariants.{Done, Removed}
+use Rattle.hba_driver.specs.declared.path.Stage.{Stage}
+use Rattle.hba_driver.specs.declared.path.Stage.TheVariants.{AssertReset}
+use Rattle.hba_driver.specs.declared.path.TaskFile.{TaskFile}
+use Rattle.hba_driver.specs.declared.request.Outcome.TheVariants.{Aborted, DeviceError, Done, PortError, Removed}
+use Rattle.hba_driver.specs.declared.sight.ErrorLog.{ErrorLog}
 use Rattle.hba_driver.specs.declared.sight.Sight.{Sight}
+use Rattle.hba_driver.specs.declared.slot.Head.{Head}
 use Rattle.hba_driver.specs.declared.slot.Phase.{Phase}
-use Rattle.hba_driver.specs.declared.slot.Phase.TheVariants.{Waits, Issued, Ended}
+use Rattle.hba_driver.specs.declared.slot.Phase.TheVariants.{Waits, Issued, Aside, Ended}
 use Rattle.hba_driver.specs.declared.turn.Act.{Act}
 use Rattle.hba_driver.specs.declared.turn.Act.TheVariants as act
-use Rattle.hba_driver.specs.Drivers.{Driver, Entry, entry_at, has_ended, has_ended_in, is_issued, rephase, rephased}
+use Rattle.hba_driver.specs.declared.turn.Logged.{Logged}
+use Rattle.hba_driver.specs.Drivers.{Driver, Entry, entry_at, has_ended, has_ended_in, is_issued, rephase, rephase_all, rephased}
 use Rattle.hba_driver.specs.Laws.{DoneIsFree}
 use Rattle.hba_driver.specs.Sights.{px_ci, px_sact, shown, sight_of}
-use Rattle.hba_driver.specs.Ticks.{acted, after_tick, entries_after, is_done, is_open_of, removed, seen, turn}
+use Rattle.hba_driver.specs.Ticks.{acted, after_tick, done_ended, entries_after, is_aside_of, is_done, is_named_of, is_open, is_open_of, log_outcome, logged_ended, removed, seen, stage_ended, turn}
 use Rattle.hba_driver.proofs.LifeLemmas.{entry_of_rephased}
 use Rattle.hba_driver.proofs.RequestLemmas.{set_cases}
 use Rattle.hba_driver.proofs.StandLemmas.{in_slots}
@@ -73,66 +79,103 @@ free_slot port memory s table below h =
 some_same : (e f : Entry) → Some e ≡ Some f → e ≡ f
 some_same e f h = cc
 
+-- a phase to which no act and no log but of the request itself brings a request
+pub record IsOwnEnd (P : Phase → Bool) : Type 0 where
+  pub issued : P Issued ≡ false
+  pub aside : P Aside ≡ false
+  pub aborted : P (Ended Aborted) ≡ false
+  pub removed : P (Ended Removed) ≡ false
+  pub stopped : P (Ended PortError) ≡ false
+
+-- a slot that had a request has one
+pub some_at : (test : ℕ → Head → Bool) (phase : Phase) (entries : List (Option Entry)) (s : ℕ) (g : Entry) → entry_at entries s ≡ Some g → (x : Entry) × (entry_at (rephase_all test phase entries) s ≡ Some x)
+some_at test phase entries s g here = by_test (test s g.head) (entry_of_rephased test phase entries s ∙ ap (rephase (test s) phase) here)
+  where
+    by_test : (b : Bool) → entry_at (rephase_all test phase entries) s ≡ (if b then Some (rephased phase g) else Some g) → (x : Entry) × (entry_at (rephase_all test phase entries) s ≡ Some x)
+    by_test true h = (rephased phase g, h)
+    by_test false h = (g, h)
+
+module _ (P : Phase → Bool) (own : IsOwnEnd P) where
+  pub end_same : (g f : Entry) → Some g ≡ Some f → P f.head.phase ≡ true → P g.head.phase ≡ true
+  end_same g f is h = subst (λ (x : Entry). P x.head.phase ≡ true) (sym (some_same g f is)) h
+
+  -- what comes to another phase was there before
+  pub end_turned : (b : Bool) (phase : Phase) (g f : Entry) → P phase ≡ false → (if b then Some (rephased phase g) else Some g) ≡ Some f → P f.head.phase ≡ true → P g.head.phase ≡ true
+  end_turned true phase g f other is h = absurd (true≢false (sym (end_same (rephased phase g) f is h) ∙ other))
+  end_turned false phase g f other is h = end_same g f is h
+
+  end_before : (test : ℕ → Head → Bool) (phase : Phase) → P phase ≡ false → (entries : List (Option Entry)) (s : ℕ) (g f : Entry) → entry_at entries s ≡ Some g → entry_at (rephase_all test phase entries) s ≡ Some f
+      → P f.head.phase ≡ true → P g.head.phase ≡ true
+  end_before test phase other entries s g f here there h =
+      let is : rephase (test s) phase (Some g) ≡ Some f = ap (rephase (test s) phase) (sym here) ∙ sym (entry_of_rephased test phase entries s) ∙ there in
+      end_turned (test s g.head) phase g f other is h
+
+  end_order : (order : Order) (entries : List (Option Entry)) (s : ℕ) (g f : Entry) → entry_at entries s ≡ Some g → entry_at (removed order entries) s ≡ Some f → P f.head.phase ≡ true → P g.head.phase ≡ true
+  end_order (Clear port) entries s g f here there h = end_before (is_open_of port) (Ended Removed) own.removed entries s g f here there h
+  end_order order entries s g f here there h = end_same g f (sym here ∙ there) h
+
+  end_stage : (dev : ℕ) (stage : Stage) (entries : List (Option Entry)) (s : ℕ) (g f : Entry) → entry_at entries s ≡ Some g → entry_at (stage_ended dev stage entries) s ≡ Some f → P f.head.phase ≡ true → P g.head.phase ≡ true
+  end_stage dev AssertReset entries s g f here there h = end_before (is_aside_of dev) (Ended Aborted) own.aborted entries s g f here there h
+  end_stage dev stage entries s g f here there h = end_same g f (sym here ∙ there) h
+
+  end_issue : (entries : List (Option Entry)) (slot s : ℕ) (g f : Entry) → entry_at entries s ≡ Some g
+      → ((s ≡ slot) × (option_map (rephased Issued) (entry_at entries slot) ≡ Some f)) ⊎ ((s ≢ slot) × (entry_at entries s ≡ Some f)) → P f.head.phase ≡ true → P g.head.phase ≡ true
+  end_issue entries slot s g f here (inl at) h =
+      let there : entry_at entries slot ≡ Some g = subst (λ (k : ℕ). entry_at entries k ≡ Some g) at.0 here in
+      let is : Some (rephased Issued g) ≡ Some f = ap (option_map (rephased Issued)) (sym there) ∙ at.1 in
+      absurd (true≢false (sym (end_same (rephased Issued g) f is h) ∙ own.issued))
+  end_issue entries slot s g f here (inr beside) h = end_same g f (sym here ∙ beside.1) h
+
+  pub acted_end : (a : Option Act) (file : TaskFile) (d : Driver) (s : ℕ) (g f : Entry) → entry_at d.entries s ≡ Some g → entry_at (acted a file d).entries s ≡ Some f → P f.head.phase ≡ true → P g.head.phase ≡ true
+  unfolding entries_after
+  acted_end None file d s g f here there h = end_same g f (sym here ∙ there) h
+  acted_end (Some (act.Opens k)) file d s g f here there h = end_same g f (sym here ∙ there) h
+  acted_end (Some act.Stops) file d s g f here there h = end_before is_open (Ended PortError) own.stopped d.entries s g f here there h
+  acted_end (Some (act.Restarts k)) file d s g f here there h = end_same g f (sym here ∙ there) h
+  acted_end (Some (act.Clears dev)) file d s g f here there h = end_before (is_open_of dev) Aside own.aside d.entries s g f here there h
+  acted_end (Some (act.Orders order)) file d s g f here there h = end_order order d.entries s g f here there h
+  acted_end (Some (act.Steps dev stage)) file d s g f here there h = end_stage dev stage d.entries s g f here there h
+  acted_end (Some (act.Issues slot dev queued)) file d s g f here there h =
+      end_issue d.entries slot s g f here (set_cases d.entries slot (option_map (rephased Issued) (entry_at d.entries slot)) s f there) h
+
+-- ---- Done
+
 abbrev isd : Phase → Bool
 isd Waits = false
 isd Issued = false
+isd Aside = false
 isd (Ended Done) = true
+isd (Ended (DeviceError status error)) = false
+isd (Ended Aborted) = false
 isd (Ended Removed) = false
+isd (Ended PortError) = false
 
 isd_ended : (p : Phase) → isd p ≡ true → has_ended_in p ≡ true
 isd_ended Waits h = h
 isd_ended Issued h = h
+isd_ended Aside h = h
 isd_ended (Ended o) h = refl
 
-done_same : (g f : Entry) → Some g ≡ Some f → isd f.head.phase ≡ true → isd g.head.phase ≡ true
-done_same g f is h = subst (λ (x : Entry). isd x.head.phase ≡ true) (sym (some_same g f is)) h
+isd_own : IsOwnEnd isd
+isd_own = record { issued = refl; aside = refl; aborted = refl; removed = refl; stopped = refl }
 
-done_removed : (b : Bool) (g f : Entry) → (if b then Some (rephased (Ended Removed) g) else Some g) ≡ Some f → isd f.head.phase ≡ true → isd g.head.phase ≡ true
-done_removed true g f is h = absurd (false≢true (done_same (rephased (Ended Removed) g) f is h))
-done_removed false g f is h = done_same g f is h
+log_error : (log : ErrorLog) (file : TaskFile) → isd (Ended (log_outcome log file)) ≡ false
+log_error log file = by_kind log.unqueued
+  where
+    by_kind : (b : Bool) → isd (Ended (if b then DeviceError file.status file.error else DeviceError log.status log.error)) ≡ false
+    by_kind true = refl
+    by_kind false = refl
 
-done_order : (order : Order) (entries : List (Option Entry)) (s : ℕ) (g f : Entry) → entry_at entries s ≡ Some g → entry_at (removed order entries) s ≡ Some f → isd f.head.phase ≡ true → isd g.head.phase ≡ true
-done_order (Clear port) entries s g f here there h =
-    let is : rephase (is_open_of port s) (Ended Removed) (Some g) ≡ Some f =
-    ap (rephase (is_open_of port s) (Ended Removed)) (sym here) ∙ sym (entry_of_rephased (is_open_of port) (Ended Removed) entries s) ∙ there in
-    done_removed (is_open_of port s g.head) g f is h
-done_order order entries s g f here there h = done_same g f (sym here ∙ there) h
-
-done_issue : (entries : List (Option Entry)) (slot s : ℕ) (g f : Entry) → entry_at entries s ≡ Some g
-    → ((s ≡ slot) × (option_map (rephased Issued) (entry_at entries slot) ≡ Some f)) ⊎ ((s ≢ slot) × (entry_at entries s ≡ Some f)) → isd f.head.phase ≡ true → isd g.head.phase ≡ true
-done_issue entries slot s g f here (inl at) h =
-    let there : entry_at entries slot ≡ Some g = subst (λ (k : ℕ). entry_at entries k ≡ Some g) at.0 here in
-    let is : Some (rephased Issued g) ≡ Some f = ap (option_map (rephased Issued)) (sym there) ∙ at.1 in
-    absurd (false≢true (done_same (rephased Issued g) f is h))
-done_issue entries slot s g f here (inr beside) h = done_same g f (sym here ∙ beside.1) h
-
-acted_done : (a : Option Act) (d : Driver) (s : ℕ) (g f : Entry) → entry_at d.entries s ≡ Some g → entry_at (acted a d).entries s ≡ Some f → isd f.head.phase ≡ true → isd g.head.phase ≡ true
-unfolding entries_after
-acted_done None d s g f here there h = done_same g f (sym here ∙ there) h
-acted_done (Some (act.Opens k)) d s g f here there h = done_same g f (sym here ∙ there) h
-acted_done (Some (act.Orders order)) d s g f here there h = done_order order d.entries s g f here there h
-acted_done (Some (act.Identifies dev)) d s g f here there h = done_same g f (sym here ∙ there) h
-acted_done (Some (act.Issues slot dev queued)) d s g f here there h =
-    done_issue d.entries slot s g f here (set_cases d.entries slot (option_map (rephased Issued) (entry_at d.entries slot)) s f there) h
+done_logged : (log : ErrorLog) (l : Option Logged) (entries : List (Option Entry)) (s : ℕ) (g f : Entry) → entry_at entries s ≡ Some g → entry_at (logged_ended log l entries) s ≡ Some f → isd f.head.phase ≡ true → isd g.head.phase ≡ true
+done_logged log None entries s g f here there h = end_same isd isd_own g f (sym here ∙ there) h
+done_logged log (Some l) entries s g f here there h =
+    let named : List (Option Entry) = rephase_all (is_named_of log l.dev) (Ended (log_outcome log l.file)) entries in
+    let mid = some_at (is_named_of log l.dev) (Ended (log_outcome log l.file)) entries s g here in
+    end_before isd isd_own (is_named_of log l.dev) (Ended (log_outcome log l.file)) (log_error log l.file) entries s g mid.0 here mid.1
+    (end_before isd isd_own (is_aside_of l.dev) (Ended Aborted) refl named s mid.0 f mid.1 there h)
 
 open_not : (e : Entry) → has_ended e.head ≡ false → isd e.head.phase ≡ true → ⊥
 open_not e open' h = true≢false (sym (isd_ended e.head.phase h) ∙ open')
-
-else_driver : (b : Bool) (x y : Driver) → b ≡ false → (if b then x else y) ≡ y
-else_driver true x y h = absurd (true≢false h)
-else_driver false x y h = refl
-
-then_driver : (b : Bool) (x y : Driver) → b ≡ true → (if b then x else y) ≡ x
-then_driver true x y h = refl
-then_driver false x y h = absurd (false≢true h)
-
-faulted_tick : (v : Sight) (d : Driver) → v.faulted ≡ true → after_tick v d ≡ d
-unfolding after_tick
-faulted_tick v d h = then_driver v.faulted d (acted (turn v d).act (seen v d)) h
-
-acted_tick : (v : Sight) (d : Driver) → v.faulted ≡ false → after_tick v d ≡ acted (turn v d).act (seen v d)
-unfolding after_tick
-acted_tick v d h = else_driver v.faulted d (acted (turn v d).act (seen v d)) h
 
 else_entry : (b : Bool) (x y : Option Entry) → b ≡ false → (if b then x else y) ≡ y
 else_entry true x y h = absurd (true≢false h)
@@ -144,23 +187,31 @@ and_both true false h = (refl, refl)
 and_both false b h = absurd (false≢true h)
 
 -- a tick ends as Done only what was issued, and whose bit is in neither register
-done_of : (v : Sight) (d : Driver) (s : ℕ) (e f : Entry) → entry_at d.entries s ≡ Some e → has_ended e.head ≡ false → entry_at (after_tick v d).entries s ≡ Some f → isd f.head.phase ≡ true
+pub seen_some : (v : Sight) (d : Driver) (s : ℕ) (g : Entry) → entry_at (done_ended v.issued d.entries) s ≡ Some g → (x : Entry) × (entry_at (seen v d).entries s ≡ Some x)
+seen_some v d s g here = by_log (turn v d).logged
+  where
+    by_log : (l : Option Logged) → (x : Entry) × (entry_at (logged_ended v.log l (done_ended v.issued d.entries)) s ≡ Some x)
+    by_log None = (g, here)
+    by_log (Some l) =
+        let named : List (Option Entry) = rephase_all (is_named_of v.log l.dev) (Ended (log_outcome v.log l.file)) (done_ended v.issued d.entries) in
+        let mid = some_at (is_named_of v.log l.dev) (Ended (log_outcome v.log l.file)) (done_ended v.issued d.entries) s g here in
+        some_at (is_aside_of l.dev) (Ended Aborted) named s mid.0 mid.1
+
+done_of : (v : Sight) (file : TaskFile) (d : Driver) (s : ℕ) (e f : Entry) → entry_at d.entries s ≡ Some e → has_ended e.head ≡ false → entry_at (after_tick v file d).entries s ≡ Some f → isd f.head.phase ≡ true
     → is_done v.issued s e.head ≡ true
-done_of v d s e f here open' there h = elim (cases_Bool v.faulted) [
-  | inl faulted ↦ absurd (open_not e open' (done_same e f (sym here ∙ sym (ap (λ (x : Driver). entry_at x.entries s) (faulted_tick v d faulted)) ∙ there) h))
-  | inr quiet ↦ elim (cases_Bool (is_done v.issued s e.head)) [
-    | inl done ↦ done
-    | inr other ↦
-        let seen_is : entry_at (seen v d).entries s ≡ Some e =
-        entry_of_rephased (is_done v.issued) (Ended Done) d.entries s ∙ ap (rephase (is_done v.issued s) (Ended Done)) here ∙ else_entry (is_done v.issued s e.head) (Some (rephased (Ended Done) e)) (Some e) other in
-        let acted_is : entry_at (acted (turn v d).act (seen v d)).entries s ≡ Some f = sym (ap (λ (x : Driver). entry_at x.entries s) (acted_tick v d quiet)) ∙ there in
-        absurd (open_not e open' (acted_done (turn v d).act (seen v d) s e f seen_is acted_is h))
-  ]
+unfolding after_tick
+done_of v file d s e f here open' there h = elim (cases_Bool (is_done v.issued s e.head)) [
+  | inl done ↦ done
+  | inr other ↦
+      let still : entry_at (done_ended v.issued d.entries) s ≡ Some e =
+      entry_of_rephased (is_done v.issued) (Ended Done) d.entries s ∙ ap (rephase (is_done v.issued s) (Ended Done)) here ∙ else_entry (is_done v.issued s e.head) (Some (rephased (Ended Done) e)) (Some e) other in
+      let mid = seen_some v d s e still in
+      absurd (open_not e open' (done_logged v.log (turn v d).logged (done_ended v.issued d.entries) s e mid.0 still mid.1 (acted_end isd isd_own (turn v d).act file (seen v d) s mid.0 f mid.1 there h)))
 ]
 
 pub done_is_free : DoneIsFree
-done_is_free port memory d s e f table r here open' there phase =
-    let done : is_done (sight_of port memory).issued s e.head ≡ true = done_of (sight_of port memory) d s e f here open' there (ap isd phase) in
+done_is_free port memory file d s e f table r here open' there phase =
+    let done : is_done (sight_of port memory).issued s e.head ≡ true = done_of (sight_of port memory) file d s e f here open' there (ap isd phase) in
     let parts = and_both (is_issued e.head) (has_bit (sight_of port memory).issued s) done in
     let below : s < 30 = in_slots d.entries s e r.slots here in
     (parts.0, free_slot port memory s table (omega (arith, below)) parts.1)

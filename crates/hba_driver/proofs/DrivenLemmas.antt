@@ -1,13 +1,12 @@
 -- What is true of port, driver and memory together: what each turn keeps of it.
-use Rattle.std.proofs.Common.{◌≡◌, ℕ, zero, suc, ◌+◌, ◌*◌, ◌/◌, ◌<◌, ◌≤◌, ◌⊎◌, ◌&&◌, Bool, true, false, nat_lt, nat_le, List, [], ◌∷◌, refl, sym, ◌∙◌, ap, subst, inl, inr, arith, Option, Some, None}
-use Rattle.std.specs.Prelude.{if◌then◌else◌, ◌==◌, ◌%◌, not, is_some, MatchOption}
+use Rattle.std.proofs.Common.{◌≡◌, ℕ, ◌+◌, ◌*◌, ◌/◌, ◌<◌, ◌≤◌, ◌⊎◌, ◌&&◌, Bool, true, false, nat_lt, nat_le, List, [], ◌∷◌, refl, sym, ◌∙◌, ap, subst, inl, inr, arith, Option, Some, None}
+use Rattle.std.specs.Prelude.{if◌then◌else◌, ◌==◌, ◌%◌, MatchOption}
 use Rattle.std.proofs.lemmas.Nat.Bits.{bit_at-suc, bit_at_lowest}
-use Rattle.hba_fbs.specs.Bits.{dec}
+use Rattle.fis_view.specs.declared.build.H2dFields.{H2dFields}
+use Rattle.hba_fbs.specs.Bits.{dec, en, fre}
 use Rattle.std.specs.List.{list_all}
-use Rattle.std.specs.Option.{option_map, option_or}
 use Rattle.std.proofs.lemmas.Bool.{cases_Bool, false≢true}
 use Rattle.std.proofs.lemmas.Bool.Decides.{nat_tests}
-use Rattle.fis_view.specs.declared.build.H2dFields.{H2dFields}
 use Rattle.host_memory.specs.Memory.{Memory}
 use Rattle.hba_fbs.specs.declared.error.WriteError.{WriteError}
 use Rattle.hba_fbs.specs.declared.error.WriteError.TheVariants as refusal
@@ -15,25 +14,31 @@ use Rattle.hba_fbs.specs.declared.register.Register.{Register}
 use Rattle.hba_fbs.specs.declared.register.Register.TheVariants.{Clb, Clbu, Fb, Fbu, Is, Ie, Cmd, Tfd, Sig, Serr, Sact, Ci, Sntf, Fbs}
 use Rattle.hba_fbs.specs.declared.registers.Registers.{Registers}
 use Rattle.hba_fbs.specs.Offsets.{register_at}
-use Rattle.hba_fbs.specs.Registers.{own_refusal, running_if, written}
+use Rattle.hba_fbs.specs.Registers.{written}
 use Rattle.hba_fbs.specs.Views.{Port}
-use Rattle.hba_fbs.specs.Writing.{Accepts, refusal_of, slots_refusal, write_refusal}
+use Rattle.hba_fbs.specs.Writing.{Accepts, refusal_of, write_refusal}
 use Rattle.slots.specs.Slots.{has_bit, match_some}
 use Rattle.hba_driver.specs.declared.effect.Effect.{Effect}
 use Rattle.hba_driver.specs.declared.effect.Effect.TheVariants as effect
 use Rattle.hba_driver.specs.declared.order.Order.{Order}
 use Rattle.hba_driver.specs.declared.order.Order.TheVariants.{ResetOn, ResetOff, AwaitSignature, CountPorts, SetMask, Enable, Open, Scan, Clear, Detect, Watch, NoMultiplier}
+use Rattle.hba_driver.specs.declared.path.Stage.{Stage}
+use Rattle.hba_driver.specs.declared.path.Stage.TheVariants.{Identify, ReadLog, AssertReset, ReleaseReset, AwaitReset}
+use Rattle.hba_driver.specs.declared.path.TaskFile.{TaskFile}
 use Rattle.hba_driver.specs.declared.plan.Plan.{Plan}
 use Rattle.hba_driver.specs.declared.sight.Sight.{Sight}
 use Rattle.hba_driver.specs.declared.turn.Act.{Act}
 use Rattle.hba_driver.specs.declared.turn.Act.TheVariants as act
 use Rattle.hba_driver.specs.declared.turn.Turn.{Turn}
-use Rattle.hba_driver.specs.Drivers.{Driver, Entry, entry_at}
-use Rattle.hba_driver.specs.Effects.{Acts, Tries, effects_of, issuing, opening_write, order_effects}
+use Rattle.hba_driver.specs.Drivers.{Driver, Entry}
+use Rattle.hba_driver.specs.Effects.{Acts, ActsAll, Tries, effects_of, issuing, opening_write, order_effects, restart_write, restart_writes, sending, stage_effects}
 use Rattle.hba_driver.specs.Events.{AreDriven, KnowsNone}
-use Rattle.hba_driver.specs.Orders.{is_queued, order_fields}
-use Rattle.hba_driver.specs.Ticks.{acted, after_tick, done_ended, due, effects, effects_due, plan_after, seen, turn}
-use Rattle.hba_driver.specs.Turns.{answered, control_news, control_seen, control_turn, device_seen, identified, identify_due, is_idle, issue_of, met, met_order, noted, order_due, request_due, turn_of, with_next}
+use Rattle.hba_driver.specs.Orders.{order_fields}
+use Rattle.hba_driver.specs.Paths.{reads_page, stage_fields}
+use Rattle.hba_driver.specs.Ticks.{acted, after_tick, done_ended, effects, effects_due, from_reset, logged_ended, plan_after, recovering, seen, turn}
+use Rattle.hba_driver.specs.Turns.{early_due, plain_turn, turn_of}
+use Rattle.hba_driver.proofs.DueLemmas.{Due, PlanGoes, due_turn, goes_turn}
+use Rattle.hba_driver.proofs.EffectLemmas.{all_at}
 
 -- ---- a write is taken, or refused
 
@@ -69,13 +74,14 @@ tried_at register offset value old memory new at tries = tried_by register offse
 
 -- ---- what leaves command list and received area where they are
 
--- of PxFBS, where the value has no DEC
-abbrev pub calm : Option Register → ℕ → Bool
+abbrev calm : Option Register → ℕ → Bool
 calm None value = false
 calm (Some Sact) value = true
 calm (Some Ci) value = true
 calm (Some Sntf) value = true
-calm (Some Fbs) value = not (has_bit value dec)
+calm (Some Is) value = true
+calm (Some Fbs) value = has_bit value en
+calm (Some Cmd) value = has_bit value fre
 calm (Some register) value = false
 
 abbrev pub calm_effect : Effect → Bool
@@ -84,29 +90,48 @@ calm_effect (effect.Flushes dev) = true
 calm_effect (effect.Empties dev) = true
 calm_effect (effect.Commands slot fields buffer) = true
 
+-- FBS.EN and FRE stay set too
 pub record SamePlace (r s : Registers) : Type 0 where
   pub list : s.clb ≡ r.clb
+  pub list_high : s.clbu ≡ r.clbu
   pub area : s.fb ≡ r.fb
+  pub area_high : s.fbu ≡ r.fbu
+  pub switches : r.switching ≡ true → s.switching ≡ true
+  pub receives : r.receives ≡ true → s.receives ≡ true
 
 pub same_place : (r s : Registers) → s ≡ r → SamePlace r s
-same_place r s is = record { list = ap (λ (x : Registers). x.clb) is; area = ap (λ (x : Registers). x.fb) is }
+same_place r s is = record {
+  list = ap (λ (x : Registers). x.clb) is;
+  list_high = ap (λ (x : Registers). x.clbu) is;
+  area = ap (λ (x : Registers). x.fb) is;
+  area_high = ap (λ (x : Registers). x.fbu) is;
+  switches = λ h. ap (λ (x : Registers). x.switching) is ∙ h;
+  receives = λ h. ap (λ (x : Registers). x.receives) is ∙ h;
+}
 
 pub place_then : (r s t : Registers) → SamePlace r s → SamePlace s t → SamePlace r t
-place_then r s t h k = record { list = k.list ∙ h.list; area = k.area ∙ h.area }
+place_then r s t h k = record {
+  list = k.list ∙ h.list;
+  list_high = k.list_high ∙ h.list_high;
+  area = k.area ∙ h.area;
+  area_high = k.area_high ∙ h.area_high;
+  switches = λ on. k.switches (h.switches on);
+  receives = λ on. k.receives (h.receives on);
+}
 
 written_calm : (register : Register) (r : Registers) (value : ℕ) → calm (Some register) value ≡ true → SamePlace r (written register r value)
 unfolding written
-written_calm Sact r value h = record { list = refl; area = refl }
-written_calm Ci r value h = record { list = refl; area = refl }
-written_calm Sntf r value h = record { list = refl; area = refl }
-written_calm Fbs r value h = record { list = refl; area = refl }
+written_calm Sact r value h = record { list = refl; list_high = refl; area = refl; area_high = refl; switches = λ on. on; receives = λ on. on }
+written_calm Ci r value h = record { list = refl; list_high = refl; area = refl; area_high = refl; switches = λ on. on; receives = λ on. on }
+written_calm Sntf r value h = record { list = refl; list_high = refl; area = refl; area_high = refl; switches = λ on. on; receives = λ on. on }
+written_calm Is r value h = record { list = refl; list_high = refl; area = refl; area_high = refl; switches = λ on. on; receives = λ on. on }
+written_calm Fbs r value h = record { list = refl; list_high = refl; area = refl; area_high = refl; switches = λ on. h; receives = λ on. on }
+written_calm Cmd r value h = record { list = refl; list_high = refl; area = refl; area_high = refl; switches = λ on. on; receives = λ on. h }
 written_calm Clb r value h = absurd (false≢true h)
 written_calm Clbu r value h = absurd (false≢true h)
 written_calm Fb r value h = absurd (false≢true h)
 written_calm Fbu r value h = absurd (false≢true h)
-written_calm Is r value h = absurd (false≢true h)
 written_calm Ie r value h = absurd (false≢true h)
-written_calm Cmd r value h = absurd (false≢true h)
 written_calm Tfd r value h = absurd (false≢true h)
 written_calm Sig r value h = absurd (false≢true h)
 written_calm Serr r value h = absurd (false≢true h)
@@ -125,7 +150,19 @@ place_effect (effect.Flushes dev) old new before after h acts = same_place old.r
 place_effect (effect.Empties dev) old new before after h acts = same_place old.registers new.registers (ap (λ (p : Port). p.registers) acts.0)
 place_effect (effect.Commands slot fields buffer) old new before after h acts = same_place old.registers new.registers (ap (λ (p : Port). p.registers) acts.0)
 
--- EN and DEV alone
+-- EN is in the values by which a device is chosen, and cleared; DEC is not in the first
+pub en_chosen : (dev : ℕ) → has_bit (256 * dev + 1) en ≡ true
+en_chosen dev = ap (λ (k : ℕ). k == 1) (bit_at_lowest (256 * dev + 1) ∙ odd dev)
+  where
+    odd : (d : ℕ) → (256 * d + 1) % 2 ≡ 1
+    odd d = omega arith
+
+pub en_cleared : (dev : ℕ) → has_bit (256 * dev + 3) en ≡ true
+en_cleared dev = ap (λ (k : ℕ). k == 1) (bit_at_lowest (256 * dev + 3) ∙ odd dev)
+  where
+    odd : (d : ℕ) → (256 * d + 3) % 2 ≡ 1
+    odd d = omega arith
+
 pub no_dec : (dev : ℕ) → has_bit (256 * dev + 1) dec ≡ false
 no_dec dev = ap (λ (k : ℕ). k == 1) (bit_at-suc (256 * dev + 1) 0 ∙ bit_at_lowest ((256 * dev + 1) / 2) ∙ even dev)
   where
@@ -134,8 +171,8 @@ no_dec dev = ap (λ (k : ℕ). k == 1) (bit_at-suc (256 * dev + 1) 0 ∙ bit_at_
 
 calm_issuing : (slot dev : ℕ) (queued : Bool) → list_all calm_effect (issuing slot dev queued) ≡ true
 unfolding register_at
-calm_issuing slot dev true = ap (λ (b : Bool). not b && true) (no_dec dev)
-calm_issuing slot dev false = ap (λ (b : Bool). not b && true) (no_dec dev)
+calm_issuing slot dev true = ap (λ (b : Bool). b && true) (en_chosen dev)
+calm_issuing slot dev false = ap (λ (b : Bool). b && true) (en_chosen dev)
 
 calm_order : (order : Order) → list_all calm_effect (order_effects order) ≡ true
 unfolding order_fields order_effects register_at
@@ -152,209 +189,202 @@ calm_order (Detect port) = refl
 calm_order Watch = refl
 calm_order NoMultiplier = refl
 
--- ---- the writes that open the port
+-- ---- what leaves ST
 
--- the step of a write that the port takes, or refuses
-opening : (register : Register) (value n : ℕ) (old : Port) (memory : Memory) (new : Port) → Tried register old memory value new
-    → (refusal_of register old memory value ≡ None → AreDriven n (written register old.registers value))
-    → ((e : WriteError) → refusal_of register old memory value ≡ Some e → AreDriven n old.registers) → AreDriven n new.registers
-opening register value n old memory new tried accepted refused = elim tried [
-  | inl taken ↦ subst (AreDriven n) (sym taken.accepts.registers) (accepted taken.free)
-  | inr kept ↦ subst (λ (p : Port). AreDriven n p.registers) (sym kept.stays) (refused kept.error kept.is)
+abbrev firm : Option Register → Bool
+firm None = false
+firm (Some Cmd) = false
+firm (Some register) = true
+
+abbrev pub firm_effect : Effect → Bool
+firm_effect (effect.Writes offset value) = firm (register_at offset)
+firm_effect (effect.Flushes dev) = true
+firm_effect (effect.Empties dev) = true
+firm_effect (effect.Commands slot fields buffer) = true
+
+written_firm : (register : Register) (r : Registers) (value : ℕ) → firm (Some register) ≡ true → (written register r value).started ≡ r.started
+unfolding written
+written_firm Cmd r value h = absurd (false≢true h)
+written_firm register r value h = refl
+
+firm_tried : (o : Option Register) (offset value : ℕ) (old : Port) (memory : Memory) (new : Port) → register_at offset ≡ o → firm o ≡ true → Tries old memory offset value new
+    → new.registers.started ≡ old.registers.started
+firm_tried None offset value old memory new at h tries = absurd (false≢true h)
+firm_tried (Some register) offset value old memory new at h tries = elim (tried_at register offset value old memory new at tries) [
+  | inl taken ↦ ap (λ (r : Registers). r.started) taken.accepts.registers ∙ written_firm register old.registers value h
+  | inr refused ↦ ap (λ (p : Port). p.registers.started) refused.stays
 ]
+
+started_effect : (e : Effect) (old new : Port) (before after : Memory) → firm_effect e ≡ true → Acts e old before new after → new.registers.started ≡ old.registers.started
+started_effect (effect.Writes offset value) old new before after h acts = firm_tried (register_at offset) offset value old before new refl h acts.0
+started_effect (effect.Flushes dev) old new before after h acts = ap (λ (r : Registers). r.started) acts.0.registers
+started_effect (effect.Empties dev) old new before after h acts = ap (λ (p : Port). p.registers.started) acts.0
+started_effect (effect.Commands slot fields buffer) old new before after h acts = ap (λ (p : Port). p.registers.started) acts.0
+
+and_parts : (a b : Bool) → (a && b) ≡ true → (a ≡ true) × (b ≡ true)
+and_parts true b h = (refl, h)
+and_parts false b h = absurd (false≢true h)
+
+pub started_effects : (es : List Effect) (old new : Port) (before after : Memory) → list_all firm_effect es ≡ true → ActsAll es old before new after → new.registers.started ≡ old.registers.started
+unfolding ActsAll
+started_effects [] old new before after h acts = ap (λ (p : Port). p.registers.started) acts.0
+started_effects (e ∷ es) old new before after h acts =
+    let parts = and_parts (firm_effect e) (list_all firm_effect es) h in
+    started_effects es acts.0 new acts.1 after parts.1 acts.4 ∙ started_effect e old acts.0 before acts.1 parts.0 acts.2
+
+firm_issuing : (slot dev : ℕ) (queued : Bool) → list_all firm_effect (issuing slot dev queued) ≡ true
+unfolding register_at
+firm_issuing slot dev true = refl
+firm_issuing slot dev false = refl
+
+firm_sending : (slot dev : ℕ) (o : Option H2dFields) (buffer : Bool) → list_all firm_effect (match_some o [] (λ f. sending slot dev f buffer)) ≡ true
+firm_sending slot dev None buffer = refl
+firm_sending slot dev (Some f) buffer = firm_issuing slot dev false
+
+firm_order : (order : Order) → list_all firm_effect (order_effects order) ≡ true
+unfolding order_effects register_at
+firm_order Scan = firm_sending 31 15 (order_fields Scan) false
+firm_order (Clear port) = firm_sending 31 15 (order_fields (Clear port)) false
+firm_order order = firm_sending 31 15 (order_fields order) false
+
+firm_clears : (dev : ℕ) → list_all firm_effect (effects_due (Some (act.Clears dev))) ≡ true
+unfolding effects_of register_at
+firm_clears dev = refl
 
 -- the numbers are not in this order
 pub past : (n m : ℕ) {P : Type 0} → nat_le n m ≡ false → n ≤ m → P
 past n m more h = absurd (grind (arith, nat_tests))
 
--- while FRE is 0 the received area may be given its place
-fb_free : (r : Registers) (port : Port) (memory : Memory) (value : ℕ) (e : WriteError) {P : Type 0} → r.receives ≡ false → option_or (own_refusal Fb r value) (slots_refusal Fb port memory value) ≡ Some e → P
-unfolding own_refusal slots_refusal
-fb_free r port memory value e closed h =
-    let none : running_if r.receives ≡ None = ap running_if closed in
-    let is : option_or (running_if r.receives) None ≡ None = ap (λ (o : Option WriteError). option_or o None) none in
-    let bad : None ≡ Some e = sym is ∙ h in
-    cc
-
-pub driven_opens : (k : ℕ) → k < 7 → (old new : Port) (before after : Memory) → Acts (opening_write k) old before new after → AreDriven k old.registers → AreDriven (k + 1) new.registers
-unfolding opening_write register_at written
-driven_opens zero less old new before after acts d =
-    opening Clb 0 1 old before new (tried_at Clb 0 0 old before new refl acts.0)
-    (λ free. record { commands = refl; area = past 3 1 refl; closed = λ h. d.closed (omega arith); stopped = λ h. d.stopped (omega arith) })
-    (λ e is. record { commands = d.commands; area = past 3 1 refl; closed = λ h. d.closed (omega arith); stopped = λ h. d.stopped (omega arith) })
-driven_opens (suc zero) less old new before after acts d =
-    opening Clbu 0 2 old before new (tried_at Clbu 4 0 old before new refl acts.0)
-    (λ free. record { commands = d.commands; area = past 3 2 refl; closed = λ h. d.closed (omega arith); stopped = λ h. d.stopped (omega arith) })
-    (λ e is. record { commands = d.commands; area = past 3 2 refl; closed = λ h. d.closed (omega arith); stopped = λ h. d.stopped (omega arith) })
-driven_opens (suc (suc zero)) less old new before after acts d =
-    opening Fb 4096 3 old before new (tried_at Fb 8 4096 old before new refl acts.0)
-    (λ free. record { commands = d.commands; area = λ h. refl; closed = λ h. d.closed (omega arith); stopped = λ h. d.stopped (omega arith) })
-    (λ e is. fb_free old.registers old before 4096 e (d.closed (omega arith)) is)
-driven_opens (suc (suc (suc zero))) less old new before after acts d =
-    opening Fbu 0 4 old before new (tried_at Fbu 12 0 old before new refl acts.0)
-    (λ free. record { commands = d.commands; area = λ h. d.area (omega arith); closed = λ h. d.closed (omega arith); stopped = λ h. d.stopped (omega arith) })
-    (λ e is. record { commands = d.commands; area = λ h. d.area (omega arith); closed = λ h. d.closed (omega arith); stopped = λ h. d.stopped (omega arith) })
-driven_opens (suc (suc (suc (suc zero)))) less old new before after acts d =
-    opening Fbs 1 5 old before new (tried_at Fbs 64 1 old before new refl acts.0)
-    (λ free. record { commands = d.commands; area = λ h. d.area (omega arith); closed = λ h. d.closed (omega arith); stopped = λ h. d.stopped (omega arith) })
-    (λ e is. record { commands = d.commands; area = λ h. d.area (omega arith); closed = λ h. d.closed (omega arith); stopped = λ h. d.stopped (omega arith) })
-driven_opens (suc (suc (suc (suc (suc zero))))) less old new before after acts d =
-    opening Cmd 16 6 old before new (tried_at Cmd 24 16 old before new refl acts.0)
-    (λ free. record { commands = d.commands; area = λ h. d.area (omega arith); closed = past 6 5 refl; stopped = λ h. refl })
-    (λ e is. record { commands = d.commands; area = λ h. d.area (omega arith); closed = past 6 5 refl; stopped = λ h. d.stopped (omega arith) })
-driven_opens (suc (suc (suc (suc (suc (suc zero)))))) less old new before after acts d =
-    opening Cmd 131089 7 old before new (tried_at Cmd 24 131089 old before new refl acts.0)
-    (λ free. record { commands = d.commands; area = λ h. d.area (omega arith); closed = past 7 5 refl; stopped = past 7 6 refl })
-    (λ e is. record { commands = d.commands; area = λ h. d.area (omega arith); closed = past 7 5 refl; stopped = past 7 6 refl })
-driven_opens (suc (suc (suc (suc (suc (suc (suc k))))))) less old new before after acts d = absurd (omega (arith, less))
-
--- once it is open
-pub driven_open : (n : ℕ) (r s : Registers) → 7 ≤ n → SamePlace r s → AreDriven n r → AreDriven n s
-driven_open n r s least same d = record {
+-- the registers of a port that is open, after what leaves its places
+pub driven_open : (n m k : ℕ) (r s : Registers) → 7 ≤ n → SamePlace r s → (2 ≤ k → s.started ≡ true) → AreDriven n m r → AreDriven n k s
+driven_open n m k r s least same starts d = record {
   commands = same.list ∙ d.commands;
+  list_high = λ h. same.list_high ∙ d.list_high h;
   area = λ h. same.area ∙ d.area h;
+  area_high = λ h. same.area_high ∙ d.area_high h;
+  switches = λ h. same.switches (d.switches h);
   closed = λ h. absurd (omega (arith, least, h));
+  receives = λ h. same.receives (d.receives h);
   stopped = λ h. absurd (omega (arith, least, h));
+  starts = λ h g. starts g;
 }
 
 -- ---- what a tick does
 
--- nothing is due
-pub record Resting (v : Sight) (d : Driver) : Type 0 where
-  pub none : effects v d ≡ []
-  pub plan_is : (after_tick v d).plan ≡ d.plan
-
 -- the next write that opens the port is
-pub record Opening (v : Sight) (d : Driver) : Type 0 where
+pub record Opening (v : Sight) (file : TaskFile) (d : Driver) : Type 0 where
   pub less : d.plan.opened < 7
   pub one : effects v d ≡ opening_write d.plan.opened ∷ []
-  pub plan_is : (after_tick v d).plan ≡ record d.plan { opened = d.plan.opened + 1 }
+  pub plan_is : (after_tick v file d).plan ≡ record d.plan { opened = d.plan.opened + 1 }
+
+-- an act leaves ST, and the number of the writes that start the port again
+pub record Steady (a : Option Act) (before after : ℕ) : Type 0 where
+  pub firm_is : list_all firm_effect (effects_due a) ≡ true
+  pub same : after ≡ before
+
+-- it is the next of these writes
+pub record Restarting (a : Option Act) (before after : ℕ) : Type 0 where
+  pub less : before < 2
+  pub one : effects_due a ≡ restart_write before ∷ []
+  pub next : after ≡ before + 1
+
+-- one of both, or it stops the port
+abbrev pub Way : Option Act → (before after : ℕ) → Type 0
+Way a before after = Steady a before after ⊎ ((after ≡ 0) ⊎ Restarting a before after)
 
 -- the port is open
-pub record Going (v : Sight) (d : Driver) : Type 0 where
+pub record Going (v : Sight) (file : TaskFile) (d : Driver) : Type 0 where
   pub least : 7 ≤ d.plan.opened
   pub quiet : list_all calm_effect (effects v d) ≡ true
-  pub opened_is : (after_tick v d).plan.opened ≡ d.plan.opened
+  pub opened_is : (after_tick v file d).plan.opened ≡ d.plan.opened
+  pub way : Way (turn v d).act d.plan.restarted (after_tick v file d).plan.restarted
 
 -- an act that is none of the opening writes
-record Calm (a : Option Act) : Type 0 where
+record Calm (a : Option Act) (d : Driver) : Type 0 where
   pub quiet : list_all calm_effect (effects_due a) ≡ true
-  pub stays : (d : Driver) → (acted a d).plan.opened ≡ d.plan.opened
+  pub stays : (file : TaskFile) → (acted a file d).plan.opened ≡ d.plan.opened
+  pub way : (file : TaskFile) → Way a d.plan.restarted (acted a file d).plan.restarted
 
-opened_ordered : (order : Order) (plan : Plan) → (plan_after (act.Orders order) plan).opened ≡ plan.opened
+opened_ordered : (order : Order) (file : TaskFile) (plan : Plan) → (plan_after (act.Orders order) file plan).opened ≡ plan.opened
 unfolding plan_after
-opened_ordered (Clear port) plan = refl
-opened_ordered order plan = refl
+opened_ordered (Clear port) file plan = refl
+opened_ordered order file plan = refl
 
-calm_none : Calm None
-calm_none = record { quiet = refl; stays = λ d. refl }
+restarted_ordered : (order : Order) (file : TaskFile) (plan : Plan) → (plan_after (act.Orders order) file plan).restarted ≡ plan.restarted
+unfolding plan_after
+restarted_ordered (Clear port) file plan = refl
+restarted_ordered order file plan = refl
 
-calm_orders : (order : Order) → Calm (Some (act.Orders order))
-unfolding effects_of
-calm_orders order = record { quiet = calm_order order; stays = λ d. opened_ordered order d.plan }
-
-calm_identifies : (dev : ℕ) → Calm (Some (act.Identifies dev))
-unfolding effects_of plan_after register_at
-calm_identifies dev = record { quiet = ap (λ (b : Bool). not b && true) (no_dec dev); stays = λ d. refl }
-
-calm_issues : (slot dev : ℕ) (queued : Bool) → Calm (Some (act.Issues slot dev queued))
-unfolding effects_of plan_after
-calm_issues slot dev queued = record { quiet = calm_issuing slot dev queued; stays = λ d. refl }
-
-calm_map_order : (fields : Option H2dFields) (o : Order) → Calm (option_map (λ f. act.Orders o) fields)
-calm_map_order None o = calm_none
-calm_map_order (Some f) o = calm_orders o
-
-calm_map_identify : (o : Option ℕ) → Calm (option_map act.Identifies o)
-calm_map_identify None = calm_none
-calm_map_identify (Some dev) = calm_identifies dev
-
-calm_or : (a b : Option Act) → Calm a → Calm b → Calm (option_or a b)
-calm_or None b h k = k
-calm_or (Some a) b h k = h
-
-calm_if : (b : Bool) (a : Option Act) → Calm a → Calm (if b then None else a)
-calm_if true a h = calm_none
-calm_if false a h = h
-
-calm_issue : (slot : ℕ) (e : Option Entry) → Calm (issue_of slot e)
-calm_issue slot None = calm_none
-calm_issue slot (Some e) = calm_issues slot e.head.dev (is_queued e.head.work)
-
-calm_lowest : (entries : List (Option Entry)) (o : Option ℕ) → Calm (match_some o None (λ slot. issue_of slot (entry_at entries slot)))
-calm_lowest entries None = calm_none
-calm_lowest entries (Some slot) = calm_issue slot (entry_at entries slot)
-
-calm_device : (v : Sight) (plan : Plan) (entries : List (Option Entry)) → Calm (option_or (identify_due v plan) (request_due plan entries))
-unfolding identify_due request_due
-calm_device v plan entries = calm_or _ _ (calm_if (is_some plan.identifying) _ (calm_map_identify _)) (calm_lowest entries _)
-
--- what was seen opens nothing
 opened_if : (b : Bool) (p q : Plan) (n : ℕ) → p.opened ≡ n → q.opened ≡ n → (if b then p else q).opened ≡ n
 opened_if true p q n h k = h
 opened_if false p q n h k = k
 
-opened_noted : (v : Sight) (order : Order) (plan : Plan) → (noted v order plan).opened ≡ plan.opened
-unfolding noted
-opened_noted v CountPorts plan = refl
-opened_noted v Scan plan = refl
-opened_noted v (Detect port) plan = refl
-opened_noted v order plan = refl
+opened_cleared : (dev : ℕ) (file : TaskFile) (plan : Plan) → (plan_after (act.Clears dev) file plan).opened ≡ plan.opened
+unfolding plan_after
+opened_cleared dev file plan = opened_if (nat_lt dev 15) (recovering dev file plan) (from_reset plan) plan.opened refl refl
 
-opened_answered : (v : Sight) (plan : Plan) → (answered v plan).opened ≡ plan.opened
-opened_answered v plan = opened_if _ (with_next plan.order (noted v plan.order plan)) plan plan.opened (opened_noted v plan.order plan) refl
+restarted_if : (b : Bool) (p q : Plan) (n : ℕ) → p.restarted ≡ n → q.restarted ≡ n → (if b then p else q).restarted ≡ n
+restarted_if true p q n h k = h
+restarted_if false p q n h k = k
 
-opened_met : (v : Sight) (plan : Plan) → (met v plan).opened ≡ plan.opened
-opened_met v plan = opened_if plan.asked plan (record plan { order = met_order v plan.order }) plan.opened refl refl
+restarted_cleared : (dev : ℕ) (file : TaskFile) (plan : Plan) → (plan_after (act.Clears dev) file plan).restarted ≡ plan.restarted
+unfolding plan_after
+restarted_cleared dev file plan = restarted_if (nat_lt dev 15) (recovering dev file plan) (from_reset plan) plan.restarted refl refl
 
-opened_seen : (v : Sight) (plan : Plan) → (control_seen v plan).opened ≡ plan.opened
-opened_seen v plan = opened_met v (answered v plan) ∙ opened_answered v plan
+calm_restart : (k : ℕ) → calm_effect (restart_write k) ≡ true
+unfolding restart_write register_at
+calm_restart k = all_at calm_effect restart_writes k _ refl refl
 
-opened_device : (v : Sight) (plan : Plan) (o : Option ℕ) → (match_some o plan (λ dev. if has_bit v.issued 30 then plan else identified v dev plan)).opened ≡ plan.opened
-opened_device v plan None = refl
-opened_device v plan (Some dev) = opened_if (has_bit v.issued 30) plan (identified v dev plan) plan.opened refl refl
+calm_stage : (dev : ℕ) (stage : Stage) → list_all calm_effect (stage_effects dev stage) ≡ true
+unfolding stage_fields
+calm_stage dev Identify = calm_issuing 30 dev false
+calm_stage dev (ReadLog file) = calm_issuing 30 dev false
+calm_stage dev AssertReset = calm_issuing 30 dev false
+calm_stage dev ReleaseReset = calm_issuing 30 dev false
+calm_stage dev AwaitReset = refl
 
--- a turn of an open port
-record CalmTurn (n : ℕ) (t : Turn) : Type 0 where
-  pub calm : Calm t.act
-  pub opened : t.plan.opened ≡ n
+calm_stops : list_all calm_effect (effects_due (Some act.Stops)) ≡ true
+unfolding effects_of register_at
+calm_stops = refl
 
-calm_turn_if : (b : Bool) (t u : Turn) (n : ℕ) → CalmTurn n t → CalmTurn n u → CalmTurn n (if b then t else u)
-calm_turn_if true t u n h k = h
-calm_turn_if false t u n h k = k
+calm_clears : (dev : ℕ) → list_all calm_effect (effects_due (Some (act.Clears dev))) ≡ true
+unfolding effects_of register_at
+calm_clears dev = ap (λ (b : Bool). b && true) (en_cleared dev)
 
-calm_control : (v : Sight) (news : Bool) (plan : Plan) (entries : List (Option Entry)) → CalmTurn plan.opened (control_turn v news plan entries)
-calm_control v news plan entries =
-    calm_turn_if (is_idle plan.order) _ _ plan.opened (record { calm = calm_none; opened = refl })
-    (calm_turn_if (is_some (order_due plan)) _ _ plan.opened (record { calm = calm_if plan.asked _ (calm_map_order (order_fields plan.order) plan.order); opened = refl })
-    (record { calm = calm_device v (device_seen v plan) entries; opened = opened_device v plan plan.identifying }))
+calm_due : (v : Sight) (d : Driver) (entries : List (Option Entry)) (a : Option Act) → 7 ≤ d.plan.opened → Due v d.plan entries a → Calm a d
+unfolding effects_of plan_after
+calm_due v d entries None least due = record { quiet = refl; stays = λ file. refl; way = λ file. inl (record { firm_is = refl; same = refl }) }
+calm_due v d entries (Some (act.Opens k)) least due = absurd (omega (arith, least, due.1))
+calm_due v d entries (Some act.Stops) least due = record { quiet = calm_stops; stays = λ file. refl; way = λ file. inr (inl refl) }
+calm_due v d entries (Some (act.Restarts k)) least due = record {
+  quiet = rw (calm_restart k) refl;
+  stays = λ file. refl;
+  way = λ file. inr (inr (record { less = due.1; one = ap (λ (n : ℕ). restart_write n ∷ []) due.0; next = ap (λ (n : ℕ). n + 1) due.0 }));
+}
+calm_due v d entries (Some (act.Clears dev)) least due = record {
+  quiet = calm_clears dev;
+  stays = λ file. opened_cleared dev file d.plan;
+  way = λ file. inl (record { firm_is = firm_clears dev; same = restarted_cleared dev file d.plan });
+}
+calm_due v d entries (Some (act.Orders order)) least due = record {
+  quiet = calm_order order;
+  stays = λ file. opened_ordered order file d.plan;
+  way = λ file. inl (record { firm_is = firm_order order; same = restarted_ordered order file d.plan });
+}
+calm_due v d entries (Some (act.Steps dev stage)) least due = record {
+  quiet = calm_stage dev stage;
+  stays = λ file. refl;
+  way = λ file. inl (record { firm_is = firm_sending 30 dev (stage_fields dev stage) (reads_page stage); same = refl });
+}
+calm_due v d entries (Some (act.Issues slot dev queued)) least due = record {
+  quiet = calm_issuing slot dev queued;
+  stays = λ file. refl;
+  way = λ file. inl (record { firm_is = firm_issuing slot dev queued; same = refl });
+}
 
-if_opening : (b : Bool) (k : ℕ) (t u : Turn) → (is_some (if b then Some (act.Opens k) else None)) ≡ b
-if_opening true k t u = refl
-if_opening false k t u = refl
-
-turn_open : (v : Sight) (plan : Plan) (entries : List (Option Entry)) → nat_lt plan.opened 7 ≡ false → CalmTurn plan.opened (turn_of v plan entries)
-unfolding turn_of
-turn_open v plan entries h =
-    rw h (subst (λ (n : ℕ). CalmTurn n (control_turn v (control_news v plan) (control_seen v plan) entries)) (opened_seen v plan) (calm_control v (control_news v plan) (control_seen v plan) entries))
-
-pub turn_opens : (v : Sight) (plan : Plan) (entries : List (Option Entry)) → nat_lt plan.opened 7 ≡ true → turn_of v plan entries ≡ record { plan = plan; act = Some (act.Opens plan.opened); news = false }
-unfolding turn_of
+pub turn_opens : (v : Sight) (plan : Plan) (entries : List (Option Entry)) → nat_lt plan.opened 7 ≡ true → turn_of v plan entries ≡ plain_turn plan (Some (act.Opens plan.opened)) false
+unfolding turn_of early_due
 turn_opens v plan entries h = rw h refl
-
-faulted_due : (v : Sight) (d : Driver) → v.faulted ≡ true → due v d ≡ None
-faulted_due v d h = ap (λ (b : Bool). if b then None else (turn v d).act) h
-
-quiet_due : (v : Sight) (d : Driver) → v.faulted ≡ false → due v d ≡ (turn v d).act
-quiet_due v d h = ap (λ (b : Bool). if b then None else (turn v d).act) h
-
-faulted_after : (v : Sight) (d : Driver) → v.faulted ≡ true → after_tick v d ≡ d
-unfolding after_tick
-faulted_after v d h = ap (λ (b : Bool). if b then d else acted (turn v d).act (seen v d)) h
-
-quiet_after : (v : Sight) (d : Driver) → v.faulted ≡ false → after_tick v d ≡ acted (turn v d).act (seen v d)
-unfolding after_tick
-quiet_after v d h = ap (λ (b : Bool). if b then d else acted (turn v d).act (seen v d)) h
 
 below : (n m : ℕ) → nat_lt n m ≡ true → n < m
 below n m h = grind (arith, nat_tests)
@@ -362,44 +392,40 @@ below n m h = grind (arith, nat_tests)
 pub not_below : (n m : ℕ) → nat_lt n m ≡ false → m ≤ n
 not_below n m h = grind (arith, nat_tests)
 
-rests : (v : Sight) (d : Driver) → v.faulted ≡ true → Resting v d
-rests v d h = record { none = ap effects_due (faulted_due v d h); plan_is = ap (λ (x : Driver). x.plan) (faulted_after v d h) }
-
-opens : (v : Sight) (d : Driver) → v.faulted ≡ false → nat_lt d.plan.opened 7 ≡ true → Opening v d
-unfolding effects_of plan_after
-opens v d quiet less =
-    let is : turn v d ≡ record { plan = d.plan; act = Some (act.Opens d.plan.opened); news = false } = turn_opens v d.plan (done_ended v.issued d.entries) less in
+opens : (v : Sight) (file : TaskFile) (d : Driver) → nat_lt d.plan.opened 7 ≡ true → Opening v file d
+unfolding effects_of plan_after after_tick
+opens v file d less =
+    let is : turn v d ≡ plain_turn d.plan (Some (act.Opens d.plan.opened)) false = turn_opens v d.plan (done_ended v.issued d.entries) less in
     record {
       less = below d.plan.opened 7 less;
-      one = ap effects_due (quiet_due v d quiet ∙ ap (λ (t : Turn). t.act) is);
-      plan_is = ap (λ (x : Driver). x.plan) (quiet_after v d quiet)
-          ∙ ap (λ (t : Turn). (acted t.act (record d { plan = t.plan; entries = done_ended v.issued d.entries })).plan) is;
+      one = ap (λ (t : Turn). effects_due t.act) is;
+      plan_is = ap (λ (t : Turn). (acted t.act file (record d { plan = t.plan; entries = logged_ended v.log t.logged (done_ended v.issued d.entries) })).plan) is;
     }
 
-goes : (v : Sight) (d : Driver) → v.faulted ≡ false → nat_lt d.plan.opened 7 ≡ false → Going v d
-goes v d quiet more =
-    let is : CalmTurn d.plan.opened (turn v d) = turn_open v d.plan (done_ended v.issued d.entries) more in
+goes : (v : Sight) (file : TaskFile) (d : Driver) → nat_lt d.plan.opened 7 ≡ false → Going v file d
+unfolding after_tick
+goes v file d more =
+    let least : 7 ≤ d.plan.opened = not_below d.plan.opened 7 more in
+    let same : PlanGoes v d.plan (turn v d).plan = goes_turn v d.plan (done_ended v.issued d.entries) in
+    let opened : (turn v d).plan.opened ≡ d.plan.opened = same.opened in
+    let is : Calm (turn v d).act (seen v d) =
+    calm_due v (seen v d) (done_ended v.issued d.entries) (turn v d).act (omega (arith, least, opened)) (due_turn v d.plan (done_ended v.issued d.entries)) in
     record {
-      least = not_below d.plan.opened 7 more;
-      quiet = ap (λ (a : Option Act). list_all calm_effect (effects_due a)) (quiet_due v d quiet) ∙ is.calm.quiet;
-      opened_is = ap (λ (x : Driver). x.plan.opened) (quiet_after v d quiet) ∙ is.calm.stays (seen v d) ∙ is.opened;
+      least = least;
+      quiet = is.quiet;
+      opened_is = is.stays file ∙ opened;
+      way = subst (λ (n : ℕ). Way (turn v d).act n (acted (turn v d).act file (seen v d)).plan.restarted) same.restarted (is.way file);
     }
 
-pub tick_is : (v : Sight) (d : Driver) → Resting v d ⊎ (Opening v d ⊎ Going v d)
-tick_is v d = elim (cases_Bool v.faulted) [
-  | inl faulted ↦ inl (rests v d faulted)
-  | inr quiet ↦ elim (cases_Bool (nat_lt d.plan.opened 7)) [ inl less ↦ inr (inl (opens v d quiet less)) | inr more ↦ inr (inr (goes v d quiet more)) ]
-]
+pub tick_is : (v : Sight) (file : TaskFile) (d : Driver) → Opening v file d ⊎ Going v file d
+tick_is v file d = elim (cases_Bool (nat_lt d.plan.opened 7)) [ inl less ↦ inl (opens v file d less) | inr more ↦ inr (goes v file d more) ]
 
 -- ---- no device is there before the port is open
 
-pub none_ticked : (v : Sight) (d : Driver) → KnowsNone d.plan → KnowsNone (after_tick v d).plan
-none_ticked v d h = elim (tick_is v d) [
-  | inl rest ↦ subst KnowsNone (sym rest.plan_is) h
-  | inr some ↦ elim some [
-    | inl first ↦ subst KnowsNone (sym first.plan_is) (λ less dev. h first.less dev)
-    | inr going ↦ λ less dev. absurd (open_not d.plan.opened (after_tick v d).plan.opened going.least going.opened_is less)
-  ]
+pub none_ticked : (v : Sight) (file : TaskFile) (d : Driver) → KnowsNone d.plan → KnowsNone (after_tick v file d).plan
+none_ticked v file d h = elim (tick_is v file d) [
+  | inl first ↦ subst KnowsNone (sym first.plan_is) (λ less dev. h first.less dev)
+  | inr going ↦ λ less dev. absurd (open_not d.plan.opened (after_tick v file d).plan.opened going.least going.opened_is less)
 ]
   where
     open_not : (n m : ℕ) → 7 ≤ n → m ≡ n → m < 7 → ⊥

@@ -1,144 +1,205 @@
 -- What a tick knows of the plan and of what it does next.
-use Rattle.std.proofs.Common.{◌≡◌, ℕ, ◌<◌, Bool, true, false, List, length, refl, sym, ◌∙◌, Option, Some, None}
+use Rattle.std.proofs.Common.{◌≡◌, ℕ, ◌<◌, ◌⊎◌, Bool, nat_lt, inl, inr, arith, true, false, List, length, refl, sym, ◌∙◌, ap, subst, Option, Some, None}
 use Rattle.std.specs.Prelude.{if◌then◌else◌, ◌&&◌, not, is_some}
 use Rattle.std.specs.Option.{option_map, option_or}
 use Rattle.std.proofs.lemmas.Bool.{false≢true, true≢false}
+use Rattle.std.proofs.lemmas.Bool.Decides.{nat_tests}
 use Rattle.std.proofs.lemmas.List.{length-set}
 use Rattle.fis_view.specs.declared.build.H2dFields.{H2dFields}
 use Rattle.slots.specs.Slots.{has_bit, lowest_below, match_some}
 use Rattle.slots.proofs.MaskLemmas.{lowest_is}
 use Rattle.hba_driver.specs.declared.order.Order.{Order}
 use Rattle.hba_driver.specs.declared.order.Order.TheVariants.{CountPorts, Scan, Detect}
+use Rattle.hba_driver.specs.declared.path.Path.{Path}
+use Rattle.hba_driver.specs.declared.path.Stage.{Stage}
+use Rattle.hba_driver.specs.declared.path.Stage.TheVariants.{Identify, ReadLog}
 use Rattle.hba_driver.specs.declared.plan.Plan.{Plan}
 use Rattle.hba_driver.specs.declared.sight.Sight.{Sight}
 use Rattle.hba_driver.specs.declared.turn.Act.{Act}
 use Rattle.hba_driver.specs.declared.turn.Act.TheVariants as act
 use Rattle.hba_driver.specs.declared.turn.Turn.{Turn}
-use Rattle.hba_driver.specs.Drivers.{Entry, entry_at, waits}
+use Rattle.hba_driver.specs.Drivers.{Entry, IsPath, entry_at, waits}
 use Rattle.hba_driver.specs.Orders.{is_queued, order_fields}
-use Rattle.hba_driver.specs.Turns.{answered, control_news, control_seen, control_turn, device_seen, identified, identify_due, is_idle, issue_of, may_identify, may_issue, met, met_order, noted, opening_due, order_due, request_due, turn_of, with_next}
+use Rattle.hba_driver.specs.Paths.{next_stage, stage_fields}
+use Rattle.hba_driver.specs.Turns.{advanced, answered, control_news, control_seen, control_turn, device_due, device_seen, early_due, fault_due, found_of, is_back, is_due, is_idle, issue_of, may_issue, met, met_order, met_path, noted, order_due, path_answered, path_due, path_met, path_to, request_due, stage_due, stage_for, step_of, turn_of, with_next}
 
 -- ---- what is due
 
--- a request waits in a slot, for this device
-pub record Waiting (entries : List (Option Entry)) (slot dev : ℕ) : Type 0 where
+-- a request waits in a slot, for this device, which is ready
+pub record Waiting (plan : Plan) (entries : List (Option Entry)) (slot dev : ℕ) : Type 0 where
   pub below : slot < 30
   pub entry : Entry
   pub stands : entry_at entries slot ≡ Some entry
+  pub may : may_issue plan (Some entry) ≡ true
   pub waits_is : waits entry.head ≡ true
   pub of_dev : entry.head.dev ≡ dev
 
--- slot 31 or 30 is free, or a request waits
-abbrev pub Due : Plan → List (Option Entry) → Option Act → Type 0
-Due plan entries None = Unit {0}
-Due plan entries (Some (act.Opens k)) = Unit {0}
-Due plan entries (Some (act.Orders order)) = plan.asked ≡ false
-Due plan entries (Some (act.Identifies dev)) = (plan.identifying ≡ None) × (dev < 15)
-Due plan entries (Some (act.Issues slot dev queued)) = (w : Waiting entries slot dev) × (is_queued w.entry.head.work ≡ queued)
+-- slot 30 is free, or a path that holds it goes on with this stage
+abbrev pub MayStep : Plan → (dev : ℕ) → Stage → Type 0
+MayStep plan dev stage = ((plan.path ≡ None) × (dev < 15)) ⊎ (plan.path ≡ Some (record { dev = dev; stage = stage; asked = false }))
 
-if_due : (b : Bool) (t u : Turn) (entries : List (Option Entry)) → Due t.plan entries t.act → Due u.plan entries u.act → Due (if b then t else u).plan entries (if b then t else u).act
-if_due true t u entries h k = h
-if_due false t u entries h k = k
+-- what is known where an act is due
+abbrev pub Due : Sight → Plan → List (Option Entry) → Option Act → Type 0
+Due v plan entries None = Unit {0}
+Due v plan entries (Some (act.Opens k)) = (k ≡ plan.opened) × (plan.opened < 7)
+Due v plan entries (Some act.Stops) = v.stopped ≡ true
+Due v plan entries (Some (act.Restarts k)) = (k ≡ plan.restarted) × (plan.restarted < 2)
+Due v plan entries (Some (act.Clears dev)) = v.faulty ≡ Some dev
+Due v plan entries (Some (act.Orders order)) = plan.asked ≡ false
+Due v plan entries (Some (act.Steps dev stage)) = MayStep plan dev stage
+Due v plan entries (Some (act.Issues slot dev queued)) = (w : Waiting plan entries slot dev) × (is_queued w.entry.head.work ≡ queued)
 
-due_open : (b : Bool) (k : ℕ) (plan : Plan) (entries : List (Option Entry)) → Due plan entries (if b then Some (act.Opens k) else None)
-due_open true k plan entries = tt
-due_open false k plan entries = tt
+if_due : (v : Sight) (b : Bool) (t u : Turn) (entries : List (Option Entry)) → Due v t.plan entries t.act → Due v u.plan entries u.act → Due v (if b then t else u).plan entries (if b then t else u).act
+if_due v true t u entries h k = h
+if_due v false t u entries h k = k
 
-due_map_order : (fields : Option H2dFields) (o : Order) (plan : Plan) (entries : List (Option Entry)) → plan.asked ≡ false → Due plan entries (option_map (λ f. act.Orders o) fields)
-due_map_order None o plan entries h = tt
-due_map_order (Some f) o plan entries h = h
+due_or : (v : Sight) (a b : Option Act) (plan : Plan) (entries : List (Option Entry)) → Due v plan entries a → Due v plan entries b → Due v plan entries (option_or a b)
+due_or v None b plan entries h k = k
+due_or v (Some a) b plan entries h k = h
 
-due_order : (b : Bool) (fields : Option H2dFields) (o : Order) (plan : Plan) (entries : List (Option Entry)) → plan.asked ≡ b → Due plan entries (if b then None else option_map (λ f. act.Orders o) fields)
-due_order true fields o plan entries h = tt
-due_order false fields o plan entries h = due_map_order fields o plan entries h
+-- ---- what comes before all else
 
-due_map_identify : (o : Option ℕ) (plan : Plan) (entries : List (Option Entry)) → plan.identifying ≡ None → ((dev : ℕ) → o ≡ Some dev → dev < 15) → Due plan entries (option_map act.Identifies o)
-due_map_identify None plan entries h low = tt
-due_map_identify (Some dev) plan entries h low = (h, low dev refl)
+less_of : (n m : ℕ) → nat_lt n m ≡ true → n < m
+less_of n m h = grind (arith, nat_tests)
 
-due_identify : (i o : Option ℕ) (plan : Plan) (entries : List (Option Entry)) → plan.identifying ≡ i → ((dev : ℕ) → o ≡ Some dev → dev < 15) → Due plan entries (if is_some i then None else option_map act.Identifies o)
-due_identify (Some d) o plan entries h low = tt
-due_identify None o plan entries h low = due_map_identify o plan entries h low
+due_open : (v : Sight) (b : Bool) (plan : Plan) (entries : List (Option Entry)) → nat_lt plan.opened 7 ≡ b → Due v plan entries (if b then Some (act.Opens plan.opened) else None)
+due_open v true plan entries h = (refl, less_of plan.opened 7 h)
+due_open v false plan entries h = tt
 
-due_or : (a b : Option Act) (plan : Plan) (entries : List (Option Entry)) → Due plan entries a → Due plan entries b → Due plan entries (option_or a b)
-due_or None b plan entries h k = k
-due_or (Some a) b plan entries h k = h
+due_restart : (v : Sight) (b : Bool) (plan : Plan) (entries : List (Option Entry)) → nat_lt plan.restarted 2 ≡ b → Due v plan entries (if b then Some (act.Restarts plan.restarted) else None)
+due_restart v true plan entries h = (refl, less_of plan.restarted 2 h)
+due_restart v false plan entries h = tt
+
+due_clear : (v : Sight) (o : Option ℕ) (plan : Plan) (entries : List (Option Entry)) → v.faulty ≡ o → Due v plan entries (option_map act.Clears o)
+due_clear v None plan entries h = tt
+due_clear v (Some dev) plan entries h = h
+
+due_fault : (v : Sight) (b : Bool) (plan : Plan) (entries : List (Option Entry)) → v.stopped ≡ b → Due v plan entries (if b then Some act.Stops else option_map act.Clears v.faulty)
+due_fault v true plan entries h = h
+due_fault v false plan entries h = due_clear v v.faulty plan entries refl
+
+due_early : (v : Sight) (plan : Plan) (entries : List (Option Entry)) → Due v plan entries (early_due v plan)
+unfolding early_due
+due_early v plan entries =
+    due_or v _ _ plan entries (due_open v (nat_lt plan.opened 7) plan entries refl)
+    (due_or v _ _ plan entries (due_restart v (nat_lt plan.restarted 2) plan entries refl) (due_fault v v.stopped plan entries refl))
+
+-- ---- slots 31 and 30, and the requests
+
+due_map_order : (v : Sight) (fields : Option H2dFields) (o : Order) (plan : Plan) (entries : List (Option Entry)) → plan.asked ≡ false → Due v plan entries (option_map (λ f. act.Orders o) fields)
+due_map_order v None o plan entries h = tt
+due_map_order v (Some f) o plan entries h = h
+
+due_order : (v : Sight) (b : Bool) (fields : Option H2dFields) (o : Order) (plan : Plan) (entries : List (Option Entry)) → plan.asked ≡ b → Due v plan entries (if b then None else option_map (λ f. act.Orders o) fields)
+due_order v true fields o plan entries h = tt
+due_order v false fields o plan entries h = due_map_order v fields o plan entries h
+
+due_step : (v : Sight) (fields : Option H2dFields) (dev : ℕ) (stage : Stage) (plan : Plan) (entries : List (Option Entry)) → MayStep plan dev stage → Due v plan entries (option_map (λ f. act.Steps dev stage) fields)
+due_step v None dev stage plan entries h = tt
+due_step v (Some f) dev stage plan entries h = h
+
+due_stage : (v : Sight) (o : Option Stage) (dev : ℕ) (plan : Plan) (entries : List (Option Entry)) → plan.path ≡ None → dev < 15 → Due v plan entries (match_some o None (step_of dev))
+due_stage v None dev plan entries h low = tt
+due_stage v (Some stage) dev plan entries h low = due_step v (stage_fields dev stage) dev stage plan entries (inl (h, low))
+
+due_lowest_stage : (v : Sight) (o : Option ℕ) (plan : Plan) (entries : List (Option Entry)) → plan.path ≡ None → ((dev : ℕ) → o ≡ Some dev → dev < 15) → Due v plan entries (match_some o None (stage_due v plan))
+due_lowest_stage v None plan entries h low = tt
+due_lowest_stage v (Some dev) plan entries h low = due_stage v (stage_for v plan dev) dev plan entries h (low dev refl)
+
+free_path : (path : Path) → path.asked ≡ false → Some path ≡ Some (record path { asked = false })
+free_path path h = ap (λ (b : Bool). Some (record path { asked = b })) h
+
+due_path : (v : Sight) (b : Bool) (path : Path) (plan : Plan) (entries : List (Option Entry)) → plan.path ≡ Some path → path.asked ≡ b → Due v plan entries (if b then None else step_of path.dev path.stage)
+due_path v true path plan entries h a = tt
+due_path v false path plan entries h a = due_step v (stage_fields path.dev path.stage) path.dev path.stage plan entries (inr (h ∙ free_path path a))
+
+due_slot : (v : Sight) (o : Option Path) (plan : Plan) (entries : List (Option Entry)) → plan.path ≡ o
+    → Due v plan entries (match_some o (match_some (lowest_below (is_due v plan) 15) None (stage_due v plan)) path_due)
+due_slot v None plan entries h = due_lowest_stage v (lowest_below (is_due v plan) 15) plan entries h (λ dev is. (lowest_is (is_due v plan) 15 dev is).below)
+due_slot v (Some path) plan entries h = due_path v path.asked path plan entries h refl
 
 first : (b c : Bool) → (b && c) ≡ true → b ≡ true
 first true c h = refl
 first false c h = absurd (false≢true h)
 
-due_entry : (plan : Plan) (entries : List (Option Entry)) (s : ℕ) (x : Option Entry) → s < 30 → entry_at entries s ≡ x → may_issue plan x ≡ true → Due plan entries (issue_of s x)
-due_entry plan entries s None below here h = tt
-due_entry plan entries s (Some e) below here h =
-    let w : Waiting entries s e.head.dev = record { below = below; entry = e; stands = here; waits_is = first (waits e.head) _ h; of_dev = refl } in
+due_entry : (v : Sight) (plan : Plan) (entries : List (Option Entry)) (s : ℕ) (x : Option Entry) → s < 30 → entry_at entries s ≡ x → may_issue plan x ≡ true → Due v plan entries (issue_of s x)
+due_entry v plan entries s None below here h = tt
+due_entry v plan entries s (Some e) below here h =
+    let w : Waiting plan entries s e.head.dev = record { below = below; entry = e; stands = here; may = h; waits_is = first (waits e.head) _ h; of_dev = refl } in
     (w, refl)
 
-due_lowest : (plan : Plan) (entries : List (Option Entry)) (o : Option ℕ) → ((s : ℕ) → o ≡ Some s → (s < 30) × (may_issue plan (entry_at entries s) ≡ true)) → Due plan entries (match_some o None (λ slot. issue_of slot (entry_at entries slot)))
-due_lowest plan entries None h = tt
-due_lowest plan entries (Some s) h = due_entry plan entries s (entry_at entries s) (h s refl).0 refl (h s refl).1
+due_lowest : (v : Sight) (plan : Plan) (entries : List (Option Entry)) (o : Option ℕ) → ((s : ℕ) → o ≡ Some s → (s < 30) × (may_issue plan (entry_at entries s) ≡ true)) → Due v plan entries (match_some o None (λ slot. issue_of slot (entry_at entries slot)))
+due_lowest v plan entries None h = tt
+due_lowest v plan entries (Some s) h = due_entry v plan entries s (entry_at entries s) (h s refl).0 refl (h s refl).1
 
-due_request : (plan : Plan) (entries : List (Option Entry)) → Due plan entries (request_due plan entries)
+due_request : (v : Sight) (plan : Plan) (entries : List (Option Entry)) → Due v plan entries (request_due plan entries)
 unfolding request_due
-due_request plan entries =
-    due_lowest plan entries (lowest_below (λ slot. may_issue plan (entry_at entries slot)) 30) (λ s is.
+due_request v plan entries =
+    due_lowest v plan entries (lowest_below (λ slot. may_issue plan (entry_at entries slot)) 30) (λ s is.
     let low = lowest_is (λ slot. may_issue plan (entry_at entries slot)) 30 s is in
     (low.below, low.passes))
 
-due_device : (v : Sight) (plan : Plan) (entries : List (Option Entry)) → Due plan entries (option_or (identify_due v plan) (request_due plan entries))
-unfolding identify_due
-due_device v plan entries =
-    due_or _ (request_due plan entries) plan entries
-    (due_identify plan.identifying (lowest_below (may_identify v plan) 15) plan entries refl (λ dev is. (lowest_is (may_identify v plan) 15 dev is).below)) (due_request plan entries)
+due_device : (v : Sight) (plan : Plan) (entries : List (Option Entry)) → Due v plan entries (option_or (device_due v plan) (request_due plan entries))
+unfolding device_due
+due_device v plan entries = due_or v _ (request_due plan entries) plan entries (due_slot v plan.path plan entries refl) (due_request v plan entries)
 
-due_control : (v : Sight) (news : Bool) (plan : Plan) (entries : List (Option Entry)) → Due (control_turn v news plan entries).plan entries (control_turn v news plan entries).act
+due_control : (v : Sight) (news : Bool) (plan : Plan) (entries : List (Option Entry)) → Due v (control_turn v news plan entries).plan entries (control_turn v news plan entries).act
 due_control v news plan entries =
-    if_due (is_idle plan.order) _ _ entries tt
-    (if_due (is_some (order_due plan)) _ _ entries (due_order plan.asked (order_fields plan.order) plan.order plan entries refl) (due_device v (device_seen v plan) entries))
+    if_due v (is_idle plan.order) _ _ entries tt
+    (if_due v (is_some (order_due plan)) _ _ entries (due_order v plan.asked (order_fields plan.order) plan.order plan entries refl) (due_device v (device_seen v plan) entries))
 
-pub due_turn : (v : Sight) (plan : Plan) (entries : List (Option Entry)) → Due (turn_of v plan entries).plan entries (turn_of v plan entries).act
+pub due_turn : (v : Sight) (plan : Plan) (entries : List (Option Entry)) → Due v (turn_of v plan entries).plan entries (turn_of v plan entries).act
 unfolding turn_of
-due_turn v plan entries = if_due (is_some (opening_due plan)) _ _ entries (due_open _ plan.opened plan entries) (due_control v (control_news v plan) (control_seen v plan) entries)
+due_turn v plan entries = if_due v (is_some (early_due v plan)) _ _ entries (due_early v plan entries) (due_control v (control_news v plan) (control_seen v plan) entries)
 
 -- ---- what was seen of the plan
 
--- an order waits for its answer while its command is out, and so does an identify command
+-- an order waits for its answer while its command is out, and so does a path
 pub record PlanGoes (v : Sight) (p q : Plan) : Type 0 where
   pub asked : has_bit v.issued 31 ≡ true → p.asked ≡ true → q.asked ≡ true
-  pub identifying : has_bit v.issued 30 ≡ true → q.identifying ≡ p.identifying
+  pub path : has_bit v.issued 30 ≡ true → (x : Path) → p.path ≡ Some x → x.asked ≡ true → q.path ≡ Some x
   pub devices : length q.devices ≡ length p.devices
+  pub opened : q.opened ≡ p.opened
+  pub restarted : q.restarted ≡ p.restarted
+  pub low : IsPath p.path → IsPath q.path
 
 goes_same : (v : Sight) (p : Plan) → PlanGoes v p p
-goes_same v p = record { asked = λ b h. h; identifying = λ b. refl; devices = refl }
+goes_same v p = record { asked = λ b h. h; path = λ b x here a. here; devices = refl; opened = refl; restarted = refl; low = λ h. h }
 
 goes_then : (v : Sight) (p q r : Plan) → PlanGoes v p q → PlanGoes v q r → PlanGoes v p r
-goes_then v p q r h k = record { asked = λ b a. k.asked b (h.asked b a); identifying = λ b. k.identifying b ∙ h.identifying b; devices = k.devices ∙ h.devices }
+goes_then v p q r h k = record { asked = λ b a. k.asked b (h.asked b a); path = λ b x here a. k.path b x (h.path b x here a) a; devices = k.devices ∙ h.devices; opened = k.opened ∙ h.opened; restarted = k.restarted ∙ h.restarted; low = λ x. k.low (h.low x) }
 
 -- the rest of the plan is as it was
 record Alike (p q : Plan) : Type 0 where
-  pub identifying : q.identifying ≡ p.identifying
+  pub path : q.path ≡ p.path
   pub devices : length q.devices ≡ length p.devices
+  pub opened : q.opened ≡ p.opened
+  pub restarted : q.restarted ≡ p.restarted
 
 alike_noted : (v : Sight) (order : Order) (plan : Plan) → Alike plan (noted v order plan)
 unfolding noted
-alike_noted v CountPorts plan = record { identifying = refl; devices = refl }
-alike_noted v Scan plan = record { identifying = refl; devices = refl }
-alike_noted v (Detect port) plan = record { identifying = refl; devices = length-set plan.devices port _ }
-alike_noted v order plan = record { identifying = refl; devices = refl }
+alike_noted v CountPorts plan = record { path = refl; devices = refl; opened = refl; restarted = refl }
+alike_noted v Scan plan = record { path = refl; devices = refl; opened = refl; restarted = refl }
+alike_noted v (Detect port) plan = record { path = refl; devices = length-set plan.devices port _; opened = refl; restarted = refl }
+alike_noted v order plan = record { path = refl; devices = refl; opened = refl; restarted = refl }
 
 goes_answer : (v : Sight) (b c : Bool) (next plan : Plan) → has_bit v.issued 31 ≡ c → Alike plan next → PlanGoes v plan (if b && not c then next else plan)
 goes_answer v true true next plan is same = goes_same v plan
 goes_answer v false c next plan is same = goes_same v plan
 goes_answer v true false next plan is same = record {
   asked = λ bit h. absurd (true≢false (sym bit ∙ is));
-  identifying = λ bit. same.identifying;
+  path = λ bit x here a. same.path ∙ here;
   devices = same.devices;
+  opened = same.opened;
+  restarted = same.restarted;
+  low = λ h. subst IsPath (sym same.path) h;
 }
 
 goes_answered : (v : Sight) (plan : Plan) → PlanGoes v plan (answered v plan)
 goes_answered v plan =
     let same : Alike plan (noted v plan.order plan) = alike_noted v plan.order plan in
-    goes_answer v plan.asked (has_bit v.issued 31) (with_next plan.order (noted v plan.order plan)) plan refl (record { identifying = same.identifying; devices = same.devices })
+    goes_answer v plan.asked (has_bit v.issued 31) (with_next plan.order (noted v plan.order plan)) plan refl
+    (record { path = same.path; devices = same.devices; opened = same.opened; restarted = same.restarted })
 
 goes_if : (v : Sight) (b : Bool) (p q r : Plan) → PlanGoes v p q → PlanGoes v p r → PlanGoes v p (if b then q else r)
 goes_if v true p q r h k = h
@@ -146,25 +207,81 @@ goes_if v false p q r h k = k
 
 goes_met : (v : Sight) (plan : Plan) → PlanGoes v plan (met v plan)
 goes_met v plan =
-    goes_if v plan.asked plan plan (record plan { order = met_order v plan.order }) (goes_same v plan) (record { asked = λ b h. h; identifying = λ b. refl; devices = refl })
+    goes_if v plan.asked plan plan (record plan { order = met_order v plan.order }) (goes_same v plan) (record { asked = λ b h. h; path = λ b x here a. here; devices = refl; opened = refl; restarted = refl; low = λ h. h })
 
 goes_control : (v : Sight) (plan : Plan) → PlanGoes v plan (control_seen v plan)
 goes_control v plan = goes_then v plan (answered v plan) (control_seen v plan) (goes_answered v plan) (goes_met v (answered v plan))
 
-goes_identified : (v : Sight) (b : Bool) (dev : ℕ) (plan : Plan) → has_bit v.issued 30 ≡ b → PlanGoes v plan (if b then plan else identified v dev plan)
-goes_identified v true dev plan is = goes_same v plan
-goes_identified v false dev plan is = record {
-  asked = λ bit h. h;
-  identifying = λ bit. absurd (true≢false (sym bit ∙ is));
-  devices = length-set plan.devices dev _;
+length_found : (v : Sight) (stage : Stage) (dev : ℕ) (plan : Plan) → length (found_of v stage dev plan).devices ≡ length plan.devices
+unfolding found_of
+length_found v Identify dev plan = length-set plan.devices dev _
+length_found v (ReadLog file) dev plan = length-set plan.devices dev _
+length_found v stage dev plan = refl
+
+asked_found : (v : Sight) (stage : Stage) (dev : ℕ) (plan : Plan) → (found_of v stage dev plan).asked ≡ plan.asked
+unfolding found_of
+asked_found v Identify dev plan = refl
+asked_found v (ReadLog file) dev plan = refl
+asked_found v stage dev plan = refl
+
+opened_found : (v : Sight) (stage : Stage) (dev : ℕ) (plan : Plan) → (found_of v stage dev plan).opened ≡ plan.opened
+unfolding found_of
+opened_found v Identify dev plan = refl
+opened_found v (ReadLog file) dev plan = refl
+opened_found v stage dev plan = refl
+
+restarted_found : (v : Sight) (stage : Stage) (dev : ℕ) (plan : Plan) → (found_of v stage dev plan).restarted ≡ plan.restarted
+unfolding found_of
+restarted_found v Identify dev plan = refl
+restarted_found v (ReadLog file) dev plan = refl
+restarted_found v stage dev plan = refl
+
+path_low : (dev : ℕ) (stage : Option Stage) → dev < 15 → IsPath (path_to dev stage)
+path_low dev None h = tt
+path_low dev (Some s) h = h
+
+met_if : (b : Bool) (x y : Path) → x.dev < 15 → y.dev < 15 → (if b then x else y).dev < 15
+met_if true x y h k = h
+met_if false x y h k = k
+
+met_low : (v : Sight) (o : Option Path) → IsPath o → IsPath (option_map (met_path v) o)
+met_low v None h = tt
+met_low v (Some path) h = met_if path.asked path _ h h
+
+goes_back : (v : Sight) (bit : Bool) (path : Path) (plan : Plan) → plan.path ≡ Some path → has_bit v.issued 30 ≡ bit → PlanGoes v plan (if path.asked && not bit then advanced v path plan else plan)
+goes_back v bit path plan here is = by_asked path.asked bit is refl
+  where
+    by_asked : (a bit : Bool) → has_bit v.issued 30 ≡ bit → path.asked ≡ a → PlanGoes v plan (if a && not bit then advanced v path plan else plan)
+    by_asked true true is a = goes_same v plan
+    by_asked true false is a = record {
+      asked = λ b h. asked_found v path.stage path.dev plan ∙ h;
+      path = λ on x there ax. absurd (true≢false (sym on ∙ is));
+      devices = length_found v path.stage path.dev plan;
+      opened = opened_found v path.stage path.dev plan;
+      restarted = restarted_found v path.stage path.dev plan;
+      low = λ h. path_low path.dev (next_stage path.stage) (subst IsPath here h);
+    }
+    by_asked false bit is a = goes_same v plan
+
+goes_answered_by : (v : Sight) (o : Option Path) (plan : Plan) → plan.path ≡ o → PlanGoes v plan (match_some o plan (λ path. if is_back v path then advanced v path plan else plan))
+goes_answered_by v None plan here = goes_same v plan
+goes_answered_by v (Some path) plan here = goes_back v (has_bit v.issued 30) path plan here refl
+
+met_asked : (v : Sight) (path : Path) → path.asked ≡ true → met_path v path ≡ path
+met_asked v path h = ap (λ (b : Bool). if b then path else record path { stage = Rattle.hba_driver.specs.Turns.met_stage v path.dev path.stage }) h
+
+goes_path_met : (v : Sight) (plan : Plan) → PlanGoes v plan (path_met v plan)
+goes_path_met v plan = record {
+  asked = λ b h. h;
+  path = λ b x here a. ap (option_map (met_path v)) here ∙ ap Some (met_asked v x a);
+  devices = refl;
+  opened = refl;
+  restarted = refl;
+  low = λ h. met_low v plan.path h;
 }
 
-goes_device_by : (v : Sight) (o : Option ℕ) (plan : Plan) → PlanGoes v plan (match_some o plan (λ dev. if has_bit v.issued 30 then plan else identified v dev plan))
-goes_device_by v None plan = goes_same v plan
-goes_device_by v (Some dev) plan = goes_identified v (has_bit v.issued 30) dev plan refl
-
 goes_device : (v : Sight) (plan : Plan) → PlanGoes v plan (device_seen v plan)
-goes_device v plan = goes_device_by v plan.identifying plan
+goes_device v plan = goes_then v plan (path_answered v plan) (device_seen v plan) (goes_answered_by v plan.path plan refl) (goes_path_met v (path_answered v plan))
 
 turn_if : (v : Sight) (b : Bool) (p : Plan) (t u : Turn) → PlanGoes v p t.plan → PlanGoes v p u.plan → PlanGoes v p (if b then t else u).plan
 turn_if v true p t u h k = h
@@ -177,5 +294,41 @@ goes_control_turn v news plan entries =
 pub goes_turn : (v : Sight) (plan : Plan) (entries : List (Option Entry)) → PlanGoes v plan (turn_of v plan entries).plan
 unfolding turn_of
 goes_turn v plan entries =
-    turn_if v (is_some (opening_due plan)) plan _ _ (goes_same v plan)
+    turn_if v (is_some (early_due v plan)) plan _ _ (goes_same v plan)
     (goes_then v plan (control_seen v plan) _ (goes_control v plan) (goes_control_turn v (control_news v plan) (control_seen v plan) entries))
+
+-- ---- what comes only once the port is open, and runs
+
+-- the writes that open the port come before those that start it again, and these before any other act
+abbrev pub Runs : Plan → Option Act → Type 0
+Runs plan None = Unit {0}
+Runs plan (Some (act.Opens k)) = Unit {0}
+Runs plan (Some (act.Restarts k)) = nat_lt plan.opened 7 ≡ false
+Runs plan (Some a) = (nat_lt plan.opened 7 ≡ false) × (nat_lt plan.restarted 2 ≡ false)
+
+runs_any : (plan : Plan) (a : Option Act) → nat_lt plan.opened 7 ≡ false → nat_lt plan.restarted 2 ≡ false → Runs plan a
+runs_any plan None ready up = tt
+runs_any plan (Some (act.Opens k)) ready up = tt
+runs_any plan (Some (act.Restarts k)) ready up = ready
+runs_any plan (Some a) ready up = (ready, up)
+
+runs_as : (p q : Plan) (a : Option Act) → q.opened ≡ p.opened → q.restarted ≡ p.restarted → Runs p a → Runs q a
+runs_as p q None ready up h = tt
+runs_as p q (Some (act.Opens k)) ready up h = tt
+runs_as p q (Some (act.Restarts k)) ready up h = ap (λ (n : ℕ). nat_lt n 7) ready ∙ h
+runs_as p q (Some a) ready up h = (ap (λ (n : ℕ). nat_lt n 7) ready ∙ h.0, ap (λ (n : ℕ). nat_lt n 2) up ∙ h.1)
+
+runs_by : (v : Sight) (plan : Plan) (entries : List (Option Entry)) (b c : Bool) → nat_lt plan.opened 7 ≡ b → nat_lt plan.restarted 2 ≡ c → Runs plan (turn_of v plan entries).act
+unfolding turn_of early_due
+runs_by v plan entries true c ready up = rw ready tt
+runs_by v plan entries false true ready up = rw (ready, up) ready
+runs_by v plan entries false false ready up = runs_any plan (turn_of v plan entries).act ready up
+
+pub runs_turn : (v : Sight) (plan : Plan) (entries : List (Option Entry)) → Runs plan (turn_of v plan entries).act
+runs_turn v plan entries = runs_by v plan entries (nat_lt plan.opened 7) (nat_lt plan.restarted 2) refl refl
+
+-- and so it is of the plan of the turn
+pub runs_then : (v : Sight) (plan : Plan) (entries : List (Option Entry)) → Runs (turn_of v plan entries).plan (turn_of v plan entries).act
+runs_then v plan entries =
+    let goes : PlanGoes v plan (turn_of v plan entries).plan = goes_turn v plan entries in
+    runs_as plan (turn_of v plan entries).plan (turn_of v plan entries).act goes.opened goes.restarted (runs_turn v plan entries)

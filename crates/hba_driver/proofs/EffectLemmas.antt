@@ -8,12 +8,15 @@ use Rattle.host_memory.specs.Memory.{Memory}
 use Rattle.hba_fbs.specs.Views.{Port}
 use Rattle.hba_driver.specs.declared.order.Order.{Order}
 use Rattle.hba_driver.specs.declared.order.Order.TheVariants.{ResetOn, ResetOff, AwaitSignature, CountPorts, SetMask, Enable, Open, Scan, Clear, Detect, Watch, NoMultiplier}
-use Rattle.hba_driver.specs.Effects.{ActsAll, effects_of, is_effect, issuing, opening_write, opening_writes, order_effects}
+use Rattle.hba_driver.specs.declared.path.Stage.{Stage}
+use Rattle.hba_driver.specs.declared.path.Stage.TheVariants.{Identify, ReadLog, AssertReset, ReleaseReset, AwaitReset}
+use Rattle.hba_driver.specs.Effects.{ActsAll, effects_of, is_effect, issuing, opening_write, opening_writes, order_effects, restart_write, restart_writes, stage_effects}
 use Rattle.hba_driver.specs.Drivers.{IsOrder}
 use Rattle.hba_driver.specs.Turns.{IsAct}
 use Rattle.hba_driver.specs.declared.turn.Act.{Act}
 use Rattle.hba_driver.specs.declared.turn.Act.TheVariants as act
 use Rattle.hba_driver.specs.Orders.{order_fields}
+use Rattle.hba_driver.specs.Paths.{stage_fields}
 
 pub no_effects : (order : Order) → order_fields order ≡ None → order_effects order ≡ []
 unfolding order_fields order_effects
@@ -57,6 +60,18 @@ opens_possible : (k : ℕ) → is_effect (opening_write k) ≡ true
 unfolding opening_write
 opens_possible k = all_at is_effect opening_writes k _ refl refl
 
+restarts_possible : (k : ℕ) → is_effect (restart_write k) ≡ true
+unfolding restart_write
+restarts_possible k = all_at is_effect restart_writes k _ refl refl
+
+stage_possible : (dev : ℕ) (stage : Stage) → list_all is_effect (stage_effects dev stage) ≡ true
+unfolding stage_fields
+stage_possible dev Identify = refl
+stage_possible dev (ReadLog file) = refl
+stage_possible dev AssertReset = refl
+stage_possible dev ReleaseReset = refl
+stage_possible dev AwaitReset = refl
+
 issuing_possible : (slot dev : ℕ) (queued : Bool) → list_all is_effect (issuing slot dev queued) ≡ true
 issuing_possible slot dev true = refl
 issuing_possible slot dev false = refl
@@ -82,6 +97,9 @@ order_possible NoMultiplier h = refl
 pub act_possible : (a : Act) → IsAct a → list_all is_effect (effects_of a) ≡ true
 unfolding effects_of
 act_possible (act.Opens k) h = rw (opens_possible k) refl
+act_possible act.Stops h = refl
+act_possible (act.Restarts k) h = rw (restarts_possible k) refl
+act_possible (act.Clears dev) h = refl
 act_possible (act.Orders order) h = order_possible order h
-act_possible (act.Identifies dev) h = refl
+act_possible (act.Steps dev stage) h = stage_possible dev stage
 act_possible (act.Issues slot dev queued) h = issuing_possible slot dev queued

@@ -1,32 +1,34 @@
 -- What is true over every list of turns of the host.
 use Rattle.std.proofs.Common.{◌≡◌, ◌≢◌, ℕ, ◌+◌, ◌<◌, ◌≤◌, ◌⊎◌, Bool, true, false, ◌&&◌, List, [], ◌∷◌, ◌++◌, length, set, refl, sym, ◌∙◌, ap, subst, inl, inr, arith, Option, Some, None}
-use Rattle.std.specs.Prelude.{if◌then◌else◌, ◌==◌, ◌||◌, not, is_none, unwrap_or}
+use Rattle.std.specs.Prelude.{◌==◌, ◌||◌, not, is_none, unwrap_or}
 use Rattle.std.specs.List.{list_any, range_with_len}
 use Rattle.std.specs.Option.{option_map}
-use Rattle.std.proofs.lemmas.Bool.{cases_Bool, cases_eq, false≢true, true≢false}
+use Rattle.std.proofs.lemmas.Bool.{cases_Bool, cases_eq, false≢true, or_parts, true≢false}
 use Rattle.std.proofs.lemmas.Bool.Decides.{nat_tests}
 use Rattle.std.proofs.lemmas.List.{get_or-set_other}
 use Rattle.slots.specs.Slots.{match_some}
 use Rattle.slots.proofs.MaskLemmas.{lowest_is}
 use Rattle.hba_driver.specs.declared.request.Completion.{Completion}
 use Rattle.hba_driver.specs.declared.request.Outcome.{Outcome}
-use Rattle.hba_driver.specs.declared.request.Outcome.TheVariants.{Done, Removed}
+use Rattle.hba_driver.specs.declared.request.Outcome.TheVariants.{Done, DeviceError, Aborted, Removed, PortError}
 use Rattle.hba_driver.specs.declared.request.Request.{Request}
 use Rattle.hba_driver.specs.declared.sight.Sight.{Sight}
 use Rattle.hba_driver.specs.declared.slot.Head.{Head}
 use Rattle.hba_driver.specs.declared.slot.Phase.{Phase}
-use Rattle.hba_driver.specs.declared.slot.Phase.TheVariants.{Waits, Issued, Ended}
+use Rattle.hba_driver.specs.declared.slot.Phase.TheVariants.{Waits, Issued, Aside, Ended}
 use Rattle.hba_driver.specs.declared.turn.Act.{Act}
 use Rattle.hba_driver.specs.declared.turn.Act.TheVariants as act
 use Rattle.host_memory.specs.Memory.{Memory}
-use Rattle.hba_driver.specs.Drivers.{AreRequests, Driver, Entry, entry_at, holds, rephased, waits, waits_in}
+use Rattle.hba_driver.specs.declared.path.TaskFile.{TaskFile}
+use Rattle.hba_driver.specs.Drivers.{AreRequests, Driver, Entry, entry_at, holds, is_issued_in, rephased, waits, waits_in}
 use Rattle.hba_driver.specs.HostTurns.{Does, DoesAll, Host, HostTurn, Took, Pushed, Ticked, Submitted, Polled, Put, given_in, issued_by_act, issued_in_tick, issued_over, polled_in, sight_in, ticket_of}
 use Rattle.hba_driver.specs.Laws.{AreOnce, EachRunKeeps, Goes, GoesOn, Kept, Keeps, Lives, ends_as, gives, is_outcome}
 use Rattle.hba_driver.specs.Requests.{is_free, lowest_free}
 use Rattle.hba_driver.specs.Submits.{after_poll, after_submit, completed, completion_at, completion_of, lowest_ended, new_entry, next_slot, submit_refusal}
-use Rattle.hba_driver.specs.Ticks.{acted, after_tick, entries_after, is_done, seen, turn}
-use Rattle.hba_driver.proofs.LifeLemmas.{May, given_tick, goes_same, keeps_done, keeps_tick, may_turn, on_then, slots_tick, waits_if_may}
-use Rattle.hba_driver.proofs.RequestLemmas.{requests_freed, requests_from, requests_rephased, requests_taken, set_cases}
+use Rattle.hba_driver.specs.Sights.{file_shown}
+use Rattle.hba_driver.specs.Ticks.{acted, after_tick, done_ended, entries_after, is_done, seen, turn}
+use Rattle.hba_driver.proofs.LifeLemmas.{May, given_tick, goes_same, keeps_seen, keeps_tick, may_turn, on_then, slots_tick, waits_if_may}
+use Rattle.hba_driver.proofs.RequestLemmas.{requests_freed, requests_from, requests_logged, requests_rephased, requests_taken, set_cases}
 use Rattle.hba_driver.proofs.SubmitLemmas.{is_taken, no_conflict}
 
 abbrev none_entry : Option Entry
@@ -49,6 +51,7 @@ pub record PollFacts (d : Driver) (c : Completion) : Type 0 where
 completed_facts : (n : ℕ) (head : Head) (p : Phase) (c : Completion) → completed n head p ≡ Some c → (c.ticket.0 ≡ head.ticket) × (c.slot ≡ n) × (p ≡ Ended c.outcome)
 completed_facts n head Waits c h = cc
 completed_facts n head Issued c h = cc
+completed_facts n head Aside c h = cc
 completed_facts n head (Ended o) c h =
     let done : Completion = record { ticket = record { 0 = head.ticket }; slot = n; outcome = o } in
     let is : done ≡ c = cc in
@@ -92,9 +95,9 @@ back_of (Some e) n h f is = (e, refl, subst (λ (x : Entry). GoesOn e x) (some_s
 comes_same : (old new : Driver) → new ≡ old → (s : ℕ) (f : Entry) → entry_at new.entries s ≡ Some f → ComesOf old s f
 comes_same old new is s f here = inl (f, ap (λ (d : Driver). entry_at d.entries s) (sym is) ∙ here, on_same f)
 
-comes_tick : (v : Sight) (old new : Driver) → new ≡ after_tick v old → (s : ℕ) (f : Entry) → entry_at new.entries s ≡ Some f → ComesOf old s f
-comes_tick v old new is s f here =
-    inl (back_of (entry_at old.entries s) (entry_at (after_tick v old).entries s) (keeps_tick v old s) f (ap (λ (d : Driver). entry_at d.entries s) (sym is) ∙ here))
+comes_tick : (v : Sight) (file : TaskFile) (old new : Driver) → new ≡ after_tick v file old → (s : ℕ) (f : Entry) → entry_at new.entries s ≡ Some f → ComesOf old s f
+comes_tick v file old new is s f here =
+    inl (back_of (entry_at old.entries s) (entry_at (after_tick v file old).entries s) (keeps_tick v file old s) f (ap (λ (d : Driver). entry_at d.entries s) (sym is) ∙ here))
 
 comes_submit : (dev : ℕ) (request : Request) (old new : Driver) → new ≡ after_submit old dev request → (s : ℕ) (f : Entry) → entry_at new.entries s ≡ Some f → ComesOf old s f
 comes_submit dev request old new is s f here =
@@ -116,7 +119,7 @@ comes_poll c old new polled is s f here =
 comes_turn : (old : Host) (t : HostTurn) (new : Host) → Does old t new → (s : ℕ) (f : Entry) → entry_at new.driver.entries s ≡ Some f → ComesOf old.driver s f
 comes_turn old (Took frame report) new h = comes_same old.driver new.driver h.driver
 comes_turn old (Pushed frame) new h = comes_same old.driver new.driver h.driver
-comes_turn old (Ticked a) new h = comes_tick (sight_in old) old.driver new.driver h.driver
+comes_turn old (Ticked a) new h = comes_tick (sight_in old) _ old.driver new.driver h.driver
 comes_turn old (Submitted dev request ticket) new h = comes_submit dev request old.driver new.driver h.taken.driver
 comes_turn old (Polled c) new h = comes_poll c old.driver new.driver h.polled h.driver
 comes_turn old (Put at bytes) new h = comes_same old.driver new.driver h.driver
@@ -126,7 +129,7 @@ comes_turn old (Put at bytes) new h = comes_same old.driver new.driver h.driver
 given_least : (old : Host) (t : HostTurn) (new : Host) → Does old t new → old.driver.given ≤ new.driver.given
 given_least old (Took frame report) new h = omega (arith, ap (λ (d : Driver). d.given) h.driver)
 given_least old (Pushed frame) new h = omega (arith, ap (λ (d : Driver). d.given) h.driver)
-given_least old (Ticked a) new h = omega (arith, ap (λ (d : Driver). d.given) h.driver, given_tick (sight_in old) old.driver)
+given_least old (Ticked a) new h = omega (arith, ap (λ (d : Driver). d.given) h.driver, given_tick (sight_in old) (file_shown new.port) old.driver)
 given_least old (Submitted dev request ticket) new h = omega (arith, ap (λ (d : Driver). d.given) h.taken.driver)
 given_least old (Polled c) new h = let facts = poll_facts old.driver c h.polled in omega (arith, ap (λ (d : Driver). d.given) (h.driver ∙ freed old.driver c facts))
 given_least old (Put at bytes) new h = omega (arith, ap (λ (d : Driver). d.given) h.driver)
@@ -151,7 +154,7 @@ given_over : (turns : List HostTurn) (old new : Host) → DoesAll old turns new 
 given_over [] old new run = record { given = refl; last = ap (λ (h : Host). h.driver.given) run ∙ omega arith }
 given_over (Took frame report ∷ turns) old new run = given_on old.driver run.0.driver new.driver _ (ap (λ (d : Driver). d.given) run.1.driver) (given_over turns run.0 new run.2)
 given_over (Pushed frame ∷ turns) old new run = given_on old.driver run.0.driver new.driver _ (ap (λ (d : Driver). d.given) run.1.driver) (given_over turns run.0 new run.2)
-given_over (Ticked a ∷ turns) old new run = given_on old.driver run.0.driver new.driver _ (ap (λ (d : Driver). d.given) run.1.driver ∙ given_tick (sight_in old) old.driver) (given_over turns run.0 new run.2)
+given_over (Ticked a ∷ turns) old new run = given_on old.driver run.0.driver new.driver _ (ap (λ (d : Driver). d.given) run.1.driver ∙ given_tick (sight_in old) (file_shown run.0.port) old.driver) (given_over turns run.0 new run.2)
 given_over (Submitted dev request ticket ∷ turns) old new run = given_more old.driver run.0.driver new.driver ticket _ run.1.taken.next (ap (λ (d : Driver). d.given) run.1.taken.driver) (given_over turns run.0 new run.2)
 given_over (Polled c ∷ turns) old new run = given_on old.driver run.0.driver new.driver _ (ap (λ (d : Driver). d.given) (run.1.driver ∙ freed old.driver c (poll_facts old.driver c run.1.polled))) (given_over turns run.0 new run.2)
 given_over (Put at bytes ∷ turns) old new run = given_on old.driver run.0.driver new.driver _ (ap (λ (d : Driver). d.given) run.1.driver) (given_over turns run.0 new run.2)
@@ -161,11 +164,11 @@ given_over (Put at bytes ∷ turns) old new run = given_on old.driver run.0.driv
 same_requests : (old new : Driver) → new ≡ old → AreRequests old.given old.entries → AreRequests new.given new.entries
 same_requests old new is h = subst (λ (d : Driver). AreRequests d.given d.entries) (sym is) h
 
-tick_requests : (v : Sight) (d : Driver) → AreRequests d.given d.entries → AreRequests (after_tick v d).given (after_tick v d).entries
-tick_requests v d h =
-    subst (λ (n : ℕ). AreRequests n (after_tick v d).entries) (sym (given_tick v d))
-    (requests_from d.given d.entries (after_tick v d).entries h (slots_tick v d) (λ s f here.
-    let b = back_of (entry_at d.entries s) (entry_at (after_tick v d).entries s) (keeps_tick v d s) f here in
+tick_requests : (v : Sight) (file : TaskFile) (d : Driver) → AreRequests d.given d.entries → AreRequests (after_tick v file d).given (after_tick v file d).entries
+tick_requests v file d h =
+    subst (λ (n : ℕ). AreRequests n (after_tick v file d).entries) (sym (given_tick v file d))
+    (requests_from d.given d.entries (after_tick v file d).entries h (slots_tick v file d) (λ s f here.
+    let b = back_of (entry_at d.entries s) (entry_at (after_tick v file d).entries s) (keeps_tick v file d s) f here in
     record {
       entry = b.0;
       was = b.1;
@@ -188,7 +191,7 @@ poll_requests d c polled h =
 pub requests_turn : (old : Host) (t : HostTurn) (new : Host) → Does old t new → AreRequests old.driver.given old.driver.entries → AreRequests new.driver.given new.driver.entries
 requests_turn old (Took frame report) new h r = same_requests old.driver new.driver h.driver r
 requests_turn old (Pushed frame) new h r = same_requests old.driver new.driver h.driver r
-requests_turn old (Ticked a) new h r = same_requests (after_tick (sight_in old) old.driver) new.driver h.driver (tick_requests (sight_in old) old.driver r)
+requests_turn old (Ticked a) new h r = same_requests (after_tick (sight_in old) (file_shown new.port) old.driver) new.driver h.driver (tick_requests (sight_in old) (file_shown new.port) old.driver r)
 requests_turn old (Submitted dev request ticket) new h r = same_requests (after_submit old.driver dev request) new.driver h.taken.driver (submit_requests old.driver old.memory dev request h.accepted r)
 requests_turn old (Polled c) new h r = same_requests (after_poll old.driver) new.driver h.driver (poll_requests old.driver c h.polled r)
 requests_turn old (Put at bytes) new h r = same_requests old.driver new.driver h.driver r
@@ -221,6 +224,7 @@ gone_stays p q h k = k
 past_stays : Stable past
 past_stays Waits q h k = absurd (false≢true k)
 past_stays Issued q h k = rw h refl
+past_stays Aside q h k = rw (or_parts (waits_in q) (is_issued_in q) h).0 refl
 past_stays (Ended o) q h k = rw h refl
 
 stands_turn : (test : Phase → Bool) → Stable test → (ticket : ℕ) (old : Host) (t : HostTurn) (new : Host) → Does old t new → Stands test ticket old.driver → Stands test ticket new.driver
@@ -288,9 +292,9 @@ LivesOn s e t new = Kept e (entry_at new.driver.entries s) ⊎ (gives s e t ≡ 
 lives_same : (old new : Driver) → new ≡ old → (s : ℕ) (e : Entry) → entry_at old.entries s ≡ Some e → Kept e (entry_at new.entries s)
 lives_same old new is s e here = kept_still e (entry_at new.entries s) (ap (λ (d : Driver). entry_at d.entries s) is ∙ here)
 
-lives_tick : (v : Sight) (old new : Driver) → new ≡ after_tick v old → (s : ℕ) (e : Entry) → entry_at old.entries s ≡ Some e → Kept e (entry_at new.entries s)
-lives_tick v old new is s e here =
-    let kept : Kept e (entry_at (after_tick v old).entries s) = subst (λ (o : Option Entry). Keeps o (entry_at (after_tick v old).entries s)) here (keeps_tick v old s) in
+lives_tick : (v : Sight) (file : TaskFile) (old new : Driver) → new ≡ after_tick v file old → (s : ℕ) (e : Entry) → entry_at old.entries s ≡ Some e → Kept e (entry_at new.entries s)
+lives_tick v file old new is s e here =
+    let kept : Kept e (entry_at (after_tick v file old).entries s) = subst (λ (o : Option Entry). Keeps o (entry_at (after_tick v file old).entries s)) here (keeps_tick v file old s) in
     subst (λ (d : Driver). Kept e (entry_at d.entries s)) (sym is) kept
 
 some_place : (o : Option ℕ) → is_none o ≡ false → o ≡ Some (unwrap_or o 30)
@@ -314,7 +318,14 @@ equal_is x y h = grind (arith, nat_tests)
 
 own_outcome : (o : Outcome) → is_outcome o o ≡ true
 own_outcome Done = refl
+own_outcome (DeviceError status error) = both_own (status == status) (error == error) (equal_is status status refl) (equal_is error error refl)
+  where
+    both_own : (a b : Bool) → a ≡ true → b ≡ true → (a && b) ≡ true
+    both_own true b h k = k
+    both_own false b h k = absurd (false≢true h)
+own_outcome Aborted = refl
 own_outcome Removed = refl
+own_outcome PortError = refl
 
 all_three : (a b c : Bool) → a ≡ true → b ≡ true → c ≡ true → (a && b && c) ≡ true
 all_three true true c h k l = l
@@ -346,7 +357,7 @@ lives_poll d new c polled is s e here =
 pub lives_turn : (old : Host) (t : HostTurn) (new : Host) → Does old t new → (s : ℕ) (e : Entry) → entry_at old.driver.entries s ≡ Some e → LivesOn s e t new
 lives_turn old (Took frame report) new h s e here = inl (lives_same old.driver new.driver h.driver s e here)
 lives_turn old (Pushed frame) new h s e here = inl (lives_same old.driver new.driver h.driver s e here)
-lives_turn old (Ticked a) new h s e here = inl (lives_tick (sight_in old) old.driver new.driver h.driver s e here)
+lives_turn old (Ticked a) new h s e here = inl (lives_tick (sight_in old) _ old.driver new.driver h.driver s e here)
 lives_turn old (Submitted dev request ticket) new h s e here = inl (lives_submit old.driver new.driver old.memory dev request h.accepted h.taken.driver s e here)
 lives_turn old (Polled c) new h s e here = lives_poll old.driver new.driver c h.polled h.driver s e here
 lives_turn old (Put at bytes) new h s e here = inl (lives_same old.driver new.driver h.driver s e here)
@@ -354,6 +365,7 @@ lives_turn old (Put at bytes) new h s e here = inl (lives_same old.driver new.dr
 ends_back : (p q : Phase) (o : Outcome) → Goes p q → ends_as q o ≡ true → ends_as p o ≡ true
 ends_back Waits q o h k = refl
 ends_back Issued q o h k = refl
+ends_back Aside q o h k = refl
 ends_back (Ended x) q o h k = sym (ap (λ (r : Phase). ends_as r o) h) ∙ k
 
 -- what gives a request later gives it now
@@ -398,35 +410,28 @@ lives_over (t ∷ turns) old new run s e here = elim (lives_turn old t run.0 run
 -- ---- issued once
 
 -- a tick issues this ticket alone, which no tick issued before and none will again
-record Issue (v : Sight) (d : Driver) (tickets : List ℕ) : Type 0 where
+record Issue (v : Sight) (file : TaskFile) (d : Driver) (tickets : List ℕ) : Type 0 where
   pub ticket : ℕ
   pub is : tickets ≡ ticket ∷ []
   pub before : (t : ℕ) → Stands past t d → (ticket == t) ≡ false
-  pub after : Stands past ticket (after_tick v d)
+  pub after : Stands past ticket (after_tick v file d)
 
 seen_requests : (v : Sight) (d : Driver) → AreRequests d.given d.entries → AreRequests d.given (seen v d).entries
-seen_requests v d r = requests_rephased d.given (is_done v.issued) (Ended Done) d.entries (seen v d).entries r refl
+seen_requests v d r =
+    requests_logged d.given v.log (turn v d).logged (done_ended v.issued d.entries) (requests_rephased d.given (is_done v.issued) (Ended Done) d.entries (done_ended v.issued d.entries) r refl)
 
 -- what waits when a tick issues it waited before
 waited : (v : Sight) (d : Driver) (slot : ℕ) (e : Entry) → entry_at (seen v d).entries slot ≡ Some e → waits e.head ≡ true → (t : ℕ) → Stands past t d → (e.head.ticket == t) ≡ false
 waited v d slot e here wait t stands = not_equal e.head.ticket t (λ same.
-    let b = back_of (entry_at d.entries slot) (entry_at (seen v d).entries slot) (keeps_done v.issued d.entries slot) e here in
+    let b = back_of (entry_at d.entries slot) (entry_at (seen v d).entries slot) (keeps_seen v d slot) e here in
     let ticket : b.0.head.ticket ≡ t = sym (ap (λ (x : Entry). x.head.ticket) b.2.same) ∙ same in
     let far : past e.head.phase ≡ true = past_stays b.0.head.phase e.head.phase b.2.goes (stands.far slot b.0 b.1 ticket) in
     false≢true (sym (ap not wait) ∙ far))
 
-else_driver : (b : Bool) (x y : Driver) → b ≡ false → (if b then x else y) ≡ y
-else_driver true x y h = absurd (true≢false h)
-else_driver false x y h = refl
-
-acted_tick : (v : Sight) (d : Driver) → v.faulted ≡ false → after_tick v d ≡ acted (turn v d).act (seen v d)
-unfolding after_tick
-acted_tick v d h = else_driver v.faulted d (acted (turn v d).act (seen v d)) h
-
-issued_far : (v : Sight) (d : Driver) (slot dev : ℕ) (queued : Bool) (e : Entry) → AreRequests d.given d.entries → entry_at (seen v d).entries slot ≡ Some e
-    → Stands past e.head.ticket (acted (Some (act.Issues slot dev queued)) (seen v d))
+issued_far : (v : Sight) (file : TaskFile) (d : Driver) (slot dev : ℕ) (queued : Bool) (e : Entry) → AreRequests d.given d.entries → entry_at (seen v d).entries slot ≡ Some e
+    → Stands past e.head.ticket (acted (Some (act.Issues slot dev queued)) file (seen v d))
 unfolding entries_after
-issued_far v d slot dev queued e r here =
+issued_far v file d slot dev queued e r here =
     let sound : AreRequests d.given (seen v d).entries = seen_requests v d r in
     record {
       old = sound.given slot e here;
@@ -438,35 +443,34 @@ issued_far v d slot dev queued e r here =
       ];
     }
 
-abbrev AtMostOne : Sight → Driver → List ℕ → Type 0
-AtMostOne v d tickets = (tickets ≡ []) ⊎ Issue v d tickets
+abbrev AtMostOne : Sight → TaskFile → Driver → List ℕ → Type 0
+AtMostOne v file d tickets = (tickets ≡ []) ⊎ Issue v file d tickets
 
-issue_slot : (v : Sight) (d : Driver) (slot dev : ℕ) (queued : Bool) → AreRequests d.given d.entries → v.faulted ≡ false → (turn v d).act ≡ Some (act.Issues slot dev queued)
-    → (x : Option Entry) → entry_at (seen v d).entries slot ≡ x → holds waits x ≡ true → AtMostOne v d (ticket_of x)
-issue_slot v d slot dev queued r quiet is None here wait = inl refl
-issue_slot v d slot dev queued r quiet is (Some e) here wait = inr (record {
+issue_slot : (v : Sight) (file : TaskFile) (d : Driver) (slot dev : ℕ) (queued : Bool) → AreRequests d.given d.entries → (turn v d).act ≡ Some (act.Issues slot dev queued)
+    → (x : Option Entry) → entry_at (seen v d).entries slot ≡ x → holds waits x ≡ true → AtMostOne v file d (ticket_of x)
+unfolding after_tick
+issue_slot v file d slot dev queued r is None here wait = inl refl
+issue_slot v file d slot dev queued r is (Some e) here wait = inr (record {
   ticket = e.head.ticket;
   is = refl;
   before = waited v d slot e here wait;
-  after = subst (λ (x : Driver). Stands past e.head.ticket x) (sym (acted_tick v d quiet ∙ ap (λ (a : Option Act). acted a (seen v d)) is)) (issued_far v d slot dev queued e r here);
+  after = subst (λ (x : Driver). Stands past e.head.ticket x) (sym (ap (λ (a : Option Act). acted a file (seen v d)) is)) (issued_far v file d slot dev queued e r here);
 })
 
-issue_act : (v : Sight) (d : Driver) → AreRequests d.given d.entries → v.faulted ≡ false → (a : Option Act) → (turn v d).act ≡ a → May (turn v d).plan (seen v d).entries a
-    → AtMostOne v d (issued_by_act a (seen v d).entries)
-issue_act v d r quiet None is may = inl refl
-issue_act v d r quiet (Some (act.Opens k)) is may = inl refl
-issue_act v d r quiet (Some (act.Orders order)) is may = inl refl
-issue_act v d r quiet (Some (act.Identifies dev)) is may = inl refl
-issue_act v d r quiet (Some (act.Issues slot dev queued)) is may =
-    issue_slot v d slot dev queued r quiet is (entry_at (seen v d).entries slot) refl (waits_if_may (turn v d).plan (entry_at (seen v d).entries slot) may)
+issue_act : (v : Sight) (file : TaskFile) (d : Driver) → AreRequests d.given d.entries → (a : Option Act) → (turn v d).act ≡ a → May (turn v d).plan (seen v d).entries a
+    → AtMostOne v file d (issued_by_act a (seen v d).entries)
+issue_act v file d r None is may = inl refl
+issue_act v file d r (Some (act.Opens k)) is may = inl refl
+issue_act v file d r (Some act.Stops) is may = inl refl
+issue_act v file d r (Some (act.Restarts k)) is may = inl refl
+issue_act v file d r (Some (act.Clears dev)) is may = inl refl
+issue_act v file d r (Some (act.Orders order)) is may = inl refl
+issue_act v file d r (Some (act.Steps dev stage)) is may = inl refl
+issue_act v file d r (Some (act.Issues slot dev queued)) is may =
+    issue_slot v file d slot dev queued r is (entry_at (seen v d).entries slot) refl (waits_if_may (turn v d).plan (entry_at (seen v d).entries slot) may)
 
-if_act : (b : Bool) (a : Option Act) (entries : List (Option Entry)) (v : Sight) (d : Driver) → (b ≡ false → AtMostOne v d (issued_by_act a entries)) → AtMostOne v d (issued_by_act (if b then None else a) entries)
-if_act true a entries v d h = inl refl
-if_act false a entries v d h = h refl
-
-issue_tick : (v : Sight) (d : Driver) → AreRequests d.given d.entries → AtMostOne v d (issued_in_tick v d)
-issue_tick v d r =
-    if_act v.faulted (turn v d).act (seen v d).entries v d (λ quiet. issue_act v d r quiet (turn v d).act refl (may_turn v d.plan (seen v d).entries))
+issue_tick : (v : Sight) (file : TaskFile) (d : Driver) → AreRequests d.given d.entries → AtMostOne v file d (issued_in_tick v d)
+issue_tick v file d r = issue_act v file d r (turn v d).act refl (may_turn v d)
 
 stands_next : (ticket : ℕ) (old : Host) (t : HostTurn) (new : Host) → Does old t new → Stands past ticket old.driver → Stands past ticket new.driver
 stands_next = stands_turn past past_stays
@@ -481,7 +485,7 @@ none_issued (Pushed frame ∷ turns) old new run r ticket h =
 none_issued (Ticked a ∷ turns) old new run r ticket h =
     let later : list_any (λ y. y == ticket) (issued_over run.0 new turns run.2) ≡ false =
     none_issued turns run.0 new run.2 (requests_turn old (Ticked a) run.0 run.1 r) ticket (stands_next ticket old (Ticked a) run.0 run.1 h) in
-    elim (issue_tick (sight_in old) old.driver r) [
+    elim (issue_tick (sight_in old) (file_shown run.0.port) old.driver r) [
       | inl none ↦ subst (λ (l : List ℕ). list_any (λ y. y == ticket) (l ++ issued_over run.0 new turns run.2) ≡ false) (sym none) later
       | inr one ↦
           subst (λ (l : List ℕ). list_any (λ y. y == ticket) (l ++ issued_over run.0 new turns run.2) ≡ false) (sym one.is)
@@ -501,7 +505,7 @@ issued_once (Pushed frame ∷ turns) old new run r = issued_once turns run.0 new
 issued_once (Ticked a ∷ turns) old new run r =
     let next : AreRequests run.0.driver.given run.0.driver.entries = requests_turn old (Ticked a) run.0 run.1 r in
     let later : AreOnce (issued_over run.0 new turns run.2) = issued_once turns run.0 new run.2 next in
-    elim (issue_tick (sight_in old) old.driver r) [
+    elim (issue_tick (sight_in old) (file_shown run.0.port) old.driver r) [
       | inl none ↦ subst (λ (l : List ℕ). AreOnce (l ++ issued_over run.0 new turns run.2)) (sym none) later
       | inr one ↦
           let far : Stands past one.ticket run.0.driver = subst (λ (d : Driver). Stands past one.ticket d) (sym run.1.driver) one.after in

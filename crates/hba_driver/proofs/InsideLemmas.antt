@@ -16,13 +16,19 @@ use Rattle.hba_laws.specs.History.{Transfer, issued}
 use Rattle.hba_laws.specs.Hosts as event
 use Rattle.hba_laws.proofs.SoundLemmas.{sizes_stay}
 use Rattle.hba_laws.proofs.ViewLemmas.{own_in}
+use Rattle.hba_driver.specs.declared.path.Stage.{Stage}
+use Rattle.hba_driver.specs.declared.path.Stage.TheVariants.{Identify, ReadLog, AssertReset, ReleaseReset, AwaitReset}
+use Rattle.hba_driver.specs.declared.path.TaskFile.{TaskFile}
 use Rattle.hba_driver.specs.declared.request.Completion.{Completion}
 use Rattle.hba_driver.specs.declared.request.Request.{Request}
 use Rattle.hba_driver.specs.declared.sight.Sight.{Sight}
 use Rattle.hba_driver.specs.Drivers.{Driver, Entry, entry_at}
+use Rattle.hba_driver.specs.Effects.{prds_with}
 use Rattle.hba_driver.specs.Events.{IsSoundHost, events_over, shared_by}
 use Rattle.hba_driver.specs.HostTurns.{Does, DoesAll, Host, HostTurn, Took, Pushed, Ticked, Submitted, Polled, Put, sight_in}
+use Rattle.hba_driver.specs.Paths.{reads_page}
 use Rattle.hba_driver.specs.Requests.{is_bad_prd}
+use Rattle.hba_driver.specs.Sights.{file_shown}
 use Rattle.hba_driver.specs.Submits.{after_poll, after_submit, completion_of, end_of, new_entry, next_slot, submit_refusal}
 use Rattle.hba_driver.specs.Ticks.{after_tick}
 use Rattle.hba_driver.proofs.HistoryLemmas.{back_of, freed, poll_facts, some_same}
@@ -47,9 +53,9 @@ none_some e h = cc
 good_same : (end : ℕ) (old new : Driver) → new ≡ old → HaveGoodPrds end old → HaveGoodPrds end new
 good_same end old new is good s f here = good s f (ap (λ (d : Driver). entry_at d.entries s) (sym is) ∙ here)
 
-good_tick : (end : ℕ) (v : Sight) (old new : Driver) → new ≡ after_tick v old → HaveGoodPrds end old → HaveGoodPrds end new
-good_tick end v old new is good s f here =
-    let b = back_of (entry_at old.entries s) (entry_at (after_tick v old).entries s) (keeps_tick v old s) f (ap (λ (d : Driver). entry_at d.entries s) (sym is) ∙ here) in
+good_tick : (end : ℕ) (v : Sight) (file : TaskFile) (old new : Driver) → new ≡ after_tick v file old → HaveGoodPrds end old → HaveGoodPrds end new
+good_tick end v file old new is good s f here =
+    let b = back_of (entry_at old.entries s) (entry_at (after_tick v file old).entries s) (keeps_tick v file old s) f (ap (λ (d : Driver). entry_at d.entries s) (sym is) ∙ here) in
     ap (λ (e : Entry). list_any (is_bad_prd end) e.prds) b.2.same ∙ good s b.0 b.1
 
 good_submit : (old : Host) (dev : ℕ) (request : Request) (new : Driver) → submit_refusal old.driver old.memory dev request ≡ None → new ≡ after_submit old.driver dev request → HaveGoodPrds (end_of old.memory) old.driver
@@ -74,7 +80,7 @@ good_poll end c old new polled is good s f here =
 good_turn : (old : Host) (t : HostTurn) (new : Host) → Does old t new → HaveGoodPrds (end_of old.memory) old.driver → HaveGoodPrds (end_of old.memory) new.driver
 good_turn old (Took frame report) new h = good_same (end_of old.memory) old.driver new.driver h.driver
 good_turn old (Pushed frame) new h = good_same (end_of old.memory) old.driver new.driver h.driver
-good_turn old (Ticked a) new h = good_tick (end_of old.memory) (sight_in old) old.driver new.driver h.driver
+good_turn old (Ticked a) new h = good_tick (end_of old.memory) (sight_in old) (file_shown new.port) old.driver new.driver h.driver
 good_turn old (Submitted dev request ticket) new h = good_submit old dev request new.driver h.accepted h.taken.driver
 good_turn old (Polled c) new h = good_poll (end_of old.memory) c old.driver new.driver h.polled h.driver
 good_turn old (Put at bytes) new h = good_same (end_of old.memory) old.driver new.driver h.driver
@@ -123,11 +129,18 @@ inside_all len (prd ∷ prds) good =
 buffer_inside : (len : ℕ) → 1048576 ≤ len → LiesInClient len 1048576 512
 buffer_inside len least = (omega arith, omega (arith, least))
 
+step_inside : (len : ℕ) (stage : Stage) → 1048576 ≤ len → AreInside len (prds_with (reads_page stage))
+step_inside len Identify least = (buffer_inside len least, tt)
+step_inside len (ReadLog file) least = (buffer_inside len least, tt)
+step_inside len AssertReset least = tt
+step_inside len ReleaseReset least = tt
+step_inside len AwaitReset least = tt
+
 pub issue_inside : (h : Host) (n s : ℕ) (t : Transfer) → IsSoundHost h → HaveGoodPrds (end_of h.memory) h.driver → From h.driver n s t → AreInside (length h.memory.client) t.table
 issue_inside h n s t sound good (inl r) =
     subst (AreInside (length h.memory.client)) (sym r.table) (inside_all (length h.memory.client) r.entry.prds (good s r.entry r.stands))
 issue_inside h n s t sound good (inr (inl i)) =
-    subst (AreInside (length h.memory.client)) (sym i.table) (buffer_inside (length h.memory.client) sound.memory.client_least, tt)
+    subst (AreInside (length h.memory.client)) (sym i.table) (step_inside (length h.memory.client) i.path.stage sound.memory.client_least)
 issue_inside h n s t sound good (inr (inr o)) = subst (AreInside (length h.memory.client)) (sym o.table) tt
 
 -- ---- a slot is one device's

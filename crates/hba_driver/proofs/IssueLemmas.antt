@@ -1,23 +1,22 @@
 -- What one event leaves of it that all that is issued is the driver's.
-use Rattle.std.proofs.Common.{◌≡◌, ◌≢◌, ℕ, zero, suc, ◌+◌, ◌*◌, ◌<◌, ◌≤◌, ◌⊎◌, Bool, true, false, cond, eqb, List, [], ◌∷◌, ◌++◌, length, take, drop, refl, sym, ◌∙◌, ap, subst, inl, inr, arith, Option, Some, None}
+use Rattle.std.proofs.Common.{◌≡◌, ℕ, ◌+◌, ◌*◌, ◌<◌, ◌≤◌, true, List, [], ◌∷◌, ◌++◌, length, take, drop, refl, sym, ◌∙◌, ap, subst, inl, inr, arith, Option, Some, None}
 use Rattle.std.specs.Prelude.{MatchOption, is_some, slice_index}
 use Rattle.std.specs.Option.{option_map}
-use Rattle.std.proofs.lemmas.Bool.{cases_Bool, cases_lt}
+use Rattle.std.proofs.lemmas.Bool.{cases_lt}
 use Rattle.std.proofs.lemmas.List.{ext_get_or, get_or-drop, get_or-take, get_or_past, length-drop, length-take}
 use Rattle.host_memory.specs.Memory.{Memory}
 use Rattle.host_memory.specs.Reading.{AgreeFrom}
 use Rattle.host_memory.proofs.AgreeLemmas.{says_the_same}
-use Rattle.hba_commands.specs.declared.command.Command.{Command}
 use Rattle.hba_commands.specs.Commands.{cfis_at}
 use Rattle.hba_commands.specs.Requests.{request_at}
 use Rattle.hba_commands.proofs.AgreeLemmas.{header_same}
-use Rattle.slots.specs.Slots.{Issue, issue_at, match_some, own_issue, slots_of}
+use Rattle.slots.specs.Slots.{Issue, issue_at, own_issue, slots_of}
 use Rattle.slots.specs.Table.{IsIssue, IsTable}
 use Rattle.hba_fbs.specs.Views.{last_command}
 use Rattle.hba_laws.specs.Agreement.{AreHistoriesOf, work_of_issue, work_of_transfer}
-use Rattle.hba_laws.specs.Client.{AreApart, By, IsKept, Puts, Stops, Touches, own}
+use Rattle.hba_laws.specs.Client.{IsKept, Touches, own}
 use Rattle.hba_laws.specs.Delivering.{AreSpared, IsFramed, SparesTables, touched, touches_after}
-use Rattle.hba_laws.specs.History.{Emptied, Event, History, Transfer, issued}
+use Rattle.hba_laws.specs.History.{Transfer, issued}
 use Rattle.hba_laws.specs.Hosts as event
 use Rattle.hba_laws.specs.Hosts.{HostEvent, Runs}
 use Rattle.hba_laws.specs.Sound as sound
@@ -25,10 +24,10 @@ use Rattle.hba_laws.proofs.ClientLemmas.{histories_step}
 use Rattle.hba_laws.proofs.SpareLemmas.{NoneIssues, was_there}
 use Rattle.hba_laws.proofs.ViewLemmas.{own_here, own_in}
 use Rattle.hba_laws.proofs.WithinLemmas.{the_transfer}
-use Rattle.hba_driver.specs.Drivers.{Driver, Entry, entry_at}
+use Rattle.hba_driver.specs.Drivers.{Driver, Entry}
 use Rattle.hba_driver.specs.Effects.{table_of}
 use Rattle.hba_driver.specs.Laws.{Stands}
-use Rattle.hba_driver.specs.Served.{AreBounded, HasCommand, HasItsTable, HaveCommands, IsIdentify, IsIssueOf, IsOrdered, IsRequest, IsServed}
+use Rattle.hba_driver.specs.Served.{HasCommand, HaveCommands, IsServed}
 
 -- ---- lists of events that serve
 

@@ -1,6 +1,6 @@
 -- What a write of PxCI issues, where the command of one slot stands.
-use Rattle.std.proofs.Common.{◌≡◌, ◌≢◌, ℕ, zero, suc, ◌+◌, ◌*◌, ◌^◌, ◌<◌, ◌≤◌, ◌⊎◌, Bool, true, false, cond, eqb, List, [], ◌∷◌, ◌++◌, length, refl, sym, ◌∙◌, ap, subst, inl, inr, arith, Option, Some, None}
-use Rattle.std.specs.Prelude.{MatchOption, if◌then◌else◌, ◌&&◌, ◌||◌, ◌==◌, not, is_none, is_some, nat_lt}
+use Rattle.std.proofs.Common.{◌≡◌, ◌≢◌, ℕ, zero, suc, ◌+◌, ◌*◌, ◌^◌, ◌<◌, ◌≤◌, ◌⊎◌, Bool, true, false, cond, eqb, List, ◌++◌, length, refl, sym, ◌∙◌, ap, subst, inl, inr, arith, Option, Some, None}
+use Rattle.std.specs.Prelude.{if◌then◌else◌, ◌&&◌, ◌||◌, ◌==◌, not, is_none, is_some, nat_lt}
 use Rattle.std.specs.Option.{option_or}
 use Rattle.std.proofs.lemmas.Bool.{and_parts, cases_Bool, cases_eq, cases_lt, eqb-true, false≢true, or_parts, true≢false}
 use Rattle.std.proofs.lemmas.Bool.Decides.{nat_tests}
@@ -30,7 +30,7 @@ use Rattle.hba_fbs.specs.Registers.{own_refusal}
 use Rattle.hba_fbs.specs.Tables.{is_readable, prds_of}
 use Rattle.hba_fbs.specs.Views.{Port, last_command}
 use Rattle.hba_fbs.specs.Writing.{commands_after, refusal_of, slots_refusal}
-use Rattle.hba_laws.specs.Client.{By, IsKept, Touches, own}
+use Rattle.hba_laws.specs.Client.{IsKept, Touches, own}
 use Rattle.hba_laws.specs.Delivering.{issued_below, issued_in, touched}
 use Rattle.hba_laws.specs.History.{History, Transfer, issued}
 use Rattle.hba_laws.specs.Hosts as event
@@ -41,7 +41,7 @@ use Rattle.hba_laws.proofs.StandLemmas.{some_inj}
 use Rattle.hba_laws.proofs.TableLemmas.{stands_readable}
 use Rattle.hba_driver.specs.Drivers.{Driver}
 use Rattle.hba_driver.specs.Effects.{table_of}
-use Rattle.hba_driver.specs.Served.{HasItsTable, HaveCommands, IsIdentify, IsIssueOf, IsOrdered, IsRequest, IsServed}
+use Rattle.hba_driver.specs.Served.{HasItsTable, HaveCommands, IsIssueOf, IsOrdered, IsRequest, IsServed, IsStep}
 
 -- ---- the command that stands in a slot
 
@@ -261,7 +261,7 @@ or_cases (Some x) p a h = inl h
 
 -- an issue is one of the driver's
 abbrev pub From : Driver → (n s : ℕ) → Transfer → Type 0
-From d n s t = IsRequest d n s t ⊎ (IsIdentify d n s t ⊎ IsOrdered d n s t)
+From d n s t = IsRequest d n s t ⊎ (IsStep d n s t ⊎ IsOrdered d n s t)
 
 -- what stands in the slot may be issued
 abbrev pub MayIssue : Driver → (slot dev : ℕ) → List Prd → H2dFields → Type 0

@@ -9,6 +9,7 @@ pub mod HistoryLemmas
 pub mod ServeLemmas
 pub mod StandLemmas
 pub mod DoneLemmas
+pub mod FaultLemmas
 pub mod DrivenLemmas
 pub mod EventLemmas
 pub mod SoundLemmas
@@ -30,3 +31,4 @@ pub mod AcceptLemmas
 pub mod StageLemmas
 pub mod OutLemmas
 pub mod TrueLemmas
+pub mod EndingLemmas

@@ -2,58 +2,90 @@
 use Rattle.std.proofs.Common.{◌≡◌, ℕ, ◌≤◌, Bool, true, false, ◌&&◌, List, length, set, map, refl, sym, ◌∙◌, ap, subst, inl, inr, arith, Option, Some, None}
 use Rattle.std.specs.Prelude.{if◌then◌else◌, ◌==◌, not}
 use Rattle.std.specs.List.{range_with_len}
-use Rattle.std.specs.Option.{is_some, option_map, option_or}
-use Rattle.std.proofs.lemmas.Bool.{cases_lt, cases_eq, false≢true, true≢false}
+use Rattle.std.specs.Option.{option_map}
+use Rattle.std.proofs.lemmas.Bool.{cases_lt, cases_eq, false≢true, or_parts, true≢false}
 use Rattle.std.proofs.lemmas.List.{get_or_past, get_or-set_same, get_or-set_other, length-set}
 use Rattle.std.proofs.lemmas.List.FromFn.{get_or-map-range_with_len, length-map-range_with_len}
-use Rattle.fis_view.specs.declared.build.H2dFields.{H2dFields}
-use Rattle.slots.proofs.MaskLemmas.{lowest_is}
-use Rattle.slots.specs.Slots.{has_bit, lowest_below, match_some}
+use Rattle.slots.specs.Slots.{has_bit}
 use Rattle.hba_driver.specs.declared.order.Order.{Order}
 use Rattle.hba_driver.specs.declared.order.Order.TheVariants.{Clear}
 use Rattle.hba_driver.specs.declared.plan.Plan.{Plan}
-use Rattle.hba_driver.specs.declared.request.Outcome.TheVariants.{Done, Removed}
+use Rattle.hba_driver.specs.declared.path.Stage.{Stage}
+use Rattle.hba_driver.specs.declared.path.Stage.TheVariants.{AssertReset}
+use Rattle.hba_driver.specs.declared.path.TaskFile.{TaskFile}
+use Rattle.hba_driver.specs.declared.request.Outcome.{Outcome}
+use Rattle.hba_driver.specs.declared.request.Outcome.TheVariants.{Aborted, Done, PortError, Removed}
+use Rattle.hba_driver.specs.declared.sight.ErrorLog.{ErrorLog}
 use Rattle.hba_driver.specs.declared.sight.Sight.{Sight}
 use Rattle.hba_driver.specs.declared.slot.Head.{Head}
 use Rattle.hba_driver.specs.declared.slot.Phase.{Phase}
-use Rattle.hba_driver.specs.declared.slot.Phase.TheVariants.{Waits, Issued, Ended}
+use Rattle.hba_driver.specs.declared.slot.Phase.TheVariants.{Waits, Issued, Aside, Ended}
 use Rattle.hba_driver.specs.declared.turn.Act.{Act}
 use Rattle.hba_driver.specs.declared.turn.Act.TheVariants as act
-use Rattle.hba_driver.specs.declared.turn.Turn.{Turn}
-use Rattle.hba_driver.specs.Drivers.{Driver, Entry, entry_at, has_ended_in, holds, is_issued_in, rephase, rephase_all, rephased, waits, waits_in}
+use Rattle.hba_driver.specs.declared.turn.Logged.{Logged}
+use Rattle.hba_driver.specs.Drivers.{Driver, Entry, entry_at, has_ended_in, holds, is_aside, is_aside_in, is_issued_in, rephase, rephase_all, rephased, waits, waits_in}
 use Rattle.hba_driver.specs.Laws.{Goes, GoesOn, Kept, Keeps, TicksKeep}
-use Rattle.hba_driver.specs.Orders.{order_fields}
-use Rattle.hba_driver.specs.Ticks.{acted, after_tick, done_ended, entries_after, is_done, is_open_of, removed, seen, turn}
-use Rattle.hba_driver.specs.Turns.{control_news, control_seen, control_turn, device_seen, identify_due, is_idle, issue_of, may_issue, opening_due, order_due, request_due, turn_of}
+use Rattle.hba_driver.specs.Ticks.{acted, after_tick, done_ended, entries_after, is_aside_of, is_done, is_named_of, is_open, is_open_of, log_outcome, logged_ended, removed, seen, stage_ended, turn}
+use Rattle.hba_driver.specs.Turns.{may_issue}
+use Rattle.hba_driver.proofs.DueLemmas.{Due, Waiting, due_turn}
 
 -- ---- phases
 
 pub goes_same : (p : Phase) → Goes p p
 goes_same Waits = tt
 goes_same Issued = refl
+goes_same Aside = refl
 goes_same (Ended o) = refl
 
 pub goes_trans : (p q r : Phase) → Goes p q → Goes q r → Goes p r
 goes_trans Waits q r h k = tt
 goes_trans Issued Waits r h k = absurd (true≢false h)
 goes_trans Issued Issued r h k = k
+goes_trans Issued Aside r h k = (or_parts (waits_in r) (is_issued_in r) k).0
 goes_trans Issued (Ended o) r h k = rw k refl
+goes_trans Aside Waits r h k = absurd (true≢false h)
+goes_trans Aside Issued r h k = absurd (true≢false h)
+goes_trans Aside Aside r h k = k
+goes_trans Aside (Ended o) r h k = rw k refl
 goes_trans (Ended o) q r h k = subst (λ (x : Phase). Goes x r) h k
 
 goes_done : (p : Phase) (b : Bool) → (is_issued_in p && b) ≡ true → Goes p (Ended Done)
 goes_done Waits b h = tt
 goes_done Issued b h = refl
+goes_done Aside b h = refl
 goes_done (Ended o) b h = absurd (false≢true h)
 
-goes_removed : (b : Bool) (p : Phase) → (b && not (has_ended_in p)) ≡ true → Goes p (Ended Removed)
-goes_removed b Waits h = tt
-goes_removed b Issued h = refl
-goes_removed true (Ended o) h = absurd (false≢true h)
-goes_removed false (Ended o) h = absurd (false≢true h)
+second : (b c : Bool) → (b && c) ≡ true → c ≡ true
+second true c h = h
+second false c h = absurd (false≢true h)
+
+first : (b c : Bool) → (b && c) ≡ true → b ≡ true
+first true c h = refl
+first false c h = absurd (false≢true h)
+
+-- what has not ended ends, or is set aside
+goes_ended : (p : Phase) (o : Outcome) → not (has_ended_in p) ≡ true → Goes p (Ended o)
+goes_ended Waits o h = tt
+goes_ended Issued o h = refl
+goes_ended Aside o h = refl
+goes_ended (Ended q) o h = absurd (false≢true h)
+
+goes_aside : (p : Phase) → not (has_ended_in p) ≡ true → Goes p Aside
+goes_aside Waits h = tt
+goes_aside Issued h = refl
+goes_aside Aside h = refl
+goes_aside (Ended q) h = absurd (false≢true h)
+
+aside_open : (p : Phase) → is_aside_in p ≡ true → not (has_ended_in p) ≡ true
+aside_open Waits h = absurd (false≢true h)
+aside_open Issued h = absurd (false≢true h)
+aside_open Aside h = refl
+aside_open (Ended q) h = absurd (false≢true h)
 
 goes_issued : (p : Phase) → waits_in p ≡ true → Goes p Issued
 goes_issued Waits h = tt
 goes_issued Issued h = refl
+goes_issued Aside h = absurd (false≢true h)
 goes_issued (Ended o) h = absurd (false≢true h)
 
 -- ---- requests
@@ -108,9 +140,80 @@ keeps_rephased test phase entries h s = subst (λ (x : Option Entry). Keeps (ent
 pub keeps_done : (issued : ℕ) (entries : List (Option Entry)) (s : ℕ) → Keeps (entry_at entries s) (entry_at (done_ended issued entries) s)
 keeps_done issued entries = keeps_rephased (is_done issued) (Ended Done) entries (λ s e h. goes_done e.head.phase (not (has_bit issued s)) h)
 
+pub keeps_open_of : (dev : ℕ) (o : Outcome) (entries : List (Option Entry)) (s : ℕ) → Keeps (entry_at entries s) (entry_at (rephase_all (is_open_of dev) (Ended o) entries) s)
+keeps_open_of dev o entries = keeps_rephased (is_open_of dev) (Ended o) entries (λ s e h. goes_ended e.head.phase o (second (e.head.dev == dev) _ h))
+
+pub keeps_set_aside : (dev : ℕ) (entries : List (Option Entry)) (s : ℕ) → Keeps (entry_at entries s) (entry_at (rephase_all (is_open_of dev) Aside entries) s)
+keeps_set_aside dev entries = keeps_rephased (is_open_of dev) Aside entries (λ s e h. goes_aside e.head.phase (second (e.head.dev == dev) _ h))
+
+pub keeps_stopped : (entries : List (Option Entry)) (s : ℕ) → Keeps (entry_at entries s) (entry_at (rephase_all is_open (Ended PortError) entries) s)
+keeps_stopped entries = keeps_rephased is_open (Ended PortError) entries (λ s e h. goes_ended e.head.phase PortError h)
+
+pub keeps_aside_of : (dev : ℕ) (o : Outcome) (entries : List (Option Entry)) (s : ℕ) → Keeps (entry_at entries s) (entry_at (rephase_all (is_aside_of dev) (Ended o) entries) s)
+keeps_aside_of dev o entries =
+    keeps_rephased (is_aside_of dev) (Ended o) entries (λ s e h. goes_ended e.head.phase o (aside_open e.head.phase (second (e.head.dev == dev) _ h)))
+
+keeps_named_of : (log : ErrorLog) (dev : ℕ) (o : Outcome) (entries : List (Option Entry)) (s : ℕ) → Keeps (entry_at entries s) (entry_at (rephase_all (is_named_of log dev) (Ended o) entries) s)
+keeps_named_of log dev o entries =
+    keeps_rephased (is_named_of log dev) (Ended o) entries (λ s e h. goes_ended e.head.phase o (aside_open e.head.phase (second (e.head.dev == dev) _ (first (is_aside_of dev s e.head) _ h))))
+
+pub keeps_logged : (log : ErrorLog) (l : Option Logged) (entries : List (Option Entry)) (s : ℕ) → Keeps (entry_at entries s) (entry_at (logged_ended log l entries) s)
+keeps_logged log None entries s = keeps_same (entry_at entries s)
+keeps_logged log (Some l) entries s =
+    let named : List (Option Entry) = rephase_all (is_named_of log l.dev) (Ended (log_outcome log l.file)) entries in
+    keeps_then (entry_at entries s) (entry_at named s) _ (keeps_named_of log l.dev (log_outcome log l.file) entries s) (keeps_aside_of l.dev Aborted named s)
+
 pub keeps_removed : (order : Order) (entries : List (Option Entry)) (s : ℕ) → Keeps (entry_at entries s) (entry_at (removed order entries) s)
-keeps_removed (Clear port) entries s = keeps_rephased (is_open_of port) (Ended Removed) entries (λ s e h. goes_removed (e.head.dev == port) e.head.phase h) s
+keeps_removed (Clear port) entries s = keeps_open_of port Removed entries s
 keeps_removed order entries s = keeps_same (entry_at entries s)
+
+pub keeps_staged : (dev : ℕ) (stage : Stage) (entries : List (Option Entry)) (s : ℕ) → Keeps (entry_at entries s) (entry_at (stage_ended dev stage entries) s)
+keeps_staged dev AssertReset entries s = keeps_aside_of dev Aborted entries s
+keeps_staged dev stage entries s = keeps_same (entry_at entries s)
+
+-- ---- what waits is not set aside
+
+waits_only : (p : Phase) → waits_in p ≡ true → is_aside_in p ≡ false
+waits_only Waits h = refl
+waits_only Issued h = absurd (false≢true h)
+waits_only Aside h = absurd (false≢true h)
+waits_only (Ended o) h = absurd (false≢true h)
+
+spared : (test : Head → Bool) (phase : Phase) (o : Option Entry) → holds test o ≡ false → rephase test phase o ≡ o
+spared test phase o h = ap (λ (b : Bool). if b then option_map (rephased phase) o else o) h
+
+not_and : (a b : Bool) → b ≡ false → (a && b) ≡ false
+not_and true b h = h
+not_and false b h = refl
+
+and_not : (a b : Bool) → a ≡ false → (a && b) ≡ false
+and_not true b h = absurd (true≢false h)
+and_not false b h = refl
+
+aside_spared : (log : ErrorLog) (dev s : ℕ) (o : Option Entry) → holds is_aside o ≡ false → (holds (is_aside_of dev s) o ≡ false) × (holds (is_named_of log dev s) o ≡ false)
+aside_spared log dev s None h = (refl, refl)
+aside_spared log dev s (Some e) h =
+    let aside : is_aside_of dev s e.head ≡ false = not_and (e.head.dev == dev) (is_aside e.head) h in
+    (aside, and_not (is_aside_of dev s e.head) _ aside)
+
+-- a log ends only what was set aside
+pub unaside_stays : (log : ErrorLog) (l : Option Logged) (entries : List (Option Entry)) (s : ℕ) → holds is_aside (entry_at entries s) ≡ false → entry_at (logged_ended log l entries) s ≡ entry_at entries s
+unaside_stays log None entries s h = refl
+unaside_stays log (Some l) entries s h =
+    let named : List (Option Entry) = rephase_all (is_named_of log l.dev) (Ended (log_outcome log l.file)) entries in
+    let spare = aside_spared log l.dev s (entry_at entries s) h in
+    let still : entry_at named s ≡ entry_at entries s =
+    entry_of_rephased (is_named_of log l.dev) (Ended (log_outcome log l.file)) entries s ∙ spared (is_named_of log l.dev s) (Ended (log_outcome log l.file)) (entry_at entries s) spare.1 in
+    entry_of_rephased (is_aside_of l.dev) (Ended Aborted) named s
+    ∙ ap (rephase (is_aside_of l.dev s) (Ended Aborted)) still
+    ∙ spared (is_aside_of l.dev s) (Ended Aborted) (entry_at entries s) spare.0
+
+waits_unaside : (o : Option Entry) → holds waits o ≡ true → holds is_aside o ≡ false
+waits_unaside None h = refl
+waits_unaside (Some e) h = waits_only e.head.phase h
+
+pub waiting_stays : (log : ErrorLog) (l : Option Logged) (entries : List (Option Entry)) (s : ℕ) → holds waits (entry_at entries s) ≡ true → entry_at (logged_ended log l entries) s ≡ entry_at entries s
+waiting_stays log l entries s h = unaside_stays log l entries s (waits_unaside (entry_at entries s) h)
 
 keeps_issue : (o : Option Entry) → holds waits o ≡ true → Keeps o (option_map (rephased Issued) o)
 keeps_issue None h = absurd (false≢true h)
@@ -139,127 +242,113 @@ keeps_set entries slot s h = elim (cases_eq s slot) [
 
 abbrev pub May : Plan → List (Option Entry) → Option Act → Type 0
 May plan entries None = Unit {0}
-May plan entries (Some (act.Opens k)) = Unit {0}
-May plan entries (Some (act.Orders order)) = Unit {0}
-May plan entries (Some (act.Identifies dev)) = Unit {0}
 May plan entries (Some (act.Issues slot dev queued)) = may_issue plan (entry_at entries slot) ≡ true
-
-if_may : (b : Bool) (t u : Turn) (entries : List (Option Entry)) → May t.plan entries t.act → May u.plan entries u.act → May (if b then t else u).plan entries (if b then t else u).act
-if_may true t u entries h k = h
-if_may false t u entries h k = k
-
-may_open : (b : Bool) (k : ℕ) (plan : Plan) (entries : List (Option Entry)) → May plan entries (if b then Some (act.Opens k) else None)
-may_open true k plan entries = tt
-may_open false k plan entries = tt
-
-may_map_order : (fields : Option H2dFields) (o : Order) (plan : Plan) (entries : List (Option Entry)) → May plan entries (option_map (λ f. act.Orders o) fields)
-may_map_order None o plan entries = tt
-may_map_order (Some f) o plan entries = tt
-
-may_order : (b : Bool) (fields : Option H2dFields) (o : Order) (plan : Plan) (entries : List (Option Entry)) → May plan entries (if b then None else option_map (λ f. act.Orders o) fields)
-may_order true fields o plan entries = tt
-may_order false fields o plan entries = may_map_order fields o plan entries
-
-may_map_identify : (o : Option ℕ) (plan : Plan) (entries : List (Option Entry)) → May plan entries (option_map act.Identifies o)
-may_map_identify None plan entries = tt
-may_map_identify (Some dev) plan entries = tt
-
-may_identify : (b : Bool) (o : Option ℕ) (plan : Plan) (entries : List (Option Entry)) → May plan entries (if b then None else option_map act.Identifies o)
-may_identify true o plan entries = tt
-may_identify false o plan entries = may_map_identify o plan entries
-
-may_or : (a b : Option Act) (plan : Plan) (entries : List (Option Entry)) → May plan entries a → May plan entries b → May plan entries (option_or a b)
-may_or None b plan entries h k = k
-may_or (Some a) b plan entries h k = h
-
-may_entry : (plan : Plan) (entries : List (Option Entry)) (s : ℕ) (x : Option Entry) → may_issue plan (entry_at entries s) ≡ true → May plan entries (issue_of s x)
-may_entry plan entries s None h = tt
-may_entry plan entries s (Some e) h = h
-
-may_lowest : (plan : Plan) (entries : List (Option Entry)) (o : Option ℕ) → ((s : ℕ) → o ≡ Some s → may_issue plan (entry_at entries s) ≡ true) → May plan entries (match_some o None (λ slot. issue_of slot (entry_at entries slot)))
-may_lowest plan entries None h = tt
-may_lowest plan entries (Some s) h = may_entry plan entries s (entry_at entries s) (h s refl)
-
-may_request : (plan : Plan) (entries : List (Option Entry)) → May plan entries (request_due plan entries)
-unfolding request_due
-may_request plan entries =
-    may_lowest plan entries (lowest_below (λ slot. may_issue plan (entry_at entries slot)) 30) (λ s is. (lowest_is (λ slot. may_issue plan (entry_at entries slot)) 30 s is).passes)
-
-may_device : (v : Sight) (plan : Plan) (entries : List (Option Entry)) → May plan entries (option_or (identify_due v plan) (request_due plan entries))
-unfolding identify_due
-may_device v plan entries =
-    may_or _ (request_due plan entries) plan entries (may_identify (is_some plan.identifying) _ plan entries) (may_request plan entries)
-
-may_control : (v : Sight) (news : Bool) (plan : Plan) (entries : List (Option Entry)) → May (control_turn v news plan entries).plan entries (control_turn v news plan entries).act
-may_control v news plan entries =
-    if_may (is_idle plan.order) _ _ entries tt
-    (if_may (is_some (order_due plan)) _ _ entries (may_order plan.asked (order_fields plan.order) plan.order plan entries) (may_device v (device_seen v plan) entries))
-
-pub may_turn : (v : Sight) (plan : Plan) (entries : List (Option Entry)) → May (turn_of v plan entries).plan entries (turn_of v plan entries).act
-unfolding turn_of
-may_turn v plan entries = if_may (is_some (opening_due plan)) _ _ entries (may_open _ plan.opened plan entries) (may_control v (control_news v plan) (control_seen v plan) entries)
+May plan entries (Some a) = Unit {0}
 
 pub waits_if_may : (plan : Plan) (o : Option Entry) → may_issue plan o ≡ true → holds waits o ≡ true
 waits_if_may plan None h = absurd (false≢true h)
 waits_if_may plan (Some e) h = first (waits e.head) _ h
-  where
-    first : (b c : Bool) → (b && c) ≡ true → b ≡ true
-    first true c h = refl
-    first false c h = absurd (false≢true h)
+
+-- what a log ended did not wait
+may_due : (v : Sight) (log : ErrorLog) (l : Option Logged) (plan : Plan) (entries : List (Option Entry)) (a : Option Act) → Due v plan entries a → May plan (logged_ended log l entries) a
+may_due v log l plan entries None due = tt
+may_due v log l plan entries (Some (act.Opens k)) due = tt
+may_due v log l plan entries (Some act.Stops) due = tt
+may_due v log l plan entries (Some (act.Restarts k)) due = tt
+may_due v log l plan entries (Some (act.Clears dev)) due = tt
+may_due v log l plan entries (Some (act.Orders order)) due = tt
+may_due v log l plan entries (Some (act.Steps dev stage)) due = tt
+may_due v log l plan entries (Some (act.Issues slot dev queued)) due =
+    let there : may_issue plan (entry_at entries slot) ≡ true = ap (may_issue plan) due.0.stands ∙ due.0.may in
+    ap (may_issue plan) (waiting_stays log l entries slot (waits_if_may plan (entry_at entries slot) there)) ∙ there
+
+-- what is due of what a tick has seen
+due_logged : (v : Sight) (log : ErrorLog) (l : Option Logged) (plan : Plan) (entries : List (Option Entry)) (a : Option Act) → Due v plan entries a → Due v plan (logged_ended log l entries) a
+due_logged v log l plan entries None due = due
+due_logged v log l plan entries (Some (act.Opens k)) due = due
+due_logged v log l plan entries (Some act.Stops) due = due
+due_logged v log l plan entries (Some (act.Restarts k)) due = due
+due_logged v log l plan entries (Some (act.Clears dev)) due = due
+due_logged v log l plan entries (Some (act.Orders order)) due = due
+due_logged v log l plan entries (Some (act.Steps dev stage)) due = due
+due_logged v log l plan entries (Some (act.Issues slot dev queued)) due =
+    let w : Waiting plan entries slot dev = due.0 in
+    let wait : holds waits (entry_at entries slot) ≡ true = ap (holds waits) w.stands ∙ w.waits_is in
+    let later : Waiting plan (logged_ended log l entries) slot dev =
+    record { below = w.below; entry = w.entry; stands = waiting_stays log l entries slot wait ∙ w.stands; may = w.may; waits_is = w.waits_is; of_dev = w.of_dev } in
+    (later, due.1)
+
+pub due_seen : (v : Sight) (d : Driver) → Due v (seen v d).plan (seen v d).entries (turn v d).act
+due_seen v d = due_logged v v.log (turn v d).logged (turn v d).plan (done_ended v.issued d.entries) (turn v d).act (due_turn v d.plan (done_ended v.issued d.entries))
+
+pub may_turn : (v : Sight) (d : Driver) → May (turn v d).plan (seen v d).entries (turn v d).act
+may_turn v d = may_due v v.log (turn v d).logged (turn v d).plan (done_ended v.issued d.entries) (turn v d).act (due_turn v d.plan (done_ended v.issued d.entries))
 
 -- ---- a tick
 
-keeps_acted : (a : Option Act) (d : Driver) → May d.plan d.entries a → (s : ℕ) → Keeps (entry_at d.entries s) (entry_at (acted a d).entries s)
+pub keeps_seen : (v : Sight) (d : Driver) (s : ℕ) → Keeps (entry_at d.entries s) (entry_at (seen v d).entries s)
+keeps_seen v d s =
+    let done : List (Option Entry) = done_ended v.issued d.entries in
+    keeps_then (entry_at d.entries s) (entry_at done s) _ (keeps_done v.issued d.entries s) (keeps_logged v.log (turn v d).logged done s)
+
+keeps_acted : (a : Option Act) (file : TaskFile) (d : Driver) → May d.plan d.entries a → (s : ℕ) → Keeps (entry_at d.entries s) (entry_at (acted a file d).entries s)
 unfolding entries_after
-keeps_acted None d h s = keeps_same (entry_at d.entries s)
-keeps_acted (Some (act.Opens k)) d h s = keeps_same (entry_at d.entries s)
-keeps_acted (Some (act.Orders order)) d h s = keeps_removed order d.entries s
-keeps_acted (Some (act.Identifies dev)) d h s = keeps_same (entry_at d.entries s)
-keeps_acted (Some (act.Issues slot dev queued)) d h s = keeps_set d.entries slot s (waits_if_may d.plan (entry_at d.entries slot) h)
+keeps_acted None file d h s = keeps_same (entry_at d.entries s)
+keeps_acted (Some (act.Opens k)) file d h s = keeps_same (entry_at d.entries s)
+keeps_acted (Some act.Stops) file d h s = keeps_stopped d.entries s
+keeps_acted (Some (act.Restarts k)) file d h s = keeps_same (entry_at d.entries s)
+keeps_acted (Some (act.Clears dev)) file d h s = keeps_set_aside dev d.entries s
+keeps_acted (Some (act.Orders order)) file d h s = keeps_removed order d.entries s
+keeps_acted (Some (act.Steps dev stage)) file d h s = keeps_staged dev stage d.entries s
+keeps_acted (Some (act.Issues slot dev queued)) file d h s = keeps_set d.entries slot s (waits_if_may d.plan (entry_at d.entries slot) h)
 
-if_keeps : (b : Bool) (d e : Driver) (s : ℕ) → Keeps (entry_at d.entries s) (entry_at e.entries s) → Keeps (entry_at d.entries s) (entry_at (if b then d else e).entries s)
-if_keeps true d e s h = keeps_same (entry_at d.entries s)
-if_keeps false d e s h = h
-
-pub keeps_tick : (v : Sight) (d : Driver) (s : ℕ) → Keeps (entry_at d.entries s) (entry_at (after_tick v d).entries s)
+pub keeps_tick : (v : Sight) (file : TaskFile) (d : Driver) (s : ℕ) → Keeps (entry_at d.entries s) (entry_at (after_tick v file d).entries s)
 unfolding after_tick
-keeps_tick v d s =
-    if_keeps v.faulted d (acted (turn v d).act (seen v d)) s
-    (keeps_then (entry_at d.entries s) (entry_at (done_ended v.issued d.entries) s) _ (keeps_done v.issued d.entries s)
-    (keeps_acted (turn v d).act (seen v d) (may_turn v d.plan (done_ended v.issued d.entries)) s))
+keeps_tick v file d s = keeps_then (entry_at d.entries s) (entry_at (seen v d).entries s) _ (keeps_seen v d s) (keeps_acted (turn v d).act file (seen v d) (may_turn v d) s)
 
 -- what a tick leaves of the last ticket, and of how many slots there are
 record Same (d e : Driver) : Type 0 where
   pub given : e.given ≡ d.given
   pub slots : length e.entries ≡ length d.entries
 
+pub length_logged : (log : ErrorLog) (l : Option Logged) (entries : List (Option Entry)) → length (logged_ended log l entries) ≡ length entries
+length_logged log None entries = refl
+length_logged log (Some l) entries =
+    length_of_rephased (is_aside_of l.dev) (Ended Aborted) _ ∙ length_of_rephased (is_named_of log l.dev) (Ended (log_outcome log l.file)) entries
+
 same_removed : (order : Order) (entries : List (Option Entry)) → length (removed order entries) ≡ length entries
 same_removed (Clear port) entries = length_of_rephased (is_open_of port) (Ended Removed) entries
 same_removed order entries = refl
 
-same_acted : (a : Option Act) (d : Driver) → Same d (acted a d)
+pub length_staged : (dev : ℕ) (stage : Stage) (entries : List (Option Entry)) → length (stage_ended dev stage entries) ≡ length entries
+length_staged dev AssertReset entries = length_of_rephased (is_aside_of dev) (Ended Aborted) entries
+length_staged dev stage entries = refl
+
+same_acted : (a : Option Act) (file : TaskFile) (d : Driver) → Same d (acted a file d)
 unfolding entries_after
-same_acted None d = record { given = refl; slots = refl }
-same_acted (Some (act.Opens k)) d = record { given = refl; slots = refl }
-same_acted (Some (act.Orders order)) d = record { given = refl; slots = same_removed order d.entries }
-same_acted (Some (act.Identifies dev)) d = record { given = refl; slots = refl }
-same_acted (Some (act.Issues slot dev queued)) d = record { given = refl; slots = length-set d.entries slot _ }
+same_acted None file d = record { given = refl; slots = refl }
+same_acted (Some (act.Opens k)) file d = record { given = refl; slots = refl }
+same_acted (Some act.Stops) file d = record { given = refl; slots = length_of_rephased is_open (Ended PortError) d.entries }
+same_acted (Some (act.Restarts k)) file d = record { given = refl; slots = refl }
+same_acted (Some (act.Clears dev)) file d = record { given = refl; slots = length_of_rephased (is_open_of dev) Aside d.entries }
+same_acted (Some (act.Orders order)) file d = record { given = refl; slots = same_removed order d.entries }
+same_acted (Some (act.Steps dev stage)) file d = record { given = refl; slots = length_staged dev stage d.entries }
+same_acted (Some (act.Issues slot dev queued)) file d = record { given = refl; slots = length-set d.entries slot _ }
 
-if_same : (b : Bool) (d e : Driver) → Same d e → Same d (if b then d else e)
-if_same true d e h = record { given = refl; slots = refl }
-if_same false d e h = h
+pub slots_seen : (v : Sight) (d : Driver) → length (seen v d).entries ≡ length d.entries
+slots_seen v d = length_logged v.log (turn v d).logged (done_ended v.issued d.entries) ∙ length_of_rephased (is_done v.issued) (Ended Done) d.entries
 
-same_tick : (v : Sight) (d : Driver) → Same d (after_tick v d)
+same_tick : (v : Sight) (file : TaskFile) (d : Driver) → Same d (after_tick v file d)
 unfolding after_tick
-same_tick v d =
-    let after : Same (seen v d) (acted (turn v d).act (seen v d)) = same_acted (turn v d).act (seen v d) in
-    if_same v.faulted d (acted (turn v d).act (seen v d)) (record { given = after.given; slots = after.slots ∙ length_of_rephased (is_done v.issued) (Ended Done) d.entries })
+same_tick v file d =
+    let after : Same (seen v d) (acted (turn v d).act file (seen v d)) = same_acted (turn v d).act file (seen v d) in
+    record { given = after.given; slots = after.slots ∙ slots_seen v d }
 
-pub given_tick : (v : Sight) (d : Driver) → (after_tick v d).given ≡ d.given
-given_tick v d = (same_tick v d).given
+pub given_tick : (v : Sight) (file : TaskFile) (d : Driver) → (after_tick v file d).given ≡ d.given
+given_tick v file d = (same_tick v file d).given
 
-pub slots_tick : (v : Sight) (d : Driver) → length (after_tick v d).entries ≡ length d.entries
-slots_tick v d = (same_tick v d).slots
+pub slots_tick : (v : Sight) (file : TaskFile) (d : Driver) → length (after_tick v file d).entries ≡ length d.entries
+slots_tick v file d = (same_tick v file d).slots
 
 pub ticks_keep : TicksKeep
 ticks_keep = record { entries = keeps_tick; given = given_tick }

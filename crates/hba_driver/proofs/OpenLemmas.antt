@@ -1,4 +1,4 @@
--- The registers of a port that its driver opens: frames leave them, and the port takes each of the seven writes.
+-- The registers of a port that its driver opens and starts again: frames leave them, and the port takes each of these writes.
 use Rattle.std.proofs.Common.{◌≡◌, ℕ, zero, suc, ◌+◌, ◌<◌, ◌≤◌, Bool, true, false, ◌&&◌, nat_lt, List, refl, sym, ◌∙◌, ap, subst, inl, inr, arith, Option, Some, None}
 use Rattle.std.specs.Prelude.{◌||◌, ◌==◌, if◌then◌else◌, not, MatchOption}
 use Rattle.std.specs.Bool.{beq}
@@ -14,7 +14,7 @@ use Rattle.hba_fbs.specs.declared.error.WriteError.{WriteError}
 use Rattle.hba_fbs.specs.declared.error.WriteError.TheVariants as refusal
 use Rattle.hba_fbs.specs.declared.hearing.Heard.{Heard}
 use Rattle.hba_fbs.specs.declared.register.Register.{Register}
-use Rattle.hba_fbs.specs.declared.register.Register.TheVariants.{Clb, Clbu, Fb, Fbu, Cmd, Fbs}
+use Rattle.hba_fbs.specs.declared.register.Register.TheVariants.{Clb, Clbu, Fb, Fbu, Is, Cmd, Fbs}
 use Rattle.hba_fbs.specs.declared.registers.Registers.{Registers}
 use Rattle.hba_fbs.specs.declared.report.TakeReport.{TakeReport}
 use Rattle.hba_fbs.specs.Offsets.{register_at}
@@ -25,23 +25,14 @@ use Rattle.hba_fbs.specs.Taking.{admitted, heard_now, ignores, port_of, posted_o
 use Rattle.hba_fbs.specs.Views.{Port, view_of}
 use Rattle.hba_fbs.specs.Writing.{Accepts, refusal_of, slots_refusal, write_refusal}
 use Rattle.hba_driver.specs.Accepted.{IsAccepted}
-use Rattle.hba_driver.specs.Effects.{Acts, Tries, opening_write}
+use Rattle.hba_driver.specs.Effects.{Acts, Tries, opening_write, restart_write}
 use Rattle.hba_driver.specs.Events.{AreDriven}
 use Rattle.hba_driver.specs.HostTurns.{Does, Host, Took}
 use Rattle.hba_driver.proofs.DrivenLemmas.{past, refusal_is}
 
 -- ---- what the registers are
 
--- after so many of the seven writes; between two ticks no bit of PxSACT waits for its command
-pub record IsOpen (opened : ℕ) (r : Registers) : Type 0 where
-  pub list_high : 2 ≤ opened → r.clbu ≡ 0
-  pub area_high : 4 ≤ opened → r.fbu ≡ 0
-  pub switches : 5 ≤ opened → r.switching ≡ true
-  pub receives : 6 ≤ opened → r.receives ≡ true
-  pub starts : 7 ≤ opened → r.started ≡ true
-  pub unarmed : r.armed ≡ 0
-
--- the port is open
+-- the port is open, and runs
 pub record IsUp (r : Registers) : Type 0 where
   pub list : r.clb ≡ 0
   pub list_high : r.clbu ≡ 0
@@ -50,39 +41,34 @@ pub record IsUp (r : Registers) : Type 0 where
   pub receives : r.receives ≡ true
   pub starts : r.started ≡ true
 
-pub up_of : (n : ℕ) (r : Registers) → 7 ≤ n → AreDriven n r → IsOpen n r → IsUp r
-up_of n r least d o = record {
+pub up_of : (n m : ℕ) (r : Registers) → 7 ≤ n → 2 ≤ m → AreDriven n m r → IsUp r
+up_of n m r least done d = record {
   list = d.commands;
-  list_high = o.list_high (omega (arith, least));
-  area_high = o.area_high (omega (arith, least));
-  switches = o.switches (omega (arith, least));
-  receives = o.receives (omega (arith, least));
-  starts = o.starts least;
-}
-
-pub open_of : (n : ℕ) (r : Registers) → IsUp r → r.armed ≡ 0 → IsOpen n r
-open_of n r up none = record {
-  list_high = λ h. up.list_high;
-  area_high = λ h. up.area_high;
-  switches = λ h. up.switches;
-  receives = λ h. up.receives;
-  starts = λ h. up.starts;
-  unarmed = none;
+  list_high = d.list_high (omega (arith, least));
+  area_high = d.area_high (omega (arith, least));
+  switches = d.switches (omega (arith, least));
+  receives = d.receives (omega (arith, least));
+  starts = d.starts least done;
 }
 
 -- ---- what frames leave of them
 
-record Left (r s : Registers) : Type 0 where
+pub record Stays (r s : Registers) : Type 0 where
+  pub list : s.clb ≡ r.clb
   pub list_high : s.clbu ≡ r.clbu
+  pub area : s.fb ≡ r.fb
   pub area_high : s.fbu ≡ r.fbu
   pub switches : s.switching ≡ r.switching
   pub receives : s.receives ≡ r.receives
   pub starts : s.started ≡ r.started
+  -- and so do the bits of PxSACT that wait for their commands
   pub armed : s.armed ≡ r.armed
 
-left_same : (r s : Registers) → s ≡ r → Left r s
-left_same r s is = record {
+stays_same : (r s : Registers) → s ≡ r → Stays r s
+stays_same r s is = record {
+  list = ap (λ (x : Registers). x.clb) is;
   list_high = ap (λ (x : Registers). x.clbu) is;
+  area = ap (λ (x : Registers). x.fb) is;
   area_high = ap (λ (x : Registers). x.fbu) is;
   switches = ap (λ (x : Registers). x.switching) is;
   receives = ap (λ (x : Registers). x.receives) is;
@@ -90,65 +76,59 @@ left_same r s is = record {
   armed = ap (λ (x : Registers). x.armed) is;
 }
 
-left_open : (n : ℕ) (r s : Registers) → Left r s → IsOpen n r → IsOpen n s
-left_open n r s l o = record {
-  list_high = λ h. l.list_high ∙ o.list_high h;
-  area_high = λ h. l.area_high ∙ o.area_high h;
-  switches = λ h. l.switches ∙ o.switches h;
-  receives = λ h. l.receives ∙ o.receives h;
-  starts = λ h. l.starts ∙ o.starts h;
-  unarmed = l.armed ∙ o.unarmed;
+pub stays_driven : (n m : ℕ) (r s : Registers) → Stays r s → AreDriven n m r → AreDriven n m s
+stays_driven n m r s k d = record {
+  commands = k.list ∙ d.commands;
+  list_high = λ h. k.list_high ∙ d.list_high h;
+  area = λ h. k.area ∙ d.area h;
+  area_high = λ h. k.area_high ∙ d.area_high h;
+  switches = λ h. k.switches ∙ d.switches h;
+  closed = λ h. k.receives ∙ d.closed h;
+  receives = λ h. k.receives ∙ d.receives h;
+  stopped = λ h. k.starts ∙ d.stopped h;
+  starts = λ h g. k.starts ∙ d.starts h g;
 }
 
-left_posted : (r : Registers) (dev : ℕ) (b : Bool) (fis : Option Fis) → Left r (posted_of r dev b fis)
+stays_posted : (r : Registers) (dev : ℕ) (b : Bool) (fis : Option Fis) → Stays r (posted_of r dev b fis)
 unfolding posted
-left_posted r dev b None = left_same r r refl
-left_posted r dev b (Some (view.RegH2D f)) = left_same r r refl
-left_posted r dev b (Some (view.RegD2H f)) = record { list_high = refl; area_high = refl; switches = refl; receives = refl; starts = refl; armed = refl }
-left_posted r dev b (Some (view.SetBits f)) = record { list_high = refl; area_high = refl; switches = refl; receives = refl; starts = refl; armed = refl }
-left_posted r dev b (Some (view.DmaActivate f)) = record { list_high = refl; area_high = refl; switches = refl; receives = refl; starts = refl; armed = refl }
-left_posted r dev b (Some (view.DmaSetup f)) = record { list_high = refl; area_high = refl; switches = refl; receives = refl; starts = refl; armed = refl }
-left_posted r dev b (Some (view.PioSetup f)) = record { list_high = refl; area_high = refl; switches = refl; receives = refl; starts = refl; armed = refl }
-left_posted r dev b (Some (view.Payload f)) = record { list_high = refl; area_high = refl; switches = refl; receives = refl; starts = refl; armed = refl }
-left_posted r dev b (Some (view.Unknown f)) = record { list_high = refl; area_high = refl; switches = refl; receives = refl; starts = refl; armed = refl }
+stays_posted r dev b None = stays_same r r refl
+stays_posted r dev b (Some (view.RegH2D f)) = stays_same r r refl
+stays_posted r dev b (Some (view.RegD2H f)) = record { list = refl; list_high = refl; area = refl; area_high = refl; switches = refl; receives = refl; starts = refl; armed = refl }
+stays_posted r dev b (Some (view.SetBits f)) = record { list = refl; list_high = refl; area = refl; area_high = refl; switches = refl; receives = refl; starts = refl; armed = refl }
+stays_posted r dev b (Some (view.DmaActivate f)) = record { list = refl; list_high = refl; area = refl; area_high = refl; switches = refl; receives = refl; starts = refl; armed = refl }
+stays_posted r dev b (Some (view.DmaSetup f)) = record { list = refl; list_high = refl; area = refl; area_high = refl; switches = refl; receives = refl; starts = refl; armed = refl }
+stays_posted r dev b (Some (view.PioSetup f)) = record { list = refl; list_high = refl; area = refl; area_high = refl; switches = refl; receives = refl; starts = refl; armed = refl }
+stays_posted r dev b (Some (view.Payload f)) = record { list = refl; list_high = refl; area = refl; area_high = refl; switches = refl; receives = refl; starts = refl; armed = refl }
+stays_posted r dev b (Some (view.Unknown f)) = record { list = refl; list_high = refl; area = refl; area_high = refl; switches = refl; receives = refl; starts = refl; armed = refl }
 
-left_settled : (r : Registers) (dev : ℕ) (b : Bool) (fis : Option Fis) (h : Heard) → Left r (settled (posted_of r dev b fis) h)
+stays_settled : (r : Registers) (dev : ℕ) (b : Bool) (fis : Option Fis) (h : Heard) → Stays r (settled (posted_of r dev b fis) h)
 unfolding settled
-left_settled r dev b fis h =
-    let l : Left r (posted_of r dev b fis) = left_posted r dev b fis in
-    record { list_high = l.list_high; area_high = l.area_high; switches = l.switches; receives = l.receives; starts = l.starts; armed = l.armed }
+stays_settled r dev b fis h =
+    let k : Stays r (posted_of r dev b fis) = stays_posted r dev b fis in
+    record { list = k.list; list_high = k.list_high; area = k.area; area_high = k.area_high; switches = k.switches; receives = k.receives; starts = k.starts; armed = k.armed }
 
-left_port : (p q : Port) → q ≡ p → Left p.registers q.registers
-left_port p q is = left_same p.registers q.registers (ap (λ (x : Port). x.registers) is)
+pub stays_port : (p q : Port) → q ≡ p → Stays p.registers q.registers
+stays_port p q is = stays_same p.registers q.registers (ap (λ (x : Port). x.registers) is)
 
-left_gives : (o : Outgoing) (old : Port) (memory : Memory) (frame : Option Stamped) (new : Port) → Gives o old memory frame new → Left old.registers new.registers
-left_gives Nothing old memory frame new gives = left_port old new gives.1
-left_gives (Unreadable dev) old memory frame new gives =
-    subst (Left old.registers) (sym (ap (λ (p : Port). p.registers) gives.1))
-    (record { list_high = refl; area_high = refl; switches = refl; receives = refl; starts = refl; armed = refl })
-left_gives (Data dev offset len command) old memory None new gives = absurd gives
-left_gives (Data dev offset len command) old memory (Some f) new gives = left_same old.registers new.registers gives.registers
-left_gives (Order dev slot command) old memory None new gives = absurd gives
-left_gives (Order dev slot command) old memory (Some f) new gives = left_same old.registers new.registers gives.registers
+pub stays_gives : (o : Outgoing) (old : Port) (memory : Memory) (frame : Option Stamped) (new : Port) → Gives o old memory frame new → Stays old.registers new.registers
+stays_gives Nothing old memory frame new gives = stays_port old new gives.1
+stays_gives (Unreadable dev) old memory frame new gives =
+    subst (Stays old.registers) (sym (ap (λ (p : Port). p.registers) gives.1))
+    (record { list = refl; list_high = refl; area = refl; area_high = refl; switches = refl; receives = refl; starts = refl; armed = refl })
+stays_gives (Data dev offset len command) old memory None new gives = absurd gives
+stays_gives (Data dev offset len command) old memory (Some f) new gives = stays_same old.registers new.registers gives.registers
+stays_gives (Order dev slot command) old memory None new gives = absurd gives
+stays_gives (Order dev slot command) old memory (Some f) new gives = stays_same old.registers new.registers gives.registers
 
-left_took : (old new : Host) (frame : List ℕ) (report : TakeReport) → Does old (Took frame report) new → Left old.port.registers new.port.registers
-left_took old new frame report h =
+pub stays_took : (old new : Host) (frame : List ℕ) (report : TakeReport) → Does old (Took frame report) new → Stays old.port.registers new.port.registers
+stays_took old new frame report h =
     let dev : ℕ = port_of frame in
     let fis : Option Fis = admitted dev (seen frame) in
     elim (cases_Bool (ignores dev old.port frame)) [
-      | inl skip ↦ left_port old.port new.port (h.ignored skip).port
+      | inl skip ↦ stays_port old.port new.port (h.ignored skip).port
       | inr heard ↦
-          subst (Left old.port.registers) (sym (h.heard heard).registers) (left_settled old.port.registers dev (view_of dev old.port).state.resetting fis (heard_now old.port old.memory dev fis))
+          subst (Stays old.port.registers) (sym (h.heard heard).registers) (stays_settled old.port.registers dev (view_of dev old.port).state.resetting fis (heard_now old.port old.memory dev fis))
     ]
-
-pub open_port : (n : ℕ) (p q : Port) → q ≡ p → IsOpen n p.registers → IsOpen n q.registers
-open_port n p q is o = left_open n p.registers q.registers (left_port p q is) o
-
-pub open_gives : (n : ℕ) (o : Outgoing) (old : Port) (memory : Memory) (frame : Option Stamped) (new : Port) → Gives o old memory frame new → IsOpen n old.registers → IsOpen n new.registers
-open_gives n o old memory frame new gives is = left_open n old.registers new.registers (left_gives o old memory frame new gives) is
-
-pub open_took : (n : ℕ) (old new : Host) (frame : List ℕ) (report : TakeReport) → Does old (Took frame report) new → IsOpen n old.port.registers → IsOpen n new.port.registers
-open_took n old new frame report h is = left_open n old.port.registers new.port.registers (left_took old new frame report h) is
 
 -- ---- a write that is not refused
 
@@ -157,15 +137,17 @@ pub taken : (register : Register) (offset value : ℕ) (old new : Port) (memory 
 taken register offset value old new memory at free tries =
     subst (λ (o : Option Register). MatchOption o ⊥ (λ (g : Register). Accepts old memory g value new)) at (tries.accepted (refusal_is register offset value old memory at ∙ free))
 
--- ---- the seven writes
+-- ---- the writes that open the port, and start it again
 
-abbrev Step : (offset value n : ℕ) → (old new : Port) → Memory → Type 0
-Step offset value n old new memory = (write_refusal old memory offset value ≡ None) × IsOpen n new.registers
+-- such a write is not refused; the registers are as they are after one more of them, and no bit of PxSACT is set by it
+abbrev Step : (offset value n m : ℕ) → (old new : Port) → Memory → Type 0
+Step offset value n m old new memory = (write_refusal old memory offset value ≡ None) × AreDriven n m new.registers × (old.registers.armed ≡ 0 → new.registers.armed ≡ 0)
 
-step : (register : Register) (offset value n : ℕ) (old new : Port) (memory : Memory) → register_at offset ≡ Some register → refusal_of register old memory value ≡ None → Tries old memory offset value new
-    → IsOpen n (written register old.registers value) → Step offset value n old new memory
-step register offset value n old new memory at free tries next =
-    (refusal_is register offset value old memory at ∙ free, subst (IsOpen n) (sym (taken register offset value old new memory at free tries).registers) next)
+step : (register : Register) (offset value n m : ℕ) (old new : Port) (memory : Memory) → register_at offset ≡ Some register → refusal_of register old memory value ≡ None → Tries old memory offset value new
+    → AreDriven n m (written register old.registers value) → (old.registers.armed ≡ 0 → (written register old.registers value).armed ≡ 0) → Step offset value n m old new memory
+step register offset value n m old new memory at free tries next unarmed =
+    let accepts : Accepts old memory register value new = taken register offset value old new memory at free tries in
+    (refusal_is register offset value old memory at ∙ free, subst (AreDriven n m) (sym accepts.registers) next, λ none. ap (λ (r : Registers). r.armed) accepts.registers ∙ unarmed none)
 
 idle : (b : Bool) → b ≡ false → option_or (running_if b) None ≡ None
 idle true h = absurd (true≢false h)
@@ -208,7 +190,7 @@ cmd_is : (r : Registers) (starts wants : Bool) → cmd_refusal r starts wants �
 unfolding cmd_refusal
 cmd_is r starts wants = refl
 
-zero_either : (b : Bool) (n : ℕ) → n ≡ 0 → (if b then 0 else n) ≡ 0
+pub zero_either : (b : Bool) (n : ℕ) → n ≡ 0 → (if b then 0 else n) ≡ 0
 zero_either true n h = refl
 zero_either false n h = h
 
@@ -216,48 +198,139 @@ or_none : (o : Option WriteError) → o ≡ None → option_or o None ≡ None
 or_none None h = refl
 or_none (Some e) h = h
 
-pub opens_taken : (k : ℕ) → k < 7 → (old new : Port) (before after : Memory) → Acts (opening_write k) old before new after → AreDriven k old.registers → IsOpen k old.registers
-    → IsAccepted (opening_write k) old before × IsOpen (k + 1) new.registers
+pub opens_taken : (k m : ℕ) → k < 7 → (old new : Port) (before after : Memory) → Acts (opening_write k) old before new after → AreDriven k m old.registers
+    → IsAccepted (opening_write k) old before × AreDriven (k + 1) m new.registers × (old.registers.armed ≡ 0 → new.registers.armed ≡ 0)
 unfolding opening_write register_at written own_refusal slots_refusal
-opens_taken zero less old new before after acts d o =
-    step Clb 0 0 1 old new before refl (idle old.registers.started (d.stopped (omega arith))) acts.0
-    (record { list_high = past 2 1 refl; area_high = past 4 1 refl; switches = past 5 1 refl; receives = past 6 1 refl; starts = past 7 1 refl; unarmed = o.unarmed })
-opens_taken (suc zero) less old new before after acts d o =
-    step Clbu 4 0 2 old new before refl (idle old.registers.started (d.stopped (omega arith))) acts.0
-    (record { list_high = λ h. refl; area_high = past 4 2 refl; switches = past 5 2 refl; receives = past 6 2 refl; starts = past 7 2 refl; unarmed = o.unarmed })
-opens_taken (suc (suc zero)) less old new before after acts d o =
-    step Fb 8 4096 3 old new before refl (idle old.registers.receives (d.closed (omega arith))) acts.0
-    (record { list_high = λ h. o.list_high (omega arith); area_high = past 4 3 refl; switches = past 5 3 refl; receives = past 6 3 refl; starts = past 7 3 refl; unarmed = o.unarmed })
-opens_taken (suc (suc (suc zero))) less old new before after acts d o =
-    step Fbu 12 0 4 old new before refl (idle old.registers.receives (d.closed (omega arith))) acts.0
-    (record { list_high = λ h. o.list_high (omega arith); area_high = λ h. refl; switches = past 5 4 refl; receives = past 6 4 refl; starts = past 7 4 refl; unarmed = o.unarmed })
-opens_taken (suc (suc (suc (suc zero)))) less old new before after acts d o =
-    step Fbs 64 1 5 old new before refl (idle_and old.registers.started (not (beq (has_bit 1 0) old.registers.switching)) (d.stopped (omega arith))) acts.0
-    (record { list_high = λ h. o.list_high (omega arith); area_high = λ h. o.area_high (omega arith); switches = λ h. refl; receives = past 6 5 refl; starts = past 7 5 refl; unarmed = o.unarmed })
-opens_taken (suc (suc (suc (suc (suc zero))))) less old new before after acts d o =
+opens_taken zero m less old new before after acts d =
+    step Clb 0 0 1 m old new before refl (idle old.registers.started (d.stopped (omega arith))) acts.0
+    (record {
+      commands = refl;
+      list_high = past 2 1 refl;
+      area = past 3 1 refl;
+      area_high = past 4 1 refl;
+      switches = past 5 1 refl;
+      closed = λ h. d.closed (omega arith);
+      receives = past 6 1 refl;
+      stopped = λ h. d.stopped (omega arith);
+      starts = past 7 1 refl;
+    }) (λ none. none)
+opens_taken (suc zero) m less old new before after acts d =
+    step Clbu 4 0 2 m old new before refl (idle old.registers.started (d.stopped (omega arith))) acts.0
+    (record {
+      commands = d.commands;
+      list_high = λ h. refl;
+      area = past 3 2 refl;
+      area_high = past 4 2 refl;
+      switches = past 5 2 refl;
+      closed = λ h. d.closed (omega arith);
+      receives = past 6 2 refl;
+      stopped = λ h. d.stopped (omega arith);
+      starts = past 7 2 refl;
+    }) (λ none. none)
+opens_taken (suc (suc zero)) m less old new before after acts d =
+    step Fb 8 4096 3 m old new before refl (idle old.registers.receives (d.closed (omega arith))) acts.0
+    (record {
+      commands = d.commands;
+      list_high = λ h. d.list_high (omega arith);
+      area = λ h. refl;
+      area_high = past 4 3 refl;
+      switches = past 5 3 refl;
+      closed = λ h. d.closed (omega arith);
+      receives = past 6 3 refl;
+      stopped = λ h. d.stopped (omega arith);
+      starts = past 7 3 refl;
+    }) (λ none. none)
+opens_taken (suc (suc (suc zero))) m less old new before after acts d =
+    step Fbu 12 0 4 m old new before refl (idle old.registers.receives (d.closed (omega arith))) acts.0
+    (record {
+      commands = d.commands;
+      list_high = λ h. d.list_high (omega arith);
+      area = λ h. d.area (omega arith);
+      area_high = λ h. refl;
+      switches = past 5 4 refl;
+      closed = λ h. d.closed (omega arith);
+      receives = past 6 4 refl;
+      stopped = λ h. d.stopped (omega arith);
+      starts = past 7 4 refl;
+    }) (λ none. none)
+opens_taken (suc (suc (suc (suc zero)))) m less old new before after acts d =
+    step Fbs 64 1 5 m old new before refl (idle_and old.registers.started (not (beq (has_bit 1 0) old.registers.switching)) (d.stopped (omega arith))) acts.0
+    (record {
+      commands = d.commands;
+      list_high = λ h. d.list_high (omega arith);
+      area = λ h. d.area (omega arith);
+      area_high = λ h. d.area_high (omega arith);
+      switches = λ h. refl;
+      closed = λ h. d.closed (omega arith);
+      receives = past 6 5 refl;
+      stopped = λ h. d.stopped (omega arith);
+      starts = past 7 5 refl;
+    }) (λ none. none)
+opens_taken (suc (suc (suc (suc (suc zero))))) m less old new before after acts d =
     let r : Registers = old.registers in
     let free : cmd_refusal r false true ≡ None =
-    cmd_is r false true ∙ fre_test r.receives (is_area_outside r) r.started (is_list_outside r) r.switching (d.closed (omega arith)) (area_inside r (o.area_high (omega arith)) (d.area (omega arith))) in
-    step Cmd 24 16 6 old new before refl (or_none (cmd_refusal r false true) free) acts.0
+    cmd_is r false true ∙ fre_test r.receives (is_area_outside r) r.started (is_list_outside r) r.switching (d.closed (omega arith)) (area_inside r (d.area_high (omega arith)) (d.area (omega arith))) in
+    step Cmd 24 16 6 m old new before refl (or_none (cmd_refusal r false true) free) acts.0
     (record {
-      list_high = λ h. o.list_high (omega arith);
-      area_high = λ h. o.area_high (omega arith);
-      switches = λ h. o.switches (omega arith);
+      commands = d.commands;
+      list_high = λ h. d.list_high (omega arith);
+      area = λ h. d.area (omega arith);
+      area_high = λ h. d.area_high (omega arith);
+      switches = λ h. d.switches (omega arith);
+      closed = past 6 5 refl;
       receives = λ h. refl;
+      stopped = λ h. refl;
       starts = past 7 6 refl;
-      unarmed = zero_either (falls r 16) r.armed o.unarmed;
-    })
-opens_taken (suc (suc (suc (suc (suc (suc zero)))))) less old new before after acts d o =
+    }) (zero_either (falls r 16) r.armed)
+opens_taken (suc (suc (suc (suc (suc (suc zero)))))) m less old new before after acts d =
     let r : Registers = old.registers in
     let free : cmd_refusal r true true ≡ None =
-    cmd_is r true true ∙ st_test r.receives (is_area_outside r) r.started (is_list_outside r) r.switching (o.receives (omega arith)) (list_inside r (o.list_high (omega arith)) d.commands) (o.switches (omega arith)) in
-    step Cmd 24 131089 7 old new before refl (or_none (cmd_refusal r true true) free) acts.0
+    cmd_is r true true ∙ st_test r.receives (is_area_outside r) r.started (is_list_outside r) r.switching (d.receives (omega arith)) (list_inside r (d.list_high (omega arith)) d.commands) (d.switches (omega arith)) in
+    step Cmd 24 131089 7 m old new before refl (or_none (cmd_refusal r true true) free) acts.0
     (record {
-      list_high = λ h. o.list_high (omega arith);
-      area_high = λ h. o.area_high (omega arith);
-      switches = λ h. o.switches (omega arith);
+      commands = d.commands;
+      list_high = λ h. d.list_high (omega arith);
+      area = λ h. d.area (omega arith);
+      area_high = λ h. d.area_high (omega arith);
+      switches = λ h. d.switches (omega arith);
+      closed = past 7 5 refl;
       receives = λ h. refl;
-      starts = λ h. refl;
-      unarmed = zero_either (falls r 131089) r.armed o.unarmed;
-    })
-opens_taken (suc (suc (suc (suc (suc (suc (suc k))))))) less old new before after acts d o = absurd (omega (arith, less))
+      stopped = past 7 6 refl;
+      starts = λ h g. refl;
+    }) (zero_either (falls r 131089) r.armed)
+opens_taken (suc (suc (suc (suc (suc (suc (suc k))))))) m less old new before after acts d = absurd (omega (arith, less))
+
+pub restart_taken : (k n : ℕ) → k < 2 → 7 ≤ n → (old new : Port) (before after : Memory) → Acts (restart_write k) old before new after → AreDriven n k old.registers
+    → IsAccepted (restart_write k) old before × AreDriven n (k + 1) new.registers × (old.registers.armed ≡ 0 → new.registers.armed ≡ 0)
+unfolding restart_write register_at written own_refusal slots_refusal
+restart_taken zero n less least old new before after acts d =
+    step Is 16 4294967295 n 1 old new before refl refl acts.0
+    (record {
+      commands = d.commands;
+      list_high = d.list_high;
+      area = d.area;
+      area_high = d.area_high;
+      switches = d.switches;
+      closed = d.closed;
+      receives = d.receives;
+      stopped = d.stopped;
+      starts = λ h. past 2 1 refl;
+    }) (λ none. none)
+restart_taken (suc zero) n less least old new before after acts d =
+    let r : Registers = old.registers in
+    let free : cmd_refusal r true true ≡ None =
+    cmd_is r true true
+    ∙ st_test r.receives (is_area_outside r) r.started (is_list_outside r) r.switching (d.receives (omega (arith, least))) (list_inside r (d.list_high (omega (arith, least))) d.commands) (d.switches (omega (arith, least))) in
+    step Cmd 24 131089 n 2 old new before refl (or_none (cmd_refusal r true true) free) acts.0
+    (record {
+      commands = d.commands;
+      list_high = d.list_high;
+      area = d.area;
+      area_high = d.area_high;
+      switches = d.switches;
+      closed = λ h. absurd (omega (arith, least, h));
+      receives = λ h. refl;
+      stopped = λ h. absurd (omega (arith, least, h));
+      starts = λ h g. refl;
+    }) (zero_either (falls r 131089) r.armed)
+restart_taken (suc (suc k)) n less least old new before after acts d = absurd (omega (arith, less))

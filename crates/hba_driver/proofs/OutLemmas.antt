@@ -1,10 +1,11 @@
 -- What is issued for a device stays issued until the device completes it, or it is flushed.
-use Rattle.std.proofs.Common.{◌≡◌, ◌≢◌, ℕ, ◌<◌, Bool, true, false, cond, eqb, ◌&&◌, List, [], ◌∷◌, ◌++◌, drop, refl, sym, ◌∙◌, ap, subst, inl, inr, arith, Option, Some, None}
+use Rattle.std.proofs.Common.{◌≡◌, ◌≢◌, ℕ, ◌+◌, ◌*◌, ◌<◌, Bool, true, false, cond, eqb, ◌&&◌, List, [], ◌∷◌, ◌++◌, drop, refl, sym, ◌∙◌, ap, subst, inl, inr, arith, Option, Some, None}
 use Rattle.std.specs.Prelude.{MatchOption, if◌then◌else◌, ◌==◌, ◌%◌, is_some, not, slice_index}
 use Rattle.std.specs.List.{list_all, list_any}
 use Rattle.std.specs.Option.{option_map}
-use Rattle.std.proofs.lemmas.Bool.{eqb-true, false≢true, lt-ltb, or_parts, true≢false}
+use Rattle.std.proofs.lemmas.Bool.{eqb-true, false≢true, lt-ltb, ne_eqb, or_parts, true≢false}
 use Rattle.std.proofs.lemmas.Bool.Decides.{nat_tests}
+use Rattle.fis_view.specs.declared.build.H2dFields.{H2dFields}
 use Rattle.fis_view.specs.Frames.{Stamped}
 use Rattle.fis_view.specs.Seen.{seen}
 use Rattle.host_memory.specs.Memory.{Memory}
@@ -46,14 +47,24 @@ use Rattle.hba_laws.proofs.ViewLemmas.{is_own, own_below, own_in, own_issued}
 use Rattle.hba_laws.proofs.WithinLemmas.{the_transfer}
 use Rattle.hba_driver.specs.declared.effect.Effect.{Effect}
 use Rattle.hba_driver.specs.declared.effect.Effect.TheVariants as effect
-use Rattle.hba_driver.specs.Effects.{Acts, ActsAll, Tries, opening_write, opening_writes}
+use Rattle.hba_driver.specs.declared.order.Order.{Order}
+use Rattle.hba_driver.specs.declared.order.Order.TheVariants.{Scan, Clear}
+use Rattle.hba_driver.specs.declared.turn.Act.{Act}
+use Rattle.hba_driver.specs.declared.turn.Act.TheVariants as act
+use Rattle.hba_driver.specs.Effects.{Acts, ActsAll, Tries, clearing, effects_of, issuing, opening_write, opening_writes, order_effects, restart_write, restart_writes, sending}
 use Rattle.hba_driver.specs.Events.{IsSoundHost, shared_by}
 use Rattle.hba_driver.specs.HostTurns.{Does, Host, Took, Pushed}
 use Rattle.hba_driver.specs.Laws.{flushes}
+use Rattle.hba_driver.specs.Orders.{order_fields}
+use Rattle.hba_driver.specs.Paths.{reads_page, stage_fields}
 use Rattle.hba_driver.specs.Served.{IsServed}
-use Rattle.hba_driver.proofs.DrivenLemmas.{calm, calm_effect, tried_at}
+use Rattle.hba_driver.specs.Sights.{px_fbs, px_is}
+use Rattle.hba_driver.specs.Ticks.{effects_due}
+use Rattle.hba_driver.proofs.DrivenLemmas.{no_dec, tried_at}
 use Rattle.hba_driver.proofs.EffectLemmas.{all_at}
+use Rattle.hba_driver.proofs.EndingLemmas.{MayClear, MayEnd, is_accepted, may_then, only_cleared}
 use Rattle.hba_driver.proofs.StandLemmas.{both}
+use Rattle.hba_driver.proofs.TickingLemmas.{is_calm}
 use Rattle.hba_driver.proofs.TurnLemmas.{sound_shared}
 use Rattle.hba_driver.proofs.UpLemmas.{IsIssuedAt}
 
@@ -302,9 +313,24 @@ kept_write (Some register) offset value old new memory dev s i at calm below tri
 
 -- ---- effects
 
-no_fall : (o : Option Register) (r : Registers) (value : ℕ) → calm o value ≡ true → MatchOption o (Unit {0}) (λ g. NoFall g r value)
+-- a write after which what is issued stands: ST does not fall, and no device is cleared
+abbrev lasting : Option Register → ℕ → Bool
+lasting (Some Cmd) value = has_bit value 0
+lasting (Some Fbs) value = not (has_bit value dec)
+lasting o value = true
+
+abbrev lasting_effect : Effect → Bool
+lasting_effect (effect.Writes offset value) = lasting (register_at offset) value
+lasting_effect e = true
+
+off_where : (a b : Bool) → b ≡ true → (a && not b) ≡ false
+off_where true true h = refl
+off_where false true h = refl
+off_where a false h = absurd (false≢true h)
+
+no_fall : (o : Option Register) (r : Registers) (value : ℕ) → lasting o value ≡ true → MatchOption o (Unit {0}) (λ g. NoFall g r value)
 no_fall None r value h = tt
-no_fall (Some Cmd) r value h = absurd (false≢true h)
+no_fall (Some Cmd) r value h = off_where r.started (has_bit value 0) h
 no_fall (Some Clb) r value h = tt
 no_fall (Some Clbu) r value h = tt
 no_fall (Some Fb) r value h = tt
@@ -322,7 +348,7 @@ no_fall (Some Fbs) r value h = h
 other_port : (n dev : ℕ) → (n == dev) ≡ false → dev ≢ n
 other_port n dev h same = true≢false (sym (equal_is n dev (sym same)) ∙ h)
 
-kept_effect : (e : Effect) (old new : Port) (before after : Memory) (dev s : ℕ) (i : Issue) → calm_effect e ≡ true → flushes dev e ≡ false → dev < 16 → Acts e old before new after → IsTable old.slots
+kept_effect : (e : Effect) (old new : Port) (before after : Memory) (dev s : ℕ) (i : Issue) → lasting_effect e ≡ true → flushes dev e ≡ false → dev < 16 → Acts e old before new after → IsTable old.slots
     → IsIssuedAt old dev s i → IsIssuedAt new dev s i
 kept_effect (effect.Writes offset value) old new before after dev s i calm other below acts table here =
     kept_write (register_at offset) offset value old new before dev s i refl (no_fall (register_at offset) old.registers value calm) below acts.0 table here
@@ -331,20 +357,89 @@ kept_effect (effect.Flushes n) old new before after dev s i calm other below act
 kept_effect (effect.Empties n) old new before after dev s i calm other below acts table here = subst (λ (p : Port). IsIssuedAt p dev s i) (sym acts.0) here
 kept_effect (effect.Commands slot fields buffer) old new before after dev s i calm other below acts table here = subst (λ (p : Port). IsIssuedAt p dev s i) (sym acts.0) here
 
-kept_effects : (es : List Effect) (old new : Port) (before after : Memory) (dev s : ℕ) (i : Issue) → list_all calm_effect es ≡ true → list_any (flushes dev) es ≡ false → dev < 16 → ActsAll es old before new after
+kept_effects : (es : List Effect) (old new : Port) (before after : Memory) (dev s : ℕ) (i : Issue) → list_all lasting_effect es ≡ true → list_any (flushes dev) es ≡ false → dev < 16 → ActsAll es old before new after
     → IsTable old.slots → IsIssuedAt old dev s i → IsIssuedAt new dev s i
 unfolding ActsAll
 kept_effects [] old new before after dev s i calm other below acts table here = subst (λ (p : Port). IsIssuedAt p dev s i) (sym acts.0) here
 kept_effects (e ∷ es) old new before after dev s i calm other below acts table here =
-    let calm_is = both (calm_effect e) (list_all calm_effect es) calm in
+    let calm_is = both (lasting_effect e) (list_all lasting_effect es) calm in
     let others = or_parts (flushes dev e) (list_any (flushes dev) es) other in
     kept_effects es acts.0 new acts.1 after dev s i calm_is.1 others.1 below acts.4 acts.3.table
     (kept_effect e old acts.0 before acts.1 dev s i calm_is.0 others.0 below acts.2 table here)
 
-pub out_effects : (es : List Effect) (old new : Port) (before after : Memory) (slot dev : ℕ) → list_all calm_effect es ≡ true → list_any (flushes dev) es ≡ false → dev < 16 → ActsAll es old before new after
+out_effects : (es : List Effect) (old new : Port) (before after : Memory) (slot dev : ℕ) → list_all lasting_effect es ≡ true → list_any (flushes dev) es ≡ false → dev < 16 → ActsAll es old before new after
     → IsTable old.slots → HasOut old slot dev → HasOut new slot dev
 out_effects es old new before after slot dev calm other below acts table h =
     record { issue = h.issue; is = kept_effects es old new before after dev slot h.issue calm other below acts table h.is; pio = h.pio; control = h.control }
+
+-- ---- what each act leaves, but those two that end a fault
+
+lasting_issuing : (slot dev : ℕ) (queued : Bool) → list_all lasting_effect (issuing slot dev queued) ≡ true
+unfolding register_at
+lasting_issuing slot dev true = ap (λ (b : Bool). not b && true) (no_dec dev)
+lasting_issuing slot dev false = ap (λ (b : Bool). not b && true) (no_dec dev)
+
+lasting_sending : (slot dev : ℕ) (o : Option H2dFields) (buffer : Bool) → list_all lasting_effect (match_some o [] (λ f. sending slot dev f buffer)) ≡ true
+lasting_sending slot dev None buffer = refl
+lasting_sending slot dev (Some f) buffer = lasting_issuing slot dev false
+
+lasting_order : (order : Order) → list_all lasting_effect (order_effects order) ≡ true
+unfolding order_effects register_at
+lasting_order Scan = lasting_sending 31 15 (order_fields Scan) false
+lasting_order (Clear port) = lasting_sending 31 15 (order_fields (Clear port)) false
+lasting_order order = lasting_sending 31 15 (order_fields order) false
+
+lasting_restart : (k : ℕ) → lasting_effect (restart_write k) ≡ true
+unfolding restart_write register_at
+lasting_restart k = all_at lasting_effect restart_writes k _ refl refl
+
+lasting_act : (a : Option Act) → is_calm a ≡ true → ((k : ℕ) → a ≡ Some (act.Opens k) → ⊥) → list_all lasting_effect (effects_due a) ≡ true
+unfolding effects_of
+lasting_act None calm opens = refl
+lasting_act (Some (act.Opens k)) calm opens = absurd (opens k refl)
+lasting_act (Some act.Stops) calm opens = absurd (false≢true calm)
+lasting_act (Some (act.Restarts k)) calm opens = rw (lasting_restart k) refl
+lasting_act (Some (act.Clears dev)) calm opens = absurd (false≢true calm)
+lasting_act (Some (act.Orders order)) calm opens = lasting_order order
+lasting_act (Some (act.Steps dev stage)) calm opens = lasting_sending 30 dev (stage_fields dev stage) (reads_page stage)
+lasting_act (Some (act.Issues slot dev queued)) calm opens = lasting_issuing slot dev queued
+
+-- ---- another device is cleared
+
+out_clear : (old new : Port) (before after : Memory) (slot dev k : ℕ) → dev < 16 → dev ≢ k → MayClear k old → IsTable old.slots → ActsAll (clearing k) old before new after → HasOut old slot dev → HasOut new slot dev
+unfolding ActsAll register_at view_after
+out_clear old new before after slot dev k below other may table acts h =
+    let value : ℕ = 256 * k + 3 in
+    let next : MayClear k acts.0 = may_then k 1224736768 old acts.0 before (is_accepted 1224736768 old acts.0 before acts.1 acts.2) may in
+    let first : IsIssuedAt acts.0 dev slot h.issue = kept_write (register_at px_is) px_is 1224736768 old acts.0 before dev slot h.issue refl tt below acts.2.0 table h.is in
+    let second : IsIssuedAt acts.4.0 dev slot h.issue = elim (tried_at Fbs px_fbs value acts.0 acts.1 acts.4.0 refl acts.4.2.0) [
+      | inl taken ↦
+          ap (λ (v : DeviceView). own_issue v.slots slot)
+          (taken.accepts.views dev below ∙ ap (λ (o : Option ℕ). view_cleared dev o (view_of dev acts.0)) (only_cleared k acts.0.errors next.faulty)
+          ∙ ap (λ (b : Bool). if b then stopped_view (view_of dev acts.0) else view_of dev acts.0) (ne_eqb k dev (λ same. other (sym same))))
+          ∙ first
+      | inr refused ↦ subst (λ (p : Port). IsIssuedAt p dev slot h.issue) (sym refused.stays) first
+    ] in
+    record { issue = h.issue; is = subst (λ (p : Port). IsIssuedAt p dev slot h.issue) (sym acts.4.4.0) second; pio = h.pio; control = h.control }
+
+-- ---- each act, but one that stops the port
+
+pub out_act : (a : Option Act) (old new : Port) (before after : Memory) (slot dev : ℕ) → dev < 16 → MayEnd a old → (a ≡ Some act.Stops → ⊥) → ((k : ℕ) → a ≡ Some (act.Clears k) → dev ≢ k)
+    → ((k : ℕ) → a ≡ Some (act.Opens k) → ⊥) → list_any (flushes dev) (effects_due a) ≡ false → ActsAll (effects_due a) old before new after → IsTable old.slots → HasOut old slot dev → HasOut new slot dev
+unfolding effects_of
+out_act None old new before after slot dev below may stops clears opens other acts table h = out_effects [] old new before after slot dev refl other below acts table h
+out_act (Some (act.Opens k)) old new before after slot dev below may stops clears opens other acts table h = absurd (opens k refl)
+out_act (Some act.Stops) old new before after slot dev below may stops clears opens other acts table h = absurd (stops refl)
+out_act (Some (act.Clears k)) old new before after slot dev below may stops clears opens other acts table h =
+    out_clear old new before after slot dev k below (clears k refl) may table acts h
+out_act (Some (act.Restarts k)) old new before after slot dev below may stops clears opens other acts table h =
+    out_effects (effects_due (Some (act.Restarts k))) old new before after slot dev (lasting_act (Some (act.Restarts k)) refl opens) other below acts table h
+out_act (Some (act.Orders order)) old new before after slot dev below may stops clears opens other acts table h =
+    out_effects (effects_due (Some (act.Orders order))) old new before after slot dev (lasting_act (Some (act.Orders order)) refl opens) other below acts table h
+out_act (Some (act.Steps n stage)) old new before after slot dev below may stops clears opens other acts table h =
+    out_effects (effects_due (Some (act.Steps n stage))) old new before after slot dev (lasting_act (Some (act.Steps n stage)) refl opens) other below acts table h
+out_act (Some (act.Issues s n queued)) old new before after slot dev below may stops clears opens other acts table h =
+    out_effects (effects_due (Some (act.Issues s n queued))) old new before after slot dev (lasting_act (Some (act.Issues s n queued)) refl opens) other below acts table h
 
 -- ---- a write that opens the port
 

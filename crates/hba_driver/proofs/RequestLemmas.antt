@@ -9,13 +9,17 @@ use Rattle.host_memory.specs.Reading.{share_byte, share_with}
 use Rattle.host_memory.specs.declared.table.Prd.{Prd}
 use Rattle.hba_driver.specs.declared.order.Order.{Order}
 use Rattle.hba_driver.specs.declared.order.Order.TheVariants.{Clear}
-use Rattle.hba_driver.specs.declared.request.Outcome.TheVariants.{Removed}
+use Rattle.hba_driver.specs.declared.path.Stage.{Stage}
+use Rattle.hba_driver.specs.declared.path.Stage.TheVariants.{AssertReset}
+use Rattle.hba_driver.specs.declared.request.Outcome.TheVariants.{Aborted, PortError, Removed}
+use Rattle.hba_driver.specs.declared.sight.ErrorLog.{ErrorLog}
 use Rattle.hba_driver.specs.declared.slot.Head.{Head}
 use Rattle.hba_driver.specs.declared.slot.Phase.{Phase}
-use Rattle.hba_driver.specs.declared.slot.Phase.TheVariants.{Issued, Ended}
+use Rattle.hba_driver.specs.declared.slot.Phase.TheVariants.{Aside, Issued, Ended}
 use Rattle.hba_driver.specs.declared.turn.Act.{Act}
 use Rattle.hba_driver.specs.declared.turn.Act.TheVariants as act
-use Rattle.hba_driver.specs.Ticks.{entries_after, is_open_of, removed}
+use Rattle.hba_driver.specs.declared.turn.Logged.{Logged}
+use Rattle.hba_driver.specs.Ticks.{entries_after, is_aside_of, is_named_of, is_open, is_open_of, log_outcome, logged_ended, removed, stage_ended}
 use Rattle.hba_driver.specs.Drivers.{AreRequests, Entry, entry_at, holds, is_read, rephase_all, rephased}
 use Rattle.hba_driver.proofs.LifeLemmas.{entry_of_rephased, length_of_rephased}
 
@@ -93,6 +97,18 @@ requests_rephased last test phase old new h is =
     (λ s e here. back_rephase (holds (test s) (entry_at old s)) phase (entry_at old s) e
     (sym (entry_of_rephased test phase old s) ∙ sym (ap (λ (l : List (Option Entry)). entry_at l s) is) ∙ here))
 
+requests_in : (last : ℕ) (test : ℕ → Head → Bool) (phase : Phase) (old : List (Option Entry)) → AreRequests last old → AreRequests last (rephase_all test phase old)
+requests_in last test phase old h = requests_rephased last test phase old (rephase_all test phase old) h refl
+
+requests_staged : (last dev : ℕ) (stage : Stage) (old : List (Option Entry)) → AreRequests last old → AreRequests last (stage_ended dev stage old)
+requests_staged last dev AssertReset old h = requests_in last (is_aside_of dev) (Ended Aborted) old h
+requests_staged last dev stage old h = h
+
+pub requests_logged : (last : ℕ) (log : ErrorLog) (l : Option Logged) (old : List (Option Entry)) → AreRequests last old → AreRequests last (logged_ended log l old)
+requests_logged last log None old h = h
+requests_logged last log (Some l) old h =
+    requests_in last (is_aside_of l.dev) (Ended Aborted) _ (requests_in last (is_named_of log l.dev) (Ended (log_outcome log l.file)) old h)
+
 requests_removed : (last : ℕ) (order : Order) (old : List (Option Entry)) → AreRequests last old → AreRequests last (removed order old)
 requests_removed last (Clear port) old h = requests_rephased last (is_open_of port) (Ended Removed) old (rephase_all (is_open_of port) (Ended Removed) old) h refl
 requests_removed last order old h = h
@@ -127,8 +143,11 @@ requests_put last old slot x h back = requests_from last old (set old slot x) h 
 pub requests_after : (last : ℕ) (act : Act) (old : List (Option Entry)) → AreRequests last old → AreRequests last (entries_after act old)
 unfolding entries_after
 requests_after last (act.Opens k) old h = h
+requests_after last act.Stops old h = requests_in last is_open (Ended PortError) old h
+requests_after last (act.Restarts k) old h = h
+requests_after last (act.Clears dev) old h = requests_in last (is_open_of dev) Aside old h
 requests_after last (act.Orders order) old h = requests_removed last order old h
-requests_after last (act.Identifies dev) old h = h
+requests_after last (act.Steps dev stage) old h = requests_staged last dev stage old h
 requests_after last (act.Issues slot dev queued) old h =
     requests_put last old slot (option_map (rephased Issued) (entry_at old slot)) h (λ e some. back_rephase true Issued (entry_at old slot) e some)
 

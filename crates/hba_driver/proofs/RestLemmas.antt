@@ -7,17 +7,22 @@ use Rattle.fis_view.specs.declared.build.H2dFields.{H2dFields}
 use Rattle.slots.specs.Slots.{has_bit, match_some}
 use Rattle.hba_driver.specs.declared.order.Order.{Order}
 use Rattle.hba_driver.specs.declared.order.Order.TheVariants.{ResetOn, ResetOff, AwaitSignature, CountPorts, SetMask, Enable, Open, Scan, Clear, Detect, Watch, NoMultiplier}
+use Rattle.hba_driver.specs.declared.path.Path.{Path}
+use Rattle.hba_driver.specs.declared.path.Stage.{Stage}
+use Rattle.hba_driver.specs.declared.path.Stage.TheVariants.{Identify, ReadLog, AssertReset, ReleaseReset}
+use Rattle.hba_driver.specs.declared.path.Stage.TheVariants as stage
 use Rattle.hba_driver.specs.declared.plan.Plan.{Plan}
 use Rattle.hba_driver.specs.declared.request.Outcome.TheVariants.{Done}
 use Rattle.hba_driver.specs.declared.sight.Sight.{Sight}
 use Rattle.hba_driver.specs.declared.slot.Phase.TheVariants.{Ended}
 use Rattle.hba_driver.specs.declared.turn.Act.{Act}
 use Rattle.hba_driver.specs.declared.turn.Act.TheVariants as act
+use Rattle.hba_driver.specs.declared.turn.Logged.{Logged}
 use Rattle.hba_driver.specs.declared.turn.Turn.{Turn}
 use Rattle.hba_driver.specs.Drivers.{Driver, Entry}
 use Rattle.hba_driver.specs.Orders.{order_fields}
-use Rattle.hba_driver.specs.Ticks.{any_done, done_ended, is_done, seen, turn}
-use Rattle.hba_driver.specs.Turns.{awaits, control_news, control_seen, control_turn, device_news, device_seen, identified, is_idle, is_out, met, met_order, opening_due, order_due, turn_of}
+use Rattle.hba_driver.specs.Ticks.{acts, any_done, done_ended, due, is_done, logged_ended, seen, turn}
+use Rattle.hba_driver.specs.Turns.{advanced, awaits, awaits_reset, control_news, control_seen, control_turn, device_news, device_seen, early_due, is_back, is_idle, is_in_reset, is_out, logged_by, met, met_order, met_path, met_stage, order_due, path_met, path_news, turn_of}
 use Rattle.hba_driver.proofs.ScanLemmas.{none_rephased}
 
 -- ---- slot 31
@@ -99,41 +104,93 @@ control_quiet v plan n h = elim (cases_Bool plan.asked) [
 
 -- ---- slot 30
 
-identifies_none : (o : Option ℕ) (out : Bool) (f : ℕ → Plan) (plan : Plan) → (is_some o && not out) ≡ false → match_some o plan (λ dev. if out then plan else f dev) ≡ plan
-identifies_none None out f plan h = refl
-identifies_none (Some dev) true f plan h = refl
-identifies_none (Some dev) false f plan h = absurd (true≢false h)
+-- a command that is out, or none, tells nothing
+no_answer : {A : Type 0} (asked out more : Bool) (x y : A) → (if asked then not out else more) ≡ false → (if (asked && not out) then x else y) ≡ y
+no_answer true true more x y h = refl
+no_answer true false more x y h = absurd (true≢false h)
+no_answer false out more x y h = refl
+
+answered_quiet : (v : Sight) (plan : Plan) (o : Option Path) → match_some o false (path_news v) ≡ false → match_some o plan (λ path. if is_back v path then advanced v path plan else plan) ≡ plan
+answered_quiet v plan None h = refl
+answered_quiet v plan (Some path) h = no_answer path.asked (has_bit v.issued 30) _ (advanced v path plan) plan h
+
+logged_quiet : (v : Sight) (o : Option Path) → match_some o false (path_news v) ≡ false → match_some o None (λ path. if is_back v path then logged_by v path.dev path.stage else None) ≡ None
+logged_quiet v None h = refl
+logged_quiet v (Some path) h = no_answer path.asked (has_bit v.issued 30) _ (logged_by v path.dev path.stage) None h
+
+waits_for : (b : Bool) → not b ≡ false → (if b then stage.AwaitReset else Identify) ≡ stage.AwaitReset
+waits_for true h = refl
+waits_for false h = absurd (true≢false h)
+
+stage_quiet : (v : Sight) (dev : ℕ) (s : Stage) → (awaits_reset s && not (is_in_reset v dev)) ≡ false → met_stage v dev s ≡ s
+unfolding met_stage
+stage_quiet v dev stage.AwaitReset h = waits_for (is_in_reset v dev) h
+stage_quiet v dev Identify h = refl
+stage_quiet v dev (ReadLog file) h = refl
+stage_quiet v dev AssertReset h = refl
+stage_quiet v dev ReleaseReset h = refl
+
+abbrev with_stage : Path → Stage → Path
+with_stage path s = record path { stage = s }
+
+path_still : (asked out more : Bool) (path met : Path) → (if asked then not out else more) ≡ false → (more ≡ false → met ≡ path) → (if asked then path else met) ≡ path
+path_still true out more path met h k = refl
+path_still false out more path met h k = k h
+
+path_quiet : (v : Sight) (o : Option Path) → match_some o false (path_news v) ≡ false → option_map (met_path v) o ≡ o
+path_quiet v None h = refl
+path_quiet v (Some path) h =
+    ap Some
+    (path_still path.asked (has_bit v.issued 30) _ path (with_stage path (met_stage v path.dev path.stage)) h (λ quiet. ap (with_stage path) (stage_quiet v path.dev path.stage quiet)))
+
+abbrev with_path : Plan → Option Path → Plan
+with_path plan o = record plan { path = o }
 
 device_quiet : (v : Sight) (plan : Plan) → device_news v plan ≡ false → device_seen v plan ≡ plan
-device_quiet v plan h = identifies_none plan.identifying (has_bit v.issued 30) (λ dev. identified v dev plan) plan h
+device_quiet v plan h = ap (path_met v) (answered_quiet v plan plan.path h) ∙ ap (with_path plan) (path_quiet v plan.path h)
 
 -- ---- the turn
 
--- what holds of either of two turns
-if_turn : (b : Bool) (t u : Turn) (plan : Plan) → (b ≡ true → t.act ≡ None → t.news ≡ false → t.plan ≡ plan) → (b ≡ false → u.act ≡ None → u.news ≡ false → u.plan ≡ plan)
-    → (if b then t else u).act ≡ None → (if b then t else u).news ≡ false → (if b then t else u).plan ≡ plan
-if_turn true t u plan f g a n = f refl a n
-if_turn false t u plan f g a n = g refl a n
+-- a turn with no act and no news leaves the plan, and no log came
+abbrev Rests : Plan → Turn → Type 0
+Rests plan t = t.act ≡ None → t.news ≡ false → (t.plan ≡ plan) × (t.logged ≡ None)
 
-rest_control : (v : Sight) (plan : Plan) (entries : List (Option Entry)) → (control_turn v (control_news v plan) (control_seen v plan) entries).act ≡ None
-    → (control_turn v (control_news v plan) (control_seen v plan) entries).news ≡ false → (control_turn v (control_news v plan) (control_seen v plan) entries).plan ≡ plan
+if_rests : (b : Bool) (plan : Plan) (t u : Turn) → (b ≡ true → Rests plan t) → (b ≡ false → Rests plan u) → Rests plan (if b then t else u)
+if_rests true plan t u f g = f refl
+if_rests false plan t u f g = g refl
+
+rest_control : (v : Sight) (plan : Plan) (entries : List (Option Entry)) → Rests plan (control_turn v (control_news v plan) (control_seen v plan) entries)
 rest_control v plan entries =
-    if_turn (is_idle (control_seen v plan).order) _ _ plan
-    (λ idle a n. control_quiet v plan n (inl idle))
-    (λ busy. if_turn (is_some (order_due (control_seen v plan))) _ _ plan
+    if_rests (is_idle (control_seen v plan).order) plan _ _
+    (λ idle a n. (control_quiet v plan n (inl idle), refl))
+    (λ busy. if_rests (is_some (order_due (control_seen v plan))) plan _ _
     (λ some a n. absurd (false≢true (rw a at some)))
     (λ none a n.
     let parts = or_parts (control_news v plan) (device_news v (control_seen v plan)) n in
-    device_quiet v (control_seen v plan) parts.1 ∙ control_quiet v plan parts.0 (inr none)))
+    (device_quiet v (control_seen v plan) parts.1 ∙ control_quiet v plan parts.0 (inr none), logged_quiet v (control_seen v plan).path parts.1)))
 
-rest_turn : (v : Sight) (plan : Plan) (entries : List (Option Entry)) → (turn_of v plan entries).act ≡ None → (turn_of v plan entries).news ≡ false → (turn_of v plan entries).plan ≡ plan
+rest_turn : (v : Sight) (plan : Plan) (entries : List (Option Entry)) → Rests plan (turn_of v plan entries)
 unfolding turn_of
-rest_turn v plan entries = if_turn (is_some (opening_due plan)) _ _ plan (λ some a n. refl) (λ none a n. rest_control v plan entries a n)
+rest_turn v plan entries = if_rests (is_some (early_due v plan)) plan _ _ (λ some a n. (refl, refl)) (λ none. rest_control v plan entries)
 
-pub rests : (v : Sight) (d : Driver) → length d.entries ≡ 30 → any_done v.issued d.entries ≡ false → (turn v d).act ≡ None → (turn v d).news ≡ false → seen v d ≡ d
+rests : (v : Sight) (d : Driver) → length d.entries ≡ 30 → any_done v.issued d.entries ≡ false → (turn v d).act ≡ None → (turn v d).news ≡ false → seen v d ≡ d
 unfolding any_done
 rests v d long done none news =
     let ended : done_ended v.issued d.entries ≡ d.entries = none_rephased (is_done v.issued) (Ended Done) 30 d.entries long done in
-    let plan : (turn v d).plan ≡ d.plan = rest_turn v d.plan (done_ended v.issued d.entries) none news in
-    ap (λ (p : Plan). let x : Driver = record { plan = p; given = d.given; entries = done_ended v.issued d.entries } in x) plan
+    let still = rest_turn v d.plan (done_ended v.issued d.entries) none news in
+    ap (λ (p : Plan). let x : Driver = record { plan = p; given = d.given; entries = logged_ended v.log (turn v d).logged (done_ended v.issued d.entries) } in x) still.0
+    ∙ ap (λ (l : Option Logged). let x : Driver = record { plan = d.plan; given = d.given; entries = logged_ended v.log l (done_ended v.issued d.entries) } in x) still.1
     ∙ ap (λ (e : List (Option Entry)). let x : Driver = record { plan = d.plan; given = d.given; entries = e } in x) ended
+
+none_act : (a : Option Act) → is_some a ≡ false → a ≡ None
+none_act None h = refl
+none_act (Some a) h = absurd (true≢false h)
+
+-- nothing is due, and the driver has seen nothing
+pub acts_rests : (v : Sight) (d : Driver) → length d.entries ≡ 30 → acts v d ≡ false → (due v d ≡ None) × (seen v d ≡ d)
+unfolding acts
+acts_rests v d long h =
+    let some = or_parts (is_some (turn v d).act) _ h in
+    let more = or_parts (any_done v.issued d.entries) (turn v d).news some.1 in
+    let none : (turn v d).act ≡ None = none_act (turn v d).act some.0 in
+    (none, rests v d long more.0 none more.1)

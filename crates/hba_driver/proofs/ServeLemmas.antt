@@ -1,5 +1,5 @@
 -- What a tick does to devices: whom it serves, and whom it flushes.
-use Rattle.std.proofs.Common.{◌≡◌, ℕ, zero, suc, Bool, true, false, List, [], ◌∷◌, length, get_or, set, refl, sym, ◌∙◌, ap, subst, inl, inr, arith, Option, Some, None}
+use Rattle.std.proofs.Common.{◌≡◌, ℕ, zero, suc, ◌<◌, nat_lt, Bool, true, false, List, [], ◌∷◌, length, get_or, set, refl, sym, ◌∙◌, ap, subst, inl, inr, arith, Option, Some, None}
 use Rattle.std.specs.Prelude.{if◌then◌else◌, ◌==◌, ◌||◌}
 use Rattle.std.specs.List.{list_any}
 use Rattle.std.proofs.lemmas.Bool.{cases_Bool, cases_lt, false≢true, true≢false}
@@ -9,33 +9,36 @@ use Rattle.hba_driver.specs.declared.effect.Effect.{Effect}
 use Rattle.hba_driver.specs.declared.order.Order.{Order}
 use Rattle.hba_driver.specs.declared.order.Order.TheVariants.{ResetOn, ResetOff, AwaitSignature, CountPorts, SetMask, Enable, Open, Scan, Clear, Detect, Watch, NoMultiplier}
 use Rattle.hba_driver.specs.declared.plan.Device.{Device}
-use Rattle.hba_driver.specs.declared.plan.Device.TheVariants.{Absent}
-use Rattle.hba_driver.specs.declared.request.Outcome.TheVariants.{Removed}
+use Rattle.hba_driver.specs.declared.path.Stage.{Stage}
+use Rattle.hba_driver.specs.declared.path.Stage.TheVariants.{Identify, ReadLog, AssertReset, ReleaseReset, AwaitReset}
+use Rattle.hba_driver.specs.declared.path.TaskFile.{TaskFile}
+use Rattle.hba_driver.specs.declared.plan.Device.TheVariants.{Absent, Recovering}
+use Rattle.hba_driver.specs.declared.plan.Plan.{Plan}
+use Rattle.hba_driver.specs.declared.request.Outcome.TheVariants.{PortError, Removed}
 use Rattle.hba_driver.specs.declared.sight.Sight.{Sight}
-use Rattle.hba_driver.specs.declared.slot.Phase.TheVariants.{Ended}
+use Rattle.hba_driver.specs.declared.slot.Head.{Head}
+use Rattle.hba_driver.specs.declared.slot.Phase.{Phase}
+use Rattle.hba_driver.specs.declared.slot.Phase.TheVariants.{Aside, Ended}
 use Rattle.hba_driver.specs.declared.turn.Act.{Act}
 use Rattle.hba_driver.specs.declared.turn.Act.TheVariants as act
-use Rattle.hba_driver.specs.Drivers.{Driver, Entry, device_at, entry_at, has_ended, rephase, rephased}
-use Rattle.hba_driver.specs.Effects.{effects_of, issuing, opening_write, opening_writes, order_effects}
-use Rattle.hba_driver.specs.Laws.{TicksServe, flushes}
+use Rattle.hba_driver.specs.Drivers.{Driver, Entry, device_at, entry_at, has_ended, is_aside, rephase, rephased}
+use Rattle.hba_driver.specs.Effects.{effects_of, issuing, opening_write, opening_writes, order_effects, restart_write, restart_writes, stage_effects}
+use Rattle.hba_driver.specs.Laws.{TicksServe, flushes, is_withdrawn}
 use Rattle.hba_driver.specs.Orders.{order_fields}
-use Rattle.hba_driver.specs.Ticks.{acted, after_tick, due, effects, effects_due, entries_after, is_open_of, plan_after, seen, turn}
+use Rattle.hba_driver.specs.Paths.{recovery, stage_fields}
+use Rattle.hba_driver.specs.Ticks.{acted, after_tick, done_ended, due, effects, effects_due, entries_after, from_reset, is_open, is_open_of, plan_after, recovering, seen, turn}
 use Rattle.hba_driver.specs.Turns.{may_issue}
+use Rattle.hba_driver.proofs.DueLemmas.{goes_turn}
 use Rattle.hba_driver.proofs.LifeLemmas.{May, entry_of_rephased, may_turn}
 
 -- ---- whom it serves
 
-may_of : (a : Option Act) (entries : List (Option Entry)) (plan : Rattle.hba_driver.specs.declared.plan.Plan.Plan) (slot dev : ℕ) (queued : Bool) → a ≡ Some (act.Issues slot dev queued) → May plan entries a
+may_of : (a : Option Act) (entries : List (Option Entry)) (plan : Plan) (slot dev : ℕ) (queued : Bool) → a ≡ Some (act.Issues slot dev queued) → May plan entries a
     → may_issue plan (entry_at entries slot) ≡ true
 may_of a entries plan slot dev queued is h = subst (λ (x : Option Act). May plan entries x) is h
 
-if_due : (b : Bool) (a x : Option Act) (act : Act) → (if b then None else a) ≡ Some act → a ≡ Some act
-if_due true a x act h = cc
-if_due false a x act h = h
-
 ready : (v : Sight) (d : Driver) (slot dev : ℕ) (queued : Bool) → due v d ≡ Some (act.Issues slot dev queued) → may_issue (turn v d).plan (entry_at (seen v d).entries slot) ≡ true
-ready v d slot dev queued is =
-    may_of (turn v d).act (seen v d).entries (turn v d).plan slot dev queued (if_due v.faulted (turn v d).act None (act.Issues slot dev queued) is) (may_turn v d.plan (seen v d).entries)
+ready v d slot dev queued is = may_of (turn v d).act (seen v d).entries (turn v d).plan slot dev queued is (may_turn v d)
 
 -- ---- whom it flushes
 
@@ -55,6 +58,18 @@ at_none dev (x ∷ es) (suc k) e h n = at_none dev es k e (rest (flushes dev x) 
 opens_none : (dev k : ℕ) → list_any (flushes dev) (effects_of (act.Opens k)) ≡ false
 unfolding effects_of opening_write
 opens_none dev k = ap (λ (b : Bool). b || false) (at_none dev opening_writes k _ refl refl)
+
+restarts_none : (dev k : ℕ) → list_any (flushes dev) (effects_of (act.Restarts k)) ≡ false
+unfolding effects_of restart_write
+restarts_none dev k = ap (λ (b : Bool). b || false) (at_none dev restart_writes k _ refl refl)
+
+steps_none : (dev other : ℕ) (stage : Stage) → list_any (flushes dev) (stage_effects other stage) ≡ false
+unfolding stage_fields
+steps_none dev other Identify = refl
+steps_none dev other (ReadLog file) = refl
+steps_none dev other AssertReset = refl
+steps_none dev other ReleaseReset = refl
+steps_none dev other AwaitReset = refl
 
 issues_none : (dev slot other : ℕ) (queued : Bool) → list_any (flushes dev) (issuing slot other queued) ≡ false
 issues_none dev slot other true = refl
@@ -86,25 +101,21 @@ act_clears : (dev : ℕ) (a : Option Act) → list_any (flushes dev) (effects_du
 unfolding effects_of
 act_clears dev None h = absurd (false≢true h)
 act_clears dev (Some (act.Opens k)) h = absurd (false≢true (sym (opens_none dev k) ∙ h))
+act_clears dev (Some act.Stops) h = absurd (false≢true h)
+act_clears dev (Some (act.Restarts k)) h = absurd (false≢true (sym (restarts_none dev k) ∙ h))
+act_clears dev (Some (act.Clears other)) h = absurd (false≢true h)
 act_clears dev (Some (act.Orders order)) h = ap (λ (o : Order). Some (act.Orders o)) (clears dev order h)
-act_clears dev (Some (act.Identifies other)) h = absurd (false≢true h)
+act_clears dev (Some (act.Steps other stage)) h = absurd (false≢true (sym (steps_none dev other stage) ∙ h))
 act_clears dev (Some (act.Issues slot other queued)) h = absurd (false≢true (sym (issues_none dev slot other queued) ∙ h))
 
--- so the tick is that of the port's scan
-quiet_due : (b : Bool) (a : Option Act) (x : Act) → (if b then None else a) ≡ Some x → b ≡ false
-quiet_due true a x h = cc
-quiet_due false a x h = refl
-
-else_driver : (b : Bool) (x y : Driver) → b ≡ false → (if b then x else y) ≡ y
-else_driver true x y h = absurd (true≢false h)
-else_driver false x y h = refl
-
-cleared : (v : Sight) (d : Driver) (dev : ℕ) → list_any (flushes dev) (effects v d) ≡ true → after_tick v d ≡ acted (Some (act.Orders (Clear dev))) (seen v d)
+-- what is due tells what the driver comes to
+tick_of : (v : Sight) (file : TaskFile) (d : Driver) (a : Act) → due v d ≡ Some a → after_tick v file d ≡ acted (Some a) file (seen v d)
 unfolding after_tick
-cleared v d dev h =
-    let is : due v d ≡ Some (act.Orders (Clear dev)) = act_clears dev (due v d) h in
-    else_driver v.faulted d (acted (turn v d).act (seen v d)) (quiet_due v.faulted (turn v d).act _ is)
-    ∙ ap (λ (a : Option Act). acted a (seen v d)) (if_due v.faulted (turn v d).act None _ is)
+tick_of v file d a is = ap (λ (x : Option Act). acted x file (seen v d)) is
+
+-- so the tick is that of the port's scan
+cleared : (v : Sight) (file : TaskFile) (d : Driver) (dev : ℕ) → list_any (flushes dev) (effects v d) ≡ true → after_tick v file d ≡ acted (Some (act.Orders (Clear dev))) file (seen v d)
+cleared v file d dev h = tick_of v file d (act.Orders (Clear dev)) (act_clears dev (due v d) h)
 
 absent_set : (devices : List Device) (dev : ℕ) → get_or (set devices dev Absent) dev Absent ≡ Absent
 absent_set devices dev = elim (cases_lt dev (length devices)) [
@@ -112,12 +123,32 @@ absent_set devices dev = elim (cases_lt dev (length devices)) [
   | inr past ↦ get_or_past (set devices dev Absent) dev Absent (rw (length-set devices dev Absent) past)
 ]
 
-absent_after : (d : Driver) (dev : ℕ) → device_at (acted (Some (act.Orders (Clear dev))) d).plan dev ≡ Absent
+absent_after : (d : Driver) (file : TaskFile) (dev : ℕ) → device_at (acted (Some (act.Orders (Clear dev))) file d).plan dev ≡ Absent
 unfolding plan_after
-absent_after d dev = absent_set d.plan.devices dev
+absent_after d file dev = absent_set d.plan.devices dev
 
-leaves : (v : Sight) (d : Driver) (dev : ℕ) → list_any (flushes dev) (effects v d) ≡ true → device_at (after_tick v d).plan dev ≡ Absent
-leaves v d dev h = ap (λ (x : Driver). device_at x.plan dev) (cleared v d dev h) ∙ absent_after (seen v d) dev
+leaves : (v : Sight) (file : TaskFile) (d : Driver) (dev : ℕ) → list_any (flushes dev) (effects v d) ≡ true → device_at (after_tick v file d).plan dev ≡ Absent
+leaves v file d dev h = ap (λ (x : Driver). device_at x.plan dev) (cleared v file d dev h) ∙ absent_after (seen v d) file dev
+
+-- the device whose fault is cleared recovers
+then_plan : (b : Bool) (x y : Plan) → b ≡ true → (if b then x else y) ≡ x
+then_plan true x y h = refl
+then_plan false x y h = absurd (false≢true h)
+
+is_below : (dev : ℕ) → dev < 15 → nat_lt dev 15 ≡ true
+is_below dev h = grind (arith, nat_tests)
+
+recovers_after : (d : Driver) (file : TaskFile) (dev : ℕ) → dev < 15 → length d.plan.devices ≡ 15 → device_at (acted (Some (act.Clears dev)) file d).plan dev ≡ Recovering (recovery (device_at d.plan dev) file)
+unfolding plan_after
+recovers_after d file dev below long =
+    ap (λ (p : Plan). device_at p dev) (then_plan (nat_lt dev 15) (recovering dev file d.plan) (from_reset d.plan) (is_below dev below))
+    ∙ get_or-set_same d.plan.devices dev (Recovering (recovery (device_at d.plan dev) file)) Absent (omega (arith, below, long))
+
+recovers : (v : Sight) (file : TaskFile) (d : Driver) (dev : ℕ) → due v d ≡ Some (act.Clears dev) → dev < 15 → length d.plan.devices ≡ 15
+    → device_at (after_tick v file d).plan dev ≡ Recovering (recovery (device_at (turn v d).plan dev) file)
+recovers v file d dev is below long =
+    ap (λ (x : Driver). device_at x.plan dev) (tick_of v file d (act.Clears dev) is)
+    ∙ recovers_after (seen v d) file dev below ((goes_turn v d.plan (done_ended v.issued d.entries)).devices ∙ long)
 
 -- an open request of the device has ended so
 some_same : (e f : Entry) → Some e ≡ Some f → e ≡ f
@@ -135,29 +166,58 @@ none_some e P h = absurd (apart h)
 equal_is : (x y : ℕ) → x ≡ y → (x == y) ≡ true
 equal_is x y h = grind (arith, nat_tests)
 
-ended_by : (b : Bool) (e f : Entry) → (has_ended e.head ≡ false → b ≡ true) → (if b then Some (rephased (Ended Removed) e) else Some e) ≡ Some f → has_ended f.head ≡ true
-ended_by true e f h is = subst (λ (x : Entry). has_ended x.head ≡ true) (some_same (rephased (Ended Removed) e) f is) refl
-ended_by false e f h is = elim (cases_Bool (has_ended e.head)) [
-  | inl ended ↦ subst (λ (x : Entry). has_ended x.head ≡ true) (some_same e f is) ended
+-- what becomes of an entry of which a test holds, or that passes another anyway
+passes_by : (b : Bool) (phase : Phase) (test : Head → Bool) (e f : Entry) → test (rephased phase e).head ≡ true → (has_ended e.head ≡ true → test e.head ≡ true) → (has_ended e.head ≡ false → b ≡ true)
+    → (if b then Some (rephased phase e) else Some e) ≡ Some f → test f.head ≡ true
+passes_by true phase test e f there ended h is = subst (λ (x : Entry). test x.head ≡ true) (some_same (rephased phase e) f is) there
+passes_by false phase test e f there ended h is = elim (cases_Bool (has_ended e.head)) [
+  | inl over ↦ subst (λ (x : Entry). test x.head ≡ true) (some_same e f is) (ended over)
   | inr open' ↦ absurd (false≢true (h open'))
 ]
 
-dev_stays : (b : Bool) (e f : Entry) → (if b then Some (rephased (Ended Removed) e) else Some e) ≡ Some f → f.head.dev ≡ e.head.dev
-dev_stays true e f is = ap (λ (x : Entry). x.head.dev) (sym (some_same (rephased (Ended Removed) e) f is))
-dev_stays false e f is = ap (λ (x : Entry). x.head.dev) (sym (some_same e f is))
+dev_stays : (b : Bool) (phase : Phase) (e f : Entry) → (if b then Some (rephased phase e) else Some e) ≡ Some f → f.head.dev ≡ e.head.dev
+dev_stays true phase e f is = ap (λ (x : Entry). x.head.dev) (sym (some_same (rephased phase e) f is))
+dev_stays false phase e f is = ap (λ (x : Entry). x.head.dev) (sym (some_same e f is))
 
-ended_at : (dev s : ℕ) (o : Option Entry) (f : Entry) → rephase (is_open_of dev s) (Ended Removed) o ≡ Some f → f.head.dev ≡ dev → has_ended f.head ≡ true
-ended_at dev s None f is own = none_some f _ is
-ended_at dev s (Some e) f is own =
-    let same : (e.head.dev == dev) ≡ true = equal_is e.head.dev dev (sym (dev_stays (is_open_of dev s e.head) e f is) ∙ own) in
-    ended_by (is_open_of dev s e.head) e f (λ open'. rw (same, open') refl) is
+passes_at : (dev s : ℕ) (phase : Phase) (test : Head → Bool) → ((e : Entry) → test (rephased phase e).head ≡ true) → ((e : Entry) → has_ended e.head ≡ true → test e.head ≡ true) → (o : Option Entry) (f : Entry)
+    → rephase (is_open_of dev s) phase o ≡ Some f → f.head.dev ≡ dev → test f.head ≡ true
+passes_at dev s phase test there ended None f is own = none_some f _ is
+passes_at dev s phase test there ended (Some e) f is own =
+    let same : (e.head.dev == dev) ≡ true = equal_is e.head.dev dev (sym (dev_stays (is_open_of dev s e.head) phase e f is) ∙ own) in
+    passes_by (is_open_of dev s e.head) phase test e f (there e) (ended e) (λ open'. rw (same, open') refl) is
 
-removed_after : (d : Driver) (dev s : ℕ) (f : Entry) → entry_at (acted (Some (act.Orders (Clear dev))) d).entries s ≡ Some f → f.head.dev ≡ dev → has_ended f.head ≡ true
+removed_after : (d : Driver) (file : TaskFile) (dev s : ℕ) (f : Entry) → entry_at (acted (Some (act.Orders (Clear dev))) file d).entries s ≡ Some f → f.head.dev ≡ dev → has_ended f.head ≡ true
 unfolding entries_after
-removed_after d dev s f here own = ended_at dev s (entry_at d.entries s) f (sym (entry_of_rephased (is_open_of dev) (Ended Removed) d.entries s) ∙ here) own
+removed_after d file dev s f here own =
+    passes_at dev s (Ended Removed) has_ended (λ e. refl) (λ e h. h) (entry_at d.entries s) f (sym (entry_of_rephased (is_open_of dev) (Ended Removed) d.entries s) ∙ here) own
 
-ends : (v : Sight) (d : Driver) (dev s : ℕ) (e : Entry) → list_any (flushes dev) (effects v d) ≡ true → entry_at (after_tick v d).entries s ≡ Some e → e.head.dev ≡ dev → has_ended e.head ≡ true
-ends v d dev s e h here own = removed_after (seen v d) dev s e (ap (λ (x : Driver). entry_at x.entries s) (sym (cleared v d dev h)) ∙ here) own
+ends : (v : Sight) (file : TaskFile) (d : Driver) (dev s : ℕ) (e : Entry) → list_any (flushes dev) (effects v d) ≡ true → entry_at (after_tick v file d).entries s ≡ Some e → e.head.dev ≡ dev → has_ended e.head ≡ true
+ends v file d dev s e h here own = removed_after (seen v d) file dev s e (ap (λ (x : Driver). entry_at x.entries s) (sym (cleared v file d dev h)) ∙ here) own
+
+-- the requests of a device whose fault is cleared are set aside
+or_right : (a b : Bool) → b ≡ true → (a || b) ≡ true
+or_right true b h = refl
+or_right false b h = h
+
+withdrawn_after : (d : Driver) (file : TaskFile) (dev s : ℕ) (f : Entry) → entry_at (acted (Some (act.Clears dev)) file d).entries s ≡ Some f → f.head.dev ≡ dev → is_withdrawn f.head ≡ true
+unfolding entries_after
+withdrawn_after d file dev s f here own =
+    passes_at dev s Aside is_withdrawn (λ e. refl) (λ e h. or_right (is_aside e.head) (has_ended e.head) h) (entry_at d.entries s) f (sym (entry_of_rephased (is_open_of dev) Aside d.entries s) ∙ here) own
+
+withdraws : (v : Sight) (file : TaskFile) (d : Driver) (dev s : ℕ) (e : Entry) → due v d ≡ Some (act.Clears dev) → entry_at (after_tick v file d).entries s ≡ Some e → e.head.dev ≡ dev → is_withdrawn e.head ≡ true
+withdraws v file d dev s e is here own = withdrawn_after (seen v d) file dev s e (ap (λ (x : Driver). entry_at x.entries s) (sym (tick_of v file d (act.Clears dev) is)) ∙ here) own
+
+-- every request ends as the port is stopped
+stopped_at : (s : ℕ) (o : Option Entry) (f : Entry) → rephase (is_open s) (Ended PortError) o ≡ Some f → has_ended f.head ≡ true
+stopped_at s None f is = none_some f _ is
+stopped_at s (Some e) f is = passes_by (is_open s e.head) (Ended PortError) has_ended e f refl (λ h. h) (λ open'. rw open' refl) is
+
+stopped_after : (d : Driver) (file : TaskFile) (s : ℕ) (f : Entry) → entry_at (acted (Some act.Stops) file d).entries s ≡ Some f → has_ended f.head ≡ true
+unfolding entries_after
+stopped_after d file s f here = stopped_at s (entry_at d.entries s) f (sym (entry_of_rephased is_open (Ended PortError) d.entries s) ∙ here)
+
+stops : (v : Sight) (file : TaskFile) (d : Driver) (s : ℕ) (e : Entry) → due v d ≡ Some act.Stops → entry_at (after_tick v file d).entries s ≡ Some e → has_ended e.head ≡ true
+stops v file d s e is here = stopped_after (seen v d) file s e (ap (λ (x : Driver). entry_at x.entries s) (sym (tick_of v file d act.Stops is)) ∙ here)
 
 pub ticks_serve : TicksServe
-ticks_serve = record { ready = ready; leaves = leaves; ends = ends }
+ticks_serve = record { ready = ready; leaves = leaves; ends = ends; recovers = recovers; withdraws = withdraws; stops = stops }

@@ -1,13 +1,12 @@
 -- Each turn leaves it so that all that is issued is the driver's, and serves what is issued.
-use Rattle.std.proofs.Common.{◌≡◌, ◌≢◌, ℕ, ◌+◌, ◌*◌, ◌<◌, ◌≤◌, ◌⊎◌, Bool, true, false, ◌&&◌, ◌||◌, List, [], ◌∷◌, ◌++◌, length, replicate, set, refl, sym, ◌∙◌, ap, subst, inl, inr, arith, Option, Some, None}
+use Rattle.std.proofs.Common.{◌≡◌, ℕ, ◌+◌, ◌<◌, ◌≤◌, Bool, true, false, ◌&&◌, ◌||◌, List, [], ◌∷◌, ◌++◌, length, replicate, set, refl, sym, ◌∙◌, ap, subst, inl, inr, arith, Option, Some, None}
 use Rattle.std.specs.Prelude.{if◌then◌else◌, ◌==◌, ◌%◌, is_some, max, min, not, nat_lt}
-use Rattle.std.specs.List.{list_all, list_any}
-use Rattle.std.specs.Option.{option_map}
+use Rattle.std.specs.List.{list_any}
 use Rattle.std.proofs.lemmas.Bool.{cases_Bool, cases_eq, cases_lt, false≢true, le-ltb, or_parts, true≢false}
 use Rattle.std.proofs.lemmas.Bool.Decides.{nat_tests}
 use Rattle.std.proofs.lemmas.List.{get_or-replicate, get_or-set_other, get_or_past, length-replicate, length-set}
 use Rattle.fis_view.specs.Seen.{seen as seen_in}
-use Rattle.host_memory.specs.Memory.{IsHostMemory, Memory, is_memory_size}
+use Rattle.host_memory.specs.Memory.{Memory, is_memory_size}
 use Rattle.host_memory.specs.Reading.{AgreeFrom, share_byte, shares_with}
 use Rattle.host_memory.specs.declared.table.Prd.{Prd}
 use Rattle.hba_commands.specs.declared.command.Command.{Command}
@@ -21,13 +20,13 @@ use Rattle.hba_fbs.specs.Tables.{prds_of}
 use Rattle.hba_fbs.specs.Taking.{admitted, ignores, port_of}
 use Rattle.hba_fbs.specs.Views.{Port, last_command}
 use Rattle.hba_laws.specs.Client.{AreApart, By, IsKept, Puts, Touches, own}
-use Rattle.hba_laws.specs.Delivering.{SparesTables, event_sent, event_taken, is_control_issue, touched, touched_by_out}
+use Rattle.hba_laws.specs.Delivering.{SparesTables, event_taken, is_control_issue, touched, touched_by_out}
 use Rattle.hba_laws.specs.History.{Sent, SentControl, Transfer, issued}
 use Rattle.hba_laws.specs.Hosts as event
 use Rattle.hba_laws.specs.Hosts.{HostEvent}
 use Rattle.hba_laws.specs.Sound as sound
 use Rattle.hba_laws.proofs.DoneLemmas.{opens_untold}
-use Rattle.hba_laws.proofs.SpareLemmas.{NoneIssues, NotIssue, gives_commands, out_none, took_none}
+use Rattle.hba_laws.proofs.SpareLemmas.{NoneIssues, gives_commands, out_none, took_none}
 use Rattle.hba_driver.specs.declared.plan.Device.{Device}
 use Rattle.hba_driver.specs.declared.plan.Device.TheVariants.{Absent}
 use Rattle.hba_driver.specs.declared.request.Completion.{Completion}
@@ -37,34 +36,33 @@ use Rattle.hba_driver.specs.declared.request.SubmitError.{SubmitError}
 use Rattle.hba_driver.specs.declared.request.SubmitError.TheVariants as refusal
 use Rattle.hba_driver.specs.declared.sight.Sight.{Sight}
 use Rattle.hba_driver.specs.declared.slot.Phase.{Phase}
-use Rattle.hba_driver.specs.declared.slot.Phase.TheVariants.{Waits, Issued, Ended}
-use Rattle.hba_driver.specs.declared.turn.Act.{Act}
-use Rattle.hba_driver.specs.declared.turn.Act.TheVariants as act
+use Rattle.hba_driver.specs.declared.slot.Phase.TheVariants.{Waits, Issued, Aside, Ended}
 use Rattle.hba_driver.specs.declared.turn.Turn.{Turn}
-use Rattle.hba_driver.specs.Drivers.{Driver, Entry, device_at, entry_at, has_ended, has_ended_in, holds, is_issued, is_issued_in, new_driver, rephase, rephased}
-use Rattle.hba_driver.specs.Effects.{ActsAll, IsRuled, buffer_prd, is_effect, table_of}
-use Rattle.hba_driver.specs.Events.{IsSoundHost, events_of, events_of_effects, events_over, opening_host, shared_by}
+use Rattle.hba_driver.specs.Drivers.{Driver, Entry, device_at, entry_at, has_ended, has_ended_in, holds, is_aside, is_aside_in, is_issued, is_issued_in, new_driver, rephase, rephased}
+use Rattle.hba_driver.specs.Effects.{buffer_prd, table_of}
+use Rattle.hba_driver.specs.Events.{IsSoundHost, events_of, events_over, opening_host, shared_by}
 use Rattle.hba_driver.specs.HostTurns.{Does, DoesAll, Host, HostTurn, Took, Pushed, Ticked, Submitted, Polled, Put, sight_in}
 use Rattle.hba_driver.specs.Requests.{device_refusal, is_bad_prd}
 use Rattle.hba_driver.specs.Served.{AreBounded, HasCommand, HaveCommands, IsBounded, IsIssueOf, IsServed, RunServes, TurnsServe}
-use Rattle.hba_driver.specs.Sights.{sight_of}
-use Rattle.hba_driver.specs.Submits.{after_poll, after_submit, end_of, lowest_ended, new_entry, new_head, next_slot, submit_refusal}
-use Rattle.hba_driver.specs.Ticks.{acted, after_tick, done_ended, due, effects, effects_due, is_done, seen, turn}
-use Rattle.hba_driver.proofs.ApartLemmas.{issues_apart, kept_device, kept_one, puts_spare}
+use Rattle.hba_driver.specs.Sights.{file_shown, sight_of}
+use Rattle.hba_driver.specs.Submits.{after_submit, end_of, lowest_ended, new_entry, next_slot, submit_refusal}
+use Rattle.hba_driver.specs.Ticks.{after_tick, done_ended, is_done, seen, turn}
+use Rattle.hba_driver.proofs.ApartLemmas.{issues_apart, kept_device, puts_spare}
 use Rattle.hba_driver.proofs.DoneLemmas.{free_slot}
 use Rattle.hba_driver.proofs.DrivenLemmas.{not_below, turn_opens}
-use Rattle.hba_driver.proofs.DueLemmas.{Due, due_turn, goes_turn}
+use Rattle.hba_driver.proofs.DueLemmas.{goes_turn}
 use Rattle.hba_driver.proofs.EventLemmas.{beside, beside_area, beside_same, does_store, sound_beside}
+use Rattle.hba_driver.proofs.EndingLemmas.{MayEnd, each_act, may_end}
 use Rattle.hba_driver.proofs.HistoryLemmas.{PollFacts, back_of, free_below, free_other, freed, poll_facts}
-use Rattle.hba_driver.proofs.IssueLemmas.{Rest, calm_event, command_stays, rest_none, rest_then, spares_by, told_at}
+use Rattle.hba_driver.proofs.IssueLemmas.{calm_event, command_stays, rest_none, rest_then, spares_by, told_at}
 use Rattle.hba_driver.proofs.IssuingLemmas.{From}
-use Rattle.hba_driver.proofs.LifeLemmas.{entry_of_rephased, keeps_done, length_of_rephased}
+use Rattle.hba_driver.proofs.LifeLemmas.{due_seen, entry_of_rephased, keeps_seen, slots_seen, unaside_stays}
 use Rattle.hba_driver.proofs.RequestLemmas.{set_cases}
 use Rattle.hba_driver.proofs.ServingLemmas.{Follows, Goes, IsFree, beside_table, from_moves, moves_goes, not_busy, served_moves}
 use Rattle.hba_driver.proofs.SoundLemmas.{sound_host, sound_turn}
 use Rattle.hba_driver.proofs.StandLemmas.{agree_turn, header_area, in_slots, posted_beside, runs, same_memory, same_written, table_area}
 use Rattle.hba_driver.proofs.SubmitLemmas.{is_taken}
-use Rattle.hba_driver.proofs.TickingLemmas.{Needs, act_goes}
+use Rattle.hba_driver.proofs.TickingLemmas.{Needs}
 use Rattle.hba_driver.proofs.TurnLemmas.{first_none, framed_over, sound_shared, submit_open}
 
 -- ---- what a tick sees
@@ -81,6 +79,12 @@ else_entry : (b : Bool) (x y : Option Entry) → b ≡ false → (if b then x el
 else_entry true x y h = absurd (true≢false h)
 else_entry false x y h = refl
 
+issued_unaside : (p : Phase) → is_issued_in p ≡ true → is_aside_in p ≡ false
+issued_unaside Waits h = refl
+issued_unaside Issued h = refl
+issued_unaside Aside h = absurd (false≢true h)
+issued_unaside (Ended o) h = refl
+
 module _ (port : Port) (memory : Memory) (d : Driver) (past : Touches) (host : sound.IsHost (beside port memory)) (served : IsServed d (beside port memory) past) where
   -- what is issued has its bit
   bit_on : (n s : ℕ) (t : Transfer) → n < 16 → s < 32 → issued s (own n past) ≡ Some t → has_bit (sight_of port memory).issued s ≡ true
@@ -92,9 +96,10 @@ module _ (port : Port) (memory : Memory) (d : Driver) (past : Touches) (host : s
   seen_follows : Follows d (seen (sight_of port memory) d)
   seen_follows = record {
     devices = (goes_turn (sight_of port memory) d.plan (done_ended (sight_of port memory).issued d.entries)).devices;
-    slots = length_of_rephased (is_done (sight_of port memory).issued) (Ended Done) d.entries;
+    slots = slots_seen (sight_of port memory) d;
+    path = (goes_turn (sight_of port memory) d.plan (done_ended (sight_of port memory).issued d.entries)).low;
     entries = λ s f here.
-        let b = back_of (entry_at d.entries s) (entry_at (done_ended (sight_of port memory).issued d.entries) s) (keeps_done (sight_of port memory).issued d.entries s) f here in
+        let b = back_of (entry_at d.entries s) (entry_at (seen (sight_of port memory) d).entries s) (keeps_seen (sight_of port memory) d s) f here in
         (b.0, b.1, b.2.same);
   }
 
@@ -102,9 +107,13 @@ module _ (port : Port) (memory : Memory) (d : Driver) (past : Touches) (host : s
   seen_moves n s t below here from =
       let plan = goes_turn (sight_of port memory) d.plan (done_ended (sight_of port memory).issued d.entries) in
       from_moves d (seen (sight_of port memory) d) n s t
-      (λ f slot there goes of_dev. entry_of_rephased (is_done (sight_of port memory).issued) (Ended Done) d.entries s ∙ ap (rephase (is_done (sight_of port memory).issued s) (Ended Done)) there
-      ∙ else_entry (is_done (sight_of port memory).issued s f.head) (Some (rephased (Ended Done) f)) (Some f) (not_done (is_issued f.head) (has_bit (sight_of port memory).issued s) (bit_on n s t below (omega (arith, slot)) here)))
-      (λ is h. plan.identifying (subst (λ (k : ℕ). has_bit (sight_of port memory).issued k ≡ true) is (bit_on n s t below (omega (arith, is)) here)) ∙ h)
+      (λ f slot there goes of_dev.
+      let v : Sight = sight_of port memory in
+      let still : entry_at (done_ended v.issued d.entries) s ≡ Some f =
+      entry_of_rephased (is_done v.issued) (Ended Done) d.entries s ∙ ap (rephase (is_done v.issued s) (Ended Done)) there
+      ∙ else_entry (is_done v.issued s f.head) (Some (rephased (Ended Done) f)) (Some f) (not_done (is_issued f.head) (has_bit v.issued s) (bit_on n s t below (omega (arith, slot)) here)) in
+      unaside_stays v.log (turn v d).logged (done_ended v.issued d.entries) s (ap (holds is_aside) still ∙ issued_unaside f.head.phase goes) ∙ still)
+      (λ is x h a of_dev. plan.path (subst (λ (k : ℕ). has_bit (sight_of port memory).issued k ≡ true) is (bit_on n s t below (omega (arith, is)) here)) x h a)
       (λ is h. plan.asked (subst (λ (k : ℕ). has_bit (sight_of port memory).issued k ≡ true) is (bit_on n s t below (omega (arith, is)) here)) h)
       from
 
@@ -121,23 +130,13 @@ needs_area old s needs = elim (cases_Bool (nat_lt old.driver.plan.opened 7)) [
   | inr more ↦ s.registers.area (omega (arith, not_below old.driver.plan.opened 7 more))
 ]
 
--- while a fault stands nothing is done
-tick_by : (D : Driver) (fs : List HostEvent) (c : event.Host) (old : Host) (new : Port) (after : Memory) (b : Bool) → IsSoundHost old → list_all is_effect (effects_due (if b then None else (turn (sight_in old) old.driver).act)) ≡ true
-    → (acts : ActsAll (effects_due (if b then None else (turn (sight_in old) old.driver).act)) old.port old.memory new after)
-    → Goes D (if b then old.driver else acted (turn (sight_in old) old.driver).act (seen (sight_in old) old.driver)) fs c (beside new after)
-    → Goes D old.driver (events_of_effects (effects_due (if b then None else (turn (sight_in old) old.driver).act)) old.port old.memory new after acts ++ fs) c (shared_by old)
-tick_by D fs c old new after true s is acts go =
-    act_goes D old.driver fs c None old.port new old.memory after tt s.registers.commands (λ none. absurd none) s.ruled s.memory is acts go
-tick_by D fs c old new after false s is acts go = λ past served.
-    act_goes D (seen (sight_in old) old.driver) fs c (turn (sight_in old) old.driver).act old.port new old.memory after
-    (due_turn (sight_in old) old.driver.plan (done_ended (sight_in old).issued old.driver.entries)) s.registers.commands (needs_area old s) s.ruled s.memory is acts go
-    past (seen_served old.port old.memory old.driver past (sound_beside old.port old.memory s.ruled s.memory) served)
-
-tick_goes : (D : Driver) (fs : List HostEvent) (c : event.Host) (old : Host) (a : Bool) (new : Host) (h : Does old (Ticked a) new) → IsSoundHost old → Goes D new.driver fs c (shared_by new)
+tick_goes : (D : Driver) (fs : List HostEvent) (c : event.Host) (old : Host) (a : Bool) (new : Host) (h : Does old (Ticked a) new) → MayEnd (turn (sight_in old) old.driver).act old.port → IsSoundHost old → Goes D new.driver fs c (shared_by new)
     → Goes D old.driver (events_of old (Ticked a) new h ++ fs) c (shared_by old)
 unfolding after_tick
-tick_goes D fs c old a new h s go =
-    tick_by D fs c old new.port new.memory (sight_in old).faulted s h.possible h.does (subst (λ (d : Driver). Goes D d fs c (shared_by new)) h.driver go)
+tick_goes D fs c old a new h may s go = λ past served.
+    let v : Sight = sight_in old in
+    each_act D (seen v old.driver) v (file_shown new.port) fs c (turn v old.driver).act old.port new.port old.memory new.memory may (due_seen v old.driver) s.registers.commands (needs_area old s) s.ruled s.memory h.possible h.does
+    (subst (λ (d : Driver). Goes D d fs c (shared_by new)) h.driver go) past (seen_served old.port old.memory old.driver past (sound_beside old.port old.memory s.ruled s.memory) served)
 
 -- ---- commands stand over a turn
 
@@ -231,7 +230,7 @@ free_next d memory dev request h n t (inr (inr o)) = absurd (omega (arith, o.slo
 submit_moves : (d : Driver) (memory : Memory) (dev : ℕ) (request : Request) → submit_refusal d memory dev request ≡ None → (n s : ℕ) (t : Transfer) → From d n s t → From (after_submit d dev request) n s t
 submit_moves d memory dev request h n s t from =
     from_moves d (after_submit d dev request) n s t
-    (λ f below here goes of_dev. get_or-set_other d.entries (next_slot d) s _ None (free_other d memory dev request h s f here) ∙ here) (λ is h. h) (λ is h. h) from
+    (λ f below here goes of_dev. get_or-set_other d.entries (next_slot d) s _ None (free_other d memory dev request h s f here) ∙ here) (λ is x here a of_dev. here) (λ is h. h) from
 
 -- its command stands, and that of each other
 submit_served : (old : Host) (dev : ℕ) (request : Request) (ticket : ℕ) (new : Host) (past : Touches) → Does old (Submitted dev request ticket) new → IsServed old.driver (shared_by new) past → IsServed (after_submit old.driver dev request) (shared_by new) past
@@ -239,6 +238,7 @@ submit_served old dev request ticket new past h served = record {
   told = served.told;
   bounded = record {
     devices = served.bounded.devices;
+    path = served.bounded.path;
     slots = length-set old.driver.entries (next_slot old.driver) _ ∙ served.bounded.slots;
     entries = λ s f here. elim (set_cases old.driver.entries (next_slot old.driver) (Some (new_entry (old.driver.given + 1) dev request)) s f here) [
       | inl at ↦ subst IsBounded (some_same (new_entry (old.driver.given + 1) dev request) f at.1) (new_bounded old.driver old.memory dev request (old.driver.given + 1) served.bounded.devices h.accepted)
@@ -264,6 +264,7 @@ submit_served old dev request ticket new past h served = record {
 ended_not : (p : Phase) → has_ended_in p ≡ true → is_issued_in p ≡ true → ⊥
 ended_not Waits h k = false≢true h
 ended_not Issued h k = false≢true h
+ended_not Aside h k = false≢true k
 ended_not (Ended o) h k = false≢true k
 
 poll_ended : (d : Driver) (c : Completion) (f : PollFacts d c) → has_ended f.entry.head ≡ true
@@ -276,6 +277,7 @@ module _ (d : Driver) (c : Completion) (f : PollFacts d c) where
   poll_follows : Follows d (record d { entries = set d.entries f.place None })
   poll_follows = record {
     devices = refl;
+    path = λ h. h;
     slots = length-set d.entries f.place None;
     entries = λ s x here. elim (set_cases d.entries f.place None s x here) [
       | inl at ↦ none_some x at.1
@@ -287,7 +289,7 @@ module _ (d : Driver) (c : Completion) (f : PollFacts d c) where
       none_some x h = cc
 
   poll_moves : (n s : ℕ) (t : Transfer) → From d n s t → From (record d { entries = set d.entries f.place None }) n s t
-  poll_moves n s t from = from_moves d (record d { entries = set d.entries f.place None }) n s t (λ x below here goes of_dev. there x here goes) (λ is h. h) (λ is h. h) from
+  poll_moves n s t from = from_moves d (record d { entries = set d.entries f.place None }) n s t (λ x below here goes of_dev. there x here goes) (λ is x here a of_dev. here) (λ is h. h) from
     where
       there : (x : Entry) → entry_at d.entries s ≡ Some x → is_issued x.head ≡ true → entry_at (set d.entries f.place None) s ≡ Some x
       there x here goes = elim (cases_eq s f.place) [
@@ -319,7 +321,7 @@ turn_goes D fs c old (Pushed frame) new h s n go = λ past served.
     (same_driver D fs c old new h.driver go (touched (shared_by old) (event.Gave frame) ++ past)
     (calm_event old.driver (shared_by old) (shared_by new) (event.Gave frame) past host tt does (out_none (shared_by old) (outgoing old.port old.memory))
     (gives_commands (outgoing old.port old.memory) old.port new.port old.memory frame h.gives) (stands_turn old (Pushed frame) new h s n served.bounded served.commands) served))
-turn_goes D fs c old (Ticked a) new h s n go = tick_goes D fs c old a new h s go
+turn_goes D fs c old (Ticked a) new h s n go = tick_goes D fs c old a new h (may_end old s) s go
 turn_goes D fs c old (Submitted dev request ticket) new h s n go = λ past served.
     let host = sound_shared old s in
     let below : next_slot old.driver < 30 = free_below old.driver old.memory dev request h.accepted in
@@ -399,7 +401,7 @@ none_issued d n s t h = cc
 opens : (given len : ℕ) → is_memory_size len ≡ true → IsServed (new_driver given) (shared_by (opening_host given len)) []
 opens given len h = record {
   told = λ n below. opens_untold n (shared_by (opening_host given len)).memory;
-  bounded = record { devices = length-replicate {A = Device} 15 Absent; slots = length-replicate {A = Option Entry} 30 None; entries = λ s e here. none_here s e here };
+  bounded = record { devices = length-replicate {A = Device} 15 Absent; path = tt; slots = length-replicate {A = Option Entry} 30 None; entries = λ s e here. none_here s e here };
   commands = λ s e here. none_here s e here;
   issues = λ n s t here. none_issued (new_driver given) n s t here;
   tables = λ s command is. no_command s command is;

@@ -1,13 +1,11 @@
 -- What each effect of a tick leaves of it that all that is issued is the driver's.
-use Rattle.std.proofs.Common.{◌≡◌, ◌≢◌, ℕ, ◌+◌, ◌*◌, ◌^◌, ◌<◌, ◌≤◌, ◌⊎◌, Bool, true, false, cond, eqb, ◌&&◌, List, [], ◌∷◌, ◌++◌, length, replicate, refl, sym, ◌∙◌, ap, subst, inl, inr, arith, append_assoc, Option, Some, None}
-use Rattle.std.specs.Prelude.{MatchOption, if◌then◌else◌, is_some, not}
-use Rattle.std.specs.List.{list_all}
-use Rattle.std.proofs.lemmas.Bool.{cases_Bool, cases_eq, cases_lt, eq-eqb, false≢true, true≢false}
+use Rattle.std.proofs.Common.{◌≡◌, ◌≢◌, ℕ, ◌+◌, ◌*◌, ◌^◌, ◌<◌, Bool, true, false, cond, List, [], ◌∷◌, ◌++◌, length, replicate, refl, sym, ◌∙◌, ap, subst, inl, inr, arith, append_assoc, Option, Some, None}
+use Rattle.std.specs.Prelude.{MatchOption, is_some}
+use Rattle.std.proofs.lemmas.Bool.{cases_lt, eq-eqb, true≢false}
 use Rattle.std.proofs.lemmas.List.{length-replicate}
 use Rattle.host_memory.specs.Memory.{IsHostMemory, Memory}
-use Rattle.host_memory.specs.Reading.{AgreeFrom, LieApart}
+use Rattle.host_memory.specs.Reading.{LieApart}
 use Rattle.host_memory.specs.declared.table.Prd.{Prd}
-use Rattle.hba_commands.specs.declared.command.Command.{Command}
 use Rattle.hba_commands.specs.Headers.{header_place}
 use Rattle.slots.specs.Slots.{Issue, issue_at, match_some}
 use Rattle.fis_view.specs.declared.build.H2dFields.{H2dFields}
@@ -22,7 +20,7 @@ use Rattle.hba_fbs.specs.Views.{Port}
 use Rattle.hba_fbs.specs.Writing.{Accepts, cleared_by, commands_after, write_refusal}
 use Rattle.hba_laws.specs.Client.{By, IsKept, Stops, Touches, own}
 use Rattle.hba_laws.specs.Delivering.{SparesTables, touched, touched_by_clear, touched_by_write}
-use Rattle.hba_laws.specs.History.{Emptied, Event, Transfer, issued}
+use Rattle.hba_laws.specs.History.{Emptied, Transfer, issued}
 use Rattle.hba_laws.specs.Hosts as event
 use Rattle.hba_laws.specs.Hosts.{HostEvent}
 use Rattle.hba_laws.specs.Sound as sound
@@ -30,17 +28,17 @@ use Rattle.hba_laws.proofs.SpareLemmas.{NoneIssues, NotIssue, clear_none, falls_
 use Rattle.hba_laws.proofs.StandLemmas.{the}
 use Rattle.hba_driver.specs.declared.effect.Effect.{Effect}
 use Rattle.hba_driver.specs.declared.effect.Effect.TheVariants as effect
-use Rattle.hba_driver.specs.Drivers.{Driver, Entry, entry_at, is_issued, rephased}
-use Rattle.hba_driver.specs.Effects.{Acts, ActsAll, IsRuled, Tries, is_effect, prds_with, table_of}
-use Rattle.hba_driver.specs.Events.{events_of_effect, events_of_effects, wrote_to}
-use Rattle.hba_driver.specs.Laws.{Stands}
+use Rattle.hba_driver.specs.declared.path.Path.{Path}
+use Rattle.hba_driver.specs.Drivers.{Driver, Entry, IsPath, entry_at, is_issued, rephased}
+use Rattle.hba_driver.specs.Effects.{Acts, Tries, is_effect, prds_with, table_of}
+use Rattle.hba_driver.specs.Events.{events_of_effect, wrote_to}
 use Rattle.hba_driver.specs.Orders.{request_fields}
 use Rattle.hba_driver.specs.Served.{AreBounded, HasCommand, HaveCommands, IsBounded, IsServed}
 use Rattle.hba_driver.proofs.DrivenLemmas.{refusal_is}
 use Rattle.hba_driver.proofs.EventLemmas.{beside, beside_area, beside_same, does_store}
 use Rattle.hba_driver.proofs.IssueLemmas.{Rest, calm_event, command_stays, rest_then, spares_by, told_of}
 use Rattle.hba_driver.proofs.IssuingLemmas.{From, MayIssue, Standing, ci_served, kept_below}
-use Rattle.hba_driver.proofs.StandLemmas.{IsArea, Same, few_prds, header_area, in_slots, late, lt_of, same_act, same_beside, same_written, table_area}
+use Rattle.hba_driver.proofs.StandLemmas.{Same, few_prds, header_area, in_slots, late, lt_of, same_act, same_beside, same_written, table_area}
 
 -- ---- the driver goes on
 
@@ -48,11 +46,13 @@ use Rattle.hba_driver.proofs.StandLemmas.{IsArea, Same, few_prds, header_area, i
 pub record Follows (d e : Driver) : Type 0 where
   pub devices : length e.plan.devices ≡ length d.plan.devices
   pub slots : length e.entries ≡ length d.entries
+  pub path : IsPath d.plan.path → IsPath e.plan.path
   pub entries : (s : ℕ) (f : Entry) → entry_at e.entries s ≡ Some f → (x : Entry) × (entry_at d.entries s ≡ Some x) × (f ≡ rephased f.head.phase x)
 
 bounded_follows : (d e : Driver) → Follows d e → AreBounded d → AreBounded e
 bounded_follows d e h b = record {
   devices = h.devices ∙ b.devices;
+  path = h.path b.path;
   slots = h.slots ∙ b.slots;
   entries = λ s f here.
       let was = h.entries s f here in
@@ -81,11 +81,12 @@ served_moves d e h past follows moves served = record {
 
 pub from_moves : (d e : Driver) (n s : ℕ) (t : Transfer)
     → ((f : Entry) → s < 30 → entry_at d.entries s ≡ Some f → is_issued f.head ≡ true → f.head.dev ≡ n → entry_at e.entries s ≡ Some f)
-    → (s ≡ 30 → d.plan.identifying ≡ Some n → e.plan.identifying ≡ Some n) → (s ≡ 31 → d.plan.asked ≡ true → e.plan.asked ≡ true) → From d n s t → From e n s t
-from_moves d e n s t entry identifying asks (inl r) =
+    → (s ≡ 30 → (x : Path) → d.plan.path ≡ Some x → x.asked ≡ true → x.dev ≡ n → e.plan.path ≡ Some x) → (s ≡ 31 → d.plan.asked ≡ true → e.plan.asked ≡ true) → From d n s t → From e n s t
+from_moves d e n s t entry step asks (inl r) =
     inl (record { slot = r.slot; entry = r.entry; stands = entry r.entry r.slot r.stands r.goes r.of_dev; of_dev = r.of_dev; goes = r.goes; table = r.table; reads = r.reads })
-from_moves d e n s t entry identifying asks (inr (inl i)) = inr (inl (record { slot = i.slot; of_dev = identifying i.slot i.of_dev; table = i.table }))
-from_moves d e n s t entry identifying asks (inr (inr o)) = inr (inr (record { slot = o.slot; of_dev = o.of_dev; goes = asks o.slot o.goes; table = o.table }))
+from_moves d e n s t entry step asks (inr (inl i)) =
+    inr (inl (record { slot = i.slot; path = i.path; goes = step i.slot i.path i.goes i.asked i.of_dev; asked = i.asked; of_dev = i.of_dev; table = i.table }))
+from_moves d e n s t entry step asks (inr (inr o)) = inr (inr (record { slot = o.slot; of_dev = o.of_dev; goes = asks o.slot o.goes; table = o.table }))
 
 -- ---- what follows
 
@@ -191,6 +192,33 @@ pub write_goes : (D d : Driver) (fs : List HostEvent) (c : event.Host) (offset v
 write_goes D d fs c offset value old new before after calm host acts go =
     write_by D d fs c (write_refusal old before offset value) (register_at offset) offset value old new before after refl refl calm host acts.0 acts.1 go
 
+-- a write that the port takes and that issues nothing, after which the driver is another: what follows is asked of the
+-- past with the touches of this write alone
+taken_here : (D d e : Driver) (fs : List HostEvent) (c : event.Host) (register : Register) (offset value : ℕ) (old new : Port) (before after : Memory) → register_at offset ≡ Some register
+    → write_refusal old before offset value ≡ None → is_ci register ≡ false → Follows d e
+    → ((past : Touches) (n s : ℕ) (t : Transfer) → n < 16 → issued s (own n (touched_by_write register (beside old before) value ++ past)) ≡ Some t → From d n s t → From e n s t)
+    → sound.IsHost (beside old before) → Acts (effect.Writes offset value) old before new after → Goes D e fs c (beside new after) → Goes D d (event.Wrote register value ∷ fs) c (beside old before)
+taken_here D d e fs c register offset value old new before after at is calm follows moves host acts go = λ past served.
+    let accepts : Accepts old before register value new = accepts_at old new before offset value (Some register) at acts.0 is in
+    let does : event.Does (beside old before) (event.Wrote register value) (beside new after) = (sym (refusal_is register offset value old before at) ∙ is, accepts, acts.1) in
+    let touches : Touches = touched_by_write register (beside old before) value in
+    let later : IsServed d (beside new after) (touches ++ past) =
+    calm_event d (beside old before) (beside new after) (event.Wrote register value) past host tt does (calm_write register (beside old before) value calm)
+    (accepts.commands ∙ commands_calm register old before value calm) (subst (HaveCommands d) (sym acts.1) served.commands) served in
+    rest_then D (beside old before) (beside new after) c (event.Wrote register value) fs past does host (spares_same (beside old before) (beside new after) acts.1)
+    (kept_write register (beside old before) value past)
+    (go (touches ++ past) (served_moves d e (beside new after) (touches ++ past) follows (λ n s t below here from. moves past n s t below here from) later))
+
+pub taken_goes : (D d e : Driver) (fs : List HostEvent) (c : event.Host) (register : Register) (offset value : ℕ) (old new : Port) (before after : Memory) → register_at offset ≡ Some register
+    → write_refusal old before offset value ≡ None → is_ci register ≡ false → Follows d e
+    → ((past : Touches) (n s : ℕ) (t : Transfer) → n < 16 → issued s (own n (touched_by_write register (beside old before) value ++ past)) ≡ Some t → From d n s t → From e n s t)
+    → sound.IsHost (beside old before) → Acts (effect.Writes offset value) old before new after → Goes D e fs c (beside new after)
+    → Goes D d (events_of_effect (effect.Writes offset value) old before after ++ fs) c (beside old before)
+taken_goes D d e fs c register offset value old new before after at is calm follows moves host acts go =
+    subst (λ (o : Option WriteError). Goes D d (match_some o (wrote_to (register_at offset) value) (λ x. []) ++ fs) c (beside old before)) (sym is)
+    (subst (λ (r : Option Register). Goes D d (wrote_to r value ++ fs) c (beside old before)) (sym at)
+    (taken_here D d e fs c register offset value old new before after at is calm follows moves host acts go))
+
 -- the write of PxCI that issues what stands in a slot
 ci_by : (D d : Driver) (fs : List HostEvent) (c : event.Host) (o : Option WriteError) (offset slot dev : ℕ) (prds : List Prd) (fields : H2dFields) (old new : Port) (before after : Memory)
     → slot < 32 → dev < 16 → old.registers.clb ≡ 0 → Standing slot dev prds fields before → MayIssue d slot dev prds fields
@@ -216,7 +244,7 @@ ci_goes D d fs c offset slot dev prds fields old new before after below dev_belo
 
 -- ---- a device is flushed
 
-not_flushed : (n s dev : ℕ) (t : Transfer) (past : Touches) → issued s (own n (By dev Emptied ∷ past)) ≡ Some t → n ≢ dev
+pub not_flushed : (n s dev : ℕ) (t : Transfer) (past : Touches) → issued s (own n (By dev Emptied ∷ past)) ≡ Some t → n ≢ dev
 not_flushed n s dev t past h same =
     let own_is : own n (By dev Emptied ∷ past) ≡ Emptied ∷ own n past = ap (λ b. cond b (Emptied ∷ own n past) (own n past)) (eq-eqb dev n (sym same)) in
     let bad : None ≡ Some t = ap (issued s) (sym own_is) ∙ h in

@@ -1,102 +1,41 @@
 -- What is true of port, driver and memory together as they open, and after each turn.
-use Rattle.std.proofs.Common.{◌≡◌, ℕ, ◌+◌, ◌<◌, Bool, true, List, [], ◌∷◌, length, drop, replicate, get_or, refl, sym, ◌∙◌, ap, subst, inl, inr, arith, Option, Some, None}
+use Rattle.std.proofs.Common.{◌≡◌, ℕ, ◌+◌, ◌<◌, ◌≤◌, Bool, true, List, [], ◌∷◌, length, drop, replicate, get_or, refl, sym, ◌∙◌, ap, subst, inl, inr, arith, Option, Some, None}
 use Rattle.std.specs.Prelude.{is_none, not}
 use Rattle.std.specs.List.{list_all}
 use Rattle.std.specs.Option.{option_or}
 use Rattle.std.proofs.lemmas.Bool.{cases_Bool, cases_lt, false≢true}
 use Rattle.std.proofs.lemmas.List.{get_or-replicate, get_or_past, length-drop, length-replicate}
-use Rattle.fis_view.specs.Frames.{Stamped}
 use Rattle.fis_view.specs.Seen.{seen}
 use Rattle.fis_view.specs.declared.view.Fis.{Fis}
-use Rattle.fis_view.specs.declared.view.Fis.TheVariants as view
 use Rattle.host_memory.specs.Memory.{IsHostMemory, Memory}
 use Rattle.slots.specs.Slots.{match_some}
-use Rattle.hba_fbs.specs.declared.hearing.Heard.{Heard}
 use Rattle.hba_fbs.specs.declared.registers.Registers.{Registers}
 use Rattle.hba_fbs.specs.declared.report.TakeReport.{TakeReport}
-use Rattle.hba_fbs.specs.Posting.{posted}
-use Rattle.hba_fbs.specs.Sending.{Data, Gives, Nothing, Order, Outgoing, Unreadable, outgoing}
-use Rattle.hba_fbs.specs.Taking.{PostsOf, admitted, heard_now, ignores, port_of, posted_of, settled}
-use Rattle.hba_fbs.specs.Views.{Port, view_of}
+use Rattle.hba_fbs.specs.Sending.{outgoing}
+use Rattle.hba_fbs.specs.Taking.{PostsOf, admitted, ignores, port_of}
+use Rattle.hba_fbs.specs.Views.{Port}
 use Rattle.hba_laws.specs.Hosts as event
 use Rattle.hba_laws.proofs.KeptLemmas.{client_lens}
 use Rattle.hba_laws.proofs.SoundLemmas.{opens_sound}
 use Rattle.hba_driver.specs.declared.effect.Effect.{Effect}
+use Rattle.hba_driver.specs.declared.path.TaskFile.{TaskFile}
+use Rattle.hba_driver.specs.declared.turn.Act.{Act}
 use Rattle.hba_driver.specs.declared.plan.Device.TheVariants.{Absent}
 use Rattle.hba_driver.specs.declared.plan.Plan.{Plan}
 use Rattle.hba_driver.specs.declared.request.Request.{Request}
 use Rattle.hba_driver.specs.Drivers.{AreRequests, Driver, Entry, entry_at}
-use Rattle.hba_driver.specs.Effects.{ActsAll, IsRuled, is_effect, opening_write}
+use Rattle.hba_driver.specs.Effects.{ActsAll, IsRuled, is_effect, opening_write, restart_write}
 use Rattle.hba_driver.specs.Events.{AreDriven, HostsAreSound, IsSoundHost, KnowsNone, opening_host, shared_by}
 use Rattle.hba_driver.specs.HostTurns.{AreHosts, Does, DoesAll, Host, HostTurn, IsHost, Took, Pushed, Ticked, Submitted, Polled, Put, sight_in}
+use Rattle.hba_driver.specs.Sights.{file_shown}
 use Rattle.hba_driver.specs.Submits.{after_poll, lowest_ended, next_slot}
-use Rattle.hba_driver.specs.Ticks.{after_tick, effects}
-use Rattle.hba_driver.proofs.DrivenLemmas.{driven_open, driven_opens, none_ticked, past, tick_is}
-use Rattle.hba_driver.proofs.EffectLemmas.{none_acts}
+use Rattle.hba_driver.specs.Ticks.{after_tick, effects, effects_due, turn}
+use Rattle.hba_driver.proofs.DrivenLemmas.{SamePlace, Way, driven_open, none_ticked, past, started_effects, tick_is}
 use Rattle.hba_driver.proofs.EventLemmas.{Left, beside_area, left_effects, same_sizes, sized, sized_effect}
 use Rattle.hba_driver.proofs.HistoryLemmas.{free_below, requests_turn}
+use Rattle.hba_driver.proofs.OpenLemmas.{Stays, opens_taken, restart_taken, stays_driven, stays_gives, stays_port, stays_took}
 use Rattle.hba_driver.proofs.StandLemmas.{both, runs}
 use Rattle.hba_driver.proofs.SubmitLemmas.{is_taken}
-
--- ---- what a frame leaves of the registers
-
--- the places of command list and received area stay, and FRE and ST
-record Kept (r s : Registers) : Type 0 where
-  pub list : s.clb ≡ r.clb
-  pub area : s.fb ≡ r.fb
-  pub receives : s.receives ≡ r.receives
-  pub starts : s.started ≡ r.started
-
-kept_same : (r s : Registers) → s ≡ r → Kept r s
-kept_same r s is = record {
-  list = ap (λ (x : Registers). x.clb) is;
-  area = ap (λ (x : Registers). x.fb) is;
-  receives = ap (λ (x : Registers). x.receives) is;
-  starts = ap (λ (x : Registers). x.started) is;
-}
-
-kept_port : (p q : Port) → q ≡ p → Kept p.registers q.registers
-kept_port p q is = kept_same p.registers q.registers (ap (λ (x : Port). x.registers) is)
-
-kept_driven : (n : ℕ) (r s : Registers) → Kept r s → AreDriven n r → AreDriven n s
-kept_driven n r s k d = record { commands = k.list ∙ d.commands; area = λ h. k.area ∙ d.area h; closed = λ h. k.receives ∙ d.closed h; stopped = λ h. k.starts ∙ d.stopped h }
-
-kept_posted : (r : Registers) (dev : ℕ) (b : Bool) (fis : Option Fis) → Kept r (posted_of r dev b fis)
-unfolding posted
-kept_posted r dev b None = record { list = refl; area = refl; receives = refl; starts = refl }
-kept_posted r dev b (Some (view.RegH2D f)) = record { list = refl; area = refl; receives = refl; starts = refl }
-kept_posted r dev b (Some (view.RegD2H f)) = record { list = refl; area = refl; receives = refl; starts = refl }
-kept_posted r dev b (Some (view.SetBits f)) = record { list = refl; area = refl; receives = refl; starts = refl }
-kept_posted r dev b (Some (view.DmaActivate f)) = record { list = refl; area = refl; receives = refl; starts = refl }
-kept_posted r dev b (Some (view.DmaSetup f)) = record { list = refl; area = refl; receives = refl; starts = refl }
-kept_posted r dev b (Some (view.PioSetup f)) = record { list = refl; area = refl; receives = refl; starts = refl }
-kept_posted r dev b (Some (view.Payload f)) = record { list = refl; area = refl; receives = refl; starts = refl }
-kept_posted r dev b (Some (view.Unknown f)) = record { list = refl; area = refl; receives = refl; starts = refl }
-
-kept_settled : (r : Registers) (dev : ℕ) (b : Bool) (fis : Option Fis) (h : Heard) → Kept r (settled (posted_of r dev b fis) h)
-unfolding settled
-kept_settled r dev b fis h =
-    let k : Kept r (posted_of r dev b fis) = kept_posted r dev b fis in
-    record { list = k.list; area = k.area; receives = k.receives; starts = k.starts }
-
-kept_gives : (o : Outgoing) (old : Port) (memory : Memory) (frame : Option Stamped) (new : Port) → Gives o old memory frame new → Kept old.registers new.registers
-kept_gives Nothing old memory frame new gives = kept_port old new gives.1
-kept_gives (Unreadable dev) old memory frame new gives =
-    subst (Kept old.registers) (sym (ap (λ (p : Port). p.registers) gives.1)) (record { list = refl; area = refl; receives = refl; starts = refl })
-kept_gives (Data dev offset len command) old memory None new gives = absurd gives
-kept_gives (Data dev offset len command) old memory (Some f) new gives = kept_same old.registers new.registers gives.registers
-kept_gives (Order dev slot command) old memory None new gives = absurd gives
-kept_gives (Order dev slot command) old memory (Some f) new gives = kept_same old.registers new.registers gives.registers
-
-kept_took : (old new : Host) (frame : List ℕ) (report : TakeReport) → Does old (Took frame report) new → Kept old.port.registers new.port.registers
-kept_took old new frame report h =
-    let dev : ℕ = port_of frame in
-    let fis : Option Fis = admitted dev (seen frame) in
-    elim (cases_Bool (ignores dev old.port frame)) [
-      | inl skip ↦ kept_port old.port new.port (h.ignored skip).port
-      | inr heard ↦
-          subst (Kept old.port.registers) (sym (h.heard heard).registers) (kept_settled old.port.registers dev (view_of dev old.port).state.resetting fis (heard_now old.port old.memory dev fis))
-    ]
 
 -- ---- what a frame leaves of memory
 
@@ -107,8 +46,8 @@ posted_len fb dev (Some fis) s t at long h =
     omega (arith, behind, length-drop (fb + 4096) t, length-drop (fb + 4096) s, at, long)
 
 -- the received area of a port that runs is the driver's
-pub started_area : (n : ℕ) (r : Registers) → AreDriven n r → r.started ≡ true → r.fb ≡ 4096
-started_area n r d starts = elim (cases_lt n 7) [
+pub started_area : (n m : ℕ) (r : Registers) → AreDriven n m r → r.started ≡ true → r.fb ≡ 4096
+started_area n m r d starts = elim (cases_lt n 7) [
   | inl less ↦ absurd (false≢true (sym (d.stopped (omega (arith, less))) ∙ starts))
   | inr least ↦ d.area (omega (arith, least))
 ]
@@ -118,7 +57,7 @@ took_structure old new frame report h s = elim (cases_Bool (ignores (port_of fra
   | inl skip ↦ ap (λ (m : Memory). length m.structure) (h.ignored skip).memory
   | inr heard ↦
       posted_len old.port.registers.fb (port_of frame) (admitted (port_of frame) (seen frame)) old.memory.structure new.memory.structure
-      (started_area old.driver.plan.opened old.port.registers s.registers (runs old.port frame heard)) s.memory.structure_len (h.heard heard).structure
+      (started_area old.driver.plan.opened old.driver.plan.restarted old.port.registers s.registers (runs old.port frame heard)) s.memory.structure_len (h.heard heard).structure
 ]
 
 took_client : (old new : Host) (frame : List ℕ) (report : TakeReport) → Does old (Took frame report) new → length new.memory.client ≡ length old.memory.client
@@ -135,12 +74,13 @@ same_ruled : (old new : Host) → new.port ≡ old.port → IsSoundHost old → 
 same_ruled old new is s = subst IsRuled (sym is) s.ruled
 
 -- it leaves the plan
-sound_by : (old : Host) (t : HostTurn) (new : Host) → Does old t new → IsSoundHost old → IsRuled new.port → IsHostMemory new.memory → Kept old.port.registers new.port.registers → new.driver.plan ≡ old.driver.plan → IsSoundHost new
+sound_by : (old : Host) (t : HostTurn) (new : Host) → Does old t new → IsSoundHost old → IsRuled new.port → IsHostMemory new.memory → Stays old.port.registers new.port.registers → new.driver.plan ≡ old.driver.plan → IsSoundHost new
 sound_by old t new h s ruled memory kept plan = record {
   ruled = ruled;
   memory = memory;
   requests = requests_turn old t new h s.requests;
-  registers = subst (λ (p : Plan). AreDriven p.opened new.port.registers) (sym plan) (kept_driven old.driver.plan.opened old.port.registers new.port.registers kept s.registers);
+  registers = subst (λ (p : Plan). AreDriven p.opened p.restarted new.port.registers) (sym plan)
+      (stays_driven old.driver.plan.opened old.driver.plan.restarted old.port.registers new.port.registers kept s.registers);
   devices = subst KnowsNone (sym plan) s.devices;
 }
 
@@ -161,47 +101,64 @@ polled_plan d = by_slot (lowest_ended d.entries)
 acts_of : (es fs : List Effect) (old new : Port) (before after : Memory) → es ≡ fs → ActsAll es old before new after → ActsAll fs old before new after
 acts_of es fs old new before after is h = subst (λ (x : List Effect). ActsAll x old before new after) is h
 
-opened_sound : (k : ℕ) → k < 7 → (old new : Port) (before after : Memory) → list_all is_effect (opening_write k ∷ []) ≡ true → ActsAll (opening_write k ∷ []) old before new after → IsHostMemory before → AreDriven k old.registers
-    → IsHostMemory after × AreDriven (k + 1) new.registers
+opened_sound : (k m : ℕ) → k < 7 → (old new : Port) (before after : Memory) → list_all is_effect (opening_write k ∷ []) ≡ true → ActsAll (opening_write k ∷ []) old before new after → IsHostMemory before → AreDriven k m old.registers
+    → IsHostMemory after × AreDriven (k + 1) m new.registers
 unfolding ActsAll
-opened_sound k less old new before after is h m d = (
-  same_sizes h.1 after h.4.1 (sized_effect (opening_write k) old h.0 before h.1 (both (is_effect (opening_write k)) true is).0 h.2 m),
-  subst (λ (p : Port). AreDriven (k + 1) p.registers) (sym h.4.0) (driven_opens k less old h.0 before h.1 h.2 d),
+opened_sound k m less old new before after is h sizes d = (
+  same_sizes h.1 after h.4.1 (sized_effect (opening_write k) old h.0 before h.1 (both (is_effect (opening_write k)) true is).0 h.2 sizes),
+  subst (λ (p : Port). AreDriven (k + 1) m p.registers) (sym h.4.0) (opens_taken k m less old h.0 before h.1 h.2 d).1,
 )
+
+restarted_driven : (k n : ℕ) → k < 2 → 7 ≤ n → (old new : Port) (before after : Memory) → ActsAll (restart_write k ∷ []) old before new after → AreDriven n k old.registers → AreDriven n (k + 1) new.registers
+unfolding ActsAll
+restarted_driven k n less least old new before after h d =
+    subst (λ (p : Port). AreDriven n (k + 1) p.registers) (sym h.4.0) (restart_taken k n less least old h.0 before h.1 h.2 d).1
+
+-- whatever an open port is told
+driven_by : (a : Option Act) (n m k : ℕ) (old new : Port) (before after : Memory) → Way a m k → 7 ≤ n → SamePlace old.registers new.registers → ActsAll (effects_due a) old before new after → AreDriven n m old.registers
+    → AreDriven n k new.registers
+driven_by a n m k old new before after (inl steady) least same acts d =
+    driven_open n m k old.registers new.registers least same (λ h. started_effects (effects_due a) old new before after steady.firm_is acts ∙ d.starts least (subst (λ (j : ℕ). 2 ≤ j) steady.same h)) d
+driven_by a n m k old new before after (inr (inl none)) least same acts d =
+    driven_open n m k old.registers new.registers least same (λ h. past 2 0 refl (subst (λ (j : ℕ). 2 ≤ j) none h)) d
+driven_by a n m k old new before after (inr (inr again)) least same acts d =
+    subst (λ (j : ℕ). AreDriven n j new.registers) (sym again.next)
+    (restarted_driven m n again.less least old new before after (acts_of (effects_due a) (restart_write m ∷ []) old new before after again.one acts) d)
 
 sound_tick : (old : Host) (a : Bool) (new : Host) → Does old (Ticked a) new → IsSoundHost old → IsSoundHost new
 sound_tick old a new h s =
     let v = sight_in old in
+    let file : TaskFile = file_shown new.port in
     let d : Driver = old.driver in
-    let plan : new.driver.plan ≡ (after_tick v d).plan = plan_is (after_tick v d) new.driver h.driver in
-    let known : KnowsNone new.driver.plan = subst KnowsNone (sym plan) (none_ticked v d s.devices) in
-    elim (tick_is v d) [
-      | inl rest ↦
-          let same = none_acts old.port new.port old.memory new.memory (acts_of (effects v d) [] old.port new.port old.memory new.memory rest.none h.does) in
-          sound_by old (Ticked a) new h s h.ruled (same_sizes old.memory new.memory same.1 s.memory) (kept_port old.port new.port same.0) (plan ∙ rest.plan_is)
-      | inr some ↦ elim some [
-        | inl first ↦
-            let k : ℕ = d.plan.opened in
-            let both_are = opened_sound k first.less old.port new.port old.memory new.memory (subst (λ (es : List Effect). list_all is_effect es ≡ true) first.one h.possible)
-            (acts_of (effects v d) (opening_write k ∷ []) old.port new.port old.memory new.memory first.one h.does) s.memory s.registers in
-            record {
-              ruled = h.ruled;
-              memory = both_are.0;
-              requests = requests_turn old (Ticked a) new h s.requests;
-              registers = subst (λ (p : Plan). AreDriven p.opened new.port.registers) (sym (plan ∙ first.plan_is)) both_are.1;
-              devices = known;
-            }
-        | inr going ↦
-            let left : Left old.port new.port new.memory = left_effects (effects v d) old.port new.port old.memory new.memory h.possible going.quiet s.memory h.does in
-            record {
-              ruled = h.ruled;
-              memory = left.sizes;
-              requests = requests_turn old (Ticked a) new h s.requests;
-              registers = subst (λ (n : ℕ). AreDriven n new.port.registers) (sym (ap (λ (p : Plan). p.opened) plan ∙ going.opened_is))
-                  (driven_open d.plan.opened old.port.registers new.port.registers going.least left.place s.registers);
-              devices = known;
-            }
-      ]
+    let plan : new.driver.plan ≡ (after_tick v file d).plan = plan_is (after_tick v file d) new.driver h.driver in
+    let known : KnowsNone new.driver.plan = subst KnowsNone (sym plan) (none_ticked v file d s.devices) in
+    elim (tick_is v file d) [
+      | inl first ↦
+          let k : ℕ = d.plan.opened in
+          let both_are = opened_sound k d.plan.restarted first.less old.port new.port old.memory new.memory (subst (λ (es : List Effect). list_all is_effect es ≡ true) first.one h.possible)
+          (acts_of (effects v d) (opening_write k ∷ []) old.port new.port old.memory new.memory first.one h.does) s.memory s.registers in
+          record {
+            ruled = h.ruled;
+            memory = both_are.0;
+            requests = requests_turn old (Ticked a) new h s.requests;
+            registers = subst (λ (p : Plan). AreDriven p.opened p.restarted new.port.registers) (sym (plan ∙ first.plan_is)) both_are.1;
+            devices = known;
+          }
+      | inr going ↦
+          let left : Left old.port new.port new.memory = left_effects (effects v d) old.port new.port old.memory new.memory h.possible going.quiet s.memory h.does in
+          let opened : new.driver.plan.opened ≡ d.plan.opened = ap (λ (p : Plan). p.opened) plan ∙ going.opened_is in
+          let restarted : new.driver.plan.restarted ≡ (after_tick v file d).plan.restarted = ap (λ (p : Plan). p.restarted) plan in
+          let driven : AreDriven d.plan.opened (after_tick v file d).plan.restarted new.port.registers =
+          driven_by (turn v d).act d.plan.opened d.plan.restarted (after_tick v file d).plan.restarted old.port new.port old.memory new.memory going.way going.least left.place h.does s.registers in
+          record {
+            ruled = h.ruled;
+            memory = left.sizes;
+            requests = requests_turn old (Ticked a) new h s.requests;
+            registers =
+                subst (λ (n : ℕ). AreDriven n new.driver.plan.restarted new.port.registers) (sym opened)
+                (subst (λ (m : ℕ). AreDriven d.plan.opened m new.port.registers) (sym restarted) driven);
+            devices = known;
+          }
     ]
 
 -- ---- each turn
@@ -214,23 +171,23 @@ submit_sizes old new dev request ticket h s =
 
 pub sound_turn : (old : Host) (t : HostTurn) (new : Host) → Does old t new → IsSoundHost old → IsSoundHost new
 sound_turn old (Took frame report) new h s =
-    sound_by old (Took frame report) new h s h.ruled (sized old.memory new.memory s.memory (took_structure old new frame report h s) (took_client old new frame report h)) (kept_took old new frame report h) (plan_is old.driver new.driver h.driver)
+    sound_by old (Took frame report) new h s h.ruled (sized old.memory new.memory s.memory (took_structure old new frame report h s) (took_client old new frame report h)) (stays_took old new frame report h) (plan_is old.driver new.driver h.driver)
 sound_turn old (Pushed frame) new h s =
-    sound_by old (Pushed frame) new h s h.ruled (same_sizes old.memory new.memory h.memory s.memory) (kept_gives (outgoing old.port old.memory) old.port old.memory frame new.port h.gives) (plan_is old.driver new.driver h.driver)
+    sound_by old (Pushed frame) new h s h.ruled (same_sizes old.memory new.memory h.memory s.memory) (stays_gives (outgoing old.port old.memory) old.port old.memory frame new.port h.gives) (plan_is old.driver new.driver h.driver)
 sound_turn old (Ticked a) new h s = sound_tick old a new h s
 sound_turn old (Submitted dev request ticket) new h s =
-    sound_by old (Submitted dev request ticket) new h s (same_ruled old new h.port s) (submit_sizes old new dev request ticket h s) (kept_port old.port new.port h.port) (ap (λ (x : Driver). x.plan) h.taken.driver)
+    sound_by old (Submitted dev request ticket) new h s (same_ruled old new h.port s) (submit_sizes old new dev request ticket h s) (stays_port old.port new.port h.port) (ap (λ (x : Driver). x.plan) h.taken.driver)
 sound_turn old (Polled c) new h s =
-    sound_by old (Polled c) new h s (same_ruled old new h.port s) (same_sizes old.memory new.memory h.memory s.memory) (kept_port old.port new.port h.port) (plan_is (after_poll old.driver) new.driver h.driver ∙ polled_plan old.driver)
+    sound_by old (Polled c) new h s (same_ruled old new h.port s) (same_sizes old.memory new.memory h.memory s.memory) (stays_port old.port new.port h.port) (plan_is (after_poll old.driver) new.driver h.driver ∙ polled_plan old.driver)
 sound_turn old (Put at bytes) new h s =
-    sound_by old (Put at bytes) new h s (same_ruled old new h.port s) (sized old.memory new.memory s.memory (ap (λ (m : Memory). length m.structure) h.memory) (put_client old new at bytes h)) (kept_port old.port new.port h.port) (plan_is old.driver new.driver h.driver)
+    sound_by old (Put at bytes) new h s (same_ruled old new h.port s) (sized old.memory new.memory s.memory (ap (λ (m : Memory). length m.structure) h.memory) (put_client old new at bytes h)) (stays_port old.port new.port h.port) (plan_is old.driver new.driver h.driver)
 
 pub sound_over : (old : Host) (turns : List HostTurn) (new : Host) → DoesAll old turns new → IsSoundHost old → IsSoundHost new
 sound_over old [] new run s = subst IsSoundHost (sym run) s
 sound_over old (t ∷ turns) new run s = sound_over run.0 turns new run.2 (sound_turn old t run.0 run.1 s)
 
 pub sound_host : (h : Host) → IsSoundHost h → IsHost h
-sound_host h s = record { memory = s.memory; area = started_area h.driver.plan.opened h.port.registers s.registers }
+sound_host h s = record { memory = s.memory; area = started_area h.driver.plan.opened h.driver.plan.restarted h.port.registers s.registers }
 
 sound_hosts : (old : Host) (turns : List HostTurn) (new : Host) (run : DoesAll old turns new) → IsSoundHost old → AreHosts old new turns run
 sound_hosts old [] new run s = sound_host old s
@@ -269,7 +226,17 @@ opens given len h = record {
   ruled = record { rules = (opens_sound len h).port; table = (opens_sound len h).slots; faults = (opens_sound len h).errors };
   memory = (opens_sound len h).memory;
   requests = no_requests given;
-  registers = record { commands = refl; area = past 3 0 refl; closed = λ k. refl; stopped = λ k. refl };
+  registers = record {
+    commands = refl;
+    list_high = past 2 0 refl;
+    area = past 3 0 refl;
+    area_high = past 4 0 refl;
+    switches = past 5 0 refl;
+    closed = λ k. refl;
+    receives = past 6 0 refl;
+    stopped = λ k. refl;
+    starts = past 7 0 refl;
+  };
   devices = λ less dev. absent dev;
 }
 

@@ -30,10 +30,13 @@ use Rattle.hba_driver.specs.declared.order.Order.TheVariants.{ResetOn, ResetOff,
 use Rattle.hba_driver.specs.declared.turn.Act.{Act}
 use Rattle.hba_driver.specs.declared.turn.Act.TheVariants as act
 use Rattle.hba_driver.specs.Drivers.{AreRequests, Entry, entry_at}
-use Rattle.hba_driver.specs.Effects.{Acts, ActsAll, effects_of, is_effect, issuing, opening_write, opening_writes, order_effects, prds_with, table_of}
+use Rattle.hba_driver.specs.declared.path.Stage.{Stage}
+use Rattle.hba_driver.specs.declared.path.Stage.TheVariants.{Identify, ReadLog, AssertReset, ReleaseReset, AwaitReset}
+use Rattle.hba_driver.specs.Effects.{Acts, ActsAll, effects_of, is_effect, issuing, opening_write, opening_writes, order_effects, prds_with, restart_write, restart_writes, stage_effects, table_of}
 use Rattle.hba_driver.specs.HostTurns.{AreHosts, Does, DoesAll, Host, HostTurn, IsHost, Took, Pushed, Ticked, Submitted, Polled, Put, sight_in}
 use Rattle.hba_driver.specs.Laws.{CommandsStand, Stands, gives}
 use Rattle.hba_driver.specs.Orders.{order_fields}
+use Rattle.hba_driver.specs.Paths.{stage_fields}
 use Rattle.hba_driver.specs.Submits.{next_slot}
 use Rattle.hba_driver.specs.Ticks.{due, effects, effects_due}
 use Rattle.hba_driver.proofs.EffectLemmas.{all_at}
@@ -149,6 +152,18 @@ late_opens : (k : ℕ) → late (opening_write k) ≡ true
 unfolding opening_write
 late_opens k = all_at late opening_writes k _ refl refl
 
+late_restarts : (k : ℕ) → late (restart_write k) ≡ true
+unfolding restart_write
+late_restarts k = all_at late restart_writes k _ refl refl
+
+late_stage : (dev : ℕ) (stage : Stage) → list_all late (stage_effects dev stage) ≡ true
+unfolding stage_fields
+late_stage dev Identify = refl
+late_stage dev (ReadLog file) = refl
+late_stage dev AssertReset = refl
+late_stage dev ReleaseReset = refl
+late_stage dev AwaitReset = refl
+
 late_order : (order : Order) → list_all late (order_effects order) ≡ true
 unfolding order_fields order_effects
 late_order ResetOn = refl
@@ -168,8 +183,11 @@ pub late_act : (a : Option Act) → list_all late (effects_due a) ≡ true
 unfolding effects_of
 late_act None = refl
 late_act (Some (act.Opens k)) = rw (late_opens k) refl
+late_act (Some act.Stops) = refl
+late_act (Some (act.Restarts k)) = rw (late_restarts k) refl
+late_act (Some (act.Clears dev)) = refl
 late_act (Some (act.Orders order)) = late_order order
-late_act (Some (act.Identifies dev)) = refl
+late_act (Some (act.Steps dev stage)) = late_stage dev stage
 late_act (Some (act.Issues slot dev queued)) = late_issuing slot dev queued
 
 -- ---- posted FISes

@@ -1,60 +1,63 @@
 -- A tick leaves it so that all that is issued is the driver's.
-use Rattle.std.proofs.Common.{◌≡◌, ◌≢◌, ℕ, ◌+◌, ◌*◌, ◌^◌, ◌<◌, ◌≤◌, ◌⊎◌, Bool, true, false, ◌&&◌, List, [], ◌∷◌, ◌++◌, length, set, refl, sym, ◌∙◌, ap, subst, inl, inr, arith, Option, Some, None}
+use Rattle.std.proofs.Common.{◌≡◌, ◌≢◌, ℕ, ◌+◌, ◌*◌, ◌^◌, ◌<◌, ◌⊎◌, Bool, true, false, ◌&&◌, List, [], ◌∷◌, ◌++◌, length, set, refl, sym, ◌∙◌, ap, subst, inl, inr, arith, Option, Some, None}
 use Rattle.std.specs.Prelude.{MatchOption, if◌then◌else◌, not, ◌%◌, ◌==◌}
 use Rattle.std.specs.List.{list_all}
 use Rattle.std.specs.Option.{option_map}
-use Rattle.std.proofs.lemmas.Bool.{cases_Bool, cases_eq, false≢true, ne_eqb, true≢false}
+use Rattle.std.proofs.lemmas.Bool.{cases_eq, false≢true, ne_eqb, true≢false}
 use Rattle.std.proofs.lemmas.List.{get_or-set_other, get_or-set_same, length-set}
 use Rattle.fis_view.specs.declared.build.H2dFields.{H2dFields}
 use Rattle.host_memory.specs.Memory.{IsHostMemory, Memory}
 use Rattle.host_memory.specs.declared.table.Prd.{Prd}
 use Rattle.hba_commands.specs.Requests.{request_of, work_of}
-use Rattle.slots.specs.Slots.{has_bit, match_some}
+use Rattle.slots.specs.Slots.{match_some}
 use Rattle.slots.specs.Work as moved
 use Rattle.slots.specs.declared.work.Work as slot_work
 use Rattle.hba_fbs.specs.declared.register.Register.{Register}
 use Rattle.hba_fbs.specs.Offsets.{register_at}
 use Rattle.hba_fbs.specs.Views.{Port}
-use Rattle.hba_laws.specs.Client.{Touches, own}
-use Rattle.hba_laws.specs.History.{Transfer, issued}
+use Rattle.hba_laws.specs.History.{Transfer}
 use Rattle.hba_laws.specs.Hosts as event
 use Rattle.hba_laws.specs.Hosts.{HostEvent}
-use Rattle.hba_laws.specs.Sound as sound
 use Rattle.hba_laws.proofs.StandLemmas.{some_inj}
 use Rattle.hba_driver.specs.declared.effect.Effect.{Effect}
 use Rattle.hba_driver.specs.declared.effect.Effect.TheVariants as effect
 use Rattle.hba_driver.specs.declared.order.Order.{Order}
 use Rattle.hba_driver.specs.declared.order.Order.TheVariants.{ResetOn, ResetOff, AwaitSignature, CountPorts, SetMask, Enable, Open, Scan, Clear, Detect, Watch, NoMultiplier}
-use Rattle.hba_driver.specs.declared.plan.Plan.{Plan}
-use Rattle.hba_driver.specs.declared.request.Outcome.TheVariants.{Removed}
+use Rattle.hba_driver.specs.declared.path.Path.{Path}
+use Rattle.hba_driver.specs.declared.path.Stage.{Stage}
+use Rattle.hba_driver.specs.declared.path.Stage.TheVariants.{Identify, ReadLog, AssertReset, ReleaseReset}
+use Rattle.hba_driver.specs.declared.path.Stage.TheVariants as stage
+use Rattle.hba_driver.specs.declared.path.TaskFile.{TaskFile}
+use Rattle.hba_driver.specs.declared.sight.Sight.{Sight}
+use Rattle.hba_driver.specs.declared.request.Outcome.TheVariants.{Aborted, Removed}
 use Rattle.hba_driver.specs.declared.request.Work.{Work}
 use Rattle.hba_driver.specs.declared.request.Work.TheVariants as work
 use Rattle.hba_driver.specs.declared.slot.Head.{Head}
 use Rattle.hba_driver.specs.declared.slot.Phase.{Phase}
-use Rattle.hba_driver.specs.declared.slot.Phase.TheVariants.{Waits, Issued, Ended}
+use Rattle.hba_driver.specs.declared.slot.Phase.TheVariants.{Waits, Issued, Aside, Ended}
 use Rattle.hba_driver.specs.declared.turn.Act.{Act}
 use Rattle.hba_driver.specs.declared.turn.Act.TheVariants as act
-use Rattle.hba_driver.specs.Drivers.{Driver, Entry, entry_at, is_issued, is_issued_in, is_read, rephase, rephase_all, rephased, waits, waits_in}
-use Rattle.hba_driver.specs.Effects.{ActsAll, IsRuled, buffer_prd, effects_of, is_effect, issuing, opening_write, opening_writes, order_effects, prds_with, sending, table_of}
+use Rattle.hba_driver.specs.Drivers.{Driver, Entry, IsPath, entry_at, is_issued, is_issued_in, is_read, rephase, rephase_all, rephased, waits, waits_in}
+use Rattle.hba_driver.specs.Effects.{ActsAll, IsRuled, effects_of, is_effect, issuing, opening_write, opening_writes, order_effects, prds_with, restart_write, restart_writes, sending, stage_effects}
 use Rattle.hba_driver.specs.Events.{events_of_effect, events_of_effects}
-use Rattle.hba_driver.specs.Orders.{control_port, identify_fields, order_fields, request_fields, work_fields}
-use Rattle.hba_driver.specs.Served.{IsServed}
+use Rattle.hba_driver.specs.Orders.{control_port, order_fields, request_fields, work_fields}
+use Rattle.hba_driver.specs.Paths.{reads_page, stage_fields}
 use Rattle.hba_driver.specs.Sights.{px_ci, px_fbs, px_sact, px_sntf}
-use Rattle.hba_driver.specs.Ticks.{acted, effects_due, entries_after, is_open_of, plan_after, plan_without, removed, unless}
-use Rattle.hba_driver.proofs.DrivenLemmas.{no_dec, place_effect}
-use Rattle.hba_driver.proofs.DueLemmas.{Due, Waiting}
+use Rattle.hba_driver.specs.Ticks.{acted, effects_due, entries_after, is_aside_of, is_open_of, plan_after, plan_without, removed, stage_ended, unless}
+use Rattle.hba_driver.proofs.DrivenLemmas.{en_chosen, place_effect}
+use Rattle.hba_driver.proofs.DueLemmas.{Due, MayStep, Waiting}
 use Rattle.hba_driver.proofs.EffectLemmas.{all_at}
 use Rattle.hba_driver.proofs.EventLemmas.{beside, beside_same, same_sizes, sized_effect, sound_beside}
 use Rattle.hba_driver.proofs.HistoryLemmas.{back_of}
 use Rattle.hba_driver.proofs.IssuingLemmas.{From, MayIssue, Standing}
-use Rattle.hba_driver.proofs.LifeLemmas.{entry_of_rephased, keeps_removed, length_of_rephased}
+use Rattle.hba_driver.proofs.LifeLemmas.{entry_of_rephased, keeps_removed, keeps_staged, length_of_rephased, length_staged}
 use Rattle.hba_driver.proofs.RequestLemmas.{set_cases}
 use Rattle.hba_driver.proofs.ServingLemmas.{Follows, Goes, IsFree, ci_goes, command_goes, empties_goes, first_goes, flush_goes, from_moves, is_ci, moves_goes, write_goes}
 use Rattle.hba_driver.proofs.StandLemmas.{both, lt_of}
 
 -- ---- lists of effects
 
-last_goes : (D d : Driver) (fs : List HostEvent) (c : event.Host) (old new : Port) (before after : Memory) (acts : ActsAll [] old before new after) → Goes D d fs c (beside new after)
+pub last_goes : (D d : Driver) (fs : List HostEvent) (c : event.Host) (old new : Port) (before after : Memory) (acts : ActsAll [] old before new after) → Goes D d fs c (beside new after)
     → Goes D d (events_of_effects [] old before new after acts ++ fs) c (beside old before)
 unfolding ActsAll events_of_effects
 last_goes D d fs c old new before after acts go = subst (λ (h : event.Host). Goes D d fs c h) (beside_same old new before after acts.0 acts.1) go
@@ -76,13 +79,13 @@ issuing_goes : (D d : Driver) (fs : List HostEvent) (c : event.Host) (slot dev :
     → Goes D d (events_of_effects (issuing slot dev queued) old before new after acts ++ fs) c (beside old before)
 unfolding ActsAll events_of_effects register_at
 issuing_goes D d fs c slot dev false prds fields old new before after below dev_below list stands may ruled m acts go =
-    let place = place_effect (effect.Writes px_fbs (256 * dev + 1)) old acts.0 before acts.1 (ap (λ (b : Bool). not b) (no_dec dev)) acts.2 in
+    let place = place_effect (effect.Writes px_fbs (256 * dev + 1)) old acts.0 before acts.1 (en_chosen dev) acts.2 in
     let standing : Standing slot dev prds fields acts.1 = subst (Standing slot dev prds fields) (sym acts.2.1) stands in
     let rest = last_ci D d fs c slot dev prds fields acts.0 new acts.1 after below dev_below (place.list ∙ list) standing may acts.3 (same_sizes before acts.1 acts.2.1 m) acts.4 go in
     first_goes D d fs c (beside old before) (events_of_effect (effect.Writes px_fbs (256 * dev + 1)) old before acts.1) (events_of_effects (effect.Writes px_ci (2 ^ slot) ∷ []) acts.0 acts.1 new after acts.4)
     (write_goes D d (events_of_effects (effect.Writes px_ci (2 ^ slot) ∷ []) acts.0 acts.1 new after acts.4 ++ fs) c px_fbs (256 * dev + 1) old acts.0 before acts.1 refl (sound_beside old before ruled m) acts.2 rest)
 issuing_goes D d fs c slot dev true prds fields old new before after below dev_below list stands may ruled m acts go =
-    let place = place_effect (effect.Writes px_fbs (256 * dev + 1)) old acts.0 before acts.1 (ap (λ (b : Bool). not b) (no_dec dev)) acts.2 in
+    let place = place_effect (effect.Writes px_fbs (256 * dev + 1)) old acts.0 before acts.1 (en_chosen dev) acts.2 in
     let next = place_effect (effect.Writes px_sact (2 ^ slot)) acts.0 acts.4.0 acts.1 acts.4.1 refl acts.4.2 in
     let m1 : IsHostMemory acts.1 = same_sizes before acts.1 acts.2.1 m in
     let m2 : IsHostMemory acts.4.1 = same_sizes acts.1 acts.4.1 acts.4.2.1 m1 in
@@ -122,8 +125,8 @@ record Asks (d e : Driver) : Type 0 where
 
 asks : (d : Driver) → Asks d (record d { plan = record d.plan { asked = true } })
 asks d = record {
-  follows = record { devices = refl; slots = refl; entries = λ s f here. (f, here, refl) };
-  moves = λ n s t from. from_moves d (record d { plan = record d.plan { asked = true } }) n s t (λ f below here goes of_dev. here) (λ is h. h) (λ is h. refl) from;
+  follows = record { devices = refl; slots = refl; path = λ h. h; entries = λ s f here. (f, here, refl) };
+  moves = λ n s t from. from_moves d (record d { plan = record d.plan { asked = true } }) n s t (λ f below here goes of_dev. here) (λ is x here a of_dev. here) (λ is h. refl) from;
   asked = refl;
 }
 
@@ -168,17 +171,26 @@ port_of_order NoMultiplier f h = port_none f h
 cleared : ℕ → Driver → Driver
 cleared port d = record d { plan = plan_without port d.plan; entries = removed (Clear port) d.entries }
 
+unless_if : (b : Bool) (path : Path) → path.dev < 15 → IsPath (if b then None else Some path)
+unless_if true path h = tt
+unless_if false path h = h
+
+pub unless_path : (port : ℕ) (o : Option Path) → IsPath o → IsPath (unless port o)
+unless_path port None h = tt
+unless_path port (Some path) h = unless_if (path.dev == port) path h
+
 cleared_follows : (port : ℕ) (d : Driver) → Follows d (cleared port d)
 unfolding cleared
 cleared_follows port d = record {
   devices = length-set d.plan.devices port _;
   slots = length_of_rephased (is_open_of port) (Ended Removed) d.entries;
+  path = λ h. unless_path port d.plan.path h;
   entries = λ s f here.
       let b = back_of (entry_at d.entries s) (entry_at (removed (Clear port) d.entries) s) (keeps_removed (Clear port) d.entries s) f here in
       (b.0, b.1, b.2.same);
 }
 
-else_entry : (b : Bool) (x y : Option Entry) → b ≡ false → (if b then x else y) ≡ y
+pub else_entry : (b : Bool) (x y : Option Entry) → b ≡ false → (if b then x else y) ≡ y
 else_entry true x y h = absurd (true≢false h)
 else_entry false x y h = refl
 
@@ -187,44 +199,44 @@ still port s d f here other =
     entry_of_rephased (is_open_of port) (Ended Removed) d.entries s ∙ ap (rephase (is_open_of port s) (Ended Removed)) here
     ∙ else_entry (is_open_of port s f.head) (Some (rephased (Ended Removed) f)) (Some f) (ap (λ (b : Bool). b && not (Rattle.hba_driver.specs.Drivers.has_ended f.head)) (ne_eqb f.head.dev port other))
 
-unless_other : (port n : ℕ) (o : Option ℕ) → n ≢ port → o ≡ Some n → unless port o ≡ Some n
-unless_other port n None other h = cc
-unless_other port n (Some k) other h =
-    let is : k ≡ n = some_inj k n h in
-    ap (λ (x : ℕ). if x == port then None else Some x) is ∙ ap (λ (b : Bool). if b then None else Some n) (ne_eqb n port other)
+pub unless_other : (port : ℕ) (o : Option Path) (x : Path) → x.dev ≢ port → o ≡ Some x → unless port o ≡ Some x
+unless_other port None x other h = cc
+unless_other port (Some path) x other h =
+    let is : path ≡ x = some_inj path x h in
+    ap (λ (p : Path). if p.dev == port then None else Some p) is ∙ ap (λ (b : Bool). if b then None else Some x) (ne_eqb x.dev port other)
 
 cleared_moves : (port : ℕ) (d : Driver) (n s : ℕ) (t : Transfer) → n ≢ port → From d n s t → From (cleared port d) n s t
 unfolding cleared
 cleared_moves port d n s t other from =
-    from_moves d (cleared port d) n s t (λ f below here goes of_dev. still port s d f here (λ same. other (sym of_dev ∙ same))) (λ is h. unless_other port n d.plan.identifying other h) (λ is h. h) from
+    from_moves d (cleared port d) n s t (λ f below here goes of_dev. still port s d f here (λ same. other (sym of_dev ∙ same))) (λ is x here a of_dev. unless_other port d.plan.path x (λ same. other (sym of_dev ∙ same)) here) (λ is h. h) from
 
 -- ---- each order
 
 area_next : (e : Effect) (old : Port) (new : Port) (before after : Memory) → new ≡ old → old.registers.fb ≡ 4096 → new.registers.fb ≡ 4096
 area_next e old new before after is h = ap (λ (p : Port). p.registers.fb) is ∙ h
 
-order_act : (D d : Driver) (fs : List HostEvent) (c : event.Host) (order : Order) (old new : Port) (before after : Memory) → d.plan.asked ≡ false → old.registers.clb ≡ 0 → old.registers.fb ≡ 4096 → IsRuled old → IsHostMemory before
-    → list_all is_effect (order_effects order) ≡ true → (acts : ActsAll (order_effects order) old before new after) → Goes D (acted (Some (act.Orders order)) d) fs c (beside new after)
+order_act : (D d : Driver) (file : TaskFile) (fs : List HostEvent) (c : event.Host) (order : Order) (old new : Port) (before after : Memory) → d.plan.asked ≡ false → old.registers.clb ≡ 0 → old.registers.fb ≡ 4096 → IsRuled old → IsHostMemory before
+    → list_all is_effect (order_effects order) ≡ true → (acts : ActsAll (order_effects order) old before new after) → Goes D (acted (Some (act.Orders order)) file d) fs c (beside new after)
     → Goes D d (events_of_effects (order_effects order) old before new after acts ++ fs) c (beside old before)
 unfolding order_effects plan_after entries_after ActsAll events_of_effects register_at cleared
-order_act D d fs c ResetOn old new before after free list area ruled m is acts go = order_goes D d _ fs c (order_fields ResetOn) old new before after (port_of_order ResetOn) free (asks d) list area ruled m acts go
-order_act D d fs c ResetOff old new before after free list area ruled m is acts go = order_goes D d _ fs c (order_fields ResetOff) old new before after (port_of_order ResetOff) free (asks d) list area ruled m acts go
-order_act D d fs c AwaitSignature old new before after free list area ruled m is acts go = order_goes D d _ fs c (order_fields AwaitSignature) old new before after (port_of_order AwaitSignature) free (asks d) list area ruled m acts go
-order_act D d fs c CountPorts old new before after free list area ruled m is acts go = order_goes D d _ fs c (order_fields CountPorts) old new before after (port_of_order CountPorts) free (asks d) list area ruled m acts go
-order_act D d fs c SetMask old new before after free list area ruled m is acts go = order_goes D d _ fs c (order_fields SetMask) old new before after (port_of_order SetMask) free (asks d) list area ruled m acts go
-order_act D d fs c Enable old new before after free list area ruled m is acts go = order_goes D d _ fs c (order_fields Enable) old new before after (port_of_order Enable) free (asks d) list area ruled m acts go
-order_act D d fs c (Open port) old new before after free list area ruled m is acts go = order_goes D d _ fs c (order_fields (Open port)) old new before after (port_of_order (Open port)) free (asks d) list area ruled m acts go
-order_act D d fs c (Detect port) old new before after free list area ruled m is acts go = order_goes D d _ fs c (order_fields (Detect port)) old new before after (port_of_order (Detect port)) free (asks d) list area ruled m acts go
-order_act D d fs c Watch old new before after free list area ruled m is acts go = order_goes D d _ fs c (order_fields Watch) old new before after (port_of_order Watch) free (asks d) list area ruled m acts go
-order_act D d fs c NoMultiplier old new before after free list area ruled m is acts go = order_goes D d _ fs c (order_fields NoMultiplier) old new before after (port_of_order NoMultiplier) free (asks d) list area ruled m acts go
-order_act D d fs c Scan old new before after free list area ruled m is acts go =
+order_act D d file fs c ResetOn old new before after free list area ruled m is acts go = order_goes D d _ fs c (order_fields ResetOn) old new before after (port_of_order ResetOn) free (asks d) list area ruled m acts go
+order_act D d file fs c ResetOff old new before after free list area ruled m is acts go = order_goes D d _ fs c (order_fields ResetOff) old new before after (port_of_order ResetOff) free (asks d) list area ruled m acts go
+order_act D d file fs c AwaitSignature old new before after free list area ruled m is acts go = order_goes D d _ fs c (order_fields AwaitSignature) old new before after (port_of_order AwaitSignature) free (asks d) list area ruled m acts go
+order_act D d file fs c CountPorts old new before after free list area ruled m is acts go = order_goes D d _ fs c (order_fields CountPorts) old new before after (port_of_order CountPorts) free (asks d) list area ruled m acts go
+order_act D d file fs c SetMask old new before after free list area ruled m is acts go = order_goes D d _ fs c (order_fields SetMask) old new before after (port_of_order SetMask) free (asks d) list area ruled m acts go
+order_act D d file fs c Enable old new before after free list area ruled m is acts go = order_goes D d _ fs c (order_fields Enable) old new before after (port_of_order Enable) free (asks d) list area ruled m acts go
+order_act D d file fs c (Open port) old new before after free list area ruled m is acts go = order_goes D d _ fs c (order_fields (Open port)) old new before after (port_of_order (Open port)) free (asks d) list area ruled m acts go
+order_act D d file fs c (Detect port) old new before after free list area ruled m is acts go = order_goes D d _ fs c (order_fields (Detect port)) old new before after (port_of_order (Detect port)) free (asks d) list area ruled m acts go
+order_act D d file fs c Watch old new before after free list area ruled m is acts go = order_goes D d _ fs c (order_fields Watch) old new before after (port_of_order Watch) free (asks d) list area ruled m acts go
+order_act D d file fs c NoMultiplier old new before after free list area ruled m is acts go = order_goes D d _ fs c (order_fields NoMultiplier) old new before after (port_of_order NoMultiplier) free (asks d) list area ruled m acts go
+order_act D d file fs c Scan old new before after free list area ruled m is acts go =
     let place = place_effect (effect.Writes px_sntf 32768) old acts.0 before acts.1 refl acts.2 in
     let effects : List Effect = match_some (order_fields Scan) [] (λ f. sending 31 control_port f false) in
     let rest = order_goes D d _ fs c (order_fields Scan) acts.0 new acts.1 after (port_of_order Scan) free (asks d) (place.list ∙ list) (place.area ∙ area) acts.3 (same_sizes before acts.1 acts.2.1 m) acts.4 go in
     let es : List HostEvent = events_of_effects effects acts.0 acts.1 new after acts.4 in
     first_goes D d fs c (beside old before) (events_of_effect (effect.Writes px_sntf 32768) old before acts.1) es
     (write_goes D d (es ++ fs) c px_sntf 32768 old acts.0 before acts.1 refl (sound_beside old before ruled m) acts.2 rest)
-order_act D d fs c (Clear port) old new before after free list area ruled m is acts go =
+order_act D d file fs c (Clear port) old new before after free list area ruled m is acts go =
     let effects : List Effect = match_some (order_fields (Clear port)) [] (λ f. sending 31 control_port f false) in
     let next_is = (both (is_effect (effect.Flushes port)) (list_all is_effect (effect.Empties port ∷ effects)) is).1 in
     let empties_is : is_effect (effect.Empties port) ≡ true = (both (is_effect (effect.Empties port)) (list_all is_effect effects) next_is).0 in
@@ -242,32 +254,94 @@ order_act D d fs c (Clear port) old new before after free list area ruled m is a
     first_goes D d fs c (beside old before) (events_of_effect (effect.Flushes port) old before acts.1) rest
     (flush_goes D d (cleared port d) (rest ++ fs) c port old acts.0 before acts.1 (cleared_follows port d) (cleared_moves port d) (sound_beside old before ruled m) acts.2 second)
 
--- ---- the identify command of a device
+-- ---- the command of a stage, for a device
 
-pub free_identify : (d : Driver) → d.plan.identifying ≡ None → IsFree d 30
-free_identify d h n t (inl r) = absurd (omega (arith, r.slot))
-free_identify d h n t (inr (inl i)) = let bad : None ≡ Some n = sym h ∙ i.of_dev in cc
-free_identify d h n t (inr (inr o)) = absurd (omega (arith, o.slot))
+none_path : (x : Path) {P : Type 0} → None ≡ Some x → P
+none_path x h = cc
 
-identifies : (dev : ℕ) (d : Driver) → Driver
-identifies dev d = record d { plan = record d.plan { identifying = Some dev } }
+-- slot 30 is free
+free_step : (d : Driver) (dev : ℕ) (stage : Stage) → MayStep d.plan dev stage → (x : Path) → d.plan.path ≡ Some x → x.asked ≡ true → ⊥
+free_step d dev stage (inl none) x here asked = none_path x (sym none.0 ∙ here)
+free_step d dev stage (inr goes) x here asked =
+    let is : record { dev = dev; stage = stage; asked = false } ≡ x = some_inj _ x (sym goes ∙ here) in
+    false≢true (ap (λ (p : Path). p.asked) is ∙ asked)
 
-none_some : (o : Option ℕ) (n : ℕ) {P : Type 0} → o ≡ None → o ≡ Some n → P
-none_some o n h k = let bad : None ≡ Some n = sym h ∙ k in cc
+pub free_slot : (d : Driver) (dev : ℕ) (stage : Stage) → MayStep d.plan dev stage → IsFree d 30
+free_slot d dev stage may n t (inl r) = absurd (omega (arith, r.slot))
+free_slot d dev stage may n t (inr (inl i)) = free_step d dev stage may i.path i.goes i.asked
+free_slot d dev stage may n t (inr (inr o)) = absurd (omega (arith, o.slot))
 
-identifies_moves : (dev : ℕ) (d : Driver) → d.plan.identifying ≡ None → (n s : ℕ) (t : Transfer) → From d n s t → From (identifies dev d) n s t
-unfolding identifies
-identifies_moves dev d h n s t from =
-    from_moves d (identifies dev d) n s t (λ f below here goes of_dev. here) (λ is k. none_some d.plan.identifying n h k) (λ is k. k) from
+pub step_dev : (d : Driver) (dev : ℕ) (stage : Stage) → IsPath d.plan.path → MayStep d.plan dev stage → dev < 15
+step_dev d dev stage path (inl none) = none.1
+step_dev d dev stage path (inr goes) = subst IsPath goes path
 
-identify_act : (D d : Driver) (fs : List HostEvent) (c : event.Host) (dev : ℕ) (old new : Port) (before after : Memory) → d.plan.identifying ≡ None → dev < 15 → old.registers.clb ≡ 0 → old.registers.fb ≡ 4096 → IsRuled old → IsHostMemory before
-    → (acts : ActsAll (sending 30 dev (identify_fields dev) true) old before new after) → Goes D (acted (Some (act.Identifies dev)) d) fs c (beside new after)
-    → Goes D d (events_of_effects (sending 30 dev (identify_fields dev) true) old before new after acts ++ fs) c (beside old before)
-unfolding plan_after entries_after identifies
-identify_act D d fs c dev old new before after free below list area ruled m acts go =
-    sending_goes D d (identifies dev d) fs c 30 dev (identify_fields dev) true old new before after refl refl (omega (arith, below)) (omega (arith, below)) (free_identify d free)
-    (record { devices = refl; slots = refl; entries = λ s f here. (f, here, refl) }) (identifies_moves dev d free)
-    (λ t table is. inr (inl (record { slot = refl; of_dev = refl; table = table }))) list area ruled m acts go
+steps : ℕ → Stage → Driver → Driver
+steps dev stage d = record d { plan = record d.plan { path = Some (record { dev = dev; stage = stage; asked = true }) }; entries = stage_ended dev stage d.entries }
+
+steps_follows : (dev : ℕ) (stage : Stage) (d : Driver) → dev < 15 → Follows d (steps dev stage d)
+unfolding steps
+steps_follows dev stage d below = record {
+  devices = refl;
+  slots = length_staged dev stage d.entries;
+  path = λ h. below;
+  entries = λ s f here.
+      let b = back_of (entry_at d.entries s) (entry_at (stage_ended dev stage d.entries) s) (keeps_staged dev stage d.entries s) f here in
+      (b.0, b.1, b.2.same);
+}
+
+issued_only : (p : Phase) → is_issued_in p ≡ true → Rattle.hba_driver.specs.Drivers.is_aside_in p ≡ false
+issued_only Waits h = refl
+issued_only Issued h = refl
+issued_only Aside h = absurd (false≢true h)
+issued_only (Ended o) h = refl
+
+and_false : (a b : Bool) → b ≡ false → (a && b) ≡ false
+and_false true b h = h
+and_false false b h = refl
+
+staged_still : (dev : ℕ) (stage : Stage) (entries : List (Option Entry)) (s : ℕ) (f : Entry) → entry_at entries s ≡ Some f → is_issued f.head ≡ true → entry_at (stage_ended dev stage entries) s ≡ Some f
+staged_still dev AssertReset entries s f here goes =
+    entry_of_rephased (is_aside_of dev) (Ended Aborted) entries s ∙ ap (rephase (is_aside_of dev s) (Ended Aborted)) here
+    ∙ else_entry (is_aside_of dev s f.head) (Some (rephased (Ended Aborted) f)) (Some f) (and_false (f.head.dev == dev) _ (issued_only f.head.phase goes))
+staged_still dev stage entries s f here goes = here
+
+steps_moves : (dev : ℕ) (stage : Stage) (d : Driver) → MayStep d.plan dev stage → (n s : ℕ) (t : Transfer) → From d n s t → From (steps dev stage d) n s t
+unfolding steps
+steps_moves dev stage d may n s t from =
+    from_moves d (steps dev stage d) n s t (λ f below here goes of_dev. staged_still dev stage d.entries s f here goes) (λ is x here a of_dev. absurd (free_step d dev stage may x here a)) (λ is h. h) from
+
+port_of_stage : (dev : ℕ) (stage : Stage) (f : H2dFields) → stage_fields dev stage ≡ Some f → f.pm_port ≡ dev
+unfolding stage_fields
+port_of_stage dev Identify f h = ap (λ (x : H2dFields). x.pm_port) (sym (some_inj _ f h))
+port_of_stage dev (ReadLog file) f h = ap (λ (x : H2dFields). x.pm_port) (sym (some_inj _ f h))
+port_of_stage dev AssertReset f h = ap (λ (x : H2dFields). x.pm_port) (sym (some_inj _ f h))
+port_of_stage dev ReleaseReset f h = ap (λ (x : H2dFields). x.pm_port) (sym (some_inj _ f h))
+port_of_stage dev stage.AwaitReset f h = port_nowhere f h
+  where
+    port_nowhere : (f : H2dFields) → None ≡ Some f → f.pm_port ≡ dev
+    port_nowhere f h = cc
+
+small_dev : (n : ℕ) → n < 15 → n % 16 ≡ n
+small_dev n h = omega (arith, h)
+
+step_goes : (D d : Driver) (fs : List HostEvent) (c : event.Host) (dev : ℕ) (stage : Stage) (o : Option H2dFields) (old new : Port) (before after : Memory) → ((f : H2dFields) → o ≡ Some f → f.pm_port ≡ dev) → MayStep d.plan dev stage → dev < 15
+    → old.registers.clb ≡ 0 → old.registers.fb ≡ 4096 → IsRuled old → IsHostMemory before
+    → (acts : ActsAll (match_some o [] (λ f. sending 30 dev f (reads_page stage))) old before new after) → Goes D (steps dev stage d) fs c (beside new after)
+    → Goes D d (events_of_effects (match_some o [] (λ f. sending 30 dev f (reads_page stage))) old before new after acts ++ fs) c (beside old before)
+unfolding steps
+step_goes D d fs c dev stage None old new before after to may below list area ruled m acts go =
+    last_goes D d fs c old new before after acts (moves_goes D d (steps dev stage d) fs c (beside new after) (steps_follows dev stage d below) (steps_moves dev stage d may) go)
+step_goes D d fs c dev stage (Some f) old new before after to may below list area ruled m acts go =
+    sending_goes D d (steps dev stage d) fs c 30 dev f (reads_page stage) old new before after refl refl (omega (arith, below)) (ap (λ (k : ℕ). k % 16) (to f refl) ∙ small_dev dev below) (free_slot d dev stage may)
+    (steps_follows dev stage d below) (steps_moves dev stage d may)
+    (λ t table is. inr (inl (record { slot = refl; path = record { dev = dev; stage = stage; asked = true }; goes = refl; asked = refl; of_dev = refl; table = table }))) list area ruled m acts go
+
+step_act : (D d : Driver) (file : TaskFile) (fs : List HostEvent) (c : event.Host) (dev : ℕ) (stage : Stage) (old new : Port) (before after : Memory) → MayStep d.plan dev stage → old.registers.clb ≡ 0 → old.registers.fb ≡ 4096 → IsRuled old → IsHostMemory before
+    → (acts : ActsAll (stage_effects dev stage) old before new after) → Goes D (acted (Some (act.Steps dev stage)) file d) fs c (beside new after)
+    → Goes D d (events_of_effects (stage_effects dev stage) old before new after acts ++ fs) c (beside old before)
+unfolding plan_after entries_after steps
+step_act D d file fs c dev stage old new before after may list area ruled m acts go past served =
+    step_goes D d fs c dev stage (stage_fields dev stage) old new before after (port_of_stage dev stage) may (step_dev d dev stage served.bounded.path may) list area ruled m acts go past served
 
 -- ---- a request is issued
 
@@ -293,17 +367,19 @@ request_reads slot head h = work_reads slot head.work head.dev head.lba head.sec
 pub not_both : (p : Phase) → waits_in p ≡ true → is_issued_in p ≡ true → ⊥
 not_both Waits h k = false≢true k
 not_both Issued h k = false≢true h
+not_both Aside h k = false≢true h
 not_both (Ended o) h k = false≢true k
 
 goes_out : ℕ → Driver → Driver
 goes_out slot d = record d { entries = set d.entries slot (option_map (rephased Issued) (entry_at d.entries slot)) }
 
-module _ (d : Driver) (slot dev : ℕ) (w : Waiting d.entries slot dev) where
+module _ (d : Driver) (slot dev : ℕ) (w : Waiting d.plan d.entries slot dev) where
   out_follows : Follows d (goes_out slot d)
   unfolding goes_out
   out_follows = record {
     devices = refl;
     slots = length-set d.entries slot _;
+    path = λ h. h;
     entries = λ s f here. by_case s f (set_cases d.entries slot (option_map (rephased Issued) (entry_at d.entries slot)) s f here);
   }
     where
@@ -316,7 +392,7 @@ module _ (d : Driver) (slot dev : ℕ) (w : Waiting d.entries slot dev) where
 
   out_moves : (n s : ℕ) (t : Transfer) → From d n s t → From (goes_out slot d) n s t
   unfolding goes_out
-  out_moves n s t from = from_moves d (goes_out slot d) n s t (λ f below here goes of_dev. there f here goes) (λ is h. h) (λ is h. h) from
+  out_moves n s t from = from_moves d (goes_out slot d) n s t (λ f below here goes of_dev. there f here goes) (λ is x here a of_dev. here) (λ is h. h) from
     where
       there : (f : Entry) → entry_at d.entries s ≡ Some f → is_issued f.head ≡ true → entry_at (set d.entries slot (option_map (rephased Issued) (entry_at d.entries slot))) s ≡ Some f
       there f here goes = elim (cases_eq s slot) [
@@ -341,11 +417,11 @@ module _ (d : Driver) (slot dev : ℕ) (w : Waiting d.entries slot dev) where
   small : (n : ℕ) → n < 15 → n % 16 ≡ n
   small n h = omega (arith, h)
 
-  issue_act : (D : Driver) (fs : List HostEvent) (c : event.Host) (queued : Bool) (old new : Port) (before after : Memory) → old.registers.clb ≡ 0 → IsRuled old → IsHostMemory before
-      → (acts : ActsAll (issuing slot dev queued) old before new after) → Goes D (acted (Some (act.Issues slot dev queued)) d) fs c (beside new after)
+  issue_act : (D : Driver) (file : TaskFile) (fs : List HostEvent) (c : event.Host) (queued : Bool) (old new : Port) (before after : Memory) → old.registers.clb ≡ 0 → IsRuled old → IsHostMemory before
+      → (acts : ActsAll (issuing slot dev queued) old before new after) → Goes D (acted (Some (act.Issues slot dev queued)) file d) fs c (beside new after)
       → Goes D d (events_of_effects (issuing slot dev queued) old before new after acts ++ fs) c (beside old before)
   unfolding plan_after entries_after goes_out
-  issue_act D fs c queued old new before after list ruled m acts go past served =
+  issue_act D file fs c queued old new before after list ruled m acts go past served =
       let stood = served.commands slot w.entry w.stands in
       let low : w.entry.head.dev < 15 = (served.bounded.entries slot w.entry w.stands).dev in
       let to : (request_of (request_fields slot w.entry.head)).pm_port ≡ dev = ap (λ (k : ℕ). k % 16) (request_port slot w.entry.head) ∙ small w.entry.head.dev low ∙ w.of_dev in
@@ -389,13 +465,27 @@ plain_goes D d fs c (effect.Flushes dev) old new before after is ruled m acts go
 plain_goes D d fs c (effect.Empties dev) old new before after is ruled m acts go = absurd (false≢true is)
 plain_goes D d fs c (effect.Commands slot fields buffer) old new before after is ruled m acts go = absurd (false≢true is)
 
-opening_act : (D d : Driver) (fs : List HostEvent) (c : event.Host) (k : ℕ) (old new : Port) (before after : Memory) → IsRuled old → IsHostMemory before → (acts : ActsAll (opening_write k ∷ []) old before new after)
-    → Goes D (acted (Some (act.Opens k)) d) fs c (beside new after) → Goes D d (events_of_effects (opening_write k ∷ []) old before new after acts ++ fs) c (beside old before)
+opening_act : (D d : Driver) (file : TaskFile) (fs : List HostEvent) (c : event.Host) (k : ℕ) (old new : Port) (before after : Memory) → IsRuled old → IsHostMemory before → (acts : ActsAll (opening_write k ∷ []) old before new after)
+    → Goes D (acted (Some (act.Opens k)) file d) fs c (beside new after) → Goes D d (events_of_effects (opening_write k ∷ []) old before new after acts ++ fs) c (beside old before)
 unfolding plan_after entries_after
-opening_act D d fs c k old new before after ruled m acts go =
+opening_act D d file fs c k old new before after ruled m acts go =
     plain_goes D d fs c (opening_write k) old new before after (plain_opening k) ruled m acts
-    (moves_goes D d (acted (Some (act.Opens k)) d) fs c (beside new after) (record { devices = refl; slots = refl; entries = λ s f here. (f, here, refl) })
-    (λ n s t from. from_moves d (acted (Some (act.Opens k)) d) n s t (λ f below here goes of_dev. here) (λ is h. h) (λ is h. h) from) go)
+    (moves_goes D d (acted (Some (act.Opens k)) file d) fs c (beside new after) (record { devices = refl; slots = refl; path = λ h. h; entries = λ s f here. (f, here, refl) })
+    (λ n s t from. from_moves d (acted (Some (act.Opens k)) file d) n s t (λ f below here goes of_dev. here) (λ is x here a of_dev. here) (λ is h. h) from) go)
+
+-- ---- the writes that start it again
+
+plain_restart : (k : ℕ) → plain (restart_write k) ≡ true
+unfolding restart_write register_at
+plain_restart k = all_at plain restart_writes k _ refl refl
+
+restart_act : (D d : Driver) (file : TaskFile) (fs : List HostEvent) (c : event.Host) (k : ℕ) (old new : Port) (before after : Memory) → IsRuled old → IsHostMemory before → (acts : ActsAll (restart_write k ∷ []) old before new after)
+    → Goes D (acted (Some (act.Restarts k)) file d) fs c (beside new after) → Goes D d (events_of_effects (restart_write k ∷ []) old before new after acts ++ fs) c (beside old before)
+unfolding plan_after entries_after
+restart_act D d file fs c k old new before after ruled m acts go =
+    plain_goes D d fs c (restart_write k) old new before after (plain_restart k) ruled m acts
+    (moves_goes D d (acted (Some (act.Restarts k)) file d) fs c (beside new after) (record { devices = refl; slots = refl; path = λ h. h; entries = λ s f here. (f, here, refl) })
+    (λ n s t from. from_moves d (acted (Some (act.Restarts k)) file d) n s t (λ f below here goes of_dev. here) (λ is x here a of_dev. here) (λ is h. h) from) go)
 
 -- ---- each act
 
@@ -405,12 +495,21 @@ Needs None = ⊥
 Needs (Some (act.Opens k)) = ⊥
 Needs (Some a) = Unit {0}
 
-pub act_goes : (D d : Driver) (fs : List HostEvent) (c : event.Host) (a : Option Act) (old new : Port) (before after : Memory) → Due d.plan d.entries a → old.registers.clb ≡ 0 → (Needs a → old.registers.fb ≡ 4096) → IsRuled old → IsHostMemory before
-    → list_all is_effect (effects_due a) ≡ true → (acts : ActsAll (effects_due a) old before new after) → Goes D (acted a d) fs c (beside new after)
+-- an act that is none of those that end a fault
+abbrev pub is_calm : Option Act → Bool
+is_calm (Some act.Stops) = false
+is_calm (Some (act.Clears dev)) = false
+is_calm a = true
+
+pub act_goes : (D d : Driver) (v : Sight) (file : TaskFile) (fs : List HostEvent) (c : event.Host) (a : Option Act) (old new : Port) (before after : Memory) → is_calm a ≡ true → Due v d.plan d.entries a → old.registers.clb ≡ 0 → (Needs a → old.registers.fb ≡ 4096) → IsRuled old → IsHostMemory before
+    → list_all is_effect (effects_due a) ≡ true → (acts : ActsAll (effects_due a) old before new after) → Goes D (acted a file d) fs c (beside new after)
     → Goes D d (events_of_effects (effects_due a) old before new after acts ++ fs) c (beside old before)
 unfolding effects_of
-act_goes D d fs c None old new before after due list area ruled m is acts go = last_goes D d fs c old new before after acts go
-act_goes D d fs c (Some (act.Opens k)) old new before after due list area ruled m is acts go = opening_act D d fs c k old new before after ruled m acts go
-act_goes D d fs c (Some (act.Orders order)) old new before after due list area ruled m is acts go = order_act D d fs c order old new before after due list (area tt) ruled m is acts go
-act_goes D d fs c (Some (act.Identifies dev)) old new before after due list area ruled m is acts go = identify_act D d fs c dev old new before after due.0 due.1 list (area tt) ruled m acts go
-act_goes D d fs c (Some (act.Issues slot dev queued)) old new before after due list area ruled m is acts go = issue_act d slot dev due.0 D fs c queued old new before after list ruled m acts go
+act_goes D d v file fs c None old new before after calm due list area ruled m is acts go = last_goes D d fs c old new before after acts go
+act_goes D d v file fs c (Some (act.Opens k)) old new before after calm due list area ruled m is acts go = opening_act D d file fs c k old new before after ruled m acts go
+act_goes D d v file fs c (Some act.Stops) old new before after calm due list area ruled m is acts go = absurd (false≢true calm)
+act_goes D d v file fs c (Some (act.Restarts k)) old new before after calm due list area ruled m is acts go = restart_act D d file fs c k old new before after ruled m acts go
+act_goes D d v file fs c (Some (act.Clears dev)) old new before after calm due list area ruled m is acts go = absurd (false≢true calm)
+act_goes D d v file fs c (Some (act.Orders order)) old new before after calm due list area ruled m is acts go = order_act D d file fs c order old new before after due list (area tt) ruled m is acts go
+act_goes D d v file fs c (Some (act.Steps dev stage)) old new before after calm due list area ruled m is acts go = step_act D d file fs c dev stage old new before after due list (area tt) ruled m acts go
+act_goes D d v file fs c (Some (act.Issues slot dev queued)) old new before after calm due list area ruled m is acts go = issue_act d slot dev due.0 D file fs c queued old new before after list ruled m acts go

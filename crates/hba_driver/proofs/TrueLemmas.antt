@@ -1,5 +1,5 @@
 -- Done is true.
-use Rattle.std.proofs.Common.{◌≡◌, ℕ, ◌<◌, ◌≤◌, ◌⊎◌, Bool, true, false, ◌&&◌, nat_lt, List, [], ◌∷◌, length, refl, sym, ◌∙◌, ap, subst, inl, inr, arith, Option, Some, None}
+use Rattle.std.proofs.Common.{◌≡◌, ◌≢◌, ℕ, ◌<◌, ◌≤◌, ◌⊎◌, Bool, true, false, ◌&&◌, nat_lt, List, [], ◌∷◌, length, refl, sym, ◌∙◌, ap, subst, inl, inr, arith, Option, Some, None}
 use Rattle.std.specs.Prelude.{if◌then◌else◌, ◌==◌, ◌||◌, not}
 use Rattle.std.specs.List.{list_any}
 use Rattle.std.specs.Option.{option_map}
@@ -15,35 +15,40 @@ use Rattle.hba_laws.proofs.ViewLemmas.{own_in}
 use Rattle.hba_driver.specs.declared.effect.Effect.{Effect}
 use Rattle.hba_driver.specs.declared.order.Order.{Order}
 use Rattle.hba_driver.specs.declared.order.Order.TheVariants.{Clear}
+use Rattle.hba_driver.specs.declared.path.Stage.{Stage as PathStage}
+use Rattle.hba_driver.specs.declared.path.Stage.TheVariants.{AssertReset}
+use Rattle.hba_driver.specs.declared.path.TaskFile.{TaskFile}
 use Rattle.hba_driver.specs.declared.request.Completion.{Completion}
-use Rattle.hba_driver.specs.declared.request.Outcome.TheVariants.{Done, Removed}
+use Rattle.hba_driver.specs.declared.request.Outcome.TheVariants.{Done, DeviceError, Aborted, Removed, PortError}
 use Rattle.hba_driver.specs.declared.request.Work.{Work}
 use Rattle.hba_driver.specs.declared.request.Work.TheVariants as work
 use Rattle.hba_driver.specs.declared.sight.Sight.{Sight}
 use Rattle.hba_driver.specs.declared.slot.Head.{Head}
 use Rattle.hba_driver.specs.declared.slot.Phase.{Phase}
-use Rattle.hba_driver.specs.declared.slot.Phase.TheVariants.{Waits, Issued, Ended}
+use Rattle.hba_driver.specs.declared.slot.Phase.TheVariants.{Waits, Issued, Aside, Ended}
 use Rattle.hba_driver.specs.declared.turn.Act.{Act}
 use Rattle.hba_driver.specs.declared.turn.Act.TheVariants as act
 use Rattle.hba_driver.specs.declared.turn.Turn.{Turn}
 use Rattle.hba_driver.specs.Done.{DoneIsTrue, WasCompleted, completes, is_completed, takes}
-use Rattle.hba_driver.specs.Drivers.{AreRequests, Driver, Entry, entry_at, has_ended, has_ended_in, is_issued_in, rephase, rephased, waits_in}
+use Rattle.hba_driver.specs.Drivers.{AreRequests, Driver, Entry, entry_at, has_ended, has_ended_in, holds, is_aside_in, is_issued_in, rephase, rephase_all, rephased, waits, waits_in}
 use Rattle.hba_driver.specs.Effects.{ActsAll, effects_of, issuing}
 use Rattle.hba_driver.specs.Events.{opening_host}
 use Rattle.hba_driver.specs.HostTurns.{Does, DoesAll, Host, HostTurn, Took, Pushed, Ticked, Submitted, Polled, Put, issued_by_act, issued_in_tick, sight_in, ticket_of}
 use Rattle.hba_driver.specs.Laws.{Goes, GoesOn, flushes}
 use Rattle.hba_driver.specs.Orders.{request_fields, work_fields}
-use Rattle.hba_driver.specs.Ticks.{acted, after_tick, done_ended, due, effects, effects_due, entries_after, is_done, is_open_of, removed, seen, turn}
+use Rattle.hba_driver.specs.Sights.{file_shown}
+use Rattle.hba_driver.specs.Ticks.{acted, after_tick, done_ended, due, effects, effects_due, entries_after, is_aside_of, is_done, is_open, is_open_of, removed, seen, stage_ended, turn}
 use Rattle.hba_driver.proofs.AcceptLemmas as accept
-use Rattle.hba_driver.proofs.AcceptLemmas.{IsOnWay, goes_on, issue_taken, way_opens, way_turn}
+use Rattle.hba_driver.proofs.AcceptLemmas.{IsOnWay, goes_on, is_up, issue_taken, way_opens, way_turn}
 use Rattle.hba_driver.proofs.ComeLemmas.{Fresh, comes_from, ticks}
 use Rattle.hba_driver.proofs.DoneLemmas.{done_is_free}
 use Rattle.hba_driver.proofs.DrivenLemmas.{not_below, tick_is, turn_opens}
-use Rattle.hba_driver.proofs.DueLemmas.{Due}
+use Rattle.hba_driver.proofs.DueLemmas.{Due, Runs}
+use Rattle.hba_driver.proofs.EndingLemmas.{may_end}
 use Rattle.hba_driver.proofs.HistoryLemmas.{PollFacts, poll_facts, requests_turn}
-use Rattle.hba_driver.proofs.LifeLemmas.{entry_of_rephased}
-use Rattle.hba_driver.proofs.OutLemmas.{HasOut, out_effects, out_opening, out_pushed, out_rest, out_same, out_took}
-use Rattle.hba_driver.proofs.RequestLemmas.{requests_rephased, set_cases}
+use Rattle.hba_driver.proofs.LifeLemmas.{entry_of_rephased, waiting_stays}
+use Rattle.hba_driver.proofs.OutLemmas.{HasOut, out_act, out_opening, out_pushed, out_same, out_took}
+use Rattle.hba_driver.proofs.RequestLemmas.{set_cases}
 use Rattle.hba_driver.proofs.ServeLemmas.{ticks_serve}
 use Rattle.hba_driver.proofs.StageLemmas.{Stage, Idle, Out, Whole, stage_after, stage_by, stage_over, tells}
 use Rattle.hba_driver.proofs.StandLemmas.{in_slots}
@@ -56,6 +61,7 @@ none_some a h = cc
 waits_not : (p : Phase) → waits_in p ≡ true → is_issued_in p ≡ true → ⊥
 waits_not Waits h k = false≢true k
 waits_not Issued h k = false≢true h
+waits_not Aside h k = false≢true h
 waits_not (Ended o) h k = false≢true k
 
 issued_is : (p : Phase) → p ≡ Issued → is_issued_in p ≡ true
@@ -104,52 +110,47 @@ issued_act : (v : Sight) (d : Driver) (ticket : ℕ) (a : Option Act) → due v 
 issued_act v d ticket None is h = absurd (false≢true h)
 issued_act v d ticket (Some (act.Opens k)) is h = absurd (false≢true h)
 issued_act v d ticket (Some (act.Orders order)) is h = absurd (false≢true h)
-issued_act v d ticket (Some (act.Identifies dev)) is h = absurd (false≢true h)
+issued_act v d ticket (Some act.Stops) is h = absurd (false≢true h)
+issued_act v d ticket (Some (act.Restarts k)) is h = absurd (false≢true h)
+issued_act v d ticket (Some (act.Clears dev)) is h = absurd (false≢true h)
+issued_act v d ticket (Some (act.Steps dev stage)) is h = absurd (false≢true h)
 issued_act v d ticket (Some (act.Issues slot dev queued)) is h = issued_entry v d ticket slot dev queued is (entry_at (seen v d).entries slot) refl h
-
-if_none : (b : Bool) (a : Option Act) (x : Act) → (if b then None else a) ≡ Some x → (b ≡ false) × (a ≡ Some x)
-if_none true a x h = none_some x h
-if_none false a x h = (refl, h)
-
-else_driver : (b : Bool) (x y : Driver) → b ≡ false → (if b then x else y) ≡ y
-else_driver true x y h = absurd (true≢false h)
-else_driver false x y h = refl
-
-then_driver : (b : Bool) (x y : Driver) → b ≡ true → (if b then x else y) ≡ x
-then_driver true x y h = refl
-then_driver false x y h = absurd (false≢true h)
-
-acted_tick : (v : Sight) (d : Driver) → v.faulted ≡ false → after_tick v d ≡ acted (turn v d).act (seen v d)
-unfolding after_tick
-acted_tick v d h = else_driver v.faulted d (acted (turn v d).act (seen v d)) h
-
-faulted_tick : (v : Sight) (d : Driver) → v.faulted ≡ true → after_tick v d ≡ d
-unfolding after_tick
-faulted_tick v d h = then_driver v.faulted d (acted (turn v d).act (seen v d)) h
 
 -- what waits is not issued but by an act that issues its ticket
 issued_as : (e f : Entry) → Some e ≡ Some f → waits_in e.head.phase ≡ true → is_issued_in f.head.phase ≡ true → ⊥
 issued_as e f is wait h = waits_not f.head.phase (subst (λ (x : Entry). waits_in x.head.phase ≡ true) (some_inj e f is) wait) h
 
-issued_removed : (b : Bool) (e f : Entry) → (if b then Some (rephased (Ended Removed) e) else Some e) ≡ Some f → waits_in e.head.phase ≡ true → is_issued_in f.head.phase ≡ true → ⊥
-issued_removed true e f is wait h = false≢true (subst (λ (x : Entry). is_issued_in x.head.phase ≡ true) (sym (some_inj (rephased (Ended Removed) e) f is)) h)
-issued_removed false e f is wait h = issued_as e f is wait h
+issued_by_test : (b : Bool) (p : Phase) (e f : Entry) → is_issued_in p ≡ false → (if b then Some (rephased p e) else Some e) ≡ Some f → waits_in e.head.phase ≡ true → is_issued_in f.head.phase ≡ true → ⊥
+issued_by_test true p e f never is wait h = true≢false (sym (subst (λ (x : Entry). is_issued_in x.head.phase ≡ true) (sym (some_inj (rephased p e) f is)) h) ∙ never)
+issued_by_test false p e f never is wait h = issued_as e f is wait h
+
+-- a group of requests comes to a phase that is not issued
+issued_group : (test : ℕ → Head → Bool) (p : Phase) (entries : List (Option Entry)) (s : ℕ) (e f : Entry) → is_issued_in p ≡ false → entry_at entries s ≡ Some e → entry_at (rephase_all test p entries) s ≡ Some f
+    → waits_in e.head.phase ≡ true → is_issued_in f.head.phase ≡ true → ⊥
+issued_group test p entries s e f never here there wait h =
+    let is : rephase (test s) p (Some e) ≡ Some f = ap (rephase (test s) p) (sym here) ∙ sym (entry_of_rephased test p entries s) ∙ there in
+    issued_by_test (test s e.head) p e f never is wait h
 
 issued_order : (order : Order) (entries : List (Option Entry)) (s : ℕ) (e f : Entry) → entry_at entries s ≡ Some e → entry_at (removed order entries) s ≡ Some f → waits_in e.head.phase ≡ true → is_issued_in f.head.phase ≡ true → ⊥
-issued_order (Clear port) entries s e f here there wait h =
-    let is : rephase (is_open_of port s) (Ended Removed) (Some e) ≡ Some f =
-    ap (rephase (is_open_of port s) (Ended Removed)) (sym here) ∙ sym (entry_of_rephased (is_open_of port) (Ended Removed) entries s) ∙ there in
-    issued_removed (is_open_of port s e.head) e f is wait h
+issued_order (Clear port) entries s e f here there wait h = issued_group (is_open_of port) (Ended Removed) entries s e f refl here there wait h
 issued_order order entries s e f here there wait h = issued_as e f (sym here ∙ there) wait h
 
-acted_issues : (a : Option Act) (d : Driver) (s : ℕ) (e f : Entry) → entry_at d.entries s ≡ Some e → entry_at (acted a d).entries s ≡ Some f → waits_in e.head.phase ≡ true → is_issued_in f.head.phase ≡ true
+issued_stage : (dev : ℕ) (stage : PathStage) (entries : List (Option Entry)) (s : ℕ) (e f : Entry) → entry_at entries s ≡ Some e → entry_at (stage_ended dev stage entries) s ≡ Some f → waits_in e.head.phase ≡ true
+    → is_issued_in f.head.phase ≡ true → ⊥
+issued_stage dev AssertReset entries s e f here there wait h = issued_group (is_aside_of dev) (Ended Aborted) entries s e f refl here there wait h
+issued_stage dev stage entries s e f here there wait h = issued_as e f (sym here ∙ there) wait h
+
+acted_issues : (a : Option Act) (file : TaskFile) (d : Driver) (s : ℕ) (e f : Entry) → entry_at d.entries s ≡ Some e → entry_at (acted a file d).entries s ≡ Some f → waits_in e.head.phase ≡ true → is_issued_in f.head.phase ≡ true
     → list_any (λ y. y == e.head.ticket) (issued_by_act a d.entries) ≡ true
 unfolding entries_after
-acted_issues None d s e f here there wait h = absurd (issued_as e f (sym here ∙ there) wait h)
-acted_issues (Some (act.Opens k)) d s e f here there wait h = absurd (issued_as e f (sym here ∙ there) wait h)
-acted_issues (Some (act.Orders order)) d s e f here there wait h = absurd (issued_order order d.entries s e f here there wait h)
-acted_issues (Some (act.Identifies dev)) d s e f here there wait h = absurd (issued_as e f (sym here ∙ there) wait h)
-acted_issues (Some (act.Issues slot dev queued)) d s e f here there wait h = elim (set_cases d.entries slot (option_map (rephased Issued) (entry_at d.entries slot)) s f there) [
+acted_issues None file d s e f here there wait h = absurd (issued_as e f (sym here ∙ there) wait h)
+acted_issues (Some (act.Opens k)) file d s e f here there wait h = absurd (issued_as e f (sym here ∙ there) wait h)
+acted_issues (Some act.Stops) file d s e f here there wait h = absurd (issued_group is_open (Ended PortError) d.entries s e f refl here there wait h)
+acted_issues (Some (act.Restarts k)) file d s e f here there wait h = absurd (issued_as e f (sym here ∙ there) wait h)
+acted_issues (Some (act.Clears dev)) file d s e f here there wait h = absurd (issued_group (is_open_of dev) Aside d.entries s e f refl here there wait h)
+acted_issues (Some (act.Orders order)) file d s e f here there wait h = absurd (issued_order order d.entries s e f here there wait h)
+acted_issues (Some (act.Steps dev stage)) file d s e f here there wait h = absurd (issued_stage dev stage d.entries s e f here there wait h)
+acted_issues (Some (act.Issues slot dev queued)) file d s e f here there wait h = elim (set_cases d.entries slot (option_map (rephased Issued) (entry_at d.entries slot)) s f there) [
   | inl at ↦
       let same : entry_at d.entries slot ≡ Some e = subst (λ (k : ℕ). entry_at d.entries k ≡ Some e) at.0 here in
       ap (λ (o : Option Entry). list_any (λ y. y == e.head.ticket) (ticket_of o)) same ∙ or_left (e.head.ticket == e.head.ticket) false (equal_is e.head.ticket e.head.ticket refl)
@@ -163,25 +164,20 @@ else_entry false x y h = refl
 not_done : (p : Phase) (b : Bool) → waits_in p ≡ true → (is_issued_in p && b) ≡ false
 not_done Waits b h = refl
 not_done Issued b h = absurd (false≢true h)
+not_done Aside b h = refl
 not_done (Ended o) b h = refl
 
 seen_waits : (v : Sight) (d : Driver) (s : ℕ) (e : Entry) → entry_at d.entries s ≡ Some e → waits_in e.head.phase ≡ true → entry_at (seen v d).entries s ≡ Some e
 seen_waits v d s e here wait =
+    let still : entry_at (done_ended v.issued d.entries) s ≡ Some e =
     entry_of_rephased (is_done v.issued) (Ended Done) d.entries s ∙ ap (rephase (is_done v.issued s) (Ended Done)) here
-    ∙ else_entry (is_done v.issued s e.head) (Some (rephased (Ended Done) e)) (Some e) (not_done e.head.phase (not (has_bit v.issued s)) wait)
+    ∙ else_entry (is_done v.issued s e.head) (Some (rephased (Ended Done) e)) (Some e) (not_done e.head.phase (not (has_bit v.issued s)) wait) in
+    waiting_stays v.log (turn v d).logged (done_ended v.issued d.entries) s (ap (holds waits) still ∙ wait) ∙ still
 
-due_is : (v : Sight) (d : Driver) → v.faulted ≡ false → due v d ≡ (turn v d).act
-due_is v d h = ap (λ (b : Bool). if b then None else (turn v d).act) h
-
-tick_issues : (v : Sight) (d : Driver) (s : ℕ) (e f : Entry) → entry_at d.entries s ≡ Some e → entry_at (after_tick v d).entries s ≡ Some f → waits_in e.head.phase ≡ true → is_issued_in f.head.phase ≡ true
+tick_issues : (v : Sight) (file : TaskFile) (d : Driver) (s : ℕ) (e f : Entry) → entry_at d.entries s ≡ Some e → entry_at (after_tick v file d).entries s ≡ Some f → waits_in e.head.phase ≡ true → is_issued_in f.head.phase ≡ true
     → list_any (λ y. y == e.head.ticket) (issued_in_tick v d) ≡ true
-tick_issues v d s e f here there wait h = elim (cases_Bool v.faulted) [
-  | inl faulted ↦ absurd (issued_as e f (sym here ∙ ap (λ (x : Driver). entry_at x.entries s) (sym (faulted_tick v d faulted)) ∙ there) wait h)
-  | inr quiet ↦
-      let there' : entry_at (acted (turn v d).act (seen v d)).entries s ≡ Some f = ap (λ (x : Driver). entry_at x.entries s) (sym (acted_tick v d quiet)) ∙ there in
-      ap (λ (a : Option Act). list_any (λ y. y == e.head.ticket) (issued_by_act a (seen v d).entries)) (due_is v d quiet)
-      ∙ acted_issues (turn v d).act (seen v d) s e f (seen_waits v d s e here wait) there' wait h
-]
+unfolding after_tick
+tick_issues v file d s e f here there wait h = acted_issues (turn v d).act file (seen v d) s e f (seen_waits v d s e here wait) there wait h
 
 -- ---- a request that is issued
 
@@ -209,7 +205,7 @@ opened_first h slot dev queued is = elim (cases_Bool (nat_lt h.driver.plan.opene
   | inl less ↦
       let v : Sight = sight_in h in
       let opens : (turn v h.driver).act ≡ Some (act.Opens h.driver.plan.opened) = ap (λ (t : Turn). t.act) (turn_opens v h.driver.plan (done_ended v.issued h.driver.entries) less) in
-      let bad : Some (act.Opens h.driver.plan.opened) ≡ Some (act.Issues slot dev queued) = sym opens ∙ (if_none v.faulted (turn v h.driver).act (act.Issues slot dev queued) is).1 in
+      let bad : Some (act.Opens h.driver.plan.opened) ≡ Some (act.Issues slot dev queued) = sym opens ∙ is in
       absurd (differ h.driver.plan.opened slot dev queued bad)
   | inr more ↦ not_below h.driver.plan.opened 7 more
 ]
@@ -217,21 +213,22 @@ opened_first h slot dev queued is = elim (cases_Bool (nat_lt h.driver.plan.opene
     differ : (k slot dev : ℕ) (queued : Bool) → Some (act.Opens k) ≡ Some (act.Issues slot dev queued) → ⊥
     differ k slot dev queued h = cc
 
-acted_entry : (d : Driver) (slot dev : ℕ) (queued : Bool) (e : Entry) → length d.entries ≡ 30 → slot < 30 → entry_at d.entries slot ≡ Some e → entry_at (acted (Some (act.Issues slot dev queued)) d).entries slot ≡ Some (rephased Issued e)
+acted_entry : (file : TaskFile) (d : Driver) (slot dev : ℕ) (queued : Bool) (e : Entry) → length d.entries ≡ 30 → slot < 30 → entry_at d.entries slot ≡ Some e → entry_at (acted (Some (act.Issues slot dev queued)) file d).entries slot ≡ Some (rephased Issued e)
 unfolding entries_after
-acted_entry d slot dev queued e long below here =
+acted_entry file d slot dev queued e long below here =
     get_or-set_same d.entries slot (option_map (rephased Issued) (entry_at d.entries slot)) None (omega (arith, long, below)) ∙ ap (option_map (rephased Issued)) here
 
 went_out : (h : Host) (a : Bool) (new : Host) (ticket : ℕ) → Does h (Ticked a) new → IsOnWay h → IssuesIt (sight_in h) h.driver ticket → WentOut h new ticket
-unfolding effects_of
+unfolding effects_of after_tick
 went_out h a new ticket does w i =
     let v : Sight = sight_in h in
     let d : Driver = seen v h.driver in
     let g = goes_on h w (opened_first h i.slot i.dev i.queued i.is) in
-    let waiting = subst (λ (x : Option Act). Due d.plan d.entries x) i.is g.due_is in
+    let waiting = subst (λ (x : Option Act). Due v d.plan d.entries x) i.is g.due_is in
+    let runs : Runs d.plan (Some (act.Issues i.slot i.dev i.queued)) = subst (λ (x : Option Act). Runs d.plan x) i.is g.runs in
     let same : waiting.0.entry ≡ i.entry = some_inj waiting.0.entry i.entry (sym waiting.0.stands ∙ i.there) in
     let acts : ActsAll (issuing i.slot i.dev i.queued) h.port h.memory new.port new.memory = subst (λ (x : Option Act). ActsAll (effects_due x) h.port h.memory new.port new.memory) i.is does.does in
-    let issued = issue_taken d i.slot i.dev i.queued h.port new.port h.memory new.memory g.knows waiting.0 waiting.1 acts in
+    let issued = issue_taken d i.slot i.dev i.queued h.port new.port h.memory new.memory g.knows (is_up d h.port h.memory g.knows runs.1) waiting.0 waiting.1 acts in
     let kinds = calm_request i.slot waiting.0.entry.head in
     let out : HasOut new.port i.slot i.dev = record {
       issue = new_issue i.dev (work_of (request_of (request_fields i.slot waiting.0.entry.head)));
@@ -239,14 +236,13 @@ went_out h a new ticket does w i =
       pio = kinds.0;
       control = kinds.1;
     } in
-    let quiet = if_none v.faulted (turn v h.driver).act (act.Issues i.slot i.dev i.queued) i.is in
-    let driver : new.driver ≡ acted (Some (act.Issues i.slot i.dev i.queued)) d = does.driver ∙ acted_tick v h.driver quiet.0 ∙ ap (λ (x : Option Act). acted x d) quiet.1 in
+    let driver : new.driver ≡ acted (Some (act.Issues i.slot i.dev i.queued)) (file_shown new.port) d = does.driver ∙ ap (λ (x : Option Act). acted x (file_shown new.port) d) i.is in
     record {
       slot = i.slot;
       entry = i.entry;
       before = i.there;
       of_ticket = i.of_ticket;
-      after = ap (λ (x : Driver). entry_at x.entries i.slot) driver ∙ acted_entry d i.slot i.dev i.queued i.entry g.knows.served.bounded.slots waiting.0.below i.there;
+      after = ap (λ (x : Driver). entry_at x.entries i.slot) driver ∙ acted_entry (file_shown new.port) d i.slot i.dev i.queued i.entry g.knows.served.bounded.slots waiting.0.below i.there;
       issued = subst (λ (n : ℕ). HasOut new.port i.slot n) (sym waiting.0.of_dev ∙ ap (λ (e : Entry). e.head.dev) same) out;
     }
 
@@ -254,9 +250,10 @@ went_out h a new ticket does w i =
 
 abbrev Fits : Stage → Port → (slot dev : ℕ) → Phase → Type 0
 Fits stage port slot dev Waits = Unit {0}
+Fits stage port slot dev Aside = Unit {0}
 Fits stage port slot dev Issued = (stage ≡ Whole) ⊎ ((stage ≡ Out) × HasOut port slot dev)
 Fits stage port slot dev (Ended Done) = stage ≡ Whole
-Fits stage port slot dev (Ended Removed) = Unit {0}
+Fits stage port slot dev (Ended outcome) = Unit {0}
 
 -- of the request of this ticket, where it stands in its slot
 abbrev Far : (ticket slot dev : ℕ) → Host → Stage → Type 0
@@ -269,8 +266,12 @@ fits_on : (stage next : Stage) (old new : Port) (slot dev : ℕ) (p : Phase) →
 fits_on stage next old new slot dev Waits whole out h = tt
 fits_on stage next old new slot dev Issued whole out (inl h) = inl (whole h)
 fits_on stage next old new slot dev Issued whole out (inr h) = out h.0 h.1
+fits_on stage next old new slot dev Aside whole out h = tt
 fits_on stage next old new slot dev (Ended Done) whole out h = whole h
+fits_on stage next old new slot dev (Ended (DeviceError status error)) whole out h = tt
+fits_on stage next old new slot dev (Ended Aborted) whole out h = tt
 fits_on stage next old new slot dev (Ended Removed) whole out h = tt
+fits_on stage next old new slot dev (Ended PortError) whole out h = tt
 
 far_still : (t : HostTurn) (ticket slot dev : ℕ) (old new : Host) (stage next : Stage) → Does old t new → ticks t ≡ false → (stage ≡ Whole → next ≡ Whole)
     → (stage ≡ Out → HasOut old.port slot dev → (next ≡ Whole) ⊎ ((next ≡ Out) × HasOut new.port slot dev)) → Far ticket slot dev old stage → Far ticket slot dev new next
@@ -311,6 +312,7 @@ fits_ended : (stage : Stage) (port : Port) (slot dev : ℕ) (p : Phase) → issu
 fits_ended stage port slot dev Waits free is h = absurd (false≢true is)
 fits_ended stage port slot dev Issued free is (inl h) = h
 fits_ended stage port slot dev Issued free is (inr h) = none_some h.1.issue (sym free ∙ (own_in dev slot port.slots h.1.issue h.1.is).1)
+fits_ended stage port slot dev Aside free is h = absurd (false≢true is)
 fits_ended stage port slot dev (Ended o) free is h = absurd (false≢true is)
 
 fits_done : (stage : Stage) (port : Port) (slot dev : ℕ) (p : Phase) → p ≡ Ended Done → Fits stage port slot dev p → stage ≡ Whole
@@ -319,44 +321,40 @@ fits_done stage port slot dev p is h = subst (λ (x : Phase). Fits stage port sl
 ended_same : (p q : Phase) → Goes p q → has_ended_in p ≡ true → q ≡ p
 ended_same Waits q h k = absurd (false≢true k)
 ended_same Issued q h k = absurd (false≢true k)
+ended_same Aside q h k = absurd (false≢true k)
 ended_same (Ended o) q h k = h
 
 whole_ended : (ticket slot dev : ℕ) (h : Host) (stage : Stage) (e f : Entry) → IsOnWay h → Far ticket slot dev h stage → entry_at h.driver.entries slot ≡ Some e → GoesOn e f
-    → entry_at (after_tick (sight_in h) h.driver).entries slot ≡ Some f → f.head.phase ≡ Ended Done → e.head.ticket ≡ ticket → e.head.dev ≡ dev → stage ≡ Whole
-whole_ended ticket slot dev h stage e f w far here on there is of_ticket of_dev =
+    → (file : TaskFile) → entry_at (after_tick (sight_in h) file h.driver).entries slot ≡ Some f → f.head.phase ≡ Ended Done → e.head.ticket ≡ ticket → e.head.dev ≡ dev → stage ≡ Whole
+whole_ended ticket slot dev h stage e f w far here on file there is of_ticket of_dev =
     let fits : Fits stage h.port slot dev e.head.phase = far e here of_ticket of_dev in
     elim (cases_Bool (has_ended e.head)) [
       | inl ended ↦ fits_done stage h.port slot dev e.head.phase (sym (ended_same e.head.phase f.head.phase on.goes ended) ∙ is) fits
       | inr going ↦
-          let free = done_is_free h.port h.memory h.driver slot e f w.sound.ruled.table w.sound.requests here going there is in
+          let free = done_is_free h.port h.memory file h.driver slot e f w.sound.ruled.table w.sound.requests here going there is in
           fits_ended stage h.port slot dev e.head.phase free.1 free.0 fits
     ]
 
--- a request that stays issued over a tick
-out_tick : (h : Host) (a : Bool) (new : Host) (slot dev : ℕ) → Does h (Ticked a) new → IsOnWay h → dev < 16 → list_any (flushes dev) (effects (sight_in h) h.driver) ≡ false → HasOut h.port slot dev → HasOut new.port slot dev
-out_tick h a new slot dev does w below other out = elim (tick_is (sight_in h) h.driver) [
-  | inl rest ↦ out_rest h.port new.port h.memory new.memory slot dev (subst (λ (es : List Effect). ActsAll es h.port h.memory new.port new.memory) rest.none does.does) out
-  | inr some ↦ elim some [
-    | inl first ↦
-        let k : ℕ = h.driver.plan.opened in
-        out_opening k h.port new.port h.memory new.memory slot dev (w.sound.registers.stopped (less_most k first.less)) below
-        (subst (λ (es : List Effect). ActsAll es h.port h.memory new.port new.memory) first.one does.does) w.sound.ruled.table out
-    | inr going ↦ out_effects (effects (sight_in h) h.driver) h.port new.port h.memory new.memory slot dev going.quiet other below does.does w.sound.ruled.table out
-  ]
+-- a request that stays issued over a tick, which neither stops the port nor clears its device
+out_tick : (h : Host) (a : Bool) (new : Host) (slot dev : ℕ) → Does h (Ticked a) new → IsOnWay h → dev < 16 → list_any (flushes dev) (effects (sight_in h) h.driver) ≡ false
+    → (due (sight_in h) h.driver ≡ Some act.Stops → ⊥) → ((k : ℕ) → due (sight_in h) h.driver ≡ Some (act.Clears k) → dev ≢ k) → HasOut h.port slot dev → HasOut new.port slot dev
+out_tick h a new slot dev does w below other stops clears out = elim (tick_is (sight_in h) (file_shown new.port) h.driver) [
+  | inl first ↦
+      let k : ℕ = h.driver.plan.opened in
+      out_opening k h.port new.port h.memory new.memory slot dev (w.sound.registers.stopped (less_most k first.less)) below
+      (subst (λ (es : List Effect). ActsAll es h.port h.memory new.port new.memory) first.one does.does) w.sound.ruled.table out
+  | inr going ↦
+      out_act (due (sight_in h) h.driver) h.port new.port h.memory new.memory slot dev below (may_end h w.sound) stops clears (goes_on h w going.least).opens other does.does w.sound.ruled.table out
 ]
   where
     less_most : (n : ℕ) → n < 7 → n ≤ 6
     less_most n h = omega (arith, h)
 
--- the same ticket, in the same slot
-seen_requests : (v : Sight) (d : Driver) → AreRequests d.given d.entries → AreRequests d.given (seen v d).entries
-seen_requests v d r = requests_rephased d.given (is_done v.issued) (Ended Done) d.entries (seen v d).entries r refl
-
 module _ (ticket slot dev : ℕ) (h : Host) (a : Bool) (new : Host) (does : Does h (Ticked a) new) (w : IsOnWay h) (stage : Stage) (far : Far ticket slot dev h stage) where
   abbrev v : Sight
   v = sight_in h
 
-  here_after : (f : Entry) → entry_at new.driver.entries slot ≡ Some f → entry_at (after_tick v h.driver).entries slot ≡ Some f
+  here_after : (f : Entry) → entry_at new.driver.entries slot ≡ Some f → entry_at (after_tick v (file_shown new.port) h.driver).entries slot ≡ Some f
   here_after f here = ap (λ (d : Driver). entry_at d.entries slot) (sym does.driver) ∙ here
 
   -- the tick issues the ticket
@@ -386,20 +384,30 @@ module _ (ticket slot dev : ℕ) (h : Host) (a : Bool) (new : Host) (does : Does
 
       unflushed : (is : f.head.phase ≡ Issued) → list_any (flushes dev) (effects v h.driver) ≡ false
       unflushed is = elim (cases_Bool (list_any (flushes dev) (effects v h.driver))) [
-        | inl flushed ↦ absurd (false≢true (sym (ap has_ended_in is) ∙ ticks_serve.ends v h.driver dev slot f flushed (here_after f here) of_dev))
+        | inl flushed ↦ absurd (false≢true (sym (ap has_ended_in is) ∙ ticks_serve.ends v (file_shown new.port) h.driver dev slot f flushed (here_after f here) of_dev))
         | inr other ↦ other
       ]
+
+      unstopped : f.head.phase ≡ Issued → due v h.driver ≡ Some act.Stops → ⊥
+      unstopped is stops = false≢true (sym (ap has_ended_in is) ∙ ticks_serve.stops v (file_shown new.port) h.driver slot f stops (here_after f here))
+
+      uncleared : f.head.phase ≡ Issued → (k : ℕ) → due v h.driver ≡ Some (act.Clears k) → dev ≢ k
+      uncleared is k clears same =
+          false≢true (sym (ap (λ (p : Phase). is_aside_in p || has_ended_in p) is) ∙ ticks_serve.withdraws v (file_shown new.port) h.driver k slot f clears (here_after f here) (of_dev ∙ same))
 
       stays : (e : Entry) → entry_at h.driver.entries slot ≡ Some e → GoesOn e f → e.head.ticket ≡ ticket → e.head.dev ≡ dev → f.head.phase ≡ Issued → (p : Phase) → e.head.phase ≡ p
           → (stage ≡ Whole) ⊎ ((stage ≡ Out) × HasOut new.port slot dev)
       stays e at on ticket_is dev_is is Waits was =
-          let issued : list_any (λ y. y == e.head.ticket) (issued_in_tick v h.driver) ≡ true = tick_issues v h.driver slot e f at (here_after f here) (ap waits_in was) (issued_is f.head.phase is) in
+          let issued : list_any (λ y. y == e.head.ticket) (issued_in_tick v h.driver) ≡ true = tick_issues v (file_shown new.port) h.driver slot e f at (here_after f here) (ap waits_in was) (issued_is f.head.phase is) in
           absurd (true≢false (sym (subst (λ (n : ℕ). list_any (λ y. y == n) (issued_in_tick v h.driver) ≡ true) ticket_is issued) ∙ none))
       stays e at on ticket_is dev_is is Issued was =
           elim (subst (λ (p : Phase). Fits stage h.port slot dev p) was (far e at ticket_is dev_is)) [
             | inl whole ↦ inl whole
-            | inr out ↦ inr (out.0, out_tick h a new slot dev does w (low e at dev_is) (unflushed is) out.1)
+            | inr out ↦ inr (out.0, out_tick h a new slot dev does w (low e at dev_is) (unflushed is) (unstopped is) (uncleared is) out.1)
           ]
+      stays e at on ticket_is dev_is is Aside was =
+          let goes : Goes Aside Issued = subst (λ (p : Phase). Goes Aside p) is (subst (λ (p : Phase). Goes p f.head.phase) was on.goes) in
+          absurd (true≢false goes)
       stays e at on ticket_is dev_is is (Ended o) was =
           let same : f.head.phase ≡ e.head.phase = ended_same e.head.phase f.head.phase on.goes (ap has_ended_in was) in
           let bad : Issued ≡ Ended o = sym is ∙ same ∙ was in
@@ -409,7 +417,11 @@ module _ (ticket slot dev : ℕ) (h : Host) (a : Bool) (new : Host) (does : Does
       by_phase e at on ticket_is dev_is Waits is = subst (λ (x : Phase). Fits stage new.port slot dev x) (sym is) tt
       by_phase e at on ticket_is dev_is Issued is = subst (λ (x : Phase). Fits stage new.port slot dev x) (sym is) (stays e at on ticket_is dev_is is e.head.phase refl)
       by_phase e at on ticket_is dev_is (Ended Done) is =
-          subst (λ (x : Phase). Fits stage new.port slot dev x) (sym is) (whole_ended ticket slot dev h stage e f w far at on (here_after f here) is ticket_is dev_is)
+          subst (λ (x : Phase). Fits stage new.port slot dev x) (sym is) (whole_ended ticket slot dev h stage e f w far at on (file_shown new.port) (here_after f here) is ticket_is dev_is)
+      by_phase e at on ticket_is dev_is Aside is = subst (λ (x : Phase). Fits stage new.port slot dev x) (sym is) tt
+      by_phase e at on ticket_is dev_is (Ended (DeviceError status error)) is = subst (λ (x : Phase). Fits stage new.port slot dev x) (sym is) tt
+      by_phase e at on ticket_is dev_is (Ended Aborted) is = subst (λ (x : Phase). Fits stage new.port slot dev x) (sym is) tt
+      by_phase e at on ticket_is dev_is (Ended PortError) is = subst (λ (x : Phase). Fits stage new.port slot dev x) (sym is) tt
       by_phase e at on ticket_is dev_is (Ended Removed) is = subst (λ (x : Phase). Fits stage new.port slot dev x) (sym is) tt
 
   far_tick : Far ticket slot dev new (stage_after ticket slot dev stage h (Ticked a))
@@ -511,7 +523,7 @@ module _ (given len : ℕ) (right : is_memory_size len ≡ true) (turns : List H
         let below : f.head.dev < 16 = subst (λ (n : ℕ). n < 16) dev_is (low_dev s e stood.here) in
         let far : Far f.head.ticket s f.head.dev h (stage_over f.head.ticket s f.head.dev Idle opened h turns run) = far_now f.head.ticket s f.head.dev (low_slot s e stood.here) below in
         tells f.head.ticket s f.head.dev turns Idle opened h run
-        (whole_ended f.head.ticket s f.head.dev h (stage_over f.head.ticket s f.head.dev Idle opened h turns run) e f now far stood.here stood.on (ap (λ (d : Driver). entry_at d.entries s) (sym does.driver) ∙ here) is ticket_is dev_is)
+        (whole_ended f.head.ticket s f.head.dev h (stage_over f.head.ticket s f.head.dev Idle opened h turns run) e f now far stood.here stood.on (file_shown after.port) (ap (λ (d : Driver). entry_at d.entries s) (sym does.driver) ∙ here) is ticket_is dev_is)
   ]
 
   pub polled : (c : Completion) (after : Host) → Does h (Polled c) after → c.outcome ≡ Done → WasCompleted c.ticket.0 c.slot opened h turns run

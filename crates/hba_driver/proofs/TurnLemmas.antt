@@ -27,6 +27,7 @@ use Rattle.hba_driver.specs.Effects.{ActsAll, IsRuled, is_effect, opening_write,
 use Rattle.hba_driver.specs.Events.{EachRunTells, IsSoundHost, KnowsNone, TurnsAreEvents, events_of, events_of_effect, events_of_effects, events_over, gave, pushed_by, put, put_by, shared_by, taken_by, took, wrote_to}
 use Rattle.hba_driver.specs.HostTurns.{Does, DoesAll, Host, HostTurn, Took, Pushed, Ticked, Submitted, Polled, Put, sight_in}
 use Rattle.hba_driver.specs.Requests.{device_refusal}
+use Rattle.hba_driver.specs.Sights.{file_shown}
 use Rattle.hba_driver.specs.Submits.{next_slot, submit_refusal}
 use Rattle.hba_driver.specs.Ticks.{effects}
 use Rattle.hba_driver.proofs.DrivenLemmas.{tick_is}
@@ -71,16 +72,11 @@ good_tick : (old : Host) (a : Bool) (new : Host) (h : Does old (Ticked a) new) �
 good_tick old a new h s first last =
     let v = sight_in old in
     let d : Driver = old.driver in
-    elim (tick_is v d) [
-      | inl rest ↦
-          good_few (effects v d) old.port new.port old.memory new.memory (subst (λ (es : List Effect). length es ≤ 1) (sym rest.none) (omega arith)) h.possible
-          (subst (λ (es : List Effect). list_all spares_area es ≡ true) (sym rest.none) refl) s.memory h.does first
-      | inr some ↦ elim some [
-        | inl one ↦
-            good_few (effects v d) old.port new.port old.memory new.memory (subst (λ (es : List Effect). length es ≤ 1) (sym one.one) (omega arith)) h.possible
-            (subst (λ (es : List Effect). list_all spares_area es ≡ true) (sym one.one) (ap (λ (b : Bool). b && true) (spares_opening d.plan.opened))) s.memory h.does first
-        | inr going ↦ good_effects (effects v d) old.port new.port old.memory new.memory h.possible going.quiet (s.registers.area (omega (arith, going.least))) s.memory h.does first last
-      ]
+    elim (tick_is v (file_shown new.port) d) [
+      | inl one ↦
+          good_few (effects v d) old.port new.port old.memory new.memory (subst (λ (es : List Effect). length es ≤ 1) (sym one.one) (omega arith)) h.possible
+          (subst (λ (es : List Effect). list_all spares_area es ≡ true) (sym one.one) (ap (λ (b : Bool). b && true) (spares_opening d.plan.opened))) s.memory h.does first
+      | inr going ↦ good_effects (effects v d) old.port new.port old.memory new.memory h.possible going.quiet (s.registers.area (omega (arith, going.least))) s.memory h.does first last
     ]
 
 -- ---- a request

@@ -8,6 +8,7 @@ use Rattle.host_memory.specs.Reading.{share_with}
 use Rattle.host_memory.specs.declared.table.Prd.{Prd}
 use Rattle.hba_driver.specs.declared.order.Order.{Order}
 use Rattle.hba_driver.specs.declared.order.Order.TheVariants.{ResetOn, Open, Clear, Detect}
+use Rattle.hba_driver.specs.declared.path.Path.{Path}
 use Rattle.hba_driver.specs.declared.plan.Device.{Device}
 use Rattle.hba_driver.specs.declared.plan.Device.TheVariants.{Absent}
 use Rattle.hba_driver.specs.declared.plan.Plan.{Plan}
@@ -15,7 +16,7 @@ use Rattle.hba_driver.specs.declared.request.Work.{Work}
 use Rattle.hba_driver.specs.declared.request.Work.TheVariants as work
 use Rattle.hba_driver.specs.declared.slot.Head.{Head}
 use Rattle.hba_driver.specs.declared.slot.Phase.{Phase}
-use Rattle.hba_driver.specs.declared.slot.Phase.TheVariants.{Waits, Issued, Ended}
+use Rattle.hba_driver.specs.declared.slot.Phase.TheVariants.{Waits, Issued, Aside, Ended}
 
 -- a request that was taken and not polled: its head, and where its bytes lie
 pub record Entry : Type 0 where
@@ -40,11 +41,12 @@ entry_of (Some head) prds = Some (record { head = head; prds = prds })
 abbrev pub opening_plan : Plan
 opening_plan = record {
   opened = 0;
+  restarted = 2;
   order = ResetOn;
   asked = false;
   ports = 0;
   found = 0;
-  identifying = None;
+  path = None;
   devices = replicate 15 Absent;
 }
 
@@ -73,6 +75,7 @@ holds test (Some entry) = test entry.head
 abbrev pub waits_in : Phase → Bool
 waits_in Waits = true
 waits_in Issued = false
+waits_in Aside = false
 waits_in (Ended outcome) = false
 
 abbrev pub waits : Head → Bool
@@ -81,14 +84,26 @@ waits head = waits_in head.phase
 abbrev pub is_issued_in : Phase → Bool
 is_issued_in Waits = false
 is_issued_in Issued = true
+is_issued_in Aside = false
 is_issued_in (Ended outcome) = false
 
 abbrev pub is_issued : Head → Bool
 is_issued head = is_issued_in head.phase
 
+abbrev pub is_aside_in : Phase → Bool
+is_aside_in Waits = false
+is_aside_in Issued = false
+is_aside_in Aside = true
+is_aside_in (Ended outcome) = false
+
+-- it was set aside, until its device has recovered
+abbrev pub is_aside : Head → Bool
+is_aside head = is_aside_in head.phase
+
 abbrev pub has_ended_in : Phase → Bool
 has_ended_in Waits = false
 has_ended_in Issued = false
+has_ended_in Aside = false
 has_ended_in (Ended outcome) = true
 
 abbrev pub has_ended : Head → Bool
@@ -122,16 +137,18 @@ IsOrder (Clear port) = port < 15
 IsOrder (Detect port) = port < 15
 IsOrder order = Unit {0}
 
-abbrev pub IsPort : Option ℕ → Type 0
-IsPort None = Unit {0}
-IsPort (Some port) = port < 15
+-- and so is a path of slot 30
+abbrev pub IsPath : Option Path → Type 0
+IsPath None = Unit {0}
+IsPath (Some path) = path.dev < 15
 
 -- what every plan keeps
 pub record IsSoundPlan (plan : Plan) : Type 0 where
   pub opened : plan.opened ≤ 7
+  pub restarted : plan.restarted ≤ 2
   pub order : IsOrder plan.order
   pub ports : plan.ports < 16
-  pub identifying : IsPort plan.identifying
+  pub path : IsPath plan.path
 
 -- the requests of every driver, of which this was the last ticket that was given
 pub record AreRequests (last : ℕ) (entries : List (Option Entry)) : Type 0 where

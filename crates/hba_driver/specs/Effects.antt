@@ -15,10 +15,12 @@ use Rattle.hba_driver.specs.declared.effect.Effect.{Effect}
 use Rattle.hba_driver.specs.declared.effect.Effect.TheVariants as effect
 use Rattle.hba_driver.specs.declared.order.Order.{Order}
 use Rattle.hba_driver.specs.declared.order.Order.TheVariants.{Scan, Clear}
+use Rattle.hba_driver.specs.declared.path.Stage.{Stage}
 use Rattle.hba_driver.specs.declared.turn.Act.{Act}
 use Rattle.hba_driver.specs.declared.turn.Act.TheVariants as act
-use Rattle.hba_driver.specs.Orders.{control_port, identify_fields, order_fields}
-use Rattle.hba_driver.specs.Sights.{px_ci, px_clb, px_clbu, px_cmd, px_fb, px_fbs, px_fbu, px_sact, px_sntf}
+use Rattle.hba_driver.specs.Orders.{control_port, order_fields}
+use Rattle.hba_driver.specs.Paths.{reads_page, stage_fields}
+use Rattle.hba_driver.specs.Sights.{px_ci, px_clb, px_clbu, px_cmd, px_fb, px_fbs, px_fbu, px_is, px_sact, px_sntf}
 
 -- ---- the effects of an act
 
@@ -30,6 +32,17 @@ opening_writes =
 
 unfoldable pub opening_write : ℕ → Effect
 opening_write k = slice_index_or opening_writes k (effect.Writes px_cmd 0x20011)
+
+-- After a fault of the port ST is cleared, which ends all that is issued; then all of PxIS is cleared, and ST is set again.
+abbrev pub restart_writes : List Effect
+restart_writes = effect.Writes px_is 0xFFFFFFFF ∷ effect.Writes px_cmd 0x20011 ∷ []
+
+unfoldable pub restart_write : ℕ → Effect
+restart_write k = slice_index_or restart_writes k (effect.Writes px_cmd 0x20011)
+
+-- The fault of a device is cleared: OFS, IFS and TFES in PxIS, and DEC with the device and EN in PxFBS.
+abbrev pub clearing : (dev : ℕ) → List Effect
+clearing dev = effect.Writes px_is 0x49000000 ∷ effect.Writes px_fbs (256 * dev + 3) ∷ []
 
 -- the device and EN in PxFBS, the slot's bit in PxSACT where the command is queued, and in PxCI
 abbrev pub issuing : (slot dev : ℕ) → (queued : Bool) → List Effect
@@ -49,10 +62,16 @@ order_effects Scan = effect.Writes px_sntf 0x8000 ∷ order_command Scan
 order_effects (Clear port) = effect.Flushes port ∷ effect.Empties port ∷ order_command (Clear port)
 order_effects order = order_command order
 
+abbrev pub stage_effects : (dev : ℕ) → Stage → List Effect
+stage_effects dev stage = match_some (stage_fields dev stage) [] (λ fields. sending 30 dev fields (reads_page stage))
+
 unfoldable pub effects_of : Act → List Effect
 effects_of (act.Opens k) = opening_write k ∷ []
+effects_of act.Stops = effect.Writes px_cmd 0x20010 ∷ []
+effects_of (act.Restarts k) = restart_write k ∷ []
+effects_of (act.Clears dev) = clearing dev
 effects_of (act.Orders order) = order_effects order
-effects_of (act.Identifies dev) = sending 30 dev (identify_fields dev) true
+effects_of (act.Steps dev stage) = stage_effects dev stage
 effects_of (act.Issues slot dev queued) = issuing slot dev queued
 
 -- ---- what an effect leaves of port and memory

@@ -79,16 +79,23 @@ events_over old new (turn ∷ turns) run =
 
 -- ---- port, driver and memory together
 
--- The registers of a port whose driver has done so many of the seven writes that open it. The driver
--- alone writes them.
-pub record AreDriven (opened : ℕ) (r : Registers) : Type 0 where
+-- The registers of a port whose driver has done so many of the seven writes that open it, and, since a
+-- fault stopped it, so many of the two that start it again. The driver alone writes them.
+pub record AreDriven (opened restarted : ℕ) (r : Registers) : Type 0 where
   -- the command list begins at 0
   pub commands : r.clb ≡ 0
+  pub list_high : 2 ≤ opened → r.clbu ≡ 0
   -- the received area begins at 1000h from the third write on
   pub area : 3 ≤ opened → r.fb ≡ 4096
-  -- FRE is 0 up to the sixth, and ST up to the last
+  pub area_high : 4 ≤ opened → r.fbu ≡ 0
+  -- the port switches between devices from the fifth on
+  pub switches : 5 ≤ opened → r.switching ≡ true
+  -- FRE is 0 up to the sixth, and then 1
   pub closed : opened ≤ 5 → r.receives ≡ false
+  pub receives : 6 ≤ opened → r.receives ≡ true
+  -- ST is 0 up to the last, and then 1, unless the port is to be started again
   pub stopped : opened ≤ 6 → r.started ≡ false
+  pub starts : 7 ≤ opened → 2 ≤ restarted → r.started ≡ true
 
 -- no device is there before the port is open
 abbrev pub KnowsNone : Plan → Type 0
@@ -99,7 +106,7 @@ pub record IsSoundHost (h : Host) : Type 0 where
   pub ruled : IsRuled h.port
   pub memory : IsHostMemory h.memory
   pub requests : AreRequests h.driver.given h.driver.entries
-  pub registers : AreDriven h.driver.plan.opened h.port.registers
+  pub registers : AreDriven h.driver.plan.opened h.driver.plan.restarted h.port.registers
   pub devices : KnowsNone h.driver.plan
 
 -- a new port and a new driver, beside a memory of so many zeros

@@ -18,7 +18,7 @@ use Rattle.hba_driver.specs.declared.turn.Act.TheVariants as act
 use Rattle.hba_driver.specs.Drivers.{Driver, Entry, entry_at}
 use Rattle.hba_driver.specs.Effects.{ActsAll, IsRuled, is_effect}
 use Rattle.hba_driver.specs.Requests.{in_use}
-use Rattle.hba_driver.specs.Sights.{sight_of}
+use Rattle.hba_driver.specs.Sights.{file_shown, sight_of}
 use Rattle.hba_driver.specs.Submits.{Takes, after_poll, completion_of, submit_refusal}
 use Rattle.hba_driver.specs.Ticks.{acts, after_tick, due, effects, seen}
 
@@ -61,7 +61,7 @@ abbrev pub sight_in : Host → Sight
 sight_in h = sight_of h.port h.memory
 
 pub record Ticks (old : Host) (acted : Bool) (new : Host) : Type 0 where
-  pub driver : new.driver ≡ after_tick (sight_in old) old.driver
+  pub driver : new.driver ≡ after_tick (sight_in old) (file_shown new.port) old.driver
   pub does : ActsAll (effects (sight_in old) old.driver) old.port old.memory new.port new.memory
   pub answer : acted ≡ acts (sight_in old) old.driver
   pub possible : list_all is_effect (effects (sight_in old) old.driver) ≡ true
@@ -128,8 +128,11 @@ ticket_of (Some entry) = entry.head.ticket ∷ []
 abbrev pub issued_by_act : Option Act → List (Option Entry) → List ℕ
 issued_by_act None entries = []
 issued_by_act (Some (act.Opens k)) entries = []
+issued_by_act (Some act.Stops) entries = []
+issued_by_act (Some (act.Restarts k)) entries = []
+issued_by_act (Some (act.Clears dev)) entries = []
 issued_by_act (Some (act.Orders order)) entries = []
-issued_by_act (Some (act.Identifies dev)) entries = []
+issued_by_act (Some (act.Steps dev stage)) entries = []
 issued_by_act (Some (act.Issues slot dev queued)) entries = ticket_of (entry_at entries slot)
 
 abbrev pub issued_in_tick : Sight → Driver → List ℕ

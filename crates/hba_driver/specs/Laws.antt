@@ -1,5 +1,5 @@
 -- What is true of the driver over any list of turns of the host, from any sound state, whatever the devices send.
-use Rattle.std.specs.Prelude.{ℕ, ◌≡◌, ◌+◌, ◌==◌, ◌&&◌, ◌⊎◌, Bool, true, false, List, [], ◌∷◌, length, Option, Some, None}
+use Rattle.std.specs.Prelude.{ℕ, ◌≡◌, ◌+◌, ◌<◌, ◌==◌, ◌&&◌, ◌||◌, ◌⊎◌, Bool, true, false, List, [], ◌∷◌, length, Option, Some, None}
 use Rattle.std.specs.List.{list_any, range_with_len}
 use Rattle.host_memory.specs.Memory.{Memory}
 use Rattle.host_memory.specs.Reading.{AgreeFrom}
@@ -8,27 +8,31 @@ use Rattle.slots.specs.Slots.{issue_at}
 use Rattle.slots.specs.Table.{IsTable}
 use Rattle.hba_fbs.specs.Views.{Port}
 use Rattle.hba_driver.specs.declared.request.Outcome.{Outcome}
-use Rattle.hba_driver.specs.declared.request.Outcome.TheVariants.{Done, Removed}
+use Rattle.hba_driver.specs.declared.request.Outcome.TheVariants.{Done, DeviceError, Aborted, Removed, PortError}
 use Rattle.hba_driver.specs.Effects.{table_of}
 use Rattle.hba_driver.specs.Sights.{sight_of}
-use Rattle.hba_driver.specs.declared.plan.Device.TheVariants.{Absent}
+use Rattle.hba_driver.specs.declared.path.TaskFile.{TaskFile}
+use Rattle.hba_driver.specs.declared.plan.Device.TheVariants.{Absent, Recovering}
 use Rattle.hba_driver.specs.declared.sight.Sight.{Sight}
+use Rattle.hba_driver.specs.declared.slot.Head.{Head}
 use Rattle.hba_driver.specs.declared.slot.Phase.{Phase}
-use Rattle.hba_driver.specs.declared.slot.Phase.TheVariants.{Waits, Issued, Ended}
+use Rattle.hba_driver.specs.declared.slot.Phase.TheVariants.{Waits, Issued, Aside, Ended}
 use Rattle.hba_driver.specs.declared.effect.Effect.{Effect}
 use Rattle.hba_driver.specs.declared.effect.Effect.TheVariants as effect
 use Rattle.hba_driver.specs.declared.turn.Act.TheVariants as act
-use Rattle.hba_driver.specs.Drivers.{AreRequests, Driver, Entry, device_at, entry_at, has_ended, is_issued, rephased, waits_in}
+use Rattle.hba_driver.specs.Drivers.{AreRequests, Driver, Entry, device_at, entry_at, has_ended, is_aside, is_issued, is_issued_in, rephased, waits_in}
 use Rattle.hba_driver.specs.HostTurns.{AreHosts, DoesAll, Host, HostTurn, Took, Pushed, Ticked, Submitted, Polled, Put, given_in, issued_over, polled_in}
+use Rattle.hba_driver.specs.Paths.{recovery}
 use Rattle.hba_driver.specs.Ticks.{after_tick, due, effects, seen, turn}
 use Rattle.hba_driver.specs.Turns.{may_issue}
 
 -- ---- the life of a request
 
--- from waiting to issued, from both to its end, and then no further
+-- from waiting to issued, from both to where it is set aside or to its end, from there to its end, and then no further
 abbrev pub Goes : Phase → Phase → Type 0
 Goes Waits later = Unit {0}
 Goes Issued later = waits_in later ≡ false
+Goes Aside later = (waits_in later || is_issued_in later) ≡ false
 Goes (Ended outcome) later = later ≡ Ended outcome
 
 -- of a request only the phase may be another later
@@ -49,8 +53,8 @@ Keeps (Some e) later = Kept e later
 
 -- a tick takes no request and gives none away, gives no ticket, and ends nothing twice
 pub record TicksKeep : Type 0 where
-  pub entries : (v : Sight) (d : Driver) (s : ℕ) → Keeps (entry_at d.entries s) (entry_at (after_tick v d).entries s)
-  pub given : (v : Sight) (d : Driver) → (after_tick v d).given ≡ d.given
+  pub entries : (v : Sight) (file : TaskFile) (d : Driver) (s : ℕ) → Keeps (entry_at d.entries s) (entry_at (after_tick v file d).entries s)
+  pub given : (v : Sight) (file : TaskFile) (d : Driver) → (after_tick v file d).given ≡ d.given
 
 -- an effect flushes this device
 abbrev pub flushes : ℕ → Effect → Bool
@@ -59,15 +63,27 @@ flushes dev (effect.Flushes other) = other == dev
 flushes dev (effect.Empties other) = false
 flushes dev (effect.Commands slot fields buffer) = false
 
+-- a request that the port has no command of, and of which none will be issued
+abbrev pub is_withdrawn : Head → Bool
+is_withdrawn head = is_aside head || has_ended head
+
 -- what a tick does to devices
 pub record TicksServe : Type 0 where
   -- a request is issued only where it waits and its device is ready
   pub ready : (v : Sight) (d : Driver) (slot dev : ℕ) (queued : Bool) → due v d ≡ Some (act.Issues slot dev queued)
       → may_issue (turn v d).plan (entry_at (seen v d).entries slot) ≡ true
   -- in the tick of its flush a device is taken to be absent, and none of its requests is left open
-  pub leaves : (v : Sight) (d : Driver) (dev : ℕ) → list_any (flushes dev) (effects v d) ≡ true → device_at (after_tick v d).plan dev ≡ Absent
-  pub ends : (v : Sight) (d : Driver) (dev s : ℕ) (e : Entry) → list_any (flushes dev) (effects v d) ≡ true
-      → entry_at (after_tick v d).entries s ≡ Some e → e.head.dev ≡ dev → has_ended e.head ≡ true
+  pub leaves : (v : Sight) (file : TaskFile) (d : Driver) (dev : ℕ) → list_any (flushes dev) (effects v d) ≡ true → device_at (after_tick v file d).plan dev ≡ Absent
+  pub ends : (v : Sight) (file : TaskFile) (d : Driver) (dev s : ℕ) (e : Entry) → list_any (flushes dev) (effects v d) ≡ true
+      → entry_at (after_tick v file d).entries s ≡ Some e → e.head.dev ≡ dev → has_ended e.head ≡ true
+  -- in the tick that clears its fault a device is taken to recover, and none of its requests waits or is issued
+  pub recovers : (v : Sight) (file : TaskFile) (d : Driver) (dev : ℕ) → due v d ≡ Some (act.Clears dev) → dev < 15 → length d.plan.devices ≡ 15
+      → device_at (after_tick v file d).plan dev ≡ Recovering (recovery (device_at (turn v d).plan dev) file)
+  pub withdraws : (v : Sight) (file : TaskFile) (d : Driver) (dev s : ℕ) (e : Entry) → due v d ≡ Some (act.Clears dev)
+      → entry_at (after_tick v file d).entries s ≡ Some e → e.head.dev ≡ dev → is_withdrawn e.head ≡ true
+  -- in the tick that stops the port every request ends
+  pub stops : (v : Sight) (file : TaskFile) (d : Driver) (s : ℕ) (e : Entry) → due v d ≡ Some act.Stops
+      → entry_at (after_tick v file d).entries s ≡ Some e → has_ended e.head ≡ true
 
 -- ---- over lists of turns
 
@@ -76,15 +92,21 @@ abbrev pub AreOnce : List ℕ → Type 0
 AreOnce [] = Unit {0}
 AreOnce (x ∷ xs) = (list_any (λ y. y == x) xs ≡ false) × AreOnce xs
 
+-- they are the same, and of an error of the device Status and Error are too
 abbrev pub is_outcome : Outcome → Outcome → Bool
 is_outcome Done Done = true
+is_outcome (DeviceError status error) (DeviceError other_status other_error) =
+    (status == other_status) && (error == other_error)
+is_outcome Aborted Aborted = true
 is_outcome Removed Removed = true
+is_outcome PortError PortError = true
 is_outcome one other = false
 
 -- a request that has come to this may be polled with this outcome: one that has ended with its own alone
 abbrev pub ends_as : Phase → Outcome → Bool
 ends_as Waits outcome = true
 ends_as Issued outcome = true
+ends_as Aside outcome = true
 ends_as (Ended one) outcome = is_outcome one outcome
 
 -- the turn polls this request out of this slot, with the outcome of its end if it has one
@@ -135,5 +157,5 @@ CommandsStand =
 -- A tick ends a request as Done only where it was issued and nothing is issued in its slot of the port any more.
 abbrev pub DoneIsFree : Type 0
 DoneIsFree =
-    (port : Port) (memory : Memory) (d : Driver) (s : ℕ) (e f : Entry) → IsTable port.slots → AreRequests d.given d.entries → entry_at d.entries s ≡ Some e → has_ended e.head ≡ false
-    → entry_at (after_tick (sight_of port memory) d).entries s ≡ Some f → f.head.phase ≡ Ended Done → (is_issued e.head ≡ true) × (issue_at port.slots s ≡ None)
+    (port : Port) (memory : Memory) (file : TaskFile) (d : Driver) (s : ℕ) (e f : Entry) → IsTable port.slots → AreRequests d.given d.entries → entry_at d.entries s ≡ Some e → has_ended e.head ≡ false
+    → entry_at (after_tick (sight_of port memory) file d).entries s ≡ Some f → f.head.phase ≡ Ended Done → (is_issued e.head ≡ true) × (issue_at port.slots s ≡ None)

@@ -1,5 +1,6 @@
 pub mod Drivers
 pub mod Orders
+pub mod Paths
 pub mod Sights
 pub mod Turns
 pub mod Effects
@@ -8,6 +9,7 @@ pub mod Requests
 pub mod Submits
 pub mod HostTurns
 pub mod Laws
+pub mod Faults
 pub mod Events
 pub mod Served
 pub mod Delivered

@@ -111,6 +111,10 @@ next_order ports found NoMultiplier = NoMultiplier
 abbrev pub identify_fields : (dev : ℕ) → H2dFields
 identify_fields dev = command dev 0xEC 0 0 0 0
 
+-- READ LOG EXT of the first page of the NCQ Command Error log, whose address is 10h
+abbrev pub log_fields : (dev : ℕ) → H2dFields
+log_fields dev = command dev 0x2F 0 0x10 0 1
+
 -- READ FPDMA QUEUED and WRITE FPDMA QUEUED have their length in Features and their tag, the slot, in bits 7:3 of Count
 abbrev pub work_fields : (slot : ℕ) → Work → (dev lba sectors : ℕ) → H2dFields
 work_fields slot work.Read dev lba sectors = command dev 0x60 sectors lba 0x40 (8 * slot)

@@ -78,7 +78,7 @@ is_full entries = is_none (lowest_free entries)
 -- a device takes requests where it is ready, and will again where it recovers
 abbrev pub device_refusal : Device → Option SubmitError
 device_refusal Ready = None
-device_refusal Recovering = Some refusal.Recovering
+device_refusal (Recovering way) = Some refusal.Recovering
 device_refusal device = Some refusal.NoDevice
 
 -- why a request is refused by what it is

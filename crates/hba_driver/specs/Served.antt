@@ -1,4 +1,4 @@
--- What is issued at the port is the driver's: a request of its own, the identify command of a device,
+-- What is issued at the port is the driver's: a request of its own, its command to a device in slot 30,
 -- or an order to the multiplier. So no two reads that are issued share a byte, no client writes into
 -- one, and the PRDs of a command stay while it is issued (AHCI 1.3.1, 4.2.3.3, Physical Region
 -- Descriptor Table, and 5.5, how commands are issued).
@@ -20,11 +20,13 @@ use Rattle.hba_laws.specs.Delivering.{AreSpared, IsSound, touches_after}
 use Rattle.hba_laws.specs.History.{Transfer, issued}
 use Rattle.hba_laws.specs.Hosts as event
 use Rattle.hba_laws.specs.Hosts.{Runs}
-use Rattle.hba_driver.specs.Drivers.{Driver, Entry, entry_at, is_issued, is_read, new_driver}
-use Rattle.hba_driver.specs.Effects.{buffer_prd, table_of}
+use Rattle.hba_driver.specs.declared.path.Path.{Path}
+use Rattle.hba_driver.specs.Drivers.{Driver, Entry, IsPath, entry_at, is_issued, is_read, new_driver}
+use Rattle.hba_driver.specs.Effects.{buffer_prd, prds_with, table_of}
 use Rattle.hba_driver.specs.Events.{IsSoundHost, events_over, opening_host, shared_by}
 use Rattle.hba_driver.specs.HostTurns.{DoesAll, Host, HostTurn}
 use Rattle.hba_driver.specs.Orders.{control_port, request_fields}
+use Rattle.hba_driver.specs.Paths.{reads_page}
 
 -- ---- what a request wrote
 
@@ -49,6 +51,7 @@ pub record IsBounded (e : Entry) : Type 0 where
 
 pub record AreBounded (d : Driver) : Type 0 where
   pub devices : length d.plan.devices ≡ 15
+  pub path : IsPath d.plan.path
   pub slots : length d.entries ≡ 30
   pub entries : (s : ℕ) (e : Entry) → entry_at d.entries s ≡ Some e → IsBounded e
 
@@ -64,11 +67,14 @@ pub record IsRequest (d : Driver) (n s : ℕ) (t : Transfer) : Type 0 where
   pub table : t.table ≡ entry.prds
   pub reads : moved.is_read t.work.kind ≡ true → is_read entry.head.work ≡ true
 
--- the identify command of device n, into the driver's buffer
-pub record IsIdentify (d : Driver) (n s : ℕ) (t : Transfer) : Type 0 where
+-- the command of the path that has slot 30, which reads into the driver's buffer or moves no data
+pub record IsStep (d : Driver) (n s : ℕ) (t : Transfer) : Type 0 where
   pub slot : s ≡ 30
-  pub of_dev : d.plan.identifying ≡ Some n
-  pub table : t.table ≡ buffer_prd ∷ []
+  pub path : Path
+  pub goes : d.plan.path ≡ Some path
+  pub asked : path.asked ≡ true
+  pub of_dev : path.dev ≡ n
+  pub table : t.table ≡ prds_with (reads_page path.stage)
 
 -- an order to the control port of the multiplier, which moves no data
 pub record IsOrdered (d : Driver) (n s : ℕ) (t : Transfer) : Type 0 where
@@ -80,7 +86,7 @@ pub record IsOrdered (d : Driver) (n s : ℕ) (t : Transfer) : Type 0 where
 -- and in any case the PRDs have the command's bytes, and are apart
 pub record IsIssueOf (d : Driver) (n s : ℕ) (t : Transfer) : Type 0 where
   pub dev : n < 16
-  pub from : IsRequest d n s t ⊎ (IsIdentify d n s t ⊎ IsOrdered d n s t)
+  pub from : IsRequest d n s t ⊎ (IsStep d n s t ⊎ IsOrdered d n s t)
   pub total : total_of t.table ≡ t.work.len
   pub apart : have_overlap t.table ≡ false
 

@@ -1,6 +1,6 @@
 -- What a tick sees of the port and of memory: AHCI 1.3.1, section 3.3 (registers) and 4.2.1 (received FISes); Serial ATA 3.x,
 -- 10.5.6 (signatures); ACS-3, IDENTIFY DEVICE.
-use Rattle.std.specs.Prelude.{ℕ, ◌+◌, ◌*◌, ◌/◌, ◌%◌, ◌^◌, ◌==◌, ◌&&◌, ◌||◌, Bool, false, bit_or, List, map, take, drop, slice_index, Result, Ok}
+use Rattle.std.specs.Prelude.{ℕ, ◌+◌, ◌*◌, ◌/◌, ◌%◌, ◌^◌, ◌==◌, ◌&&◌, Bool, false, not, if◌then◌else◌, bit_or, List, map, take, drop, slice_index, sum, Option, Some, None, Result, Ok}
 use Rattle.std.specs.List.{range_with_len}
 use Rattle.std.specs.Result.{result_unwrap_or}
 use Rattle.fis_view.specs.Seen.{seen}
@@ -14,6 +14,8 @@ use Rattle.slots.specs.Slots.{has_bit}
 use Rattle.hba_fbs.specs.Posting.{is_signature}
 use Rattle.hba_fbs.specs.Reading.{read_at}
 use Rattle.hba_fbs.specs.Views.{Port, view_of}
+use Rattle.hba_driver.specs.declared.path.TaskFile.{TaskFile}
+use Rattle.hba_driver.specs.declared.sight.ErrorLog.{ErrorLog}
 use Rattle.hba_driver.specs.declared.sight.Sight.{Sight}
 
 -- the value of the register at an offset
@@ -39,6 +41,17 @@ is_ata _ = false
 abbrev pub is_usable : List ℕ → Bool
 is_usable client = (slice_index client 153 % 2 == 1) && (slice_index client 150 % 32 == 31)
 
+-- The NCQ Command Error log in that buffer: it is whole where its 512 bytes add up to 0 modulo 256. Byte 0 has NQ in bit 7
+-- (the command that failed was not queued) and else its tag in bits 4:0; byte 2 is Status, byte 3 Error.
+abbrev pub log_in : List ℕ → ErrorLog
+log_in client = record {
+  whole = sum (take 512 client) % 256 == 0;
+  unqueued = slice_index client 0 / 128 % 2 == 1;
+  tag = slice_index client 0 % 32;
+  status = slice_index client 2;
+  error = slice_index client 3;
+}
+
 -- the offsets of registers of the port
 abbrev pub px_clb : ℕ
 px_clb = 0x00
@@ -58,6 +71,9 @@ px_is = 0x10
 abbrev pub px_cmd : ℕ
 px_cmd = 0x18
 
+abbrev pub px_tfd : ℕ
+px_tfd = 0x20
+
 abbrev pub px_sig : ℕ
 px_sig = 0x24
 
@@ -73,18 +89,33 @@ px_sntf = 0x3C
 abbrev pub px_fbs : ℕ
 px_fbs = 0x40
 
--- PxIS.HBFS, or PxFBS.SDE: a fault of the port, or one of a device
-abbrev pub has_fault : (is fbs : ℕ) → Bool
-has_fault is fbs = has_bit is 29 || has_bit fbs 2
+-- PxIS.HBFS with PxFBS.SDE 0: a fault has stopped the port as a whole
+abbrev pub is_stopped : (is fbs : ℕ) → Bool
+is_stopped is fbs = has_bit is 29 && not (has_bit fbs 2)
+
+-- PxFBS.SDE and DWE: the device with a fault, if there is one
+abbrev pub faulty_in : (fbs : ℕ) → Option ℕ
+faulty_in fbs = if has_bit fbs 2 then Some (fbs / 2 ^ 16 % 16) else None
+
+-- PxTFD: Status in bits 7:0, Error in bits 15:8
+abbrev pub file_in : (tfd : ℕ) → TaskFile
+file_in tfd = record { status = tfd % 256; error = tfd / 256 % 256 }
+
+-- as the port shows it, of the device that PxFBS.DEV names
+abbrev pub file_shown : Port → TaskFile
+file_shown port = file_in (shown port px_tfd)
 
 unfoldable pub sight_of : Port → Memory → Sight
 sight_of port memory = record {
   issued = bit_or (shown port px_ci) (shown port px_sact);
-  faulted = has_fault (shown port px_is) (shown port px_fbs);
+  stopped = is_stopped (shown port px_is) (shown port px_fbs);
+  faulty = faulty_in (shown port px_fbs);
   resetting = (view_of 15 port).state.resetting;
+  in_reset = map (λ dev. (view_of dev port).state.resetting) (range_with_len 0 16);
   signature = shown port px_sig;
   notified = has_bit (shown port px_sntf) 15;
   answer = answer_in (seen (last_d2h memory.structure 15));
   signed = map (λ dev. is_ata (seen (last_d2h memory.structure dev))) (range_with_len 0 16);
   usable = is_usable memory.client;
+  log = log_in memory.client;
 }

@@ -1,30 +1,70 @@
 -- A tick: the driver afterwards, the effects on port and memory, and the answer.
-use Rattle.std.specs.Prelude.{ℕ, ◌≡◌, ◌+◌, ◌==◌, ◌&&◌, ◌||◌, Bool, true, not, if◌then◌else◌, List, [], slice_set, Option, Some, None, is_some}
+use Rattle.std.specs.Prelude.{ℕ, ◌≡◌, ◌+◌, ◌==◌, ◌&&◌, ◌||◌, Bool, true, false, nat_lt, not, if◌then◌else◌, List, [], map, slice_set, Option, Some, None, is_some}
 use Rattle.std.specs.Option.{option_map}
 use Rattle.host_memory.specs.Memory.{Memory}
 use Rattle.slots.specs.Slots.{has_bit, lowest_below, match_some}
 use Rattle.hba_fbs.specs.Views.{Port}
 use Rattle.hba_driver.specs.declared.effect.Effect.{Effect}
 use Rattle.hba_driver.specs.declared.order.Order.{Order}
-use Rattle.hba_driver.specs.declared.order.Order.TheVariants.{Clear}
-use Rattle.hba_driver.specs.declared.plan.Device.TheVariants.{Absent}
+use Rattle.hba_driver.specs.declared.order.Order.TheVariants.{Clear, ResetOn}
+use Rattle.hba_driver.specs.declared.path.Path.{Path}
+use Rattle.hba_driver.specs.declared.path.Stage.{Stage}
+use Rattle.hba_driver.specs.declared.path.Stage.TheVariants.{AssertReset}
+use Rattle.hba_driver.specs.declared.path.TaskFile.{TaskFile}
+use Rattle.hba_driver.specs.declared.plan.Device.TheVariants.{Absent, Recovering}
 use Rattle.hba_driver.specs.declared.plan.Plan.{Plan}
-use Rattle.hba_driver.specs.declared.request.Outcome.TheVariants.{Done, Removed}
+use Rattle.hba_driver.specs.declared.request.Outcome.{Outcome}
+use Rattle.hba_driver.specs.declared.request.Outcome.TheVariants.{Done, DeviceError, Aborted, Removed, PortError}
+use Rattle.hba_driver.specs.declared.sight.ErrorLog.{ErrorLog}
 use Rattle.hba_driver.specs.declared.sight.Sight.{Sight}
+use Rattle.hba_driver.specs.declared.slot.Group.{Group}
+use Rattle.hba_driver.specs.declared.slot.Group.TheVariants as group
 use Rattle.hba_driver.specs.declared.slot.Head.{Head}
-use Rattle.hba_driver.specs.declared.slot.Phase.TheVariants.{Issued, Ended}
+use Rattle.hba_driver.specs.declared.slot.Phase.TheVariants.{Issued, Aside, Ended}
 use Rattle.hba_driver.specs.declared.turn.Act.{Act}
 use Rattle.hba_driver.specs.declared.turn.Act.TheVariants as act
+use Rattle.hba_driver.specs.declared.turn.Logged.{Logged}
 use Rattle.hba_driver.specs.declared.turn.Turn.{Turn}
-use Rattle.hba_driver.specs.Drivers.{Driver, Entry, entry_at, has_ended, holds, is_issued, rephase_all, rephased, with_device}
+use Rattle.hba_driver.specs.Drivers.{Driver, Entry, device_at, entry_at, has_ended, holds, is_aside, is_issued, rephase_all, rephased, with_device}
 use Rattle.hba_driver.specs.Effects.{effects_of}
+use Rattle.hba_driver.specs.Orders.{control_port, is_flush}
+use Rattle.hba_driver.specs.Paths.{recovery, reset_if_there}
 use Rattle.hba_driver.specs.Turns.{turn_of}
 
--- ---- requests that are done
+-- ---- groups of requests
 
 -- issued, and the slot's bit is neither in PxCI nor in PxSACT
 abbrev pub is_done : (issued : ℕ) → ℕ → Head → Bool
 is_done issued slot head = is_issued head && not (has_bit issued slot)
+
+-- that have not ended
+abbrev pub is_open : ℕ → Head → Bool
+is_open slot head = not (has_ended head)
+
+-- of a device
+abbrev pub is_open_of : (dev : ℕ) → ℕ → Head → Bool
+is_open_of dev slot head = (head.dev == dev) && not (has_ended head)
+
+-- that were set aside
+abbrev pub is_aside_of : (dev : ℕ) → ℕ → Head → Bool
+is_aside_of dev slot head = (head.dev == dev) && is_aside head
+
+-- a log names the request with its tag, or, where no queued command failed, a Flush
+abbrev pub is_named : ErrorLog → ℕ → Head → Bool
+is_named log slot head = if log.unqueued then is_flush head.work else slot == log.tag
+
+-- the one among those of its device that were set aside
+abbrev pub is_named_of : ErrorLog → (dev : ℕ) → ℕ → Head → Bool
+is_named_of log dev slot head = is_aside_of dev slot head && is_named log slot head
+
+abbrev pub is_in : Group → ℕ → Head → Bool
+is_in (group.DoneOf issued) = is_done issued
+is_in group.Open = is_open
+is_in (group.OpenOf dev) = is_open_of dev
+is_in (group.AsideOf dev) = is_aside_of dev
+is_in (group.NamedBy log dev) = is_named_of log dev
+
+-- ---- requests that are done, and those of a device whose log came
 
 abbrev pub done_ended : (issued : ℕ) → List (Option Entry) → List (Option Entry)
 done_ended issued entries = rephase_all (is_done issued) (Ended Done) entries
@@ -32,44 +72,90 @@ done_ended issued entries = rephase_all (is_done issued) (Ended Done) entries
 unfoldable pub any_done : (issued : ℕ) → List (Option Entry) → Bool
 any_done issued entries = is_some (lowest_below (λ slot. holds (is_done issued slot) (entry_at entries slot)) 30)
 
--- ---- what an act leaves of the driver
+-- how the request ends that a log names: with the log's Status and Error, or with those of the device after its fault
+abbrev pub log_outcome : ErrorLog → TaskFile → Outcome
+log_outcome log file =
+    if log.unqueued then DeviceError file.status file.error else DeviceError log.status log.error
 
--- requests of a device that have not ended
-abbrev pub is_open_of : (dev : ℕ) → ℕ → Head → Bool
-is_open_of dev slot head = (head.dev == dev) && not (has_ended head)
+-- the others that were set aside are aborted
+abbrev pub log_ended : ErrorLog → Logged → List (Option Entry) → List (Option Entry)
+log_ended log l entries =
+    rephase_all (is_aside_of l.dev) (Ended Aborted)
+    (rephase_all (is_named_of log l.dev) (Ended (log_outcome log l.file)) entries)
 
--- no device is identified any more, if it was this one
-abbrev pub unless : (dev : ℕ) → Option ℕ → Option ℕ
+abbrev pub logged_ended : ErrorLog → Option Logged → List (Option Entry) → List (Option Entry)
+logged_ended log None entries = entries
+logged_ended log (Some l) entries = log_ended log l entries
+
+-- ---- what an act leaves of the plan
+
+-- slot 30 works on this device no longer
+abbrev pub unless : (dev : ℕ) → Option Path → Option Path
 unless dev None = None
-unless dev (Some other) = if other == dev then None else Some other
+unless dev (Some path) = if path.dev == dev then None else Some path
 
 abbrev pub plan_without : (dev : ℕ) → Plan → Plan
-plan_without dev plan = record (with_device dev Absent plan) { identifying = unless dev plan.identifying }
+plan_without dev plan = record (with_device dev Absent plan) { path = unless dev plan.path }
 
 abbrev pub ordered : Order → Plan → Plan
 ordered (Clear port) plan = record (plan_without port plan) { asked = true }
 ordered order plan = record plan { asked = true }
 
-unfoldable pub plan_after : Act → Plan → Plan
-plan_after (act.Opens k) plan = record plan { opened = k + 1 }
-plan_after (act.Orders order) plan = ordered order plan
-plan_after (act.Identifies dev) plan = record plan { identifying = Some dev }
-plan_after (act.Issues slot dev queued) plan = plan
+-- slot 31 begins with the software reset of the multiplier, whatever it was at
+abbrev pub from_reset : Plan → Plan
+from_reset plan = record plan { order = ResetOn; asked = false }
 
--- the requests of a port that a scan found are removed
+-- the port is stopped: two writes start it again, and then each device that is there is reset
+abbrev pub stopped_plan : Plan → Plan
+stopped_plan plan = record (from_reset plan) {
+  restarted = 0;
+  path = None;
+  devices = map reset_if_there plan.devices;
+}
+
+-- the device that had a fault recovers, and slot 30 works on it no longer
+abbrev pub recovering : (dev : ℕ) → TaskFile → Plan → Plan
+recovering dev file plan =
+    record (with_device dev (Recovering (recovery (device_at plan dev) file)) plan) { path = unless dev plan.path }
+
+abbrev pub cleared_plan : (dev : ℕ) → TaskFile → Plan → Plan
+cleared_plan dev file plan = if nat_lt dev control_port then recovering dev file plan else from_reset plan
+
+-- the file is the task file that PxTFD shows once the act was done
+unfoldable pub plan_after : Act → TaskFile → Plan → Plan
+plan_after (act.Opens k) file plan = record plan { opened = k + 1 }
+plan_after act.Stops file plan = stopped_plan plan
+plan_after (act.Restarts k) file plan = record plan { restarted = k + 1 }
+plan_after (act.Clears dev) file plan = cleared_plan dev file plan
+plan_after (act.Orders order) file plan = ordered order plan
+plan_after (act.Steps dev stage) file plan =
+    record plan { path = Some (record { dev = dev; stage = stage; asked = true }) }
+plan_after (act.Issues slot dev queued) file plan = plan
+
+-- ---- and of the requests
+
+-- those of a port that a scan found are removed
 abbrev pub removed : Order → List (Option Entry) → List (Option Entry)
 removed (Clear port) entries = rephase_all (is_open_of port) (Ended Removed) entries
 removed order entries = entries
 
+-- as a device is reset, those that were set aside are aborted
+abbrev pub stage_ended : ℕ → Stage → List (Option Entry) → List (Option Entry)
+stage_ended dev AssertReset entries = rephase_all (is_aside_of dev) (Ended Aborted) entries
+stage_ended dev stage entries = entries
+
 unfoldable pub entries_after : Act → List (Option Entry) → List (Option Entry)
 entries_after (act.Opens k) entries = entries
+entries_after act.Stops entries = rephase_all is_open (Ended PortError) entries
+entries_after (act.Restarts k) entries = entries
+entries_after (act.Clears dev) entries = rephase_all (is_open_of dev) Aside entries
 entries_after (act.Orders order) entries = removed order entries
-entries_after (act.Identifies dev) entries = entries
+entries_after (act.Steps dev stage) entries = stage_ended dev stage entries
 entries_after (act.Issues slot dev queued) entries = slice_set entries slot (option_map (rephased Issued) (entry_at entries slot))
 
-abbrev pub acted : Option Act → Driver → Driver
-acted None d = d
-acted (Some a) d = record d { plan = plan_after a d.plan; entries = entries_after a d.entries }
+abbrev pub acted : Option Act → TaskFile → Driver → Driver
+acted None file d = d
+acted (Some a) file d = record d { plan = plan_after a file d.plan; entries = entries_after a d.entries }
 
 -- ---- the tick
 
@@ -79,14 +165,17 @@ turn v d = turn_of v d.plan (done_ended v.issued d.entries)
 
 -- the driver that has looked at all that came
 abbrev pub seen : Sight → Driver → Driver
-seen v d = record d { plan = (turn v d).plan; entries = done_ended v.issued d.entries }
+seen v d = record d {
+  plan = (turn v d).plan;
+  entries = logged_ended v.log (turn v d).logged (done_ended v.issued d.entries);
+}
 
--- while a fault stands nothing is due
 abbrev pub due : Sight → Driver → Option Act
-due v d = if v.faulted then None else (turn v d).act
+due v d = (turn v d).act
 
-unfoldable pub after_tick : Sight → Driver → Driver
-after_tick v d = if v.faulted then d else acted (turn v d).act (seen v d)
+-- of the task file that PxTFD shows after its effects the driver looks at Status and Error where a fault was cleared
+unfoldable pub after_tick : Sight → TaskFile → Driver → Driver
+after_tick v file d = acted (turn v d).act file (seen v d)
 
 abbrev pub effects_due : Option Act → List Effect
 effects_due a = match_some a [] effects_of
@@ -96,7 +185,7 @@ effects v d = effects_due (due v d)
 
 -- something was due, or something was seen
 unfoldable pub acts : Sight → Driver → Bool
-acts v d = not v.faulted && (is_some (turn v d).act || (any_done v.issued d.entries || (turn v d).news))
+acts v d = is_some (turn v d).act || (any_done v.issued d.entries || (turn v d).news)
 
 -- driver, port and memory are as they were
 pub record Rests (old : Driver) (port : Port) (memory : Memory) (new : Driver) (after : Port) (later : Memory) : Type 0 where

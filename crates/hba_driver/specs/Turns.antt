@@ -1,19 +1,27 @@
 -- What is due: a function of what is known and of what a tick sees. The driver's list, from the first item to the last:
--- open the port, bring up the multiplier and watch it by slot 31, identify a device by slot 30, issue a request.
+-- open the port, start it again after a fault, clear the fault of a device, bring up the multiplier and watch it by slot 31,
+-- identify a device or recover it by slot 30, issue a request (AHCI 1.3.1, 5.5, 6.2.2, error recovery, and 9.3, FIS-based
+-- Switching, on errors).
 use Rattle.std.specs.Prelude.{ℕ, ◌%◌, ◌<◌, ◌==◌, ◌&&◌, ◌||◌, Bool, true, false, not, nat_lt, if◌then◌else◌, List, slice_index_or, Option, Some, None, is_some}
 use Rattle.std.specs.Option.{option_map, option_or}
 use Rattle.slots.specs.Slots.{has_bit, lowest_below, match_some}
 use Rattle.hba_driver.specs.declared.order.Order.{Order}
 use Rattle.hba_driver.specs.declared.order.Order.TheVariants.{AwaitSignature, CountPorts, Scan, Detect, Watch, NoMultiplier}
+use Rattle.hba_driver.specs.declared.path.Path.{Path}
+use Rattle.hba_driver.specs.declared.path.Recovery.TheVariants.{Reset}
+use Rattle.hba_driver.specs.declared.path.Stage.{Stage}
+use Rattle.hba_driver.specs.declared.path.Stage.TheVariants.{Identify, ReadLog, AwaitReset}
 use Rattle.hba_driver.specs.declared.plan.Device.{Device}
-use Rattle.hba_driver.specs.declared.plan.Device.TheVariants.{Absent, Starting, Ready, Unusable}
+use Rattle.hba_driver.specs.declared.plan.Device.TheVariants.{Absent, Starting, Ready, Unusable, Recovering}
 use Rattle.hba_driver.specs.declared.plan.Plan.{Plan}
 use Rattle.hba_driver.specs.declared.sight.Sight.{Sight}
 use Rattle.hba_driver.specs.declared.turn.Act.{Act}
 use Rattle.hba_driver.specs.declared.turn.Act.TheVariants as act
+use Rattle.hba_driver.specs.declared.turn.Logged.{Logged}
 use Rattle.hba_driver.specs.declared.turn.Turn.{Turn}
 use Rattle.hba_driver.specs.Drivers.{Entry, IsOrder, device_at, entry_at, holds, waits, with_device}
 use Rattle.hba_driver.specs.Orders.{is_queued, next_order, order_fields}
+use Rattle.hba_driver.specs.Paths.{first_stage, next_stage, stage_fields}
 
 -- ---- slot 31: the multiplier
 
@@ -67,15 +75,65 @@ control_news v plan = if plan.asked then not (is_out v plan) else awaits plan.or
 
 -- ---- slot 30: a device
 
--- the identify data of a device came
-abbrev pub identified : Sight → ℕ → Plan → Plan
-identified v dev plan = record (with_device dev (if v.usable then Ready else Unusable) plan) { identifying = None }
+-- the identify data of a device came, or its log: one that is not whole leads to a reset
+unfoldable pub found_of : Sight → Stage → ℕ → Plan → Plan
+found_of v Identify dev plan = with_device dev (if v.usable then Ready else Unusable) plan
+found_of v (ReadLog file) dev plan = with_device dev (if v.log.whole then Ready else Recovering Reset) plan
+found_of v stage dev plan = plan
+
+-- a path that goes on with a stage, whose command is not out
+abbrev pub path_to : ℕ → Option Stage → Option Path
+path_to dev stage = option_map (λ s. record { dev = dev; stage = s; asked = false }) stage
+
+-- the command of a path's stage is over: what came of it is noted, and the path goes on, or ends
+abbrev pub advanced : Sight → Path → Plan → Plan
+advanced v path plan = record (found_of v path.stage path.dev plan) { path = path_to path.dev (next_stage path.stage) }
+
+-- its command was issued, and is not out any more
+abbrev pub is_back : Sight → Path → Bool
+is_back v path = path.asked && not (has_bit v.issued 30)
+
+abbrev pub path_answered : Sight → Plan → Plan
+path_answered v plan = match_some plan.path plan (λ path. if is_back v path then advanced v path plan else plan)
+
+-- a software reset of the device goes on
+abbrev pub is_in_reset : Sight → ℕ → Bool
+is_in_reset v dev = slice_index_or v.in_reset dev false
+
+-- the end of a reset is awaited: once it came the device is identified
+unfoldable pub met_stage : Sight → ℕ → Stage → Stage
+met_stage v dev AwaitReset = if is_in_reset v dev then AwaitReset else Identify
+met_stage v dev stage = stage
+
+abbrev pub met_path : Sight → Path → Path
+met_path v path = if path.asked then path else record path { stage = met_stage v path.dev path.stage }
+
+abbrev pub path_met : Sight → Plan → Plan
+path_met v plan = record plan { path = option_map (met_path v) plan.path }
 
 abbrev pub device_seen : Sight → Plan → Plan
-device_seen v plan = match_some plan.identifying plan (λ dev. if has_bit v.issued 30 then plan else identified v dev plan)
+device_seen v plan = path_met v (path_answered v plan)
+
+abbrev pub awaits_reset : Stage → Bool
+awaits_reset AwaitReset = true
+awaits_reset _ = false
+
+-- an answer came, or the end of a reset
+abbrev pub path_news : Sight → Path → Bool
+path_news v path =
+    if path.asked then not (has_bit v.issued 30) else awaits_reset path.stage && not (is_in_reset v path.dev)
 
 abbrev pub device_news : Sight → Plan → Bool
-device_news v plan = is_some plan.identifying && not (has_bit v.issued 30)
+device_news v plan = match_some plan.path false (path_news v)
+
+-- the device whose log came and is whole, with the task file after its fault
+unfoldable pub logged_by : Sight → ℕ → Stage → Option Logged
+logged_by v dev (ReadLog file) = if v.log.whole then Some (record { dev = dev; file = file }) else None
+logged_by v dev stage = None
+
+abbrev pub device_logged : Sight → Plan → Option Logged
+device_logged v plan =
+    match_some plan.path None (λ path. if is_back v path then logged_by v path.dev path.stage else None)
 
 -- ---- what is due
 
@@ -83,26 +141,48 @@ device_news v plan = is_some plan.identifying && not (has_bit v.issued 30)
 abbrev pub opening_due : Plan → Option Act
 opening_due plan = if nat_lt plan.opened 7 then Some (act.Opens plan.opened) else None
 
+-- the next of the two writes that start it again after a fault
+abbrev pub restart_due : Plan → Option Act
+restart_due plan = if nat_lt plan.restarted 2 then Some (act.Restarts plan.restarted) else None
+
+-- a fault has stopped the port, or PxFBS shows a device with one
+abbrev pub fault_due : Sight → Option Act
+fault_due v = if v.stopped then Some act.Stops else option_map act.Clears v.faulty
+
+-- these come before all else
+unfoldable pub early_due : Sight → Plan → Option Act
+early_due v plan = option_or (opening_due plan) (option_or (restart_due plan) (fault_due v))
+
 -- slot 31 is free, and the order has a command
 abbrev pub order_due : Plan → Option Act
 order_due plan = if plan.asked then None else option_map (λ fields. act.Orders plan.order) (order_fields plan.order)
 
-abbrev pub is_starting : Device → Bool
-is_starting Starting = true
-is_starting _ = false
+-- what is due for a device by slot 30
+abbrev pub stage_for : Sight → Plan → ℕ → Option Stage
+stage_for v plan dev = first_stage (device_at plan dev) (slice_index_or v.signed dev false)
+
+-- the command of a stage, where it has one
+abbrev pub step_of : ℕ → Stage → Option Act
+step_of dev stage = option_map (λ fields. act.Steps dev stage) (stage_fields dev stage)
+
+-- the path that has slot 30 holds it to its end
+abbrev pub path_due : Path → Option Act
+path_due path = if path.asked then None else step_of path.dev path.stage
+
+-- where none has, the lowest device for which something is due gets it
+abbrev pub is_due : Sight → Plan → ℕ → Bool
+is_due v plan dev = is_some (stage_for v plan dev)
+
+abbrev pub stage_due : Sight → Plan → ℕ → Option Act
+stage_due v plan dev = match_some (stage_for v plan dev) None (step_of dev)
+
+unfoldable pub device_due : Sight → Plan → Option Act
+device_due v plan =
+    match_some plan.path (match_some (lowest_below (is_due v plan) 15) None (stage_due v plan)) path_due
 
 abbrev pub is_ready : Device → Bool
 is_ready Ready = true
 is_ready _ = false
-
--- a device that starts has sent its signature
-abbrev pub may_identify : Sight → Plan → ℕ → Bool
-may_identify v plan dev = is_starting (device_at plan dev) && slice_index_or v.signed dev false
-
--- slot 30 is free, and the lowest such device is identified
-unfoldable pub identify_due : Sight → Plan → Option Act
-identify_due v plan =
-    if is_some plan.identifying then None else option_map act.Identifies (lowest_below (may_identify v plan) 15)
 
 -- a request waits, and its device is ready
 abbrev pub may_issue : Plan → Option Entry → Bool
@@ -122,11 +202,14 @@ request_due plan entries =
 -- an act is to a device and a slot that are there
 abbrev pub IsAct : Act → Type 0
 IsAct (act.Opens k) = k < 7
+IsAct act.Stops = Unit {0}
+IsAct (act.Restarts k) = k < 2
+IsAct (act.Clears dev) = Unit {0}
 IsAct (act.Orders order) = IsOrder order
-IsAct (act.Identifies dev) = dev < 15
+IsAct (act.Steps dev stage) = dev < 15
 IsAct (act.Issues slot dev queued) = slot < 30
 
--- ---- the turn: what is known then, the first act that is due, and whether an answer came
+-- ---- the turn: what is known then, the first act that is due, whether an answer came, and whose log it was
 
 abbrev pub is_idle : Order → Bool
 is_idle NoMultiplier = true
@@ -136,18 +219,23 @@ is_idle _ = false
 abbrev pub device_turn : Sight → Bool → Plan → List (Option Entry) → Turn
 device_turn v news plan entries = record {
   plan = device_seen v plan;
-  act = option_or (identify_due v (device_seen v plan)) (request_due (device_seen v plan) entries);
+  act = option_or (device_due v (device_seen v plan)) (request_due (device_seen v plan) entries);
   news = news || device_news v plan;
+  logged = device_logged v plan;
 }
+
+-- a turn without slot 30
+abbrev pub plain_turn : Plan → Option Act → Bool → Turn
+plain_turn plan a news = record { plan = plan; act = a; news = news; logged = None }
 
 -- once the port is open; with no multiplier nothing more is due
 abbrev pub control_turn : Sight → Bool → Plan → List (Option Entry) → Turn
 control_turn v news plan entries =
-    if is_idle plan.order then record { plan = plan; act = None; news = news }
-    else if is_some (order_due plan) then record { plan = plan; act = order_due plan; news = news }
+    if is_idle plan.order then plain_turn plan None news
+    else if is_some (order_due plan) then plain_turn plan (order_due plan) news
     else device_turn v news plan entries
 
 unfoldable pub turn_of : Sight → Plan → List (Option Entry) → Turn
 turn_of v plan entries =
-    if is_some (opening_due plan) then record { plan = plan; act = opening_due plan; news = false }
+    if is_some (early_due v plan) then plain_turn plan (early_due v plan) false
     else control_turn v (control_news v plan) (control_seen v plan) entries

@@ -1,22 +1,24 @@
 //! The driver.
 
-ghost use Rattle.std.specs.Prelude.{◌≡◌, ◌-◌, false, true, IfOk, IfSome, None, OnErr, Some};
+ghost use Rattle.std.specs.Prelude.{◌≡◌, ◌-◌, false, true, length, IfOk, IfSome, OnErr, Some};
 ghost use Rattle.std.specs.List.{list_all};
 ghost use Rattle.std.specs.Result.{result_err};
 ghost use Rattle.hba_driver.specs.Drivers.{IsSound, new_driver};
 ghost use Rattle.hba_driver.specs.Effects.{ActsAll, is_effect};
 ghost use Rattle.hba_driver.specs.Requests.{in_use as in_use_of, room_refusal as room_refusal_of};
-ghost use Rattle.hba_driver.specs.Sights.{sight_of};
+ghost use Rattle.hba_driver.specs.Sights.{file_shown, sight_of};
 ghost use Rattle.hba_driver.specs.Submits.{Takes, after_poll, completion_of, end_of as end_of_memory, submit_refusal};
-ghost use Rattle.hba_driver.specs.Ticks.{Rests, acted as acted_of, acts, after_tick, due as due_of, effects, effects_due};
+ghost use Rattle.hba_driver.specs.Ticks.{Rests, acted as acted_of, acts, after_tick, due as due_of, effects, effects_due, seen};
 ghost use Rattle.hba_driver.specs.Turns.{IsAct};
 
 use crate::effect::table_of;
+use crate::path::TaskFile;
 use crate::plan::Plan;
 use crate::refusal::shape_refusal;
 use crate::request::{Completion, Request, SubmitError, Ticket};
 use crate::scan::{
-    any_done, apply, are_blocked, are_used, end_done, have_conflict, lowest_ended, lowest_free,
+    any_done, apply, are_blocked, are_used, end_done, end_logged, have_conflict, lowest_ended,
+    lowest_free,
 };
 use crate::sight::Sight;
 use crate::slot::{Head, Phase, Slot, share_bytes};
@@ -74,42 +76,48 @@ impl Driver {
         let _ = &self.plan;
     }
 
-    // What an act leaves of it.
-    fn act(&mut self, act: Act)
+    // What an act leaves of it, after which PxTFD shows this task file.
+    fn act(&mut self, act: Act, file: TaskFile)
         requires { IsAct act }
-        ensures { self.new ≡ acted_of (Some act) self.old }
+        ensures { self.new ≡ acted_of (Some act) file self.old }
     {
-        self.plan = self.plan.after(act);
+        self.plan = self.plan.after(act, file);
         apply(&mut self.slots, act);
     }
 
-    // The driver's part of a tick: what it is to do to port and memory, and whether it acted.
-    #[tactic(auto, unfolding(crate::specs::Ticks::after_tick, crate::specs::Ticks::acts))]
-    fn step(&mut self, sight: Sight) -> (Option<Act>, bool)
-        ensures driver { self.new ≡ after_tick sight self.old }
+    // So does what is due, if something is.
+    fn advance(&mut self, act: Option<Act>, file: TaskFile)
+        requires { IfSome act IsAct }
+        ensures { self.new ≡ acted_of act file self.old }
+    {
+        if let Some(act) = act {
+            self.act(act, file);
+        }
+    }
+
+    // It looks at all that came: what it is to do to port and memory, and whether it acts.
+    #[tactic(auto, unfolding(crate::specs::Ticks::acts))]
+    fn look(&mut self, sight: Sight) -> (Option<Act>, bool)
+        ensures driver { self.new ≡ seen sight self.old }
         ensures due { result.0 ≡ due_of sight self.old }
         ensures act { IfSome result.0 IsAct }
         ensures answer { result.1 ≡ acts sight self.old }
-        ensures rests { result.1 ≡ false → (result.0 ≡ None) × (self.new ≡ self.old) }
+        ensures long { length self.old.entries ≡ 30 }
     {
-        if sight.faulted {
-            return (None, false);
-        }
         let ended = any_done(&self.slots, sight.issued);
         end_done(&mut self.slots, sight.issued);
         let turn = self.plan.turn(sight, &self.slots);
         self.plan = turn.plan;
-        let Some(act) = turn.act else {
-            return (None, ended || turn.news);
-        };
-        self.act(act);
-        (Some(act), true)
+        end_logged(&mut self.slots, sight.log, turn.logged);
+        (turn.act, turn.act.is_some() || (ended || turn.news))
     }
 
-    /// Does the next thing that is due, and says whether something was. Each request that its device
-    /// has done has ended first. While a fault of the port or of a device stands nothing is due.
+    /// Does the next thing that is due, and says whether something was done or seen. Each request that
+    /// its device has done has ended first. A fault of the port or of a device is cleared before all else.
+    #[tactic(auto, unfolding(crate::specs::Ticks::after_tick))]
     pub fn tick(&mut self, port: &mut HostPort, memory: &mut HostMemory) -> bool
-        ensures driver { self.new ≡ after_tick (sight_of port.old memory.old) self.old }
+        ensures driver { self.new
+            ≡ after_tick (sight_of port.old memory.old) (file_shown port.new) self.old }
         ensures effects { ActsAll (effects (sight_of port.old memory.old) self.old)
             port.old memory.old port.new memory.new }
         ensures possible { list_all is_effect (effects (sight_of port.old memory.old) self.old)
@@ -119,8 +127,9 @@ impl Driver {
             → Rests self.old port.old memory.old self.new port.new memory.new }
     {
         let sight = Sight::of(port, memory);
-        let (act, acted) = self.step(sight);
+        let (act, acted) = self.look(sight);
         perform(act, port, memory);
+        self.advance(act, TaskFile::shown(port));
         acted
     }
 

@@ -3,13 +3,13 @@
 ghost use Rattle.std.specs.Prelude.{◌≡◌, ◌+◌, ◌*◌, ◌^◌, ◌<◌, ◌≤◌, true, length, replicate};
 ghost use Rattle.std.specs.List.{list_all};
 ghost use Rattle.host_memory.specs.Memory.{overwritten};
-ghost use Rattle.hba_driver.specs.Effects.{Acts, ActsAll, Commands, Tries, effects_of, emptied, is_effect, opening_write as opening_write_of, order_effects, prds_with, table_of as table_of_slot};
+ghost use Rattle.hba_driver.specs.Effects.{Acts, ActsAll, Commands, Tries, clearing, effects_of, emptied, is_effect, opening_write as opening_write_of, order_effects, prds_with, restart_write as restart_write_of, stage_effects, table_of as table_of_slot};
 ghost use Rattle.hba_driver.specs.Turns.{IsAct};
 ghost use Rattle.hba_driver.specs.Drivers.{IsOrder};
-ghost use Rattle.hba_driver.specs.Orders.{identify_fields};
 
-use crate::order::{CONTROL_PORT, Order, command};
-use crate::sight::{CI, CLB, CLBU, CMD, FB, FBS, FBU, SACT, SNTF};
+use crate::order::{CONTROL_PORT, Order};
+use crate::path::Stage;
+use crate::sight::{CI, CLB, CLBU, CMD, FB, FBS, FBU, IS, SACT, SNTF};
 use crate::turn::Act;
 use fis_view::H2dFields;
 use hba_commands::write_command;
@@ -137,6 +137,27 @@ fn opening_write(k: u8) -> Effect
     }
 }
 
+#[tactic(auto, unfolding(crate::specs::Effects::restart_write))]
+fn restart_write(k: u8) -> Effect
+    requires { k < 2 }
+    ensures value { result ≡ restart_write_of k }
+    ensures possible { is_effect result ≡ true }
+{
+    match k {
+        0 => Effect::Writes(IS, 0xFFFF_FFFF),
+        _ => Effect::Writes(CMD, 0x2_0011),
+    }
+}
+
+// The fault of a device is cleared: OFS, IFS and TFES of PxIS, and DEC, with the device and EN, in PxFBS.
+fn clear_fault(dev: u8, port: &mut HostPort, memory: &mut HostMemory)
+    ensures { ActsAll (clearing dev) port.old memory.old port.new memory.new }
+{
+    let seen = Effect::Writes(IS, 0x4900_0000);
+    let cleared = Effect::Writes(FBS, 0x100 * u32::from(dev) + 3);
+    perform_all(&[seen, cleared], port, memory);
+}
+
 // The device and EN in PxFBS.
 fn choose(dev: u8) -> Effect
     ensures { result ≡ Effect.Writes 64 (256 * dev + 1) }
@@ -178,6 +199,20 @@ impl Order {
     }
 }
 
+impl Stage {
+    // What its issue does.
+    fn perform(self, dev: u8, port: &mut HostPort, memory: &mut HostMemory)
+        requires { dev < 15 }
+        ensures { ActsAll (stage_effects dev self) port.old memory.old port.new memory.new }
+    {
+        let Some(fields) = self.fields(dev) else {
+            return;
+        };
+        let own = Effect::Commands(DEVICE_SLOT, fields, self.reads_page());
+        perform_all(&[own, choose(dev), issue(DEVICE_SLOT)], port, memory);
+    }
+}
+
 impl Act {
     /// What it does to port and memory.
     #[tactic(auto, unfolding(crate::specs::Effects::effects_of))]
@@ -187,11 +222,11 @@ impl Act {
     {
         match self {
             Act::Opens(k) => perform_all(&[opening_write(k)], port, memory),
+            Act::Stops => perform_all(&[Effect::Writes(CMD, 0x2_0010)], port, memory),
+            Act::Restarts(k) => perform_all(&[restart_write(k)], port, memory),
+            Act::Clears(dev) => clear_fault(dev, port, memory),
             Act::Orders(order) => order.perform(port, memory),
-            Act::Identifies(dev) => {
-                let own = Effect::Commands(DEVICE_SLOT, identify(dev), true);
-                perform_all(&[own, choose(dev), issue(DEVICE_SLOT)], port, memory);
-            }
+            Act::Steps(dev, stage) => stage.perform(dev, port, memory),
             Act::Issues(slot, dev, true) => {
                 let armed = Effect::Writes(SACT, bit(slot));
                 perform_all(&[choose(dev), armed, issue(slot)], port, memory);
@@ -201,11 +236,4 @@ impl Act {
             }
         }
     }
-}
-
-// IDENTIFY DEVICE.
-fn identify(dev: u8) -> H2dFields
-    ensures { result ≡ identify_fields dev }
-{
-    command(dev, 0xEC, 0, 0, 0, 0)
 }

@@ -4,6 +4,7 @@ ghost use Rattle.hba_driver.specs.Delivered.{TurnsDeliver};
 ghost use Rattle.hba_driver.specs.Accepted.{WritesAreAccepted};
 ghost use Rattle.hba_driver.specs.Done.{DoneIsTrue};
 ghost use Rattle.hba_driver.specs.Events.{EachRunTells, HostsAreSound, TurnsAreEvents};
+ghost use Rattle.hba_driver.specs.Faults.{ErrorsAreNamed};
 ghost use Rattle.hba_driver.specs.Laws.{CommandsStand, DoneIsFree, EachRunKeeps, TicksKeep, TicksServe};
 ghost use Rattle.hba_driver.specs.Served.{TurnsServe};
 
@@ -13,8 +14,9 @@ pub fn ticks_keep()
     ensures { TicksKeep }
 {}
 
-/// A request is issued only where it waits for a device that is ready, and in the tick of its flush a
-/// device is no longer ready and has no open request. It does nothing when it runs.
+/// A request is issued only where it waits for a device that is ready. In the tick of its flush a device is
+/// no longer ready and has no open request; in the tick that clears its fault it recovers, and none of its
+/// requests waits or is issued; as the port is stopped every request ends. It does nothing when it runs.
 pub fn ticks_serve()
     ensures { TicksServe }
 {}
@@ -36,6 +38,12 @@ pub fn commands_stand()
 /// issued in its slot of the port any more. It does nothing when it runs.
 pub fn done_is_free()
     ensures { DoneIsFree }
+{}
+
+/// A tick ends a request as [`DeviceError`](crate::Outcome::DeviceError) only where it was set aside, the error
+/// log of its device was just read and is whole, and the log names it. It does nothing when it runs.
+pub fn errors_are_named()
+    ensures { ErrorsAreNamed }
 {}
 
 /// Port, driver and memory together are sound as they open, whatever the first ticket and the size of

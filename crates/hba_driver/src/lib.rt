@@ -1,7 +1,7 @@
 //! A small driver of one AHCI host port with a port multiplier behind it.
 //!
-//! [`Driver::tick`] does the next thing that is due: it opens the port, brings up the multiplier and the devices behind it,
-//! and issues the requests that wait. [`Driver::submit`] takes a request or says why not, and [`Driver::poll`] gives an
+//! [`Driver::tick`] does the next thing that is due: it opens the port, clears faults, brings up the multiplier and the
+//! devices behind it, lets devices recover, and issues the requests that wait. [`Driver::submit`] takes a request or says why not, and [`Driver::poll`] gives an
 //! ended one. All room lies in fixed fields: no call takes memory.
 #![tactic(auto)]
 
@@ -9,6 +9,7 @@ mod driver;
 mod effect;
 mod laws;
 mod order;
+mod path;
 mod plan;
 mod refusal;
 mod request;
@@ -19,8 +20,8 @@ mod turn;
 
 pub use driver::Driver;
 pub use laws::{
-    commands_stand, done_is_free, done_is_true, hosts_stay_sound, ticks_keep, ticks_serve,
-    turns_are_events, turns_deliver, turns_keep, turns_serve, writes_are_accepted,
+    commands_stand, done_is_free, done_is_true, errors_are_named, hosts_stay_sound, ticks_keep,
+    ticks_serve, turns_are_events, turns_deliver, turns_keep, turns_serve, writes_are_accepted,
 };
 pub use request::{Completion, Outcome, Request, SubmitError, Ticket, Work};
 

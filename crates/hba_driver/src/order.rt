@@ -90,7 +90,8 @@ pub(crate) fn command(
     }
 }
 
-fn control(port: u8, value: u8) -> H2dFields
+/// The Device Control register of a port.
+pub(crate) fn control(port: u8, value: u8) -> H2dFields
     ensures { result ≡ control_of port value }
 {
     H2dFields {

@@ -1,11 +1,11 @@
 //! What the driver knows of the port, of the multiplier and of the devices behind it.
 
-ghost use Rattle.std.specs.Prelude.{◌≡◌, ◌<◌, IfSome, length, slice_index_or, false, ◌&&◌};
-ghost use Rattle.slots.specs.Slots.{lowest_below};
+ghost use Rattle.std.specs.Prelude.{◌≡◌, ◌<◌, length};
 ghost use Rattle.hba_driver.specs.Drivers.{IsOrder, IsSoundPlan, device_at, opening_plan, with_device as with_device_of};
-ghost use Rattle.hba_driver.specs.Turns.{answered as answered_by, awaits as awaits_of, control_news as control_news_of, control_seen as control_seen_by, detected as detected_by, device_news as device_news_of, device_seen as device_seen_by, identified as identified_by, is_out as is_out_of, is_ready as is_ready_of, is_starting as is_starting_of, may_identify as may_identify_of, met_order as met_order_by, noted as noted_by, signed_order as signed_order_by, with_next as with_next_of};
+ghost use Rattle.hba_driver.specs.Turns.{answered as answered_by, awaits as awaits_of, control_news as control_news_of, control_seen as control_seen_by, detected as detected_by, is_out as is_out_of, is_ready as is_ready_of, met_order as met_order_by, noted as noted_by, signed_order as signed_order_by, with_next as with_next_of};
 
 use crate::order::Order;
+use crate::path::{Path, Recovery};
 use crate::sight::{Sight, has_bit};
 
 /// What is known of a device.
@@ -20,21 +20,21 @@ pub(crate) enum Device {
     /// It takes no queued commands.
     Unusable,
     /// It recovers from a fault, and takes requests again once it has.
-    Recovering,
+    Recovering(Recovery),
 }
 
 /// PxSIG of a port multiplier.
 const MULTIPLIER: u32 = 0x9669_0101;
 /// The slot of commands to the multiplier.
 const CONTROL_SLOT: u8 = 31;
-/// The slot of the driver's own commands to devices.
-const DEVICE_SLOT: u8 = 30;
 
 /// What the driver knows, but for its requests.
 #[derive(Clone, Copy, Debug, PartialEq, Eq)]
 pub(crate) struct Plan {
     /// How many of the seven writes that open the port were done.
     pub(crate) opened: u8,
+    /// How many of the two writes that start it again after a fault were done.
+    pub(crate) restarted: u8,
     /// What slot 31 does next.
     pub(crate) order: Order,
     /// Its command was issued.
@@ -43,8 +43,8 @@ pub(crate) struct Plan {
     pub(crate) ports: u8,
     /// GSCR[32] as the last scan read it: the ports with an error.
     pub(crate) found: u32,
-    /// The device whose identify data slot 30 reads.
-    pub(crate) identifying: Option<u8>,
+    /// The device that has slot 30.
+    pub(crate) path: Option<Path>,
     /// By port.
     pub(crate) devices: [Device; 15],
 }
@@ -56,16 +56,7 @@ impl Device {
     {
         match self {
             Device::Ready => true,
-            Device::Absent | Device::Starting | Device::Unusable | Device::Recovering => false,
-        }
-    }
-
-    fn is_starting(self) -> bool
-        ensures { result ≡ is_starting_of self }
-    {
-        match self {
-            Device::Starting => true,
-            Device::Absent | Device::Ready | Device::Unusable | Device::Recovering => false,
+            Device::Absent | Device::Starting | Device::Unusable | Device::Recovering(_) => false,
         }
     }
 }
@@ -80,15 +71,6 @@ fn detected(status: u32) -> Device
     }
 }
 
-fn is_at(signed: &[bool; 16], dev: u8) -> bool
-    ensures { result ≡ slice_index_or signed.now dev false }
-{
-    match signed.get(dev as usize) {
-        Some(is) => *is,
-        None => false,
-    }
-}
-
 impl Plan {
     /// Nothing is done yet.
     pub(crate) fn new() -> Plan
@@ -97,11 +79,12 @@ impl Plan {
     {
         Plan {
             opened: 0,
+            restarted: 2,
             order: Order::ResetOn,
             asked: false,
             ports: 0,
             found: 0,
-            identifying: None,
+            path: None,
             devices: [Device::Absent; 15],
         }
     }
@@ -215,67 +198,6 @@ impl Plan {
         } else {
             self.order.awaits() && !sight.resetting
         }
-    }
-
-    fn identified(self, sight: Sight, dev: u8) -> Plan
-        requires dev { dev < 15 }
-        requires sound { IsSoundPlan self }
-        ensures value { result ≡ identified_by sight dev self }
-        ensures sound { IsSoundPlan result }
-    {
-        let device = if sight.usable {
-            Device::Ready
-        } else {
-            Device::Unusable
-        };
-        Plan {
-            identifying: None,
-            ..self.with_device(dev, device)
-        }
-    }
-
-    /// What slot 30 shows is noted.
-    pub(crate) fn device_seen(self, sight: Sight) -> Plan
-        requires { IsSoundPlan self }
-        ensures value { result ≡ device_seen_by sight self }
-        ensures sound { IsSoundPlan result }
-    {
-        match self.identifying {
-            Some(dev) => {
-                if has_bit(sight.issued, DEVICE_SLOT) {
-                    self
-                } else {
-                    self.identified(sight, dev)
-                }
-            }
-            None => self,
-        }
-    }
-
-    /// Whether identify data came.
-    pub(crate) fn device_news(self, sight: Sight) -> bool
-        ensures { result ≡ device_news_of sight self }
-    {
-        self.identifying.is_some() && !has_bit(sight.issued, DEVICE_SLOT)
-    }
-
-    fn may_identify(self, sight: Sight, dev: u8) -> bool
-        ensures { result ≡ may_identify_of sight self dev }
-    {
-        self.device(dev).is_starting() && is_at(&sight.signed, dev)
-    }
-
-    /// The lowest device that starts and has sent its signature.
-    pub(crate) fn lowest_signed(self, sight: Sight) -> Option<u8>
-        ensures value { result ≡ lowest_below (may_identify_of sight self) 15 }
-        ensures below { IfSome result (λ dev. dev < 15) }
-    {
-        for dev in 0..15_u8 {
-            if self.may_identify(sight, dev) {
-                return Some(dev);
-            }
-        }
-        None
     }
 }
 

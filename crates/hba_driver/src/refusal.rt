@@ -19,7 +19,7 @@ impl Device {
     {
         match self {
             Device::Ready => None,
-            Device::Recovering => Some(SubmitError::Recovering),
+            Device::Recovering(_) => Some(SubmitError::Recovering),
             Device::Absent | Device::Starting | Device::Unusable => Some(SubmitError::NoDevice),
         }
     }

@@ -36,8 +36,19 @@ pub struct Ticket(pub u32);
 pub enum Outcome {
     /// The device has done it.
     Done,
+    /// The device has failed it, and shows this Status and this Error.
+    DeviceError {
+        /// Status of its task file.
+        status: u8,
+        /// Error of its task file.
+        error: u8,
+    },
+    /// Its device had a fault in which another command failed, or was reset.
+    Aborted,
     /// The device was taken away, or came anew.
     Removed,
+    /// The port had a fault.
+    PortError,
 }
 
 /// An ended request, as it is polled.

@@ -3,19 +3,19 @@
 ghost use Rattle.std.specs.Prelude.{◌≡◌, ◌<◌, IfSome, length};
 ghost use Rattle.std.specs.List.{list_any};
 ghost use Rattle.slots.specs.Slots.{lowest_below};
-ghost use Rattle.hba_driver.specs.declared.request.Outcome.TheVariants.{Done, Removed};
-ghost use Rattle.hba_driver.specs.declared.slot.Phase.TheVariants.{Ended};
 ghost use Rattle.hba_driver.specs.Drivers.{entry_at, has_ended, holds, rephase_all};
 ghost use Rattle.hba_driver.specs.Requests.{blocks, conflicts, is_used_by, lowest_free as lowest_free_of};
 ghost use Rattle.hba_driver.specs.Submits.{lowest_ended as lowest_ended_of};
-ghost use Rattle.hba_driver.specs.Ticks.{any_done as any_done_of, done_ended, entries_after, is_open_of};
+ghost use Rattle.hba_driver.specs.Ticks.{any_done as any_done_of, done_ended, entries_after, is_in, log_ended, log_outcome, logged_ended};
 ghost use Rattle.hba_driver.specs.Turns.{IsAct, may_issue};
 
 use crate::order::Order;
+use crate::path::{Stage, TaskFile};
 use crate::plan::Plan;
 use crate::request::{Outcome, Work};
-use crate::slot::{Phase, Slot};
-use crate::turn::Act;
+use crate::sight::ErrorLog;
+use crate::slot::{Group, Phase, Slot};
+use crate::turn::{Act, Logged};
 use host_memory::Prd;
 
 /// The lowest slot with a request that waits for a device that is ready.
@@ -65,32 +65,70 @@ pub(crate) fn any_done(slots: &[Slot; 30], issued: u32) -> bool
     ensures { result ≡ any_done_of issued slots.now }
 {
     for slot in 0..30_u8 {
-        if slots[slot as usize].is_done(issued, slot) {
+        if slots[slot as usize].is_in(Group::DoneOf(issued), slot) {
             return true;
         }
     }
     false
 }
 
-/// Each of these requests has ended.
+// Each request of a group has come to this.
+fn rephase(slots: &mut [Slot; 30], group: Group, phase: Phase)
+    ensures rephased { slots.new ≡ rephase_all (is_in group) phase slots.old }
+    ensures long { length slots.new ≡ 30 }
+{
+    for slot in 0..30_u8 {
+        let comes = slots[slot as usize].is_in(group, slot);
+        slots[slot as usize].set_phase_if(comes, phase);
+    }
+}
+
+/// Each request that is issued, and whose bit is not among these, has ended.
 pub(crate) fn end_done(slots: &mut [Slot; 30], issued: u32)
     ensures ended { slots.new ≡ done_ended issued slots.old }
     ensures long { length slots.new ≡ 30 }
 {
-    for slot in 0..30_u8 {
-        let ends = slots[slot as usize].is_done(issued, slot);
-        slots[slot as usize].end_if(ends, Outcome::Done);
+    rephase(slots, Group::DoneOf(issued), Phase::Ended(Outcome::Done));
+}
+
+// How the request ends that a log names, of a device with this task file after its fault.
+fn outcome_of(log: ErrorLog, file: TaskFile) -> Outcome
+    ensures { result ≡ log_outcome log file }
+{
+    if log.unqueued {
+        Outcome::DeviceError {
+            status: file.status,
+            error: file.error,
+        }
+    } else {
+        Outcome::DeviceError {
+            status: log.status,
+            error: log.error,
+        }
     }
 }
 
-/// Each request of a device that has not ended is removed.
-pub(crate) fn remove(slots: &mut [Slot; 30], dev: u8)
-    ensures ended { slots.new ≡ rephase_all (is_open_of dev) (Ended Removed) slots.old }
+// Each request of the device that was set aside has ended: as the log says, if it names it.
+fn end_by_log(slots: &mut [Slot; 30], log: ErrorLog, logged: Logged)
+    ensures ended { slots.new ≡ log_ended log logged slots.old }
     ensures long { length slots.new ≡ 30 }
 {
-    for slot in 0..30_u8 {
-        let ends = slots[slot as usize].is_open_of(dev, slot);
-        slots[slot as usize].end_if(ends, Outcome::Removed);
+    let named = Phase::Ended(outcome_of(log, logged.file));
+    rephase(slots, Group::NamedBy(log, logged.dev), named);
+    rephase(
+        slots,
+        Group::AsideOf(logged.dev),
+        Phase::Ended(Outcome::Aborted),
+    );
+}
+
+/// Each request that was set aside has ended, of the device whose log came.
+pub(crate) fn end_logged(slots: &mut [Slot; 30], log: ErrorLog, logged: Option<Logged>)
+    ensures ended { slots.new ≡ logged_ended log logged slots.old }
+    ensures long { length slots.new ≡ 30 }
+{
+    if let Some(logged) = logged {
+        end_by_log(slots, log, logged);
     }
 }
 
@@ -102,9 +140,16 @@ pub(crate) fn apply(slots: &mut [Slot; 30], act: Act)
     ensures long { length slots.new ≡ 30 }
 {
     match act {
-        Act::Orders(Order::Clear(dev)) => remove(slots, dev),
+        Act::Stops => rephase(slots, Group::Open, Phase::Ended(Outcome::PortError)),
+        Act::Clears(dev) => rephase(slots, Group::OpenOf(dev), Phase::Aside),
+        Act::Orders(Order::Clear(dev)) => {
+            rephase(slots, Group::OpenOf(dev), Phase::Ended(Outcome::Removed));
+        }
+        Act::Steps(dev, Stage::AssertReset) => {
+            rephase(slots, Group::AsideOf(dev), Phase::Ended(Outcome::Aborted));
+        }
         Act::Issues(slot, _, _) => slots[slot as usize].set_phase(Phase::Issued),
-        Act::Opens(_) | Act::Orders(_) | Act::Identifies(_) => {}
+        Act::Opens(_) | Act::Restarts(_) | Act::Orders(_) | Act::Steps(..) => {}
     }
 }
 

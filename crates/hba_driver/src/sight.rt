@@ -1,11 +1,12 @@
 //! What a tick sees of the port and of memory.
 
-ghost use Rattle.std.specs.Prelude.{◌≡◌, ◌+◌, ◌<◌, ◌≤◌, length, map};
+ghost use Rattle.std.specs.Prelude.{◌≡◌, ◌+◌, ◌<◌, ◌≤◌, false, length, map, slice_index_or, sum, take};
 ghost use Rattle.std.specs.List.{range_with_len};
 ghost use Rattle.fis_view.specs.Seen.{seen};
 ghost use Rattle.hba_fbs.specs.Posting.{is_signature};
 ghost use Rattle.hba_fbs.specs.Status.{is_quiet as is_quiet_status};
-ghost use Rattle.hba_driver.specs.Sights.{answer_in, has_fault as has_fault_of, is_ata, is_usable as is_usable_in, last_d2h as last_d2h_of, shown, sight_of};
+ghost use Rattle.hba_driver.specs.Sights.{answer_in, faulty_in, is_ata, is_stopped as is_stopped_of, is_usable as is_usable_in, last_d2h as last_d2h_of, log_in, shown, sight_of};
+ghost use Rattle.hba_fbs.specs.Views.{view_of};
 ghost use Rattle.slots.specs.Slots.{has_bit as has_bit_of};
 
 use crate::order::CONTROL_PORT;
@@ -25,6 +26,8 @@ pub(crate) const FBU: u32 = 0x0C;
 pub(crate) const IS: u32 = 0x10;
 /// PxCMD.
 pub(crate) const CMD: u32 = 0x18;
+/// PxTFD.
+pub(crate) const TFD: u32 = 0x20;
 /// PxSIG.
 pub(crate) const SIG: u32 = 0x24;
 /// PxSACT.
@@ -48,15 +51,32 @@ const DRQ: u8 = 3;
 /// Status.BSY.
 const BSY: u8 = 7;
 
+/// What the NCQ Command Error log in the driver's buffer says.
+#[derive(Clone, Copy, Debug, PartialEq, Eq)]
+pub(crate) struct ErrorLog {
+    /// Its bytes add up to 0 modulo 256.
+    pub(crate) whole: bool,
+    /// The command that failed was not queued.
+    pub(crate) unqueued: bool,
+    /// The tag of the command that failed, where it was queued.
+    pub(crate) tag: u8,
+    pub(crate) status: u8,
+    pub(crate) error: u8,
+}
+
 /// What a tick sees.
 #[derive(Clone, Copy, Debug, PartialEq, Eq)]
 pub(crate) struct Sight {
     /// PxCI and PxSACT together: the slots that are not done.
     pub(crate) issued: u32,
-    /// A fault of the port or of a device stands.
-    pub(crate) faulted: bool,
+    /// A fault has stopped the port as a whole.
+    pub(crate) stopped: bool,
+    /// The device whose fault the port shows.
+    pub(crate) faulty: Option<u8>,
     /// The multiplier is in software reset.
     pub(crate) resetting: bool,
+    /// By device: it is in software reset.
+    pub(crate) in_reset: [bool; 16],
     /// PxSIG.
     pub(crate) signature: u32,
     /// PxSNTF has the bit of the multiplier.
@@ -67,6 +87,8 @@ pub(crate) struct Sight {
     pub(crate) signed: [bool; 16],
     /// The identify data in the driver's buffer are those of a device for queued commands.
     pub(crate) usable: bool,
+    /// The error log, where the driver's buffer has it.
+    pub(crate) log: ErrorLog,
 }
 
 /// Whether a dword has this bit.
@@ -77,8 +99,9 @@ pub(crate) fn has_bit(value: u32, k: u8) -> bool
     value >> k & 1 == 1
 }
 
+/// The value of the register at an offset.
 #[tactic(auto, unfolding(crate::specs::Sights::shown))]
-fn register(port: &HostPort, offset: u32) -> u32
+pub(crate) fn register(port: &HostPort, offset: u32) -> u32
     ensures { result ≡ shown port.now offset }
 {
     port.read(offset).unwrap_or(0)
@@ -150,10 +173,66 @@ fn is_usable(client: &[u8]) -> bool
     client[153] % 2 == 1 && client[150] % 32 == 31
 }
 
-fn has_fault(interrupts: u32, switching: u32) -> bool
-    ensures { result ≡ has_fault_of interrupts switching }
+/// The flag of a device.
+pub(crate) fn is_at(flags: &[bool; 16], dev: u8) -> bool
+    ensures { result ≡ slice_index_or flags.now dev false }
 {
-    has_bit(interrupts, HBFS) || has_bit(switching, SDE)
+    match flags.get(dev as usize) {
+        Some(is) => *is,
+        None => false,
+    }
+}
+
+// What these bytes add up to.
+fn sum_of(bytes: &[u8]) -> u32
+    requires { length bytes.now ≤ 65536 }
+    ensures { result ≡ sum bytes.now }
+{
+    let mut sum = 0_u32;
+    for byte in bytes {
+        sum += *byte as u32;
+    }
+    sum
+}
+
+fn error_log(client: &[u8]) -> ErrorLog
+    requires { 512 ≤ length client.now }
+    ensures { result ≡ log_in client.now }
+{
+    ErrorLog {
+        whole: sum_of(&client[..512]) % 256 == 0,
+        unqueued: client[0] / 128 % 2 == 1,
+        tag: client[0] % 32,
+        status: client[2],
+        error: client[3],
+    }
+}
+
+// The devices in software reset.
+fn in_reset(port: &HostPort) -> [bool; 16]
+    ensures { result ≡ map (λ dev. (view_of dev port.now).state.resetting) (range_with_len 0 16) }
+{
+    let mut in_reset = [false; 16];
+    for dev in 0..16_u8 {
+        in_reset[dev as usize] = port.resetting(dev);
+    }
+    in_reset
+}
+
+fn is_stopped(interrupts: u32, switching: u32) -> bool
+    ensures { result ≡ is_stopped_of interrupts switching }
+{
+    has_bit(interrupts, HBFS) && !has_bit(switching, SDE)
+}
+
+fn faulty(switching: u32) -> Option<u8>
+    ensures { result ≡ faulty_in switching }
+{
+    if has_bit(switching, SDE) {
+        Some((switching / 0x1_0000 % 16) as u8)
+    } else {
+        None
+    }
 }
 
 impl Sight {
@@ -165,13 +244,16 @@ impl Sight {
         let structure = memory.structure();
         Sight {
             issued: register(port, CI) | register(port, SACT),
-            faulted: has_fault(register(port, IS), register(port, FBS)),
+            stopped: is_stopped(register(port, IS), register(port, FBS)),
+            faulty: faulty(register(port, FBS)),
             resetting: port.resetting(CONTROL_PORT),
+            in_reset: in_reset(port),
             signature: register(port, SIG),
             notified: has_bit(register(port, SNTF), CONTROL_PORT),
             answer: answer(last_d2h(structure, CONTROL_PORT)),
             signed: signed(structure),
             usable: is_usable(memory.client()),
+            log: error_log(memory.client()),
         }
     }
 }

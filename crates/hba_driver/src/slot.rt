@@ -3,17 +3,17 @@
 ghost use Rattle.std.specs.Prelude.{◌≡◌, ◌≤◌, ◌<◌, Some, None, if◌then◌else◌, length, take};
 ghost use Rattle.std.specs.Option.{option_map};
 ghost use Rattle.host_memory.specs.Reading.{shares_with as shares_with_of, share_byte as share_byte_of, share_with as share_with_of};
-ghost use Rattle.hba_driver.specs.Drivers.{has_ended as has_ended_head, holds, is_issued as is_issued_head, is_read as is_read_of, rephased, waits as waits_head};
+ghost use Rattle.hba_driver.specs.Drivers.{has_ended as has_ended_head, holds, is_aside as is_aside_head, is_issued as is_issued_head, is_read as is_read_of, rephased, waits as waits_head};
 ghost use Rattle.hba_driver.specs.Orders.{is_flush as is_flush_of, is_queued as is_queued_of, request_fields, work_fields};
 ghost use Rattle.hba_driver.specs.Requests.{blocks as blocks_of, conflicts as conflicts_of, is_among as is_among_of, is_free as is_free_entry, is_used_by, share_bytes as share_bytes_of};
 ghost use Rattle.hba_driver.specs.Submits.{completed, completion_at};
-ghost use Rattle.hba_driver.specs.Ticks.{is_done as is_done_head, is_open_of};
+ghost use Rattle.hba_driver.specs.Ticks.{is_aside_of as is_aside_of_head, is_done as is_done_head, is_in as is_in_group, is_named, is_open_of as is_open_of_head};
 ghost use Rattle.hba_driver.specs.Turns.{issue_of, may_issue as may_issue_entry};
 
 use crate::order::command;
 use crate::plan::Plan;
 use crate::request::{Completion, Outcome, Ticket, Work};
-use crate::sight::has_bit;
+use crate::sight::{ErrorLog, has_bit};
 use crate::turn::Act;
 use fis_view::H2dFields;
 use host_memory::Prd;
@@ -26,8 +26,25 @@ pub(crate) enum Phase {
     Waits,
     /// Its command is issued.
     Issued,
+    /// It was set aside, until its device has recovered.
+    Aside,
     /// It has ended so, and waits for its poll.
     Ended(Outcome),
+}
+
+/// A group of requests.
+#[derive(Clone, Copy, Debug, PartialEq, Eq)]
+pub(crate) enum Group {
+    /// That are issued, and whose bits are not among these.
+    DoneOf(u32),
+    /// That have not ended.
+    Open,
+    /// That have not ended, of a device.
+    OpenOf(u8),
+    /// That were set aside, of a device.
+    AsideOf(u8),
+    /// Those of them that this log names.
+    NamedBy(ErrorLog, u8),
 }
 
 /// What is known of a request beside where its bytes lie.
@@ -111,13 +128,60 @@ impl Work {
 }
 
 impl Head {
+    // Whether its command is issued, and the slot's bit is not among these.
+    fn is_done(self, issued: u32, slot: u8) -> bool
+        requires { slot < 32 }
+        ensures { result ≡ is_done_head issued slot self }
+    {
+        self.is_issued() && !has_bit(issued, slot)
+    }
+
+    // Whether it is one of the device and has not ended.
+    fn is_open_of(self, dev: u8, slot: u8) -> bool
+        ensures { result ≡ is_open_of_head dev slot self }
+    {
+        self.dev == dev && !self.has_ended()
+    }
+
+    // Whether it is one of the device and was set aside.
+    fn is_aside_of(self, dev: u8, slot: u8) -> bool
+        ensures { result ≡ is_aside_of_head dev slot self }
+    {
+        self.dev == dev && self.is_aside()
+    }
+
+    // Whether a log names it: by its tag, or, where no queued command failed, as a Flush.
+    fn is_named(self, log: ErrorLog, slot: u8) -> bool
+        ensures { result ≡ is_named log slot self }
+    {
+        if log.unqueued {
+            self.work.is_flush()
+        } else {
+            slot == log.tag
+        }
+    }
+
+    /// Whether it is in this group.
+    pub(crate) fn is_in(self, group: Group, slot: u8) -> bool
+        requires { slot < 32 }
+        ensures { result ≡ is_in_group group slot self }
+    {
+        match group {
+            Group::DoneOf(issued) => self.is_done(issued, slot),
+            Group::Open => !self.has_ended(),
+            Group::OpenOf(dev) => self.is_open_of(dev, slot),
+            Group::AsideOf(dev) => self.is_aside_of(dev, slot),
+            Group::NamedBy(log, dev) => self.is_aside_of(dev, slot) && self.is_named(log, slot),
+        }
+    }
+
     /// Whether it waits for its issue.
     pub(crate) fn waits(self) -> bool
         ensures { result ≡ waits_head self }
     {
         match self.phase {
             Phase::Waits => true,
-            Phase::Issued | Phase::Ended(_) => false,
+            Phase::Issued | Phase::Aside | Phase::Ended(_) => false,
         }
     }
 
@@ -127,7 +191,17 @@ impl Head {
     {
         match self.phase {
             Phase::Issued => true,
-            Phase::Waits | Phase::Ended(_) => false,
+            Phase::Waits | Phase::Aside | Phase::Ended(_) => false,
+        }
+    }
+
+    /// Whether it was set aside.
+    pub(crate) fn is_aside(self) -> bool
+        ensures { result ≡ is_aside_head self }
+    {
+        match self.phase {
+            Phase::Aside => true,
+            Phase::Waits | Phase::Issued | Phase::Ended(_) => false,
         }
     }
 
@@ -137,7 +211,7 @@ impl Head {
     {
         match self.phase {
             Phase::Ended(_) => true,
-            Phase::Waits | Phase::Issued => false,
+            Phase::Waits | Phase::Issued | Phase::Aside => false,
         }
     }
 
@@ -165,7 +239,7 @@ impl Head {
                 slot,
                 outcome,
             }),
-            Phase::Waits | Phase::Issued => None,
+            Phase::Waits | Phase::Issued | Phase::Aside => None,
         }
     }
 }
@@ -254,23 +328,13 @@ impl Slot {
         self.head.is_none()
     }
 
-    /// Whether its request is issued, and its bit is not among these.
-    pub(crate) fn is_done(&self, issued: u32, slot: u8) -> bool
+    /// Whether its request is in this group.
+    pub(crate) fn is_in(&self, group: Group, slot: u8) -> bool
         requires { slot < 32 }
-        ensures { result ≡ holds (is_done_head issued slot) self.now }
+        ensures { result ≡ holds (is_in_group group slot) self.now }
     {
         match self.head {
-            Some(head) => head.is_issued() && !has_bit(issued, slot),
-            None => false,
-        }
-    }
-
-    /// Whether its request is one of the device and has not ended.
-    pub(crate) fn is_open_of(&self, dev: u8, slot: u8) -> bool
-        ensures { result ≡ holds (is_open_of dev slot) self.now }
-    {
-        match self.head {
-            Some(head) => head.dev == dev && !head.has_ended(),
+            Some(head) => head.is_in(group, slot),
             None => false,
         }
     }
@@ -338,13 +402,12 @@ impl Slot {
         }
     }
 
-    /// Its request has ended so, where it does.
-    pub(crate) fn end_if(&mut self, ends: bool, outcome: Outcome)
-        ensures { self.new
-            ≡ (if ends then option_map (rephased (Phase.Ended outcome)) self.old else self.old) }
+    /// So it has, where it does.
+    pub(crate) fn set_phase_if(&mut self, comes: bool, phase: Phase)
+        ensures { self.new ≡ (if comes then option_map (rephased phase) self.old else self.old) }
     {
-        if ends {
-            self.set_phase(Phase::Ended(outcome));
+        if comes {
+            self.set_phase(phase);
         }
     }
 

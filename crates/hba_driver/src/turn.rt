@@ -1,12 +1,13 @@
 //! What is due.
 
-ghost use Rattle.std.specs.Prelude.{◌≡◌, ◌<◌, IfSome};
+ghost use Rattle.std.specs.Prelude.{◌≡◌, ◌<◌, true, IfSome, Some};
 ghost use Rattle.std.specs.Option.{option_or};
 ghost use Rattle.hba_driver.specs.Drivers.{IsOrder, IsSoundPlan};
-ghost use Rattle.hba_driver.specs.Ticks.{ordered as ordered_of, plan_after as plan_after_of, plan_without};
-ghost use Rattle.hba_driver.specs.Turns.{IsAct, control_turn as control_turn_of, device_turn as device_turn_of, identify_due as identify_due_of, is_idle as is_idle_order, opening_due as opening_due_of, order_due as order_due_of, request_due as request_due_of, turn_of};
+ghost use Rattle.hba_driver.specs.Ticks.{cleared_plan, from_reset as from_reset_of, ordered as ordered_of, plan_after as plan_after_of, plan_without, recovering as recovering_of, stopped_plan, unless as unless_of};
+ghost use Rattle.hba_driver.specs.Turns.{IsAct, control_turn as control_turn_of, device_due as device_due_of, device_turn as device_turn_of, early_due as early_due_of, fault_due as fault_due_of, is_idle as is_idle_order, opening_due as opening_due_of, order_due as order_due_of, path_due as path_due_of, plain_turn, request_due as request_due_of, restart_due as restart_due_of, stage_due as stage_due_of, step_of, turn_of};
 
-use crate::order::Order;
+use crate::order::{CONTROL_PORT, Order};
+use crate::path::{Path, Stage, TaskFile, reset_all};
 use crate::plan::{Device, Plan};
 use crate::scan::lowest_due;
 use crate::sight::Sight;
@@ -17,12 +18,25 @@ use crate::slot::Slot;
 pub(crate) enum Act {
     /// The next write, of this number, that opens the port.
     Opens(u8),
+    /// The port is stopped.
+    Stops,
+    /// The next write, of this number, that starts it again.
+    Restarts(u8),
+    /// The fault of a device is cleared.
+    Clears(u8),
     /// The command of an order.
     Orders(Order),
-    /// A device's identify data are read.
-    Identifies(u8),
+    /// The command of a stage, for a device.
+    Steps(u8, Stage),
     /// The request of a slot is issued, for a device, and whether its command is queued.
     Issues(u8, u8, bool),
+}
+
+/// The device whose log came and is whole, with the task file that it had after its fault.
+#[derive(Clone, Copy, Debug, PartialEq, Eq)]
+pub(crate) struct Logged {
+    pub(crate) dev: u8,
+    pub(crate) file: TaskFile,
 }
 
 /// What is known once a tick has looked at what came, and what is due then.
@@ -33,6 +47,22 @@ pub(crate) struct Turn {
     pub(crate) act: Option<Act>,
     /// Whether something came.
     pub(crate) news: bool,
+    /// Whose log it was.
+    pub(crate) logged: Option<Logged>,
+}
+
+impl Turn {
+    // Without slot 30.
+    fn plain(plan: Plan, act: Option<Act>, news: bool) -> Turn
+        ensures { result ≡ plain_turn plan act news }
+    {
+        Turn {
+            plan,
+            act,
+            news,
+            logged: None,
+        }
+    }
 }
 
 #[tactic(auto, unfolding(crate::specs::Turns::request_due))]
@@ -43,6 +73,49 @@ fn request_due(plan: Plan, slots: &[Slot; 30]) -> Option<Act>
     match lowest_due(&plan, slots) {
         Some(slot) => slots[slot as usize].issue(slot),
         None => None,
+    }
+}
+
+// The fault that the port shows is due to be cleared.
+fn fault_due(sight: Sight) -> Option<Act>
+    ensures value { result ≡ fault_due_of sight }
+    ensures act { IfSome result IsAct }
+{
+    if sight.stopped {
+        return Some(Act::Stops);
+    }
+    match sight.faulty {
+        Some(dev) => Some(Act::Clears(dev)),
+        None => None,
+    }
+}
+
+impl Stage {
+    // Its command, where it has one.
+    fn step(self, dev: u8) -> Option<Act>
+        requires { dev < 15 }
+        ensures value { result ≡ step_of dev self }
+        ensures act { IfSome result IsAct }
+    {
+        match self.fields(dev) {
+            Some(_) => Some(Act::Steps(dev, self)),
+            None => None,
+        }
+    }
+}
+
+impl Path {
+    // The command of its stage, if it is not out.
+    fn due(self) -> Option<Act>
+        requires { self.dev < 15 }
+        ensures value { result ≡ path_due_of self }
+        ensures act { IfSome result IsAct }
+    {
+        if self.asked {
+            None
+        } else {
+            self.stage.step(self.dev)
+        }
     }
 }
 
@@ -80,26 +153,65 @@ impl Plan {
         }
     }
 
-    #[tactic(auto, unfolding(crate::specs::Turns::identify_due))]
-    fn identify_due(self, sight: Sight) -> Option<Act>
-        ensures value { result ≡ identify_due_of sight self }
+    fn restart_due(self) -> Option<Act>
+        ensures value { result ≡ restart_due_of self }
         ensures act { IfSome result IsAct }
     {
-        if self.identifying.is_some() {
-            return None;
+        if self.restarted < 2 {
+            Some(Act::Restarts(self.restarted))
+        } else {
+            None
         }
-        match self.lowest_signed(sight) {
-            Some(dev) => Some(Act::Identifies(dev)),
+    }
+
+    // What comes before all else.
+    #[tactic(auto, unfolding(crate::specs::Turns::early_due))]
+    fn early_due(self, sight: Sight) -> Option<Act>
+        ensures value { result ≡ early_due_of sight self }
+        ensures act { IfSome result IsAct }
+    {
+        if let Some(act) = self.opening_due() {
+            return Some(act);
+        }
+        if let Some(act) = self.restart_due() {
+            return Some(act);
+        }
+        fault_due(sight)
+    }
+
+    fn stage_due(self, sight: Sight, dev: u8) -> Option<Act>
+        requires { dev < 15 }
+        ensures value { result ≡ stage_due_of sight self dev }
+        ensures act { IfSome result IsAct }
+    {
+        match self.stage_for(sight, dev) {
+            Some(stage) => stage.step(dev),
+            None => None,
+        }
+    }
+
+    #[tactic(auto, unfolding(crate::specs::Turns::device_due))]
+    fn slot_due(self, sight: Sight) -> Option<Act>
+        requires { IsSoundPlan self }
+        ensures value { result ≡ device_due_of sight self }
+        ensures act { IfSome result IsAct }
+    {
+        if let Some(path) = self.path {
+            return path.due();
+        }
+        match self.lowest_due(sight) {
+            Some(dev) => self.stage_due(sight, dev),
             None => None,
         }
     }
 
     // Slot 30, and then the requests.
     fn device_due(self, sight: Sight, slots: &[Slot; 30]) -> Option<Act>
-        ensures value { result ≡ option_or (identify_due_of sight self) (request_due_of self slots.now) }
+        requires { IsSoundPlan self }
+        ensures value { result ≡ option_or (device_due_of sight self) (request_due_of self slots.now) }
         ensures act { IfSome result IsAct }
     {
-        match self.identify_due(sight) {
+        match self.slot_due(sight) {
             Some(act) => Some(act),
             None => request_due(self, slots),
         }
@@ -116,6 +228,7 @@ impl Plan {
             plan,
             act: plan.device_due(sight, slots),
             news: news || self.device_news(sight),
+            logged: self.device_logged(sight),
         }
     }
 
@@ -126,37 +239,87 @@ impl Plan {
         ensures act { IfSome result.act IsAct }
     {
         if self.order.is_idle() {
-            return Turn {
-                plan: self,
-                act: None,
-                news,
-            };
+            return Turn::plain(self, None, news);
         }
         let act = self.order_due();
         if act.is_some() {
-            return Turn {
-                plan: self,
-                act,
-                news,
-            };
+            return Turn::plain(self, act, news);
         }
         self.device_turn(sight, news, slots)
     }
 
-    // No device is identified any more, if it was this one.
+    // The path that has slot 30, if it is not one of this device.
+    fn path_unless(self, dev: u8) -> Option<Path>
+        ensures { result ≡ unless_of dev self.path }
+    {
+        match self.path {
+            Some(path) if path.dev == dev => None,
+            other => other,
+        }
+    }
+
     fn without(self, dev: u8) -> Plan
         requires dev { dev < 15 }
         requires sound { IsSoundPlan self }
         ensures value { result ≡ plan_without dev self }
         ensures sound { IsSoundPlan result }
     {
-        let identifying = match self.identifying {
-            Some(other) if other == dev => None,
-            other => other,
-        };
         Plan {
-            identifying,
+            path: self.path_unless(dev),
             ..self.with_device(dev, Device::Absent)
+        }
+    }
+
+    // Slot 31 begins anew.
+    fn from_reset(self) -> Plan
+        requires { IsSoundPlan self }
+        ensures value { result ≡ from_reset_of self }
+        ensures sound { IsSoundPlan result }
+    {
+        Plan {
+            order: Order::ResetOn,
+            asked: false,
+            ..self
+        }
+    }
+
+    fn stopped(self) -> Plan
+        requires { IsSoundPlan self }
+        ensures value { result ≡ stopped_plan self }
+        ensures sound { IsSoundPlan result }
+    {
+        Plan {
+            restarted: 0,
+            path: None,
+            devices: reset_all(self.devices),
+            ..self.from_reset()
+        }
+    }
+
+    // The device recovers from its fault, after which it had this task file.
+    fn recovering(self, dev: u8, file: TaskFile) -> Plan
+        requires dev { dev < 15 }
+        requires sound { IsSoundPlan self }
+        ensures value { result ≡ recovering_of dev file self }
+        ensures sound { IsSoundPlan result }
+    {
+        let recovery = self.device(dev).recovery(file);
+        Plan {
+            path: self.path_unless(dev),
+            ..self.with_device(dev, Device::Recovering(recovery))
+        }
+    }
+
+    // The fault of the device, or of the multiplier, was cleared.
+    fn cleared(self, dev: u8, file: TaskFile) -> Plan
+        requires { IsSoundPlan self }
+        ensures value { result ≡ cleared_plan dev file self }
+        ensures sound { IsSoundPlan result }
+    {
+        if dev < CONTROL_PORT {
+            self.recovering(dev, file)
+        } else {
+            self.from_reset()
         }
     }
 
@@ -178,12 +341,29 @@ impl Plan {
         }
     }
 
-    /// What is known once this was done.
+    fn stepped(self, dev: u8, stage: Stage) -> Plan
+        requires dev { dev < 15 }
+        requires sound { IsSoundPlan self }
+        ensures value { result ≡ record self { path = Some (record { dev = dev; stage = stage; asked = true }) } }
+        ensures sound { IsSoundPlan result }
+    {
+        let path = Path {
+            dev,
+            stage,
+            asked: true,
+        };
+        Plan {
+            path: Some(path),
+            ..self
+        }
+    }
+
+    /// What is known once this was done, and PxTFD shows this task file.
     #[tactic(auto, unfolding(crate::specs::Ticks::plan_after))]
-    pub(crate) fn after(self, act: Act) -> Plan
+    pub(crate) fn after(self, act: Act, file: TaskFile) -> Plan
         requires act { IsAct act }
         requires sound { IsSoundPlan self }
-        ensures value { result ≡ plan_after_of act self }
+        ensures value { result ≡ plan_after_of act file self }
         ensures sound { IsSoundPlan result }
     {
         match act {
@@ -191,11 +371,14 @@ impl Plan {
                 opened: k + 1,
                 ..self
             },
-            Act::Orders(order) => self.ordered(order),
-            Act::Identifies(dev) => Plan {
-                identifying: Some(dev),
+            Act::Stops => self.stopped(),
+            Act::Restarts(k) => Plan {
+                restarted: k + 1,
                 ..self
             },
+            Act::Clears(dev) => self.cleared(dev, file),
+            Act::Orders(order) => self.ordered(order),
+            Act::Steps(dev, stage) => self.stepped(dev, stage),
             Act::Issues(..) => self,
         }
     }
@@ -208,13 +391,9 @@ impl Plan {
         ensures sound { IsSoundPlan result.plan }
         ensures act { IfSome result.act IsAct }
     {
-        let act = self.opening_due();
+        let act = self.early_due(sight);
         if act.is_some() {
-            return Turn {
-                plan: self,
-                act,
-                news: false,
-            };
+            return Turn::plain(self, act, false);
         }
         self.control_seen(sight)
             .control_turn(sight, self.control_news(sight), slots)

@@ -1,6 +1,6 @@
 -- Digits that are decoded pair by pair.
 use Rattle.std.proofs.Common.{◌≡◌, ℕ, ◌+◌, ◌*◌, ◌%◌, ◌==◌, Bool, true, false, List, [], ◌∷◌, ◌++◌, length, slice_index, Option, Some, None, Result, Ok, Err, refl, sym, ap, ◌∙◌, arith, inl, inr, length-append}
-use Rattle.std.specs.Prelude.{IsErr, IsOk, is_err, is_ok, MatchResult}
+use Rattle.std.specs.Prelude.{IsErr, IsOk, IsTrue, is_err, is_ok, MatchResult}
 use Rattle.std.proofs.lemmas.Bool.{cases_Bool}
 use Rattle.std.proofs.lemmas.List.{append-nil}
 use Rattle.hex.specs.Hex.{decode_of, decode_pairs, decode_sized, digit_or_error, hex_digit_value, pair_value, ◌>>=◌}
@@ -129,3 +129,12 @@ unfolding decode_pairs
 all_read all rest bytes spells none =
     let is : decode_pairs 0 all ≡ Ok bytes = spells ∙ ap (λ (xs : List ℕ). prepend bytes (decode_pairs (2 * length bytes) xs)) none ∙ ap Ok (append-nil bytes) in
     decode_of-even all (are_even 0 all (rw is refl)) ∙ is
+
+-- ---- whether a text spells bytes
+
+pub spells_none : (r : Result (List ℕ) FromHexError) → IsErr r → (IsTrue false → IsOk r) × (IsOk r → IsTrue false)
+spells_none (Ok bytes) err = absurd (cc)
+spells_none (Err e) err = (λ is. absurd (cc), λ ok. absurd (cc))
+
+pub spells_some : (r : Result (List ℕ) FromHexError) (bytes : List ℕ) → r ≡ Ok bytes → (IsTrue true → IsOk r) × (IsOk r → IsTrue true)
+spells_some r bytes is = (λ so. rw is refl, λ ok. refl)

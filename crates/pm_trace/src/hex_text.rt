@@ -1,6 +1,6 @@
 //! Bytes as hexadecimal text, with blanks between the digits allowed where it is read.
 
-ghost use Rattle.std.specs.Prelude.{◌≡◌, ◌<◌, ◌∷◌, [], ℕ, length, IfOk, IsErr, MatchOption};
+ghost use Rattle.std.specs.Prelude.{◌≡◌, ◌↔◌, ◌<◌, ◌∷◌, [], ℕ, length, IfOk, IsErr, IsOk, IsTrue, MatchOption};
 ghost use Rattle.hex.specs.Hex.{decode_of, pair_value};
 ghost use Rattle.pm_trace.specs.Text.{without_blanks};
 
@@ -29,9 +29,21 @@ impl From<AllocError> for HexError {
     }
 }
 
-/// The bytes that the digits spell, two digits a byte, in either case. Blanks count for nothing. Each byte is decoded
-/// into its place, in room for just as many.
+/// The bytes that the digits spell, two digits a byte, in either case. Blanks count for nothing. Digits that spell none are
+/// refused for that, also where there is no memory.
 pub fn bytes_of(alloc: Global, text: &[u8]) -> Result<Vec<u8>, HexError>
+    ensures value { IfOk result (λ bytes. decode_of (without_blanks text.now) ≡ Ok bytes.items) }
+    ensures bad_hex { (result ≡ Err HexError.BadHex) ↔ IsErr (decode_of (without_blanks text.now)) }
+{
+    match decoded(alloc, text) {
+        Err(HexError::OutOfMemory) if !spells_bytes(text) => Err(HexError::BadHex),
+        bytes => bytes,
+    }
+}
+
+// The bytes that the digits spell. Each is decoded into its place, in room for just as many, for which memory is asked
+// before the digits are looked at.
+fn decoded(alloc: Global, text: &[u8]) -> Result<Vec<u8>, HexError>
     ensures value { IfOk result (λ bytes. decode_of (without_blanks text.now) ≡ Ok bytes.items) }
     ensures bad_hex { result ≡ Err HexError.BadHex → IsErr (decode_of (without_blanks text.now)) }
 {
@@ -48,6 +60,23 @@ pub fn bytes_of(alloc: Global, text: &[u8]) -> Result<Vec<u8>, HexError>
         rest = behind;
     }
     Ok(bytes)
+}
+
+// Whether the digits spell bytes. It takes no memory.
+fn spells_bytes(text: &[u8]) -> bool
+    ensures { IsTrue result ↔ IsOk (decode_of (without_blanks text.now)) }
+{
+    let mut rest = text;
+    'pairs: while let Some((high, behind)) = next_digit(rest) {
+        let Some((low, behind)) = next_digit(behind) else {
+            return false;
+        };
+        let Ok(_) = byte_of(high, low) else {
+            return false;
+        };
+        rest = behind;
+    }
+    true
 }
 
 // How many of these bytes are no blanks.

@@ -7,6 +7,7 @@ use std::test::Fail;
 mod by_hand;
 mod decoding;
 mod failing;
+mod going;
 mod lines;
 mod scenarios;
 mod steps;

@@ -12,7 +12,7 @@ use Rattle.multiplier.specs.Arbiter.{control_port}
 use Rattle.multiplier.specs.State.{PmState}
 use Rattle.hba_driver.specs.HostTurns.{Host}
 use Rattle.pm_world.specs.Places.{Places, Place, Queue, IsOrderly, opening, new_world}
-use Rattle.pm_world.specs.Rules.{Outcome, CameActs, DiskSendActs, InjectActs, CameRule, DiskSendRule, InjectRule, DiskTakeRule, PmPresenceRule, PmFromDeviceRule, PmDownRule, PmUpRule, HostTakeRule, OnDevice, OnDeviceAndMultiplier, Rule, Run}
+use Rattle.pm_world.specs.Rules.{Outcome, CameActs, GoneActs, DiskSendActs, InjectActs, CameRule, GoneRule, DiskSendRule, InjectRule, DiskTakeRule, PmPresenceRule, PmFromDeviceRule, PmDownRule, PmUpRule, HostTakeRule, OnDevice, OnDeviceAndMultiplier, Rule, Run}
 use Rattle.pm_world.specs.Traffic.{sent_by, taken_by, sent, taken}
 use Rattle.pm_world.specs.Counting.{capped, row_of, first_row, sent_more, taken_more, noted, says_came, has_come, Tell, AreOfARun}
 use Rattle.pm_world.specs.declared.counts.ConnCount.{ConnCount}
@@ -140,6 +140,16 @@ came_comes n old (answer.Came port conn) new acts = record {
 }
 came_comes n old _ new acts = absurd acts
 
+-- a device that went is not plugged in
+gone_comes : (n : ℕ) (old : Place) (a : Answer) (new : Place) → GoneActs n old a new → PlaceComes n old a new
+gone_comes n old answer.Blocked new acts = same_place n old answer.Blocked new acts.1 tt
+gone_comes n old (answer.Gone port conn) new acts = record {
+  comes = λ now. absurd (false≢true (sym (ap (λ (p : Place). p.plugged) acts.2) ∙ now));
+  sends = λ m c. inl refl;
+  within = λ m c says. absurd (false≢true says);
+}
+gone_comes n old _ new acts = absurd acts
+
 sends_comes : (n : ℕ) (old : Place) (a : Answer) (new : Place) → DiskSendActs n old a new → PlaceComes n old a new
 sends_comes n old answer.Idle new acts = same_place n old answer.Idle new acts.1 tt
 sends_comes n old answer.Blocked new acts = same_place n old answer.Blocked new acts.2 tt
@@ -212,6 +222,7 @@ on_both old n a new R comes h =
 -- each step
 rule_comes : (old : Places) (s : Step) (a : Answer) (new : Places) → Rule old s (Ok a) new → Comes old.devices a new.devices
 rule_comes old (step.Came n) a new rule = on_device old n a new (CameRule n) (λ place after r. came_comes n place a after r.1) rule
+rule_comes old (step.Gone n) a new rule = on_device old n a new (GoneRule n) (λ place after r. gone_comes n place a after r.1) rule
 rule_comes old (step.DiskSend n) a new rule = on_device old n a new (DiskSendRule n) (λ place after r. sends_comes n place a after r.1) rule
 rule_comes old (step.Inject n bytes) a new rule = on_device old n a new (InjectRule n bytes) (λ place after r. inject_comes n bytes place a after r.1) rule
 rule_comes old (step.DiskTake n) a new rule = on_device old n a new (DiskTakeRule n) (λ place after r. take_off_comes n place a after r) rule

@@ -7,7 +7,7 @@ use Rattle.multiplier.specs.State.{PmState}
 use Rattle.hba_driver.specs.HostTurns.{Host, HostTurn, Pushed, DoesAll}
 use Rattle.hba_driver.specs.declared.request.Request.{Request}
 use Rattle.pm_world.specs.Places.{Places, Place, Queue, opening_host, new_world}
-use Rattle.pm_world.specs.Rules.{Outcome, Rule, Run, OnDevice, OnDeviceAndMultiplier, CameActs, DiskSendActs, InjectActs, DiskTakeActs, CameRule, DiskSendRule, InjectRule, DiskTakeRule, PmPresenceRule, PmFromDeviceRule, PmDownRule, PmFromHostRule, PmUpRule, HostTakeRule, HostPushRule, TickRule, SubmitRule, PollRule, PutRule}
+use Rattle.pm_world.specs.Rules.{Outcome, Rule, Run, OnDevice, OnDeviceAndMultiplier, CameActs, GoneActs, DiskSendActs, InjectActs, DiskTakeActs, CameRule, GoneRule, DiskSendRule, InjectRule, DiskTakeRule, PmPresenceRule, PmFromDeviceRule, PmDownRule, PmFromHostRule, PmUpRule, HostTakeRule, HostPushRule, TickRule, SubmitRule, PollRule, PutRule}
 use Rattle.pm_world.specs.Runs.{over}
 use Rattle.pm_world.specs.Turns.{turn_of, HostIsFold}
 use Rattle.pm_world.specs.declared.step.Step.{Step}
@@ -27,6 +27,11 @@ came_quiet : (n : ℕ) (place : Place) (a : Answer) (after : Place) (old new : P
 came_quiet n place answer.Blocked after old new acts = refl
 came_quiet n place (answer.Came p c) after old new acts = refl
 came_quiet n place _ after old new acts = absurd acts
+
+gone_quiet : (n : ℕ) (place : Place) (a : Answer) (after : Place) (old new : Places) → GoneActs n place a after → turn_of old (step.Gone n) a new ≡ []
+gone_quiet n place answer.Blocked after old new acts = refl
+gone_quiet n place (answer.Gone p c) after old new acts = refl
+gone_quiet n place _ after old new acts = absurd acts
 
 send_quiet : (n : ℕ) (place : Place) (a : Answer) (after : Place) (old new : Places) → DiskSendActs n place a after → turn_of old (step.DiskSend n) a new ≡ []
 send_quiet n place answer.Idle after old new acts = refl
@@ -135,6 +140,7 @@ put_does at bytes old _ new acts = absurd acts
 
 pub rule_does : (old : Places) (s : Step) (a : Answer) (new : Places) → Rule old s (Ok a) new → DoesAll old.host (turn_of old s a new) new.host
 rule_does old (step.Came n) a new rule = on_device old n (step.Came n) a new (CameRule n) (λ place after r. came_quiet n place a after old new r.1) rule
+rule_does old (step.Gone n) a new rule = on_device old n (step.Gone n) a new (GoneRule n) (λ place after r. gone_quiet n place a after old new r.1) rule
 rule_does old (step.DiskSend n) a new rule = on_device old n (step.DiskSend n) a new (DiskSendRule n) (λ place after r. send_quiet n place a after old new r.1) rule
 rule_does old (step.Inject n bytes) a new rule = on_device old n (step.Inject n bytes) a new (InjectRule n bytes) (λ place after r. inject_quiet n bytes place a after old new r.1) rule
 rule_does old (step.DiskTake n) a new rule = on_device old n (step.DiskTake n) a new (DiskTakeRule n) (λ place after r. disk_take_quiet n place a after old new r) rule

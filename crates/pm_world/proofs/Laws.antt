@@ -6,7 +6,7 @@ use Rattle.pm_world.specs.Places.{Places, IsOrderly}
 use Rattle.pm_world.specs.Rules.{Outcome}
 use Rattle.pm_world.specs.declared.step.Step.{Step}
 use Rattle.pm_world.specs.declared.step.Answer.{Answer}
-use Rattle.pm_world.proofs.Law.{nothing_lost}
+use Rattle.pm_world.proofs.Law.{nothing_lost, on_the_way}
 use Rattle.pm_world.proofs.Prefix.{taken_is_prefix}
 use Rattle.pm_world.proofs.Falls.{nothing_lost_down}
 use Rattle.pm_world.proofs.Risen.{own_port}
@@ -16,11 +16,14 @@ use Rattle.pm_world.proofs.Isolation.{isolates}
 use Rattle.pm_world.proofs.Units.{units_live_on, units_lived_on}
 use Rattle.pm_world.proofs.LinksPass.{keeps_links}
 use Rattle.pm_world.proofs.Tickets.{keeps_tickets}
+use Rattle.pm_world.proofs.Recorded.{tells_removals}
 use Rattle.pm_world.proofs.Truth.{tells_truth}
 
 pub obeys : (old : Places) (steps : List Step) (answers : List Answer) (new : Places) → IsOrderly old → AreLawful old steps answers new
 obeys old steps answers new orderly run = record {
   nothing_lost = nothing_lost old steps answers new orderly run;
+  on_the_way = on_the_way old steps answers new orderly;
+  removals = tells_removals old steps answers new run;
   nothing_lost_down = nothing_lost_down old steps answers new run orderly;
   prefix = taken_is_prefix old steps answers new run;
   own_port = own_port old steps answers new run;

@@ -4,9 +4,11 @@ pub mod Orderly
 pub mod Moves
 pub mod Law
 pub mod Openings
+pub mod Recorded
 pub mod Prefix
 pub mod FallMoves
 pub mod Falls
+pub mod GoesOn
 pub mod LinksUp
 pub mod LinksDown
 pub mod LinksPass

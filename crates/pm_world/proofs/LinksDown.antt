@@ -1,15 +1,16 @@
 -- In each step what goes down goes over links: through the places of the ports, over the link to each device, and over the
 -- link from the host.
-use Rattle.std.proofs.Common.{◌≡◌, ◌≢◌, ℕ, zero, suc, ◌<◌, ◌≤◌, ◌+◌, ◌==◌, List, [], ◌∷◌, ◌++◌, Option, Some, None, Bool, true, false, if◌then◌else◌, refl, sym, ap, ◌∙◌, append_assoc, inl, inr, length, arith, length-append}
-use Rattle.std.specs.Prelude.{slice_get, slice_set, filter, is_none, option_to_list, MatchBool, MatchOption, Ok}
+use Rattle.std.proofs.Common.{◌≡◌, ◌≢◌, ℕ, zero, suc, ◌<◌, ◌≤◌, ◌+◌, ◌==◌, List, [], ◌∷◌, ◌++◌, Option, Some, None, Bool, true, false, if◌then◌else◌, refl, sym, ap, subst, ◌∙◌, inl, inr, length, arith, length-append}
+use Rattle.std.specs.Prelude.{slice_get, slice_set, filter, option_to_list, MatchBool, MatchOption, Ok}
 use Rattle.std.proofs.lemmas.Bool.{cases_eq, eq-eqb, ne_eqb}
+use Rattle.std.proofs.lemmas.Option.{slice_get_within}
 use Rattle.std.proofs.lemmas.List.{append-nil}
 use Rattle.std.proofs.lemmas.List.Elements.{filter-append}
 use Rattle.fis_view.specs.Frames.{Stamped}
 use Rattle.ruled_links.specs.Links.{IsLink}
-use Rattle.pm_ports.specs.Port.{PortState, came_refusal as port_came_refusal, with_connection, with_down, with_up}
+use Rattle.pm_ports.specs.Port.{PortState, with_down, with_up}
 use Rattle.multiplier.specs.Arbiter.{control_port}
-use Rattle.multiplier.specs.Rules.{FromDeviceRule, FromHostRule, ToControl, ToDevice, ToNobody, ToPort, with_device as connected}
+use Rattle.multiplier.specs.Rules.{FromDeviceRule, FromHostRule, ToControl, ToDevice, ToNobody, ToPort}
 use Rattle.multiplier.specs.State.{PmState, falling, passes_to, pm_port, port_at}
 use Rattle.multiplier.specs.declared.multiplier.Passed.{Passed}
 use Rattle.multiplier.specs.declared.multiplier.Passed.TheVariants as passed
@@ -19,48 +20,22 @@ use Rattle.hba_driver.specs.HostTurns.{Host}
 use Rattle.hba_driver.specs.declared.request.Request.{Request}
 use Rattle.pm_world.specs.Downward.{is_down_to, is_passed, is_pushed, is_taken_at, on_down_link, times}
 use Rattle.pm_world.specs.Links.{HostPassesDown, PortPassesDown, held_down, is_down}
-use Rattle.pm_world.specs.Places.{Place, Places, Queue, pushed, with_device, with_downward, with_host, with_multiplier}
-use Rattle.pm_world.specs.Rules.{CameActs, CameRule, DiskSendActs, DiskSendRule, DiskTakeActs, DiskTakeRule, HostPushRule, HostTakeRule, InjectActs, InjectRule, PmDownRule, PmFromDeviceRule, PmFromHostRule, PmPresenceRule, PmUpRule, PollRule, PutRule, Rule, SubmitRule, TickRule, offered, recorded}
+use Rattle.pm_world.specs.Places.{IsOrderly, Place, Places, Queue, pushed, with_device, with_downward, with_host, with_multiplier}
+use Rattle.pm_world.specs.Rules.{CameActs, CameRule, DiskSendActs, DiskSendRule, DiskTakeActs, DiskTakeRule, GoneActs, GoneRule, HostPushRule, HostTakeRule, InjectActs, InjectRule, PmDownRule, PmFromDeviceRule, PmFromHostRule, PmPresenceRule, PmUpRule, PollRule, PutRule, Rule, SubmitRule, TickRule, offered}
 use Rattle.pm_world.specs.declared.step.Step.{Step}
 use Rattle.pm_world.specs.declared.step.Step.TheVariants as step
 use Rattle.pm_world.specs.declared.step.Answer.{Answer}
 use Rattle.pm_world.specs.declared.step.Answer.TheVariants as answer
+use Rattle.pm_world.proofs.GoesOn.{RecordedAt, StillGone, chained, goes_on-append, nothing_left, one_goes_on, option_fits, recorded_at, still}
 use Rattle.pm_world.proofs.Lists.{slice_get-set_same, slice_get-set_other}
 use Rattle.pm_world.proofs.Steps.{at_both, at_device}
 
--- ---- one link
-
-module _ {T : Type 0} where
-  -- nothing goes over it
-  pub still : (capacity : ℕ) (items : List T) → length items ≤ capacity → IsLink capacity (items ++ []) [] items
-  still capacity items fits = record { whole = sym (append-nil items); bounded = fits }
-
-  -- some items go over it, and then more
-  pub chained : (capacity : ℕ) (was entered left mid more gone now : List T) → IsLink capacity (was ++ entered) left mid → IsLink capacity (mid ++ more) gone now
-      → IsLink capacity (was ++ (entered ++ more)) (left ++ gone) now
-  chained capacity was entered left mid more gone now a b = record {
-    whole =
-        append_assoc left gone now ∙ ap (λ (l : List T). left ++ l) b.whole ∙ sym (append_assoc left mid more)
-        ∙ ap (λ (l : List T). l ++ more) a.whole ∙ append_assoc was entered more;
-    bounded = b.bounded;
-  }
-
-pub option_fits : (o : Option Stamped) → length (option_to_list o) ≤ 1
-option_fits None = omega arith
-option_fits (Some f) = omega arith
+-- ---- how many answers say so
 
 pub times-append : (says : Answer → Bool) (first second : List Answer) → times says (first ++ second) ≡ times says first + times says second
 times-append says first second = ap length (filter-append says first second) ∙ length-append (filter says first) (filter says second)
 
 -- ---- the ports of a multiplier
-
--- a recorded connection leaves a part of each port that no connection changes
-pub recorded_keeps : {A : Type 0} (part : PortState → A) → ((p : PortState) (c : ℕ) → part (with_connection p c) ≡ part p) → (pm : PmState) (n conn m : ℕ) → part (port_at (recorded pm n conn) m) ≡ part (port_at pm m)
-recorded_keeps {A} part keeps pm n conn m = by_test (is_none (port_came_refusal (port_at pm n) conn))
-  where
-    by_test : (b : Bool) → part (port_at (if b then connected pm n conn else pm) m) ≡ part (port_at pm m)
-    by_test true = kept_part part pm.ports n (with_connection (port_at pm n) conn) (keeps (port_at pm n) conn) m
-    by_test false = refl
 
 -- a port at which a connection is present is there
 has_present : (ports : Ports) (n conn : ℕ) → (at ports n).present ≡ Some conn → n < length ports
@@ -163,16 +138,19 @@ silent _ h = record { pushed = refl; passed = refl; elsewhere = λ n. record { f
 -- ---- one port and one link
 
 -- nothing goes through the port's place and over the device's link
-quiet : (capacity n : ℕ) (was now : Option Place) (held_was held_now : List Stamped) (a : Answer) → length (on_down_link was) ≤ capacity → length held_was ≤ 1
-    → on_down_link now ≡ on_down_link was → held_now ≡ held_was → IsElsewhere n a → PortPassesDown capacity n was held_was (a ∷ []) now held_now
-quiet capacity n was now held_was held_now a fits holds same same_held none = record {
+quiet : (capacity n : ℕ) (was now : Option Place) (held_was : List Stamped) (pm : PmState) (a : Answer) → length (on_down_link was) ≤ capacity → length held_was ≤ 1
+    → on_down_link now ≡ on_down_link was → held_down n pm ≡ held_was → IsElsewhere n a → PortPassesDown capacity n was held_was (a ∷ []) now pm
+quiet capacity n was now held_was pm a fits holds same same_held none = record {
   fell = [];
   left = [];
+  sunk = [];
+  lost = [];
   took = [];
-  hold = rw same_held (still 1 held_was holds);
+  hold = subst (λ (held_now : List Stamped). IsLink 1 (held_was ++ []) [] held_now) (sym same_held) (still 1 held_was holds);
+  goes_on = nothing_left pm n;
   link = rw same (still capacity (on_down_link was) fits);
   fell_is = rw none.fell refl;
-  left_is = rw none.left refl;
+  sunk_is = rw none.left refl;
   took_is = rw none.taken refl;
 }
 
@@ -191,7 +169,7 @@ host_still capacity was now a fits same pushed passed = record {
 pub record GoesDown (capacity : ℕ) (old : Places) (a : Answer) (new : Places) : Type 0 where
   pub ports : (n : ℕ) → PortPassesDown capacity n
       (slice_get old.devices n) (held_down n old.multiplier) (a ∷ [])
-      (slice_get new.devices n) (held_down n new.multiplier)
+      (slice_get new.devices n) new.multiplier
   pub host : HostPassesDown capacity old.downward.frames (a ∷ []) new.downward.frames
   pub room : HaveRoomDown capacity new
 
@@ -219,7 +197,7 @@ module _ (capacity : ℕ) (old : Places) (a : Answer) (new : Places) (room : Hav
       → ((n : ℕ) → (port_at new.multiplier n).down ≡ (port_at old.multiplier n).down) → GoesDown capacity old a new
   rests downward devices ports = record {
     ports = λ n.
-        quiet capacity n (slice_get old.devices n) (slice_get new.devices n) (held_down n old.multiplier) (held_down n new.multiplier) a
+        quiet capacity n (slice_get old.devices n) (slice_get new.devices n) (held_down n old.multiplier) new.multiplier a
         (down_fits capacity (slice_get old.devices n) (room.devices n)) (option_fits (port_at old.multiplier n).down)
         (on_same (slice_get old.devices n) (slice_get new.devices n) (devices n)) (ap option_to_list (ports n)) ((silent a tells).elsewhere n);
     host =
@@ -251,13 +229,13 @@ rests_at capacity old n a place after left room is tells same ports =
 -- a step at device n and its port
 module _ (capacity : ℕ) (old : Places) (n : ℕ) (a : Answer) (place after : Place) (left : PmState) (room : HaveRoomDown capacity old) (is : slice_get old.devices n ≡ Some place)
     (others : (m : ℕ) → m ≢ n → (port_at left m).down ≡ (port_at old.multiplier m).down) (elsewhere : (m : ℕ) → m ≢ n → IsElsewhere m a) (unpushed : is_pushed a ≡ false) (unpassed : is_passed a ≡ false)
-    (here : PortPassesDown capacity n (Some place) (held_down n old.multiplier) (a ∷ []) (Some after) (held_down n left)) (has : HasRoomDown capacity after) where
-  port_goes : (m : ℕ) → PortPassesDown capacity m (slice_get old.devices m) (held_down m old.multiplier) (a ∷ []) (slice_get (slice_set old.devices n after) m) (held_down m left)
+    (here : PortPassesDown capacity n (Some place) (held_down n old.multiplier) (a ∷ []) (Some after) left) (has : HasRoomDown capacity after) where
+  port_goes : (m : ℕ) → PortPassesDown capacity m (slice_get old.devices m) (held_down m old.multiplier) (a ∷ []) (slice_get (slice_set old.devices n after) m) left
   port_goes m =
       elim (cases_eq m n) [
         | inl e ↦ rw (e, is, slice_get-set_same old.devices n place after is) here
         | inr other ↦
-            quiet capacity m (slice_get old.devices m) (slice_get (slice_set old.devices n after) m) (held_down m old.multiplier) (held_down m left) a
+            quiet capacity m (slice_get old.devices m) (slice_get (slice_set old.devices n after) m) (held_down m old.multiplier) left a
             (down_fits capacity (slice_get old.devices m) (room.devices m)) (option_fits (port_at old.multiplier m).down)
             (ap on_down_link (slice_get-set_other old.devices n m after other)) (ap option_to_list (others m other)) (elsewhere m other)
       ]
@@ -283,6 +261,11 @@ came_rests n place answer.Blocked after acts = (refl, ap (λ (p : Place). p.down
 came_rests n place (answer.Came port conn) after acts = (refl, ap (λ (p : Place). p.down) acts.3)
 came_rests n place _ after acts = absurd acts
 
+gone_rests : (n : ℕ) (place : Place) (a : Answer) (after : Place) → GoneActs n place a after → (tells_down a ≡ false) × (after.down ≡ place.down)
+gone_rests n place answer.Blocked after acts = (refl, ap (λ (p : Place). p.down) acts.1)
+gone_rests n place (answer.Gone port conn) after acts = (refl, ap (λ (p : Place). p.down) acts.2)
+gone_rests n place _ after acts = absurd acts
+
 sends_rests : (n : ℕ) (place : Place) (a : Answer) (after : Place) → DiskSendActs n place a after → (tells_down a ≡ false) × (after.down ≡ place.down)
 sends_rests n place answer.Idle after acts = (refl, ap (λ (p : Place). p.down) acts.1)
 sends_rests n place answer.Blocked after acts = (refl, ap (λ (p : Place). p.down) acts.2)
@@ -300,16 +283,6 @@ KeepsDown old new = (m : ℕ) → (port_at new m).down ≡ (port_at old m).down
 
 same_down : {old new : PmState} → new ≡ old → KeepsDown old new
 same_down e = λ m. ap (λ (pm : PmState). (port_at pm m).down) e
-
-presence_rests : (n : ℕ) (place : Place) (pm : PmState) (a : Answer) (after : Place) (left : PmState) → PmPresenceRule n place pm (Ok a) after left → (tells_down a ≡ false) × (after.down ≡ place.down) × KeepsDown pm left
-presence_rests n place pm answer.Idle after left acts = (refl, ap (λ (p : Place). p.down) acts.1, same_down acts.2)
-presence_rests n place pm (answer.Presence p) after left acts = (
-  refl,
-  ap (λ (p : Place). p.down) acts.1,
-  λ m.
-      ap (λ (q : PmState). (port_at q m).down) acts.2.2 ∙ recorded_keeps (λ (q : PortState). q.down) (λ q c. refl) pm n acts.2.0 m,
-)
-presence_rests n place pm _ after left acts = absurd acts
 
 offered_rests : (n : ℕ) (pm : PmState) (frame : Stamped) (dropped : Bool) (left : PmState) → FromDeviceRule pm n frame (Ok (offered dropped)) left → KeepsDown pm left
 offered_rests n pm frame true left h = same_down h.1
@@ -385,15 +358,42 @@ module _ (capacity : ℕ) (old : Places) (n : ℕ) (place after : Place) (left :
       (record {
         fell = [];
         left = frame ∷ [];
+        sunk = frame ∷ [];
+        lost = [];
         took = [];
         hold = record { whole = rw (now, was) refl; bounded = option_fits (port_at left n).down };
+        goes_on = one_goes_on left n frame;
         link = record { whole = more; bounded = within };
         fell_is = refl;
-        left_is = rw (eq-eqb port n acts.0) refl;
+        sunk_is = rw (eq-eqb port n acts.0) refl;
         took_is = refl;
       })
       (record { down = size ∙ has.down; down_within = within })
   down_goes _ acts = absurd acts
+
+  -- a change is recorded, and a removal drops what waits there of a connection that is gone
+  presence_goes : (a : Answer) → n < length old.multiplier.ports → PmPresenceRule n place old.multiplier (Ok a) after left → GoesDown capacity old a (with_multiplier (with_device old n after) left)
+  presence_goes answer.Idle there acts = rests_at capacity old n answer.Idle place after left room is refl (ap (λ (p : Place). p.down) acts.1) (same_down acts.2)
+  presence_goes (answer.Presence port) there acts =
+      let r : RecordedAt old.multiplier n left = subst (λ (pm : PmState). RecordedAt old.multiplier n pm) (sym acts.2.2) (recorded_at old.multiplier n acts.2.0 there) in
+      let link : after.down ≡ place.down = ap (λ (p : Place). p.down) acts.1 in
+      goes_at capacity old n (answer.Presence port) place after left room is (λ m other. ap (λ (q : PortState). q.down) (r.others m other))
+      (λ m other. record { fell = refl; left = refl; taken = refl }) refl refl
+      (record {
+        fell = [];
+        left = r.down.left;
+        sunk = [];
+        lost = r.down.left;
+        took = [];
+        hold = r.down.hold;
+        goes_on = r.down.goes_on;
+        link = rw link (still capacity place.down.frames has.down_within);
+        fell_is = refl;
+        sunk_is = refl;
+        took_is = refl;
+      })
+      (record { down = ap (λ (q : Queue). q.capacity) link ∙ has.down; down_within = rw link has.down_within })
+  presence_goes _ there acts = absurd acts
 
 -- ---- a device takes a frame off its link
 
@@ -412,11 +412,14 @@ module _ (capacity : ℕ) (old : Places) (n : ℕ) (place after : Place) (room :
       (record {
         fell = [];
         left = [];
+        sunk = [];
+        lost = [];
         took = acts.1.0 ∷ [];
         hold = still 1 (held_down n old.multiplier) (option_fits (port_at old.multiplier n).down);
+        goes_on = nothing_left old.multiplier n;
         link = record { whole = sym first ∙ sym (append-nil place.down.frames); bounded = within };
         fell_is = refl;
-        left_is = refl;
+        sunk_is = refl;
         took_is = rw (eq-eqb port n acts.0) refl;
       })
       (record { down = size ∙ holds.down; down_within = within })
@@ -430,12 +433,12 @@ module _ (capacity : ℕ) (old : Places) (downward : Queue) (left : PmState) (ro
 
   -- the ports, where the frame falls into the place of port m
   falls_at : (m : ℕ) → Falls old.multiplier m left → (n : ℕ) → PortPassesDown capacity n
-      (slice_get old.devices n) (held_down n old.multiplier) (answer.Passed (passed.Down m) ∷ []) (slice_get old.devices n) (held_down n left)
+      (slice_get old.devices n) (held_down n old.multiplier) (answer.Passed (passed.Down m) ∷ []) (slice_get old.devices n) left
   falls_at m f n =
       elim (cases_eq n m) [
         | inl e ↦ rw e here
         | inr other ↦
-            quiet capacity n (slice_get old.devices n) (slice_get old.devices n) (held_down n old.multiplier) (held_down n left) (answer.Passed (passed.Down m))
+            quiet capacity n (slice_get old.devices n) (slice_get old.devices n) (held_down n old.multiplier) left (answer.Passed (passed.Down m))
             (down_fits capacity (slice_get old.devices n) (room.devices n)) (option_fits (port_at old.multiplier n).down) refl
             (ap option_to_list (ap (λ (l : List PortState). (at l n).down) f.new_is ∙ ap (λ (q : PortState). q.down) (other_port old.multiplier.ports m n (with_down (port_at old.multiplier m) (Some f.frame)) other)))
             (record { fell = ne_eqb m n (λ e. other (sym e)); left = refl; taken = refl })
@@ -446,28 +449,31 @@ module _ (capacity : ℕ) (old : Places) (downward : Queue) (left : PmState) (ro
           ap (λ (l : List PortState). (at l m).down) f.new_is
           ∙ ap (λ (q : PortState). q.down) (this_port old.multiplier.ports m (with_down (port_at old.multiplier m) (Some f.frame)) f.there)
 
-      here : PortPassesDown capacity m (slice_get old.devices m) (held_down m old.multiplier) (answer.Passed (passed.Down m) ∷ []) (slice_get old.devices m) (held_down m left)
+      here : PortPassesDown capacity m (slice_get old.devices m) (held_down m old.multiplier) (answer.Passed (passed.Down m) ∷ []) (slice_get old.devices m) left
       here = record {
         fell = f.frame ∷ [];
         left = [];
+        sunk = [];
+        lost = [];
         took = [];
         hold = record { whole = rw (now, f.empty) refl; bounded = option_fits (port_at left m).down };
+        goes_on = nothing_left left m;
         link = still capacity (on_down_link (slice_get old.devices m)) (down_fits capacity (slice_get old.devices m) (room.devices m));
         fell_is = rw (eq-eqb m m refl) refl;
-        left_is = refl;
+        sunk_is = refl;
         took_is = refl;
       }
 
   -- the ports, where it goes to none of them
   passes_by : (a : Answer) → left.ports ≡ old.multiplier.ports → ((n : ℕ) → IsElsewhere n a) → (n : ℕ) → PortPassesDown capacity n
-      (slice_get old.devices n) (held_down n old.multiplier) (a ∷ []) (slice_get old.devices n) (held_down n left)
+      (slice_get old.devices n) (held_down n old.multiplier) (a ∷ []) (slice_get old.devices n) left
   passes_by a ports none n =
-      quiet capacity n (slice_get old.devices n) (slice_get old.devices n) (held_down n old.multiplier) (held_down n left) a
+      quiet capacity n (slice_get old.devices n) (slice_get old.devices n) (held_down n old.multiplier) left a
       (down_fits capacity (slice_get old.devices n) (room.devices n)) (option_fits (port_at old.multiplier n).down) refl
       (ap (λ (l : List PortState). option_to_list (at l n).down) ports) (none n)
 
   passes_at : (p : Passed) → Went old.multiplier p left → (n : ℕ) → PortPassesDown capacity n
-      (slice_get old.devices n) (held_down n old.multiplier) (answer.Passed p ∷ []) (slice_get old.devices n) (held_down n left)
+      (slice_get old.devices n) (held_down n old.multiplier) (answer.Passed p ∷ []) (slice_get old.devices n) left
   passes_at (passed.Down m) w = falls_at m w
   passes_at passed.Control w = passes_by (answer.Passed passed.Control) w (λ n. record { fell = refl; left = refl; taken = refl })
   passes_at passed.Dropped w = passes_by (answer.Passed passed.Dropped) w (λ n. record { fell = refl; left = refl; taken = refl })
@@ -507,7 +513,7 @@ module _ (capacity : ℕ) (old : Places) (host : Host) (downward : Queue) (room 
       omega (arith, ap length more, length-append old.downward.frames (acts.1.0 ∷ []), acts.0, room.downward, room.downward_within) in
       record {
         ports = λ n.
-            quiet capacity n (slice_get old.devices n) (slice_get old.devices n) (held_down n old.multiplier) (held_down n old.multiplier) answer.Pushed
+            quiet capacity n (slice_get old.devices n) (slice_get old.devices n) (held_down n old.multiplier) old.multiplier answer.Pushed
             (down_fits capacity (slice_get old.devices n) (room.devices n)) (option_fits (port_at old.multiplier n).down) refl refl
             (record { fell = refl; left = refl; taken = refl });
         host = record {
@@ -523,11 +529,15 @@ module _ (capacity : ℕ) (old : Places) (host : Host) (downward : Queue) (room 
 
 -- ---- each step
 
-module _ (capacity : ℕ) (old : Places) (a : Answer) (new : Places) (room : HaveRoomDown capacity old) where
+module _ (capacity : ℕ) (old : Places) (a : Answer) (new : Places) (room : HaveRoomDown capacity old) (orderly : IsOrderly old) where
   pub rule_goes_down : (s : Step) → Rule old s (Ok a) new → GoesDown capacity old a new
   rule_goes_down (step.Came n) rule =
       let p = at_device old n a new (CameRule n) rule in
       let r = came_rests n p.place a p.after p.rule.1 in
+      rw p.new_is (rests_at capacity old n a p.place p.after old.multiplier room p.is r.0 r.1 (λ m. refl))
+  rule_goes_down (step.Gone n) rule =
+      let p = at_device old n a new (GoneRule n) rule in
+      let r = gone_rests n p.place a p.after p.rule.1 in
       rw p.new_is (rests_at capacity old n a p.place p.after old.multiplier room p.is r.0 r.1 (λ m. refl))
   rule_goes_down (step.DiskSend n) rule =
       let p = at_device old n a new (DiskSendRule n) rule in
@@ -542,8 +552,10 @@ module _ (capacity : ℕ) (old : Places) (a : Answer) (new : Places) (room : Hav
       rw p.new_is (disk_takes capacity old n p.place p.after room p.is a p.rule)
   rule_goes_down (step.PmPresence n) rule =
       let p = at_both old n a new (PmPresenceRule n) rule in
-      let r = presence_rests n p.place old.multiplier a p.after p.left p.rule in
-      rw p.new_is (rests_at capacity old n a p.place p.after p.left room p.is r.0 r.1 r.2)
+      let below : n < length old.devices = slice_get_within old.devices n p.place p.is in
+      let most : length old.devices ≤ 15 = orderly.most in
+      let count : length old.multiplier.ports ≡ 15 = orderly.room in
+      rw p.new_is (presence_goes capacity old n p.place p.after p.left room p.is a (omega arith) p.rule)
   rule_goes_down (step.PmFromDevice n) rule =
       let p = at_both old n a new (PmFromDeviceRule n) rule in
       let r = from_device_rests n p.place old.multiplier a p.after p.left p.rule in
@@ -574,17 +586,20 @@ module _ (capacity : ℕ) (old : Places) (a : Answer) (new : Places) (room : Hav
 
 -- ---- steps after one another
 
-module _ (capacity n : ℕ) (was mid now : Option Place) (held_was held_mid held_now : List Stamped) (first second : List Answer) (p : PortPassesDown capacity n was held_was first mid held_mid)
-    (q : PortPassesDown capacity n mid held_mid second now held_now) where
-  pub port_down-append : PortPassesDown capacity n was held_was (first ++ second) now held_now
+module _ (capacity n : ℕ) (was mid now : Option Place) (held_was : List Stamped) (pm_mid pm_now : PmState) (first second : List Answer) (p : PortPassesDown capacity n was held_was first mid pm_mid)
+    (q : PortPassesDown capacity n mid (held_down n pm_mid) second now pm_now) (stays : StillGone n pm_mid pm_now) where
+  pub port_down-append : PortPassesDown capacity n was held_was (first ++ second) now pm_now
   port_down-append = record {
     fell = p.fell ++ q.fell;
     left = p.left ++ q.left;
+    sunk = p.sunk ++ q.sunk;
+    lost = p.lost ++ q.lost;
     took = p.took ++ q.took;
-    hold = chained 1 held_was p.fell p.left held_mid q.fell q.left held_now p.hold q.hold;
-    link = chained capacity (on_down_link was) p.left p.took (on_down_link mid) q.left q.took (on_down_link now) p.link q.link;
+    hold = chained 1 held_was p.fell p.left (held_down n pm_mid) q.fell q.left (held_down n pm_now) p.hold q.hold;
+    goes_on = goes_on-append pm_mid pm_now n p.left p.sunk p.lost q.left q.sunk q.lost p.goes_on q.goes_on stays;
+    link = chained capacity (on_down_link was) p.sunk p.took (on_down_link mid) q.sunk q.took (on_down_link now) p.link q.link;
     fell_is = rw (length-append p.fell q.fell, times-append (is_down_to n) first second, p.fell_is, q.fell_is) refl;
-    left_is = rw (length-append p.left q.left, times-append (is_down n) first second, p.left_is, q.left_is) refl;
+    sunk_is = rw (length-append p.sunk q.sunk, times-append (is_down n) first second, p.sunk_is, q.sunk_is) refl;
     took_is = rw (length-append p.took q.took, times-append (is_taken_at n) first second, p.took_is, q.took_is) refl;
   }
 

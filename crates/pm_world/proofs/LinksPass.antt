@@ -1,5 +1,5 @@
 -- In each step, and so in each run, the links of a world go on as links.
-use Rattle.std.proofs.Common.{ℕ, zero, suc, List, [], ◌∷◌, ◌++◌, Option, Some, None, refl, map, arith}
+use Rattle.std.proofs.Common.{◌≡◌, ℕ, zero, suc, List, [], ◌∷◌, ◌++◌, Option, Some, None, true, refl, map, arith}
 use Rattle.std.specs.Prelude.{slice_get, ◌==◌, MatchOption, Ok}
 use Rattle.std.proofs.lemmas.List.{map-append}
 use Rattle.std.proofs.lemmas.List.Elements.{filter-append}
@@ -10,11 +10,13 @@ use Rattle.pm_world.specs.Downward.{on_down_link}
 use Rattle.pm_world.specs.Links.{HasRoom, HaveRoom, KeepsLinks, LinksPass, held_down, on_presence}
 use Rattle.pm_world.specs.Places.{IsOrderly, Place, Places, new_world, opening}
 use Rattle.pm_world.specs.Rules.{Rule, Run}
-use Rattle.pm_world.specs.Traffic.{held, on_link}
+use Rattle.pm_world.specs.Traffic.{held, is_removed, on_link}
 use Rattle.pm_world.specs.declared.step.Config.{Config}
 use Rattle.pm_world.specs.declared.step.Step.{Step}
 use Rattle.pm_world.specs.declared.step.Answer.{Answer}
-use Rattle.pm_world.proofs.LinksDown.{GoesDown, HasRoomDown, HaveRoomDown, down_fits, host_down-append, option_fits, port_down-append, rule_goes_down, still}
+use Rattle.pm_world.proofs.GoesOn.{nothing_left, option_fits, still}
+use Rattle.pm_world.proofs.Law.{run_stays}
+use Rattle.pm_world.proofs.LinksDown.{GoesDown, HasRoomDown, HaveRoomDown, down_fits, host_down-append, port_down-append, rule_goes_down}
 use Rattle.pm_world.proofs.LinksUp.{GoesUp, HasRoomUp, HaveRoomUp, host_up-append, link_fits, port_up-append, presence_fits, rule_goes_up}
 use Rattle.pm_world.proofs.Orderly.{opening_orderly, orderly_after}
 
@@ -80,7 +82,7 @@ both_go capacity old a new up down =
 
 rule_goes : (capacity : ℕ) (old : Places) (s : Step) (a : Answer) (new : Places) → HaveRoom capacity old → IsOrderly old → Rule old s (Ok a) new → Goes capacity old (a ∷ []) new
 rule_goes capacity old s a new room orderly rule =
-    both_go capacity old a new (rule_goes_up capacity old a new (all_up capacity old room) orderly s rule) (rule_goes_down capacity old a new (all_down capacity old room) s rule)
+    both_go capacity old a new (rule_goes_up capacity old a new (all_up capacity old room) orderly s rule) (rule_goes_down capacity old a new (all_down capacity old room) orderly s rule)
 
 -- ---- a whole run
 
@@ -89,11 +91,14 @@ none_passed : (capacity : ℕ) (now : Places) → HaveRoom capacity now → Link
 none_passed capacity now room = record {
   ports = λ n. record {
     passed = [];
+    left = [];
     risen = [];
+    lost = [];
     recorded = [];
     link = still capacity (on_link (slice_get now.devices n)) (link_fits capacity (slice_get now.devices n) ((all_up capacity now room).devices n));
     passed_is = refl;
     hold = still 1 (held n now.multiplier) (option_fits (port_at now.multiplier n).up);
+    goes_on = nothing_left now.multiplier n;
     presence =
         still capacity (on_presence (slice_get now.devices n)) (presence_fits capacity (slice_get now.devices n) ((all_up capacity now room).devices n));
     recorded_is = refl;
@@ -103,23 +108,27 @@ none_passed capacity now room = record {
   ports_down = λ n. record {
     fell = [];
     left = [];
+    sunk = [];
+    lost = [];
     took = [];
     hold = still 1 (held_down n now.multiplier) (option_fits (port_at now.multiplier n).down);
+    goes_on = nothing_left now.multiplier n;
     link =
         still capacity (on_down_link (slice_get now.devices n)) (down_fits capacity (slice_get now.devices n) ((all_down capacity now room).devices n));
     fell_is = refl;
-    left_is = refl;
+    sunk_is = refl;
     took_is = refl;
   };
   host_down = record { pushed = []; passed = []; link = still capacity now.downward.frames room.downward_within; pushed_is = refl; passed_is = refl };
 }
 
 -- what passed in some steps, and then in more
-passes-append : (capacity : ℕ) (a b c : Places) (first second : List Answer) → LinksPass capacity a first b → LinksPass capacity b second c → LinksPass capacity a (first ++ second) c
-passes-append capacity a b c first second p q = record {
+passes-append : (capacity : ℕ) (a b c : Places) (first second : List Answer) → ((n d : ℕ) → is_removed n d b ≡ true → is_removed n d c ≡ true) → LinksPass capacity a first b → LinksPass capacity b second c
+    → LinksPass capacity a (first ++ second) c
+passes-append capacity a b c first second stays p q = record {
   ports = λ n.
-      port_up-append capacity n (slice_get a.devices n) (slice_get b.devices n) (slice_get c.devices n) (held n a.multiplier) (held n b.multiplier) (held n c.multiplier) first second
-      (p.ports n) (q.ports n);
+      port_up-append capacity n (slice_get a.devices n) (slice_get b.devices n) (slice_get c.devices n) (held n a.multiplier) b.multiplier c.multiplier first second
+      (p.ports n) (q.ports n) (stays n);
   host = host_up-append capacity a.upward.frames b.upward.frames c.upward.frames first second p.host q.host;
   rises = λ n other.
       rw (
@@ -130,8 +139,8 @@ passes-append capacity a b c first second p q = record {
       )
       refl;
   ports_down = λ n.
-      port_down-append capacity n (slice_get a.devices n) (slice_get b.devices n) (slice_get c.devices n) (held_down n a.multiplier) (held_down n b.multiplier) (held_down n c.multiplier) first second
-      (p.ports_down n) (q.ports_down n);
+      port_down-append capacity n (slice_get a.devices n) (slice_get b.devices n) (slice_get c.devices n) (held_down n a.multiplier) b.multiplier c.multiplier first second
+      (p.ports_down n) (q.ports_down n) (stays n);
   host_down = host_down-append capacity a.downward.frames b.downward.frames c.downward.frames first second p.host_down q.host_down;
 }
 
@@ -139,8 +148,9 @@ run_passes : (capacity : ℕ) (old : Places) (steps : List Step) (answers : List
 run_passes capacity old [] [] new orderly run room = rw run (none_passed capacity old room, room)
 run_passes capacity old (s ∷ steps) (a ∷ answers) new orderly run room =
     let one = rule_goes capacity old s a run.0 room orderly run.1 in
-    let rest = run_passes capacity run.0 steps answers new (orderly_after old s a run.0 orderly run.1) run.2 one.1 in
-    (passes-append capacity old run.0 new (a ∷ []) answers one.0 rest.0, rest.1)
+    let orderly_now : IsOrderly run.0 = orderly_after old s a run.0 orderly run.1 in
+    let rest = run_passes capacity run.0 steps answers new orderly_now run.2 one.1 in
+    (passes-append capacity old run.0 new (a ∷ []) answers (run_stays run.0 steps answers new orderly_now run.2) one.0 rest.0, rest.1)
 run_passes capacity old [] (a ∷ answers) new orderly run room = absurd run
 run_passes capacity old (s ∷ steps) [] new orderly run room = absurd run
 

@@ -1,6 +1,6 @@
 -- In each step what goes up goes over links: over the link from each device, through the place of its port, and over the
--- link to the host; and each connection that comes goes over a presence link.
-use Rattle.std.proofs.Common.{◌≡◌, ◌≢◌, ℕ, ◌<◌, ◌≤◌, ◌+◌, ◌&&◌, List, [], ◌∷◌, ◌++◌, Option, Some, None, Bool, true, false, refl, sym, ap, ◌∙◌, inl, inr, map, length, arith, length-append}
+-- link to the host; and each connection that comes or goes does so over a presence link.
+use Rattle.std.proofs.Common.{◌≡◌, ◌≢◌, ℕ, ◌<◌, ◌≤◌, ◌+◌, ◌==◌, ◌&&◌, List, [], ◌∷◌, ◌++◌, Option, Some, None, Bool, true, false, cond, if◌then◌else◌, refl, sym, ap, subst, ◌∙◌, inl, inr, map, length, filter, suc, arith, length-append}
 use Rattle.std.specs.Prelude.{slice_get, slice_set, option_to_list, MatchOption, Ok}
 use Rattle.std.specs.List.{flat_map}
 use Rattle.std.proofs.lemmas.Bool.{cases_eq, eq-eqb, ne_eqb}
@@ -9,6 +9,7 @@ use Rattle.std.proofs.lemmas.List.{append-nil, map-append}
 use Rattle.std.proofs.lemmas.Option.{slice_get_within}
 use Rattle.fis_view.specs.Frames.{Stamped}
 use Rattle.disk_model.specs.declared.unit.Unit.{Unit as Device}
+use Rattle.ruled_links.specs.Links.{IsLink}
 use Rattle.pm_ports.specs.Port.{PortState, with_down, with_up}
 use Rattle.multiplier.specs.Arbiter.{control_port}
 use Rattle.multiplier.specs.State.{PmState, port_at, rising, stamped}
@@ -19,17 +20,20 @@ use Rattle.multiplier.proofs.Ports.{at, has_up, kept_part, other_port, this_port
 use Rattle.multiplier.proofs.PutBack.{gives_held}
 use Rattle.hba_driver.specs.HostTurns.{Host}
 use Rattle.hba_driver.specs.declared.request.Request.{Request}
-use Rattle.pm_world.specs.Links.{told_frame, told_of, entered_by, is_offered, came_by, is_recorded, rose_by, took_by, on_presence, from_port, PortPasses, HostPasses}
-use Rattle.pm_world.specs.Places.{Comings, IsFull, IsOrderly, IsTold, Place, Places, Queue, after_sending, frame_of, pushed, with_device, with_host, with_multiplier, with_upward}
-use Rattle.pm_world.specs.Rules.{CameActs, CameRule, DiskSendActs, DiskSendRule, DiskTakeActs, DiskTakeRule, HostPushRule, HostTakeRule, InjectActs, InjectRule, PmDownRule, PmFromDeviceRule, PmFromHostRule, PmPresenceRule, PmUpRule, PollRule, PutRule, Rule, SubmitRule, TickRule}
+use Rattle.pm_world.specs.Downward.{times}
+use Rattle.pm_world.specs.Links.{told_frame, told_of, changed_by, dropped_by, entered_by, is_offered, is_recorded, rose_by, took_by, on_presence, from_port, without, PortPasses, HostPasses}
+use Rattle.pm_world.specs.Places.{AreFull, Changes, IsFull, IsOrderly, IsTold, Place, Places, Queue, after_sending, frame_of, posted, pushed, with_device, with_host, with_multiplier, with_upward}
+use Rattle.pm_world.specs.Rules.{CameActs, CameRule, DiskSendActs, DiskSendRule, DiskTakeActs, DiskTakeRule, GoneActs, GoneRule, HostPushRule, HostTakeRule, InjectActs, InjectRule, PmDownRule, PmFromDeviceRule, PmFromHostRule, PmPresenceRule, PmUpRule, PollRule, PutRule, Rule, SubmitRule, TickRule}
 use Rattle.pm_world.specs.Traffic.{held, on_link}
+use Rattle.pm_world.specs.declared.link.Change.{Change}
+use Rattle.pm_world.specs.declared.link.Change.TheVariants as change
 use Rattle.pm_world.specs.declared.step.Step.{Step}
 use Rattle.pm_world.specs.declared.step.Step.TheVariants as step
 use Rattle.pm_world.specs.declared.step.Answer.{Answer}
 use Rattle.pm_world.specs.declared.step.Answer.TheVariants as answer
-use Rattle.pm_world.proofs.LinksDown.{Went, chained, option_fits, recorded_keeps, still, times-append, went}
+use Rattle.pm_world.proofs.GoesOn.{RecordedAt, StillGone, chained, goes_on-append, nothing_left, one_goes_on, option_fits, recorded_at, still, without-append}
+use Rattle.pm_world.proofs.LinksDown.{Went, times-append, went}
 use Rattle.pm_world.proofs.Lists.{slice_get-set_same, slice_get-set_other}
-use Rattle.pm_world.proofs.Moves.{none_gone}
 use Rattle.pm_world.proofs.Steps.{at_both, at_device}
 
 -- ---- room
@@ -39,7 +43,7 @@ pub record HasRoomUp (capacity : ℕ) (place : Place) : Type 0 where
   pub up : place.up.capacity ≡ capacity
   pub up_within : length place.up.frames ≤ capacity
   pub presence : place.presence.capacity ≡ capacity
-  pub presence_within : length place.presence.conns ≤ capacity
+  pub presence_within : length place.presence.changes ≤ capacity
 
 -- so have all links on the way up
 pub record HaveRoomUp (capacity : ℕ) (now : Places) : Type 0 where
@@ -60,7 +64,7 @@ presence_fits capacity (Some place) room = room.presence_within
 record IsElsewhere (n : ℕ) (a : Answer) : Type 0 where
   entered : entered_by n a ≡ []
   left : is_offered n a ≡ false
-  came : came_by n a ≡ []
+  changed : changed_by n a ≡ []
   recorded : is_recorded n a ≡ false
 
 record IsSilent (a : Answer) : Type 0 where
@@ -70,6 +74,7 @@ record IsSilent (a : Answer) : Type 0 where
 
 abbrev tells_up : Answer → Bool
 tells_up (answer.Came port conn) = true
+tells_up (answer.Gone port conn) = true
 tells_up (answer.Sent port conn number bytes) = true
 tells_up (answer.Presence port) = true
 tells_up (answer.Offered port dropped) = true
@@ -79,18 +84,19 @@ tells_up _ = false
 
 silent : (a : Answer) → tells_up a ≡ false → IsSilent a
 silent (answer.Came port conn) h = absurd cc
+silent (answer.Gone port conn) h = absurd cc
 silent (answer.Sent port conn number bytes) h = absurd cc
 silent (answer.Presence port) h = absurd cc
 silent (answer.Offered port dropped) h = absurd cc
 silent (answer.Up port) h = absurd cc
 silent (answer.Took port conn number bytes report) h = absurd cc
-silent _ h = record { rose = refl; took = refl; elsewhere = λ n. record { entered = refl; left = refl; came = refl; recorded = refl } }
+silent _ h = record { rose = refl; took = refl; elsewhere = λ n. record { entered = refl; left = refl; changed = refl; recorded = refl } }
 
 -- ---- one port and one link
 
 -- what goes over the links at a port in one step, and what of it enters the host's link
-record PortStep (capacity n : ℕ) (was : Option Place) (held_was : List Stamped) (a : Answer) (now : Option Place) (held_now rose : List Stamped) : Type 0 where
-  passes : PortPasses capacity n was held_was (a ∷ []) now held_now
+record PortStep (capacity n : ℕ) (was : Option Place) (held_was : List Stamped) (a : Answer) (now : Option Place) (pm : PmState) (rose : List Stamped) : Type 0 where
+  passes : PortPasses capacity n was held_was (a ∷ []) now pm
   rises : n ≢ control_port → from_port n rose ≡ map (rising n) passes.risen
 
 -- a place of a device keeps its links
@@ -105,26 +111,29 @@ keeps_same o = record { link = refl; presence = refl; room = λ capacity room. r
 keeps_place : (place after : Place) → after.up ≡ place.up → after.presence ≡ place.presence → KeepsUp (Some place) (Some after)
 keeps_place place after up presence = record {
   link = ap (λ (q : Queue). q.frames) up;
-  presence = ap (λ (q : Comings). q.conns) presence;
+  presence = ap (λ (q : Changes). q.changes) presence;
   room = λ capacity room. record {
     up = ap (λ (q : Queue). q.capacity) up ∙ room.up;
     up_within = rw up room.up_within;
-    presence = ap (λ (q : Comings). q.capacity) presence ∙ room.presence;
+    presence = ap (λ (q : Changes). q.capacity) presence ∙ room.presence;
     presence_within = rw presence room.presence_within;
   };
 }
 
-quiet : (capacity n : ℕ) (was now : Option Place) (held_was held_now : List Stamped) (a : Answer) (rose : List Stamped) → MatchOption was (Prim.Unit {0}) (HasRoomUp capacity) → length held_was ≤ 1
-    → KeepsUp was now → held_now ≡ held_was → IsElsewhere n a → (n ≢ control_port → from_port n rose ≡ []) → PortStep capacity n was held_was a now held_now rose
-quiet capacity n was now held_was held_now a rose room fits keeps same_held none others = record {
+quiet : (capacity n : ℕ) (was now : Option Place) (held_was : List Stamped) (pm : PmState) (a : Answer) (rose : List Stamped) → MatchOption was (Prim.Unit {0}) (HasRoomUp capacity) → length held_was ≤ 1
+    → KeepsUp was now → held n pm ≡ held_was → IsElsewhere n a → (n ≢ control_port → from_port n rose ≡ []) → PortStep capacity n was held_was a now pm rose
+quiet capacity n was now held_was pm a rose room fits keeps same_held none others = record {
   passes = record {
     passed = [];
+    left = [];
     risen = [];
+    lost = [];
     recorded = [];
     link = rw (keeps.link, none.entered) (still capacity (on_link was) (link_fits capacity was room));
     passed_is = rw none.left refl;
-    hold = rw same_held (still 1 held_was fits);
-    presence = rw (keeps.presence, none.came) (still capacity (on_presence was) (presence_fits capacity was room));
+    hold = subst (λ (held_now : List Stamped). IsLink 1 (held_was ++ []) [] held_now) (sym same_held) (still 1 held_was fits);
+    goes_on = nothing_left pm n;
+    presence = rw (keeps.presence, none.changed) (still capacity (on_presence was) (presence_fits capacity was room));
     recorded_is = rw none.recorded refl;
   };
   rises = others;
@@ -145,7 +154,7 @@ host_still capacity was now a fits same rose took = record {
 pub record GoesUp (capacity : ℕ) (old : Places) (a : Answer) (new : Places) : Type 0 where
   pub ports : (n : ℕ) → PortPasses capacity n
       (slice_get old.devices n) (held n old.multiplier) (a ∷ [])
-      (slice_get new.devices n) (held n new.multiplier)
+      (slice_get new.devices n) new.multiplier
   pub host : HostPasses capacity old.upward.frames (a ∷ []) new.upward.frames
   pub rises : (n : ℕ) → n ≢ control_port → from_port n host.rose ≡ map (rising n) (ports n).risen
   pub room : HaveRoomUp capacity new
@@ -153,9 +162,9 @@ pub record GoesUp (capacity : ℕ) (old : Places) (a : Answer) (new : Places) : 
 -- a step that moves nothing up
 module _ (capacity : ℕ) (old : Places) (a : Answer) (new : Places) (room : HaveRoomUp capacity old) (tells : tells_up a ≡ false) where
   module _ (upward : new.upward ≡ old.upward) (devices : (n : ℕ) → KeepsUp (slice_get old.devices n) (slice_get new.devices n)) (ports : (n : ℕ) → (port_at new.multiplier n).up ≡ (port_at old.multiplier n).up) where
-    port_rests : (n : ℕ) → PortStep capacity n (slice_get old.devices n) (held n old.multiplier) a (slice_get new.devices n) (held n new.multiplier) []
+    port_rests : (n : ℕ) → PortStep capacity n (slice_get old.devices n) (held n old.multiplier) a (slice_get new.devices n) new.multiplier []
     port_rests n =
-        quiet capacity n (slice_get old.devices n) (slice_get new.devices n) (held n old.multiplier) (held n new.multiplier) a [] (room.devices n) (option_fits (port_at old.multiplier n).up)
+        quiet capacity n (slice_get old.devices n) (slice_get new.devices n) (held n old.multiplier) new.multiplier a [] (room.devices n) (option_fits (port_at old.multiplier n).up)
         (devices n) (ap option_to_list (ports n)) ((silent a tells).elsewhere n) (λ other. refl)
 
     rests : GoesUp capacity old a new
@@ -206,13 +215,13 @@ module _ (capacity : ℕ) (old : Places) (n : ℕ) (place after : Place) (left :
   same_at a tells same ports = rests_at a tells (ap (λ (p : Place). p.up) same) (ap (λ (p : Place). p.presence) same) ports
 
   module _ (a : Answer) (others : (m : ℕ) → m ≢ n → (port_at left m).up ≡ (port_at old.multiplier m).up) (elsewhere : (m : ℕ) → m ≢ n → IsElsewhere m a) (unrisen : rose_by a ≡ []) (untaken : took_by a ≡ [])
-      (here : PortStep capacity n (Some place) (held n old.multiplier) a (Some after) (held n left) []) (has_now : HasRoomUp capacity after) where
-    port_goes : (m : ℕ) → PortStep capacity m (slice_get old.devices m) (held m old.multiplier) a (slice_get (slice_set old.devices n after) m) (held m left) []
+      (here : PortStep capacity n (Some place) (held n old.multiplier) a (Some after) left []) (has_now : HasRoomUp capacity after) where
+    port_goes : (m : ℕ) → PortStep capacity m (slice_get old.devices m) (held m old.multiplier) a (slice_get (slice_set old.devices n after) m) left []
     port_goes m =
         elim (cases_eq m n) [
           | inl e ↦ rw (e, is, slice_get-set_same old.devices n place after is) here
           | inr other ↦
-              quiet capacity m (slice_get old.devices m) (slice_get (slice_set old.devices n after) m) (held m old.multiplier) (held m left) a []
+              quiet capacity m (slice_get old.devices m) (slice_get (slice_set old.devices n after) m) (held m old.multiplier) left a []
               (room.devices m) (option_fits (port_at old.multiplier m).up) (rw (slice_get-set_other old.devices n m after other) (keeps_same (slice_get old.devices m)))
               (ap option_to_list (others m other)) (elsewhere m other) (λ no. refl)
         ]
@@ -238,37 +247,54 @@ module _ (capacity : ℕ) (old : Places) (n : ℕ) (place after : Place) (room :
   abbrev was : HasRoomUp capacity place
   was = rw is at (room.devices n)
 
+  -- a change is posted on its presence link
+  module _ (a : Answer) (c : Change) (none : entered_by n a ≡ []) (offered : is_offered n a ≡ false) (unrecorded : is_recorded n a ≡ false) (changed : changed_by n a ≡ c ∷ [])
+      (up : after.up ≡ place.up) (presence : after.presence ≡ posted place.presence c) (free : ¬ AreFull place.presence) where
+    posts : ((m : ℕ) → m ≢ n → IsElsewhere m a) → rose_by a ≡ [] → took_by a ≡ [] → GoesUp capacity old a (with_device old n after)
+    posts elsewhere unrisen untaken =
+        let more : after.presence.changes ≡ place.presence.changes ++ c ∷ [] = ap (λ (q : Changes). q.changes) presence in
+        let size : after.presence.capacity ≡ place.presence.capacity = ap (λ (q : Changes). q.capacity) presence in
+        let within : length after.presence.changes ≤ capacity =
+        omega (arith, ap length more, length-append place.presence.changes (c ∷ []), free, was.presence, was.presence_within) in
+        goes_at capacity old n place after old.multiplier room is a (λ m other. refl) elsewhere unrisen untaken
+        (record {
+          passes = record {
+            passed = [];
+            left = [];
+            risen = [];
+            lost = [];
+            recorded = [];
+            link = rw (up, none) (still capacity place.up.frames was.up_within);
+            passed_is = rw offered refl;
+            hold = still 1 (held n old.multiplier) (option_fits (port_at old.multiplier n).up);
+            goes_on = nothing_left old.multiplier n;
+            presence = record { whole = rw changed more; bounded = within };
+            recorded_is = rw unrecorded refl;
+          };
+          rises = λ no. refl;
+        })
+        (record {
+          up = ap (λ (q : Queue). q.capacity) up ∙ was.up;
+          up_within = rw up was.up_within;
+          presence = size ∙ was.presence;
+          presence_within = within;
+        })
+
   came_goes : (a : Answer) → CameActs n place a after → GoesUp capacity old a (with_device old n after)
   came_goes answer.Blocked acts = same_at capacity old n place after old.multiplier room is answer.Blocked refl acts.1 (λ m. refl)
   came_goes (answer.Came port conn) acts =
-      let up : after.up ≡ place.up = ap (λ (p : Place). p.up) acts.3 in
-      let more : after.presence.conns ≡ place.presence.conns ++ (place.conn + 1) ∷ [] = ap (λ (p : Place). p.presence.conns) acts.3 in
-      let size : after.presence.capacity ≡ place.presence.capacity = ap (λ (p : Place). p.presence.capacity) acts.3 in
-      let within : length after.presence.conns ≤ capacity =
-      omega (arith, ap length more, length-append place.presence.conns ((place.conn + 1) ∷ []), acts.4, was.presence, was.presence_within) in
-      let entered : came_by n (answer.Came port conn) ≡ (place.conn + 1) ∷ [] = rw (eq-eqb port n acts.0, acts.1) refl in
-      goes_at capacity old n place after old.multiplier room is (answer.Came port conn) (λ m other. refl)
-      (λ m other. record { entered = refl; left = refl; came = rw (ne_eqb port m (λ e. other (sym e ∙ acts.0))) refl; recorded = refl }) refl refl
-      (record {
-        passes = record {
-          passed = [];
-          risen = [];
-          recorded = [];
-          link = rw up (still capacity place.up.frames was.up_within);
-          passed_is = refl;
-          hold = still 1 (held n old.multiplier) (option_fits (port_at old.multiplier n).up);
-          presence = record { whole = rw entered more; bounded = within };
-          recorded_is = refl;
-        };
-        rises = λ no. refl;
-      })
-      (record {
-        up = ap (λ (q : Queue). q.capacity) up ∙ was.up;
-        up_within = rw up was.up_within;
-        presence = size ∙ was.presence;
-        presence_within = within;
-      })
+      posts (answer.Came port conn) (change.Came (place.conn + 1)) refl refl refl (rw (eq-eqb port n acts.0, acts.1) refl)
+      (ap (λ (p : Place). p.up) acts.3) (ap (λ (p : Place). p.presence) acts.3) acts.4
+      (λ m other. record { entered = refl; left = refl; changed = rw (ne_eqb port m (λ e. other (sym e ∙ acts.0))) refl; recorded = refl }) refl refl
   came_goes _ acts = absurd acts
+
+  gone_goes : (a : Answer) → GoneActs n place a after → GoesUp capacity old a (with_device old n after)
+  gone_goes answer.Blocked acts = same_at capacity old n place after old.multiplier room is answer.Blocked refl acts.1 (λ m. refl)
+  gone_goes (answer.Gone port conn) acts =
+      posts (answer.Gone port conn) (change.Gone place.conn) refl refl refl (rw (eq-eqb port n acts.0, acts.1) refl)
+      (ap (λ (p : Place). p.up) acts.2) (ap (λ (p : Place). p.presence) acts.2) acts.3
+      (λ m other. record { entered = refl; left = refl; changed = rw (ne_eqb port m (λ e. other (sym e ∙ acts.0))) refl; recorded = refl }) refl refl
+  gone_goes _ acts = absurd acts
 
   -- a frame is sent
   sent_goes : (port conn number : ℕ) (bytes : List ℕ) (unit : Device) → ¬ IsFull place.up → port ≡ n → conn ≡ place.conn → number ≡ place.number → after ≡ after_sending n place bytes unit
@@ -283,16 +309,19 @@ module _ (capacity : ℕ) (old : Places) (n : ℕ) (place after : Place) (room :
       let entered : entered_by n (answer.Sent port conn number bytes) ≡ frame_of n place bytes ∷ [] =
       rw (eq-eqb port n port_is) (ap (λ (f : Stamped). f ∷ []) same) in
       goes_at capacity old n place after old.multiplier room is (answer.Sent port conn number bytes) (λ m other. refl)
-      (λ m other. record { entered = rw (ne_eqb port m (λ e. other (sym e ∙ port_is))) refl; left = refl; came = refl; recorded = refl }) refl refl
+      (λ m other. record { entered = rw (ne_eqb port m (λ e. other (sym e ∙ port_is))) refl; left = refl; changed = refl; recorded = refl }) refl refl
       (record {
         passes = record {
           passed = [];
+          left = [];
           risen = [];
+          lost = [];
           recorded = [];
           link = record { whole = rw entered more; bounded = within };
           passed_is = refl;
           hold = still 1 (held n old.multiplier) (option_fits (port_at old.multiplier n).up);
-          presence = rw presence (still capacity place.presence.conns was.presence_within);
+          goes_on = nothing_left old.multiplier n;
+          presence = rw presence (still capacity place.presence.changes was.presence_within);
           recorded_is = refl;
         };
         rises = λ no. refl;
@@ -300,7 +329,7 @@ module _ (capacity : ℕ) (old : Places) (n : ℕ) (place after : Place) (room :
       (record {
         up = size ∙ was.up;
         up_within = within;
-        presence = ap (λ (q : Comings). q.capacity) presence ∙ was.presence;
+        presence = ap (λ (q : Changes). q.capacity) presence ∙ was.presence;
         presence_within = rw presence was.presence_within;
       })
 
@@ -330,28 +359,30 @@ module _ (capacity : ℕ) (old : Places) (n : ℕ) (place after : Place) (left :
   abbrev fits : HasRoomUp capacity place
   fits = rw is at (room.devices n)
 
-  abbrev then : Places
-  then = with_multiplier (with_device old n after) left
+  abbrev stepped : Places
+  stepped = with_multiplier (with_device old n after) left
 
-  presence_goes : (a : Answer) → PmPresenceRule n place old.multiplier (Ok a) after left → GoesUp capacity old a then
-  presence_goes answer.Idle acts = same_at capacity old n place after left room is answer.Idle refl acts.1 (same_held acts.2)
-  presence_goes (answer.Presence p) acts =
+  presence_goes : (a : Answer) → n < length old.multiplier.ports → PmPresenceRule n place old.multiplier (Ok a) after left → GoesUp capacity old a stepped
+  presence_goes answer.Idle there acts = same_at capacity old n place after left room is answer.Idle refl acts.1 (same_held acts.2)
+  presence_goes (answer.Presence p) there acts =
       let up : after.up ≡ place.up = ap (λ (q : Place). q.up) acts.1 in
       let size : after.presence.capacity ≡ place.presence.capacity = ap (λ (q : Place). q.presence.capacity) acts.1 in
-      let within : length after.presence.conns ≤ capacity = omega (arith, ap length acts.2.1, fits.presence_within) in
-      let holds : KeepsHeld old.multiplier left =
-      λ m. ap (λ (q : PmState). (port_at q m).up) acts.2.2 ∙ recorded_keeps (λ (q : PortState). q.up) (λ q c. refl) old.multiplier n acts.2.0 m in
-      goes_at capacity old n place after left room is (answer.Presence p) (λ m other. holds m)
-      (λ m other. record { entered = refl; left = refl; came = refl; recorded = ne_eqb p m (λ e. other (sym e ∙ acts.0)) }) refl refl
+      let within : length after.presence.changes ≤ capacity = omega (arith, ap length acts.2.1, fits.presence_within) in
+      let r : RecordedAt old.multiplier n left = subst (λ (pm : PmState). RecordedAt old.multiplier n pm) (sym acts.2.2) (recorded_at old.multiplier n acts.2.0 there) in
+      goes_at capacity old n place after left room is (answer.Presence p) (λ m other. ap (λ (q : PortState). q.up) (r.others m other))
+      (λ m other. record { entered = refl; left = refl; changed = refl; recorded = ne_eqb p m (λ e. other (sym e ∙ acts.0)) }) refl refl
       (record {
         passes = record {
           passed = [];
+          left = r.up.left;
           risen = [];
+          lost = r.up.left;
           recorded = acts.2.0 ∷ [];
           link = rw up (still capacity place.up.frames fits.up_within);
           passed_is = refl;
-          hold = rw (holds n) (still 1 (held n old.multiplier) (option_fits (port_at old.multiplier n).up));
-          presence = record { whole = sym acts.2.1 ∙ sym (append-nil place.presence.conns); bounded = within };
+          hold = r.up.hold;
+          goes_on = r.up.goes_on;
+          presence = record { whole = sym acts.2.1 ∙ sym (append-nil place.presence.changes); bounded = within };
           recorded_is = rw (eq-eqb p n acts.0) refl;
         };
         rises = λ no. refl;
@@ -362,10 +393,10 @@ module _ (capacity : ℕ) (old : Places) (n : ℕ) (place after : Place) (left :
         presence = size ∙ fits.presence;
         presence_within = within;
       })
-  presence_goes _ acts = absurd acts
+  presence_goes _ there acts = absurd acts
 
   -- a frame enters the place of the port
-  module _ (frame : Stamped) (p : ℕ) (dropped : Bool) (there : n < length old.multiplier.ports) (port_is : p ≡ n) (first : place.up.frames ≡ frame ∷ after.up.frames)
+  module _ (frame : Stamped) (p : ℕ) (there : n < length old.multiplier.ports) (port_is : p ≡ n) (first : place.up.frames ≡ frame ∷ after.up.frames)
       (after_is : after ≡ record place { up = record place.up { frames = after.up.frames } })
       (empty : (port_at old.multiplier n).up ≡ None) (left_is : left ≡ record old.multiplier { ports = slice_set old.multiplier.ports n (with_up (port_at old.multiplier n) (Some (stamped n frame))); given = None }) where
     abbrev holding : PortState
@@ -374,23 +405,26 @@ module _ (capacity : ℕ) (old : Places) (n : ℕ) (place after : Place) (left :
     held_now : (port_at left n).up ≡ Some (stamped n frame)
     held_now = ap (λ (q : PmState). (port_at q n).up) left_is ∙ ap (λ (q : PortState). q.up) (this_port old.multiplier.ports n holding there)
 
-    enters : GoesUp capacity old (answer.Offered p dropped) then
+    enters : GoesUp capacity old (answer.Offered p false) stepped
     enters =
         let presence : after.presence ≡ place.presence = ap (λ (q : Place). q.presence) after_is in
         let size : after.up.capacity ≡ place.up.capacity = ap (λ (q : Place). q.up.capacity) after_is in
         let within : length after.up.frames ≤ capacity = omega (arith, ap length first, fits.up_within) in
-        goes_at capacity old n place after left room is (answer.Offered p dropped)
+        goes_at capacity old n place after left room is (answer.Offered p false)
         (λ m other. ap (λ (q : PmState). (port_at q m).up) left_is ∙ ap (λ (q : PortState). q.up) (other_port old.multiplier.ports n m holding other))
-        (λ m other. record { entered = refl; left = ne_eqb p m (λ e. other (sym e ∙ port_is)); came = refl; recorded = refl }) refl refl
+        (λ m other. record { entered = refl; left = ne_eqb p m (λ e. other (sym e ∙ port_is)); changed = refl; recorded = refl }) refl refl
         (record {
           passes = record {
             passed = frame ∷ [];
+            left = [];
             risen = [];
+            lost = [];
             recorded = [];
             link = record { whole = sym first ∙ sym (append-nil place.up.frames); bounded = within };
             passed_is = rw (eq-eqb p n port_is) refl;
-            hold = record { whole = rw (held_now, empty) refl; bounded = option_fits (port_at left n).up };
-            presence = rw presence (still capacity place.presence.conns fits.presence_within);
+            hold = record { whole = rw (held_now, empty, eq-eqb p n port_is) refl; bounded = option_fits (port_at left n).up };
+            goes_on = nothing_left left n;
+            presence = rw presence (still capacity place.presence.changes fits.presence_within);
             recorded_is = refl;
           };
           rises = λ no. refl;
@@ -398,19 +432,57 @@ module _ (capacity : ℕ) (old : Places) (n : ℕ) (place after : Place) (left :
         (record {
           up = size ∙ fits.up;
           up_within = within;
-          presence = ap (λ (q : Comings). q.capacity) presence ∙ fits.presence;
+          presence = ap (λ (q : Changes). q.capacity) presence ∙ fits.presence;
           presence_within = rw presence fits.presence_within;
         })
 
-  from_device_goes : (a : Answer) → n < length old.multiplier.ports → (port_at old.multiplier n).gone ≡ 0 → PmFromDeviceRule n place old.multiplier (Ok a) after left → GoesUp capacity old a then
-  from_device_goes answer.Idle there none acts = same_at capacity old n place after left room is answer.Idle refl acts.1 (same_held acts.2)
-  from_device_goes answer.Blocked there none acts = same_at capacity old n place after left room is answer.Blocked refl acts.2 (same_held acts.3)
-  from_device_goes (answer.Offered p true) there none acts = absurd (none_gone (port_at old.multiplier n) acts.2.0.stamp.conn none acts.2.2.0)
-  from_device_goes (answer.Offered p false) there none acts = enters acts.2.0 p false there acts.0 acts.2.1 acts.1 acts.2.2.1 acts.2.2.2
-  from_device_goes _ there none acts = absurd acts
+  -- a frame of a connection that is gone is dropped as it is offered
+  module _ (frame : Stamped) (p : ℕ) (port_is : p ≡ n) (first : place.up.frames ≡ frame ∷ after.up.frames)
+      (after_is : after ≡ record place { up = record place.up { frames = after.up.frames } }) (left_is : left ≡ old.multiplier) where
+    still_held : held n left ≡ held n old.multiplier
+    still_held = ap (λ (q : PmState). held n q) left_is
+
+    drops : GoesUp capacity old (answer.Offered p true) stepped
+    drops =
+        let presence : after.presence ≡ place.presence = ap (λ (q : Place). q.presence) after_is in
+        let size : after.up.capacity ≡ place.up.capacity = ap (λ (q : Place). q.up.capacity) after_is in
+        let within : length after.up.frames ≤ capacity = omega (arith, ap length first, fits.up_within) in
+        goes_at capacity old n place after left room is (answer.Offered p true) (λ m other. ap (λ (q : PmState). (port_at q m).up) left_is)
+        (λ m other. record { entered = refl; left = ne_eqb p m (λ e. other (sym e ∙ port_is)); changed = refl; recorded = refl }) refl refl
+        (record {
+          passes = record {
+            passed = frame ∷ [];
+            left = [];
+            risen = [];
+            lost = [];
+            recorded = [];
+            link = record { whole = sym first ∙ sym (append-nil place.up.frames); bounded = within };
+            passed_is = rw (eq-eqb p n port_is) refl;
+            hold =
+                rw (eq-eqb p n port_is)
+                (subst (λ (held_now : List Stamped). IsLink 1 (held n old.multiplier ++ []) [] held_now) (sym still_held) (still 1 (held n old.multiplier) (option_fits (port_at old.multiplier n).up)));
+            goes_on = nothing_left left n;
+            presence = rw presence (still capacity place.presence.changes fits.presence_within);
+            recorded_is = refl;
+          };
+          rises = λ no. refl;
+        })
+        (record {
+          up = size ∙ fits.up;
+          up_within = within;
+          presence = ap (λ (q : Changes). q.capacity) presence ∙ fits.presence;
+          presence_within = rw presence fits.presence_within;
+        })
+
+  from_device_goes : (a : Answer) → n < length old.multiplier.ports → PmFromDeviceRule n place old.multiplier (Ok a) after left → GoesUp capacity old a stepped
+  from_device_goes answer.Idle there acts = same_at capacity old n place after left room is answer.Idle refl acts.1 (same_held acts.2)
+  from_device_goes answer.Blocked there acts = same_at capacity old n place after left room is answer.Blocked refl acts.2 (same_held acts.3)
+  from_device_goes (answer.Offered p true) there acts = drops acts.2.0 p acts.0 acts.2.1 acts.1 acts.2.2.1
+  from_device_goes (answer.Offered p false) there acts = enters acts.2.0 p there acts.0 acts.2.1 acts.1 acts.2.2.1 acts.2.2.2
+  from_device_goes _ there acts = absurd acts
 
   -- a frame on its way down passes by
-  down_rests : (a : Answer) → PmDownRule n place old.multiplier (Ok a) after left → GoesUp capacity old a then
+  down_rests : (a : Answer) → PmDownRule n place old.multiplier (Ok a) after left → GoesUp capacity old a stepped
   down_rests answer.Idle acts = same_at capacity old n place after left room is answer.Idle refl acts.2 (same_held acts.3)
   down_rests answer.Blocked acts = same_at capacity old n place after left room is answer.Blocked refl acts.1 (same_held acts.2)
   down_rests (answer.Down port) acts =
@@ -430,7 +502,7 @@ module _ (capacity : ℕ) (old : Places) (left : PmState) (upward : Queue) (n : 
   within : length upward.frames ≤ capacity
   within = omega (arith, ap length more, length-append old.upward.frames (frame ∷ []), free, room.upward, room.upward_within)
 
-  rises_by : ((m : ℕ) → PortStep capacity m (slice_get old.devices m) (held m old.multiplier) (answer.Up n) (slice_get old.devices m) (held m left) (frame ∷ [])) → GoesUp capacity old (answer.Up n) risen_to
+  rises_by : ((m : ℕ) → PortStep capacity m (slice_get old.devices m) (held m old.multiplier) (answer.Up n) (slice_get old.devices m) left (frame ∷ [])) → GoesUp capacity old (answer.Up n) risen_to
   rises_by at_port = record {
     ports = λ m. (at_port m).passes;
     host = record {
@@ -446,10 +518,10 @@ module _ (capacity : ℕ) (old : Places) (left : PmState) (upward : Queue) (n : 
 
   -- the other places stay, and the frame is of none of their ports
   stays_at : (m : ℕ) → (port_at left m).up ≡ (port_at old.multiplier m).up → (m ≢ control_port → frame.stamp.port ≢ m)
-      → PortStep capacity m (slice_get old.devices m) (held m old.multiplier) (answer.Up n) (slice_get old.devices m) (held m left) (frame ∷ [])
+      → PortStep capacity m (slice_get old.devices m) (held m old.multiplier) (answer.Up n) (slice_get old.devices m) left (frame ∷ [])
   stays_at m same other =
-      quiet capacity m (slice_get old.devices m) (slice_get old.devices m) (held m old.multiplier) (held m left) (answer.Up n) (frame ∷ []) (room.devices m) (option_fits (port_at old.multiplier m).up)
-      (keeps_same (slice_get old.devices m)) (ap option_to_list same) (record { entered = refl; left = refl; came = refl; recorded = refl })
+      quiet capacity m (slice_get old.devices m) (slice_get old.devices m) (held m old.multiplier) left (answer.Up n) (frame ∷ []) (room.devices m) (option_fits (port_at old.multiplier m).up)
+      (keeps_same (slice_get old.devices m)) (ap option_to_list same) (record { entered = refl; left = refl; changed = refl; recorded = refl })
       (λ no. rw (ne_eqb frame.stamp.port m (other no)) refl)
 
   -- it is of the control port
@@ -468,15 +540,18 @@ module _ (capacity : ℕ) (old : Places) (left : PmState) (upward : Queue) (n : 
         ap (λ (l : List PortState). (at l place).up) ports
         ∙ ap (λ (q : PortState). q.up) (this_port old.multiplier.ports place low (has_up old.multiplier.ports place was was_is))
 
-    here : PortStep capacity place (slice_get old.devices place) (held place old.multiplier) (answer.Up n) (slice_get old.devices place) (held place left) (frame ∷ [])
+    here : PortStep capacity place (slice_get old.devices place) (held place old.multiplier) (answer.Up n) (slice_get old.devices place) left (frame ∷ [])
     here = record {
       passes = record {
         passed = [];
+        left = was ∷ [];
         risen = was ∷ [];
+        lost = [];
         recorded = [];
         link = still capacity (on_link (slice_get old.devices place)) (link_fits capacity (slice_get old.devices place) (room.devices place));
         passed_is = refl;
         hold = record { whole = rw (held_none, was_is) refl; bounded = option_fits (port_at left place).up };
+        goes_on = one_goes_on left place was;
         presence = still capacity (on_presence (slice_get old.devices place)) (presence_fits capacity (slice_get old.devices place) (room.devices place));
         recorded_is = refl;
       };
@@ -536,10 +611,10 @@ take_goes capacity old (answer.Took port conn number bytes report) upward host r
     same : told_of acts.0.0 ≡ told_frame port conn number bytes
     same = rw (told.port_is, told.conn_is, told.number_is, told.bytes_are) refl
 
-    at_port : (n : ℕ) → PortStep capacity n (slice_get old.devices n) (held n old.multiplier) (answer.Took port conn number bytes report) (slice_get old.devices n) (held n old.multiplier) []
+    at_port : (n : ℕ) → PortStep capacity n (slice_get old.devices n) (held n old.multiplier) (answer.Took port conn number bytes report) (slice_get old.devices n) old.multiplier []
     at_port n =
-        quiet capacity n (slice_get old.devices n) (slice_get old.devices n) (held n old.multiplier) (held n old.multiplier) (answer.Took port conn number bytes report) [] (room.devices n)
-        (option_fits (port_at old.multiplier n).up) (keeps_same (slice_get old.devices n)) refl (record { entered = refl; left = refl; came = refl; recorded = refl }) (λ no. refl)
+        quiet capacity n (slice_get old.devices n) (slice_get old.devices n) (held n old.multiplier) old.multiplier (answer.Took port conn number bytes report) [] (room.devices n)
+        (option_fits (port_at old.multiplier n).up) (keeps_same (slice_get old.devices n)) refl (record { entered = refl; left = refl; changed = refl; recorded = refl }) (λ no. refl)
 take_goes capacity old _ upward host room acts = absurd acts
 
 -- ---- the steps that move nothing up
@@ -588,6 +663,9 @@ module _ (capacity : ℕ) (old : Places) (a : Answer) (new : Places) (room : Hav
   rule_goes_up (step.Came n) rule =
       let p = at_device old n a new (CameRule n) rule in
       rw p.new_is (came_goes capacity old n p.place p.after room p.is a p.rule.1)
+  rule_goes_up (step.Gone n) rule =
+      let p = at_device old n a new (GoneRule n) rule in
+      rw p.new_is (gone_goes capacity old n p.place p.after room p.is a p.rule.1)
   rule_goes_up (step.DiskSend n) rule =
       let p = at_device old n a new (DiskSendRule n) rule in
       rw p.new_is (sends_goes capacity old n p.place p.after room p.is a p.rule.1)
@@ -599,13 +677,16 @@ module _ (capacity : ℕ) (old : Places) (a : Answer) (new : Places) (room : Hav
       rw p.new_is (disk_take_rests capacity old n p.place p.after room p.is a p.rule)
   rule_goes_up (step.PmPresence n) rule =
       let p = at_both old n a new (PmPresenceRule n) rule in
-      rw p.new_is (presence_goes capacity old n p.place p.after p.left room p.is a p.rule)
+      let below : n < length old.devices = slice_get_within old.devices n p.place p.is in
+      let most : length old.devices ≤ 15 = orderly.most in
+      let count : length old.multiplier.ports ≡ 15 = orderly.room in
+      rw p.new_is (presence_goes capacity old n p.place p.after p.left room p.is a (omega arith) p.rule)
   rule_goes_up (step.PmFromDevice n) rule =
       let p = at_both old n a new (PmFromDeviceRule n) rule in
       let below : n < length old.devices = slice_get_within old.devices n p.place p.is in
       let most : length old.devices ≤ 15 = orderly.most in
       let count : length old.multiplier.ports ≡ 15 = orderly.room in
-      rw p.new_is (from_device_goes capacity old n p.place p.after p.left room p.is a (omega arith) (orderly.gone n) p.rule)
+      rw p.new_is (from_device_goes capacity old n p.place p.after p.left room p.is a (omega arith) p.rule)
   rule_goes_up (step.PmDown n) rule =
       let p = at_both old n a new (PmDownRule n) rule in
       rw p.new_is (down_rests capacity old n p.place p.after p.left room p.is a p.rule)
@@ -632,23 +713,53 @@ module _ (capacity : ℕ) (old : Places) (a : Answer) (new : Places) (room : Hav
 
 -- ---- steps after one another
 
-module _ (capacity n : ℕ) (was mid now : Option Place) (held_was held_mid held_now : List Stamped) (first second : List Answer) (p : PortPasses capacity n was held_was first mid held_mid)
-    (q : PortPasses capacity n mid held_mid second now held_now) where
-  abbrev pub port_up-append : PortPasses capacity n was held_was (first ++ second) now held_now
+-- each frame that was offered was dropped or not
+dropped_or_not : (n : ℕ) (a : Answer) (answers : List Answer) → length (flat_map (dropped_by n) answers) ≡ times (is_offered n) answers
+    → length (dropped_by n a ++ flat_map (dropped_by n) answers) ≡ length (cond (is_offered n a) (a ∷ filter (is_offered n) answers) (filter (is_offered n) answers))
+dropped_or_not n (answer.Offered port dropped) answers rest = by_test (port == n)
+  where
+    by_test : (b : Bool) → length ((if b then dropped ∷ [] else []) ++ flat_map (dropped_by n) answers) ≡ length (cond b (answer.Offered port dropped ∷ filter (is_offered n) answers) (filter (is_offered n) answers))
+    by_test true = ap suc rest
+    by_test false = rest
+dropped_or_not n _ answers rest = rest
+
+each_offered : (n : ℕ) (answers : List Answer) → length (flat_map (dropped_by n) answers) ≡ times (is_offered n) answers
+each_offered n [] = refl
+each_offered n (a ∷ answers) = dropped_or_not n a answers (each_offered n answers)
+
+module _ (capacity n : ℕ) (was mid now : Option Place) (held_was : List Stamped) (pm_mid pm_now : PmState) (first second : List Answer) (p : PortPasses capacity n was held_was first mid pm_mid)
+    (q : PortPasses capacity n mid (held n pm_mid) second now pm_now) (stays : StillGone n pm_mid pm_now) where
+  -- what entered the place of the port
+  abbrev pub entered_first : List Stamped
+  entered_first = map (stamped n) (without (flat_map (dropped_by n) first) p.passed)
+
+  abbrev pub entered_second : List Stamped
+  entered_second = map (stamped n) (without (flat_map (dropped_by n) second) q.passed)
+
+  pub entered_both : map (stamped n) (without (flat_map (dropped_by n) (first ++ second)) (p.passed ++ q.passed)) ≡ entered_first ++ entered_second
+  entered_both =
+      ap (λ (drops : List Bool). map (stamped n) (without drops (p.passed ++ q.passed))) (flat_map-append (dropped_by n) first second)
+      ∙ ap (map (stamped n)) (without-append (flat_map (dropped_by n) first) (flat_map (dropped_by n) second) p.passed q.passed (each_offered n first ∙ sym p.passed_is))
+      ∙ map-append (stamped n) (without (flat_map (dropped_by n) first) p.passed) (without (flat_map (dropped_by n) second) q.passed)
+
+  abbrev pub port_up-append : PortPasses capacity n was held_was (first ++ second) now pm_now
   port_up-append = record {
     passed = p.passed ++ q.passed;
+    left = p.left ++ q.left;
     risen = p.risen ++ q.risen;
+    lost = p.lost ++ q.lost;
     recorded = p.recorded ++ q.recorded;
     link =
         rw (flat_map-append (entered_by n) first second)
         (chained capacity (on_link was) (flat_map (entered_by n) first) p.passed (on_link mid) (flat_map (entered_by n) second) q.passed (on_link now) p.link q.link);
     passed_is = rw (length-append p.passed q.passed, times-append (is_offered n) first second, p.passed_is, q.passed_is) refl;
     hold =
-        rw (map-append (stamped n) p.passed q.passed)
-        (chained 1 held_was (map (stamped n) p.passed) p.risen held_mid (map (stamped n) q.passed) q.risen held_now p.hold q.hold);
+        subst (λ (entered : List Stamped). IsLink 1 (held_was ++ entered) (p.left ++ q.left) (held n pm_now)) (sym entered_both)
+        (chained 1 held_was entered_first p.left (held n pm_mid) entered_second q.left (held n pm_now) p.hold q.hold);
+    goes_on = goes_on-append pm_mid pm_now n p.left p.risen p.lost q.left q.risen q.lost p.goes_on q.goes_on stays;
     presence =
-        rw (flat_map-append (came_by n) first second)
-        (chained capacity (on_presence was) (flat_map (came_by n) first) p.recorded (on_presence mid) (flat_map (came_by n) second) q.recorded (on_presence now) p.presence q.presence);
+        rw (flat_map-append (changed_by n) first second)
+        (chained capacity (on_presence was) (flat_map (changed_by n) first) p.recorded (on_presence mid) (flat_map (changed_by n) second) q.recorded (on_presence now) p.presence q.presence);
     recorded_is = rw (length-append p.recorded q.recorded, times-append (is_recorded n) first second, p.recorded_is, q.recorded_is) refl;
   }
 

@@ -1,39 +1,43 @@
 -- What a step does to the frames on their way up, whatever else it does.
-use Rattle.std.proofs.Common.{◌≡◌, ◌≢◌, ℕ, ◌<◌, ◌≤◌, Bool, true, false, cond, List, [], ◌∷◌, ◌++◌, Option, Some, None, refl, sym, ap, subst, ◌∙◌, append_assoc, inl, inr, map, length, arith}
+use Rattle.std.proofs.Common.{◌≡◌, ◌≢◌, ℕ, ◌<◌, ◌≤◌, Bool, true, false, cond, eqb, not, List, [], ◌∷◌, ◌++◌, Option, Some, None, refl, sym, ap, subst, ◌∙◌, append_assoc, inl, inr, map, length, arith}
 use Rattle.std.specs.Prelude.{slice_get, option_to_list, is_none, ◌⊎◌, ◌&&◌, ◌==◌, if◌then◌else◌, Ok, MatchOption, MatchBool, filter}
-use Rattle.std.proofs.lemmas.Bool.{cases_eq}
-use Rattle.std.proofs.lemmas.Option.{slice_get_within}
+use Rattle.std.proofs.lemmas.Bool.{cases_eq, eqb-true, ne_eqb}
+use Rattle.std.proofs.lemmas.Option.{same_Some, slice_get_within}
 use Rattle.fis_view.specs.Frames.{Stamped}
 use Rattle.fis_view.specs.declared.frame.Stamp.{Stamp}
 use Rattle.pm_registers.specs.RegisterMap.{forwards}
-use Rattle.pm_ports.specs.Port.{PortState, came_refusal as port_came_refusal, is_gone, is_of_present, only_if, rises, with_up}
+use Rattle.pm_ports.specs.Port.{PortState, came_refusal as port_came_refusal, is_gone, is_of_present, is_up_to, left_in, only_if, rises, with_removal, with_up, gone_refusal as port_gone_refusal}
 use Rattle.pm_ports.specs.declared.port.Offered.TheVariants.{Held}
 use Rattle.multiplier.specs.Arbiter.{control_port}
 use Rattle.multiplier.specs.Rules.{ControlGives, FromDeviceRule, FromHostRule, PortGives, ToControl, ToDevice, ToNobody, held_source, may_go_back}
-use Rattle.multiplier.specs.Rules.{with_device as connected}
+use Rattle.multiplier.specs.Rules.{with_device as connected, without_device}
 use Rattle.multiplier.specs.State.{PmState, held as goes_next, next_place, passes_to, pm_port, port_at, rising, stamped, with_port}
 use Rattle.multiplier.specs.declared.multiplier.Passed.{Passed}
 use Rattle.multiplier.specs.declared.multiplier.Passed.TheVariants as passed
-use Rattle.multiplier.proofs.Gone.{up_to_is}
+use Rattle.multiplier.proofs.Gone.{not_up_to}
+use Rattle.multiplier.proofs.Removals.{apart}
 use Rattle.multiplier.proofs.Ports as ports
 use Rattle.hba_driver.specs.HostTurns.{Host}
 use Rattle.hba_driver.specs.declared.request.Request.{Request}
-use Rattle.pm_world.specs.Places.{Places, Place, Queue, IsOrderly, IsTold, frame_of, pushed, with_device, with_multiplier, with_upward, with_downward, with_host}
-use Rattle.pm_world.specs.Rules.{Outcome, CameActs, DiskSendActs, InjectActs, CameRule, DiskSendRule, InjectRule, DiskTakeRule, PmPresenceRule, PmFromDeviceRule, PmDownRule, PmFromHostRule, PmUpRule, HostTakeRule, HostPushRule, TickRule, SubmitRule, PollRule, PutRule, recorded, OnDevice, OnHost, Rule}
-use Rattle.pm_world.specs.Traffic.{held, of_conn, on_link, waiting}
+use Rattle.pm_world.specs.Places.{KnowsItsConnections, Places, Place, Queue, IsOrderly, IsTold, frame_of, pushed, with_device, with_multiplier, with_upward, with_downward, with_host}
+use Rattle.pm_world.specs.Rules.{Outcome, CameActs, GoneActs, GoneRule, DiskSendActs, InjectActs, CameRule, DiskSendRule, InjectRule, DiskTakeRule, PmPresenceRule, PmFromDeviceRule, PmDownRule, PmFromHostRule, PmUpRule, HostTakeRule, HostPushRule, TickRule, SubmitRule, PollRule, PutRule, recorded, OnDevice, OnHost, Rule}
+use Rattle.pm_world.specs.Traffic.{held, is_removed, of_conn, on_link, waiting}
+use Rattle.pm_world.specs.declared.link.Change.{Change}
+use Rattle.pm_world.specs.declared.link.Change.TheVariants as change
 use Rattle.pm_world.specs.declared.step.Step.{Step}
 use Rattle.pm_world.specs.declared.step.Step.TheVariants as step
 use Rattle.pm_world.specs.declared.step.Answer.{Answer}
 use Rattle.pm_world.specs.declared.step.Answer.TheVariants as answer
-use Rattle.pm_world.proofs.Lists.{slice_get-set_same, slice_get-set_other}
+use Rattle.pm_world.proofs.Lists.{of_conn-append, slice_get-set_same, slice_get-set_other}
 use Rattle.pm_world.proofs.Steps.{at_device, at_both}
 
 -- ---- what may move
 
--- No frame moves but within its port, where it may get the port in its stamp: what waits there of each connection is the same.
+-- No frame moves but within its port, where it may get the port in its stamp, or is dropped since the removal of its
+-- connection is recorded: what waits there of each other connection is the same.
 pub record Stays (old new : Places) : Type 0 where
   pub upward : new.upward.frames ≡ old.upward.frames
-  pub waits : (m c : ℕ) → of_conn c (waiting m new) ≡ of_conn c (waiting m old)
+  pub waits : (m c : ℕ) → is_removed m c new ≡ false → of_conn c (waiting m new) ≡ of_conn c (waiting m old)
 
 -- a frame comes to wait at a port, last
 pub record Enters (port : ℕ) (frame : Stamped) (old new : Places) : Type 0 where
@@ -46,6 +50,8 @@ pub record Rises (port : ℕ) (frame : Stamped) (old new : Places) : Type 0 wher
   pub upward : new.upward.frames ≡ old.upward.frames ++ rising port frame ∷ []
   pub here : waiting port old ≡ frame ∷ waiting port new
   pub elsewhere : (m : ℕ) → m ≢ port → waiting m new ≡ waiting m old
+  -- its connection is not removed
+  pub present : is_removed port frame.stamp.conn old ≡ false
 
 -- a frame of the control port goes on the host's link
 pub record Says (frame : Stamped) (old new : Places) : Type 0 where
@@ -97,7 +103,7 @@ same_up e m = ap (λ (pm : PmState). (port_at pm m).up) e
 written_up : (old : PmState) (n : ℕ) (p : PortState) (new : PmState) → p.up ≡ (port_at old n).up → new.ports ≡ (with_port old n p).ports → KeepsUp old new
 written_up old n p new same e m = ap (λ (all : List PortState). (ports.at all m).up) e ∙ ports.kept_part (λ q. q.up) old.ports n p same m
 
-pub recorded_up : (pm : PmState) (n conn : ℕ) → KeepsUp pm (recorded pm n conn)
+pub recorded_up : (pm : PmState) (n conn : ℕ) → KeepsUp pm (recorded pm n (change.Came conn))
 recorded_up pm n conn = by_test (is_none (port_came_refusal (port_at pm n) conn))
   where
     by_test : (b : Bool) → KeepsUp pm (if b then connected pm n conn else pm)
@@ -158,7 +164,7 @@ module _ (old : Places) (n : ℕ) (place after : Place) (is : slice_get old.devi
   pub both_stay : (left : PmState) → after.up.frames ≡ place.up.frames → KeepsUp old.multiplier left → Stays old (with_multiplier (with_device old n after) left)
   both_stay left same keeps = record {
     upward = refl;
-    waits = λ m c. ap (of_conn c) (
+    waits = λ m c _. ap (of_conn c) (
         ap (λ xs. held m left ++ xs) (link_stays same m) ∙ ap (λ o. option_to_list o ++ on_link (slice_get old.devices m)) (keeps m));
   }
 
@@ -189,6 +195,11 @@ came_moves : (n : ℕ) (old : Place) (a : Answer) (new : Place) → CameActs n o
 came_moves n old answer.Blocked new acts = same_link acts.1
 came_moves n old (answer.Came port conn) new acts = ap (λ (p : Place). p.up.frames) acts.3
 came_moves n old _ new acts = absurd acts
+
+gone_moves : (n : ℕ) (old : Place) (a : Answer) (new : Place) → GoneActs n old a new → PlaceMoves n old a new
+gone_moves n old answer.Blocked new acts = same_link acts.1
+gone_moves n old (answer.Gone port conn) new acts = ap (λ (p : Place). p.up.frames) acts.2
+gone_moves n old _ new acts = absurd acts
 
 sends_moves : (n : ℕ) (old : Place) (a : Answer) (new : Place) → DiskSendActs n old a new → PlaceMoves n old a new
 sends_moves n old answer.Idle new acts = same_link acts.1
@@ -228,25 +239,54 @@ on_device old n a new R moves h =
 
 -- ---- a step of a device and the multiplier
 
--- where no removal is recorded, no connection is gone
-pub none_gone : (port : PortState) (conn : ℕ) → port.gone ≡ 0 → is_gone port conn ≡ true → ⊥
-none_gone port conn none so =
-    let is = up_to_is port.gone conn so in
-    let some : 0 < conn = is.0 in
-    let most : conn ≤ port.gone = is.1 in
-    absurd (omega arith)
+-- what a place keeps after a removal is, of a connection that is not removed, what it held
+left_waits : (highest c : ℕ) (up : Option Stamped) (rest : List Stamped) → is_up_to highest c ≡ false → of_conn c (option_to_list (left_in highest up) ++ rest) ≡ of_conn c (option_to_list up ++ rest)
+left_waits highest c None rest there = refl
+left_waits highest c (Some f) rest there = by_test (is_up_to highest f.stamp.conn) refl
+  where
+    by_test : (b : Bool) → is_up_to highest f.stamp.conn ≡ b → of_conn c (option_to_list (only_if (not b) f) ++ rest) ≡ of_conn c (f ∷ rest)
+    by_test false so = refl
+    by_test true so =
+        let other : eqb f.stamp.conn c ≡ false = ne_eqb f.stamp.conn c (λ e. apart highest c f.stamp.conn there so (sym e)) in
+        rw other refl
 
 module _ (old : Places) (n : ℕ) (place after : Place) (left : PmState) (is : slice_get old.devices n ≡ Some place) where
   abbrev Both : Places
   Both = with_multiplier (with_device old n after) left
 
-  -- a recorded connection moves no frame
-  presence_moves : (a : Answer) → PmPresenceRule n place old.multiplier (Ok a) after left → Moves old a Both
-  presence_moves answer.Idle acts = both_stay old n place after is left (same_link acts.1) (same_up acts.2)
-  presence_moves (answer.Presence p) acts =
-      let up : KeepsUp old.multiplier left = λ m. same_up acts.2.2 m ∙ recorded_up old.multiplier n acts.2.0 m in
-      both_stay old n place after is left (ap (λ (q : Place). q.up.frames) acts.1) up
-  presence_moves _ acts = absurd acts
+  -- a connection that is recorded moves no frame; a removal drops only frames of connections that are gone then
+  removal_stays : n < length old.multiplier.ports → (conn : ℕ) → after.up.frames ≡ place.up.frames → left ≡ without_device old.multiplier n conn → Stays old Both
+  removal_stays lt conn same now = record { upward = refl; waits = λ m c there. elim (cases_eq m n) [ inl e ↦ rw e (here c (subst (λ k. is_removed k c Both ≡ false) e there)) | inr other ↦ elsewhere m other c ] }
+    where
+      is_now : port_at left n ≡ with_removal (port_at old.multiplier n) conn
+      is_now = ap (λ (q : PmState). port_at q n) now ∙ ports.this_port old.multiplier.ports n (with_removal (port_at old.multiplier n) conn) lt
+
+      here : (c : ℕ) → is_removed n c Both ≡ false → of_conn c (waiting n Both) ≡ of_conn c (waiting n old)
+      here c there =
+          ap (λ (q : PortState). of_conn c (option_to_list q.up ++ on_link (slice_get (with_device old n after).devices n))) is_now
+          ∙ ap (λ xs. of_conn c (option_to_list (left_in conn (port_at old.multiplier n).up) ++ xs)) (device_here old n place after is ∙ same ∙ sym (device_was old n place after is))
+          ∙ left_waits conn c (port_at old.multiplier n).up (on_link (slice_get old.devices n)) (ap (λ (q : PortState). is_up_to q.gone c) (sym is_now) ∙ there)
+
+      elsewhere : (m : ℕ) → m ≢ n → (c : ℕ) → of_conn c (waiting m Both) ≡ of_conn c (waiting m old)
+      elsewhere m other c =
+          ap (of_conn c) (ap (λ xs. held m left ++ xs) (link_elsewhere old n place after is m other)
+          ∙ ap (λ o. option_to_list o ++ on_link (slice_get old.devices m)) (ap (λ (q : PmState). (port_at q m).up) now ∙ ap (λ (q : PortState). q.up) (ports.other_port old.multiplier.ports n m _ other)))
+
+  removal_moves : n < length old.multiplier.ports → (conn : ℕ) → after.up.frames ≡ place.up.frames → left ≡ recorded old.multiplier n (change.Gone conn) → Stays old Both
+  removal_moves lt conn same = by_test (is_none (port_gone_refusal (port_at old.multiplier n) conn))
+    where
+      by_test : (b : Bool) → left ≡ (if b then without_device old.multiplier n conn else old.multiplier) → Stays old Both
+      by_test true now = removal_stays lt conn same now
+      by_test false now = both_stay old n place after is left same (same_up now)
+
+  change_moves : n < length old.multiplier.ports → (c : Change) → after.up.frames ≡ place.up.frames → left ≡ recorded old.multiplier n c → Stays old Both
+  change_moves lt (change.Came conn) same now = both_stay old n place after is left same (λ m. same_up now m ∙ recorded_up old.multiplier n conn m)
+  change_moves lt (change.Gone conn) same now = removal_moves lt conn same now
+
+  presence_moves : n < length old.multiplier.ports → (a : Answer) → PmPresenceRule n place old.multiplier (Ok a) after left → Moves old a Both
+  presence_moves lt answer.Idle acts = both_stay old n place after is left (same_link acts.1) (same_up acts.2)
+  presence_moves lt (answer.Presence p) acts = change_moves lt acts.2.0 (ap (λ (q : Place). q.up.frames) acts.1) acts.2.2
+  presence_moves lt _ acts = absurd acts
 
   -- nor does one that goes down to the device
   down_moves : (a : Answer) → PmDownRule n place old.multiplier (Ok a) after left → Moves old a Both
@@ -259,7 +299,7 @@ module _ (old : Places) (n : ℕ) (place after : Place) (left : PmState) (is : s
 
   -- A frame that goes from the link into the port still waits there, first. No removal is recorded, so that none is dropped.
   enters_hold : n < length old.multiplier.ports → (frame : Stamped) → place.up.frames ≡ frame ∷ after.up.frames → FromDeviceRule old.multiplier n frame (Ok Held) left → Stays old Both
-  enters_hold lt frame first rule = record { upward = refl; waits = λ m c. elim (cases_eq m n) [ inl e ↦ rw e (here c) | inr other ↦ elsewhere m other c ] }
+  enters_hold lt frame first rule = record { upward = refl; waits = λ m c _. elim (cases_eq m n) [ inl e ↦ rw e (here c) | inr other ↦ elsewhere m other c ] }
     where
       is_now : port_at left n ≡ with_up (port_at old.multiplier n) (Some (stamped n frame))
       is_now = ap (λ (q : PmState). port_at q n) rule.2 ∙ ports.this_port old.multiplier.ports n (with_up (port_at old.multiplier n) (Some (stamped n frame))) lt
@@ -294,12 +334,32 @@ module _ (old : Places) (n : ℕ) (place after : Place) (left : PmState) (is : s
           ap (of_conn c) (ap (λ xs. held m left ++ xs) (link_elsewhere old n place after is m other)
           ∙ ap (λ o. option_to_list o ++ on_link (slice_get old.devices m)) (other_up m other))
 
-  from_device_moves : n < length old.multiplier.ports → (port_at old.multiplier n).gone ≡ 0 → (a : Answer) → PmFromDeviceRule n place old.multiplier (Ok a) after left → Moves old a Both
-  from_device_moves lt none answer.Idle acts = both_stay old n place after is left (same_link acts.1) (same_up acts.2)
-  from_device_moves lt none answer.Blocked acts = both_stay old n place after is left (same_link acts.2) (same_up acts.3)
-  from_device_moves lt none (answer.Offered p false) acts = enters_hold lt acts.2.0 acts.2.1 acts.2.2
-  from_device_moves lt none (answer.Offered p true) acts = absurd (none_gone (port_at old.multiplier n) acts.2.0.stamp.conn none acts.2.2.0)
-  from_device_moves lt none _ acts = absurd acts
+  -- A frame that is dropped as it is offered is of a connection that is gone. What waits of any other connection is
+  -- the same.
+  drops_offered : (frame : Stamped) → place.up.frames ≡ frame ∷ after.up.frames → is_gone (port_at old.multiplier n) frame.stamp.conn ≡ true → left ≡ old.multiplier → Stays old Both
+  drops_offered frame first gone now = record { upward = refl; waits = λ m c there. elim (cases_eq m n) [ inl e ↦ rw e (here c (subst (λ k. is_removed k c Both ≡ false) e there)) | inr other ↦ elsewhere m other c ] }
+    where
+      here : (c : ℕ) → is_removed n c Both ≡ false → of_conn c (waiting n Both) ≡ of_conn c (waiting n old)
+      here c there =
+          let never : is_gone (port_at old.multiplier n) c ≡ false = ap (λ (q : PmState). is_gone (port_at q n) c) (sym now) ∙ there in
+          let other : eqb frame.stamp.conn c ≡ false = ne_eqb frame.stamp.conn c (λ e. apart (port_at old.multiplier n).gone c frame.stamp.conn never gone (sym e)) in
+          let less : of_conn c (frame ∷ after.up.frames) ≡ of_conn c after.up.frames = rw other refl in
+          ap (λ (q : PmState). of_conn c (held n q ++ on_link (slice_get (with_device old n after).devices n))) now
+          ∙ ap (λ xs. of_conn c (held n old.multiplier ++ xs)) (device_here old n place after is)
+          ∙ of_conn-append c (held n old.multiplier) after.up.frames
+          ∙ ap (λ xs. of_conn c (held n old.multiplier) ++ xs) (sym less)
+          ∙ sym (of_conn-append c (held n old.multiplier) (frame ∷ after.up.frames))
+          ∙ ap (λ xs. of_conn c (held n old.multiplier ++ xs)) (sym (device_was old n place after is ∙ first))
+
+      elsewhere : (m : ℕ) → m ≢ n → (c : ℕ) → of_conn c (waiting m Both) ≡ of_conn c (waiting m old)
+      elsewhere m other c = ap (of_conn c) (ap (λ xs. held m left ++ xs) (link_elsewhere old n place after is m other) ∙ ap (λ (q : PmState). held m q ++ on_link (slice_get old.devices m)) now)
+
+  from_device_moves : n < length old.multiplier.ports → (a : Answer) → PmFromDeviceRule n place old.multiplier (Ok a) after left → Moves old a Both
+  from_device_moves lt answer.Idle acts = both_stay old n place after is left (same_link acts.1) (same_up acts.2)
+  from_device_moves lt answer.Blocked acts = both_stay old n place after is left (same_link acts.2) (same_up acts.3)
+  from_device_moves lt (answer.Offered p false) acts = enters_hold lt acts.2.0 acts.2.1 acts.2.2
+  from_device_moves lt (answer.Offered p true) acts = drops_offered acts.2.0 acts.2.1 acts.2.2.0 acts.2.2.1
+  from_device_moves lt _ acts = absurd acts
 
 -- ---- the link to the host
 
@@ -315,6 +375,29 @@ goes_held pm n frame e = by_place (forwards pm.registers n) (port_at pm n).prese
     by_place b present None e = absurd (cc)
     by_place b present (Some f) e = by_test (b && is_of_present present f) f e
 
+-- and is of the connection that is present, which is not removed
+goes_present : (pm : PmState) (n : ℕ) (frame : Stamped) → KnowsItsConnections (port_at pm n) → goes_next pm n ≡ Some frame → is_gone (port_at pm n) frame.stamp.conn ≡ false
+goes_present pm n frame knows e = by_place (forwards pm.registers n) (port_at pm n).present (port_at pm n).up (λ conn. knows.present conn) e
+  where
+    not_gone : (conn : ℕ) → (port_at pm n).gone < conn → is_gone (port_at pm n) conn ≡ false
+    not_gone conn above = not_up_to (port_at pm n).gone conn (λ most. absurd (omega (arith, most, above)))
+
+    by_test : (b : Bool) (present : Option ℕ) (f : Stamped) → ((conn : ℕ) → present ≡ Some conn → (conn ≡ (port_at pm n).last) × ((port_at pm n).gone < conn)) → only_if (b && is_of_present present f) f ≡ Some frame → is_gone (port_at pm n) frame.stamp.conn ≡ false
+    by_test false present f is e = absurd (cc)
+    by_test true None f is e = absurd (cc)
+    by_test true (Some conn) f is e = by_conn (f.stamp.conn == conn) refl e
+      where
+        by_conn : (b : Bool) → (f.stamp.conn == conn) ≡ b → only_if b f ≡ Some frame → is_gone (port_at pm n) frame.stamp.conn ≡ false
+        by_conn false so e = absurd (cc)
+        by_conn true so e =
+            let conn_is : f.stamp.conn ≡ conn = eqb-true f.stamp.conn conn so in
+            let same : f ≡ frame = same_Some f frame e in
+            subst (λ (g : Stamped). is_gone (port_at pm n) g.stamp.conn ≡ false) same (rw conn_is (not_gone conn (is conn refl).1))
+
+    by_place : (b : Bool) (present : Option ℕ) (up : Option Stamped) → ((conn : ℕ) → present ≡ Some conn → (conn ≡ (port_at pm n).last) × ((port_at pm n).gone < conn)) → rises b present up ≡ Some frame → is_gone (port_at pm n) frame.stamp.conn ≡ false
+    by_place b present None is e = absurd (cc)
+    by_place b present (Some f) is e = by_test b present f is e
+
 module _ (old : Places) (upward : Queue) (left : PmState) where
   abbrev Risen : Places
   Risen = with_upward (with_multiplier old left) upward
@@ -324,8 +407,8 @@ module _ (old : Places) (upward : Queue) (left : PmState) where
   given_up place frame was = record (with_port old.multiplier place (with_up (port_at old.multiplier place) None)) { served = place; given = may_go_back old.multiplier (held_source was) frame }
 
   -- from a port
-  port_rises : (n place : ℕ) (frame : Stamped) → frame.stamp.port ≡ n → PortGives old.multiplier place frame left → upward ≡ pushed old.upward frame → GoesUp n old Risen
-  port_rises n place frame port_is gives more =
+  port_rises : (n place : ℕ) (frame : Stamped) → frame.stamp.port ≡ n → IsOrderly old → PortGives old.multiplier place frame left → upward ≡ pushed old.upward frame → GoesUp n old Risen
+  port_rises n place frame port_is orderly gives more =
       whichever (goes_next old.multiplier place) (λ h. absurd h) (λ was next h. inl (was, rises_from was next h)) gives
     where
       empty_now : (was : Stamped) → (port_at old.multiplier place).up ≡ Some was → left ≡ given_up place frame was → held place left ≡ []
@@ -333,8 +416,9 @@ module _ (old : Places) (upward : Queue) (left : PmState) where
           ap (held place) now
           ∙ ap (λ (q : PortState). option_to_list q.up) (ports.this_port old.multiplier.ports place (with_up (port_at old.multiplier place) None) (ports.has_up old.multiplier.ports place was is))
 
-      rises_here : (was : Stamped) → (port_at old.multiplier place).up ≡ Some was → frame ≡ rising place was → left ≡ given_up place frame was → Rises place was old Risen
-      rises_here was is frame_is now = record {
+      rises_here : (was : Stamped) → goes_next old.multiplier place ≡ Some was → (port_at old.multiplier place).up ≡ Some was → frame ≡ rising place was → left ≡ given_up place frame was → Rises place was old Risen
+      rises_here was next is frame_is now = record {
+        present = goes_present old.multiplier place was (orderly.knows place) next;
         upward = ap (λ (q : Queue). q.frames) more ∙ ap (λ f. old.upward.frames ++ f ∷ []) frame_is;
         here =
             ap (λ o. option_to_list o ++ on_link (slice_get old.devices place)) is
@@ -347,7 +431,7 @@ module _ (old : Places) (upward : Queue) (left : PmState) where
       rises_from : (was : Stamped) → goes_next old.multiplier place ≡ Some was → (was.stamp.port ≡ place) × (frame ≡ rising place was) × (left ≡ given_up place frame was) → Rises n was old Risen
       rises_from was next h =
           let here_is : place ≡ n = ap (λ (f : Stamped). f.stamp.port) (sym h.1) ∙ port_is in
-          subst (λ k. Rises k was old Risen) here_is (rises_here was (goes_held old.multiplier place was next) h.1 h.2)
+          subst (λ k. Rises k was old Risen) here_is (rises_here was next (goes_held old.multiplier place was next) h.1 h.2)
 
   -- from the control port: a notification or an answer
   control_says : (n : ℕ) (frame : Stamped) → frame.stamp.port ≡ n → IsOrderly old → ControlGives old.multiplier frame left → upward ≡ pushed old.upward frame → GoesUp n old Risen
@@ -374,7 +458,7 @@ module _ (old : Places) (upward : Queue) (left : PmState) where
   nothing_rises : left ≡ old.multiplier → upward ≡ old.upward → Stays old Risen
   nothing_rises e f = record {
     upward = ap (λ (q : Queue). q.frames) f;
-    waits = λ m c. ap (λ (pm : PmState). of_conn c (held m pm ++ on_link (slice_get old.devices m))) e;
+    waits = λ m c _. ap (λ (pm : PmState). of_conn c (held m pm ++ on_link (slice_get old.devices m))) e;
   }
 
   up_moves : (a : Answer) → IsOrderly old → PmUpRule old.multiplier old.upward (Ok a) left upward → Moves old a Risen
@@ -384,7 +468,7 @@ module _ (old : Places) (upward : Queue) (left : PmState) where
       whichever (next_place old.multiplier) (λ h. absurd h)
       (λ place is gives. either (place == control_port)
       (λ control. control_says n acts.1.0 acts.1.1 orderly control acts.1.3)
-      (λ port. port_rises n place acts.1.0 acts.1.1 port acts.1.3)
+      (λ port. port_rises n place acts.1.0 acts.1.1 orderly port acts.1.3)
       gives)
       acts.1.2
   up_moves _ orderly acts = absurd acts
@@ -394,7 +478,7 @@ quiet_step : (old : Places) (a : Answer) (new : Places) → IsQuiet a → new.up
 quiet_step old a new quiet link devices keeps =
     quiet_moves old a new quiet (record {
       upward = link;
-      waits = λ m c. ap (of_conn c) (
+      waits = λ m c _. ap (of_conn c) (
           ap (λ (all : List Place). held m new.multiplier ++ on_link (slice_get all m)) devices
           ∙ ap (λ o. option_to_list o ++ on_link (slice_get old.devices m)) (keeps m));
     })
@@ -443,18 +527,22 @@ on_host old a new R quiet h = rw h.1 (quiet_step old a (with_host old new.host) 
 -- each step moves what its answer tells
 pub rule_moves : (old : Places) (s : Step) (a : Answer) (new : Places) → IsOrderly old → Rule old s (Ok a) new → Moves old a new
 rule_moves old (step.Came n) a new orderly rule = on_device old n a new (CameRule n) (λ place after r. came_moves n place a after r.1) rule
+rule_moves old (step.Gone n) a new orderly rule = on_device old n a new (GoneRule n) (λ place after r. gone_moves n place a after r.1) rule
 rule_moves old (step.DiskSend n) a new orderly rule = on_device old n a new (DiskSendRule n) (λ place after r. sends_moves n place a after r.1) rule
 rule_moves old (step.Inject n bytes) a new orderly rule = on_device old n a new (InjectRule n bytes) (λ place after r. inject_moves n bytes place a after r.1) rule
 rule_moves old (step.DiskTake n) a new orderly rule = on_device old n a new (DiskTakeRule n) (λ place after r. take_off_moves n place a after r) rule
 rule_moves old (step.PmPresence n) a new orderly rule =
     let p = at_both old n a new (PmPresenceRule n) rule in
-    rw p.new_is (presence_moves old n p.place p.after p.left p.is a p.rule)
+    let lt : n < length old.devices = slice_get_within old.devices n p.place p.is in
+    let most = orderly.most in
+    let room = orderly.room in
+    rw p.new_is (presence_moves old n p.place p.after p.left p.is (omega arith) a p.rule)
 rule_moves old (step.PmFromDevice n) a new orderly rule =
     let p = at_both old n a new (PmFromDeviceRule n) rule in
     let lt : n < length old.devices = slice_get_within old.devices n p.place p.is in
     let most = orderly.most in
     let room = orderly.room in
-    rw p.new_is (from_device_moves old n p.place p.after p.left p.is (omega arith) (orderly.gone n) a p.rule)
+    rw p.new_is (from_device_moves old n p.place p.after p.left p.is (omega arith) a p.rule)
 rule_moves old (step.PmDown n) a new orderly rule =
     let p = at_both old n a new (PmDownRule n) rule in
     rw p.new_is (down_moves old n p.place p.after p.left p.is a p.rule)

@@ -3,7 +3,7 @@ use Rattle.std.proofs.Common.{ℕ, List, ◌++◌, ap, ◌∙◌}
 use Rattle.pm_world.specs.Laws.{TakenIsPrefix}
 use Rattle.pm_world.specs.Places.{Places, new_world}
 use Rattle.pm_world.specs.Rules.{Run}
-use Rattle.pm_world.specs.Traffic.{sent, transit, all_marked}
+use Rattle.pm_world.specs.Traffic.{sent, all_marked}
 use Rattle.pm_world.specs.declared.step.Step.{Step}
 use Rattle.pm_world.specs.declared.step.Answer.{Answer}
 use Rattle.pm_world.proofs.Law.{nothing_lost, run_append}
@@ -14,4 +14,5 @@ pub taken_is_prefix : (old : Places) (steps : List Step) (answers : List Answer)
 taken_is_prefix old steps answers new run config units fits before told made n c device =
     let whole = run_append (new_world config units) old new before told steps answers made run in
     let lost = nothing_lost (new_world config units) (before ++ steps) (told ++ answers) new (opening_orderly config units fits) whole in
-    (transit n c new, lost.conserved n c device ∙ ap (λ (standing : List (List ℕ)). standing ++ all_marked n (sent n c (told ++ answers))) (nothing_stands config units n c))
+    let prefix = lost.prefix n c device in
+    (prefix.0, prefix.1 ∙ ap (λ (standing : List (List ℕ)). standing ++ all_marked n (sent n c (told ++ answers))) (nothing_stands config units n c))

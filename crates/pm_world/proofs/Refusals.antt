@@ -4,7 +4,7 @@ use Rattle.std.specs.Prelude.{slice_get, Ok, Err, MatchOption, OnErr}
 use Rattle.multiplier.specs.State.{PmState}
 use Rattle.hba_driver.specs.HostTurns.{Host}
 use Rattle.pm_world.specs.Places.{Places, Place, Queue, with_device, with_multiplier, with_upward, with_downward, with_host}
-use Rattle.pm_world.specs.Rules.{Outcome, CameRule, DiskSendRule, InjectRule, DiskTakeRule, PmPresenceRule, PmFromDeviceRule, PmDownRule, PmFromHostRule, PmUpRule, HostPushRule, OnDevice, OnDeviceAndMultiplier, Rule}
+use Rattle.pm_world.specs.Rules.{Outcome, CameRule, GoneRule, DiskSendRule, InjectRule, DiskTakeRule, PmPresenceRule, PmFromDeviceRule, PmDownRule, PmFromHostRule, PmUpRule, HostPushRule, OnDevice, OnDeviceAndMultiplier, Rule}
 use Rattle.pm_world.specs.declared.step.Step.{Step}
 use Rattle.pm_world.specs.declared.step.Step.TheVariants as step
 use Rattle.pm_world.specs.declared.step.StepError.{StepError}
@@ -43,6 +43,7 @@ push_same host link _ after new r = absurd r
 
 pub refused : (old : Places) (s : Step) (e : StepError) (new : Places) → Rule old s (Err e) new → new ≡ old
 refused old (step.Came n) e new rule = on_device_same old n e new (CameRule n) (λ place after r. r.2) rule
+refused old (step.Gone n) e new rule = on_device_same old n e new (GoneRule n) (λ place after r. r.2) rule
 refused old (step.DiskSend n) e new rule = on_device_same old n e new (DiskSendRule n) (λ place after r. r.2) rule
 refused old (step.Inject n bytes) e new rule = on_device_same old n e new (InjectRule n bytes) (λ place after r. r.2) rule
 refused old (step.DiskTake n) e new rule = on_device_same old n e new (DiskTakeRule n) (λ place after r. r.1) rule

@@ -10,8 +10,8 @@ use Rattle.hba_driver.specs.HostTurns.{Host}
 use Rattle.hba_driver.specs.Requests.{in_use}
 use Rattle.hba_driver.specs.Submits.{end_of}
 use Rattle.pm_world.specs.Places.{Places, Place, Queue, with_device, with_multiplier}
-use Rattle.pm_world.specs.Rules.{Outcome, Refuses, came_refusal, send_refusal, inject_refusal, no_refusal, port_refusal, put_refusal, refusal, largest}
-use Rattle.pm_world.specs.Rules.{CameRule, DiskSendRule, InjectRule, DiskTakeRule, TakeWants, PmPresenceRule, PmFromDeviceRule, PmDownRule, PmFromHostRule, PmUpRule, HostPushRule, OnDevice, OnDeviceAndMultiplier, Rule}
+use Rattle.pm_world.specs.Rules.{Outcome, Refuses, came_refusal, gone_refusal, send_refusal, inject_refusal, no_refusal, port_refusal, put_refusal, refusal, largest}
+use Rattle.pm_world.specs.Rules.{CameRule, GoneRule, DiskSendRule, InjectRule, DiskTakeRule, TakeWants, PmPresenceRule, PmFromDeviceRule, PmDownRule, PmFromHostRule, PmUpRule, HostPushRule, OnDevice, OnDeviceAndMultiplier, Rule}
 use Rattle.pm_world.specs.declared.step.Step.{Step}
 use Rattle.pm_world.specs.declared.step.Step.TheVariants as step
 use Rattle.pm_world.specs.declared.step.StepError.{StepError}
@@ -54,6 +54,9 @@ by_test false x y hx hy = hy
 came_named : (place : Place) → IsNamed (came_refusal place)
 came_named place = by_test place.plugged (Some error.AlreadyThere) (if place.conn == largest then Some error.Spent else None) tt (by_test (place.conn == largest) (Some error.Spent) None tt tt)
 
+gone_named : (place : Place) → IsNamed (gone_refusal place)
+gone_named place = by_test place.plugged None (Some error.NotThere) tt tt
+
 send_named : (place : Place) → IsNamed (send_refusal place)
 send_named place = by_test (place.number == largest) (Some error.Spent) None tt tt
 
@@ -64,6 +67,9 @@ inject_named bytes place =
 
 pub came_refuses : (place : Place) (e : StepError) → came_refusal place ≡ Some e → Refuses (came_refusal place) e
 came_refuses place e is = refuses_named (came_refusal place) e (came_named place) is
+
+pub gone_refuses : (place : Place) (e : StepError) → gone_refusal place ≡ Some e → Refuses (gone_refusal place) e
+gone_refuses place e is = refuses_named (gone_refusal place) e (gone_named place) is
 
 pub send_refuses : (place : Place) (e : StepError) → send_refusal place ≡ Some e → Refuses (send_refusal place) e
 send_refuses place e is = refuses_named (send_refusal place) e (send_named place) is
@@ -82,6 +88,7 @@ put_named host at len =
 
 pub refusal_named : (now : Places) (s : Step) → IsNamed (refusal now s)
 refusal_named now (step.Came n) = port_named (slice_get now.devices n) came_refusal came_named
+refusal_named now (step.Gone n) = port_named (slice_get now.devices n) gone_refusal gone_named
 refusal_named now (step.DiskSend n) = port_named (slice_get now.devices n) send_refusal send_named
 refusal_named now (step.Inject n bytes) = port_named (slice_get now.devices n) (inject_refusal bytes) (inject_named bytes)
 refusal_named now (step.DiskTake n) = port_named (slice_get now.devices n) no_refusal (λ place. tt)
@@ -142,6 +149,7 @@ push_wants host link _ after new r = absurd r
 -- the error that a step gives is its first refusal, or want of memory where none applies
 pub rule_refuses : (old : Places) (s : Step) (e : StepError) (new : Places) → Rule old s (Err e) new → Refuses (refusal old s) e
 rule_refuses old (step.Came n) e new rule = on_device_refuses old n e new (CameRule n) came_refusal (λ place after r. r.0) rule
+rule_refuses old (step.Gone n) e new rule = on_device_refuses old n e new (GoneRule n) gone_refusal (λ place after r. r.0) rule
 rule_refuses old (step.DiskSend n) e new rule = on_device_refuses old n e new (DiskSendRule n) send_refusal (λ place after r. r.0) rule
 rule_refuses old (step.Inject n bytes) e new rule = on_device_refuses old n e new (InjectRule n bytes) (inject_refusal bytes) (λ place after r. r.0) rule
 rule_refuses old (step.DiskTake n) e new rule = on_device_refuses old n e new (DiskTakeRule n) no_refusal (λ place after r. take_wants place e r.0) rule

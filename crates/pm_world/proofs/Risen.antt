@@ -20,10 +20,10 @@ use Rattle.pm_control.specs.Answers.{IsAnswer, IsNotice, answer_of, answer_to, a
 use Rattle.pm_control.specs.Requests.{request_in}
 use Rattle.pm_control.specs.declared.request.Request.{Request}
 use Rattle.pm_control.specs.declared.request.Request.TheVariants.{Read, Write, Unknown, Reset, EndReset}
-use Rattle.pm_ports.specs.Port.{with_up, came_refusal as port_came_refusal}
+use Rattle.pm_ports.specs.Port.{with_up, came_refusal as port_came_refusal, gone_refusal as port_gone_refusal}
 use Rattle.multiplier.specs.Arbiter.{control_port}
 use Rattle.multiplier.specs.Rules.{ControlGives, FromHostRule, NextUpRule, PlaceGives, PortGives, ToControl, ToDevice, ToNobody, ToPort, held_source, may_go_back}
-use Rattle.multiplier.specs.Rules.{with_device as connected}
+use Rattle.multiplier.specs.Rules.{with_device as connected, without_device}
 use Rattle.multiplier.specs.State.{PmState, control_stamp, counted, held, next_place, passes_to, pm_port, port_at, ready, rising, with_port}
 use Rattle.multiplier.specs.declared.given.Source.TheVariants as source
 use Rattle.multiplier.specs.declared.multiplier.Passed.{Passed}
@@ -36,8 +36,10 @@ use Rattle.host_memory.specs.Memory.{Memory}
 use Rattle.hba_driver.specs.HostTurns.{Host, Tooks}
 use Rattle.hba_driver.specs.declared.request.Request.{Request as Asked}
 use Rattle.pm_world.specs.Places.{Places, Place, Queue, new_world}
-use Rattle.pm_world.specs.Rules.{Outcome, Rule, Run, OnDevice, OnDeviceAndMultiplier, CameActs, DiskSendActs, InjectActs, DiskTakeActs, CameRule, DiskSendRule, InjectRule, DiskTakeRule, PmPresenceRule, PmFromDeviceRule, PmDownRule, PmFromHostRule, PmUpRule, HostTakeRule, HostPushRule, TickRule, SubmitRule, PollRule, PutRule, recorded}
+use Rattle.pm_world.specs.Rules.{Outcome, Rule, Run, OnDevice, OnDeviceAndMultiplier, CameActs, GoneActs, DiskSendActs, InjectActs, DiskTakeActs, CameRule, GoneRule, DiskSendRule, InjectRule, DiskTakeRule, PmPresenceRule, PmFromDeviceRule, PmDownRule, PmFromHostRule, PmUpRule, HostTakeRule, HostPushRule, TickRule, SubmitRule, PollRule, PutRule, recorded}
 use Rattle.pm_world.specs.Turns.{AreOfTheirPorts, IsOfItsPort}
+use Rattle.pm_world.specs.declared.link.Change.{Change}
+use Rattle.pm_world.specs.declared.link.Change.TheVariants as change
 use Rattle.pm_world.specs.declared.step.Config.{Config}
 use Rattle.pm_world.specs.declared.step.Step.{Step}
 use Rattle.pm_world.specs.declared.step.Step.TheVariants as step
@@ -136,11 +138,16 @@ none_rising new low none = record { served_low = low; answer = λ frame e. let w
 equal_rising : (old new : PmState) → new ≡ old → IsRising old → IsRising new
 equal_rising old new e is = subst IsRising (sym e) is
 
-recorded_rising : (pm : PmState) (n conn : ℕ) → IsRising pm → IsRising (recorded pm n conn)
-recorded_rising pm n conn is = by_test (is_none (port_came_refusal (port_at pm n) conn))
+recorded_rising : (pm : PmState) (n : ℕ) (c : Change) → IsRising pm → IsRising (recorded pm n c)
+recorded_rising pm n (change.Came conn) is = by_test (is_none (port_came_refusal (port_at pm n) conn))
   where
     by_test : (b : Bool) → IsRising (if b then connected pm n conn else pm)
     by_test true = same_rising pm (connected pm n conn) refl refl is
+    by_test false = is
+recorded_rising pm n (change.Gone conn) is = by_test (is_none (port_gone_refusal (port_at pm n) conn))
+  where
+    by_test : (b : Bool) → IsRising (if b then without_device pm n conn else pm)
+    by_test true = same_rising pm (without_device pm n conn) refl refl is
     by_test false = is
 
 control_rising : (old new : PmState) (frame : Stamped) (way : Passed) → IsRising old → ToControl old frame (Ok way) new → IsRising new
@@ -229,6 +236,10 @@ all_rest f fs h i d lt = h (suc i) d (omega arith)
 came_tells : (n : ℕ) (old : Place) (a : Answer) (new : Place) → CameActs n old a new → IsOfItsPort a
 came_tells n old (answer.Took port conn number bytes report) new acts = absurd acts
 came_tells n old _ new acts = tt
+
+gone_tells : (n : ℕ) (old : Place) (a : Answer) (new : Place) → GoneActs n old a new → IsOfItsPort a
+gone_tells n old (answer.Took port conn number bytes report) new acts = absurd acts
+gone_tells n old _ new acts = tt
 
 sends_tells : (n : ℕ) (old : Place) (a : Answer) (new : Place) → DiskSendActs n old a new → IsOfItsPort a
 sends_tells n old (answer.Took port conn number bytes report) new acts = absurd acts
@@ -361,6 +372,7 @@ on_host old new a risen tells same upward = as_before old new a risen tells (equ
 
 rule_rises : (old : Places) (s : Step) (a : Answer) (new : Places) → AllRisen old.multiplier old.upward.frames → Rule old s (Ok a) new → Rises a new
 rule_rises old (step.Came n) a new risen rule = on_device old n a new (CameRule n) risen (λ place after r. came_tells n place a after r.1) rule
+rule_rises old (step.Gone n) a new risen rule = on_device old n a new (GoneRule n) risen (λ place after r. gone_tells n place a after r.1) rule
 rule_rises old (step.DiskSend n) a new risen rule = on_device old n a new (DiskSendRule n) risen (λ place after r. sends_tells n place a after r.1) rule
 rule_rises old (step.Inject n bytes) a new risen rule = on_device old n a new (InjectRule n bytes) risen (λ place after r. inject_tells n bytes place a after r.1) rule
 rule_rises old (step.DiskTake n) a new risen rule = on_device old n a new (DiskTakeRule n) risen (λ place after r. disk_take_tells n place a after r) rule

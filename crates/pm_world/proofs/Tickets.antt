@@ -12,7 +12,7 @@ use Rattle.hba_driver.specs.Laws.{AreOnce, TurnsKeep}
 use Rattle.hba_driver.proofs.HistoryLemmas.{each_run_keeps}
 use Rattle.hba_driver.proofs.SoundLemmas.{hosts_stay_sound}
 use Rattle.pm_world.specs.Places.{Places, new_world, opening_host}
-use Rattle.pm_world.specs.Rules.{CameRule, DiskSendRule, InjectRule, DiskTakeRule, PmPresenceRule, PmFromDeviceRule, PmDownRule, Rule, Run}
+use Rattle.pm_world.specs.Rules.{CameRule, GoneRule, DiskSendRule, InjectRule, DiskTakeRule, PmPresenceRule, PmFromDeviceRule, PmDownRule, Rule, Run}
 use Rattle.pm_world.specs.Runs.{over}
 use Rattle.pm_world.specs.Tickets.{KeepsTickets, given_by, polled_by}
 use Rattle.pm_world.specs.Turns.{turn_of}
@@ -67,6 +67,7 @@ put_gives old _ new = refl
 submitted_gives : (old : Places) (s : Step) (ticket : Ticket) (new : Places) → Rule old s (Ok (answer.Submitted ticket)) new → given_in (turn_of old s (answer.Submitted ticket) new) ≡ ticket.0 ∷ []
 submitted_gives old (step.Submit dev request) ticket new rule = refl
 submitted_gives old (step.Came n) ticket new rule = absurd (at_device old n (answer.Submitted ticket) new (CameRule n) rule).rule.1
+submitted_gives old (step.Gone n) ticket new rule = absurd (at_device old n (answer.Submitted ticket) new (GoneRule n) rule).rule.1
 submitted_gives old (step.DiskSend n) ticket new rule = absurd (at_device old n (answer.Submitted ticket) new (DiskSendRule n) rule).rule.1
 submitted_gives old (step.Inject n bytes) ticket new rule = absurd (at_device old n (answer.Submitted ticket) new (InjectRule n bytes) rule).rule.1
 submitted_gives old (step.DiskTake n) ticket new rule = absurd (at_device old n (answer.Submitted ticket) new (DiskTakeRule n) rule).rule

@@ -11,7 +11,7 @@ use Rattle.multiplier.specs.State.{PmState}
 use Rattle.pm_world.specs.Downward.{on_down_link}
 use Rattle.pm_world.specs.Laws.{happens, MaySendAll, LivesOn, UnitsLiveOn, UnitsLivedOn}
 use Rattle.pm_world.specs.Places.{Places, Place, opening, new_world}
-use Rattle.pm_world.specs.Rules.{Outcome, CameActs, DiskSendActs, InjectActs, DiskTakeActs, CameRule, DiskSendRule, InjectRule, DiskTakeRule, PmPresenceRule, PmFromDeviceRule, PmDownRule, OnDevice, OnDeviceAndMultiplier, Rule, Run}
+use Rattle.pm_world.specs.Rules.{Outcome, CameActs, GoneActs, DiskSendActs, InjectActs, DiskTakeActs, CameRule, GoneRule, DiskSendRule, InjectRule, DiskTakeRule, PmPresenceRule, PmFromDeviceRule, PmDownRule, OnDevice, OnDeviceAndMultiplier, Rule, Run}
 use Rattle.pm_world.specs.Runs.{over}
 use Rattle.pm_world.specs.declared.step.Step.{Step}
 use Rattle.pm_world.specs.declared.step.Step.TheVariants as step
@@ -71,6 +71,12 @@ came_lives n old place (answer.Came port conn) after new acts = record {
   here = rw (eq-eqb port n acts.0) (record { plan = acts.2.plan; stands_for = acts.2.goes_on; sends = λ history at. tt });
 }
 came_lives n old place _ after new acts = absurd acts
+
+-- a unit does not see that it goes
+gone_lives : (n : ℕ) (old : Places) (place : Place) (a : Answer) (after : Place) (new : Places) → GoneActs n place a after → PlaceLives n old (step.Gone n) place a after new
+gone_lives n old place answer.Blocked after new acts = no_event n old (step.Gone n) place answer.Blocked after new (λ m. refl) (same_unit acts.1)
+gone_lives n old place (answer.Gone port conn) after new acts = no_event n old (step.Gone n) place (answer.Gone port conn) after new (λ m. refl) (ap (λ (p : Place). p.unit) acts.2)
+gone_lives n old place _ after new acts = absurd acts
 
 sends_lives : (n : ℕ) (old : Places) (place : Place) (a : Answer) (after : Place) (new : Places) → DiskSendActs n place a after → PlaceLives n old (step.DiskSend n) place a after new
 sends_lives n old place answer.Idle after new acts = no_event n old (step.DiskSend n) place answer.Idle after new (λ m. refl) (same_unit acts.1)
@@ -173,6 +179,7 @@ none_lives old new same m = subst (λ (after : List Place). Lived (slice_get old
 
 rule_lives : (old : Places) (s : Step) (a : Answer) (new : Places) → Rule old s (Ok a) new → (m : ℕ) → Lived (slice_get old.devices m) (happens m old s a new) (slice_get new.devices m)
 rule_lives old (step.Came n) a new rule m = on_device old n (step.Came n) a new (CameRule n) (λ place after is r. came_lives n old place a after new r.1) rule m
+rule_lives old (step.Gone n) a new rule m = on_device old n (step.Gone n) a new (GoneRule n) (λ place after is r. gone_lives n old place a after new r.1) rule m
 rule_lives old (step.DiskSend n) a new rule m = on_device old n (step.DiskSend n) a new (DiskSendRule n) (λ place after is r. sends_lives n old place a after new r.1) rule m
 rule_lives old (step.Inject n bytes) a new rule m = on_device old n (step.Inject n bytes) a new (InjectRule n bytes) (λ place after is r. inject_lives n bytes old place a after new r.1) rule m
 rule_lives old (step.DiskTake n) a new rule m = on_device old n (step.DiskTake n) a new (DiskTakeRule n) (λ place after is r. takes_lives n old place a after new is r) rule m

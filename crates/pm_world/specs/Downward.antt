@@ -4,7 +4,8 @@ use Rattle.std.specs.Prelude.{ℕ, ◌≡◌, ◌==◌, if◌then◌else◌, Boo
 use Rattle.std.specs.Prelude.{drop, take, filter, Option, Some, None, slice_get, option_to_list}
 use Rattle.std.specs.List.{flat_map}
 use Rattle.fis_view.specs.Frames.{Stamped}
-use Rattle.multiplier.specs.Passing.{falls}
+use Rattle.multiplier.specs.Passing.{falls, lost_from}
+use Rattle.pm_ports.specs.Port.{is_gone}
 use Rattle.multiplier.specs.State.{passes_to, port_at}
 use Rattle.multiplier.specs.declared.multiplier.Passed.TheVariants as passed
 use Rattle.pm_world.specs.Places.{Places, Place}
@@ -43,6 +44,15 @@ disk_took n old s (answer.DiskTook p dropped) new =
     if p == n then take 1 (on_down_link (slice_get old.devices n)) else []
 disk_took n old s _ new = []
 
+-- what waited at port n for its device and was dropped, since the removal of its connection was
+-- recorded
+abbrev pub lost_at : ℕ → Telling Stamped
+lost_at n old s (answer.Presence p) new =
+    if p == n then option_to_list
+    (lost_from (port_at old.multiplier n).down (port_at new.multiplier n).down)
+    else []
+lost_at n old s _ new = []
+
 abbrev pub is_pushed : Answer → Bool
 is_pushed answer.Pushed = true
 is_pushed _ = false
@@ -71,8 +81,12 @@ abbrev pub falling_to : ℕ → Places → List Stamped
 falling_to n places =
     on_down_link (slice_get places.devices n) ++ option_to_list (port_at places.multiplier n).down
 
--- Nothing is dropped, made or put out of order on the way down. What stood at the beginning counts
--- as pushed and passed before it.
+-- the frames of connection c
+abbrev pub of_connection : ℕ → List Stamped → List Stamped
+of_connection c frames = filter (λ f. f.stamp.conn == c) frames
+
+-- Nothing is made or put out of order on the way down, and nothing is dropped but what recorded
+-- removals dropped. What stood at the beginning counts as pushed and passed before it.
 pub record NothingLostDown (old : Places) (steps : List Step) (answers : List Answer)
     (new : Places) (run : Run old steps answers new) : Type 0 where
   -- what the multiplier took off the host's link, and then what is on it, is what the host put on
@@ -82,9 +96,18 @@ pub record NothingLostDown (old : Places) (steps : List Step) (answers : List An
   pub pushed : length (over pushed_by old steps answers new run) ≡ times is_pushed answers
   pub passed : length (over passed_by old steps answers new run) ≡ times is_passed answers
   -- what the device at port n took, and then what is on its way to it, is what was passed down to
-  -- the port: one FIS for each answer that says so
-  pub ports : (n : ℕ) → over (disk_took n) old steps answers new run ++ falling_to n new
+  -- the port, where no removal dropped any of it: one FIS for each answer that says so
+  pub ports : (n : ℕ) → over (lost_at n) old steps answers new run ≡ []
+      → over (disk_took n) old steps answers new run ++ falling_to n new
       ≡ falling_to n old ++ over (fell_to n) old steps answers new run
+  -- of each connection what removals dropped is missing, and nothing else
+  pub each : (n c : ℕ)
+      → of_connection c (over (disk_took n) old steps answers new run ++ falling_to n new
+      ++ over (lost_at n) old steps answers new run)
+      ≡ of_connection c (falling_to n old ++ over (fell_to n) old steps answers new run)
+  -- of a connection that is not removed nothing is dropped
+  pub kept : (n c : ℕ) → is_gone (port_at new.multiplier n) c ≡ false
+      → of_connection c (over (lost_at n) old steps answers new run) ≡ []
   pub fell : (n : ℕ) → length (over (fell_to n) old steps answers new run)
       ≡ times (is_down_to n) answers
   pub took : (n : ℕ) → length (over (disk_took n) old steps answers new run)

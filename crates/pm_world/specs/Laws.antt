@@ -1,4 +1,4 @@
--- The laws of a run: nothing is lost, upward or downward, what was taken is a prefix of what was sent,
+-- The laws of a run: nothing is lost, upward or downward, but by a recorded removal, what was taken is a prefix of what was sent,
 -- the host and each unit are what their own turns make of them, and each link is a link (Serial ATA
 -- 3.x, 16.3, port multiplier: frame transmission, PM Port; AHCI 1.3.1, chapter 5); and what is delivered
 -- to the host's clients (specs/Delivery.antt, Apart.antt, Tickets.antt, Isolation.antt, Truth.antt).
@@ -14,10 +14,11 @@ use Rattle.pm_world.specs.Downward.{NothingLostDown, on_down_link}
 use Rattle.pm_world.specs.Isolation.{Isolates}
 use Rattle.pm_world.specs.Links.{KeepsLinks}
 use Rattle.pm_world.specs.Places.{Places}
+use Rattle.pm_world.specs.Removals.{TellsRemovals}
 use Rattle.pm_world.specs.Rules.{Run}
 use Rattle.pm_world.specs.Runs.{AfterEveryRun, Telling, over}
 use Rattle.pm_world.specs.Tickets.{KeepsTickets}
-use Rattle.pm_world.specs.Traffic.{sent, taken, all_marked, IsPrefixOf, NothingLost}
+use Rattle.pm_world.specs.Traffic.{sent, taken, all_marked, IsPrefixOf, NothingAfterRemoval, NothingLost}
 use Rattle.pm_world.specs.Truth.{TellsTruth}
 use Rattle.pm_world.specs.Turns.{AreOfTheirPorts, HostIsFold}
 use Rattle.pm_world.specs.declared.step.Step.{Step}
@@ -33,6 +34,16 @@ abbrev pub TakenIsPrefix : Places → List Answer → Type 0
 TakenIsPrefix old answers = AfterEveryRun old (λ config units before told made.
     (n c : ℕ) → n ≢ control_port → IsPrefixOf (taken n c (told ++ answers))
     (all_marked n (sent n c (told ++ answers))))
+
+-- ---- on the way
+
+-- so it is from each world on the way to new, with the answers from there on
+abbrev pub FromEachWorld : Places → List Step → List Answer → Places
+    → (Places → List Answer → Type 0) → Type 0
+FromEachWorld old steps answers new Holds =
+    (first later : List Step) (told rest : List Answer) (mid : Places)
+    → first ++ later ≡ steps → told ++ rest ≡ answers
+    → Run old first told mid → Run mid later rest new → Holds mid rest
 
 -- ---- the units
 
@@ -90,6 +101,9 @@ UnitsLivedOn old steps answers new run = AfterEveryRun old (λ config units befo
 pub record ObeysLaws (old : Places) (steps : List Step) (answers : List Answer)
     (new : Places) (run : Run old steps answers new) : Type 0 where
   pub nothing_lost : NothingLost old answers new
+  pub on_the_way : FromEachWorld old steps answers new
+      (λ mid later. NothingLost mid later new × NothingAfterRemoval mid later)
+  pub removals : TellsRemovals old answers new
   pub nothing_lost_down : NothingLostDown old steps answers new run
   pub prefix : TakenIsPrefix old answers
   pub own_port : AreOfTheirPorts old answers

@@ -6,6 +6,7 @@ pub mod Counting
 pub mod Downward
 pub mod Turns
 pub mod Links
+pub mod Removals
 pub mod Delivery
 pub mod Apart
 pub mod Tickets

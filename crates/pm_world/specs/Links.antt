@@ -2,17 +2,20 @@
 -- host's link, and off that link; and the same way down (Serial ATA 3.x, 16.3, port multiplier: frame
 -- transmission, presence of a device on a port). A link of a world and a link between two threads are links by one
 -- definition, IsLink of ruled_links.
-use Rattle.std.specs.Prelude.{ℕ, ◌≡◌, ◌≢◌, ◌≤◌, option_to_list, ◌==◌, if◌then◌else◌, Bool, false, List, [], ◌∷◌, ◌++◌}
+use Rattle.std.specs.Prelude.{ℕ, ◌≡◌, ◌≢◌, ◌≤◌, option_to_list, ◌==◌, if◌then◌else◌, Bool, false, true, not, All, List, [], ◌∷◌, ◌++◌}
 use Rattle.std.specs.Prelude.{length, map, filter, Option, Some, None, slice_get, MatchOption}
-use Rattle.std.specs.List.{flat_map}
+use Rattle.std.specs.List.{flat_map, zip}
 use Rattle.fis_view.specs.Frames.{Stamped}
 use Rattle.ruled_links.specs.Links.{IsLink}
 use Rattle.multiplier.specs.Arbiter.{control_port}
 use Rattle.multiplier.specs.State.{PmState, port_at, rising, stamped}
+use Rattle.pm_ports.specs.Port.{is_gone}
 use Rattle.pm_world.specs.Runs.{AfterEveryRun}
 use Rattle.pm_world.specs.Downward.{is_down_to, is_passed, is_pushed, is_taken_at, on_down_link, times}
 use Rattle.pm_world.specs.Places.{Places, Place, nothing_shown}
 use Rattle.pm_world.specs.Traffic.{held, on_link}
+use Rattle.pm_world.specs.declared.link.Change.{Change}
+use Rattle.pm_world.specs.declared.link.Change.TheVariants as change
 use Rattle.pm_world.specs.declared.step.Answer.{Answer}
 use Rattle.pm_world.specs.declared.step.Answer.TheVariants as answer
 
@@ -40,15 +43,21 @@ abbrev pub is_offered : ℕ → Answer → Bool
 is_offered n (answer.Offered port dropped) = port == n
 is_offered n _ = false
 
--- the connection that entered the presence link of that device, if one did
-abbrev pub came_by : ℕ → Answer → List ℕ
-came_by n (answer.Came port conn) = if port == n then conn ∷ [] else []
-came_by n _ = []
+-- the change that entered the presence link of that device, if one did
+abbrev pub changed_by : ℕ → Answer → List Change
+changed_by n (answer.Came port conn) = if port == n then change.Came conn ∷ [] else []
+changed_by n (answer.Gone port conn) = if port == n then change.Gone conn ∷ [] else []
+changed_by n _ = []
 
--- whether a connection left that link
+-- whether a change left that link
 abbrev pub is_recorded : ℕ → Answer → Bool
 is_recorded n (answer.Presence port) = port == n
 is_recorded n _ = false
+
+-- whether the frame that left the device's link was dropped
+abbrev pub dropped_by : ℕ → Answer → List Bool
+dropped_by n (answer.Offered port dropped) = if port == n then dropped ∷ [] else []
+dropped_by n _ = []
 
 -- the port from which a frame entered the link to the host, if one did
 abbrev pub rose_by : Answer → List ℕ
@@ -67,32 +76,50 @@ is_down n _ = false
 
 -- ---- what went over the links
 
--- the connections on a device's presence link
-abbrev pub on_presence : Option Place → List ℕ
+-- what is on a device's presence link
+abbrev pub on_presence : Option Place → List Change
 on_presence None = []
-on_presence (Some place) = place.presence.conns
+on_presence (Some place) = place.presence.changes
 
 -- the frames of port n
 abbrev pub from_port : ℕ → List Stamped → List Stamped
 from_port n frames = filter (λ f. f.stamp.port == n) frames
 
--- What went over the links at port n, each with room for so many items, while what its port held
--- became what it holds. What a link held before, and then what entered it, is what left it, and
--- then what it holds.
+-- The frames, of which these answers say for each whether it was dropped, without those that were.
+abbrev pub without : List Bool → List Stamped → List Stamped
+without drops frames = map (λ p. p.0) (filter (λ p. not p.1) (zip frames drops))
+
+-- What left a place went on, but for what was lost there; each part is in its order, and what was
+-- lost is of connections that are removed.
+pub record GoesOnBut (pm : PmState) (n : ℕ) (left on lost : List Stamped) : Type 0 where
+  pub drops : List Bool
+  pub each : length drops ≡ length left
+  pub on_is : on ≡ without drops left
+  pub lost_is : lost ≡ without (map not drops) left
+  pub removed : All (λ f. is_gone (port_at pm n) f.stamp.conn ≡ true) lost
+
+-- What went over the links at port n of a multiplier that is now as given, each with room for so many
+-- items, while what its port held became what it holds. What a link held before, and then what
+-- entered it, is what left it, and then what it holds.
 pub record PortPasses (capacity n : ℕ) (was : Option Place) (held_was : List Stamped)
-    (answers : List Answer) (now : Option Place) (held_now : List Stamped) : Type 0 where
-  -- what left the device's link, and then the place of the port on the way up
+    (answers : List Answer) (now : Option Place) (pm : PmState) : Type 0 where
+  -- what left the device's link, what left the place of the port on the way up, and of that what went
+  -- on and what a removal dropped
   pub passed : List Stamped
+  pub left : List Stamped
   pub risen : List Stamped
+  pub lost : List Stamped
   -- what left the presence link
-  pub recorded : List ℕ
+  pub recorded : List Change
   pub link : IsLink capacity (on_link was ++ flat_map (entered_by n) answers) passed (on_link now)
   pub passed_is : length passed ≡ times (is_offered n) answers
   -- that place is a link with room for one frame, and what left the device's link entered it, with
-  -- the port in its stamp
-  pub hold : IsLink 1 (held_was ++ map (stamped n) passed) risen held_now
+  -- the port in its stamp, but for what was dropped as it was offered
+  pub hold : IsLink 1
+      (held_was ++ map (stamped n) (without (flat_map (dropped_by n) answers) passed)) left (held n pm)
+  pub goes_on : GoesOnBut pm n left risen lost
   pub presence :
-      IsLink capacity (on_presence was ++ flat_map (came_by n) answers) recorded (on_presence now)
+      IsLink capacity (on_presence was ++ flat_map (changed_by n) answers) recorded (on_presence now)
   pub recorded_is : length recorded ≡ times (is_recorded n) answers
 
 -- What went over the link to the host.
@@ -108,17 +135,20 @@ pub record HostPasses (capacity : ℕ) (was : List Stamped) (answers : List Answ
 abbrev pub held_down : ℕ → PmState → List Stamped
 held_down n pm = option_to_list (port_at pm n).down
 
--- What went through the downward place of port n, which is a link with room for one frame, and then
--- over the link to its device.
+-- What went through the downward place of port n, which is a link with room for one frame, and then,
+-- but for what a removal dropped there, over the link to its device.
 pub record PortPassesDown (capacity n : ℕ) (was : Option Place) (held_was : List Stamped)
-    (answers : List Answer) (now : Option Place) (held_now : List Stamped) : Type 0 where
+    (answers : List Answer) (now : Option Place) (pm : PmState) : Type 0 where
   pub fell : List Stamped
   pub left : List Stamped
+  pub sunk : List Stamped
+  pub lost : List Stamped
   pub took : List Stamped
-  pub hold : IsLink 1 (held_was ++ fell) left held_now
-  pub link : IsLink capacity (on_down_link was ++ left) took (on_down_link now)
+  pub hold : IsLink 1 (held_was ++ fell) left (held_down n pm)
+  pub goes_on : GoesOnBut pm n left sunk lost
+  pub link : IsLink capacity (on_down_link was ++ sunk) took (on_down_link now)
   pub fell_is : length fell ≡ times (is_down_to n) answers
-  pub left_is : length left ≡ times (is_down n) answers
+  pub sunk_is : length sunk ≡ times (is_down n) answers
   pub took_is : length took ≡ times (is_taken_at n) answers
 
 -- What went over the link from the host.
@@ -135,15 +165,15 @@ pub record LinksPass (capacity : ℕ) (old : Places) (answers : List Answer)
     (new : Places) : Type 0 where
   pub ports : (n : ℕ) → PortPasses capacity n
       (slice_get old.devices n) (held n old.multiplier) answers
-      (slice_get new.devices n) (held n new.multiplier)
+      (slice_get new.devices n) new.multiplier
   pub host : HostPasses capacity old.upward.frames answers new.upward.frames
-  -- what entered the link to the host from port n is what left the place of that port, marked with
-  -- it, in the same order
+  -- what entered the link to the host from port n is what went on from the place of that port, marked
+  -- with it, in the same order
   pub rises : (n : ℕ) → n ≢ control_port
       → from_port n host.rose ≡ map (rising n) (ports n).risen
   pub ports_down : (n : ℕ) → PortPassesDown capacity n
       (slice_get old.devices n) (held_down n old.multiplier) answers
-      (slice_get new.devices n) (held_down n new.multiplier)
+      (slice_get new.devices n) new.multiplier
   pub host_down : HostPassesDown capacity old.downward.frames answers new.downward.frames
 
 -- ---- the law
@@ -155,7 +185,7 @@ pub record HasRoom (capacity : ℕ) (place : Place) : Type 0 where
   pub down : place.down.capacity ≡ capacity
   pub down_within : length place.down.frames ≤ capacity
   pub presence : place.presence.capacity ≡ capacity
-  pub presence_within : length place.presence.conns ≤ capacity
+  pub presence_within : length place.presence.changes ≤ capacity
 
 -- so have all links of a world
 pub record HaveRoom (capacity : ℕ) (now : Places) : Type 0 where

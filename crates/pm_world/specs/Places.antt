@@ -1,6 +1,6 @@
 -- Where frames stand in a world, as its callers see it (Serial ATA 3.x, 16.3, port multiplier:
 -- device ports, frame transmission, presence of a device on a port).
-use Rattle.std.specs.Prelude.{ℕ, ◌+◌, ◌≡◌, ◌≤◌, ◌%◌, ◌==◌, ◌&&◌, nat_le, Bool, false, List, [], ◌∷◌}
+use Rattle.std.specs.Prelude.{ℕ, ◌+◌, ◌≡◌, ◌≤◌, ◌<◌, ◌%◌, ◌==◌, ◌&&◌, nat_le, Bool, false, List, [], ◌∷◌}
 use Rattle.std.specs.Prelude.{◌++◌, length, map, Option, Some, None, slice_set, replicate}
 use Rattle.fis_view.specs.Frames.{Stamped}
 use Rattle.fis_view.specs.declared.frame.Stamp.{Stamp}
@@ -11,6 +11,8 @@ use Rattle.host_memory.specs.Memory.{zeroed}
 use Rattle.hba_fbs.specs.Views.{opening_port}
 use Rattle.hba_driver.specs.Drivers.{new_driver}
 use Rattle.hba_driver.specs.HostTurns.{Host}
+use Rattle.pm_ports.specs.Port.{PortState}
+use Rattle.pm_world.specs.declared.link.Change.{Change}
 use Rattle.pm_world.specs.declared.step.Config.{Config}
 
 -- a link: the frames on it, oldest first, and how many it can hold
@@ -29,22 +31,24 @@ abbrev pub FirstLeaves : Queue → Option Stamped → Queue → Type 0
 FirstLeaves old None new = (old.frames ≡ []) × (new ≡ old)
 FirstLeaves old (Some frame) new = (old.frames ≡ frame ∷ new.frames) × (new.capacity ≡ old.capacity)
 
--- a presence link: the connections that came and are not recorded yet, oldest first, and how many
--- it can hold
-pub record Comings : Type 0 where
-  pub conns : List ℕ
+-- a presence link: the connections that came or went, where that is not recorded yet, oldest first,
+-- and how many such changes it can hold
+pub record Changes : Type 0 where
+  pub changes : List Change
   pub capacity : ℕ
 
-abbrev pub AreFull : Comings → Type 0
-AreFull link = link.capacity ≡ length link.conns
+abbrev pub AreFull : Changes → Type 0
+AreFull link = link.capacity ≡ length link.changes
 
-abbrev pub posted : Comings → ℕ → Comings
-posted link conn = record { conns = link.conns ++ conn ∷ []; capacity = link.capacity }
+abbrev pub posted : Changes → Change → Changes
+posted link change =
+    record { changes = link.changes ++ change ∷ []; capacity = link.capacity }
 
--- the first connection is read off a presence link, if there is one
-abbrev pub FirstIsRead : Comings → Option ℕ → Comings → Type 0
-FirstIsRead old None new = (old.conns ≡ []) × (new ≡ old)
-FirstIsRead old (Some conn) new = (old.conns ≡ conn ∷ new.conns) × (new.capacity ≡ old.capacity)
+-- the first change is read off a presence link, if there is one
+abbrev pub FirstIsRead : Changes → Option Change → Changes → Type 0
+FirstIsRead old None new = (old.changes ≡ []) × (new ≡ old)
+FirstIsRead old (Some change) new =
+    (old.changes ≡ change ∷ new.changes) × (new.capacity ≡ old.capacity)
 
 -- The place of a device: the unit, whether it is plugged in, its connection (0 before the first),
 -- the number of its next FIS on it, its links from and to the multiplier, and its presence link.
@@ -55,7 +59,7 @@ pub record Place : Type 0 where
   pub number : ℕ
   pub up : Queue
   pub down : Queue
-  pub presence : Comings
+  pub presence : Changes
 
 -- a world: the place at each fan-out port, the port multiplier, the links between it and the host,
 -- and the host: its port, its driver and its memory
@@ -66,15 +70,21 @@ pub record Places : Type 0 where
   pub downward : Queue
   pub host : Host
 
+-- what a port knows of connections: the one that is present is the last that came, and is above
+-- those that are gone; and none that is gone is above the last
+pub record KnowsItsConnections (port : PortState) : Type 0 where
+  pub present : (conn : ℕ) → port.present ≡ Some conn → (conn ≡ port.last) × (port.gone < conn)
+  pub last : port.gone ≤ port.last
+
 -- What is true of every world: it has at most fifteen devices, its multiplier has a place for each
--- fan-out port, what waits there as the answer of the control port is stamped so, and no removal is
--- recorded.
+-- fan-out port, what waits there as the answer of the control port is stamped so, and of each port
+-- the connection that is present is above those that are gone, and none of these is above the last.
 pub record IsOrderly (now : Places) : Type 0 where
   pub most : length now.devices ≤ 15
   pub room : length now.multiplier.ports ≡ 15
   pub answer : (frame : Stamped) → now.multiplier.answer ≡ Some frame
       → frame.stamp.port ≡ control_port
-  pub gone : (n : ℕ) → (port_at now.multiplier n).gone ≡ 0
+  pub knows : (n : ℕ) → KnowsItsConnections (port_at now.multiplier n)
 
 -- a device shows no removals
 abbrev pub nothing_shown : List ℕ
@@ -131,7 +141,7 @@ opening capacity unit = record {
   number = 0;
   up = empty_queue capacity;
   down = empty_queue capacity;
-  presence = record { conns = []; capacity = capacity };
+  presence = record { changes = []; capacity = capacity };
 }
 
 -- the host of a new world: a port that was not started, a driver that did nothing, and memory of so

@@ -15,11 +15,12 @@ use Rattle.host_memory.specs.Memory.{client_start}
 use Rattle.disk_model.specs.Histories.{Plugged, Received}
 use Rattle.disk_model.specs.Units.{UnitGoesOn, UnitSends, UnitIsSilent, UnitWantsRoom}
 use Rattle.pm_ports.specs.Port.{came_refusal as port_came_refusal}
+use Rattle.pm_ports.specs.Port.{gone_refusal as port_gone_refusal}
 use Rattle.pm_ports.specs.declared.port.Offered.{Offered}
 use Rattle.pm_ports.specs.declared.port.Offered.TheVariants.{Held, Dropped}
 use Rattle.multiplier.specs.Arbiter.{control_port}
 use Rattle.multiplier.specs.Rules.{DropsOnly, FromDeviceRule, FromHostRule, NextDownRule, NextUpRule}
-use Rattle.multiplier.specs.Rules.{with_device as connected}
+use Rattle.multiplier.specs.Rules.{with_device as connected, without_device}
 use Rattle.multiplier.specs.State.{PmState, next_place, port_at}
 use Rattle.multiplier.specs.declared.multiplier.PmRefusal.TheVariants as pm_refusal
 use Rattle.hba_fbs.specs.Sending.{MayRest, is_sent, outgoing}
@@ -31,6 +32,8 @@ use Rattle.hba_driver.specs.declared.request.Request.{Request}
 use Rattle.pm_world.specs.Places.{Places, Place, Queue, IsFull, AreFull, IsTold, pushed, posted}
 use Rattle.pm_world.specs.Places.{after_sending, with_device, with_multiplier, with_upward}
 use Rattle.pm_world.specs.Places.{with_downward, with_host}
+use Rattle.pm_world.specs.declared.link.Change.{Change}
+use Rattle.pm_world.specs.declared.link.Change.TheVariants as change
 use Rattle.pm_world.specs.declared.step.Step.{Step}
 use Rattle.pm_world.specs.declared.step.Step.TheVariants as step
 use Rattle.pm_world.specs.declared.step.Answer.{Answer}
@@ -66,7 +69,7 @@ CameActs port old (answer.Came p conn) new =
       plugged = true;
       conn = old.conn + 1;
       number = 0;
-      presence = posted old.presence (old.conn + 1);
+      presence = posted old.presence (change.Came (old.conn + 1));
     })
     × (¬ AreFull old.presence)
 CameActs port old _ new = ⊥
@@ -79,6 +82,25 @@ TakesNone _ = Unit {0}
 abbrev pub CameRule : ℕ → Place → Outcome → Place → Type 0
 CameRule port old (Ok a) new = (came_refusal old ≡ None) × CameActs port old a new
 CameRule port old (Err e) new = Refuses (came_refusal old) e × TakesNone e × (new ≡ old)
+
+-- A device goes. What is on its links stays there.
+abbrev pub gone_refusal : Place → Option StepError
+gone_refusal place = if place.plugged then None else Some error.NotThere
+
+abbrev pub GoneActs : ℕ → Place → Answer → Place → Type 0
+GoneActs port old answer.Blocked new = AreFull old.presence × (new ≡ old)
+GoneActs port old (answer.Gone p conn) new =
+    (p ≡ port) × (conn ≡ old.conn)
+    × (new ≡ record old {
+      plugged = false;
+      presence = posted old.presence (change.Gone old.conn);
+    })
+    × (¬ AreFull old.presence)
+GoneActs port old _ new = ⊥
+
+abbrev pub GoneRule : ℕ → Place → Outcome → Place → Type 0
+GoneRule port old (Ok a) new = (gone_refusal old ≡ None) × GoneActs port old a new
+GoneRule port old (Err e) new = Refuses (gone_refusal old) e × TakesNone e × (new ≡ old)
 
 -- A device sends its next FIS.
 abbrev pub send_refusal : Place → Option StepError
@@ -157,20 +179,23 @@ abbrev pub DiskTakeRule : ℕ → Place → Outcome → Place → Type 0
 DiskTakeRule port old (Ok a) new = DiskTakeActs port old a new
 DiskTakeRule port old (Err e) new = TakeWants old e × (new ≡ old)
 
--- the multiplier after a connection was read off port n's presence link; one that the port refuses
+-- the multiplier after a change was read off port n's presence link; one that the port refuses
 -- changes nothing
-abbrev pub recorded : PmState → ℕ → ℕ → PmState
-recorded pm n conn =
+abbrev pub recorded : PmState → ℕ → Change → PmState
+recorded pm n (change.Came conn) =
     if is_none (port_came_refusal (port_at pm n) conn) then connected pm n conn else pm
+recorded pm n (change.Gone conn) =
+    if is_none (port_gone_refusal (port_at pm n) conn) then without_device pm n conn else pm
 
--- The first connection on a presence link is recorded by its port.
+-- The first change on a presence link is recorded by its port.
 abbrev pub PmPresenceRule : ℕ → Place → PmState → Outcome → Place → PmState → Type 0
 PmPresenceRule n old pm (Ok answer.Idle) new after =
-    (old.presence.conns ≡ []) × (new ≡ old) × (after ≡ pm)
+    (old.presence.changes ≡ []) × (new ≡ old) × (after ≡ pm)
 PmPresenceRule n old pm (Ok (answer.Presence p)) new after =
     (p ≡ n)
-    × (new ≡ record old { presence = record old.presence { conns = new.presence.conns } })
-    × ((conn : ℕ) × (old.presence.conns ≡ conn ∷ new.presence.conns) × (after ≡ recorded pm n conn))
+    × (new ≡ record old { presence = record old.presence { changes = new.presence.changes } })
+    × ((c : Change) × (old.presence.changes ≡ c ∷ new.presence.changes)
+    × (after ≡ recorded pm n c))
 PmPresenceRule n old pm _ new after = ⊥
 
 -- what becomes of a frame that was offered
@@ -327,6 +352,7 @@ OnHost old outcome new R = R old.host outcome new.host × (new ≡ with_host old
 -- what a step may give, and what it leaves
 abbrev pub Rule : Places → Step → Outcome → Places → Type 0
 Rule old (step.Came n) outcome new = OnDevice old n outcome new (CameRule n)
+Rule old (step.Gone n) outcome new = OnDevice old n outcome new (GoneRule n)
 Rule old (step.DiskSend n) outcome new = OnDevice old n outcome new (DiskSendRule n)
 Rule old (step.Inject n bytes) outcome new = OnDevice old n outcome new (InjectRule n bytes)
 Rule old (step.DiskTake n) outcome new = OnDevice old n outcome new (DiskTakeRule n)
@@ -363,6 +389,7 @@ port_refusal now n first = option_map_or first (slice_get now.devices n) (Some e
 -- the first refusal that applies to a step, if one does
 abbrev pub refusal : Places → Step → Option StepError
 refusal now (step.Came n) = port_refusal now n came_refusal
+refusal now (step.Gone n) = port_refusal now n gone_refusal
 refusal now (step.DiskSend n) = port_refusal now n send_refusal
 refusal now (step.Inject n bytes) = port_refusal now n (inject_refusal bytes)
 refusal now (step.DiskTake n) = port_refusal now n no_refusal

@@ -1,11 +1,12 @@
 -- What was sent, what was taken, and what stands between (Serial ATA 3.x, 16.3, port multiplier: frame
 -- transmission, PM Port).
-use Rattle.std.specs.Prelude.{ℕ, ◌≡◌, ◌≢◌, ◌==◌, ◌&&◌, if◌then◌else◌, List, [], ◌∷◌, ◌++◌, map, filter}
-use Rattle.std.specs.Prelude.{Option, Some, None, slice_get, option_to_list}
+use Rattle.std.specs.Prelude.{ℕ, ◌≡◌, ◌≢◌, ◌<◌, ◌≤◌, ◌==◌, ◌&&◌, if◌then◌else◌, Bool, false, true, List, [], ◌∷◌, ◌++◌, length}
+use Rattle.std.specs.Prelude.{map, filter, Option, Some, None, slice_get, option_to_list}
 use Rattle.std.specs.List.{flat_map}
 use Rattle.fis_view.specs.Frames.{Stamped, marked}
 use Rattle.multiplier.specs.Arbiter.{control_port}
 use Rattle.multiplier.specs.State.{PmState, port_at}
+use Rattle.pm_ports.specs.Port.{is_gone}
 use Rattle.pm_world.specs.Places.{Places, Place}
 use Rattle.pm_world.specs.declared.step.Answer.{Answer}
 use Rattle.pm_world.specs.declared.step.Answer.TheVariants as answer
@@ -64,12 +65,49 @@ transit n c places = stamped n c places.upward.frames ++ all_marked n (of_conn c
 abbrev pub IsPrefixOf : List (List ℕ) → List (List ℕ) → Type 0
 IsPrefixOf front whole = (rest : List (List ℕ)) × (front ++ rest ≡ whole)
 
--- Nothing is dropped, made or put out of order on the way from old to new. What stood at the
--- beginning counts as sent before it. What the control port, Fh, says is sent by no device.
+-- whether the removal of connection c of port n, or of a later one, is recorded
+abbrev pub is_removed : ℕ → ℕ → Places → Bool
+is_removed n c places = is_gone (port_at places.multiplier n) c
+
+-- what is on the host's link of connection c of port n
+abbrev pub on_host_link : ℕ → ℕ → Places → List (List ℕ)
+on_host_link n c places = stamped n c places.upward.frames
+
+-- Nothing is made or put out of order on the way from old to new, and nothing is dropped but what a
+-- recorded removal drops. What stood at the beginning counts as sent before it. What the control
+-- port, Fh, says is sent by no device.
 pub record NothingLost (old : Places) (answers : List Answer) (new : Places) : Type 0 where
-  -- what the host took of a connection, and then what is on its way, is what was sent on it
-  pub conserved : (n c : ℕ) → n ≢ control_port
+  -- what the host took of a connection, and then what is on its way, is what was sent on it, as long
+  -- as its removal is not recorded
+  pub conserved : (n c : ℕ) → n ≢ control_port → is_removed n c new ≡ false
       → taken n c answers ++ transit n c new ≡ transit n c old ++ all_marked n (sent n c answers)
-  -- so what the host took is a prefix of what was sent
+  -- from then on exactly what is on the host's link still comes
+  pub over : (n c : ℕ) → n ≢ control_port → is_removed n c old ≡ true
+      → taken n c answers ++ on_host_link n c new ≡ on_host_link n c old
+  -- and a removal stays recorded
+  pub stays : (n c : ℕ) → is_removed n c old ≡ true → is_removed n c new ≡ true
+  -- always what the host took, and then what is on its link, is a prefix of what was sent
+  pub arrives : (n c : ℕ) → n ≢ control_port
+      → IsPrefixOf (taken n c answers ++ on_host_link n c new)
+      (transit n c old ++ all_marked n (sent n c answers))
+  -- so what the host took is one
   pub prefix : (n c : ℕ) → n ≢ control_port
       → IsPrefixOf (taken n c answers) (transit n c old ++ all_marked n (sent n c answers))
+
+-- whether the host took a frame
+abbrev pub is_took : Answer → Bool
+is_took (answer.Took port conn number bytes report) = true
+is_took _ = false
+
+-- In these answers the host took a frame that was put on its link since old: it took more frames
+-- than stood there.
+abbrev pub TookALater : Places → List Answer → Type 0
+TookALater old answers = length old.upward.frames < length (filter is_took answers)
+
+-- After the host saw the removal of a connection it takes nothing of it, nor of an earlier one of
+-- that port. It sees it at the latest by the first FIS of the control port that is put up after the
+-- removal was recorded; any frame that is put up then does.
+pub record NothingAfterRemoval (old : Places) (answers : List Answer) : Type 0 where
+  pub none : (n c : ℕ) → n ≢ control_port → is_removed n c old ≡ true
+      → (first later : List Answer) → first ++ later ≡ answers → TookALater old first
+      → (d : ℕ) → 0 < d → d ≤ c → taken n d later ≡ []

@@ -73,7 +73,7 @@ impl Counts {
             Answer::Came { port, conn } => self.came(*port, *conn)?,
             Answer::Sent { port, conn, .. } => self.sent(*port, *conn),
             Answer::Took { port, conn, .. } => self.took(*port, *conn),
-            Answer::Idle | Answer::Blocked => {}
+            Answer::Idle | Answer::Blocked | Answer::Gone { .. } => {}
             Answer::DiskTook { .. } | Answer::Presence(_) | Answer::Offered { .. } => {}
             Answer::Passed(_) | Answer::Up(_) | Answer::Down(_) => {}
             Answer::Pushed | Answer::Ticked => {}

@@ -4,29 +4,34 @@ ghost use Rattle.std.specs.Prelude.{◌≡◌, ◌<◌, Ok};
 ghost use Rattle.pm_world.specs.Rules.{PmDownRule, PmFromDeviceRule, PmFromHostRule, PmPresenceRule, PmUpRule};
 ghost use Rattle.multiplier.specs.Rules.{KeepsPorts};
 
-use crate::link::Link;
+use crate::link::{Change, Link};
 use crate::seat::Seat;
 use crate::step::{Answer, StepError};
 use multiplier::{Multiplier, PmRefusal};
 use pm_ports::Offered;
 use std::alloc::Global;
 
-/// Has port `n` record the first connection on its presence link. One that the port refuses changes nothing.
+/// Has port `n` record the first change on its presence link, a connection that came or one that went. One that the
+/// port refuses changes nothing.
 pub fn record(n: u8, seat: &mut Seat, pm: &mut Multiplier) -> Answer
     requires { n < pm.old.registers.ports }
     ensures rule { PmPresenceRule n seat.old pm.old (Ok result) seat.new pm.new }
     ensures ports { pm.new.registers.ports ≡ pm.old.registers.ports }
 {
-    match seat.next_coming() {
+    match seat.next_change() {
         None => Answer::Idle,
-        Some(conn) => {
+        Some(Change::Came(conn)) => {
             let _ = pm.came(n, conn);
+            Answer::Presence(n)
+        }
+        Some(Change::Gone(conn)) => {
+            let _ = pm.gone(n, conn);
             Answer::Presence(n)
         }
     }
 }
 
-/// Moves the first frame of a device's link into the hold of port `n`.
+/// Moves the first frame of a device's link into the hold of port `n`, or drops it where its connection is gone.
 pub fn pass_up(n: u8, seat: &mut Seat, pm: &mut Multiplier) -> Answer
     requires { n < pm.old.registers.ports }
     ensures rule { PmFromDeviceRule n seat.old pm.old (Ok result) seat.new pm.new }

@@ -1,10 +1,10 @@
 ghost use Rattle.std.specs.Prelude.{◌≡◌, ◌↔◌, ◌≤◌, [], IsTrue, IfOk, false, length, vec_capacity};
 ghost use Rattle.fis_view.specs.Frames.{IsFrame};
 ghost use Rattle.pm_world.specs.Places.{FirstIsRead, FirstLeaves, IsFull, opening, pushed, stamp_of};
-ghost use Rattle.pm_world.specs.Rules.{CameRule, DiskSendRule, DiskTakeRule, InjectRule, is_for};
-ghost use Rattle.pm_world.specs.Rules.{came_refusal, send_refusal, inject_refusal};
+ghost use Rattle.pm_world.specs.Rules.{CameRule, DiskSendRule, DiskTakeRule, GoneRule, InjectRule, is_for};
+ghost use Rattle.pm_world.specs.Rules.{came_refusal, gone_refusal, send_refusal, inject_refusal};
 
-use crate::link::{Link, PresenceLink};
+use crate::link::{Change, Link, PresenceLink};
 use crate::step::{Answer, StepError};
 use disk_model::{Device, Unit};
 use fis_view::{Bytes, Frame, FrameError, Stamp, is_frame_length};
@@ -12,7 +12,7 @@ use std::alloc::{AllocError, Global};
 use std::marker::Model;
 
 /// The place of a device: the unit, its connection, its links to the multiplier and from it, and the
-/// presence link, on which connections that came wait to be recorded.
+/// presence link, on which connections that came or went wait to be recorded.
 #[derive(Drop)]
 pub struct Seat {
     unit: Unit,
@@ -78,6 +78,12 @@ impl Seat {
         (self.conn == u32::MAX).then_some(StepError::Spent)
     }
 
+    pub fn gone_refusal(&self) -> Option<StepError>
+        ensures { result ≡ gone_refusal self.now }
+    {
+        (!self.plugged).then_some(StepError::NotThere)
+    }
+
     pub fn send_refusal(&self) -> Option<StepError>
         ensures { result ≡ send_refusal self.now }
     {
@@ -110,8 +116,26 @@ impl Seat {
         self.plugged = true;
         self.conn += 1;
         self.number = 0;
-        self.presence.post(self.conn);
+        self.presence.post(Change::Came(self.conn));
         Ok(Answer::Came {
+            port,
+            conn: self.conn,
+        })
+    }
+
+    /// Unplugs the unit. Frames that are on its links stay there.
+    pub fn gone(&mut self, port: u8) -> Result<Answer, StepError>
+        ensures { GoneRule port self.old result self.new }
+    {
+        if let Some(e) = self.gone_refusal() {
+            return Err(e);
+        }
+        if self.presence.is_full() {
+            return Ok(Answer::Blocked);
+        }
+        self.plugged = false;
+        self.presence.post(Change::Gone(self.conn));
+        Ok(Answer::Gone {
             port,
             conn: self.conn,
         })
@@ -208,8 +232,8 @@ impl Seat {
         self.down.push(frame);
     }
 
-    /// Takes the first connection off the presence link.
-    pub fn next_coming(&mut self) -> Option<u32>
+    /// Takes the first change off the presence link.
+    pub fn next_change(&mut self) -> Option<Change>
         ensures first { FirstIsRead self.old.presence result self.new.presence }
         ensures others { self.new ≡ record self.old { presence = self.new.presence } }
     {
@@ -236,13 +260,14 @@ impl Seat {
     }
 }
 
-/// Copies a frame's bytes where room was made for them.
+/// Copies a frame's bytes where room was made for them, and gives the room back that they do not need.
 fn copy_into(room: &mut Vec<u8>, bytes: &[u8])
     requires empty { room.old.items ≡ [] }
     requires room { length bytes.now ≤ vec_capacity room.old }
     ensures { room.new.items ≡ bytes.now }
 {
     let _ = room.extend_from_slice(bytes);
+    room.shrink_to_fit();
 }
 
 /// The frame of these bytes.

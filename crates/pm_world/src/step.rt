@@ -28,15 +28,18 @@ pub enum WorldError {
 pub enum Step {
     /// The device at this port is plugged in, under the next connection.
     Came(u8),
+    /// The device at this port is unplugged. What is on its links stays there.
+    Gone(u8),
     /// The device at this port sends its next FIS.
     DiskSend(u8),
     /// This frame is sent as the device at this port.
     Inject(u8, Bytes),
     /// The device at this port takes the first FIS of its link.
     DiskTake(u8),
-    /// The multiplier's port records the first connection on its device's presence link.
+    /// The multiplier's port records the first connection on its device's presence link, which came or went.
     PmPresence(u8),
-    /// The multiplier's port takes the first frame of its device's link into its hold.
+    /// The multiplier's port takes the first frame of its device's link into its hold, or drops it where its
+    /// connection is gone.
     PmFromDevice(u8),
     /// The multiplier takes the first frame of the host's link.
     PmFromHost,
@@ -70,6 +73,10 @@ pub enum Answer {
         port: u8,
         conn: u32,
     },
+    Gone {
+        port: u8,
+        conn: u32,
+    },
     Sent {
         port: u8,
         conn: u32,
@@ -81,7 +88,7 @@ pub enum Answer {
         /// Whether the frame was not for the device that is there, which did not see it.
         dropped: bool,
     },
-    /// The port that recorded a connection.
+    /// The port that recorded that a connection came or went.
     Presence(u8),
     Offered {
         port: u8,

@@ -2,6 +2,9 @@
 
 mod blocked;
 mod echo;
+mod found;
+mod going;
+mod faulting;
 mod memory;
 mod parts;
 mod reading;

@@ -97,6 +97,7 @@ impl World {
     {
         match step {
             Step::Came(n) => self.came(alloc, *n),
+            Step::Gone(n) => self.gone(*n),
             Step::DiskSend(n) => self.disk_send(alloc, *n),
             Step::Inject(n, bytes) => self.inject(alloc, *n, bytes),
             Step::DiskTake(n) => self.disk_take(alloc, *n),
@@ -148,6 +149,10 @@ impl World {
                 None => Some(StepError::NoSuchPort),
                 Some(seat) => seat.came_refusal(),
             },
+            Step::Gone(n) => match self.seats.get(*n as usize) {
+                None => Some(StepError::NoSuchPort),
+                Some(seat) => seat.gone_refusal(),
+            },
             Step::DiskSend(n) => match self.seats.get(*n as usize) {
                 None => Some(StepError::NoSuchPort),
                 Some(seat) => seat.send_refusal(),
@@ -183,6 +188,17 @@ impl World {
         }
         let seat = &mut self.seats[i];
         seat.came(alloc, n)
+    }
+
+    fn gone(&mut self, n: u8) -> Result<Answer, StepError>
+        ensures { Rule self.old (step.Gone n) result self.new }
+    {
+        let i = n as usize;
+        if i >= self.seats.len() {
+            return Err(StepError::NoSuchPort);
+        }
+        let seat = &mut self.seats[i];
+        seat.gone(n)
     }
 
     fn disk_send(&mut self, alloc: Global, n: u8) -> Result<Answer, StepError>

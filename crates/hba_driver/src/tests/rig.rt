@@ -21,6 +21,8 @@ pub(super) struct Rig {
     multiplier: Multiplier,
     /// By port; None where a test makes the frames.
     disks: Vec<Option<Disk>>,
+    /// The port whose device stands still.
+    pub(super) still: Option<u8>,
     /// The first bytes of each frame that the port gave.
     pub(super) sent: Vec<[u8; 20]>,
     /// The first bytes of each frame that it took.
@@ -97,7 +99,20 @@ fn serve(alloc: Global, pm: &mut Multiplier, n: u8, disk: &mut Disk) -> Result<b
 
 /// A disk of 256 sectors.
 pub(super) fn disk(alloc: Global) -> Result<Disk, Fail> {
-    let mut disk = Disk::new(alloc, 256, DiskPlan::plain())?;
+    plugged(alloc, DiskPlan::plain())
+}
+
+/// The same with one bad sector.
+pub(super) fn bad_disk(alloc: Global, sector: u32) -> Result<Disk, Fail> {
+    let mut plan = DiskPlan::plain();
+    if !plan.bad.is_full() {
+        plan.bad.push(sector);
+    }
+    plugged(alloc, plan)
+}
+
+fn plugged(alloc: Global, plan: DiskPlan) -> Result<Disk, Fail> {
+    let mut disk = Disk::new(alloc, 256, plan)?;
     disk.plugged(alloc)?;
     Ok(disk)
 }
@@ -137,6 +152,7 @@ impl Rig {
             memory: HostMemory::new(alloc, 0x20_0000)?,
             multiplier: Multiplier::new(ports),
             disks: Vec::new(alloc),
+            still: None,
             sent: Vec::new(alloc),
             taken: Vec::new(alloc),
         })
@@ -168,6 +184,12 @@ impl Rig {
             self.multiplier.came(n, 1)?;
         }
         self.disks.push(device)?;
+        Ok(())
+    }
+
+    /// The lowest port without a device stays so.
+    pub(super) fn plug_none(&mut self) -> Result<(), Fail> {
+        self.disks.push(None)?;
         Ok(())
     }
 
@@ -205,6 +227,9 @@ impl Rig {
 
     /// The device at port `n` takes a frame and sends one.
     fn serve(&mut self, alloc: Global, n: u8) -> Result<bool, AllocError> {
+        if self.still == Some(n) {
+            return Ok(false);
+        }
         match self.disks.get_mut(n as usize) {
             Some(Some(disk)) => serve(alloc, &mut self.multiplier, n, disk),
             Some(None) => Ok(next_down(&mut self.multiplier, n).is_some()),
@@ -213,7 +238,7 @@ impl Rig {
     }
 
     /// Each does what it can, once. Says whether something was done.
-    fn round(&mut self, alloc: Global) -> Result<bool, Fail> {
+    pub(super) fn round(&mut self, alloc: Global) -> Result<bool, Fail> {
         let mut moved = self.tick();
         moved |= self.push(alloc)?;
         for n in 0..15_u8 {

@@ -19,7 +19,7 @@ const OPENING: [[u32; 6]; 7] = [
     [0, 0, 0x1000, 0, 0xF001, 0x0042_C011],
 ];
 
-fn shown(port: &HostPort, offset: u32) -> u32 {
+pub(super) fn shown(port: &HostPort, offset: u32) -> u32 {
     port.read(offset).unwrap_or(0xFFFF_FFFF)
 }
 
@@ -178,7 +178,7 @@ const FLUSHED: [[u8; 20]; 2] = [
 ];
 
 /// The four bytes of memory from an address on.
-fn four(rt: &impl Abort, memory: &HostMemory, at: u32) -> [u8; 4] {
+pub(super) fn four(rt: &impl Abort, memory: &HostMemory, at: u32) -> [u8; 4] {
     assert!(rt; 0x10_0000 <= at && at < 0x1F_0000);
     let at = (at - 0x10_0000) as usize;
     let mut bytes = [0; 4];
@@ -234,7 +234,11 @@ fn requests_are_done(rt: HostRuntime) -> Result<(), Fail> {
 }
 
 /// A Flush of the device, and why it is refused.
-fn flushes(rig: &mut Rig, alloc: Global, dev: u8) -> Result<Option<SubmitError>, AllocError> {
+pub(super) fn flushes(
+    rig: &mut Rig,
+    alloc: Global,
+    dev: u8,
+) -> Result<Option<SubmitError>, AllocError> {
     Ok(rig.submit(alloc, dev, Work::Flush, 0, &[])?.err())
 }
 
@@ -266,11 +270,11 @@ const PACKET: [u8; 20] = [
     0x34, 0x40, 0x50, 1, 1, 0x14, 0xEB, 0, 0, 0, 0, 0, 1, 0, 0, 0, 0, 0, 0, 0,
 ];
 /// That of an ATA device.
-const ATA: [u8; 20] = [
+pub(super) const ATA: [u8; 20] = [
     0x34, 0x40, 0x50, 1, 1, 0, 0, 0, 0, 0, 0, 0, 1, 0, 0, 0, 0, 0, 0, 0,
 ];
-/// 512 bytes of identify data come.
-const PIO: [u8; 20] = [
+/// 512 bytes come.
+pub(super) const PIO: [u8; 20] = [
     0x5F, 0x60, 0x58, 0, 0, 0, 0, 0, 0, 0, 0, 0, 0, 0, 0, 0x50, 0, 2, 0, 0,
 ];
 
@@ -356,7 +360,7 @@ fn answer(value: u8) -> [u8; 20] {
 }
 
 /// The port takes a frame.
-fn hears(alloc: Global, rig: &mut Rig, bytes: &[u8]) -> Result<(), Fail> {
+pub(super) fn hears(alloc: Global, rig: &mut Rig, bytes: &[u8]) -> Result<(), Fail> {
     let frame = frame(alloc, bytes)?;
     let _ = rig.port.take(&frame, &mut rig.memory);
     Ok(())
@@ -431,26 +435,4 @@ fn device_is_removed(rt: HostRuntime) -> Result<(), Fail> {
     queue(&rt, alloc, &mut rig)?;
     scan(&rt, alloc, &mut rig)?;
     end(&rt, alloc, &mut rig)
-}
-
-/// Nothing is done once a frame brought a fault.
-fn stands_still(rt: &impl Abort, alloc: Global, rig: &mut Rig, fis: &[u8]) -> Result<(), Fail> {
-    assert_eq!(rt; flushes(rig, alloc, 0)?, None);
-    hears(alloc, rig, fis)?;
-    let faulty = shown(&rig.port, 0x40) & 4 | shown(&rig.port, 0x10) & 0x2000_0000;
-    assert!(rt; faulty != 0);
-    assert!(rt; !rig.tick());
-    assert_eq!(rt; shown(&rig.port, 0x38), 0);
-    Ok(())
-}
-
-/// A fault of a device, and one of the port.
-#[test]
-fn faults_stand(rt: HostRuntime) -> Result<(), Fail> {
-    let alloc = rt.alloc();
-    for fis in [[0x39, 0, 0, 0], [0x39, 0x0F, 0, 0]] {
-        let mut rig = Rig::with_disks(&rt, alloc, Driver::new(), 1)?;
-        stands_still(&rt, alloc, &mut rig, &fis)?;
-    }
-    Ok(())
 }

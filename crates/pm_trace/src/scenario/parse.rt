@@ -67,6 +67,7 @@ impl Action {
     pub fn read(alloc: Global, name: &[u8], words: &mut Words<'_>) -> Result<Action, Failure> {
         let action = match name {
             b"came" => Action::Step(Step::Came(words.port()?)),
+            b"gone" => Action::Step(Step::Gone(words.port()?)),
             b"inject" => Action::Step(inject(alloc, words)?),
             b"step" => Action::Step(step(words)?),
             b"read" => Action::Step(transfer(alloc, Work::Read, words)?),

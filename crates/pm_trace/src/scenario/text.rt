@@ -12,9 +12,10 @@ pub enum Reply {
     /// The world is built.
     World(Sizes),
     Came { port: u8, conn: u32 },
+    Gone { port: u8, conn: u32 },
     Sent(FrameText),
     Took(FrameText),
-    /// A step moved a frame or recorded a connection, or the driver did something.
+    /// A step moved or dropped a frame or recorded a connection or a removal, or the driver did something.
     Moved,
     /// A step found nothing to move.
     Nothing,
@@ -54,6 +55,10 @@ impl Reply {
             Answer::Idle => Reply::Nothing,
             Answer::Blocked => Reply::Blocked,
             Answer::Came { port, conn } => Reply::Came {
+                port: *port,
+                conn: *conn,
+            },
+            Answer::Gone { port, conn } => Reply::Gone {
                 port: *port,
                 conn: *conn,
             },
@@ -97,6 +102,7 @@ impl fmt::Display for Reply {
         match self {
             Reply::World(sizes) => write!(f, "{sizes}"),
             Reply::Came { port, conn } => write!(f, "came {port} conn {conn}"),
+            Reply::Gone { port, conn } => write!(f, "gone {port} conn {conn}"),
             Reply::Sent(frame) => write!(f, "sent {frame}"),
             Reply::Took(frame) => write!(f, "took {frame}"),
             Reply::Moved => write!(f, "moved"),
@@ -125,15 +131,21 @@ impl fmt::Display for Reply {
 }
 
 fn write_ended<W: fmt::Write>(completion: &Completion, f: &mut fmt::Formatter<W>) -> fmt::Result {
-    let result = match completion.outcome {
-        Outcome::Done => "done",
-        Outcome::Removed => "removed",
-    };
     write!(
         f,
-        "ticket {} slot {} {result}",
+        "ticket {} slot {} ",
         completion.ticket.0, completion.slot
-    )
+    )?;
+    match completion.outcome {
+        Outcome::Done => write!(f, "done"),
+        Outcome::DeviceError { status, error } => write!(
+            f,
+            "device-error {status:02x} {error:02x}"
+        ),
+        Outcome::Aborted => write!(f, "aborted"),
+        Outcome::Removed => write!(f, "removed"),
+        Outcome::PortError => write!(f, "port-error"),
+    }
 }
 
 impl fmt::Display for FrameText {

@@ -130,6 +130,12 @@ fn actions_that_are_refused(rt: HostRuntime) {
         ("came 256", "ports 1 capacity 4 memory 2\nline 1: range\n"),
         ("came 0 0", "ports 1 capacity 4 memory 2\nline 1: number\n"),
         (
+            "came 0\ngone",
+            "ports 1 capacity 4 memory 2\ncame 0 conn 1\nline 2: number\n",
+        ),
+        ("gone 256", "ports 1 capacity 4 memory 2\nline 1: range\n"),
+        ("gone 0 0", "ports 1 capacity 4 memory 2\nline 1: number\n"),
+        (
             "came 0\r\n",
             "ports 1 capacity 4 memory 2\nline 1: number\n",
         ),
@@ -203,7 +209,7 @@ fn lines_of_reads_that_are_refused(rt: HostRuntime) -> Result<(), Fail> {
         ("step tick 0", "number"),
         ("step hostpush x", "number"),
         ("step pmfromhost 0", "number"),
-        ("gone 0", "command"),
+        ("went 0", "command"),
         ("faults", "command"),
         ("barrier", "command"),
     ] {

@@ -17,6 +17,7 @@ const OUTSIDE: Told = Told::Stopped(StepError::Outside);
 fn has_no_port(rt: &impl Abort, rig: &mut Rig, n: u8) {
     let rows = [
         (Act::Came(n), NO_PORT),
+        (Act::Gone(n), NO_PORT),
         (Act::DiskSend(n), NO_PORT),
         (Act::DiskTake(n), NO_PORT),
         (Act::PmPresence(n), NO_PORT),

@@ -22,6 +22,7 @@ pub(super) const MEMORY: u32 = 0x20_0000;
 #[derive(Clone, Copy)]
 pub(super) enum Act {
     Came(u8),
+    Gone(u8),
     DiskSend(u8),
     /// So many zeros are sent as the device at this port.
     Inject(u8, usize),
@@ -47,6 +48,7 @@ pub(super) enum Told {
     Idle,
     Blocked,
     Came(u8, u32),
+    Gone(u8, u32),
     /// Port, connection and number.
     Sent(u8, u32, u32),
     /// Port, and whether the frame was dropped.
@@ -76,6 +78,7 @@ pub(super) fn telling(answer: &Answer) -> Told {
         Answer::Idle => Told::Idle,
         Answer::Blocked => Told::Blocked,
         Answer::Came { port, conn } => Told::Came(*port, *conn),
+        Answer::Gone { port, conn } => Told::Gone(*port, *conn),
         Answer::Sent {
             port,
             conn,
@@ -155,6 +158,7 @@ fn bytes(alloc: Global, value: u8, count: usize) -> Result<Bytes, AllocError> {
 pub(super) fn step_of(alloc: Global, act: Act) -> Result<Step, AllocError> {
     let step = match act {
         Act::Came(n) => Step::Came(n),
+        Act::Gone(n) => Step::Gone(n),
         Act::DiskSend(n) => Step::DiskSend(n),
         Act::Inject(n, count) => Step::Inject(n, bytes(alloc, 0, count)?),
         Act::DiskTake(n) => Step::DiskTake(n),
@@ -173,15 +177,36 @@ pub(super) fn step_of(alloc: Global, act: Act) -> Result<Step, AllocError> {
     Ok(step)
 }
 
+/// A disk of 16 sectors.
+fn disk(alloc: Global, plan: DiskPlan) -> Result<Unit, AllocError> {
+    match Disk::new(alloc, 16, plan) {
+        Ok(disk) => Ok(Unit::Disk(disk)),
+        Err(_) => Err(AllocError),
+    }
+}
+
 /// So many disks of 16 sectors.
 pub(super) fn disks(alloc: Global, count: u8) -> Result<Vec<Unit>, AllocError> {
     let mut units = Vec::new(alloc);
     for _ in 0..count {
-        match Disk::new(alloc, 16, DiskPlan::plain()) {
-            Ok(disk) => units.push(Unit::Disk(disk))?,
-            Err(_) => return Err(AllocError),
-        }
+        units.push(disk(alloc, DiskPlan::plain())?)?;
     }
+    Ok(units)
+}
+
+/// The plan of a disk of which one sector cannot be read.
+fn bad_plan(sector: u32) -> DiskPlan {
+    let mut plan = DiskPlan::plain();
+    if !plan.bad.is_full() {
+        plan.bad.push(sector);
+    }
+    plan
+}
+
+/// So many disks and one more, of which one sector cannot be read.
+fn disks_and_bad(alloc: Global, count: u8, sector: u32) -> Result<Vec<Unit>, AllocError> {
+    let mut units = disks(alloc, count)?;
+    units.push(disk(alloc, bad_plan(sector))?)?;
     Ok(units)
 }
 
@@ -190,14 +215,29 @@ pub(super) fn world_of(alloc: Global, config: Config, count: u8) -> Result<World
     World::new(alloc, config, disks(alloc, count)?)
 }
 
-/// A world of so many disks, with links of this capacity.
-fn world(alloc: Global, ports: u8, capacity: usize) -> Result<World, WorldError> {
-    let config = Config {
+/// So many ports, with links of this capacity.
+fn config(ports: u8, capacity: usize) -> Config {
+    Config {
         ports,
         capacity,
         memory: MEMORY,
-    };
-    world_of(alloc, config, ports)
+    }
+}
+
+/// A world of two disks and a third, of which one sector cannot be read.
+fn world_with_bad(alloc: Global, sector: u32) -> Result<World, WorldError> {
+    World::new(alloc, config(3, 1), disks_and_bad(alloc, 2, sector)?)
+}
+
+/// A world of so many disks, with links of this capacity.
+fn world(alloc: Global, ports: u8, capacity: usize) -> Result<World, WorldError> {
+    world_of(alloc, config(ports, capacity), ports)
+}
+
+/// PxIS and PxFBS, which tell of faults.
+fn faults(world: &World) -> [Option<u32>; 2] {
+    let port = world.host();
+    [port.read(0x10).ok(), port.read(0x40).ok()]
 }
 
 fn give_once(world: &mut World, alloc: Global, step: &Step) -> Result<Answer, StepError> {
@@ -225,6 +265,16 @@ fn run(
 fn byte_at(world: &World, at: u32) -> Option<u8> {
     let place = at.checked_sub(CLIENT_START)?;
     world.memory().client().get(place as usize).copied()
+}
+
+/// A register of the multiplier, or of one of its ports.
+fn register_of(world: &World, port: u8, register: u16) -> Option<u32> {
+    world.multiplier().registers().read(port, register).ok()
+}
+
+/// A register of the host port.
+fn host_register(world: &World, offset: u32) -> Option<u32> {
+    world.host().read(offset).ok()
 }
 
 /// The sector of a disk.
@@ -264,15 +314,28 @@ impl Model for Rig {
 impl Rig {
     /// Of so many disks, none of which is plugged in.
     pub(super) fn new(alloc: Global, ports: u8, capacity: usize) -> Result<Rig, WorldError> {
-        let world = world(alloc, ports, capacity)?;
-        Ok(Rig {
+        Ok(Rig::of(alloc, world(alloc, ports, capacity)?, ports))
+    }
+
+    /// Of two disks and a third, of which one sector cannot be read; all take requests.
+    pub(super) fn with_bad(alloc: Global, sector: u32) -> Result<Rig, Fail> {
+        let mut rig = Rig::of(alloc, world_with_bad(alloc, sector)?, 3);
+        if rig.come() {
+            Ok(rig)
+        } else {
+            Err("no end".into())
+        }
+    }
+
+    fn of(alloc: Global, world: World, ports: u8) -> Rig {
+        Rig {
             alloc,
             world,
             ports,
             counts: Counts::new(alloc),
             bytes: None,
             echo: None,
-        })
+        }
     }
 
     /// Of so many disks that take requests, with links of one frame.
@@ -398,6 +461,25 @@ impl Rig {
         self.counts.rows()
     }
 
+    /// How many FISes of a connection were sent, and how many of them taken.
+    pub(super) fn counted(&self, port: u8, conn: u32) -> Option<(u64, u64)> {
+        let row = self
+            .rows()
+            .iter()
+            .find(|row: &&ConnCount| row.port == port && row.conn == conn)?;
+        Some((row.sent, row.taken))
+    }
+
+    /// A register of the multiplier (port 15) or of one of its ports.
+    pub(super) fn register(&self, port: u8, register: u16) -> Option<u32> {
+        register_of(&self.world, port, register)
+    }
+
+    /// A register of the host port.
+    pub(super) fn host_register(&self, offset: u32) -> Option<u32> {
+        host_register(&self.world, offset)
+    }
+
     pub(super) fn has_unit(&self, n: u8) -> bool {
         self.world.unit(n).is_some()
     }
@@ -405,6 +487,11 @@ impl Rig {
     /// The byte of the client area at an address.
     pub(super) fn byte_at(&self, at: u32) -> Option<u8> {
         byte_at(&self.world, at)
+    }
+
+    /// PxIS and PxFBS, which tell of faults.
+    pub(super) fn faults(&self) -> [Option<u32>; 2] {
+        faults(&self.world)
     }
 
     /// The sector of a disk.

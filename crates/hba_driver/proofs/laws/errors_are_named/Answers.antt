@@ -1,0 +1,5 @@
+use Rattle.hba_driver.proofs.FaultLemmas.{errors_are_named}
+use Rattle.hba_driver.proofs.laws.errors_are_named.Goals as goal
+
+pub returns : goal.returns
+returns c = errors_are_named

@@ -1,0 +1,7 @@
+use Rattle.std.proofs.Common.{◌≡◌, ◌*◌, ◌≤◌, take}
+use Rattle.std.specs.Prelude.{sum}
+use Rattle.hba_driver.proofs.sight.sum_of.Given as goal
+
+-- the bytes so far
+abbrev pub invariant-loop-byte : goal.invariant-loop-byte
+invariant-loop-byte l = record { total : l.sum ≡ sum (take l.byte-index l.bytes); bound : l.sum ≤ 255 * l.byte-index }

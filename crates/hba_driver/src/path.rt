@@ -1,0 +1,381 @@
+//! What slot 30 does with a device: it is identified, its error log is read, or it is reset.
+
+ghost use Rattle.std.specs.Prelude.{◌≡◌, ◌<◌, IfSome, Some, length, map, None};
+ghost use Rattle.std.specs.Option.{option_map};
+ghost use Rattle.slots.specs.Slots.{lowest_below};
+ghost use Rattle.hba_driver.specs.Drivers.{IsPath, IsSoundPlan};
+ghost use Rattle.hba_driver.specs.Orders.{identify_fields, log_fields};
+ghost use Rattle.hba_driver.specs.Paths.{first_stage, next_stage, reads_page as reads_page_of, recovery as recovery_of, reset_if_there as reset_if_there_of, stage_fields};
+ghost use Rattle.hba_driver.specs.Sights.{file_in, file_shown};
+ghost use Rattle.hba_driver.specs.Turns.{advanced as advanced_by, awaits_reset as awaits_reset_of, device_logged, device_news as device_news_of, device_seen as device_seen_by, found_of, is_back as is_back_of, is_due as is_due_of, is_in_reset as is_in_reset_of, logged_by, met_path, met_stage, path_answered, path_met, path_news, path_to, stage_for as stage_for_of};
+
+use crate::order::{command, control};
+use crate::plan::{Device, Plan};
+use crate::sight::{Sight, TFD, has_bit, is_at, register};
+use crate::turn::Logged;
+use fis_view::H2dFields;
+use hba_fbs::HostPort;
+
+/// Status and Error of a device.
+#[derive(Clone, Copy, Debug, PartialEq, Eq)]
+pub(crate) struct TaskFile {
+    pub(crate) status: u8,
+    pub(crate) error: u8,
+}
+
+/// How a device recovers from a fault.
+#[derive(Clone, Copy, Debug, PartialEq, Eq)]
+pub(crate) enum Recovery {
+    /// By its error log. After the fault it had this task file.
+    Log(TaskFile),
+    /// By a software reset.
+    Reset,
+}
+
+/// What slot 30 does next with a device. Each that has a command is over when its answer came.
+#[derive(Clone, Copy, Debug, PartialEq, Eq)]
+pub(crate) enum Stage {
+    /// Its identify data are read.
+    Identify,
+    /// Its error log is read. After its fault it had this task file.
+    ReadLog(TaskFile),
+    /// Software reset, with SRST set.
+    AssertReset,
+    /// The same with SRST clear.
+    ReleaseReset,
+    /// The end of the reset is awaited.
+    AwaitReset,
+}
+
+/// The device that has slot 30.
+#[derive(Clone, Copy, Debug, PartialEq, Eq)]
+pub(crate) struct Path {
+    pub(crate) dev: u8,
+    pub(crate) stage: Stage,
+    /// The command of the stage was issued.
+    pub(crate) asked: bool,
+}
+
+/// IDENTIFY DEVICE.
+const IDENTIFY: u8 = 0xEC;
+/// READ LOG EXT.
+const READ_LOG: u8 = 0x2F;
+/// The address of the NCQ Command Error log.
+const ERROR_LOG: u64 = 0x10;
+/// SRST, of the Device Control register.
+const SRST: u8 = 4;
+/// Status.ERR.
+const ERR: u8 = 0;
+/// The slot of the driver's own commands to devices.
+const DEVICE_SLOT: u8 = 30;
+
+fn identify(dev: u8) -> H2dFields
+    ensures { result ≡ identify_fields dev }
+{
+    command(dev, IDENTIFY, 0, 0, 0, 0)
+}
+
+fn read_log(dev: u8) -> H2dFields
+    ensures { result ≡ log_fields dev }
+{
+    command(dev, READ_LOG, 0, ERROR_LOG, 0, 1)
+}
+
+fn file_of(value: u32) -> TaskFile
+    ensures { result ≡ file_in value }
+{
+    TaskFile {
+        status: (value % 0x100) as u8,
+        error: (value / 0x100 % 0x100) as u8,
+    }
+}
+
+impl TaskFile {
+    /// As the port shows it, of the device that it has chosen.
+    pub(crate) fn shown(port: &HostPort) -> TaskFile
+        ensures { result ≡ file_shown port.now }
+    {
+        file_of(register(port, TFD))
+    }
+}
+
+impl Stage {
+    /// What it issues, if it issues something.
+    #[tactic(auto, unfolding(crate::specs::Paths::stage_fields))]
+    pub(crate) fn fields(self, dev: u8) -> Option<H2dFields>
+        ensures { result ≡ stage_fields dev self }
+    {
+        match self {
+            Stage::Identify => Some(identify(dev)),
+            Stage::ReadLog(_) => Some(read_log(dev)),
+            Stage::AssertReset => Some(control(dev, SRST)),
+            Stage::ReleaseReset => Some(control(dev, 0)),
+            Stage::AwaitReset => None,
+        }
+    }
+
+    /// Whether a page goes to the driver's buffer.
+    pub(crate) fn reads_page(self) -> bool
+        ensures { result ≡ reads_page_of self }
+    {
+        match self {
+            Stage::Identify | Stage::ReadLog(_) => true,
+            Stage::AssertReset | Stage::ReleaseReset | Stage::AwaitReset => false,
+        }
+    }
+
+    // The stage after its command is over, if there is one.
+    #[tactic(auto, unfolding(crate::specs::Paths::next_stage))]
+    fn next(self) -> Option<Stage>
+        ensures { result ≡ next_stage self }
+    {
+        match self {
+            Stage::Identify | Stage::ReadLog(_) => None,
+            Stage::AssertReset => Some(Stage::ReleaseReset),
+            Stage::ReleaseReset => Some(Stage::AwaitReset),
+            Stage::AwaitReset => Some(Stage::Identify),
+        }
+    }
+
+    fn awaits_reset(self) -> bool
+        ensures { result ≡ awaits_reset_of self }
+    {
+        matches!(self, Stage::AwaitReset)
+    }
+
+    // The stage that is due where this one waited.
+    #[tactic(auto, unfolding(crate::specs::Turns::met_stage))]
+    fn met(self, sight: Sight, dev: u8) -> Stage
+        ensures { result ≡ met_stage sight dev self }
+    {
+        match self {
+            Stage::AwaitReset if !is_in_reset(sight, dev) => Stage::Identify,
+            _ => self,
+        }
+    }
+
+    // The device with its task file, where this is its log and it is whole.
+    #[tactic(auto, unfolding(crate::specs::Turns::logged_by))]
+    fn logged(self, sight: Sight, dev: u8) -> Option<Logged>
+        ensures { result ≡ logged_by sight dev self }
+    {
+        match self {
+            Stage::ReadLog(file) if sight.log.whole => Some(Logged { dev, file }),
+            _ => None,
+        }
+    }
+}
+
+fn is_in_reset(sight: Sight, dev: u8) -> bool
+    ensures { result ≡ is_in_reset_of sight dev }
+{
+    is_at(&sight.in_reset, dev)
+}
+
+// A path that goes on with a stage, if there is one.
+fn path_of(dev: u8, stage: Option<Stage>) -> Option<Path>
+    ensures { result ≡ path_to dev stage }
+{
+    match stage {
+        Some(stage) => Some(Path {
+            dev,
+            stage,
+            asked: false,
+        }),
+        None => None,
+    }
+}
+
+impl Path {
+    // Whether its command was issued and is not out any more.
+    fn is_back(self, sight: Sight) -> bool
+        ensures { result ≡ is_back_of sight self }
+    {
+        self.asked && !has_bit(sight.issued, DEVICE_SLOT)
+    }
+
+    fn met(self, sight: Sight) -> Path
+        ensures { result ≡ met_path sight self }
+    {
+        if self.asked {
+            self
+        } else {
+            Path {
+                stage: self.stage.met(sight, self.dev),
+                ..self
+            }
+        }
+    }
+
+    fn has_news(self, sight: Sight) -> bool
+        ensures { result ≡ path_news sight self }
+    {
+        if self.asked {
+            !has_bit(sight.issued, DEVICE_SLOT)
+        } else {
+            self.stage.awaits_reset() && !is_in_reset(sight, self.dev)
+        }
+    }
+}
+
+impl Device {
+    /// How it recovers from a fault, after which it had this task file.
+    pub(crate) fn recovery(self, file: TaskFile) -> Recovery
+        ensures { result ≡ recovery_of self file }
+    {
+        match self {
+            Device::Ready if has_bit(u32::from(file.status), ERR) => Recovery::Log(file),
+            _ => Recovery::Reset,
+        }
+    }
+
+    fn reset_if_there(self) -> Device
+        ensures { result ≡ reset_if_there_of self }
+    {
+        match self {
+            Device::Absent => self,
+            Device::Starting | Device::Ready | Device::Unusable | Device::Recovering(_) => {
+                Device::Recovering(Recovery::Reset)
+            }
+        }
+    }
+
+    // The first stage of what is due for it.
+    fn first_stage(self, signed: bool) -> Option<Stage>
+        ensures { result ≡ first_stage self signed }
+    {
+        match self {
+            Device::Starting if signed => Some(Stage::Identify),
+            Device::Recovering(Recovery::Log(file)) => Some(Stage::ReadLog(file)),
+            Device::Recovering(Recovery::Reset) => Some(Stage::AssertReset),
+            Device::Absent | Device::Starting | Device::Ready | Device::Unusable => None,
+        }
+    }
+}
+
+/// Each device that is there recovers by a reset.
+pub(crate) fn reset_all(devices: [Device; 15]) -> [Device; 15]
+    ensures { result ≡ map reset_if_there_of devices }
+{
+    let mut reset = devices;
+    for device in reset.iter_mut() {
+        *device = device.reset_if_there();
+    }
+    reset
+}
+
+impl Plan {
+    // What came of a stage is known.
+    #[tactic(auto, unfolding(crate::specs::Turns::found_of))]
+    fn found(self, sight: Sight, stage: Stage, dev: u8) -> Plan
+        requires dev { dev < 15 }
+        requires sound { IsSoundPlan self }
+        ensures value { result ≡ found_of sight stage dev self }
+        ensures sound { IsSoundPlan result }
+    {
+        match stage {
+            Stage::Identify if sight.usable => self.with_device(dev, Device::Ready),
+            Stage::Identify => self.with_device(dev, Device::Unusable),
+            Stage::ReadLog(_) if sight.log.whole => self.with_device(dev, Device::Ready),
+            Stage::ReadLog(_) => self.with_device(dev, Device::Recovering(Recovery::Reset)),
+            Stage::AssertReset | Stage::ReleaseReset | Stage::AwaitReset => self,
+        }
+    }
+
+    // The command of a path's stage is over.
+    fn advanced(self, sight: Sight, path: Path) -> Plan
+        requires dev { path.dev < 15 }
+        requires sound { IsSoundPlan self }
+        ensures value { result ≡ advanced_by sight path self }
+        ensures sound { IsSoundPlan result }
+    {
+        Plan {
+            path: path_of(path.dev, path.stage.next()),
+            ..self.found(sight, path.stage, path.dev)
+        }
+    }
+
+    // The answer to slot 30, if it came, is noted.
+    fn path_answered(self, sight: Sight) -> Plan
+        requires { IsSoundPlan self }
+        ensures value { result ≡ path_answered sight self }
+        ensures sound { IsSoundPlan result }
+    {
+        match self.path {
+            Some(path) => {
+                if path.is_back(sight) {
+                    self.advanced(sight, path)
+                } else {
+                    self
+                }
+            }
+            None => self,
+        }
+    }
+
+    /// What slot 30 shows is noted.
+    pub(crate) fn device_seen(self, sight: Sight) -> Plan
+        requires { IsSoundPlan self }
+        ensures value { result ≡ device_seen_by sight self }
+        ensures sound { IsSoundPlan result }
+    {
+        let plan = self.path_answered(sight);
+        let path = match plan.path {
+            Some(path) => Some(path.met(sight)),
+            None => None,
+        };
+        Plan { path, ..plan }
+    }
+
+    /// Whether an answer to slot 30 came, or the end of a reset.
+    pub(crate) fn device_news(self, sight: Sight) -> bool
+        ensures { result ≡ device_news_of sight self }
+    {
+        match self.path {
+            Some(path) => path.has_news(sight),
+            None => false,
+        }
+    }
+
+    /// The device whose log came and is whole.
+    pub(crate) fn device_logged(self, sight: Sight) -> Option<Logged>
+        ensures { result ≡ device_logged sight self }
+    {
+        match self.path {
+            Some(path) => {
+                if path.is_back(sight) {
+                    path.stage.logged(sight, path.dev)
+                } else {
+                    None
+                }
+            }
+            None => None,
+        }
+    }
+
+    /// What is due for a device by slot 30.
+    pub(crate) fn stage_for(self, sight: Sight, dev: u8) -> Option<Stage>
+        ensures { result ≡ stage_for_of sight self dev }
+    {
+        self.device(dev).first_stage(is_at(&sight.signed, dev))
+    }
+
+    fn is_due(self, sight: Sight, dev: u8) -> bool
+        ensures { result ≡ is_due_of sight self dev }
+    {
+        self.stage_for(sight, dev).is_some()
+    }
+
+    /// The lowest device for which something is due.
+    pub(crate) fn lowest_due(self, sight: Sight) -> Option<u8>
+        ensures value { result ≡ lowest_below (is_due_of sight self) 15 }
+        ensures below { IfSome result (λ dev. dev < 15) }
+    {
+        for dev in 0..15_u8 {
+            if self.is_due(sight, dev) {
+                return Some(dev);
+            }
+        }
+        None
+    }
+}

@@ -1,0 +1,120 @@
+-- What the host's thread does: there is one list of turns of the host, of which the lists of its seats are the projections,
+-- and port, driver and memory the outcome; and what it says of each request of its plan is in these turns.
+use Rattle.std.specs.Prelude.{◌≡◌, ℕ, ◌<◌, List, ◌++◌, [], ◌∷◌, length, map, slice_index_or, Option, Some}
+use Rattle.std.specs.List.{Contains, flat_map}
+use Rattle.std.specs.Option.{option_to_list}
+use Rattle.atomic_table.specs.Seated.{TableId}
+use Rattle.fis_view.specs.Frames.{Stamped}
+use Rattle.host_memory.specs.Memory.{Memory}
+use Rattle.hba_fbs.specs.Views.{opening_port}
+use Rattle.ruled_links.specs.Links.{Seat}
+use Rattle.multiplier.specs.Orders.{InStampedOrder}
+use Rattle.hba_driver.specs.declared.request.Completion.{Completion}
+use Rattle.hba_driver.specs.declared.request.Outcome.{Outcome}
+use Rattle.hba_driver.specs.declared.request.SubmitError.{SubmitError}
+use Rattle.hba_driver.specs.Drivers.{new_driver}
+use Rattle.hba_driver.specs.HostTurns.{DoesAll, Host, HostTurn, Took, Pushed, Submitted, Polled}
+use Rattle.hba_driver.specs.Submits.{submit_refusal}
+use Rattle.host_thread.specs.declared.plan.Ended.{Ended}
+use Rattle.host_thread.specs.declared.plan.Ended.TheVariants as ended
+use Rattle.host_thread.specs.declared.plan.Planned.{Planned}
+use Rattle.host_thread.specs.declared.plan.State.{State}
+use Rattle.host_thread.specs.declared.plan.State.TheVariants as state
+
+-- ---- the worker, as contracts see it
+
+pub record HostView : Type 0 where
+  pub host : Host
+  -- FISes for the host
+  pub frames : Seat Stamped
+  -- FISes of the host
+  pub commands : Seat Stamped
+  -- a FIS of the host that waits for room on its link; it counts as sent
+  pub hand : Option Stamped
+  pub plan : List Planned
+  -- what became of each request of the plan, at its place
+  pub states : List State
+
+-- What is true of the worker at each moment: what it took is in stamped order, and it knows of each request of its plan.
+pub record IsSound (w : HostView) : Type 0 where
+  pub order : InStampedOrder w.frames.taken
+  pub all : length w.states ≡ length w.plan
+
+-- ---- which links and which plan they are
+
+pub record LinkEnd : Type 0 where
+  pub link : TableId
+  pub room : ℕ
+
+abbrev pub end_of : {T : Type 0} → Seat T → LinkEnd
+end_of s = record { link = s.link; room = s.room }
+
+-- the seats are of the same links, and the plan is the same
+pub record Same (old new : HostView) : Type 0 where
+  pub frames : end_of new.frames ≡ end_of old.frames
+  pub commands : end_of new.commands ≡ end_of old.commands
+  pub plan : new.plan ≡ old.plan
+
+-- ---- turns
+
+-- a new port and a new driver, beside this memory
+abbrev pub starting : Memory → Host
+starting memory = record { port = opening_port; driver = new_driver 0; memory = memory }
+
+-- the FIS that a turn takes
+abbrev pub took_by : HostTurn → List (List ℕ)
+took_by (Took frame report) = frame ∷ []
+took_by turn = []
+
+-- the FIS that a turn gives
+abbrev pub pushed_by : HostTurn → List Stamped
+pushed_by (Pushed (Some frame)) = frame ∷ []
+pushed_by turn = []
+
+-- ---- what became of a request
+
+-- it was taken under a ticket, and what was polled of that ticket had this outcome
+pub record WasPolled (turns : List HostTurn) (p : Planned) (outcome : Outcome) : Type 0 where
+  pub completion : Completion
+  pub taken : Contains turns (Submitted p.dev p.request completion.ticket.0)
+  pub polled : Contains turns (Polled completion)
+  pub outcome : completion.outcome ≡ outcome
+
+-- there was a moment at which the driver refused it so
+pub record WasRefused (start : Memory) (turns : List HostTurn) (p : Planned) (refusal : SubmitError) : Type 0 where
+  pub before : List HostTurn
+  pub rest : List HostTurn
+  pub are : before ++ rest ≡ turns
+  pub host : Host
+  pub does : DoesAll (starting start) before host
+  pub refused : submit_refusal host.driver host.memory p.dev p.request ≡ Some refusal
+
+abbrev pub IsEnd : Memory → List HostTurn → Planned → Ended → Type 0
+IsEnd start turns p (ended.Polled outcome) = WasPolled turns p outcome
+IsEnd start turns p (ended.Refused refusal) = WasRefused start turns p refusal
+
+-- what the worker says of a request is so
+abbrev pub IsTrue : Memory → List HostTurn → Planned → State → Type 0
+IsTrue start turns p state.Waits = Unit {0}
+IsTrue start turns p (state.Submitted ticket) = Contains turns (Submitted p.dev p.request ticket.0)
+IsTrue start turns p (state.Ended end) = IsEnd start turns p end
+
+pub record AreTrue (start : Memory) (turns : List HostTurn) (plan : List Planned) (states : List State) : Type 0 where
+  pub each : (i : ℕ) (p : Planned) (s : State) → i < length states
+      → IsTrue start turns (slice_index_or plan i p) (slice_index_or states i s)
+
+-- ---- the run
+
+-- There is one list of turns, from a new host beside this memory to this one. The FISes that they take are those that were
+-- taken, in their order; those that they give are those that were sent, and then the one in the hand; and what is said
+-- of the requests of the plan is so.
+pub record IsRun (start : Memory) (w : HostView) : Type 0 where
+  pub turns : List HostTurn
+  pub does : DoesAll (starting start) turns w.host
+  pub taken : map (λ f. f.bytes) w.frames.taken ≡ flat_map took_by turns
+  pub pushed : w.commands.sent ++ option_to_list w.hand ≡ flat_map pushed_by turns
+  pub requests : AreTrue start turns w.plan w.states
+
+-- beside whatever memory it was a run, it still is
+abbrev pub GoesOn : HostView → HostView → Type 0
+GoesOn old new = (start : Memory) → IsRun start old → IsRun start new

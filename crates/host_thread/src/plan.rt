@@ -1,0 +1,85 @@
+//! A plan of requests, and what becomes of them.
+
+ghost use Rattle.std.specs.Prelude.{◌≡◌, ◌<◌, length, slice_index_or, IfSome};
+ghost use Rattle.host_thread.specs.declared.plan.State.TheVariants as state;
+
+use hba_driver::{Outcome, Request, SubmitError, Ticket};
+
+/// A request of a plan.
+#[derive(Debug, Drop)]
+pub struct Planned {
+    /// The device that it is for.
+    pub dev: u8,
+    /// What is asked.
+    pub request: Request,
+    /// Whether it waits until all earlier requests have ended.
+    pub wait: bool,
+}
+
+/// How a request of a plan ended.
+#[derive(Clone, Copy, Debug, PartialEq, Eq)]
+pub enum Ended {
+    /// It was taken, and polled with this outcome.
+    Polled(Outcome),
+    /// It was refused.
+    Refused(SubmitError),
+}
+
+/// What became of a request of a plan.
+#[derive(Clone, Copy, Debug, PartialEq, Eq)]
+pub enum State {
+    /// It was not taken yet.
+    Waits,
+    /// It was taken under this ticket, and was not polled yet.
+    Submitted(Ticket),
+    /// It has ended.
+    Ended(Ended),
+}
+
+/// Whether one of these was taken and not polled yet.
+pub(crate) fn any_submitted(states: &[State]) -> bool {
+    for state in states {
+        if let State::Submitted(_) = state {
+            return true;
+        }
+    }
+    false
+}
+
+/// Whether one of these has not ended.
+pub(crate) fn any_open(states: &[State]) -> bool {
+    for state in states {
+        match state {
+            State::Ended(_) => {}
+            _ => return true,
+        }
+    }
+    false
+}
+
+/// The place of the request that was taken under this ticket.
+pub(crate) fn place_of(states: &[State], ticket: Ticket) -> Option<usize>
+    ensures there { IfSome result (λ i. i < length states.now) }
+    ensures submitted { IfSome result (λ i.
+        slice_index_or states.now i state.Waits ≡ state.Submitted ticket) }
+{
+    for i in 0..states.len() {
+        if let State::Submitted(other) = states[i] {
+            if other.0 == ticket.0 {
+                return Some(i);
+            }
+        }
+    }
+    None
+}
+
+/// Whether a request that was refused so is tried again.
+pub(crate) fn is_tried_again(refusal: SubmitError) -> bool {
+    matches!(
+        refusal,
+        SubmitError::NoDevice
+            | SubmitError::Recovering
+            | SubmitError::QueueBusy
+            | SubmitError::NoSlot
+    )
+}

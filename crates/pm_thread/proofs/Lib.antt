@@ -1,0 +1,4 @@
+pub mod Seats
+pub mod Calls
+pub mod Steps
+pub mod Passes

@@ -1,0 +1,122 @@
+//! What no clause says: that what waits on the links is served.
+
+ghost use Rattle.std.specs.Prelude.{◌≡◌, [], ◌∷◌, IfOk};
+
+use crate::{PmPort, PmWorker};
+use fis_view::{Frame, FrameError, Stamp};
+use link_items::{Down, FromDevice, Presence, ToHost};
+use multiplier::Multiplier;
+use pm_registers::PSCR_STATUS;
+use ruled_links::{Link, Rx, Tx};
+use runner::Worker;
+use std::alloc::Global;
+use std::sync::Wait;
+use std::sync::atomic::AtomicBool;
+use std::test::Fail;
+
+/// A Set Device Bits FIS as a device sends it.
+const BITS: [u8; 8] = [0xA1, 0x40, 0x50, 0, 0x20, 0, 0, 0];
+
+/// WRITE PORT MULTIPLIER of PSCR[2] of port 0: the port is opened.
+const OPEN: [u8; 20] = [
+    0x27, 0x8F, 0xE8, 0x02, 0, 0, 0, 0, 0, 0, 0, 0, 0, 0, 0, 0, 0, 0, 0, 0,
+];
+
+/// The same of PSCR[1]: what changed there was seen.
+const CLEAR: [u8; 20] = [
+    0x27, 0x8F, 0xE8, 0x01, 0, 0x01, 0x04, 0, 0, 0, 0, 0, 0, 0, 0, 0, 0, 0, 0, 0,
+];
+
+/// The queued read of one sector that the host sends to port 0.
+const READ: [u8; 20] = [
+    0x27, 0x80, 0x60, 0x01, 0, 0, 0, 0x40, 0, 0, 0, 0, 0, 0, 0, 0, 0, 0, 0, 0,
+];
+
+/// The first FIS of connection 1 of port 0.
+fn first(alloc: Global, bytes: &[u8]) -> Result<Frame, FrameError>
+    ensures { IfOk result (λ f. f.stamp.number ≡ 0) }
+{
+    let stamp = Stamp {
+        port: 0,
+        conn: 1,
+        number: 0,
+        shown: [0; 15],
+    };
+    Frame::from_bytes(alloc, bytes, stamp)
+}
+
+/// How many FISes come to the host, of the control port and of port 0.
+fn count<R: Wait>(rt: &R, host: &mut Rx<'_, ToHost>) -> (u32, u32) {
+    let (mut control, mut device) = (0u32, 0u32);
+    for _ in 0..8 {
+        match host.take(rt) {
+            Some(ToHost(frame)) if frame.stamp().port == 15 => control = control.saturating_add(1),
+            Some(ToHost(frame)) if frame.bytes() == BITS.as_slice() => {
+                device = device.saturating_add(1)
+            }
+            _ => {}
+        }
+    }
+    (control, device)
+}
+
+/// The register that shows a device at port 0.
+fn status(pm: &Multiplier) -> Option<u32> {
+    pm.registers().read(0, PSCR_STATUS).ok()
+}
+
+/// The host opens port 0 and sends a read there, and the device there sends a FIS. So many turns are worked, over links
+/// with so many places. Answers how many FISes come to the host, whether the read comes to the device, and what the
+/// status of the port is then.
+#[tactic(auto, using(crate::proofs::Seats::one_unused, link_items::proofs::OrderLemmas::device_first))]
+fn worked<R: Wait>(
+    rt: &R,
+    alloc: Global,
+    capacity: usize,
+    turns: u64,
+) -> Result<((u32, u32), bool, Option<u32>), Fail> {
+    let mut up = Link::new(alloc, capacity)?;
+    let mut down = Link::new(alloc, 3)?;
+    let mut device_up = Link::new(alloc, 1)?;
+    let mut device_down = Link::new(alloc, 1)?;
+    let mut presences = Link::new(alloc, 1)?;
+    let (host, mut taken) = up.seats().ok_or("no seats")?;
+    let (mut sent, commands) = down.seats().ok_or("no seats")?;
+    let (mut device, frames) = device_up.seats().ok_or("no seats")?;
+    let (passed, mut device_taken) = device_down.seats().ok_or("no seats")?;
+    let (mut plug, presence) = presences.seats().ok_or("no seats")?;
+    let mut ports = Vec::new(alloc);
+    ports.push(PmPort {
+        commands: passed,
+        frames,
+        presence,
+    })?;
+    let worker = PmWorker::new(alloc, ports, host, commands);
+    plug.send(rt, Presence::Came(1)).ok();
+    device.send(rt, FromDevice(first(alloc, &BITS)?)).ok();
+    for bytes in [OPEN, CLEAR, READ] {
+        sent.send(rt, Down(first(alloc, &bytes)?)).ok();
+    }
+    let end = worker.work(rt, &AtomicBool::new(false), turns);
+    let fault = end.fault();
+    let (pm, _, _, _) = end.into_parts();
+    let passed = device_taken.take(rt).is_some();
+    let counts = count(rt, &mut taken);
+    if fault.is_some() {
+        return Err("a fault".into());
+    }
+    Ok((counts, passed, status(&pm)))
+}
+
+#[test]
+fn what_waits_is_served(rt: HostRuntime) -> Result<(), Fail> {
+    let alloc = rt.alloc();
+    for (capacity, turns, want) in [
+        (8, 0, ((0, 0), false, Some(4))),
+        (8, 6, ((2, 1), true, Some(0x133))),
+        (1, 6, ((1, 0), true, Some(0x133))),
+    ] {
+        assert_eq!(rt; worked(&rt, alloc, capacity, turns)?, want, "at {capacity}, {turns}");
+    }
+    Ok(())
+}
