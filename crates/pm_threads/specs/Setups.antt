@@ -1,0 +1,26 @@
+-- What a run is given.
+use Rattle.std.specs.Prelude.{ℕ, ◌-◌, nat_le, nat_lt, ◌==◌, ◌&&◌, Bool, List, [], ◌∷◌, length}
+use Rattle.std.specs.List.{list_all}
+use Rattle.host_memory.specs.Memory.{Memory, client_start, is_memory_size, overwritten, zeroed}
+use Rattle.pm_threads.specs.declared.setup.Setup.{Setup}
+
+-- whether so many bytes from this address on lie in the client area of a memory
+abbrev pub lies_in : ℕ → ℕ → ℕ → Bool
+lies_in memory at count = nat_le client_start at && nat_le at memory && nat_le count (memory - at)
+
+-- Whether a run of so many ports can have this: a unit for each port, 1 to 16,777,216 turns, a memory of a size that there
+-- is, puts that lie in its client area, and requests and pulls of ports that are there.
+abbrev pub is_fitting : ℕ → Setup → Bool
+is_fitting ports s =
+    (length s.units.items == ports) && nat_le 1 s.turns && nat_le s.turns 16777216 && is_memory_size s.memory
+    && list_all (λ put. lies_in s.memory put.0 (length put.1.items)) s.puts.items
+    && list_all (λ planned. nat_lt planned.dev ports) s.plan.items && list_all (λ pull. nat_lt pull.0 ports) s.pulls.items
+
+-- a memory with these bytes put at their addresses, one after another
+abbrev pub put_all : Memory → List (ℕ × List ℕ) → Memory
+put_all m [] = m
+put_all m (p ∷ ps) = put_all (record { structure = m.structure; client = overwritten m.client (p.0 - client_start) p.1 }) ps
+
+-- a memory of so many bytes, all 0 but for these
+abbrev pub memory_of : ℕ → List (ℕ × List ℕ) → Memory
+memory_of len puts = put_all (zeroed len) puts
