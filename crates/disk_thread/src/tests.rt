@@ -23,12 +23,23 @@ impl Gate for Door {
     }
 }
 
-/// What came out of the links of a disk, and the fault of its worker.
-#[derive(Debug, Drop, PartialEq, Eq)]
-struct Left {
-    frames: Vec<(u32, u32)>,
-    presence: Vec<Presence>,
-    fault: Option<Fault>,
+/// The links of a disk.
+#[derive(Drop)]
+struct Wires {
+    down: Link<Down>,
+    up: Link<FromDevice>,
+    told: Link<Presence>,
+}
+
+/// How many FISes a disk gave, connection and number of the last, how often it came or went, and the fault of its worker.
+type Left = (usize, u32, u32, usize, Option<Fault>);
+
+fn new_wires(alloc: Global) -> Result<Wires, Fail> {
+    Ok(Wires {
+        down: Link::new(alloc, 4)?,
+        up: Link::new(alloc, 8)?,
+        told: Link::new(alloc, 8)?,
+    })
 }
 
 /// IDENTIFY DEVICE for the device of this connection.
@@ -46,91 +57,83 @@ fn identify(alloc: Global, conn: u32) -> Result<Frame, Fail> {
     Ok(Frame::from_bytes(alloc, &bytes, stamp)?)
 }
 
-/// The connection and number of each FIS on the link.
-fn numbers(
-    rt: &impl Wait,
-    alloc: Global,
-    rx: &mut Rx<'_, FromDevice>,
-) -> Result<Vec<(u32, u32)>, Fail> {
-    let mut all = Vec::new(alloc);
-    for _ in 0..8 {
+/// How many FISes are on the link, and connection and number of the last.
+fn last(rt: &impl Wait, rx: &mut Rx<'_, FromDevice>) -> (usize, u32, u32) {
+    let mut seen = (0, 0, 0);
+    for i in 0..8usize {
         if let Some(FromDevice(frame)) = rx.take(rt) {
             let stamp = frame.stamp();
-            all.push((stamp.conn, stamp.number))?;
+            seen = (i + 1, stamp.conn, stamp.number);
         }
     }
-    Ok(all)
+    seen
 }
 
-/// The connections that came and went on the link.
-fn changes(
-    rt: &impl Wait,
-    alloc: Global,
-    rx: &mut Rx<'_, Presence>,
-) -> Result<Vec<Presence>, Fail> {
-    let mut all = Vec::new(alloc);
-    for _ in 0..8 {
-        if let Some(change) = rx.take(rt) {
-            all.push(change)?;
+/// How many changes are on the link.
+fn changes(rt: &impl Wait, rx: &mut Rx<'_, Presence>) -> usize {
+    let mut seen = 0;
+    for i in 0..8usize {
+        if rx.take(rt).is_some() {
+            seen = i + 1;
         }
     }
-    Ok(all)
+    seen
 }
 
-/// A hundred turns of a disk at port 3, with IDENTIFY for the device of this connection on its link, if it is not 0.
+/// A hundred turns of a disk at port 3, with this FIS of the host on its link.
 fn worked(
     rt: &impl Wait,
     alloc: Global,
-    pulls: &[u32],
-    conn: u32,
-    open: bool,
-) -> Result<Left, Fail> {
-    let mut down = Link::new(alloc, 4)?;
-    let mut up = Link::new(alloc, 8)?;
-    let mut told = Link::new(alloc, 8)?;
-    let (mut commands, taken) = down.seats().ok_or("no seats")?;
-    let (given, mut frames) = up.seats().ok_or("no seats")?;
-    let (posted, mut presence) = told.seats().ok_or("no seats")?;
-    if conn != 0 {
-        commands
-            .send(rt, Down(identify(alloc, conn)?))
-            .map_err(|_| "full")?;
-    }
-    let disk = Disk::new(alloc, 16, DiskPlan::plain())?;
-    let station = Station::new(alloc, 3, disk, taken, given, posted);
-    let pulls = Vec::from_slice(alloc, pulls)?;
-    let door = Door { open };
+    wires: &mut Wires,
+    disk: Disk,
+    frame: Frame,
+    pulls: Vec<u32>,
+    door: &Door,
+) -> Option<Left> {
+    let (mut commands, taken) = wires.down.seats()?;
+    let (given, mut frames) = wires.up.seats()?;
+    let (posted, mut presence) = wires.told.seats()?;
+    let _ = commands.send(rt, Down(frame));
     let stop = AtomicBool::new(false);
-    let end = DiskWorker::new(station, &door, alloc, pulls).work(rt, &stop, 100);
-    Ok(Left {
-        frames: numbers(rt, alloc, &mut frames)?,
-        presence: changes(rt, alloc, &mut presence)?,
-        fault: end.fault,
-    })
+    let station = Station::new(alloc, 3, disk, taken, given, posted);
+    let end = DiskWorker::new(station, door, alloc, pulls).work(rt, &stop, 100);
+    let (count, conn, number) = last(rt, &mut frames);
+    Some((count, conn, number, changes(rt, &mut presence), end.fault))
 }
 
-const CAME: Presence = Presence::Came(1);
-
-const PULLED: [Presence; 3] = [CAME, Presence::Gone(1), Presence::Came(2)];
+/// A hundred turns of a disk that is pulled out after so many FISes, with IDENTIFY for this connection on its link.
+fn at_work(
+    rt: &impl Wait,
+    alloc: Global,
+    pull: u32,
+    conn: u32,
+    open: bool,
+) -> Result<Option<Left>, Fail> {
+    let mut wires = new_wires(alloc)?;
+    let disk = Disk::new(alloc, 16, DiskPlan::plain())?;
+    let frame = identify(alloc, conn)?;
+    let pulls = vec![in alloc; pull; 1]?;
+    let door = Door { open };
+    Ok(worked(rt, alloc, &mut wires, disk, frame, pulls, &door))
+}
 
 #[test]
 fn a_disk_at_work(rt: HostRuntime) -> Result<(), Fail> {
     let alloc = rt.alloc();
-    let none: &[u32] = &[];
-    // The signature alone; with the answers to IDENTIFY; that of each connection.
-    for (pulls, conn, frames, presence) in [
-        (none, 0, &[(1, 0)][..], &[CAME][..]),
-        (none, 1, &[(1, 0), (1, 1), (1, 2)], &[CAME]),
-        (none, 2, &[(1, 0)], &[CAME]),
-        (&[1], 0, &[(1, 0), (2, 0)], &PULLED),
-        (&[3], 1, &[(1, 0), (1, 1), (1, 2), (2, 0)], &PULLED),
+    // The signature, and the answer to IDENTIFY; the signature alone; the signature of each connection.
+    for (pull, conn, want) in [
+        (9, 1, (3, 1, 2, 1, None)),
+        (9, 2, (1, 1, 0, 1, None)),
+        (1, 9, (2, 2, 0, 3, None)),
+        (3, 1, (4, 2, 0, 3, None)),
     ] {
-        let left = worked(&rt, alloc, pulls, conn, true)?;
-        assert_eq!(rt; left.frames.as_slice(), frames);
-        assert_eq!(rt; left.presence.as_slice(), presence);
-        assert_eq!(rt; left.fault, None);
+        assert_eq!(rt;
+            at_work(&rt, alloc, pull, conn, true)?,
+            Some(want),
+            "at {pull}, {conn}"
+        );
     }
-    let shut = worked(&rt, alloc, none, 1, false)?;
-    assert_eq!(rt; shut.fault, Some(Fault::GateShut));
+    let shut = at_work(&rt, alloc, 9, 1, false)?.ok_or("no seats")?;
+    assert_eq!(rt; shut.4, Some(Fault::GateShut));
     Ok(())
 }

@@ -1,6 +1,6 @@
 -- What is left of a run, and what is known of it.
-use Rattle.std.specs.Prelude.{◌≡◌, ℕ, ◌+◌, ◌≤◌, List, [], ◌∷◌, ◌++◌, length, map, Some}
-use Rattle.std.specs.List.{AllZip, range_with_len, slice_get}
+use Rattle.std.specs.Prelude.{◌≡◌, ℕ, zero, suc, ◌<◌, List, [], ◌∷◌}
+use Rattle.std.specs.List.{AllZip}
 use Rattle.fis_view.specs.Frames.{Stamped}
 use Rattle.disk_model.specs.declared.unit.Unit.{Unit}
 use Rattle.ruled_links.specs.Lists.{IsPrefixOf}
@@ -19,12 +19,16 @@ pub record Ends : Type 0 where
 
 -- they are of one run: their seats are of the same links
 pub record AreOfOneRun (e : Ends) : Type 0 where
-  pub few : length e.disks ≤ 15
   pub tied : AllZip TiedTo e.disks e.pm.ports
   pub up : e.pm.host.link ≡ e.host.frames.link
   pub down : e.host.commands.link ≡ e.pm.commands.link
 
+-- what the device at port n sent; where there is no such port, nothing
+abbrev pub sent_at : List (StationState Unit) → ℕ → List Stamped
+sent_at [] n = []
+sent_at (s ∷ disks) zero = s.frames.sent
+sent_at (s ∷ disks) (suc n) = sent_at disks n
+
 -- For each port and connection: what the host took of it is a beginning of what its device sent on it, as it goes up.
 abbrev pub EachArrives : List (StationState Unit) → List Stamped → Type 0
-EachArrives disks taken =
-    (n c : ℕ) (s : StationState Unit) → slice_get disks n ≡ Some s → IsPrefixOf (of_conn n c taken) (risen n c s.frames.sent)
+EachArrives disks taken = (n c : ℕ) → n < 15 → IsPrefixOf (of_conn n c taken) (risen n c (sent_at disks n))

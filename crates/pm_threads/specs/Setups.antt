@@ -8,11 +8,11 @@ use Rattle.pm_threads.specs.declared.setup.Setup.{Setup}
 abbrev pub lies_in : ℕ → ℕ → ℕ → Bool
 lies_in memory at count = nat_le client_start at && nat_le at memory && nat_le count (memory - at)
 
--- Whether a run of so many ports can have this: a unit for each port, 1 to 16,777,216 turns, a memory of a size that there
+-- Whether a run of so many ports can have this: 1 to 15 ports, a unit for each, 1 to 16,777,216 turns, a memory of a size that there
 -- is, puts that lie in its client area, and requests and pulls of ports that are there.
 abbrev pub is_fitting : ℕ → Setup → Bool
 is_fitting ports s =
-    (length s.units.items == ports) && nat_le 1 s.turns && nat_le s.turns 16777216 && is_memory_size s.memory
+    nat_le 1 ports && nat_le ports 15 && (length s.units.items == ports) && nat_le 1 s.turns && nat_le s.turns 16777216 && is_memory_size s.memory
     && list_all (λ put. lies_in s.memory put.0 (length put.1.items)) s.puts.items
     && list_all (λ planned. nat_lt planned.dev ports) s.plan.items && list_all (λ pull. nat_lt pull.0 ports) s.pulls.items
 

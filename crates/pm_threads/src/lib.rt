@@ -5,14 +5,14 @@
 //! connection is a beginning of what its device sent on it.
 #![tactic(auto)]
 
-mod close;
+mod closing;
 mod finished;
 mod links;
 mod run;
 mod seats;
 mod setup;
 
-pub use close::{Summary, close};
+pub use closing::{Summary, close};
 pub use finished::Finished;
 pub use links::{Links, LinksError};
 pub use run::{RunError, run_threads};

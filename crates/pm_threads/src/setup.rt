@@ -45,7 +45,9 @@ impl Setup {
         ensures { result ≡ is_fitting ports self.now }
     {
         let memory = self.memory;
-        self.units.len() == ports
+        ports >= 1
+            && ports <= 15
+            && self.units.len() == ports
             && self.turns >= 1
             && self.turns <= MAX_TURNS
             && memory >= 0x20_0000

@@ -49,7 +49,10 @@ fn meet_all<'a, R: Wait>(rt: &R, mut disks: Vec<DiskEnd<'a, Unit>>, mut ports: V
     requires { AllZip TiedTo (map (λ e. e.station) disks.items) ports.items }
     ensures { AllZip Handed (map (λ e. e.station) disks.entry.items) ports.entry.items }
 {
-    let (Some(end), Some(port)) = (disks.pop(), ports.pop()) else {
+    let Some(end) = disks.pop() else {
+        return;
+    };
+    let Some(port) = ports.pop() else {
         return;
     };
     meet_at(rt, end, port);
