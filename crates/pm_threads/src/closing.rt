@@ -1,19 +1,17 @@
 //! All seats in one thread again.
 
-ghost use Rattle.std.specs.Prelude.{◌≡◌, map};
+ghost use Rattle.std.specs.Prelude.{◌≡◌};
 ghost use Rattle.std.specs.List.{AllZip};
 ghost use Rattle.ruled_links.specs.Lists.{IsPrefixOf};
 ghost use Rattle.multiplier.specs.Orders.{InStampedOrder};
 ghost use Rattle.pm_thread.specs.Passing.{Passes};
 ghost use Rattle.pm_threads.specs.Ends.{EachArrives};
-ghost use Rattle.pm_threads.specs.Seats.{Handed, TiedTo};
+ghost use Rattle.pm_threads.specs.Seats.{Handed};
 
 use crate::finished::Finished;
-use disk_model::Unit;
-use disk_thread::DiskEnd;
+use crate::meeting::meet_all;
 use host_memory::HostMemory;
 use host_thread::{Planned, State};
-use pm_thread::PmPort;
 use ruled_links::meet;
 use std::sync::Wait;
 
@@ -25,38 +23,6 @@ pub struct Summary {
     pub results: Vec<State>,
     /// The memory of the host.
     pub memory: HostMemory,
-}
-
-/// The three links of a device.
-fn meet_at<'a, R: Wait>(rt: &R, end: DiskEnd<'a, Unit>, port: PmPort<'a>)
-    requires { TiedTo end.station port }
-    ensures { Handed end.entry.station port.entry }
-{
-    let DiskEnd { station, fault: _ } = end;
-    let (taken, sent, told) = station.into_seats();
-    let PmPort {
-        commands,
-        frames,
-        presence,
-    } = port;
-    let _ = meet(rt, sent, frames);
-    let _ = meet(rt, commands, taken);
-    let _ = meet(rt, told, presence);
-}
-
-/// The links of all devices.
-fn meet_all<'a, R: Wait>(rt: &R, mut disks: Vec<DiskEnd<'a, Unit>>, mut ports: Vec<PmPort<'a>>)
-    requires { AllZip TiedTo (map (λ e. e.station) disks.items) ports.items }
-    ensures { AllZip Handed (map (λ e. e.station) disks.entry.items) ports.entry.items }
-{
-    let Some(end) = disks.pop() else {
-        return;
-    };
-    let Some(port) = ports.pop() else {
-        return;
-    };
-    meet_at(rt, end, port);
-    meet_all(rt, disks, ports);
 }
 
 /// Brings the seats of all links together. What the host took of each connection is a beginning of what its device sent on

@@ -8,6 +8,7 @@
 mod closing;
 mod finished;
 mod links;
+mod meeting;
 mod run;
 mod seats;
 mod setup;
