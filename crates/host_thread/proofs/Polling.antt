@@ -7,7 +7,7 @@ use Rattle.hba_driver.specs.Drivers.{Driver, Entry, entry_at, has_ended, has_end
 use Rattle.hba_driver.specs.Submits.{after_poll, completed, completion_at, completion_of, lowest_ended}
 use Rattle.hba_driver.specs.declared.slot.Head.{Head}
 use Rattle.hba_driver.specs.declared.slot.Phase.{Phase}
-use Rattle.hba_driver.specs.declared.slot.Phase.TheVariants.{Waits, Issued, Ended}
+use Rattle.hba_driver.specs.declared.slot.Phase.TheVariants.{Waits, Issued, Aside, Ended}
 
 ended : (entries : List (Option Entry)) (n : ℕ) → lowest_ended entries ≡ Some n → holds has_ended (entry_at entries n) ≡ true
 unfolding lowest_ended
@@ -17,6 +17,7 @@ ended entries n h = (lowest_is (λ slot. holds has_ended (entry_at entries slot)
 told : (n : ℕ) (head : Head) (phase : Phase) → has_ended_in phase ≡ true → completed n head phase ≡ None → ⊥
 told n head Waits is none = absurd (cc)
 told n head Issued is none = absurd (cc)
+told n head Aside is none = absurd (cc)
 told n head (Ended outcome) is none = absurd (cc)
 
 told_at : (n : ℕ) (o : Option Entry) → holds has_ended o ≡ true → completion_at n o ≡ None → ⊥

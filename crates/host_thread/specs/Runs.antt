@@ -78,7 +78,7 @@ pub record WasPolled (turns : List HostTurn) (p : Planned) (outcome : Outcome) :
   pub completion : Completion
   pub taken : Contains turns (Submitted p.dev p.request completion.ticket.0)
   pub polled : Contains turns (Polled completion)
-  pub outcome : completion.outcome ≡ outcome
+  pub ended_so : completion.outcome ≡ outcome
 
 -- there was a moment at which the driver refused it so
 pub record WasRefused (start : Memory) (turns : List HostTurn) (p : Planned) (refusal : SubmitError) : Type 0 where

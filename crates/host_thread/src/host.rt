@@ -31,7 +31,7 @@ impl Model for Host {
 impl Host {
     /// A port that was not started and a driver that did nothing, beside this memory.
     pub(crate) fn new(memory: HostMemory) -> Host
-        ensures { result ≡ starting memory.entry }
+        ensures { result ≡ starting memory }
     {
         Host {
             port: HostPort::new(),
@@ -42,7 +42,7 @@ impl Host {
 
     /// Its memory.
     pub(crate) fn into_memory(self) -> HostMemory
-        ensures { result ≡ self.entry.memory }
+        ensures { result ≡ self.memory }
     {
         let Host {
             port: _,

@@ -66,10 +66,10 @@ impl<'a> HostWorker<'a> {
     ) -> Result<HostWorker<'a>, AllocError>
         requires up { frames.taken ≡ [] }
         requires down { commands.sent ≡ [] }
-        ensures run { IfOk result (λ worker. IsRun memory.entry worker) }
+        ensures run { IfOk result (λ worker. IsRun memory worker) }
         ensures frames { IfOk result (λ worker. worker.frames ≡ frames.entry) }
         ensures commands { IfOk result (λ worker. worker.commands ≡ commands.entry) }
-        ensures plan { IfOk result (λ worker. worker.plan ≡ plan.entry.items) }
+        ensures plan { IfOk result (λ worker. worker.plan ≡ plan.items) }
     {
         let states = vec![in alloc; State::Waits; plan.len()]?;
         Ok(HostWorker {
@@ -149,7 +149,11 @@ impl<'a> HostWorker<'a> {
             return false;
         }
         match self.host.submit(planned.dev, &planned.request) {
-            Ok(ticket) => self.states[i] = State::Submitted(ticket),
+            Ok(ticket) => {
+                self.states[i] = State::Submitted(ticket);
+                self.next = i + 1;
+                return true;
+            }
             Err(refusal) => {
                 if is_tried_again(refusal) {
                     return false;

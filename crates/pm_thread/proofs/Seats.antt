@@ -4,6 +4,9 @@ use Rattle.std.specs.Prelude.{All, if◌then◌else◌, slice_index_or, slice_se
 use Rattle.std.proofs.Math.Seq.{map-set_same}
 use Rattle.std.proofs.lemmas.Bool.{cases_eq, eq-eqb, ne_eqb}
 use Rattle.std.proofs.lemmas.List.Elements.{All-cons, All-nil, All-tail}
+use Rattle.fis_view.specs.Frames.{Stamped}
+use Rattle.multiplier.specs.Orders.{InDeviceOrder}
+use Rattle.link_items.proofs.OrderLemmas.{device_first}
 use Rattle.pm_thread.specs.Runs.{PmView, PortSeats, IsUnused, SameLinks, ends_of, at_port}
 
 module _ {A : Type 0} (part : PortSeats → List A) where
@@ -65,5 +68,9 @@ same_links old new i q d set same host commands = record {
 }
 
 -- one port that nothing went over
-pub one_unused : (p : PortSeats) → p.commands.sent ≡ [] → p.frames.taken ≡ [] → p.presence.taken ≡ [] → All IsUnused (p ∷ [])
-one_unused p commands frames presence = All-cons IsUnused p [] (record { commands = commands; frames = frames; presence = presence }) (All-nil IsUnused)
+pub one_unused : (p : PortSeats) → IsUnused p → All IsUnused (p ∷ [])
+one_unused p unused = All-cons IsUnused p [] unused (All-nil IsUnused)
+
+-- the first FIS of a device is in order
+pub first_in_order : (sent : List Stamped) (f : Stamped) → sent ≡ [] → f.stamp.number ≡ 0 → InDeviceOrder (sent ++ f ∷ [])
+first_in_order sent f none is = subst (λ l. InDeviceOrder (l ++ f ∷ [])) (sym none) (device_first f is)

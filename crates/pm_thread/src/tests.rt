@@ -1,6 +1,7 @@
 //! What no clause says: that what waits on the links is served.
 
-ghost use Rattle.std.specs.Prelude.{◌≡◌, [], ◌∷◌, IfOk};
+ghost use Rattle.std.specs.Prelude.{◌≡◌, [], IfOk};
+ghost use Rattle.pm_thread.specs.Runs.{IsUnused};
 
 use crate::{PmPort, PmWorker};
 use fis_view::{Frame, FrameError, Stamp};
@@ -65,47 +66,99 @@ fn status(pm: &Multiplier) -> Option<u32> {
     pm.registers().read(0, PSCR_STATUS).ok()
 }
 
+/// All links of a multiplier with one device port.
+#[derive(Drop)]
+struct Links {
+    up: Link<ToHost>,
+    down: Link<Down>,
+    frames: Link<FromDevice>,
+    commands: Link<Down>,
+    presence: Link<Presence>,
+}
+
+fn make_links(alloc: Global, capacity: usize) -> Result<Links, Fail> {
+    Ok(Links {
+        up: Link::new(alloc, capacity)?,
+        down: Link::new(alloc, 3)?,
+        frames: Link::new(alloc, 1)?,
+        commands: Link::new(alloc, 1)?,
+        presence: Link::new(alloc, 1)?,
+    })
+}
+
+/// The device at port 0 comes, and sends its first FIS.
+#[tactic(auto, using(crate::proofs::Seats::first_in_order))]
+fn plug<R: Wait>(
+    rt: &R,
+    presence: &mut Tx<'_, Presence>,
+    frames: &mut Tx<'_, FromDevice>,
+    frame: Frame,
+) -> bool
+    requires unused { frames.old.sent ≡ [] }
+    requires first { frame.stamp.number ≡ 0 }
+{
+    let came = presence.send(rt, Presence::Came(1)).is_ok();
+    let sent = frames.send(rt, FromDevice(frame)).is_ok();
+    came && sent
+}
+
+/// The host opens port 0, and sends a read there.
+fn ask<R: Wait>(rt: &R, alloc: Global, host: &mut Tx<'_, Down>) -> Result<(), FrameError> {
+    for bytes in [OPEN, CLEAR, READ] {
+        let _ = host.send(rt, Down(first(alloc, &bytes)?));
+    }
+    Ok(())
+}
+
+/// The worker of a multiplier with this port.
+#[tactic(auto, using(crate::proofs::Seats::one_unused))]
+fn worker<'a>(
+    alloc: Global,
+    port: PmPort<'a>,
+    host: Tx<'a, ToHost>,
+    commands: Rx<'a, Down>,
+) -> Result<PmWorker<'a>, Fail>
+    requires unused { IsUnused port }
+    requires up { host.sent ≡ [] }
+    requires down { commands.taken ≡ [] }
+{
+    let mut ports = Vec::new(alloc);
+    ports.push(port)?;
+    Ok(PmWorker::new(alloc, ports, host, commands))
+}
+
 /// The host opens port 0 and sends a read there, and the device there sends a FIS. So many turns are worked, over links
 /// with so many places. Answers how many FISes come to the host, whether the read comes to the device, and what the
 /// status of the port is then.
-#[tactic(auto, using(crate::proofs::Seats::one_unused, link_items::proofs::OrderLemmas::device_first))]
 fn worked<R: Wait>(
     rt: &R,
     alloc: Global,
-    capacity: usize,
+    links: &mut Links,
     turns: u64,
 ) -> Result<((u32, u32), bool, Option<u32>), Fail> {
-    let mut up = Link::new(alloc, capacity)?;
-    let mut down = Link::new(alloc, 3)?;
-    let mut device_up = Link::new(alloc, 1)?;
-    let mut device_down = Link::new(alloc, 1)?;
-    let mut presences = Link::new(alloc, 1)?;
-    let (host, mut taken) = up.seats().ok_or("no seats")?;
-    let (mut sent, commands) = down.seats().ok_or("no seats")?;
-    let (mut device, frames) = device_up.seats().ok_or("no seats")?;
-    let (passed, mut device_taken) = device_down.seats().ok_or("no seats")?;
-    let (mut plug, presence) = presences.seats().ok_or("no seats")?;
-    let mut ports = Vec::new(alloc);
-    ports.push(PmPort {
-        commands: passed,
+    let (host, mut taken) = links.up.seats().ok_or("no seats")?;
+    let (mut sent, down) = links.down.seats().ok_or("no seats")?;
+    let (mut device, frames) = links.frames.seats().ok_or("no seats")?;
+    let (commands, mut reads) = links.commands.seats().ok_or("no seats")?;
+    let (mut comes, presence) = links.presence.seats().ok_or("no seats")?;
+    let port = PmPort {
+        commands,
         frames,
         presence,
-    })?;
-    let worker = PmWorker::new(alloc, ports, host, commands);
-    plug.send(rt, Presence::Came(1)).ok();
-    device.send(rt, FromDevice(first(alloc, &BITS)?)).ok();
-    for bytes in [OPEN, CLEAR, READ] {
-        sent.send(rt, Down(first(alloc, &bytes)?)).ok();
-    }
+    };
+    let worker = worker(alloc, port, host, down)?;
+    plug(rt, &mut comes, &mut device, first(alloc, &BITS)?);
+    ask(rt, alloc, &mut sent)?;
     let end = worker.work(rt, &AtomicBool::new(false), turns);
-    let fault = end.fault();
-    let (pm, _, _, _) = end.into_parts();
-    let passed = device_taken.take(rt).is_some();
-    let counts = count(rt, &mut taken);
-    if fault.is_some() {
+    if end.fault().is_some() {
         return Err("a fault".into());
     }
-    Ok((counts, passed, status(&pm)))
+    let (pm, _, _, _) = end.into_parts();
+    Ok((
+        count(rt, &mut taken),
+        reads.take(rt).is_some(),
+        status(&pm),
+    ))
 }
 
 #[test]
@@ -116,7 +169,8 @@ fn what_waits_is_served(rt: HostRuntime) -> Result<(), Fail> {
         (8, 6, ((2, 1), true, Some(0x133))),
         (1, 6, ((1, 0), true, Some(0x133))),
     ] {
-        assert_eq!(rt; worked(&rt, alloc, capacity, turns)?, want, "at {capacity}, {turns}");
+        let found = worked(&rt, alloc, &mut make_links(alloc, capacity)?, turns)?;
+        assert_eq!(rt; found, want, "at {capacity}, {turns}");
     }
     Ok(())
 }

@@ -1,0 +1,22 @@
+use Rattle.std.proofs.Common.{rules, ◌≡◌, [], length, replicate, refl, sym, ap, ◌∙◌, subst}
+use Rattle.std.proofs.lemmas.List.{length-replicate}
+use Rattle.multiplier.specs.Orders.{InStampedOrder}
+use Rattle.link_items.specs.Beginnings.{stamped_starts}
+use Rattle.host_thread.specs.declared.plan.State.TheVariants.{Waits}
+use Rattle.host_thread.specs.Runs.{starting}
+use Rattle.host_thread.proofs.Steps.{begins}
+use Rattle.host_thread.proofs.worker.HostWorker.new.Goals as goal
+
+pub invariant_of-result : goal.invariant_of-result
+invariant_of-result c =
+    let states : c.in_ok-states.states.items ≡ replicate (length c.args.plan.items) Waits = search rules in
+    record {
+      order = subst InStampedOrder (sym c.requires.up) stamped_starts;
+      all = ap length states ∙ length-replicate _ _;
+    }
+
+pub returns-clause-run : goal.returns-clause-run
+returns-clause-run c =
+    let states : c.in_ok-states.states.items ≡ replicate (length c.args.plan.items) Waits = search rules in
+    let host : c.new.result ≡ starting c.args.memory = search rules in
+    begins c.args.memory _ (length c.args.plan.items) host c.requires.up c.requires.down refl states
