@@ -19,7 +19,7 @@ use Rattle.host_thread.specs.declared.plan.Ended.TheVariants as ended
 use Rattle.host_thread.specs.declared.plan.Planned.{Planned}
 use Rattle.host_thread.specs.declared.plan.State.{State}
 use Rattle.host_thread.specs.declared.plan.State.TheVariants as state
-use Rattle.host_thread.specs.Runs.{HostView, IsRun, GoesOn, AreTrue, IsTrue, WasPolled, WasRefused, starting, took_by, pushed_by}
+use Rattle.host_thread.specs.Runs.{HostView, IsRun, GoesOn, Same, AreTrue, IsTrue, WasPolled, WasRefused, starting, took_by, pushed_by}
 
 -- ---- turns, and then turns
 
@@ -200,3 +200,6 @@ begins start w count host taken sent hand states = record {
   pushed = ap (λ l. l ++ option_to_list w.hand) sent ∙ ap option_to_list hand;
   requests = subst (λ (s : List State). AreTrue start [] w.plan s) (sym states) (each_waits start w.plan count);
 }
+
+pub same_then : (a b c : HostView) → Same a b → Same b c → Same a c
+same_then a b c p q = record { frames = q.frames ∙ p.frames; commands = q.commands ∙ p.commands; plan = q.plan ∙ p.plan }

@@ -1,6 +1,6 @@
 -- What the host's thread does: there is one list of turns of the host, of which the lists of its seats are the projections,
 -- and port, driver and memory the outcome; and what it says of each request of its plan is in these turns.
-use Rattle.std.specs.Prelude.{◌≡◌, ℕ, ◌<◌, List, ◌++◌, [], ◌∷◌, length, map, slice_index_or, Option, Some}
+use Rattle.std.specs.Prelude.{◌≡◌, ℕ, ◌<◌, Bool, true, false, List, ◌++◌, [], ◌∷◌, length, map, slice_index_or, Option, Some}
 use Rattle.std.specs.List.{Contains, flat_map}
 use Rattle.std.specs.Option.{option_to_list}
 use Rattle.atomic_table.specs.Seated.{TableId}
@@ -72,6 +72,11 @@ pushed_by (Pushed (Some frame)) = frame ∷ []
 pushed_by turn = []
 
 -- ---- what became of a request
+
+-- it has not ended
+abbrev pub is_open : State → Bool
+is_open (state.Ended end) = false
+is_open s = true
 
 -- it was taken under a ticket, and what was polled of that ticket had this outcome
 pub record WasPolled (turns : List HostTurn) (p : Planned) (outcome : Outcome) : Type 0 where

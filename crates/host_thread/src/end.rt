@@ -1,6 +1,8 @@
 //! What is left of the host's worker.
 
 ghost use Rattle.std.specs.Prelude.{◌≡◌};
+ghost use Rattle.std.specs.List.{list_any};
+ghost use Rattle.host_thread.specs.Runs.{is_open};
 ghost use Rattle.multiplier.specs.Orders.{InStampedOrder};
 
 use crate::plan::{Planned, State};
@@ -33,7 +35,9 @@ impl<'a> HostEnd<'a> {
     }
 
     /// Whether a request of the plan has not ended.
-    pub fn is_open(&self) -> bool {
+    pub fn is_open(&self) -> bool
+        ensures { result ≡ list_any is_open self.now.states }
+    {
         self.worker.is_open()
     }
 

@@ -12,6 +12,7 @@
 mod end;
 mod host;
 mod plan;
+mod tally;
 mod worker;
 
 pub use end::HostEnd;

@@ -1,6 +1,8 @@
 //! A plan of requests, and what becomes of them.
 
 ghost use Rattle.std.specs.Prelude.{◌≡◌, ◌<◌, length, slice_index_or, IfSome};
+ghost use Rattle.std.specs.List.{list_any};
+ghost use Rattle.host_thread.specs.Runs.{is_open};
 ghost use Rattle.host_thread.specs.declared.plan.State.TheVariants as state;
 
 use hba_driver::{Outcome, Request, SubmitError, Ticket};
@@ -36,6 +38,18 @@ pub enum State {
     Ended(Ended),
 }
 
+impl State {
+    /// Whether the request has not ended.
+    pub fn is_open(&self) -> bool
+        ensures { result ≡ is_open self.now }
+    {
+        match self {
+            State::Ended(_) => false,
+            _ => true,
+        }
+    }
+}
+
 /// Whether one of these was taken and not polled yet.
 pub(crate) fn any_submitted(states: &[State]) -> bool {
     for state in states {
@@ -47,14 +61,10 @@ pub(crate) fn any_submitted(states: &[State]) -> bool {
 }
 
 /// Whether one of these has not ended.
-pub(crate) fn any_open(states: &[State]) -> bool {
-    for state in states {
-        match state {
-            State::Ended(_) => {}
-            _ => return true,
-        }
-    }
-    false
+pub(crate) fn any_open(states: &[State]) -> bool
+    ensures { result ≡ list_any is_open states.now }
+{
+    states.iter().any(|state| state.is_open())
 }
 
 /// The place of the request that was taken under this ticket.

@@ -1,7 +1,8 @@
 //! The host's worker.
 
 ghost use Rattle.std.specs.Prelude.{◌≡◌, [], IfOk};
-ghost use Rattle.host_thread.specs.Runs.{GoesOn, IsRun, Same};
+ghost use Rattle.std.specs.List.{list_any};
+ghost use Rattle.host_thread.specs.Runs.{GoesOn, IsRun, Same, is_open};
 
 use crate::end::HostEnd;
 use crate::host::Host;
@@ -194,7 +195,9 @@ impl<'a> HostWorker<'a> {
     }
 
     /// Whether a request of the plan has not ended.
-    pub(crate) fn is_open(&self) -> bool {
+    pub(crate) fn is_open(&self) -> bool
+        ensures { result ≡ list_any is_open self.now.states }
+    {
         any_open(self.states.as_slice())
     }
 }
