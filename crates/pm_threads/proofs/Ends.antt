@@ -45,6 +45,12 @@ module _ {D : Type 0} where
       by here rest zero d less = here
       by here rest (suc k) d less = rest k d (omega (arith, less))
 
+  pub starts_tied : (ws : List (StationState D)) (ps : List PortSeats) → AllZip Starts ws ps → AllZip TiedTo ws ps
+  starts_tied [] [] h = tt
+  starts_tied [] (p ∷ ps) h = absurd h
+  starts_tied (w ∷ ws) [] h = absurd h
+  starts_tied (w ∷ ws) (p ∷ ps) h = (h.0.tied, starts_tied ws ps h.1)
+
   still_tied : (w d : StationState D) (p q : PortSeats) → TiedTo w p → IsAtSamePort w d → ends_of q ≡ ends_of p → TiedTo d q
   still_tied w d p q tied same ends = record {
     frames = same.frames.0 ∙ tied.frames ∙ sym (ap (λ x. x.frames.link) ends);
@@ -55,7 +61,7 @@ module _ {D : Type 0} where
 -- the ends of workers, in whatever they lie
 module _ {D E : Type 0} (station : E → StationState D) (R : StationState D → E → Type 0) where
   module _ (same : (w : StationState D) (e : E) → R w e → IsAtSamePort w (station e)) where
-    pub all_tied : (ws : List (StationState D)) (ps qs : List PortSeats) (es : List E) → AllZip Starts ws ps → AllZip R ws es → map ends_of qs ≡ map ends_of ps
+    pub all_tied : (ws : List (StationState D)) (ps qs : List PortSeats) (es : List E) → AllZip TiedTo ws ps → AllZip R ws es → map ends_of qs ≡ map ends_of ps
         → AllZip TiedTo (map station es) qs
     all_tied [] [] [] [] s r e = tt
     all_tied [] [] (q ∷ qs) es s r e = absurd cc
@@ -67,7 +73,7 @@ module _ {D E : Type 0} (station : E → StationState D) (R : StationState D →
     all_tied (w ∷ ws) (p ∷ ps) (q ∷ qs) (x ∷ es) s r e =
         let rest : map ends_of qs ≡ map ends_of ps = ap (drop 1) e in
         let here : ends_of q ≡ ends_of p = cc in
-        (still_tied w (station x) p q s.0.tied (same w x r.0) here, all_tied ws ps qs es s.1 r.1 rest)
+        (still_tied w (station x) p q s.0 (same w x r.0) here, all_tied ws ps qs es s.1 r.1 rest)
 
   module _ {F U : Type 0} (fault : E → Option F) (Ran : U → StationState D → Type 0) (goes_on : (u : U) (w : StationState D) (e : E) → R w e → fault e ≡ None → Ran u w → Ran u (station e)) where
     pub all_ran : (us : List U) (ws : List (StationState D)) (es : List E) → AllZip Ran us ws → AllZip R ws es → All (λ e. fault e ≡ None) es → AllZip Ran us (map station es)

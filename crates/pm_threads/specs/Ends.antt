@@ -5,7 +5,8 @@ use Rattle.fis_view.specs.Frames.{Stamped}
 use Rattle.disk_model.specs.declared.unit.Unit.{Unit}
 use Rattle.ruled_links.specs.Lists.{IsPrefixOf}
 use Rattle.multiplier.specs.Passing.{of_conn}
-use Rattle.disk_thread.specs.Runs.{StationState}
+use Rattle.disk_model.specs.Units.{plan_of, StandsFor, MaySend}
+use Rattle.disk_thread.specs.Runs.{StationState, IsRun}
 use Rattle.pm_thread.specs.Runs.{PmView}
 use Rattle.pm_thread.specs.Passing.{risen}
 use Rattle.host_thread.specs.Runs.{HostView}
@@ -32,3 +33,8 @@ sent_at (s ∷ disks) (suc n) = sent_at disks n
 -- For each port and connection: what the host took of it is a beginning of what its device sent on it, as it goes up.
 abbrev pub EachArrives : List (StationState Unit) → List Stamped → Type 0
 EachArrives disks taken = (n c : ℕ) → n < 15 → IsPrefixOf (of_conn n c taken) (risen n c (sent_at disks n))
+
+-- whatever units' runs the stations were, they are
+abbrev pub AllGoOn : List (StationState Unit) → List (StationState Unit) → Type 0
+AllGoOn old new =
+    (units : List Unit) → AllZip (IsRun plan_of StandsFor MaySend) units old → AllZip (IsRun plan_of StandsFor MaySend) units new

@@ -1,7 +1,11 @@
 -- What a run is given.
-use Rattle.std.specs.Prelude.{ℕ, ◌-◌, nat_le, nat_lt, ◌==◌, ◌&&◌, Bool, List, [], ◌∷◌, length}
+use Rattle.std.specs.Prelude.{◌≡◌, ℕ, ◌-◌, nat_le, nat_lt, ◌==◌, ◌&&◌, Bool, List, [], ◌∷◌, length}
 use Rattle.std.specs.List.{list_all}
 use Rattle.host_memory.specs.Memory.{Memory, client_start, is_memory_size, overwritten, zeroed}
+use Rattle.host_memory.specs.declared.memory.MemoryError.{MemoryError}
+use Rattle.host_memory.specs.declared.memory.MemoryError.TheVariants as memory_error
+use Rattle.pm_threads.specs.declared.run.RunError.{RunError}
+use Rattle.pm_threads.specs.declared.run.RunError.TheVariants as run_error
 use Rattle.pm_threads.specs.declared.setup.Setup.{Setup}
 
 -- whether so many bytes from this address on lie in the client area of a memory
@@ -24,3 +28,8 @@ put_all m (p ∷ ps) = put_all (record { structure = m.structure; client = overw
 -- a memory of so many bytes, all 0 but for these
 abbrev pub memory_of : ℕ → List (ℕ × List ℕ) → Memory
 memory_of len puts = put_all (zeroed len) puts
+
+-- why there is no run, where there is no memory
+abbrev pub IsErrorOf : MemoryError → RunError → Type 0
+IsErrorOf memory_error.BadSize e = e ≡ run_error.BadSetup
+IsErrorOf memory_error.OutOfMemory e = e ≡ run_error.OutOfMemory

@@ -1,12 +1,12 @@
 //! All workers at once.
 
 ghost use Rattle.std.specs.Prelude.{◌≡◌, ◌≤◌, false, length, map, None, All, IfOk, IfNone, OnOk};
-ghost use Rattle.std.specs.List.{AllZip};
+ghost use Rattle.std.specs.List.{AllZip, list_any};
 ghost use Rattle.disk_model.specs.Units.{plan_of, StandsFor, MaySend};
 ghost use Rattle.disk_thread.specs.Runs.{IsRun};
-ghost use Rattle.host_thread.specs.Runs.{IsRun as IsHostRun};
-ghost use Rattle.pm_threads.specs.Ends.{AreOfOneRun};
-ghost use Rattle.pm_threads.specs.Seats.{Starts};
+ghost use Rattle.host_thread.specs.Runs.{GoesOn, IsRun as IsHostRun, is_open};
+ghost use Rattle.pm_threads.specs.Ends.{AllGoOn, AreOfOneRun};
+ghost use Rattle.pm_threads.specs.Seats.{TiedTo};
 ghost use Rattle.pm_threads.specs.Setups.{is_fitting, memory_of};
 
 use crate::finished::Finished;
@@ -14,7 +14,7 @@ use crate::links::Links;
 use crate::seats::seated;
 use crate::setup::{Setup, filled};
 use disk_model::Unit;
-use disk_thread::{DiskEnd, Gate};
+use disk_thread::{DiskEnd, DiskWorker, Gate};
 use host_memory::MemoryError;
 use host_thread::{HostEnd, HostWorker};
 use pm_thread::{PmEnd, PmWorker};
@@ -53,6 +53,19 @@ impl From<AllocError> for RunError {
     }
 }
 
+impl From<MemoryError> for RunError {
+    ghost use Rattle.pm_threads.specs.Setups.{IsErrorOf};
+
+    ghost from_gives = { IsErrorOf };
+
+    fn from(error: MemoryError) -> RunError {
+        match error {
+            MemoryError::BadSize => RunError::BadSetup,
+            MemoryError::OutOfMemory => RunError::OutOfMemory,
+        }
+    }
+}
+
 /// Whether one of the workers ended by this fault.
 fn any_fault(disks: &[DiskEnd<'_, Unit>], others: [Option<Fault>; 2], fault: Fault) -> bool {
     disks.iter().any(|end| end.fault == Some(fault)) || others.contains(&Some(fault))
@@ -75,6 +88,7 @@ fn finished<'a>(
     ensures disks { IfOk result (λ f. f.disks ≡ map (λ e. e.station) disks.entry.items) }
     ensures no_fault { OnOk result (All (λ e. e.fault ≡ None) disks.entry.items) }
     ensures host { IfOk result (λ f. f.host ≡ host.entry) }
+    ensures closed { OnOk result (list_any is_open host.entry.states ≡ false) }
 {
     let others = [pm.fault(), host.fault()];
     if any_fault(disks.as_slice(), others, Fault::OutOfMemory) {
@@ -87,6 +101,29 @@ fn finished<'a>(
         return Err(RunError::TurnsSpent);
     }
     Ok(Finished { disks, pm, host })
+}
+
+/// Runs the workers side by side, until all have ended. Whatever units' runs the stations were, they go on to be, and so does
+/// the host.
+fn run_seated<'a, 'g, G: Gate + Sync, R: Threads + Wait + Sync>(
+    rt: &R,
+    alloc: Global,
+    workers: Vec<DiskWorker<'a, 'g, Unit, G>>,
+    pm: PmWorker<'a>,
+    host: HostWorker<'a>,
+    turns: u64,
+) -> Result<Finished<'a>, RunError>
+    requires tied { AllZip TiedTo workers.items pm.ports }
+    requires up { pm.host.link ≡ host.frames.link }
+    requires down { host.commands.link ≡ pm.commands.link }
+    ensures disks { IfOk result (λ f. AllGoOn workers.entry.items f.disks) }
+    ensures host { IfOk result (λ f. GoesOn host.entry f.host) }
+    ensures plan { IfOk result (λ f. f.host.plan ≡ host.entry.plan) }
+    ensures closed { IfOk result (λ f. list_any is_open f.host.states ≡ false) }
+{
+    let stop = AtomicBool::new(false);
+    let (disks, pm, host) = run_three(rt, alloc, workers, pm, host, &stop, turns)?;
+    finished(disks, pm, host)
 }
 
 /// Runs each device, the multiplier and the host in threads of their own, until all requests have ended or all turns are
@@ -104,6 +141,7 @@ pub fn run_threads<'a, G: Gate + Sync, R: Threads + Wait + Sync>(
     ensures host { IfOk result (λ f. IsHostRun
         (memory_of setup.memory (map (λ put. (put.0, put.1.items)) setup.puts.items)) f.host) }
     ensures plan { IfOk result (λ f. f.host.plan ≡ setup.plan.items) }
+    ensures closed { IfOk result (λ f. list_any is_open f.host.states ≡ false) }
 {
     if !setup.fits(links.ports()) {
         return Err(RunError::BadSetup);
@@ -126,14 +164,8 @@ pub fn run_threads<'a, G: Gate + Sync, R: Threads + Wait + Sync>(
     let Some((workers, ports)) = seated(alloc, devices.as_mut_slice(), units, gate, &pulls)? else {
         return Err(RunError::BadSetup);
     };
-    let memory = match filled(alloc, memory, &puts) {
-        Ok(memory) => memory,
-        Err(MemoryError::BadSize) => return Err(RunError::BadSetup),
-        Err(MemoryError::OutOfMemory) => return Err(RunError::OutOfMemory),
-    };
+    let memory = filled(alloc, memory, &puts)?;
     let pm = PmWorker::new(alloc, ports, sent, told);
     let host = HostWorker::new(alloc, taken, said, memory, plan)?;
-    let stop = AtomicBool::new(false);
-    let (disks, pm, host) = run_three(rt, alloc, workers, pm, host, &stop, turns)?;
-    finished(disks, pm, host)
+    run_seated(rt, alloc, workers, pm, host, turns)
 }
