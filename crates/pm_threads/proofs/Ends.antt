@@ -7,6 +7,7 @@ use Rattle.std.proofs.lemmas.List.Elements.{filter-append}
 use Rattle.fis_view.specs.Frames.{Stamped}
 use Rattle.disk_model.specs.Histories.{Happening, Plan}
 use Rattle.disk_model.specs.declared.unit.Unit.{Unit}
+use Rattle.ruled_links.specs.Links.{IsLink}
 use Rattle.ruled_links.specs.Lists.{IsPrefixOf}
 use Rattle.multiplier.specs.Orders.{of_connection}
 use Rattle.multiplier.specs.State.{rising}
@@ -31,6 +32,10 @@ risen_prefix n c xs ys h = (
   sym (map-append (rising n) (of_connection c xs) (of_connection c h.0)) ∙ ap (map (rising n)) (sym (filter-append _ xs h.0))
       ∙ ap (risen n c) h.1,
 )
+
+-- what was taken off a link is a beginning of what was sent over it
+pub link_prefix : {T : Type 0} (room : ℕ) (sent taken content : List T) → IsLink room sent taken content → IsPrefixOf taken sent
+link_prefix room sent taken content h = (content, h.whole)
 
 -- ---- before the run, and after it
 
@@ -94,10 +99,10 @@ handed_at (s ∷ ss) [] h n = absurd h
 handed_at (s ∷ ss) (p ∷ ps) h zero = h.0.frames
 handed_at (s ∷ ss) (p ∷ ps) h (suc n) = handed_at ss ps h.1 n
 
-pub all_arrive : (ss : List (StationState Unit)) (ps : List PortSeats) (sent taken content : List Stamped) → AllZip Handed ss ps
-    → ((n c : ℕ) → n < 15 → IsPrefixOf (of_conn n c sent) (risen n c (frames_at ps n))) → taken ++ content ≡ sent → EachArrives ss taken
-all_arrive ss ps sent taken content handed begun whole n c low =
+pub all_arrive : (ss : List (StationState Unit)) (ps : List PortSeats) (sent taken : List Stamped) → AllZip Handed ss ps
+    → ((n c : ℕ) → n < 15 → IsPrefixOf (of_conn n c sent) (risen n c (frames_at ps n))) → IsPrefixOf taken sent → EachArrives ss taken
+all_arrive ss ps sent taken handed begun met n c low =
     prefix_then (of_conn n c taken) (of_conn n c sent) (risen n c (sent_at ss n))
-    (of_conn_prefix n c taken sent (content, whole))
+    (of_conn_prefix n c taken sent met)
     (prefix_then (of_conn n c sent) (risen n c (frames_at ps n)) (risen n c (sent_at ss n)) (begun n c low)
     (risen_prefix n c (frames_at ps n) (sent_at ss n) (handed_at ss ps handed n)))

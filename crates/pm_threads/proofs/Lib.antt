@@ -1,3 +1,4 @@
 pub mod Ends
+pub mod Puts
 pub mod Replicas
 pub mod Zips

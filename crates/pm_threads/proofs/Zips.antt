@@ -1,6 +1,8 @@
 -- Two lists, place by place.
-use Rattle.std.proofs.Common.{◌≡◌, ℕ, suc, List, [], ◌∷◌, ◌++◌, length, refl, ap}
+use Rattle.std.proofs.Common.{◌≡◌, suc, List, [], ◌∷◌, ◌++◌, length, refl, ap, sym, subst}
+use Rattle.std.specs.Prelude.{map}
 use Rattle.std.specs.List.{AllZip}
+use Rattle.std.proofs.lemmas.List.{map-append}
 
 module _ {A B : Type 0} (R : A → B → Type 0) where
   -- one pair more, at the end
@@ -43,3 +45,11 @@ module _ {A B : Type 0} (R S : A → B → Type 0) where
   none_right [] [] e h = tt
   none_right (x ∷ xs) [] e h = absurd h
   none_right xs (y ∷ ys) e h = absurd cc
+
+-- pairs with a part of each element
+module _ {A B E : Type 0} (f : E → A) (R : A → B → Type 0) where
+  pub map_push : (es : List E) (ys : List B) (e : E) (y : B) → AllZip R (map f es) ys → R (f e) y → AllZip R (map f (es ++ e ∷ [])) (ys ++ y ∷ [])
+  map_push es ys e y h r = subst (λ l. AllZip R l (ys ++ y ∷ [])) (sym (map-append f es (e ∷ []))) (zip_push R (map f es) ys (f e) y h r)
+
+  pub map_pop : (es : List E) (ys : List B) (e : E) (y : B) → AllZip R (map f (es ++ e ∷ [])) (ys ++ y ∷ []) → AllZip R (map f es) ys × R (f e) y
+  map_pop es ys e y h = zip_pop R (map f es) ys (f e) y (subst (λ l. AllZip R l (ys ++ y ∷ [])) (map-append f es (e ∷ [])) h)

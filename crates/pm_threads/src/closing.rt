@@ -28,6 +28,7 @@ pub struct Summary {
 /// Brings the seats of all links together. What the host took of each connection is a beginning of what its device sent on
 /// it, and is in stamped order; on every link what was taken is a beginning of what was sent; and what the multiplier took of
 /// a connection whose removal it has not recorded is what it put up and what it holds.
+#[tactic(auto, using(crate::proofs::Ends::link_prefix))]
 pub fn close<'a, R: Wait>(rt: &R, finished: Finished<'a>) -> Summary
     ensures arrives { EachArrives finished.entry.disks finished.entry.host.frames.taken }
     ensures order { InStampedOrder finished.entry.host.frames.taken }
