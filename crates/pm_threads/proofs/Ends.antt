@@ -1,6 +1,6 @@
 -- What is known of the ends of a run.
 use Rattle.std.proofs.Common.{◌≡◌, ℕ, zero, suc, ◌<◌, ◌≤◌, List, [], ◌∷◌, ◌++◌, length, append_assoc, append-nil, refl, sym, ap, ◌∙◌, subst, None, Option, drop, arith}
-use Rattle.std.specs.Prelude.{map, All, filter}
+use Rattle.std.specs.Prelude.{map, All, IfOk, OnOk, Result, Ok, Err}
 use Rattle.std.specs.List.{AllZip}
 use Rattle.std.proofs.lemmas.List.{map-append}
 use Rattle.std.proofs.lemmas.List.Elements.{filter-append}
@@ -89,6 +89,11 @@ module _ {D E : Type 0} (station : E → StationState D) (R : StationState D →
     all_ran (x ∷ us) (w ∷ ws) [] u r f = absurd r
     all_ran (x ∷ us) (w ∷ ws) (y ∷ es) u r f =
         (goes_on x w y r.0 (f 0 y (omega arith)) u.0, all_ran us ws es u.1 r.1 (λ k d less. f (suc k) d (omega (arith, less))))
+
+-- what follows of two clauses on a success
+pub on_ok : {T E : Type 0} (r : Result T E) (P : Type 0) (Q S : T → Type 0) → IfOk r Q → OnOk r P → ((x : T) → Q x → P → S x) → IfOk r S
+on_ok (Ok x) P Q S q p f = f x q p
+on_ok (Err e) P Q S q p f = tt
 
 -- ---- all seats together
 

@@ -12,11 +12,17 @@ use Rattle.pm_threads.specs.declared.setup.Setup.{Setup}
 abbrev pub lies_in : ℕ → ℕ → ℕ → Bool
 lies_in memory at count = nat_le client_start at && nat_le at memory && nat_le count (memory - at)
 
--- Whether a run of so many ports can have this: 1 to 15 ports, a unit for each, 1 to 16,777,216 turns, a memory of a size that there
--- is, puts that lie in its client area, and requests and pulls of ports that are there.
+-- whether there may be so many ports, units, turns and bytes of memory: 1 to 15 ports, a unit for each, 1 to 16,777,216
+-- turns, a memory of a size that there is
+abbrev pub are_numbers : ℕ → ℕ → ℕ → ℕ → Bool
+are_numbers ports units turns memory =
+    nat_le 1 ports && nat_le ports 15 && (units == ports) && nat_le 1 turns && nat_le turns 16777216 && is_memory_size memory
+
+-- Whether a run of so many ports can have this: its numbers fit, its puts lie in the client area, and its requests and pulls
+-- are of ports that are there.
 abbrev pub is_fitting : ℕ → Setup → Bool
 is_fitting ports s =
-    nat_le 1 ports && nat_le ports 15 && (length s.units.items == ports) && nat_le 1 s.turns && nat_le s.turns 16777216 && is_memory_size s.memory
+    are_numbers ports (length s.units.items) s.turns s.memory
     && list_all (λ put. lies_in s.memory put.0 (length put.1.items)) s.puts.items
     && list_all (λ planned. nat_lt planned.dev ports) s.plan.items && list_all (λ pull. nat_lt pull.0 ports) s.pulls.items
 
