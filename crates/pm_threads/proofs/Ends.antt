@@ -95,6 +95,10 @@ pub on_ok : {T E : Type 0} (r : Result T E) (P : Type 0) (Q S : T → Type 0) �
 on_ok (Ok x) P Q S q p f = f x q p
 on_ok (Err e) P Q S q p f = tt
 
+pub if_ok : {T E : Type 0} (r : Result T E) (Q S : T → Type 0) → IfOk r Q → ((x : T) → Q x → S x) → IfOk r S
+if_ok (Ok x) Q S q f = f x q
+if_ok (Err e) Q S q f = tt
+
 -- ---- all seats together
 
 handed_at : (ss : List (StationState Unit)) (ps : List PortSeats) → AllZip Handed ss ps → (n : ℕ) → IsPrefixOf (frames_at ps n) (sent_at ss n)
