@@ -4,7 +4,7 @@ use Rattle.std.specs.Prelude.{◌&&◌, ◌==◌, nat_le}
 use Rattle.std.proofs.lemmas.Bool.{and_parts}
 use Rattle.std.proofs.lemmas.Bool.Decides.{nat_tests}
 
-pub first_three : (a b u t m x p q r : Bool) → (((((((((a && b) && u) && t) && m) && x) && p) && q) && r) ≡ true → (a ≡ true) × (b ≡ true) × (u ≡ true)
+pub first_three : (a b u t m x p q r : Bool) → ((((((((a && b) && u) && t) && m) && x) && p) && q) && r) ≡ true → (a ≡ true) × (b ≡ true) × (u ≡ true)
 first_three a b u t m x p q r h =
     let s1 = and_parts (((((((a && b) && u) && t) && m) && x) && p) && q) r h in
     let s2 = and_parts ((((((a && b) && u) && t) && m) && x) && p) q s1.0 in
