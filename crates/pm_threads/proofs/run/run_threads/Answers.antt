@@ -1,4 +1,4 @@
-use Rattle.std.proofs.Common.{rules, ◌≡◌, ◌≤◌, ℕ, true, List, length, Vec, Global, subst, arith}
+use Rattle.std.proofs.Common.{rules, ◌≡◌, ◌≤◌, ℕ, true, List, length, Vec, Global, subst, ap, ◌∙◌, arith}
 use Rattle.std.specs.Prelude.{map}
 use Rattle.std.specs.List.{AllZip}
 use Rattle.disk_model.specs.Units.{plan_of, StandsFor, MaySend}
@@ -40,7 +40,7 @@ new-pm-requires-clause-unused g c =
     all_unused _ _ starts
 
 pub run_seated-requires-clause-tied : goal.run_seated-requires-clause-tied
-run_seated-requires-clause-tied g c =
+run_seated-requires-clause-tied g c κs within =
     let starts : AllZip Starts c.in-Some-2.workers.items c.in-Some-2.ports.items = search rules in
     rw c.new-pm.ensures.ports (starts_tied _ _ starts)
 
@@ -54,7 +54,10 @@ returns-clause-disks g c =
 pub returns-clause-host : goal.returns-clause-host
 returns-clause-host g c =
     let start = memory_of c.args.setup.memory (map (λ (put : ℕ × Vec ℕ Global). (put.0, put.1.items)) c.args.setup.puts.items) in
-    let is : c.in_ok-memory.memory ≡ memory_of c.args.setup.memory (map (λ (put : ℕ × Vec ℕ Global). (put.0, put.1.items)) c.args.setup.puts.items) = search rules in
+    let given : c.deref-2.result.now ≡ c.args.setup.puts.items = search rules in
+    let is : c.in_ok-memory.memory ≡ start =
+    c.in_ok-memory.ensures
+    ∙ ap (λ (l : List (ℕ × Vec ℕ Global)). memory_of c.args.setup.memory (map (λ (put : ℕ × Vec ℕ Global). (put.0, put.1.items)) l)) given in
     let ran : IsHostRun c.in_ok-memory.memory c.in_ok-host.host = search rules in
     if_ok c.run_seated.result (λ (f : Ends). GoesOn c.in_ok-host.host f.host) (λ (f : Ends). IsHostRun start f.host) c.run_seated.ensures.host
     (λ f goes. goes start (subst (λ m. IsHostRun m c.in_ok-host.host) is ran))
