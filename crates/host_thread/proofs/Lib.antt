@@ -1,2 +1,3 @@
 pub mod Polling
 pub mod Steps
+pub mod Tallies

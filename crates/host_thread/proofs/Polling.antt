@@ -24,7 +24,8 @@ told_at : (n : ℕ) (o : Option Entry) → holds has_ended o ≡ true → comple
 told_at n None is none = absurd (cc)
 told_at n (Some entry) is none = told n entry.head entry.head.phase is none
 
-by_lowest : (d : Driver) (o : Option ℕ) → lowest_ended d.entries ≡ o → match_some o None (λ slot. completion_at slot (entry_at d.entries slot)) ≡ None
+by_lowest : (d : Driver) (o : Option ℕ) → lowest_ended d.entries ≡ o
+    → match_some o None (λ slot. completion_at slot (entry_at d.entries slot)) ≡ None
     → match_some o d (λ slot. let left : Driver = record d { entries = slice_set d.entries slot None } in left) ≡ d
 by_lowest d None low none = refl
 by_lowest d (Some n) low none = absurd (told_at n (entry_at d.entries n) (ended d.entries n low) none)

@@ -1,5 +1,5 @@
 -- What one step leaves of a run of the host's worker.
-use Rattle.std.proofs.Common.{◌≡◌, ◌≢◌, ◌<◌, ℕ, zero, suc, List, [], ◌∷◌, ◌++◌, length, map, replicate, Option, Some, None, refl, sym, ap, ◌∙◌, subst, inl, inr, append_assoc, append-nil, arith}
+use Rattle.std.proofs.Common.{◌≡◌, ◌<◌, ℕ, zero, suc, List, [], ◌∷◌, ◌++◌, length, map, replicate, Some, None, refl, sym, ap, ◌∙◌, subst, inl, inr, append_assoc, append-nil, arith}
 use Rattle.std.specs.Prelude.{slice_index_or, slice_set}
 use Rattle.std.specs.List.{Contains, flat_map}
 use Rattle.std.specs.Option.{option_to_list}
@@ -19,7 +19,7 @@ use Rattle.host_thread.specs.declared.plan.Ended.TheVariants as ended
 use Rattle.host_thread.specs.declared.plan.Planned.{Planned}
 use Rattle.host_thread.specs.declared.plan.State.{State}
 use Rattle.host_thread.specs.declared.plan.State.TheVariants as state
-use Rattle.host_thread.specs.Runs.{HostView, IsRun, GoesOn, Same, AreTrue, IsTrue, WasPolled, WasRefused, starting, took_by, pushed_by}
+use Rattle.host_thread.specs.Runs.{HostView, IsRun, GoesOn, Same, AreTrue, IsTrue, WasRefused, starting, took_by, pushed_by}
 
 -- ---- turns, and then turns
 
@@ -50,7 +50,8 @@ true_more start turns more p (state.Ended (ended.Refused refusal)) h = record {
   refused = h.refused;
 }
 
-pub all_true_more : (start : Memory) (turns more : List HostTurn) (plan : List Planned) (states : List State) → AreTrue start turns plan states → AreTrue start (turns ++ more) plan states
+pub all_true_more : (start : Memory) (turns more : List HostTurn) (plan : List Planned) (states : List State) → AreTrue start turns plan states
+    → AreTrue start (turns ++ more) plan states
 all_true_more start turns more plan states h =
     record { each = λ i p s lt. true_more start turns more (slice_index_or plan i p) (slice_index_or states i s) (h.each i p s lt) }
 
@@ -61,7 +62,8 @@ any_default (x ∷ xs) (suc i) d e lt = any_default xs i d e (omega (arith, lt))
 
 -- another state of the request at place i
 all_true_set : (start : Memory) (turns : List HostTurn) (plan : List Planned) (states : List State) (i : ℕ) (s : State)
-    → AreTrue start turns plan states → ((p : Planned) → IsTrue start turns (slice_index_or plan i p) s) → AreTrue start turns plan (slice_set states i s)
+    → AreTrue start turns plan states → ((p : Planned) → IsTrue start turns (slice_index_or plan i p) s)
+    → AreTrue start turns plan (slice_set states i s)
 all_true_set start turns plan states i s h is = record {
   each = λ j p d lt.
       let long : length (slice_set states i s) ≡ length states = length-set states i s in
@@ -71,7 +73,8 @@ all_true_set start turns plan states i s h is = record {
             subst (λ (k : ℕ). IsTrue start turns (slice_index_or plan k p) (slice_index_or (slice_set states i s) k d)) (sym here)
             (subst (λ (t : State). IsTrue start turns (slice_index_or plan i p) t) (sym (get_or-set_same states i s d less)) (is p))
         | inr away ↦
-            subst (λ (t : State). IsTrue start turns (slice_index_or plan j p) t) (sym (get_or-set_other states i j s d away)) (h.each j p d (omega (arith, lt, long)))
+            subst (λ (t : State). IsTrue start turns (slice_index_or plan j p) t) (sym (get_or-set_other states i j s d away))
+            (h.each j p d (omega (arith, lt, long)))
       ];
 }
 
@@ -82,7 +85,8 @@ pub goes_more : (old new : HostView) (more : List HostTurn) → DoesAll old.host
     → map (λ f. f.bytes) new.frames.taken ≡ map (λ f. f.bytes) old.frames.taken ++ flat_map took_by more
     → new.commands.sent ++ option_to_list new.hand ≡ (old.commands.sent ++ option_to_list old.hand) ++ flat_map pushed_by more
     → new.plan ≡ old.plan
-    → ((start : Memory) (turns : List HostTurn) → DoesAll (starting start) turns old.host → AreTrue start turns old.plan old.states → AreTrue start (turns ++ more) old.plan new.states)
+    → ((start : Memory) (turns : List HostTurn) → DoesAll (starting start) turns old.host → AreTrue start turns old.plan old.states
+    → AreTrue start (turns ++ more) old.plan new.states)
     → GoesOn old new
 goes_more old new more does taken pushed plan requests start r = record {
   turns = r.turns ++ more;
@@ -99,7 +103,8 @@ module _ (old : HostView) where
   sent_same : old.commands.sent ++ option_to_list old.hand ≡ (old.commands.sent ++ option_to_list old.hand) ++ []
   sent_same = sym (append-nil (old.commands.sent ++ option_to_list old.hand))
 
-  keeps : (more : List HostTurn) (start : Memory) (turns : List HostTurn) → DoesAll (starting start) turns old.host → AreTrue start turns old.plan old.states → AreTrue start (turns ++ more) old.plan old.states
+  keeps : (more : List HostTurn) (start : Memory) (turns : List HostTurn) → DoesAll (starting start) turns old.host
+      → AreTrue start turns old.plan old.states → AreTrue start (turns ++ more) old.plan old.states
   keeps more start turns does h = all_true_more start turns more old.plan old.states h
 
   -- the worker with another host
@@ -109,16 +114,19 @@ module _ (old : HostView) where
   abbrev pub with_states : Host → List State → HostView
   with_states host states = record { host = host; frames = old.frames; commands = old.commands; hand = old.hand; plan = old.plan; states = states }
 
-  pub takes : (new : HostView) (frame : Stamped) (report : TakeReport) → Tooks old.host frame.bytes report new.host → new.frames.taken ≡ old.frames.taken ++ frame ∷ []
+  pub takes : (new : HostView) (frame : Stamped) (report : TakeReport) → Tooks old.host frame.bytes report new.host
+      → new.frames.taken ≡ old.frames.taken ++ frame ∷ []
       → new.commands ≡ old.commands → new.hand ≡ old.hand → new.plan ≡ old.plan → new.states ≡ old.states → GoesOn old new
   takes new frame report does taken commands hand plan states =
       goes_more old new (Took frame.bytes report ∷ []) (new.host, does, refl)
       (ap (map (λ f. f.bytes)) taken ∙ map-append (λ (f : Stamped). f.bytes) old.frames.taken (frame ∷ []))
       (ap (λ s. s.sent ++ option_to_list new.hand) commands ∙ ap (λ h. old.commands.sent ++ option_to_list h) hand ∙ sent_same) plan
-      (λ start turns all h. subst (λ (s : List State). AreTrue start (turns ++ Took frame.bytes report ∷ []) old.plan s) (sym states) (keeps (Took frame.bytes report ∷ []) start turns all h))
+      (λ start turns all h. subst (λ (s : List State). AreTrue start (turns ++ Took frame.bytes report ∷ []) old.plan s) (sym states)
+      (keeps (Took frame.bytes report ∷ []) start turns all h))
 
   pub ticks : (acted : _) (host : Host) → Ticks old.host acted host → GoesOn old (with_host host)
-  ticks acted host does = goes_more old (with_host host) (Ticked acted ∷ []) (host, does, refl) bytes_same sent_same refl (keeps (Ticked acted ∷ []))
+  ticks acted host does = goes_more old (with_host host) (Ticked acted ∷ []) (host, does, refl) bytes_same sent_same refl
+      (keeps (Ticked acted ∷ []))
 
   pub asks_none : (host : Host) → Pushes old.host None host → GoesOn old (with_host host)
   asks_none host does = goes_more old (with_host host) (Pushed None ∷ []) (host, does, refl) bytes_same sent_same refl (keeps (Pushed None ∷ []))
@@ -129,18 +137,22 @@ module _ (old : HostView) where
       goes_more old new (Pushed (Some frame) ∷ []) (new.host, does, refl)
       (ap (λ s. map (λ f. f.bytes) s.taken) frames ∙ bytes_same)
       (ap (λ s. s.sent ++ option_to_list new.hand) commands ∙ ap (λ h. old.commands.sent ++ option_to_list h) hand
-        ∙ ap (λ l. l ++ frame ∷ []) (sym (append-nil old.commands.sent)) ∙ ap (λ h. (old.commands.sent ++ option_to_list h) ++ frame ∷ []) (sym empty)) plan
-      (λ start turns all h. subst (λ (s : List State). AreTrue start (turns ++ Pushed (Some frame) ∷ []) old.plan s) (sym states) (keeps (Pushed (Some frame) ∷ []) start turns all h))
+      ∙ ap (λ l. l ++ frame ∷ []) (sym (append-nil old.commands.sent))
+      ∙ ap (λ h. (old.commands.sent ++ option_to_list h) ++ frame ∷ []) (sym empty)) plan
+      (λ start turns all h. subst (λ (s : List State). AreTrue start (turns ++ Pushed (Some frame) ∷ []) old.plan s) (sym states)
+      (keeps (Pushed (Some frame) ∷ []) start turns all h))
 
   -- nothing is done, but a FIS moves from the hand onto its link
-  pub still : (new : HostView) → new.host ≡ old.host → new.frames ≡ old.frames → new.commands.sent ++ option_to_list new.hand ≡ old.commands.sent ++ option_to_list old.hand
+  pub still : (new : HostView) → new.host ≡ old.host → new.frames ≡ old.frames
+      → new.commands.sent ++ option_to_list new.hand ≡ old.commands.sent ++ option_to_list old.hand
       → new.plan ≡ old.plan → new.states ≡ old.states → GoesOn old new
   still new host frames sent plan states start r = record {
     turns = r.turns;
     does = subst (λ (h : Host). DoesAll (starting start) r.turns h) (sym host) r.does;
     taken = ap (λ s. map (λ f. f.bytes) s.taken) frames ∙ r.taken;
     pushed = sent ∙ r.pushed;
-    requests = subst (λ (p : List Planned). AreTrue start r.turns p new.states) (sym plan) (subst (λ (s : List State). AreTrue start r.turns old.plan s) (sym states) r.requests);
+    requests = subst (λ (p : List Planned). AreTrue start r.turns p new.states) (sym plan)
+        (subst (λ (s : List State). AreTrue start r.turns old.plan s) (sym states) r.requests);
   }
 
   -- a request is taken, at place i
@@ -151,8 +163,10 @@ module _ (old : HostView) where
       let p : Planned = slice_index_or old.plan i q in
       let turn : HostTurn = Submitted p.dev p.request ticket.0 in
       goes_more old (with_states host (slice_set old.states i (state.Submitted ticket))) (turn ∷ []) (host, does, refl) bytes_same sent_same refl
-      (λ start turns all h. all_true_set start (turns ++ turn ∷ []) old.plan old.states i (state.Submitted ticket) (keeps (turn ∷ []) start turns all h)
-        (λ d. subst (λ (o : Planned). IsTrue start (turns ++ turn ∷ []) o (state.Submitted ticket)) (any_default old.plan i q d there) (one_is_there turns turn)))
+      (λ start turns all h. all_true_set start (turns ++ turn ∷ []) old.plan old.states i (state.Submitted ticket)
+      (keeps (turn ∷ []) start turns all h)
+      (λ d. subst (λ (o : Planned). IsTrue start (turns ++ turn ∷ []) o (state.Submitted ticket)) (any_default old.plan i q d there)
+      (one_is_there turns turn)))
 
   -- or refused
   pub refuses : (host : Host) (i : ℕ) (q : Planned) (refusal : SubmitError) → i < length old.plan → host ≡ old.host
@@ -160,39 +174,45 @@ module _ (old : HostView) where
       → GoesOn old (with_states host (slice_set old.states i (state.Ended (ended.Refused refusal))))
   refuses host i q refusal there same refused =
       goes_more old (with_states host (slice_set old.states i (state.Ended (ended.Refused refusal)))) [] same bytes_same sent_same refl
-      (λ start turns all h. all_true_set start (turns ++ []) old.plan old.states i (state.Ended (ended.Refused refusal)) (keeps [] start turns all h)
-        (λ d. subst (λ (o : Planned). WasRefused start (turns ++ []) o refusal) (any_default old.plan i q d there)
-          (record { before = turns; rest = []; are = refl; host = old.host; does = all; refused = refused })))
+      (λ start turns all h. all_true_set start (turns ++ []) old.plan old.states i (state.Ended (ended.Refused refusal))
+      (keeps [] start turns all h)
+      (λ d. subst (λ (o : Planned). WasRefused start (turns ++ []) o refusal) (any_default old.plan i q d there)
+      (record { before = turns; rest = []; are = refl; host = old.host; does = all; refused = refused })))
 
   -- a request is polled that is none of the plan
   pub polls_other : (host : Host) (completion : Completion) → Polls old.host completion host → GoesOn old (with_host host)
-  polls_other host completion does = goes_more old (with_host host) (Polled completion ∷ []) (host, does, refl) bytes_same sent_same refl (keeps (Polled completion ∷ []))
+  polls_other host completion does = goes_more old (with_host host) (Polled completion ∷ []) (host, does, refl) bytes_same sent_same refl
+      (keeps (Polled completion ∷ []))
 
   -- one that was taken, at place i
   pub polls : (host : Host) (completion : Completion) (i : ℕ) → i < length old.states → Polls old.host completion host
       → slice_index_or old.states i state.Waits ≡ state.Submitted completion.ticket
       → GoesOn old (with_states host (slice_set old.states i (state.Ended (ended.Polled completion.outcome))))
   polls host completion i there does is =
-      goes_more old (with_states host (slice_set old.states i (state.Ended (ended.Polled completion.outcome)))) (Polled completion ∷ []) (host, does, refl) bytes_same sent_same refl
+      goes_more old (with_states host (slice_set old.states i (state.Ended (ended.Polled completion.outcome)))) (Polled completion ∷ [])
+      (host, does, refl) bytes_same sent_same refl
       (λ start turns all h.
-        let more : List HostTurn = turns ++ Polled completion ∷ [] in
-        let kept : AreTrue start more old.plan old.states = keeps (Polled completion ∷ []) start turns all h in
-        all_true_set start more old.plan old.states i (state.Ended (ended.Polled completion.outcome)) kept (λ d.
-        let p : Planned = slice_index_or old.plan i d in
-        let was : Contains more (Submitted p.dev p.request completion.ticket.0) = subst (λ (t : State). IsTrue start more p t) is (kept.each i d state.Waits there) in
-        record { completion = completion; taken = was; polled = one_is_there turns (Polled completion); ended_so = refl }))
+      let more : List HostTurn = turns ++ Polled completion ∷ [] in
+      let kept : AreTrue start more old.plan old.states = keeps (Polled completion ∷ []) start turns all h in
+      all_true_set start more old.plan old.states i (state.Ended (ended.Polled completion.outcome)) kept (λ d.
+      let p : Planned = slice_index_or old.plan i d in
+      let was : Contains more (Submitted p.dev p.request completion.ticket.0) =
+      subst (λ (t : State). IsTrue start more p t) is (kept.each i d state.Waits there) in
+      record { completion = completion; taken = was; polled = one_is_there turns (Polled completion); ended_so = refl }))
 
 -- ---- a new worker
 
 each_waits : (start : Memory) (plan : List Planned) (count : ℕ) → AreTrue start [] plan (replicate count state.Waits)
 each_waits start plan count = record { each = λ i p s lt. waits (slice_index_or plan i p) count i s lt }
   where
-    waits : (q : Planned) (count i : ℕ) (s : State) → i < length (replicate count state.Waits) → IsTrue start [] q (slice_index_or (replicate count state.Waits) i s)
+    waits : (q : Planned) (count i : ℕ) (s : State) → i < length (replicate count state.Waits)
+        → IsTrue start [] q (slice_index_or (replicate count state.Waits) i s)
     waits q zero i s lt = absurd (omega (arith, lt))
     waits q (suc count) zero s lt = tt
     waits q (suc count) (suc i) s lt = waits q count i s (omega (arith, lt))
 
-pub begins : (start : Memory) (w : HostView) (count : ℕ) → w.host ≡ starting start → w.frames.taken ≡ [] → w.commands.sent ≡ [] → w.hand ≡ None → w.states ≡ replicate count state.Waits → IsRun start w
+pub begins : (start : Memory) (w : HostView) (count : ℕ) → w.host ≡ starting start → w.frames.taken ≡ [] → w.commands.sent ≡ [] → w.hand ≡ None
+    → w.states ≡ replicate count state.Waits → IsRun start w
 begins start w count host taken sent hand states = record {
   turns = [];
   does = host;

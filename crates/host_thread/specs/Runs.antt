@@ -1,5 +1,6 @@
--- What the host's thread does: there is one list of turns of the host, of which the lists of its seats are the projections,
--- and port, driver and memory the outcome; and what it says of each request of its plan is in these turns.
+-- What the host's thread does: there is one list of turns of the host, of which the lists of its
+-- seats are the projections, and port, driver and memory the outcome; and what it says of each
+-- request of its plan is in these turns.
 use Rattle.std.specs.Prelude.{◌≡◌, ℕ, ◌<◌, Bool, true, false, List, ◌++◌, [], ◌∷◌, length, map, slice_index_or, Option, Some}
 use Rattle.std.specs.List.{Contains, flat_map}
 use Rattle.std.specs.Option.{option_to_list}
@@ -35,7 +36,8 @@ pub record HostView : Type 0 where
   -- what became of each request of the plan, at its place
   pub states : List State
 
--- What is true of the worker at each moment: what it took is in stamped order, and it knows of each request of its plan.
+-- What is true of the worker at each moment: what it took is in stamped order, and it knows of each
+-- request of its plan.
 pub record IsSound (w : HostView) : Type 0 where
   pub order : InStampedOrder w.frames.taken
   pub all : length w.states ≡ length w.plan
@@ -86,7 +88,8 @@ pub record WasPolled (turns : List HostTurn) (p : Planned) (outcome : Outcome) :
   pub ended_so : completion.outcome ≡ outcome
 
 -- there was a moment at which the driver refused it so
-pub record WasRefused (start : Memory) (turns : List HostTurn) (p : Planned) (refusal : SubmitError) : Type 0 where
+pub record WasRefused (start : Memory) (turns : List HostTurn) (p : Planned) (refusal : SubmitError)
+    : Type 0 where
   pub before : List HostTurn
   pub rest : List HostTurn
   pub are : before ++ rest ≡ turns
@@ -104,15 +107,16 @@ IsTrue start turns p state.Waits = Unit {0}
 IsTrue start turns p (state.Submitted ticket) = Contains turns (Submitted p.dev p.request ticket.0)
 IsTrue start turns p (state.Ended end) = IsEnd start turns p end
 
-pub record AreTrue (start : Memory) (turns : List HostTurn) (plan : List Planned) (states : List State) : Type 0 where
+pub record AreTrue (start : Memory) (turns : List HostTurn) (plan : List Planned)
+    (states : List State) : Type 0 where
   pub each : (i : ℕ) (p : Planned) (s : State) → i < length states
       → IsTrue start turns (slice_index_or plan i p) (slice_index_or states i s)
 
 -- ---- the run
 
--- There is one list of turns, from a new host beside this memory to this one. The FISes that they take are those that were
--- taken, in their order; those that they give are those that were sent, and then the one in the hand; and what is said
--- of the requests of the plan is so.
+-- There is one list of turns, from a new host beside this memory to this one. The FISes that they
+-- take are those that were taken, in their order; those that they give are those that were sent,
+-- and then the one in the hand; and what is said of the requests of the plan is so.
 pub record IsRun (start : Memory) (w : HostView) : Type 0 where
   pub turns : List HostTurn
   pub does : DoesAll (starting start) turns w.host

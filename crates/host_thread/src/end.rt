@@ -1,9 +1,9 @@
 //! What is left of the host's worker.
 
-ghost use Rattle.std.specs.Prelude.{◌≡◌};
+ghost use Rattle.std.specs.Prelude.{◌≡◌, ◌<◌, length};
 ghost use Rattle.std.specs.List.{list_any};
 ghost use Rattle.host_thread.specs.Runs.{is_open};
-ghost use Rattle.multiplier.specs.Orders.{InStampedOrder};
+ghost use Rattle.multiplier.specs.Orders.{InStampedOrder, of_port};
 
 use crate::plan::{Planned, State};
 use crate::worker::HostWorker;
@@ -41,8 +41,24 @@ impl<'a> HostEnd<'a> {
         self.worker.is_open()
     }
 
-    /// The seats and the memory, and the plan with what became of each of its requests. What was taken is in stamped order.
-    pub fn into_parts(self) -> (Rx<'a, ToHost>, Tx<'a, Down>, HostMemory, Vec<Planned>, Vec<State>)
+    /// How many FISes of this connection of a device port were taken.
+    pub fn taken_on(&self, port: u8, conn: u32) -> u64
+        ensures { port < 15 → result ≡ length (of_port port conn self.now.frames.taken) }
+    {
+        self.worker.taken_on(port, conn)
+    }
+
+    /// The seats and the memory, and the plan with what became of each of its requests. What was
+    /// taken is in stamped order.
+    pub fn into_parts(
+        self,
+    ) -> (
+        Rx<'a, ToHost>,
+        Tx<'a, Down>,
+        HostMemory,
+        Vec<Planned>,
+        Vec<State>,
+    )
         ensures frames { result.0 ≡ self.entry.frames }
         ensures commands { result.1 ≡ self.entry.commands }
         ensures memory { result.2 ≡ self.entry.host.memory }
@@ -59,6 +75,7 @@ impl<'a> HostEnd<'a> {
             plan,
             states,
             next: _,
+            rows: _,
             alloc: _,
         } = worker;
         (frames, commands, host.into_memory(), plan, states)

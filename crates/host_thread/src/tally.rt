@@ -1,8 +1,8 @@
 //! How many FISes of each connection of each port were taken.
 
-ghost use Rattle.std.specs.Prelude.{◌≡◌, ◌<◌, ◌≤◌, ◌^◌, OnOk};
+ghost use Rattle.std.specs.Prelude.{◌≡◌, ◌<◌, ◌≤◌, ◌^◌, IfSome, length, slice_index_or, OnOk};
 ghost use Rattle.std.specs.Vec.{vec_capacity, vec_len};
-ghost use Rattle.host_thread.specs.Tally.{CountsOne, count_on};
+ghost use Rattle.host_thread.specs.Tally.{CountsOne, count_on, no_row};
 
 use std::alloc::AllocError;
 
@@ -22,27 +22,40 @@ pub(crate) fn make_room(rows: &mut Vec<Row>) -> Result<(), AllocError>
     rows.reserve(1)
 }
 
+/// The place of the row of this connection.
+fn place_of(rows: &[Row], port: u8, conn: u32) -> Option<usize>
+    ensures there { IfSome result (λ i. i < length rows.now) }
+    ensures port { IfSome result (λ i. (slice_index_or rows.now i no_row).port ≡ port) }
+    ensures conn { IfSome result (λ i. (slice_index_or rows.now i no_row).conn ≡ conn) }
+{
+    for i in 0..rows.len() {
+        if rows[i].port == port && rows[i].conn == conn {
+            return Some(i);
+        }
+    }
+    None
+}
+
 /// Counts one FIS more.
 pub(crate) fn note(rows: &mut Vec<Row>, port: u8, conn: u32)
     requires room { vec_len rows.old < vec_capacity rows.old }
     requires few { count_on port conn rows.old.items < 2 ^ 32 }
     ensures { CountsOne port conn rows.old.items rows.new.items }
 {
-    for i in 0..rows.len() {
-        let row = rows[i];
-        if row.port == port && row.conn == conn {
+    match place_of(rows.as_slice(), port, conn) {
+        Some(i) => {
+            let row = rows[i];
             rows[i] = Row {
                 count: row.count + 1,
                 ..row
             };
-            return;
         }
+        None => rows.push_reserved(Row {
+            port,
+            conn,
+            count: 1,
+        }),
     }
-    rows.push_reserved(Row {
-        port,
-        conn,
-        count: 1,
-    });
 }
 
 /// How many were taken of this connection.

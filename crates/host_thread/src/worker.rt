@@ -1,12 +1,14 @@
 //! The host's worker.
 
-ghost use Rattle.std.specs.Prelude.{◌≡◌, [], IfOk};
+ghost use Rattle.std.specs.Prelude.{◌≡◌, ◌<◌, [], length, IfOk};
+ghost use Rattle.multiplier.specs.Orders.{of_port};
 ghost use Rattle.std.specs.List.{list_any};
 ghost use Rattle.host_thread.specs.Runs.{GoesOn, IsRun, Same, is_open};
 
 use crate::end::HostEnd;
 use crate::host::Host;
 use crate::plan::{Ended, Planned, State, any_open, any_submitted, is_tried_again, place_of};
+use crate::tally::{Row, make_room, note, taken_on};
 use fis_view::Frame;
 use host_memory::HostMemory;
 use link_items::{Down, ToHost};
@@ -29,11 +31,14 @@ pub struct HostWorker<'a> {
     pub(crate) states: Vec<State>,
     /// The first request of the plan that was not taken.
     pub(crate) next: usize,
+    /// How many FISes of each connection were taken.
+    pub(crate) rows: Vec<Row>,
     pub(crate) alloc: Global,
 }
 
 impl<'a> Model for HostWorker<'a> {
     ghost use Rattle.host_thread.specs.Runs.{HostView, IsSound};
+    ghost use Rattle.host_thread.specs.Tally.{AreCounted};
 
     ghost Value = { HostView };
 
@@ -53,11 +58,12 @@ impl<'a> Model for HostWorker<'a> {
       hand = w.hand;
       plan = w.plan.items;
       states = w.states.items;
-    }) };
+    }) × AreCounted w.rows.items w.frames.taken };
 }
 
 impl<'a> HostWorker<'a> {
-    /// A new port and a new driver beside this memory, over links that nothing went over. No request of the plan was taken.
+    /// A new port and a new driver beside this memory, over links that nothing went over. No
+    /// request of the plan was taken.
     pub fn new(
         alloc: Global,
         frames: Rx<'a, ToHost>,
@@ -81,20 +87,26 @@ impl<'a> HostWorker<'a> {
             plan,
             states,
             next: 0,
+            rows: Vec::new(alloc),
             alloc,
         })
     }
 
-    /// Takes the next FIS off its link.
-    fn take<R: Wait>(&mut self, rt: &R) -> bool
+    /// Takes the next FIS off its link, and counts it. Room for the count is made before.
+    fn take<R: Wait>(&mut self, rt: &R) -> Result<bool, AllocError>
         ensures run { GoesOn self.old self.new }
         ensures same { Same self.old self.new }
     {
+        make_room(&mut self.rows)?;
         let Some(ToHost(frame)) = self.frames.take(rt) else {
-            return false;
+            return Ok(false);
         };
+        let stamp = frame.stamp();
+        if stamp.port < 15 {
+            note(&mut self.rows, stamp.port, stamp.conn);
+        }
         let _ = self.host.take(&frame);
-        true
+        Ok(true)
     }
 
     /// Lets the driver do the next thing that is due.
@@ -136,7 +148,8 @@ impl<'a> HostWorker<'a> {
         }
     }
 
-    /// Submits the next request of the plan, where it need not wait. One that is refused for now is tried again.
+    /// Submits the next request of the plan, where it need not wait. One that is refused for now is
+    /// tried again.
     fn submit(&mut self) -> bool
         ensures run { GoesOn self.old self.new }
         ensures same { Same self.old self.new }
@@ -185,13 +198,20 @@ impl<'a> HostWorker<'a> {
         ensures run { GoesOn self.old self.new }
         ensures same { Same self.old self.new }
     {
-        let took = self.take(rt);
+        let took = self.take(rt)?;
         let ticked = self.tick();
         self.ask()?;
         let sent = self.send(rt);
         let submitted = self.submit();
         let polled = self.poll();
         Ok(took || ticked || sent || submitted || polled)
+    }
+
+    /// How many FISes of this connection of a device port were taken.
+    pub(crate) fn taken_on(&self, port: u8, conn: u32) -> u64
+        ensures { port < 15 → result ≡ length (of_port port conn self.now.frames.taken) }
+    {
+        taken_on(self.rows.as_slice(), port, conn)
     }
 
     /// Whether a request of the plan has not ended.

@@ -15,19 +15,23 @@ use Rattle.multiplier.proofs.Sound.{opens_sound}
 use Rattle.multiplier.proofs.StampLemmas.{begins_stamped, goes_up_stamped}
 use Rattle.pm_thread.specs.Runs.{PmView, IsSound, frames_at, presence_at, commands_at, told_by, told_of, heard_by, heard_of, none_past}
 
-pub does_more : (past : Past) (old mid new : PmState) (calls more : List Call) → DoesAll past old calls mid → DoesAll (all_past past calls) mid more new → DoesAll past old (calls ++ more) new
+pub does_more : (past : Past) (old mid new : PmState) (calls more : List Call) → DoesAll past old calls mid
+    → DoesAll (all_past past calls) mid more new → DoesAll past old (calls ++ more) new
 does_more past old mid new [] more all rest = subst (λ (pm : PmState). DoesAll past pm more new) all rest
-does_more past old mid new (call ∷ calls) more all rest = (all.0, all.1, all.2, does_more (past_after past call) all.0 mid new calls more all.3 rest)
+does_more past old mid new (call ∷ calls) more all rest =
+    (all.0, all.1, all.2, does_more (past_after past call) all.0 mid new calls more all.3 rest)
 
 pub past_more : (past : Past) (calls more : List Call) → all_past past (calls ++ more) ≡ all_past (all_past past calls) more
 past_more past [] more = refl
 past_more past (call ∷ calls) more = past_more (past_after past call) calls more
 
 to_port-append : (n : ℕ) (front more : List (ℕ × Stamped)) → to_port n (front ++ more) ≡ to_port n front ++ to_port n more
-to_port-append n front more = ap (map (λ (s : ℕ × Stamped). s.1)) (filter-append (λ (s : ℕ × Stamped). s.0 == n) front more) ∙ map-append (λ (s : ℕ × Stamped). s.1) _ _
+to_port-append n front more = ap (map (λ (s : ℕ × Stamped). s.1)) (filter-append (λ (s : ℕ × Stamped). s.0 == n) front more)
+    ∙ map-append (λ (s : ℕ × Stamped). s.1) _ _
 
 -- one FIS more went down
-pub down_more : (n m : ℕ) (front : List (ℕ × Stamped)) (frame : Stamped) → to_port n (front ++ (m, frame) ∷ []) ≡ to_port n front ++ (if m == n then frame ∷ [] else [])
+pub down_more : (n m : ℕ) (front : List (ℕ × Stamped)) (frame : Stamped)
+    → to_port n (front ++ (m, frame) ∷ []) ≡ to_port n front ++ (if m == n then frame ∷ [] else [])
 down_more n m front frame = to_port-append n front ((m, frame) ∷ []) ∙ ap (λ l. to_port n front ++ l) (by (m == n))
   where
     by : (b : Bool) → map (λ (s : ℕ × Stamped). s.1) (if b then (m, frame) ∷ [] else []) ≡ (if b then frame ∷ [] else [])
@@ -57,7 +61,8 @@ sound_more old new was more does long count order frames presence commands up do
       order = order;
       run = record {
         calls = calls ++ more;
-        does = subst (λ (k : ℕ). DoesAll none_past (opening k) (calls ++ more) new.pm) (sym long) (does_more none_past (opening (length old.ports)) old.pm new.pm calls more was.run.does does);
+        does = subst (λ (k : ℕ). DoesAll none_past (opening k) (calls ++ more) new.pm) (sym long)
+            (does_more none_past (opening (length old.ports)) old.pm new.pm calls more was.run.does does);
         frames = λ n. frames n ∙ ap (λ l. l ++ taken_of n more) (was.run.frames n) ∙ sym (flat_map-append (taken_by n) calls more);
         presence = λ n. presence n ∙ ap (λ l. l ++ told_of n more) (was.run.presence n) ∙ sym (flat_map-append (told_by n) calls more);
         commands = commands ∙ ap (λ l. l ++ option_to_list new.hand) (sym (flat_map-append heard_by calls more));
@@ -76,7 +81,8 @@ empty_at (suc count) (suc n) = empty_at count n
 pub none_held : (k n : ℕ) → (port_at (opening k) n).up ≡ None
 none_held k n = ap (λ (p : port.PortState). p.up) (empty_at 15 n)
 
-pub stamped_run : (k : ℕ) (calls : List Call) (pm : PmState) → k ≤ 15 → DoesAll none_past (opening k) calls pm → ((n : ℕ) → InDeviceOrder (taken_of n calls))
+pub stamped_run : (k : ℕ) (calls : List Call) (pm : PmState) → k ≤ 15 → DoesAll none_past (opening k) calls pm
+    → ((n : ℕ) → InDeviceOrder (taken_of n calls))
     → IsStamped (λ n. taken_of n calls) (all_past none_past calls) pm
 stamped_run k calls pm le does order =
     let sound : IsSoundPm (opening k) = opens_sound k le in

@@ -11,7 +11,8 @@ use Rattle.pm_thread.specs.Runs.{PmView, PortSeats, IsUnused, SameLinks, ends_of
 
 module _ {A : Type 0} (part : PortSeats → List A) where
   -- a port that takes the place of one with the same part
-  pub at_kept : (ports : List PortSeats) (i : ℕ) (q d : PortSeats) → part q ≡ part (slice_index_or ports i d) → (n : ℕ) → at_port part (slice_set ports i q) n ≡ at_port part ports n
+  pub at_kept : (ports : List PortSeats) (i : ℕ) (q d : PortSeats) → part q ≡ part (slice_index_or ports i d) → (n : ℕ)
+      → at_port part (slice_set ports i q) n ≡ at_port part ports n
   at_kept [] i q d e n = refl
   at_kept (p ∷ ports) zero q d e zero = e
   at_kept (p ∷ ports) zero q d e (suc n) = refl
@@ -40,12 +41,15 @@ module _ {A : Type 0} (part : PortSeats → List A) where
       → (n : ℕ) → at_port part (slice_set ports i q) n ≡ at_port part ports n ++ (if i == n then xs else [])
   at_more ports i q d xs lt e n = elim (cases_eq n i) [
     | inl here ↦ subst (λ k. at_port part (slice_set ports i q) k ≡ at_port part ports k ++ (if i == k then xs else [])) (sym here)
-        (at_same ports i q lt ∙ e ∙ ap (λ l. l ++ xs) (sym (at_here ports i d lt)) ∙ ap (λ b. at_port part ports i ++ (if b then xs else [])) (sym (eq-eqb i i refl)))
-    | inr away ↦ at_else ports i q n away ∙ sym (append-nil (at_port part ports n)) ∙ ap (λ b. at_port part ports n ++ (if b then xs else [])) (sym (ne_eqb i n (λ same. away (sym same))))
+        (at_same ports i q lt ∙ e ∙ ap (λ l. l ++ xs) (sym (at_here ports i d lt))
+        ∙ ap (λ b. at_port part ports i ++ (if b then xs else [])) (sym (eq-eqb i i refl)))
+    | inr away ↦ at_else ports i q n away ∙ sym (append-nil (at_port part ports n))
+        ∙ ap (λ b. at_port part ports n ++ (if b then xs else [])) (sym (ne_eqb i n (λ same. away (sym same))))
   ]
 
   -- what holds of each holds after
-  pub each_at : (P : List A → Type 0) (ports : List PortSeats) (i : ℕ) (q : PortSeats) → P (part q) → ((n : ℕ) → P (at_port part ports n)) → (n : ℕ) → P (at_port part (slice_set ports i q) n)
+  pub each_at : (P : List A → Type 0) (ports : List PortSeats) (i : ℕ) (q : PortSeats) → P (part q) → ((n : ℕ) → P (at_port part ports n))
+      → (n : ℕ) → P (at_port part (slice_set ports i q) n)
   each_at P [] i q is all n = all n
   each_at P (p ∷ ports) zero q is all zero = is
   each_at P (p ∷ ports) zero q is all (suc n) = all (suc n)
@@ -53,13 +57,15 @@ module _ {A : Type 0} (part : PortSeats → List A) where
   each_at P (p ∷ ports) (suc i) q is all (suc n) = each_at P ports i q is (λ k. all (suc k)) n
 
   -- none of it anywhere
-  pub none_at : (P : PortSeats → Type 0) → ((p : PortSeats) → P p → part p ≡ []) → (ports : List PortSeats) → All P ports → (n : ℕ) → at_port part ports n ≡ []
+  pub none_at : (P : PortSeats → Type 0) → ((p : PortSeats) → P p → part p ≡ []) → (ports : List PortSeats) → All P ports → (n : ℕ)
+      → at_port part ports n ≡ []
   none_at P none [] all n = refl
   none_at P none (p ∷ ports) all zero = none p (all 0 p (omega arith))
   none_at P none (p ∷ ports) all (suc n) = none_at P none ports (All-tail P p ports all) n
 
 -- the seats of port i are of the links that they were of
-pub same_links : (old new : PmView) (i : ℕ) (q d : PortSeats) → new.ports ≡ slice_set old.ports i q → ends_of q ≡ ends_of (slice_index_or old.ports i d)
+pub same_links : (old new : PmView) (i : ℕ) (q d : PortSeats) → new.ports ≡ slice_set old.ports i q
+    → ends_of q ≡ ends_of (slice_index_or old.ports i d)
     → new.host ≡ old.host → new.commands ≡ old.commands → SameLinks old new
 same_links old new i q d set same host commands = record {
   ports = ap (map ends_of) set ∙ map-set_same ends_of old.ports i q d same;

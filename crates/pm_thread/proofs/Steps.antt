@@ -27,7 +27,8 @@ past_of w was = all_past none_past was.run.calls
 
 -- ---- a new worker
 
-pub begins : (w : PmView) → 1 ≤ length w.ports → length w.ports ≤ 15 → w.pm ≡ opening (length w.ports) → All IsUnused w.ports → w.host.sent ≡ [] → w.commands.taken ≡ []
+pub begins : (w : PmView) → 1 ≤ length w.ports → length w.ports ≤ 15 → w.pm ≡ opening (length w.ports) → All IsUnused w.ports → w.host.sent ≡ []
+    → w.commands.taken ≡ []
     → w.hand ≡ None → InDeviceOrder [] → IsSound w
 begins w some few new unused up commands hand starts =
     let none : (n : ℕ) → frames_at w.ports n ≡ [] = none_at (λ p. p.frames.taken) IsUnused (λ p u. u.frames) w.ports unused in
@@ -49,11 +50,13 @@ begins w some few new unused up commands hand starts =
 
 -- ---- at one port
 
-came_count : (old : PmState) (n conn : ℕ) (result : Result (Unit {0}) PortError) (new : PmState) → CameRule old n conn result new → new.registers.ports ≡ old.registers.ports
+came_count : (old : PmState) (n conn : ℕ) (result : Result (Unit {0}) PortError) (new : PmState) → CameRule old n conn result new
+    → new.registers.ports ≡ old.registers.ports
 came_count old n conn (Ok done) new rule = ap (λ (m : PmState). m.registers.ports) rule.1
 came_count old n conn (Err e) new rule = ap (λ (m : PmState). m.registers.ports) rule.1
 
-gone_count : (old : PmState) (n conn : ℕ) (result : Result (Unit {0}) GoneError) (new : PmState) → GoneRule old n conn result new → new.registers.ports ≡ old.registers.ports
+gone_count : (old : PmState) (n conn : ℕ) (result : Result (Unit {0}) GoneError) (new : PmState) → GoneRule old n conn result new
+    → new.registers.ports ≡ old.registers.ports
 gone_count old n conn (Ok done) new rule = ap (λ (m : PmState). m.registers.ports) rule.1
 gone_count old n conn (Err e) new rule = ap (λ (m : PmState). m.registers.ports) rule.1
 
@@ -74,42 +77,48 @@ module _ (old : PmView) (was : IsSound old) (i : ℕ) (q d : PortSeats) (new : P
   commands_stay : old.commands.taken ≡ (heard_of was.run.calls ++ []) ++ option_to_list old.hand
   commands_stay = was.run.commands ∙ ap (λ l. l ++ option_to_list old.hand) (sym (append-nil (heard_of was.run.calls)))
 
-  module _ (frames : q.frames.taken ≡ (slice_index_or old.ports i d).frames.taken) (sent : q.commands.sent ≡ (slice_index_or old.ports i d).commands.sent) where
+  module _ (frames : q.frames.taken ≡ (slice_index_or old.ports i d).frames.taken)
+      (sent : q.commands.sent ≡ (slice_index_or old.ports i d).commands.sent) where
     pub tells_came : (conn : ℕ) (result : Result (Unit {0}) PortError) → CameRule old.pm i conn result new
         → q.presence.taken ≡ (slice_index_or old.ports i d).presence.taken ++ presence.Came conn ∷ [] → IsSound (with_port_seats old i q new)
     tells_came conn result rule told =
-        sound_more old (with_port_seats old i q new) was (Came i conn result ∷ []) (new, tt, (there, rule), refl) (length-set old.ports i q) (came_count old.pm i conn result new rule)
+        sound_more old (with_port_seats old i q new) was (Came i conn result ∷ []) (new, tt, (there, rule), refl) (length-set old.ports i q)
+        (came_count old.pm i conn result new rule)
         (λ n. subst InDeviceOrder (sym (at_kept (λ s. s.frames.taken) old.ports i q d frames n)) (was.order n))
         (λ n. at_kept (λ s. s.frames.taken) old.ports i q d frames n ∙ sym (append-nil (frames_at old.ports n)))
         (λ n. at_more (λ s. s.presence.taken) old.ports i q d (presence.Came conn ∷ []) lt told n
-          ∙ ap (λ l. presence_at old.ports n ++ l) (sym (append-nil (if i == n then presence.Came conn ∷ [] else []))))
+        ∙ ap (λ l. presence_at old.ports n ++ l) (sym (append-nil (if i == n then presence.Came conn ∷ [] else []))))
         commands_stay was.run.up (λ n. at_kept (λ s. s.commands.sent) old.ports i q d sent n ∙ was.run.down n)
 
     pub tells_gone : (conn : ℕ) (result : Result (Unit {0}) GoneError) → GoneRule old.pm i conn result new
         → q.presence.taken ≡ (slice_index_or old.ports i d).presence.taken ++ presence.Gone conn ∷ [] → IsSound (with_port_seats old i q new)
     tells_gone conn result rule told =
-        sound_more old (with_port_seats old i q new) was (Gone i conn result (lost_from (port_at old.pm i).up (port_at new i).up) (lost_from (port_at old.pm i).down (port_at new i).down) ∷ [])
+        sound_more old (with_port_seats old i q new) was
+        (Gone i conn result (lost_from (port_at old.pm i).up (port_at new i).up) (lost_from (port_at old.pm i).down (port_at new i).down) ∷ [])
         (new, tt, (there, rule, refl, refl), refl) (length-set old.ports i q) (gone_count old.pm i conn result new rule)
         (λ n. subst InDeviceOrder (sym (at_kept (λ s. s.frames.taken) old.ports i q d frames n)) (was.order n))
         (λ n. at_kept (λ s. s.frames.taken) old.ports i q d frames n ∙ sym (append-nil (frames_at old.ports n)))
         (λ n. at_more (λ s. s.presence.taken) old.ports i q d (presence.Gone conn ∷ []) lt told n
-          ∙ ap (λ l. presence_at old.ports n ++ l) (sym (append-nil (if i == n then presence.Gone conn ∷ [] else []))))
+        ∙ ap (λ l. presence_at old.ports n ++ l) (sym (append-nil (if i == n then presence.Gone conn ∷ [] else []))))
         commands_stay was.run.up (λ n. at_kept (λ s. s.commands.sent) old.ports i q d sent n ∙ was.run.down n)
 
-  pub receives : (frame : Stamped) (result : Result Offered Stamped) → FromDeviceRule old.pm i frame result new → (port_at old.pm i).up ≡ None → KeepsPorts old.pm new
+  pub receives : (frame : Stamped) (result : Result Offered Stamped) → FromDeviceRule old.pm i frame result new → (port_at old.pm i).up ≡ None
+      → KeepsPorts old.pm new
       → InDeviceOrder q.frames.taken → q.frames.taken ≡ (slice_index_or old.ports i d).frames.taken ++ frame ∷ []
       → q.presence.taken ≡ (slice_index_or old.ports i d).presence.taken → q.commands.sent ≡ (slice_index_or old.ports i d).commands.sent
       → IsSound (with_port_seats old i q new)
   receives frame (Err back) rule empty kept order frames told sent = absurd (not_back old.pm i frame new empty back rule)
   receives frame (Ok offered) rule empty kept order frames told sent =
-      sound_more old (with_port_seats old i q new) was (FromDevice i frame (Ok offered) ∷ []) (new, tt, (there, rule), refl) (length-set old.ports i q) kept.count
+      sound_more old (with_port_seats old i q new) was (FromDevice i frame (Ok offered) ∷ []) (new, tt, (there, rule), refl)
+      (length-set old.ports i q) kept.count
       (each_at (λ s. s.frames.taken) InDeviceOrder old.ports i q order was.order)
       (λ n. at_more (λ s. s.frames.taken) old.ports i q d (frame ∷ []) lt frames n
-        ∙ ap (λ l. frames_at old.ports n ++ l) (sym (append-nil (if i == n then frame ∷ [] else []))))
+      ∙ ap (λ l. frames_at old.ports n ++ l) (sym (append-nil (if i == n then frame ∷ [] else []))))
       (λ n. at_kept (λ s. s.presence.taken) old.ports i q d told n ∙ sym (append-nil (presence_at old.ports n)))
       commands_stay was.run.up (λ n. at_kept (λ s. s.commands.sent) old.ports i q d sent n ∙ was.run.down n)
 
-  module _ (frames : q.frames.taken ≡ (slice_index_or old.ports i d).frames.taken) (told : q.presence.taken ≡ (slice_index_or old.ports i d).presence.taken) where
+  module _ (frames : q.frames.taken ≡ (slice_index_or old.ports i d).frames.taken)
+      (told : q.presence.taken ≡ (slice_index_or old.ports i d).presence.taken) where
     order_stays : (n : ℕ) → InDeviceOrder (frames_at (slice_set old.ports i q) n)
     order_stays n = subst InDeviceOrder (sym (at_kept (λ s. s.frames.taken) old.ports i q d frames n)) (was.order n)
 
@@ -119,23 +128,28 @@ module _ (old : PmView) (was : IsSound old) (i : ℕ) (q d : PortSeats) (new : P
     told_stays : (n : ℕ) → presence_at (slice_set old.ports i q) n ≡ presence_at old.ports n ++ []
     told_stays n = at_kept (λ s. s.presence.taken) old.ports i q d told n ∙ sym (append-nil (presence_at old.ports n))
 
-    pub sends_down : (frame : Stamped) → NextDownRule old.pm i (Some frame) new → KeepsPorts old.pm new → q.commands.sent ≡ (slice_index_or old.ports i d).commands.sent ++ frame ∷ []
+    pub sends_down : (frame : Stamped) → NextDownRule old.pm i (Some frame) new → KeepsPorts old.pm new
+        → q.commands.sent ≡ (slice_index_or old.ports i d).commands.sent ++ frame ∷ []
         → IsSound (with_port_seats old i q new)
     sends_down frame rule kept sent =
-        sound_more old (with_port_seats old i q new) was (NextDown i (Some frame) ∷ []) (new, tt, (there, rule), refl) (length-set old.ports i q) kept.count
+        sound_more old (with_port_seats old i q new) was (NextDown i (Some frame) ∷ []) (new, tt, (there, rule), refl)
+        (length-set old.ports i q) kept.count
         order_stays frames_stay told_stays commands_stay was.run.up
-        (λ n. at_more (λ s. s.commands.sent) old.ports i q d (frame ∷ []) lt sent n ∙ ap (λ l. l ++ (if i == n then frame ∷ [] else [])) (was.run.down n)
-          ∙ sym (down_more n i (past_of old was).down frame))
+        (λ n. at_more (λ s. s.commands.sent) old.ports i q d (frame ∷ []) lt sent n
+        ∙ ap (λ l. l ++ (if i == n then frame ∷ [] else [])) (was.run.down n)
+        ∙ sym (down_more n i (past_of old was).down frame))
 
     -- what the link did not take goes back
-    pub keeps_down : (frame : Stamped) (mid : PmState) → NextDownRule old.pm i (Some frame) mid → CanPutBackDown mid i frame → UndoesDown mid i frame new → KeepsPorts old.pm mid → KeepsPorts mid new
+    pub keeps_down : (frame : Stamped) (mid : PmState) → NextDownRule old.pm i (Some frame) mid → CanPutBackDown mid i frame
+        → UndoesDown mid i frame new → KeepsPorts old.pm mid → KeepsPorts mid new
         → q.commands.sent ≡ (slice_index_or old.ports i d).commands.sent → IsSound (with_port_seats old i q new)
     keeps_down frame mid rule can undoes kept back sent =
         let down : List (ℕ × Stamped) = (past_of old was).down in
         sound_more old (with_port_seats old i q new) was (NextDown i (Some frame) ∷ PutBackDown i frame ∷ [])
         (mid, tt, (there, rule), (new, (down, refl), (can, undoes), refl)) (length-set old.ports i q) (back.count ∙ kept.count)
         order_stays frames_stay told_stays commands_stay was.run.up
-        (λ n. at_kept (λ s. s.commands.sent) old.ports i q d sent n ∙ was.run.down n ∙ ap (to_port n) (sym (last_gone (down ++ (i, frame) ∷ []) down (i, frame) refl)))
+        (λ n. at_kept (λ s. s.commands.sent) old.ports i q d sent n ∙ was.run.down n
+        ∙ ap (to_port n) (sym (last_gone (down ++ (i, frame) ∷ []) down (i, frame) refl)))
 
 -- ---- at the host
 
@@ -150,7 +164,8 @@ made_last false made frame is = absurd cc
 
 module _ (old : PmView) (was : IsSound old) (new : PmState) where
   -- a FIS of the host is in the hand
-  pub fetches : (w : PmView) → w.pm ≡ old.pm → w.ports ≡ old.ports → w.host ≡ old.host → old.hand ≡ None → (frame : Stamped) → w.hand ≡ Some frame → w.commands.taken ≡ old.commands.taken ++ frame ∷ [] → IsSound w
+  pub fetches : (w : PmView) → w.pm ≡ old.pm → w.ports ≡ old.ports → w.host ≡ old.host → old.hand ≡ None → (frame : Stamped) → w.hand ≡ Some frame
+      → w.commands.taken ≡ old.commands.taken ++ frame ∷ [] → IsSound w
   fetches w pm ports host empty frame hand taken = record {
     some = subst (λ (l : List PortSeats). 1 ≤ length l) (sym ports) was.some;
     few = subst (λ (l : List PortSeats). length l ≤ 15) (sym ports) was.few;
@@ -158,10 +173,12 @@ module _ (old : PmView) (was : IsSound old) (new : PmState) where
     order = λ n. subst (λ (l : List PortSeats). InDeviceOrder (frames_at l n)) (sym ports) (was.order n);
     run = record {
       calls = was.run.calls;
-      does = subst (λ (l : List PortSeats). DoesAll none_past (opening (length l)) was.run.calls w.pm) (sym ports) (subst (λ (m : PmState). DoesAll none_past (opening (length old.ports)) was.run.calls m) (sym pm) was.run.does);
+      does = subst (λ (l : List PortSeats). DoesAll none_past (opening (length l)) was.run.calls w.pm) (sym ports)
+          (subst (λ (m : PmState). DoesAll none_past (opening (length old.ports)) was.run.calls m) (sym pm) was.run.does);
       frames = λ n. ap (λ (l : List PortSeats). frames_at l n) ports ∙ was.run.frames n;
       presence = λ n. ap (λ (l : List PortSeats). presence_at l n) ports ∙ was.run.presence n;
-      commands = taken ∙ ap (λ l. l ++ frame ∷ []) (was.run.commands ∙ ap (λ h. heard_of was.run.calls ++ option_to_list h) empty ∙ append-nil (heard_of was.run.calls))
+      commands = taken ∙ ap (λ l. l ++ frame ∷ []) (was.run.commands ∙ ap (λ h. heard_of was.run.calls ++ option_to_list h) empty
+          ∙ append-nil (heard_of was.run.calls))
           ∙ ap (λ h. heard_of was.run.calls ++ option_to_list h) (sym hand);
       up = ap (λ s. s.sent) host ∙ was.run.up;
       down = λ n. ap (λ (l : List PortSeats). commands_at l n) ports ∙ was.run.down n;
@@ -175,13 +192,15 @@ module _ (old : PmView) (was : IsSound old) (new : PmState) where
   told_same n = sym (append-nil (presence_at old.ports n))
 
   -- the multiplier takes the FIS in the hand
-  pub hears : (frame : Stamped) (passed : Passed) (hand : Option Stamped) → FromHostRule old.pm frame (Ok passed) new → KeepsPorts old.pm new → old.hand ≡ Some frame → hand ≡ None
+  pub hears : (frame : Stamped) (passed : Passed) (hand : Option Stamped) → FromHostRule old.pm frame (Ok passed) new → KeepsPorts old.pm new
+      → old.hand ≡ Some frame → hand ≡ None
       → IsSound (record { pm = new; ports = old.ports; host = old.host; commands = old.commands; hand = hand })
   hears frame passed hand rule kept had none =
       let w : PmView = record { pm = new; ports = old.ports; host = old.host; commands = old.commands; hand = hand } in
-      sound_more old w was (FromHost frame (Ok passed) (made_by (Ok passed) new) ∷ []) (new, tt, (rule, refl), refl) refl kept.count was.order frames_same told_same
+      sound_more old w was (FromHost frame (Ok passed) (made_by (Ok passed) new) ∷ [])
+      (new, tt, (rule, refl), refl) refl kept.count was.order frames_same told_same
       (was.run.commands ∙ ap (λ h. heard_of was.run.calls ++ option_to_list h) had ∙ sym (append-nil (heard_of was.run.calls ++ frame ∷ []))
-        ∙ ap (λ h. (heard_of was.run.calls ++ frame ∷ []) ++ option_to_list h) (sym none))
+      ∙ ap (λ h. (heard_of was.run.calls ++ frame ∷ []) ++ option_to_list h) (sym none))
       was.run.up was.run.down
 
   module _ (frame : Stamped) (rule : NextUpRule old.pm (Ok (Some frame)) new) where
@@ -194,10 +213,12 @@ module _ (old : PmView) (was : IsSound old) (new : PmState) where
         let calls : List Call = was.run.calls in
         let all : List Call = calls ++ NextUp (Ok (Some frame)) ∷ [] in
         let k : ℕ = length old.ports in
-        let does : DoesAll none_past (opening k) all new = does_more none_past (opening k) old.pm new calls (NextUp (Ok (Some frame)) ∷ []) was.run.does gives in
+        let does : DoesAll none_past (opening k) all new =
+        does_more none_past (opening k) old.pm new calls (NextUp (Ok (Some frame)) ∷ []) was.run.does gives in
         let took : (n : ℕ) → taken_of n all ≡ frames_at old.ports n = λ n. taken_more n ∙ sym (was.run.frames n) in
         let stamped = stamped_run k all new was.few does (λ n. subst InDeviceOrder (sym (took n)) (was.order n)) in
-        subst InStampedOrder (ap (λ (p : Past). p.up) (past_more none_past calls (NextUp (Ok (Some frame)) ∷ [])) ∙ ap (λ l. l ++ frame ∷ []) (sym was.run.up)) stamped.order
+        subst InStampedOrder (ap (λ (p : Past). p.up) (past_more none_past calls (NextUp (Ok (Some frame)) ∷ []))
+        ∙ ap (λ l. l ++ frame ∷ []) (sym was.run.up)) stamped.order
       where
         taken_more : (n : ℕ) → taken_of n (was.run.calls ++ NextUp (Ok (Some frame)) ∷ []) ≡ taken_of n was.run.calls
         taken_more n = flat_map-append (taken_by n) was.run.calls (NextUp (Ok (Some frame)) ∷ []) ∙ append-nil (taken_of n was.run.calls)
@@ -207,14 +228,17 @@ module _ (old : PmView) (was : IsSound old) (new : PmState) where
 
     pub sends_up : (host : Seat Stamped) → KeepsPorts old.pm new → host.sent ≡ old.host.sent ++ frame ∷ [] → IsSound (with_host old host new)
     sends_up host kept sent =
-        sound_more old (with_host old host new) was (NextUp (Ok (Some frame)) ∷ []) gives refl kept.count was.order frames_same told_same commands_rest
+        sound_more old (with_host old host new) was (NextUp
+        (Ok (Some frame)) ∷ []) gives refl kept.count was.order frames_same told_same commands_rest
         (sent ∙ ap (λ l. l ++ frame ∷ []) was.run.up) was.run.down
 
     -- what the link did not take goes back
-    pub keeps_up : (host : Seat Stamped) (last : PmState) → CanPutBackUp new frame → UndoesUp new frame last → KeepsPorts old.pm new → KeepsPorts new last → host.sent ≡ old.host.sent
+    pub keeps_up : (host : Seat Stamped) (last : PmState) → CanPutBackUp new frame → UndoesUp new frame last → KeepsPorts old.pm new
+        → KeepsPorts new last → host.sent ≡ old.host.sent
         → IsSound (with_host old host last)
     keeps_up host last can undoes kept back sent =
         let past : Past = past_of old was in
         sound_more old (with_host old host last) was (NextUp (Ok (Some frame)) ∷ PutBackUp frame ∷ [])
-        (new, tt, rule, (last, ((past.up, refl), made_last (is_notice frame) past.made frame), (can, undoes), refl)) refl (back.count ∙ kept.count) was.order frames_same told_same commands_rest
+        (new, tt, rule, (last, ((past.up, refl), made_last (is_notice frame) past.made frame), (can, undoes), refl)) refl
+        (back.count ∙ kept.count) was.order frames_same told_same commands_rest
         (sent ∙ was.run.up ∙ sym (last_gone (past.up ++ frame ∷ []) past.up frame refl)) was.run.down

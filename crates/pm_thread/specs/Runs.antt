@@ -1,5 +1,5 @@
--- What the multiplier's thread does: there is one list of calls of the multiplier, of which the lists of its seats are the
--- projections and the multiplier the outcome.
+-- What the multiplier's thread does: there is one list of calls of the multiplier, of which the
+-- lists of its seats are the projections and the multiplier the outcome.
 use Rattle.std.specs.Prelude.{◌≡◌, ℕ, zero, suc, ◌≤◌, ◌==◌, if◌then◌else◌, List, [], ◌∷◌, ◌++◌, length, map, Option, Ok}
 use Rattle.std.specs.List.{flat_map}
 use Rattle.std.specs.Option.{option_to_list}
@@ -50,7 +50,8 @@ pub record PortEnds : Type 0 where
   pub presence : LinkEnd
 
 abbrev pub ends_of : PortSeats → PortEnds
-ends_of p = record { commands = end_of p.commands; frames = end_of p.frames; presence = end_of p.presence }
+ends_of p =
+    record { commands = end_of p.commands; frames = end_of p.frames; presence = end_of p.presence }
 
 -- the seats are of the same links
 pub record SameLinks (old new : PmView) : Type 0 where
@@ -109,9 +110,10 @@ none_past = record { up = []; down = []; made = [] }
 
 -- ---- the run
 
--- There is one list of calls, from a new multiplier to this one. Port by port they took, in their order, what was taken
--- of the device, and were told the connections that came and went; what was taken of the host is what they took of it,
--- and then the FIS in the hand. What they gave and did not take back is what was sent to the host, and to each device.
+-- There is one list of calls, from a new multiplier to this one. Port by port they took, in their
+-- order, what was taken of the device, and were told the connections that came and went; what was
+-- taken of the host is what they took of it, and then the FIS in the hand. What they gave and did
+-- not take back is what was sent to the host, and to each device.
 pub record IsRun (w : PmView) : Type 0 where
   pub calls : List Call
   pub does : DoesAll none_past (opening (length w.ports)) calls w.pm

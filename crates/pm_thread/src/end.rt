@@ -12,7 +12,8 @@ use ruled_links::{Rx, Tx};
 use runner::Fault;
 use std::marker::Model;
 
-/// The multiplier with its seats, when the run is over, and why it ended before its time, if it did.
+/// The multiplier with its seats, when the run is over, and why it ended before its time, if it
+/// did.
 #[derive(Drop)]
 pub struct PmEnd<'a> {
     pub(crate) worker: PmWorker<'a>,
@@ -33,8 +34,9 @@ impl<'a> PmEnd<'a> {
         self.fault
     }
 
-    /// The multiplier and its seats. It is a run; what went up is in stamped order, and of each connection a beginning of
-    /// what was taken of it, with what the port holds all of it as long as its removal is not recorded.
+    /// The multiplier and its seats. It is a run; what went up is in stamped order, and of each
+    /// connection a beginning of what was taken of it, with what the port holds all of it as long
+    /// as its removal is not recorded.
     pub fn into_parts(self) -> (Multiplier, Vec<PmPort<'a>>, Tx<'a, ToHost>, Rx<'a, Down>)
         ensures multiplier { result.0 ≡ self.entry.pm }
         ensures ports { result.1.items ≡ self.entry.ports }

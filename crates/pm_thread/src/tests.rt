@@ -127,9 +127,9 @@ fn worker<'a>(
     Ok(PmWorker::new(alloc, ports, host, commands))
 }
 
-/// The host opens port 0 and sends a read there, and the device there sends a FIS. So many turns are worked, over links
-/// with so many places. Answers how many FISes come to the host, whether the read comes to the device, and what the
-/// status of the port is then.
+/// The host opens port 0 and sends a read there, and the device there sends a FIS. So many turns
+/// are worked, over links with so many places. Answers how many FISes come to the host, whether the
+/// read comes to the device, and what the status of the port is then.
 fn worked<R: Wait>(
     rt: &R,
     alloc: Global,
@@ -154,11 +154,7 @@ fn worked<R: Wait>(
         return Err("a fault".into());
     }
     let (pm, _, _, _) = end.into_parts();
-    Ok((
-        count(rt, &mut taken),
-        reads.take(rt).is_some(),
-        status(&pm),
-    ))
+    Ok((count(rt, &mut taken), reads.take(rt).is_some(), status(&pm)))
 }
 
 #[test]

@@ -16,7 +16,8 @@ use std::sync::Wait;
 use std::sync::atomic::{AtomicBool, Ordering};
 use std::thread;
 
-/// A multiplier with the seats of its links, and a place for a FIS of the host that it has not taken.
+/// A multiplier with the seats of its links, and a place for a FIS of the host that it has not
+/// taken.
 #[derive(Drop)]
 pub struct PmWorker<'a> {
     pub(crate) pm: Multiplier,
@@ -76,7 +77,8 @@ impl<'a> PmWorker<'a> {
         }
     }
 
-    /// Has port `n` record what comes next on its presence link. A change that the port refuses leaves it as it is.
+    /// Has port `n` record what comes next on its presence link. A change that the port refuses
+    /// leaves it as it is.
     fn record<R: Wait>(&mut self, rt: &R, n: u8) -> bool
         requires { n < length self.old.ports }
         ensures links { SameLinks self.old self.new }
@@ -166,7 +168,8 @@ impl<'a> PmWorker<'a> {
         }
     }
 
-    /// Sends the FIS of the place that is served next up to the host. It goes back where the link is full.
+    /// Sends the FIS of the place that is served next up to the host. It goes back where the link
+    /// is full.
     fn pass_up<R: Wait>(&mut self, rt: &R) -> Result<bool, AllocError>
         ensures links { SameLinks self.old self.new }
         ensures count { length self.new.ports ≡ length self.old.ports }

@@ -6,6 +6,7 @@ use Rattle.pm_world.specs.Places.{Places, IsOrderly}
 use Rattle.pm_world.specs.Rules.{Outcome}
 use Rattle.pm_world.specs.declared.step.Step.{Step}
 use Rattle.pm_world.specs.declared.step.Answer.{Answer}
+use Rattle.pm_world.proofs.Cleared.{new_devices_wait}
 use Rattle.pm_world.proofs.Law.{nothing_lost, on_the_way}
 use Rattle.pm_world.proofs.Prefix.{taken_is_prefix}
 use Rattle.pm_world.proofs.Falls.{nothing_lost_down}
@@ -24,6 +25,7 @@ obeys old steps answers new orderly run = record {
   nothing_lost = nothing_lost old steps answers new orderly run;
   on_the_way = on_the_way old steps answers new orderly;
   removals = tells_removals old steps answers new run;
+  new_devices_wait = new_devices_wait old steps answers new;
   nothing_lost_down = nothing_lost_down old steps answers new run orderly;
   prefix = taken_is_prefix old steps answers new run;
   own_port = own_port old steps answers new run;

@@ -19,6 +19,7 @@ pub mod Isolation
 pub mod Tickets
 pub mod Truth
 pub mod Risen
+pub mod Cleared
 pub mod Laws
 pub mod Polling
 pub mod Doing

@@ -38,7 +38,7 @@ times-append says first second = ap length (filter-append says first second) ∙
 -- ---- the ports of a multiplier
 
 -- a port at which a connection is present is there
-has_present : (ports : Ports) (n conn : ℕ) → (at ports n).present ≡ Some conn → n < length ports
+pub has_present : (ports : Ports) (n conn : ℕ) → (at ports n).present ≡ Some conn → n < length ports
 has_present [] n conn e = absurd cc
 has_present (p ∷ ports) zero conn e = omega arith
 has_present (p ∷ ports) (suc n) conn e = let k : n < length ports = has_present ports n conn e in omega arith

@@ -1,14 +1,14 @@
 -- What the ports of the multiplier record is what answers tell, in its order.
 use Rattle.std.proofs.Common.{◌≡◌, ◌≢◌, ℕ, zero, suc, ◌+◌, ◌<◌, ◌≤◌, max, Bool, true, false, cond, eqb, List, [], ◌∷◌, ◌++◌, append_assoc, length, take, map, Option, Some, None, refl, sym, ap, ◌∙◌, subst, arith, inl, inr, length-append}
-use Rattle.std.specs.Prelude.{◌==◌, filter, is_none, is_some, nat_le, if◌then◌else◌, slice_get, MatchOption, Ok}
+use Rattle.std.specs.Prelude.{◌==◌, filter, is_none, is_some, nat_le, if◌then◌else◌, slice_get, Ok}
 use Rattle.std.specs.List.{flat_map}
-use Rattle.std.proofs.lemmas.Bool.{cases_Bool, cases_eq, eq-eqb, leb-true, ne_eqb}
+use Rattle.std.proofs.lemmas.Bool.{cases_eq, eq-eqb, leb-true, ne_eqb}
 use Rattle.std.proofs.lemmas.List.{append-nil}
 use Rattle.std.proofs.lemmas.List.Elements.{filter-append}
 use Rattle.std.proofs.lemmas.Option.{same_Some, slice_get_within}
 use Rattle.disk_model.specs.declared.unit.Unit.{Unit}
 use Rattle.hba_driver.specs.declared.request.Request.{Request}
-use Rattle.pm_ports.specs.Port.{PortState, is_present, with_connection, with_removal, came_refusal as port_came_refusal, gone_refusal as port_gone_refusal}
+use Rattle.pm_ports.specs.Port.{is_present, with_connection, with_removal, came_refusal as port_came_refusal, gone_refusal as port_gone_refusal}
 use Rattle.pm_ports.specs.declared.port.GoneError.TheVariants.{NotThere}
 use Rattle.pm_ports.specs.declared.port.PortError.TheVariants.{AlreadyThere, OldConnection}
 use Rattle.multiplier.specs.Arbiter.{control_port}
@@ -18,10 +18,10 @@ use Rattle.multiplier.specs.Rules.{with_device as connected, without_device}
 use Rattle.multiplier.proofs.Ports as ports
 use Rattle.pm_world.specs.Downward.{times}
 use Rattle.pm_world.specs.Links.{changed_by, is_recorded, on_presence}
-use Rattle.pm_world.specs.Places.{Places, Place, Changes, IsOrderly, is_config, new_world, opening, with_device, with_downward, with_host, with_multiplier, with_upward}
+use Rattle.pm_world.specs.Places.{Places, Place, IsOrderly, is_config, new_world, opening, with_device, with_downward, with_host, with_multiplier, with_upward}
 use Rattle.pm_world.specs.Removals.{IsSeen, TellsRemovals, highest_gone, is_up, recorded_at}
 use Rattle.pm_world.specs.Traffic.{is_removed, is_took, taken}
-use Rattle.pm_world.specs.Rules.{CameActs, CameRule, DiskSendActs, DiskSendRule, DiskTakeRule, GoneActs, GoneRule, InjectActs, InjectRule, OnDevice, OnDeviceAndMultiplier, Outcome, PmDownRule, PmFromDeviceRule, PmFromHostRule, PmPresenceRule, PmUpRule, HostTakeRule, HostPushRule, TickRule, SubmitRule, PollRule, PutRule, Rule, Run, came_refusal, gone_refusal, largest, recorded}
+use Rattle.pm_world.specs.Rules.{CameActs, CameRule, DiskSendActs, DiskSendRule, DiskTakeRule, GoneActs, GoneRule, InjectActs, InjectRule, OnDevice, Outcome, PmDownRule, PmFromDeviceRule, PmFromHostRule, PmPresenceRule, PmUpRule, HostTakeRule, HostPushRule, TickRule, SubmitRule, PollRule, PutRule, Rule, Run, came_refusal, gone_refusal, largest, recorded}
 use Rattle.pm_world.specs.declared.link.Change.{Change}
 use Rattle.pm_world.specs.declared.link.Change.TheVariants as change
 use Rattle.pm_world.specs.declared.step.Config.{Config}

@@ -1,8 +1,7 @@
 -- What the driver says over a run is true, and the port takes every write of it.
-use Rattle.std.proofs.Common.{rules, ◌≡◌, ℕ, List, [], ◌∷◌, ◌++◌, true, sym, subst, length}
+use Rattle.std.proofs.Common.{◌≡◌, ℕ, List, [], ◌∷◌, ◌++◌, true, sym, subst, length}
 use Rattle.std.specs.Prelude.{Ok}
 use Rattle.host_memory.specs.Memory.{is_memory_size}
-use Rattle.hba_driver.specs.declared.request.Completion.{Completion}
 use Rattle.hba_driver.specs.HostTurns.{Does, DoesAll, Host, HostTurn, Polled}
 use Rattle.hba_driver.proofs.AcceptLemmas.{writes_are_accepted}
 use Rattle.hba_driver.proofs.TrueLemmas.{done_is_true}

@@ -9,6 +9,7 @@ use Rattle.disk_model.specs.Units.{plan_of, StandsFor, MaySend}
 use Rattle.disk_model.specs.declared.unit.Unit.{Unit}
 use Rattle.multiplier.specs.Arbiter.{control_port}
 use Rattle.pm_world.specs.Apart.{KeepsApart}
+use Rattle.pm_world.specs.Cleared.{NewDevicesWait}
 use Rattle.pm_world.specs.Delivery.{Delivers}
 use Rattle.pm_world.specs.Downward.{NothingLostDown, on_down_link}
 use Rattle.pm_world.specs.Isolation.{Isolates}
@@ -104,6 +105,7 @@ pub record ObeysLaws (old : Places) (steps : List Step) (answers : List Answer)
   pub on_the_way : FromEachWorld old steps answers new
       (λ mid later. NothingLost mid later new × NothingAfterRemoval mid later)
   pub removals : TellsRemovals old answers new
+  pub new_devices_wait : NewDevicesWait old steps answers new
   pub nothing_lost_down : NothingLostDown old steps answers new run
   pub prefix : TakenIsPrefix old answers
   pub own_port : AreOfTheirPorts old answers

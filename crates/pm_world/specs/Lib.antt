@@ -7,6 +7,7 @@ pub mod Downward
 pub mod Turns
 pub mod Links
 pub mod Removals
+pub mod Cleared
 pub mod Delivery
 pub mod Apart
 pub mod Tickets

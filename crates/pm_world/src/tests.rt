@@ -2,9 +2,9 @@
 
 mod blocked;
 mod echo;
+mod faulting;
 mod found;
 mod going;
-mod faulting;
 mod memory;
 mod parts;
 mod reading;

@@ -153,3 +153,115 @@ came 0 conn 2
 ";
     assert_run(&rt, "run", input.as_bytes(), 0, output);
 }
+
+#[test]
+fn what_goes_or_is_exchanged_is_found(rt: HostRuntime) {
+    for (input, output) in [
+        // a second device goes between the driver's read of GSCR[32] and its write of PSCR[1]
+        (
+            "ports 3 capacity 4 memory 2
+came 0
+came 1
+came 2
+settle 1000
+gone 1
+step pmpresence 1
+step pmup
+step hosttake
+step tick
+step hostpush
+step pmfromhost
+gone 2
+step pmpresence 2
+settle 1000
+read 1 0 1 101000:512
+read 2 0 1 101000:512
+read 0 0 1 101000:512",
+            "ports 3 capacity 4 memory 2
+came 0 conn 1
+came 1 conn 1
+came 2 conn 1
+settled
+gone 1 conn 1
+moved
+moved
+took 15 0 17 a1cf500000000000
+moved
+moved
+moved
+gone 2 conn 1
+moved
+settled
+submit refused 1 NoDevice
+submit refused 1 NoDevice
+submitted 1
+",
+        ),
+        // one comes and goes before its port is open, and another one comes
+        (
+            "came 0
+step pmpresence 0
+step disksend 0
+step pmfromdevice 0
+gone 0
+step pmpresence 0
+settle 1000
+read 0 0 1 101000:512
+counts
+came 0
+settle 1000
+read 0 0 1 101000:512
+counts",
+            "ports 1 capacity 4 memory 2
+came 0 conn 1
+moved
+sent 0 1 0 3400500101000000000000000100000000000000
+moved
+gone 0 conn 1
+moved
+settled
+submit refused 1 NoDevice
+port 0 conn 1 sent 1 taken 0
+came 0 conn 2
+settled
+submitted 1
+port 0 conn 1 sent 1 taken 0
+port 0 conn 2 sent 3 taken 3
+",
+        ),
+        // one is exchanged within a round, in a read
+        (
+            "came 0
+settle 1000
+read 0 0 1 101000:512
+gone 0
+came 0
+step pmpresence 0
+step pmpresence 0
+settle 1000
+poll
+read 0 0 1 101000:512
+settle 1000
+poll
+counts",
+            "ports 1 capacity 4 memory 2
+came 0 conn 1
+settled
+submitted 1
+gone 0 conn 1
+came 0 conn 2
+moved
+moved
+settled
+ticket 1 slot 0 removed
+submitted 2
+settled
+ticket 2 slot 0 done
+port 0 conn 1 sent 3 taken 3
+port 0 conn 2 sent 7 taken 7
+",
+        ),
+    ] {
+        assert_run(&rt, "run", input.as_bytes(), 0, output);
+    }
+}

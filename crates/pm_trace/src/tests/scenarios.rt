@@ -98,6 +98,68 @@ port 0 conn 1 sent 12 taken 12
 }
 
 #[test]
+fn a_bad_sector_beside_a_disk_at_work(rt: HostRuntime) {
+    let input = "ports 3 capacity 4 memory 2
+disk 2 sectors 16 bad 8
+came 0
+came 2
+settle 1000
+read 0 0 1 101000:512
+read 0 1 1 101200:512
+read 2 8 1 102000:512
+read 2 9 1 102200:512
+read 2 10 1 102400:512
+read 2 11 1 102600:512
+settle 1000
+show 100000 8
+show 1001ff 1
+poll
+poll
+poll
+poll
+poll
+poll
+show 101000 4
+show 101200 4
+show 102000 4
+read 2 9 1 102200:512
+settle 1000
+poll
+show 102200 4
+counts";
+    let output = "ports 3 capacity 4 memory 2
+came 0 conn 1
+came 2 conn 1
+settled
+submitted 1
+submitted 2
+submitted 3
+submitted 4
+submitted 5
+submitted 6
+settled
+100000 0200414008000040
+1001ff 35
+ticket 1 slot 0 done
+ticket 2 slot 1 done
+ticket 3 slot 2 device-error 41 40
+ticket 4 slot 3 aborted
+ticket 5 slot 4 aborted
+ticket 6 slot 5 aborted
+101000 00010203
+101200 01020304
+102000 00000000
+submitted 7
+settled
+ticket 7 slot 0 done
+102200 090a0b0c
+port 0 conn 1 sent 11 taken 11
+port 2 conn 1 sent 11 taken 11
+";
+    assert_run(&rt, "run", input.as_bytes(), 0, output);
+}
+
+#[test]
 fn a_script_beside_disks(rt: HostRuntime) {
     // device 1 sends no signature, and ends commands of no one; device 3 sends one, and never says what it is
     let input = "ports 4 capacity 4 memory 2

@@ -244,6 +244,122 @@ nothing
     Ok(())
 }
 
+/// Two reads of device 0, and four of device 2, whose sector 8 is bad; the driver issues all of them. The first command of
+/// device 0 goes as far as its port.
+const READS: &str = "ports 3 capacity 4 memory 2
+disk 2 sectors 16 bad 8
+came 0
+came 2
+settle 1000
+read 0 0 1 101000:512
+read 0 1 1 101200:512
+read 2 8 1 102000:512
+read 2 9 1 102200:512
+read 2 10 1 102400:512
+read 2 11 1 102600:512
+step tick
+step tick
+step tick
+step tick
+step tick
+step tick
+step hostpush
+step pmfromhost
+";
+
+const READS_PRINT: &str = "ports 3 capacity 4 memory 2
+came 0 conn 1
+came 2 conn 1
+settled
+submitted 1
+submitted 2
+submitted 3
+submitted 4
+submitted 5
+submitted 6
+moved
+moved
+moved
+moved
+moved
+moved
+moved
+moved
+";
+
+/// Device 2 gets its next command and answers.
+const ANSWERS: &str = "step hostpush
+step pmfromhost
+step pmdown 2
+step disktake 2
+step disksend 2
+step pmfromdevice 2
+step pmup
+step hosttake
+";
+
+/// It fails, and then everything goes on.
+const FAILS: &str = "step disksend 2
+step pmfromdevice 2
+step pmup
+step hosttake
+step tick
+flush 2
+settle 1000
+poll
+poll
+poll
+poll
+poll
+poll
+poll
+show 100000 8
+show 1001ff 1
+show 101000 2
+show 1013fe 2
+show 102000 2";
+
+const FAILS_PRINT: &str = "sent 2 1 7 a140414000000000
+moved
+moved
+took 2 1 7 a142414000000000
+moved
+submit refused 2 Recovering
+settled
+ticket 1 slot 0 done
+ticket 2 slot 1 done
+ticket 3 slot 2 device-error 41 40
+ticket 4 slot 3 aborted
+ticket 5 slot 4 aborted
+ticket 6 slot 5 aborted
+nothing
+100000 0200414008000040
+1001ff 35
+101000 0001
+1013fe ff00
+102000 0000
+";
+
+/// The host takes the error of device 2 before device 0 has sent anything.
+#[test]
+fn an_error_comes_before_the_data_of_another(rt: HostRuntime) -> Result<(), Fail> {
+    let alloc = rt.alloc();
+    let mut input = READS.to_string(alloc)?;
+    let mut output = READS_PRINT.to_string(alloc)?;
+    for number in 3..7u32 {
+        input.push_str(ANSWERS)?;
+        output.push_str("moved\nmoved\nmoved\nmoved\n")?;
+        let tail = "500000000000000000000000000000000000";
+        output.push_str(format!(in alloc; "sent 2 1 {number} 3400{tail}\n")?.as_str())?;
+        output.push_str("moved\nmoved\n")?;
+        output.push_str(format!(in alloc; "took 2 1 {number} 3402{tail}\n")?.as_str())?;
+    }
+    input.push_str(FAILS)?;
+    output.push_str(FAILS_PRINT)?;
+    assert_run(&rt, "run", input.as_bytes(), 0, output.as_str());
+    Ok(())
+}
+
 #[test]
 fn tabs_and_blanks_stand_between_words(rt: HostRuntime) {
     let input = "\tports \t2 capacity 1\tmemory 2 \n came\t1\nstep\tpmpresence  1\t\n";

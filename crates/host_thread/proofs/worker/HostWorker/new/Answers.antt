@@ -4,16 +4,21 @@ use Rattle.multiplier.specs.Orders.{InStampedOrder}
 use Rattle.link_items.specs.Beginnings.{stamped_starts}
 use Rattle.host_thread.specs.declared.plan.State.TheVariants.{Waits}
 use Rattle.host_thread.specs.Runs.{starting}
+use Rattle.host_thread.specs.Tally.{AreCounted}
+use Rattle.host_thread.proofs.Tallies.{none_counted}
 use Rattle.host_thread.proofs.Steps.{begins}
 use Rattle.host_thread.proofs.worker.HostWorker.new.Goals as goal
 
 pub invariant_of-result : goal.invariant_of-result
 invariant_of-result c =
     let states : c.in_ok-states.states.items ≡ replicate (length c.args.plan.items) Waits = search rules in
-    record {
-      order = subst InStampedOrder (sym c.requires.up) stamped_starts;
-      all = ap length states ∙ length-replicate _ _;
-    }
+    let rows : c.new-2.result.items ≡ [] = search rules in (
+      record {
+        order = subst InStampedOrder (sym c.requires.up) stamped_starts;
+        all = ap length states ∙ length-replicate _ _;
+      },
+      subst (λ l. AreCounted l c.args.frames.taken) (sym rows) (subst (AreCounted []) (sym c.requires.up) none_counted),
+    )
 
 pub returns-clause-run : goal.returns-clause-run
 returns-clause-run c =

@@ -9,16 +9,31 @@ use Rattle.host_thread.proofs.worker.HostWorker.poll.Goals as goal
 
 pub returns-in-Some-place_of-clause-run : goal.returns-in-Some-place_of-clause-run
 returns-in-Some-place_of-clause-run c =
-    let w : HostView = record { host = c.self.inside.host; frames = c.self.inside.frames; commands = c.self.inside.commands; hand = c.self.inside.hand; plan = c.self.inside.plan.items; states = c.self.inside.states.items } in
+    let w : HostView = record {
+      host = c.self.inside.host;
+      frames = c.self.inside.frames;
+      commands = c.self.inside.commands;
+      hand = c.self.inside.hand;
+      plan = c.self.inside.plan.items;
+      states = c.self.inside.states.items;
+    } in
     let i = c.in-Some-place_of.i in
     let does : Polls w.host c.in-Some.completion c.poll.new.self = search rules in
     let there : i < length w.states = search rules in
     let is : slice_index_or w.states i state.Waits ≡ state.Submitted c.in-Some.completion.ticket = search rules in
-    subst (λ (o : HostView). GoesOn o (with_states w c.poll.new.self (slice_set w.states i (state.Ended (ended.Polled c.in-Some.completion.outcome))))) c.self.view_is
+    subst (λ (o : HostView). GoesOn o (with_states w c.poll.new.self
+    (slice_set w.states i (state.Ended (ended.Polled c.in-Some.completion.outcome))))) c.self.view_is
     (polls w c.poll.new.self c.in-Some.completion i there does is)
 
 pub returns-in_default-place_of-clause-run : goal.returns-in_default-place_of-clause-run
 returns-in_default-place_of-clause-run c =
-    let w : HostView = record { host = c.self.inside.host; frames = c.self.inside.frames; commands = c.self.inside.commands; hand = c.self.inside.hand; plan = c.self.inside.plan.items; states = c.self.inside.states.items } in
+    let w : HostView = record {
+      host = c.self.inside.host;
+      frames = c.self.inside.frames;
+      commands = c.self.inside.commands;
+      hand = c.self.inside.hand;
+      plan = c.self.inside.plan.items;
+      states = c.self.inside.states.items;
+    } in
     let does : Polls w.host c.in-Some.completion c.poll.new.self = search rules in
     subst (λ (o : HostView). GoesOn o (with_host w c.poll.new.self)) c.self.view_is (polls_other w c.poll.new.self c.in-Some.completion does)

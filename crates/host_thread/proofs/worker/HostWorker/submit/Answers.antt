@@ -11,7 +11,14 @@ use Rattle.host_thread.proofs.worker.HostWorker.submit.Goals as goal
 
 pub returns-in-Ok-clause-run : goal.returns-in-Ok-clause-run
 returns-in-Ok-clause-run c =
-    let w : HostView = record { host = c.self.inside.host; frames = c.self.inside.frames; commands = c.self.inside.commands; hand = c.self.inside.hand; plan = c.self.inside.plan.items; states = c.self.inside.states.items } in
+    let w : HostView = record {
+      host = c.self.inside.host;
+      frames = c.self.inside.frames;
+      commands = c.self.inside.commands;
+      hand = c.self.inside.hand;
+      plan = c.self.inside.plan.items;
+      states = c.self.inside.states.items;
+    } in
     let i = c.self.inside.next in
     let q : Planned = c.index-planned.result.now in
     let there : i < length w.plan = search rules in
@@ -23,13 +30,22 @@ returns-in-Ok-clause-run c =
 
 pub returns-clause-run : goal.returns-clause-run
 returns-clause-run c =
-    let w : HostView = record { host = c.self.inside.host; frames = c.self.inside.frames; commands = c.self.inside.commands; hand = c.self.inside.hand; plan = c.self.inside.plan.items; states = c.self.inside.states.items } in
+    let w : HostView = record {
+      host = c.self.inside.host;
+      frames = c.self.inside.frames;
+      commands = c.self.inside.commands;
+      hand = c.self.inside.hand;
+      plan = c.self.inside.plan.items;
+      states = c.self.inside.states.items;
+    } in
     let i = c.self.inside.next in
     let q : Planned = c.index-planned.result.now in
     let there : i < length w.plan = search rules in
     let same : c.submit.new.self ≡ w.host = search rules in
     let refused : submit_refusal w.host.driver w.host.memory q.dev q.request ≡ Some c.in-Err.refusal = search rules in
-    let at : submit_refusal w.host.driver w.host.memory (slice_index_or w.plan i q).dev (slice_index_or w.plan i q).request ≡ Some c.in-Err.refusal =
+    let at : submit_refusal w.host.driver w.host.memory (slice_index_or w.plan i q).dev
+    (slice_index_or w.plan i q).request ≡ Some c.in-Err.refusal =
     subst (λ (p : Planned). submit_refusal w.host.driver w.host.memory p.dev p.request ≡ Some c.in-Err.refusal) c.index-planned.ensures refused in
-    subst (λ (o : HostView). GoesOn o (with_states w c.submit.new.self (slice_set w.states i (state.Ended (ended.Refused c.in-Err.refusal))))) c.self.view_is
+    subst (λ (o : HostView). GoesOn o (with_states w c.submit.new.self
+    (slice_set w.states i (state.Ended (ended.Refused c.in-Err.refusal))))) c.self.view_is
     (refuses w c.submit.new.self i q c.in-Err.refusal there same at)

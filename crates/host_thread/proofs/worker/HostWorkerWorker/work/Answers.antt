@@ -1,4 +1,3 @@
-use Rattle.std.proofs.Common.{rules}
 use Rattle.host_thread.proofs.Steps.{same_then}
 use Rattle.host_thread.proofs.worker.HostWorkerWorker.work.Goals as goal
 use Rattle.host_thread.proofs.worker.HostWorkerWorker.work.Goals.{else-loop-test, then-loop-test+then-load, then-loop-test+else-load+else-not-is_open+in-Err}

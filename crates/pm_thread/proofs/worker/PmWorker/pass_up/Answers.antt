@@ -21,4 +21,5 @@ invariant_of-self-in-Err g c =
     let same : c.in-Err.frame ≡ c.in-Some.frame = search rules in
     let sent : c.send.new.self.sent ≡ c.self.inside.host.sent = search rules in
     keeps_up _ c.self.invariant c.next_up.new.self c.in-Some.frame rule c.send.new.self c.put_back_up.new.self can
-    (subst (λ f. UndoesUp c.next_up.new.self f c.put_back_up.new.self) (c.in-Err.frame-is ∙ same) c.put_back_up.ensures.undoes) c.next_up.ensures.ports c.put_back_up.ensures.ports sent
+    (subst (λ f. UndoesUp c.next_up.new.self f c.put_back_up.new.self)
+    (c.in-Err.frame-is ∙ same) c.put_back_up.ensures.undoes) c.next_up.ensures.ports c.put_back_up.ensures.ports sent

@@ -1,0 +1,80 @@
+-- No DMA Setup whose data moves names more bytes than a Data FIS holds.
+use Rattle.std.proofs.Common.{◌≡◌, ◌==◌, ℕ, ◌≤◌, Bool, true, false, List, drop, refl, sym, ap, subst, ◌∙◌, Option, Some, None, Ok, Err, Result}
+use Rattle.std.specs.Prelude.{find}
+use Rattle.fis_view.specs.Table.{BufferId, Offset, Setup, field}
+use Rattle.fis_view.specs.Table as table
+use Rattle.fis_view.specs.declared.view.Fis.{Fis}
+use Rattle.fis_view.specs.declared.view.Fis.TheVariants as view
+use Rattle.fis_view.specs.declared.view.FisFault.{FisFault}
+use Rattle.disk_model.specs.declared.request.Command.{Command}
+use Rattle.disk_model.specs.Ends.{IsAskedFor, IsRight}
+use Rattle.disk_model.specs.Laws.{ActivatesRight, CarriesNext, CarriesRight, SetsUpRight, StartsOne}
+use Rattle.disk_model.specs.Ledger.{Ledger, Moving, activates, listens_up, sends_data, sets_up, starts_moving, takes_data}
+use Rattle.disk_model.proofs.CrossLemmas.{after_bytes, bits_up, data_down, goes_by, is_all, with_bytes}
+use Rattle.disk_ends.specs.Joined.{AreShort, IsShort}
+
+same_count : (a v : Moving) → Some a ≡ Some v → a.count ≡ v.count
+same_count a v e = let is : a ≡ v = cc e in ap (λ (x : Moving). x.count) is
+
+short_bytes : (k : Ledger) (w : Moving) (bytes : List ℕ) (b write : Bool) → k.moving ≡ Some w → AreShort k
+    → AreShort (after_bytes k (with_bytes w bytes) b write)
+short_bytes k w bytes true true was short v now = cc now
+short_bytes k w bytes true false was short v now = cc now
+short_bytes k w bytes false write was short v now = subst (λ (n : ℕ). n ≤ 8192) (same_count (with_bytes w bytes) v now) (short w was)
+
+short_setup : (k : Ledger) (f : List ℕ) (m : Option Moving) (o : Option Command) → k.moving ≡ m
+    → find (λ q. q.tag == field Setup BufferId f) k.outstanding ≡ o → IsRight k (Ok (view.DmaSetup f)) → field Setup table.Count f ≤ 8192
+    → AreShort (listens_up k (Ok (view.DmaSetup f)))
+short_setup k f None None moving found right few v now =
+    let first : SetsUpRight k None f = subst (λ (x : Option Moving). SetsUpRight k x f) moving right.moves in
+    absurd (subst (λ (q : Option Command). StartsOne q f) found first)
+short_setup k f None (Some q) moving found right few v now =
+    let at = field Setup Offset f in
+    let count = field Setup table.Count f in
+    let up : listens_up k (Ok (view.DmaSetup f)) ≡ starts_moving k at count (Some q) =
+    ap (λ (x : Option Moving). sets_up k x (field Setup BufferId f) at count) moving ∙ ap (starts_moving k at count) found in
+    let here = sym (ap (λ (x : Ledger). x.moving) up) ∙ now in
+    subst (λ (n : ℕ). n ≤ 8192) (same_count _ v here) few
+short_setup k f (Some w) o moving found right few v now =
+    let at = field Setup Offset f in
+    let count = field Setup table.Count f in
+    let up : listens_up k (Ok (view.DmaSetup f)) ≡ sets_up k (Some w) (field Setup BufferId f) at count =
+    ap (λ (x : Option Moving). sets_up k x (field Setup BufferId f) at count) moving in
+    let here = sym (ap (λ (x : Ledger). x.moving) up) ∙ now in
+    subst (λ (n : ℕ). n ≤ 8192) (same_count _ v here) few
+
+short_activate : (k : Ledger) (m : Option Moving) → k.moving ≡ m → ActivatesRight m → AreShort k → AreShort (activates k k.moving)
+short_activate k None moving right short v now = absurd right
+short_activate k (Some w) moving right short v now =
+    let here : Some (record w { active = true }) ≡ Some v = sym (ap (λ (x : Option Moving). (activates k x).moving) moving) ∙ now in
+    subst (λ (n : ℕ). n ≤ 8192) (same_count (record w { active = true }) v here) (short w moving)
+
+short_data : (k : Ledger) (bytes : List ℕ) (m : Option Moving) → k.moving ≡ m → CarriesRight m bytes → AreShort k
+    → AreShort (sends_data k k.moving bytes)
+short_data k bytes None moving right short v now =
+    let here : k.moving ≡ Some v = sym (ap (λ (x : Option Moving). (sends_data k x bytes).moving) moving) ∙ now in
+    short v here
+short_data k bytes (Some w) moving right short v now =
+    let carries : CarriesNext w bytes = right in
+    let up : sends_data k k.moving bytes ≡ after_bytes k (with_bytes w bytes) (is_all (with_bytes w bytes)) false =
+    ap (λ (x : Option Moving). sends_data k x bytes) moving ∙ goes_by k (with_bytes w bytes) (is_all (with_bytes w bytes)) false refl carries.reads in
+    short_bytes k w bytes (is_all (with_bytes w bytes)) false moving short v (sym (ap (λ (x : Ledger). x.moving) up) ∙ now)
+
+pub short_up : (k : Ledger) (r : Result Fis FisFault) → IsRight k r → IsShort r → AreShort k → AreShort (listens_up k r)
+short_up k (Ok (view.RegH2D f)) right few short = short
+short_up k (Ok (view.RegD2H f)) right few short = short
+short_up k (Ok (view.SetBits f)) right few short = λ v now. short v (sym (ap (λ (x : Ledger). x.moving) (bits_up k f right.fine)) ∙ now)
+short_up k (Ok (view.DmaActivate f)) right few short = short_activate k k.moving refl right.moves short
+short_up k (Ok (view.DmaSetup f)) right few short =
+    short_setup k f k.moving (find (λ q. q.tag == field Setup BufferId f) k.outstanding) refl refl right few
+short_up k (Ok (view.PioSetup f)) right few short = short
+short_up k (Ok (view.Payload f)) right few short = short_data k (drop 4 f) k.moving refl right.moves short
+short_up k (Ok (view.Unknown f)) right few short = short
+short_up k (Err e) right few short = short
+
+pub short_down : (k : Ledger) (w : Moving) (bytes : List ℕ) → k.moving ≡ Some w → IsAskedFor w bytes → AreShort k
+    → AreShort (takes_data k k.moving bytes)
+short_down k w bytes moving asked short v now =
+    let down : takes_data k k.moving bytes ≡ after_bytes k (with_bytes w bytes) (is_all (with_bytes w bytes)) true =
+    data_down k w bytes (is_all (with_bytes w bytes)) moving asked refl in
+    short_bytes k w bytes (is_all (with_bytes w bytes)) true moving short v (sym (ap (λ (x : Ledger). x.moving) down) ∙ now)

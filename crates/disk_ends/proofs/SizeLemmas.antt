@@ -1,0 +1,158 @@
+-- No DMA Setup of a disk names more bytes than a Data FIS holds.
+use Rattle.std.proofs.Common.{◌≡◌, ◌&&◌, ◌==◌, ℕ, ◌+◌, ◌*◌, ◌%◌, ◌<◌, ◌≤◌, Bool, true, false, List, [], ◌∷◌, ◌++◌, drop, refl, ap, sym, subst, ◌∙◌, Option, Some, None, arith}
+use Rattle.std.specs.Prelude.{nat_le, not}
+use Rattle.std.proofs.lemmas.Bool.{and_parts, leb-true}
+use Rattle.fis_view.specs.Table.{Count, Setup, field}
+use Rattle.fis_view.specs.Seen.{seen}
+use Rattle.disk_model.specs.declared.plan.DiskPlan.{DiskPlan}
+use Rattle.disk_model.specs.declared.request.Command.{Command}
+use Rattle.disk_model.specs.declared.answer.Answer.{Answer}
+use Rattle.disk_model.specs.declared.answer.Answer.TheVariants.{Accepted, Ended, Finished, PageData, PageFollows, Refused, Signature}
+use Rattle.disk_model.specs.declared.answer.Fault.{Fault}
+use Rattle.disk_model.specs.Chunks.{chunk_count, chunk_from, chunk_setup, chunks, fault_of}
+use Rattle.disk_model.specs.Disks.{Moment, Started, Writing, opening, pick_turn, picked, read_turn, turn, write_turn}
+use Rattle.disk_model.specs.Ends.{IsLinked, begins, comes, gives, sends, takes}
+use Rattle.disk_model.specs.Histories.{Happening, Received, Sent}
+use Rattle.disk_model.specs.Ledger.{IsSize, Moving, ledger}
+use Rattle.disk_model.specs.Runs.{IsDiskRun, IsTurn, moment}
+use Rattle.disk_model.specs.Sendings.{Sending, Shows, answer_sent}
+use Rattle.disk_model.proofs.AgreeLemmas.{Asked, Fresh, IsReading, IsWriting, Moves, SetUp, Stage, at}
+use Rattle.disk_model.proofs.FaultLemmas.{can_be_done}
+use Rattle.disk_model.proofs.GeometryLemmas.{ChunkPart, chunk_part, some_chunks}
+use Rattle.disk_model.proofs.LawLemmas.{agrees, begun_by, last_may, same_turn, sized_by}
+use Rattle.disk_model.proofs.QueueLemmas.{IsIn, IsQueue}
+use Rattle.disk_model.proofs.SendLemmas.{sends_left_next}
+use Rattle.disk_model.proofs.ShowsLemmas.{TellsSetup}
+use Rattle.disk_model.proofs.StartLemmas.{picked_in}
+use Rattle.disk_model.proofs.StoreLemmas.{IsSized}
+use Rattle.disk_model.proofs.TransferLemmas.{setup_of_chunk}
+use Rattle.disk_ends.specs.Joined.{IsShort}
+use Rattle.disk_ends.specs.Hosted.{NextIsShort}
+
+answer_short : (sectors : ℕ) (a : Answer) (b : List ℕ) → Shows (answer_sent sectors a) b → IsShort (seen b)
+answer_short sectors Signature b shows = rw shows.viewed tt
+answer_short sectors Accepted b shows = rw shows.viewed tt
+answer_short sectors Finished b shows = rw shows.viewed tt
+answer_short sectors Refused b shows = rw shows.viewed tt
+answer_short sectors (Ended t) b shows = rw shows.viewed tt
+answer_short sectors PageFollows b shows = rw shows.viewed tt
+answer_short sectors (PageData page) b shows = rw shows.1 tt
+
+-- the DMA Setup of a chunk
+chunk_short : (plan : DiskPlan) (c : Command) (left : ℕ) (b : List ℕ) → plan.chunk ≤ 8192
+    → TellsSetup c.tag (512 * chunk_from plan c left) (512 * chunk_count plan c left) (not c.write) b → IsShort (seen b)
+chunk_short plan c left b high told =
+    let few : 512 * chunk_count plan c left ≤ 8192 = omega (arith, high) in
+    let small : field Setup Count b ≤ 8192 = subst (λ (n : ℕ). n ≤ 8192) (sym told.count_is) few in
+    rw told.viewed small
+
+start_short : (plan : DiskPlan) (sectors : ℕ) (queued : List Command) (c : Command) (b : List ℕ) → plan.chunk ≤ 8192 → IsSized plan sectors
+    → IsIn queued c → c.lba + c.count ≤ sectors → Shows (chunk_setup plan c (chunks plan c)) b → IsShort (seen b)
+start_short plan sectors queued c b high sized here inside shows =
+    let all = chunks plan c in
+    let more : 0 < chunks plan c = some_chunks plan c sized.low here.some in
+    let part : ChunkPart plan c all = chunk_part plan c all sized.low here.some more (omega arith) in
+    chunk_short plan c all b high (setup_of_chunk plan sectors c all b sized part inside here.tag shows)
+
+begin_short : (plan : DiskPlan) (sectors : ℕ) (m : Moment) (c : Command) (bad : Option Fault) (write : Bool) (b : List ℕ) → plan.chunk ≤ 8192
+    → fault_of plan sectors c ≡ bad → IsSized plan sectors → IsIn m.queued c → IsTurn (begun_by plan m c bad write) b → IsShort (seen b)
+begin_short plan sectors m c (Some f) write b high is sized here may = rw may.viewed tt
+begin_short plan sectors m c None true b high is sized here may =
+    start_short plan sectors m.queued c b high sized here (can_be_done plan sectors c is).inside may
+begin_short plan sectors m c None false b high is sized here may =
+    let next = sends_left_next plan m.medium c (chunks plan c) (some_chunks plan c sized.low here.some) in
+    start_short plan sectors m.queued c b high sized here (can_be_done plan sectors c is).inside
+    (subst (λ (xs : List Sending). IsTurn (read_turn m c xs) b) next may)
+
+pick_short : (plan : DiskPlan) (sectors : ℕ) (m : Moment) (o : Option Command) (b : List ℕ) → plan.chunk ≤ 8192 → IsSized plan sectors
+    → IsQueue m.queued → picked plan.order m.queued ≡ o → IsTurn (pick_turn plan sectors m o) b → IsShort (seen b)
+pick_short plan sectors m None b high sized queue is may = absurd may
+pick_short plan sectors m (Some c) b high sized queue is may =
+    begin_short plan sectors m c _ c.write b high refl sized (picked_in plan.order m.queued c queue is)
+    (same_turn plan m c (fault_of plan sectors c) b may)
+
+read_short : (plan : DiskPlan) (sectors : ℕ) (m : Moment) (medium : List ℕ) (s : Started) (v : Moving) (left : ℕ) (up : Bool) (b : List ℕ)
+    → plan.chunk ≤ 8192 → IsSized plan sectors → IsReading plan sectors medium s v left up → IsTurn (read_turn m s.command s.sends) b
+    → IsShort (seen b)
+read_short plan sectors m medium s v left false b high sized r may =
+    let c = s.command in
+    let mv = r.moving in
+    let next = sends_left_next plan medium c left mv.more in
+    let shows = subst (λ (xs : List Sending). IsTurn (read_turn m c xs) b) (r.stage ∙ next) may in
+    let part : ChunkPart plan c left = chunk_part plan c left sized.low mv.some mv.more mv.among in
+    chunk_short plan c left b high (setup_of_chunk plan sectors c left b sized part mv.inside mv.tag shows)
+read_short plan sectors m medium s v left true b high sized r may =
+    let c = s.command in
+    let mv = r.moving in
+    let next = sends_left_next plan medium c left mv.more in
+    let shows = subst (λ (xs : List Sending). IsTurn (read_turn m c xs) b) (r.stage.0 ∙ ap (drop 1) next) may in
+    rw shows.1 tt
+
+write_short : (plan : DiskPlan) (sectors : ℕ) (m : Moment) (w : Writing) (v : Moving) (stage : Stage) (b : List ℕ) → plan.chunk ≤ 8192
+    → IsSized plan sectors → IsWriting plan sectors w v stage → IsTurn (write_turn m w w.sends) b → IsShort (seen b)
+write_short plan sectors m w v Fresh b high sized r may =
+    let c = w.command in
+    let mv = r.moving in
+    let shows = subst (λ (xs : List Sending). IsTurn (write_turn m w xs) b) r.stage.0 may in
+    let part : ChunkPart plan c w.left = chunk_part plan c w.left sized.low mv.some mv.more mv.among in
+    chunk_short plan c w.left b high (setup_of_chunk plan sectors c w.left b sized part mv.inside mv.tag shows)
+write_short plan sectors m w v SetUp b high sized r may =
+    let shows = subst (λ (xs : List Sending). IsTurn (write_turn m w xs) b) r.stage.0 may in
+    rw shows.viewed tt
+write_short plan sectors m w v Asked b high sized r may = absurd (subst (λ (xs : List Sending). IsTurn (write_turn m w xs) b) r.stage.0 may)
+
+turn_short : (plan : DiskPlan) (sectors : ℕ) (medium : List ℕ) (queued : List Command) (fault : Option Fault) (resetting : Bool) (owed : List Answer)
+    (s : Option Started) (w : Option Writing) (v : Option Moving) (b : List ℕ)
+    → plan.chunk ≤ 8192 → IsSized plan sectors → IsQueue queued → Moves plan sectors medium queued owed s w v
+    → IsTurn (turn plan sectors (at medium queued fault resetting owed s w)) b → IsShort (seen b)
+turn_short plan sectors medium queued fault resetting (x ∷ later) s w v b high sized queue m may = answer_short sectors x b may
+turn_short plan sectors medium queued fault resetting [] None None None b high sized queue m may =
+    pick_short plan sectors (at medium queued fault resetting [] None None) _ b high sized queue refl may
+turn_short plan sectors medium queued fault resetting [] None None (Some v) b high sized queue m may = absurd m
+turn_short plan sectors medium queued fault resetting [] (Some s) None None b high sized queue m may = absurd m
+turn_short plan sectors medium queued fault resetting [] (Some s) None (Some v) b high sized queue m may =
+    read_short plan sectors (at medium queued fault resetting [] (Some s) None) medium s v m.0 m.1 b high sized m.2 may
+turn_short plan sectors medium queued fault resetting [] None (Some w) None b high sized queue m may = absurd m
+turn_short plan sectors medium queued fault resetting [] None (Some w) (Some v) b high sized queue m may =
+    write_short plan sectors (at medium queued fault resetting [] None (Some w)) w v m.0 b high sized m.1 may
+turn_short plan sectors medium queued fault resetting [] (Some s) (Some w) v b high sized queue m may = absurd m
+
+chunk_high : (plan : DiskPlan) (sectors : ℕ) → IsSize plan sectors → plan.chunk ≤ 8192
+chunk_high plan sectors size =
+    let all = and_parts (nat_le 1 sectors && nat_le sectors 65536 && nat_le 512 plan.chunk && nat_le plan.chunk 8192) (plan.chunk % 512 == 0) size in
+    let most = and_parts (nat_le 1 sectors && nat_le sectors 65536 && nat_le 512 plan.chunk) (nat_le plan.chunk 8192) all.0 in
+    leb-true plan.chunk 8192 most.1
+
+sent_short : (plan : DiskPlan) (sectors : ℕ) (h : List Happening) (b : List ℕ) → IsSize plan sectors → IsDiskRun plan sectors (h ++ Sent b ∷ [])
+    → IsShort (seen b)
+sent_short plan sectors h b size run =
+    let parts = last_may plan sectors (opening sectors) h (Sent b) run in
+    let a = agrees plan sectors h size parts.0 in
+    let m = moment plan sectors h in
+    turn_short plan sectors m.medium m.queued m.fault m.resetting m.owed m.started m.writing (ledger h).moving b (chunk_high plan sectors size)
+    (sized_by plan sectors size) a.queue a.moving parts.1
+
+-- ## What is on its way up
+
+abbrev AllShort : List (List ℕ) → Type 0
+AllShort [] = Unit {0}
+AllShort (b ∷ up) = IsShort (seen b) × AllShort up
+
+more_short : (up : List (List ℕ)) (b : List ℕ) → AllShort up → IsShort (seen b) → AllShort (up ++ b ∷ [])
+more_short [] b all one = (one, tt)
+more_short (x ∷ up) b all one = (all.0, more_short up b all.1 one)
+
+up_short : (plan : DiskPlan) (sectors : ℕ) (disk host : List Happening) (down up : List (List ℕ)) → IsSize plan sectors → IsDiskRun plan sectors disk
+    → IsLinked disk host down up → AllShort up
+up_short plan sectors disk host down up size run begins = tt
+up_short plan sectors disk host down up size run (gives d h below above bytes linked) = up_short plan sectors d h below above size run linked
+up_short plan sectors disk host down up size run (comes d h before after above bytes linked) =
+    up_short plan sectors d h (before ++ bytes ∷ after) above size (last_may plan sectors (opening sectors) d (Received bytes) run).0 linked
+up_short plan sectors disk host down up size run (sends d h below above bytes fine linked) =
+    more_short above bytes (up_short plan sectors d h below above size (last_may plan sectors (opening sectors) d (Sent bytes) run).0 linked)
+    (sent_short plan sectors d bytes size run)
+up_short plan sectors disk host down up size run (takes d h below above bytes linked) =
+    (up_short plan sectors d h below (bytes ∷ above) size run linked).1
+
+pub next_short : NextIsShort
+next_short plan sectors disk given down up bytes size run linked = (up_short plan sectors disk given down (bytes ∷ up) size run linked).0

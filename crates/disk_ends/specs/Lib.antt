@@ -1,0 +1,11 @@
+pub mod Same
+pub mod Steps
+pub mod Answers
+pub mod Together
+pub mod Honest
+pub mod Heard
+pub mod Joined
+pub mod Hosted
+pub mod Marked
+pub mod Elsewhere
+pub mod Calm

@@ -1,0 +1,108 @@
+//! Laws of a host's two views of a disk. The functions do nothing when they run.
+
+ghost use Rattle.disk_ends.specs.Answers.{AnswersKeep, NamesKeep, OthersKeep};
+ghost use Rattle.disk_ends.specs.Calm.{CalmRunsKeep};
+ghost use Rattle.disk_ends.specs.Elsewhere.{OthersLeaveDevice};
+ghost use Rattle.disk_ends.specs.Heard.{HeardAsTold};
+ghost use Rattle.disk_ends.specs.Honest.{DoneIsHonest, NextIsRight};
+ghost use Rattle.disk_ends.specs.Hosted.{HostedIsKept, NextIsShort};
+ghost use Rattle.disk_ends.specs.Joined.{JoinsCommands, JoinsData, JoinsFrames};
+ghost use Rattle.disk_ends.specs.Joined.{JoinsIssues, JoinsOthers, ReportsHonestly, StaysJoined};
+ghost use Rattle.disk_ends.specs.Marked.{MarksTellNothing};
+ghost use Rattle.disk_ends.specs.Same.{CommandsKeep, DataFills, IssuesKeep, SetupsStart};
+ghost use Rattle.disk_ends.specs.Steps.{ActivatesKeep, DataDown, DataUp, SetupsGoOn};
+ghost use Rattle.disk_ends.specs.Together.{SameGoesOn};
+
+/// A command that is issued in a slot whose tag is free, and then goes out, is one that the ledger
+/// has as outstanding with nothing filled; those of other slots stand as they stood.
+pub fn issues_and_commands_keep_the_same()
+    ensures issues { IssuesKeep }
+    ensures commands { CommandsKeep }
+{}
+
+/// The first DMA Setup of an outstanding command makes it the one whose data moves, a further one
+/// says where its next bytes lie, and a DMA Activate asks for them; the commands of other slots
+/// stand as they stood.
+pub fn setups_keep_the_same()
+    ensures starts { SetupsStart }
+    ensures goes_on { SetupsGoOn }
+    ensures activates { ActivatesKeep }
+{}
+
+/// Data of the command that moves fills each byte with the one that the ledger puts there.
+pub fn data_fills_what_moves()
+    ensures { DataFills }
+{}
+
+/// Data leaves each queued command of the device where the ledger says: the one that moves goes on
+/// or ends with just the bytes that were filled, those of other slots stand as they stood.
+pub fn data_keeps_the_same()
+    ensures up { DataUp }
+    ensures down { DataDown }
+{}
+
+/// A command that is not queued goes out, a Register FIS answers it, a PIO Setup and a page come:
+/// each leaves the queued commands of other slots as they stood.
+pub fn answers_keep_the_same()
+    ensures others { OthersKeep }
+    ensures answers { AnswersKeep }
+{}
+
+/// A command that a Set Device Bits FIS names ended with just the bytes that were filled, and its
+/// tag is free afterwards.
+pub fn names_are_of_what_ended()
+    ensures { NamesKeep }
+{}
+
+/// From the moment that the disk is plugged in both views say the same of each slot, and they go on
+/// to do so at each command that is issued or goes out, and at each FIS of the disk.
+pub fn both_views_go_on_together()
+    ensures { SameGoesOn }
+{}
+
+/// A queued command that is done was done honestly, whatever is on its way between disk and host: a
+/// read brought its sectors of the medium, and a write is on it.
+pub fn done_is_honest()
+    ensures next { NextIsRight }
+    ensures done { DoneIsHonest }
+{}
+
+/// A FIS of the disk that a host port hears, and of which it reports nothing wrong, is to the
+/// device's history just what it tells.
+pub fn fises_are_heard_as_told()
+    ensures { HeardAsTold }
+{}
+
+/// The view that a host port has of a disk, its history and the ledger go on to agree at each FIS
+/// that the port hears and at each that it gives; and what it gives fits the ledger.
+pub fn port_and_ledger_stay_joined()
+    ensures frames { JoinsFrames }
+    ensures commands { JoinsCommands }
+    ensures others { JoinsOthers }
+    ensures data { JoinsData }
+    ensures issues { JoinsIssues }
+    ensures stays { StaysJoined }
+{}
+
+/// Whatever a host does with a disk from its plugging on, as long as its port refuses and empties
+/// nothing, it is careful, and its port agrees with the ledger; no DMA Setup of a disk names more
+/// than a Data FIS holds; and the ledger hears the same of a FIS whatever its PM Port.
+pub fn hosts_are_careful()
+    ensures kept { HostedIsKept }
+    ensures short { NextIsShort }
+    ensures marks { MarksTellNothing }
+{}
+
+/// What a report of the port says is done, at a FIS that is the next to come from a disk, was done
+/// honestly.
+pub fn reports_are_honest()
+    ensures { ReportsHonestly }
+{}
+
+/// What happens at a host port and is none of a device's leaves the device's view, and is no event
+/// of its history; so a host keeps what it has of a device over events that are none of it, or
+/// issue commands for it.
+pub fn others_leave_a_device()
+    ensures others { OthersLeaveDevice }
+    ensures calm { CalmRunsKeep }
+{}

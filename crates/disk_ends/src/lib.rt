@@ -1,0 +1,12 @@
+//! The two views of one disk that a host has: the ledger that the FISes at its end of the link
+//! tell, and the history of the device's events at its port.
+#![tactic(auto)]
+
+mod law;
+
+pub use law::{
+    answers_keep_the_same, both_views_go_on_together, data_fills_what_moves, data_keeps_the_same,
+    done_is_honest, fises_are_heard_as_told, hosts_are_careful, issues_and_commands_keep_the_same,
+    names_are_of_what_ended, others_leave_a_device, port_and_ledger_stay_joined,
+    reports_are_honest, setups_keep_the_same,
+};

@@ -1,0 +1,157 @@
+//! A disk behind a port multiplier, without a host port: the program plays the host. It opens port 0 by register writes to
+//! the control port, lets the new device in, and asks the disk for a sector. Each FIS that goes up is printed as its bytes.
+#![tactic(auto)]
+
+ghost use Rattle.std.specs.Prelude.{◌≡◌, ◌<◌};
+
+use disk_model::{Device, Disk, DiskPlan};
+use fis_view::{Frame, H2dFields, Stamp};
+use multiplier::Multiplier;
+use pm_ports::Offered;
+use std::alloc::{AllocError, Global};
+use std::io;
+
+/// The PM Port of the multiplier itself.
+const CONTROL_PORT: u8 = 15;
+
+/// Frames of the host have no port, connection or number.
+fn of_host() -> Stamp {
+    Stamp {
+        port: 0,
+        conn: 0,
+        number: 0,
+        shown: [0; 15],
+    }
+}
+
+/// A write of a register of port 0, whose value has one byte that is not 0: the highest or the lowest.
+fn register_write(register: u16, lowest: u8, highest: u8) -> H2dFields {
+    H2dFields {
+        pm_port: CONTROL_PORT,
+        c: true,
+        command: 0xE8,
+        features: register,
+        lba: u64::from(highest) * 0x1_0000,
+        device: 0,
+        count: u16::from(lowest),
+        icc: 0,
+        control: 0,
+    }
+}
+
+/// READ FPDMA QUEUED of sector 5, with tag 0.
+fn read() -> H2dFields {
+    H2dFields {
+        pm_port: 0,
+        c: true,
+        command: 0x60,
+        features: 1,
+        lba: 5,
+        device: 0x40,
+        count: 0,
+        icc: 0,
+        control: 0,
+    }
+}
+
+/// Gives the multiplier a frame of the host. Where the place that it needs is taken, it is lost here.
+fn give(alloc: Global, pm: &mut Multiplier, fields: &H2dFields) -> Result<(), AllocError>
+    ensures { pm.new.registers.ports ≡ pm.old.registers.ports }
+{
+    let frame = fis_view::h2d(alloc, fields, of_host())?;
+    let _ = pm.from_host(alloc, frame);
+    Ok(())
+}
+
+/// Lets all that waits for the disk down to it.
+fn serve(alloc: Global, pm: &mut Multiplier, disk: &mut Disk) -> Result<(), AllocError>
+    requires { 0 < pm.old.registers.ports }
+    ensures { pm.new.registers.ports ≡ pm.old.registers.ports }
+{
+    match pm.next_down(0) {
+        Some(frame) => disk.on_frame(alloc, &frame),
+        None => Ok(()),
+    }
+}
+
+/// Lets the disk send its next FIS, which is the given one of its first connection, into the hold of port 0.
+fn send(
+    alloc: Global,
+    pm: &mut Multiplier,
+    disk: &mut Disk,
+    number: u32,
+) -> Result<bool, AllocError>
+    requires { 0 < pm.old.registers.ports }
+    ensures { pm.new.registers.ports ≡ pm.old.registers.ports }
+{
+    let stamp = Stamp {
+        port: 0,
+        conn: 1,
+        number,
+        shown: [0; 15],
+    };
+    match disk.next_out(alloc, stamp)? {
+        Some(frame) => Ok(matches!(pm.from_device(0, frame), Ok(Offered::Held))),
+        None => Ok(false),
+    }
+}
+
+/// Prints the first 20 bytes of what goes up next.
+fn show(rt: &HostRuntime, pm: &mut Multiplier) -> io::Result<()>
+    ensures { pm.new.registers.ports ≡ pm.old.registers.ports }
+{
+    match pm.next_up(rt.alloc())? {
+        Some(frame) => {
+            let bytes = frame.bytes();
+            let text = hex::encode(rt.alloc(), bytes.get(..20).unwrap_or(bytes))?;
+            println!(rt; "up {text}")
+        }
+        None => println!(rt; "nothing goes up"),
+    }
+}
+
+/// The disk is plugged in at port 0, under connection 1, and the port records it.
+fn plug(alloc: Global, pm: &mut Multiplier, disk: &mut Disk) -> Result<(), AllocError>
+    requires { 0 < pm.old.registers.ports }
+    ensures { pm.new.registers.ports ≡ pm.old.registers.ports }
+{
+    disk.plugged(alloc)?;
+    let _ = pm.came(0, 1);
+    Ok(())
+}
+
+/// The host opens port 0: SControl 0, and then X of SError is cleared, before which nothing passes.
+fn open(rt: &HostRuntime, pm: &mut Multiplier) -> io::Result<()>
+    ensures { pm.new.registers.ports ≡ pm.old.registers.ports }
+{
+    give(rt.alloc(), pm, &register_write(2, 0, 0))?;
+    show(rt, pm)?;
+    give(rt.alloc(), pm, &register_write(1, 0, 4))?;
+    show(rt, pm)
+}
+
+/// The disk tells its signature, is asked for a sector, and sends it.
+fn exchange(rt: &HostRuntime, pm: &mut Multiplier, disk: &mut Disk) -> io::Result<()>
+    requires { 0 < pm.old.registers.ports }
+    ensures { pm.new.registers.ports ≡ pm.old.registers.ports }
+{
+    send(rt.alloc(), pm, disk, 0)?;
+    show(rt, pm)?;
+    give(rt.alloc(), pm, &read())?;
+    serve(rt.alloc(), pm, disk)?;
+    for number in 1..6 {
+        send(rt.alloc(), pm, disk, number)?;
+        show(rt, pm)?;
+    }
+    Ok(())
+}
+
+fn main(rt: HostRuntime) -> io::Result<()> {
+    let Ok(mut disk) = Disk::new(rt.alloc(), 16, DiskPlan::plain()) else {
+        return println!(rt; "no memory");
+    };
+    let mut pm = Multiplier::new(1);
+    plug(rt.alloc(), &mut pm, &mut disk)?;
+    open(&rt, &mut pm)?;
+    exchange(&rt, &mut pm, &mut disk)
+}

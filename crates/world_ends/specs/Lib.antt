@@ -1,0 +1,4 @@
+pub mod Wired
+pub mod Honest
+pub mod Given
+pub mod Brought

@@ -1,0 +1,29 @@
+//! Laws of the two ends of a disk's link in a world. The functions do nothing when they run.
+
+ghost use Rattle.world_ends.specs.Brought.{TookBrings};
+ghost use Rattle.world_ends.specs.Given.{PushedFits};
+ghost use Rattle.world_ends.specs.Honest.{TookIsHonest};
+ghost use Rattle.world_ends.specs.Wired.{DisksStayLinked, PluggedIsLinked, RunsStayLinked};
+
+/// What a disk and the host did at their ends of the disk's link, and what is on its way between
+/// them, are linked from the plugging on, and go on to be so at each step of a world and over each
+/// run of it.
+pub fn disks_stay_linked()
+    ensures plugged { PluggedIsLinked }
+    ensures steps { DisksStayLinked }
+    ensures runs { RunsStayLinked }
+{}
+
+/// What a report says is done, at a FIS that the host of a world takes of a disk, was done
+/// honestly, where nothing went wrong since the disk was plugged in; and what the host gives to the
+/// disk fits what was told before.
+pub fn taken_is_honest()
+    ensures taken { TookIsHonest }
+    ensures given { PushedFits }
+{}
+
+/// When a queued read is reported as done, each of its bytes stands in client memory at its place,
+/// and they are the sectors of the disk as they were when it started the read.
+pub fn reads_are_brought()
+    ensures brought { TookBrings }
+{}

@@ -1,0 +1,6 @@
+//! The two ends of a disk's link in a world, and what the host takes of the disk.
+#![tactic(auto)]
+
+mod law;
+
+pub use law::{disks_stay_linked, taken_is_honest};
