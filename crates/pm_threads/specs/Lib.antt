@@ -1,1 +1,4 @@
+pub mod Ends
 pub mod Links
+pub mod Seats
+pub mod Setups

@@ -1,11 +1,23 @@
-//! Disks, a port multiplier and a host on links between threads.
+//! Disks, a port multiplier and a host, each in a thread of its own, on links between threads.
 //!
-//! So far: the [`Links`] of one run.
+//! [`run_threads`] seats a worker at each end of the [`Links`] and runs all of them side by side; [`close`] brings the
+//! seats together again, and says what holds of every run, whatever the threads did when: what the host took of a
+//! connection is a beginning of what its device sent on it.
 #![tactic(auto)]
 
+mod closing;
+mod finished;
 mod links;
+mod meeting;
+mod run;
+mod seats;
+mod setup;
 
+pub use closing::{Summary, close};
+pub use finished::Finished;
 pub use links::{Links, LinksError};
+pub use run::{RunError, run_threads};
+pub use setup::{MAX_TURNS, Setup};
 
 #[cfg(test)]
 mod tests;

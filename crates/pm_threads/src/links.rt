@@ -1,6 +1,6 @@
 //! The links of one run.
 
-ghost use Rattle.std.specs.Prelude.{◌≡◌, ◌↔◌, true, false, IfOk};
+ghost use Rattle.std.specs.Prelude.{◌≡◌, ◌↔◌, true, false, length, IfOk};
 ghost use Rattle.ruled_links.specs.Links.{is_capacity};
 ghost use Rattle.pm_threads.specs.Links.{is_config, new_device, new_links};
 
@@ -39,10 +39,10 @@ impl From<LinkError> for LinksError {
 
 /// The links between the multiplier and the device at one port.
 #[derive(Drop)]
-struct DeviceLinks {
-    up: Link<FromDevice>,
-    down: Link<Down>,
-    presence: Link<Presence>,
+pub(crate) struct DeviceLinks {
+    pub(crate) up: Link<FromDevice>,
+    pub(crate) down: Link<Down>,
+    pub(crate) presence: Link<Presence>,
 }
 
 impl Model for DeviceLinks {
@@ -69,9 +69,9 @@ impl DeviceLinks {
 /// and go, and at the host one up and one down.
 #[derive(Drop)]
 pub struct Links {
-    devices: Vec<DeviceLinks>,
-    up: Link<ToHost>,
-    down: Link<Down>,
+    pub(crate) devices: Vec<DeviceLinks>,
+    pub(crate) up: Link<ToHost>,
+    pub(crate) down: Link<Down>,
 }
 
 impl Model for Links {
@@ -102,5 +102,11 @@ impl Links {
             }
         }
         Ok(Links { devices, up, down })
+    }
+    /// How many device ports there are.
+    pub(crate) fn ports(&self) -> usize
+        ensures { result ≡ length self.now.devices }
+    {
+        self.devices.len()
     }
 }

@@ -1,4 +1,7 @@
-//! What no clause says: which refusals come, and their text.
+//! What no clause says: which refusals come, that runs end, and that bytes come back.
+
+mod runs;
+mod setups;
 
 use crate::{Links, LinksError};
 use std::alloc::Global;

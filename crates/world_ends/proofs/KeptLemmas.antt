@@ -1,5 +1,6 @@
 -- A connection that is not unplugged is not removed, whatever a world does.
-use Rattle.std.proofs.Common.{◌≡◌, ◌≢◌, ℕ, suc, ◌+◌, ◌<◌, ◌≤◌, Bool, true, false, List, [], ◌∷◌, ◌++◌, map, refl, sym, ap, subst, ◌∙◌, inl, inr, Option, Some, Ok, zero, arith}
+use Rattle.std.proofs.Common.{◌≡◌, ◌≢◌, ℕ, suc, ◌+◌, ◌<◌, ◌≤◌, Bool, true, false, List, [], ◌∷◌, ◌++◌, map, refl, sym, ap, subst, ◌∙◌, inl, inr}
+use Rattle.std.proofs.Common.{Option, Some, Ok, zero, arith}
 use Rattle.std.specs.Prelude.{if◌then◌else◌, is_none, slice_get, slice_set}
 use Rattle.std.proofs.lemmas.Bool.{cases_eq, eq-eqb, true≢false}
 use Rattle.std.proofs.lemmas.Option.{same_Some}
@@ -11,7 +12,8 @@ use Rattle.multiplier.specs.State.{PmState, port_at}
 use Rattle.pm_ports.specs.Port.{PortState, came_refusal as port_came_refusal, gone_refusal as port_gone_refusal, with_connection, with_removal}
 use Rattle.pm_world.specs.Links.{on_presence}
 use Rattle.pm_world.specs.Places.{IsOrderly, Place, Places, new_world, opening, with_device, with_multiplier}
-use Rattle.pm_world.specs.Rules.{CameActs, CameRule, DiskSendActs, DiskSendRule, DiskTakeActs, DiskTakeRule, GoneActs, GoneRule, InjectActs, InjectRule, PmDownRule, PmFromDeviceRule, PmPresenceRule, Rule, Run, recorded}
+use Rattle.pm_world.specs.Rules.{CameActs, CameRule, DiskSendActs, DiskSendRule, DiskTakeActs, DiskTakeRule, GoneActs, GoneRule, InjectActs}
+use Rattle.pm_world.specs.Rules.{InjectRule, PmDownRule, PmFromDeviceRule, PmPresenceRule, Rule, Run, recorded}
 use Rattle.pm_world.specs.Runs.{AfterEveryRun}
 use Rattle.pm_world.specs.Traffic.{is_removed}
 use Rattle.pm_world.specs.declared.link.Change.{Change}
@@ -115,19 +117,22 @@ keeps_send : (m : ℕ) (place : Place) (a : Answer) (after : Place) → DiskSend
 keeps_send m place answer.Idle after acts = still_keeps m place answer.Idle after acts.1 (λ n k. tt)
 keeps_send m place answer.Blocked after acts = still_keeps m place answer.Blocked after acts.2 (λ n k. tt)
 keeps_send m place (answer.Sent p c number bytes) after acts =
-    same_keeps m place (answer.Sent p c number bytes) after (ap (λ (p : Place). p.presence.changes) acts.5) (ap (λ (p : Place). p.conn) acts.5) (λ n k. tt)
+    same_keeps m place (answer.Sent p c number bytes) after (ap (λ (p : Place). p.presence.changes) acts.5) (ap (λ (p : Place). p.conn) acts.5)
+    (λ n k. tt)
 keeps_send m place _ after acts = absurd acts
 
 keeps_inject : (m : ℕ) (given : List ℕ) (place : Place) (a : Answer) (after : Place) → InjectActs m given place a after → PlaceKeeps m place a after
 keeps_inject m given place answer.Blocked after acts = still_keeps m place answer.Blocked after acts.1 (λ n k. tt)
 keeps_inject m given place (answer.Sent p c number bytes) after acts =
-    same_keeps m place (answer.Sent p c number bytes) after (ap (λ (p : Place). p.presence.changes) acts.5) (ap (λ (p : Place). p.conn) acts.5) (λ n k. tt)
+    same_keeps m place (answer.Sent p c number bytes) after (ap (λ (p : Place). p.presence.changes) acts.5) (ap (λ (p : Place). p.conn) acts.5)
+    (λ n k. tt)
 keeps_inject m given place _ after acts = absurd acts
 
 keeps_take : (m : ℕ) (place : Place) (a : Answer) (after : Place) → DiskTakeActs m place a after → PlaceKeeps m place a after
 keeps_take m place answer.Idle after acts = still_keeps m place answer.Idle after acts.1 (λ n k. tt)
 keeps_take m place (answer.DiskTook p dropped) after acts =
-    same_keeps m place (answer.DiskTook p dropped) after (ap (λ (p : Place). p.presence.changes) acts.2) (ap (λ (p : Place). p.conn) acts.2) (λ n k. tt)
+    same_keeps m place (answer.DiskTook p dropped) after (ap (λ (p : Place). p.presence.changes) acts.2) (ap (λ (p : Place). p.conn) acts.2)
+    (λ n k. tt)
 keeps_take m place _ after acts = absurd acts
 
 keeps_presence : (m : ℕ) (place : Place) (pm : PmState) (a : Answer) (after : Place) (left : PmState) → PmPresenceRule m place pm (Ok a) after left
@@ -148,7 +153,8 @@ keeps_from_device : (m : ℕ) (place : Place) (pm : PmState) (a : Answer) (after
 keeps_from_device m place pm answer.Idle after left rule = still_keeps m place answer.Idle after rule.1 (λ n k. tt)
 keeps_from_device m place pm answer.Blocked after left rule = still_keeps m place answer.Blocked after rule.2 (λ n k. tt)
 keeps_from_device m place pm (answer.Offered p dropped) after left rule =
-    same_keeps m place (answer.Offered p dropped) after (ap (λ (p : Place). p.presence.changes) rule.1) (ap (λ (p : Place). p.conn) rule.1) (λ n k. tt)
+    same_keeps m place (answer.Offered p dropped) after (ap (λ (p : Place). p.presence.changes) rule.1) (ap (λ (p : Place). p.conn) rule.1)
+    (λ n k. tt)
 keeps_from_device m place pm _ after left rule = absurd rule
 
 keeps_down : (m : ℕ) (place : Place) (pm : PmState) (a : Answer) (after : Place) (left : PmState) → PmDownRule m place pm (Ok a) after left
@@ -244,7 +250,8 @@ module _ (n k : ℕ) (old new : Places) (a : Answer) (u : IsUnremoved n k old) (
   unremoved_after (step.PmFromDevice m) orderly rule =
       let d : AtBoth old m (Ok a) new (PmFromDeviceRule m) = at_both old m a new (PmFromDeviceRule m) rule in
       let like = device_roomy m d.place old.multiplier a d.after d.left d.rule (roomy orderly) in
-      at_place m d.place d.after d.left d.is d.new_is (low_as d.left (like.1.1 n)) (keeps_from_device m d.place old.multiplier a d.after d.left d.rule)
+      at_place m d.place d.after d.left d.is d.new_is (low_as d.left (like.1.1 n))
+      (keeps_from_device m d.place old.multiplier a d.after d.left d.rule)
   unremoved_after (step.PmDown m) orderly rule =
       let d : AtBoth old m (Ok a) new (PmDownRule m) = at_both old m a new (PmDownRule m) rule in
       let like = down_roomy m d.place old.multiplier a d.after d.left d.rule (roomy orderly) in
@@ -364,8 +371,8 @@ ahead_after n old new s a orderly rule ahead q now =
     unremoved_weaker n (suc w.place.conn) (suc q.conn) new (omega (arith, most))
     (unremoved_after n (suc w.place.conn) old new a (ahead w.place w.is) w.goes s orderly rule)
 
-run_ahead : (n : ℕ) (old : Places) (steps : List Step) (answers : List Answer) (new : Places) → IsOrderly old → Run old steps answers new → IsAhead n old
-    → IsAhead n new
+run_ahead : (n : ℕ) (old : Places) (steps : List Step) (answers : List Answer) (new : Places) → IsOrderly old → Run old steps answers new
+    → IsAhead n old → IsAhead n new
 run_ahead n old [] [] new orderly run ahead = subst (IsAhead n) (sym run) ahead
 run_ahead n old (s ∷ steps) (a ∷ answers) new orderly run ahead =
     run_ahead n run.0 steps answers new (orderly_after old s a run.0 orderly run.1) run.2 (ahead_after n old run.0 s a orderly run.1 ahead)

@@ -1,5 +1,6 @@
 -- A disk and the host stay linked over each run of a world.
-use Rattle.std.proofs.Common.{◌≡◌, ◌≢◌, ◌==◌, eqb, ℕ, Bool, true, false, List, [], ◌∷◌, ◌++◌, append_assoc, refl, sym, ap, subst, ◌∙◌, inl, inr, Option, Some, None, Ok}
+use Rattle.std.proofs.Common.{◌≡◌, ◌≢◌, ◌==◌, eqb, ℕ, Bool, true, false, List, [], ◌∷◌, ◌++◌, append_assoc, refl, sym, ap, subst, ◌∙◌, inl, inr}
+use Rattle.std.proofs.Common.{Option, Some, None, Ok}
 use Rattle.std.specs.Prelude.{if◌then◌else◌, slice_get, slice_set, MatchOption}
 use Rattle.std.specs.List.{list_any}
 use Rattle.std.proofs.lemmas.Bool.{cases_eq, eq-eqb, eqb-true, or_parts, true≢false}
@@ -10,7 +11,8 @@ use Rattle.disk_model.specs.Ends.{begins, reports}
 use Rattle.disk_model.specs.Histories.{Happening, Plugged, Received, Sent}
 use Rattle.pm_world.specs.Laws.{happens}
 use Rattle.pm_world.specs.Places.{Place, Places, after_sending, with_device, with_multiplier}
-use Rattle.pm_world.specs.Rules.{CameActs, CameRule, DiskSendActs, DiskSendRule, DiskTakeActs, DiskTakeRule, GoneActs, GoneRule, InjectActs, InjectRule, PmDownRule, PmFromDeviceRule, PmPresenceRule, Rule, came_refusal, largest}
+use Rattle.pm_world.specs.Rules.{CameActs, CameRule, DiskSendActs, DiskSendRule, DiskTakeActs, DiskTakeRule, GoneActs, GoneRule, InjectActs}
+use Rattle.pm_world.specs.Rules.{InjectRule, PmDownRule, PmFromDeviceRule, PmPresenceRule, Rule, came_refusal, largest}
 use Rattle.pm_world.specs.Runs.{over}
 use Rattle.pm_world.specs.declared.step.Step.{Step}
 use Rattle.pm_world.specs.declared.step.Step.TheVariants as step
@@ -21,7 +23,8 @@ use Rattle.pm_world.proofs.FallMoves.{rule_moves_down}
 use Rattle.pm_world.proofs.Lists.{slice_get-set_other, slice_get-set_same}
 use Rattle.pm_world.proofs.Orderly.{orderly_after}
 use Rattle.pm_world.proofs.Steps.{AtBoth, AtDevice, at_both, at_device}
-use Rattle.world_ends.specs.Wired.{AreAmong, AreFine, GoesOn, IsSteady, IsThere, IsAway, IsUnremoved, IsWired, PluggedIsLinked, RunsStayLinked, StaysWired, befalls, descending, injects, unplugs}
+use Rattle.world_ends.specs.Wired.{AreAmong, AreFine, GoesOn, IsSteady, IsThere, IsAway, IsUnremoved, IsWired, PluggedIsLinked, RunsStayLinked}
+use Rattle.world_ends.specs.Wired.{StaysWired, befalls, descending, injects, unplugs}
 use Rattle.world_ends.proofs.KeptLemmas.{came_unremoved, unremoved}
 use Rattle.world_ends.proofs.WiredLemmas.{away_after, disks_stay_linked, rests_below}
 
@@ -341,8 +344,8 @@ known_sent n c old s port conn number bytes new false other there clean rule fin
   steady = λ here. absurd (true≢false (sym here ∙ other));
 }
 
-known : (n c : ℕ) (old : Places) (s : Step) (a : Answer) (new : Places) → IsThere n c old → unplugs n s ≡ false → injects n s ≡ false → Rule old s (Ok a) new
-    → AreFine (happens n old s a new) → IsKnown n c old s a new
+known : (n c : ℕ) (old : Places) (s : Step) (a : Answer) (new : Places) → IsThere n c old → unplugs n s ≡ false → injects n s ≡ false
+    → Rule old s (Ok a) new → AreFine (happens n old s a new) → IsKnown n c old s a new
 known n c old s (answer.Gone port conn) new there stays clean rule fine =
     record { same = gone_tells n old s port conn new; steady = going n old new port conn s stays rule }
 known n c old s (answer.Came port conn) new there stays clean rule fine =

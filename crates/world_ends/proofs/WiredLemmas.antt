@@ -1,5 +1,6 @@
 -- A disk and the host stay linked at each step of a world.
-use Rattle.std.proofs.Common.{◌≡◌, ◌≢◌, ◌==◌, ◌&&◌, ◌⊎◌, eqb, ℕ, Bool, true, false, List, [], ◌∷◌, ◌++◌, append_assoc, drop, length, map, refl, sym, ap, subst, ◌∙◌, inl, inr, Option, Some, None, Ok}
+use Rattle.std.proofs.Common.{◌≡◌, ◌≢◌, ◌==◌, ◌&&◌, ◌⊎◌, eqb, ℕ, Bool, true, false, List, [], ◌∷◌, ◌++◌, append_assoc, drop, length, map, refl, sym}
+use Rattle.std.proofs.Common.{ap, subst, ◌∙◌, inl, inr, Option, Some, None, Ok}
 use Rattle.std.specs.Prelude.{if◌then◌else◌, option_to_list, slice_get, take, MatchBool, MatchOption}
 use Rattle.std.specs.List.{flat_map}
 use Rattle.std.proofs.lemmas.Bool.{cases_Bool, cases_eq, eq-eqb, ne_eqb, true≢false}
@@ -27,7 +28,8 @@ use Rattle.pm_world.proofs.Orderly.{removed_after}
 use Rattle.pm_world.proofs.Lists.{all_marked-append}
 use Rattle.pm_world.proofs.Steps.{at_both, at_device}
 use Rattle.pm_world.specs.Rules.{CameRule, DiskSendRule, DiskTakeRule, GoneRule, InjectRule, PmDownRule, PmFromDeviceRule, PmPresenceRule}
-use Rattle.world_ends.specs.Wired.{AreAmong, DisksStayLinked, GoesOn, IsAtHost, IsAway, IsNext, IsSteady, IsUnremoved, IsWired, befalls, descending, for_port}
+use Rattle.world_ends.specs.Wired.{AreAmong, DisksStayLinked, GoesOn, IsAtHost, IsAway, IsNext, IsSteady, IsUnremoved, IsWired, befalls, descending}
+use Rattle.world_ends.specs.Wired.{for_port}
 use Rattle.world_ends.proofs.KeptLemmas.{steady_unremoved, unremoved}
 
 -- ## Some of a list
@@ -152,7 +154,8 @@ away_after n d old new s a device orderly rule none unsent = elim (cases_Bool (i
 -- nor taken
 none_other : (n c d : ℕ) (old new : Places) (s : Step) (a : Answer) → n ≢ control_port → IsOrderly old → Rule old s (Ok a) new → IsSteady n c a
     → d ≢ c → IsAway n d old → (taken_by n d a ≡ []) × IsAway n d new
-none_other n c d old new s a device orderly rule steady other none = away_after n d old new s a device orderly rule none (unsent_other n c d a steady other)
+none_other n c d old new s a device orderly rule steady other none =
+    away_after n d old new s a device orderly rule none (unsent_other n c d a steady other)
 
 -- a step that neither takes nor sends
 still_above : (n c : ℕ) (old new : Places) (s : Step) (a : Answer) → n ≢ control_port → IsOrderly old → Rule old s (Ok a) new → taken_by n c a ≡ []
@@ -215,8 +218,8 @@ module _ (n c : ℕ) (old new : Places) (s : Step) (disk given : List Happening)
   nothing : (a : Answer) → Rule old s (Ok a) new → IsSteady n c a → taken_by n c a ≡ [] → sent_by n c a ≡ [] → descending n new ≡ descending n old
       → IsWired n c new disk given
   nothing a rule steady untaken unsent below =
-      wired_same n c old new disk given (still_above n c old new s a device orderly rule untaken unsent (there_after a rule steady)) (alone_after a rule steady)
-      (kept_after a rule steady) below w
+      wired_same n c old new disk given (still_above n c old new s a device orderly rule untaken unsent (there_after a rule steady))
+      (alone_after a rule steady) (kept_after a rule steady) below w
 
   -- ---- a FIS is sent
 
@@ -231,7 +234,8 @@ module _ (n c : ℕ) (old new : Places) (s : Step) (disk given : List Happening)
         up = w.up ++ bytes ∷ [];
         linked = sends disk given w.down w.up bytes (steady here).1 w.linked;
         above =
-            one_step n c old new s (answer.Sent port conn number bytes) device orderly rule (there_after (answer.Sent port conn number bytes) rule steady)
+            one_step n c old new s (answer.Sent port conn number bytes) device orderly rule
+            (there_after (answer.Sent port conn number bytes) rule steady)
             ∙ ap (λ (xs : List (List ℕ)). transit n c old ++ all_marked n xs) is
             ∙ ap (λ (xs : List (List ℕ)). xs ++ all_marked n (bytes ∷ [])) w.above
             ∙ sym (all_marked-append n w.up (bytes ∷ []));
@@ -295,7 +299,8 @@ module _ (n c : ℕ) (old new : Places) (s : Step) (disk given : List Happening)
             ap (λ (d : ℕ). taken_by n d (answer.Took port conn number bytes report)) (sym same) ∙ taken in
             let whole : bytes ∷ transit n c new ≡ all_marked n w.up =
             ap (λ (xs : List (List ℕ)). xs ++ transit n c new) (sym mine)
-            ∙ one_step n c old new s (answer.Took port conn number bytes report) device orderly rule (there_after (answer.Took port conn number bytes report) rule tt) ∙ append-nil (transit n c old) ∙ w.above in
+            ∙ one_step n c old new s (answer.Took port conn number bytes report) device orderly rule
+            (there_after (answer.Took port conn number bytes report) rule tt) ∙ append-nil (transit n c old) ∙ w.above in
             first_of bytes (transit n c new) w.up refl whole refl (alone_after (answer.Took port conn number bytes report) rule tt)
             (kept_after (answer.Took port conn number bytes report) rule tt)
             (rests_below n old new (rule_moves_down old s (answer.Took port conn number bytes report) new orderly rule))
@@ -461,7 +466,9 @@ module _ (n c : ℕ) (old new : Places) (s : Step) (disk given : List Happening)
         up = w.up;
         linked =
             comes disk given split.before split.after w.up f.bytes (subst (λ (xs : List (List ℕ)). IsLinked disk given xs w.up) split.is w.linked);
-        above = still_above n c old new s (answer.DiskTook n false) device orderly rule refl refl (there_after (answer.DiskTook n false) rule tt) ∙ w.above;
+        above =
+            still_above n c old new s (answer.DiskTook n false) device orderly rule refl refl (there_after (answer.DiskTook n false) rule tt)
+            ∙ w.above;
         alone = alone_after (answer.DiskTook n false) rule tt;
         kept = kept_after (answer.DiskTook n false) rule tt;
         below = split.rest;
@@ -470,7 +477,9 @@ module _ (n c : ℕ) (old new : Places) (s : Step) (disk given : List Happening)
         down = w.down;
         up = w.up;
         linked = w.linked;
-        above = still_above n c old new s (answer.DiskTook n true) device orderly rule refl refl (there_after (answer.DiskTook n true) rule tt) ∙ w.above;
+        above =
+            still_above n c old new s (answer.DiskTook n true) device orderly rule refl refl (there_after (answer.DiskTook n true) rule tt)
+            ∙ w.above;
         alone = alone_after (answer.DiskTook n true) rule tt;
         kept = kept_after (answer.DiskTook n true) rule tt;
         below = among_without [] f.bytes (descending n new) w.down (subst (λ (xs : List (List ℕ)). AreAmong xs w.down) first w.below);

@@ -1,7 +1,8 @@
 -- The two ends of a disk's link in a world: what a disk and the host did at their ends, and what is
 -- on its way between them, over the multiplier and its links (Serial ATA 3.x, 16.3, port
 -- multiplier: frame transmission, PM Port).
-use Rattle.std.specs.Prelude.{ℕ, ◌≡◌, ◌≢◌, ◌<◌, ◌==◌, ◌⊎◌, if◌then◌else◌, Bool, true, false, List, []}
+use Rattle.std.specs.Prelude.{ℕ, ◌≡◌, ◌≢◌, ◌<◌, ◌==◌, ◌⊎◌, if◌then◌else◌, Bool, true, false, List}
+use Rattle.std.specs.Prelude.{[]}
 use Rattle.std.specs.Prelude.{◌∷◌}
 use Rattle.std.specs.Prelude.{◌++◌, drop, length, map, take, MatchBool, MatchOption, Ok, slice_get}
 use Rattle.std.specs.List.{flat_map, list_any}
@@ -90,9 +91,9 @@ IsAway n c now =
 
 -- ---- the law
 
--- The unit at port n was plugged in as connection c, and is not unplugged since. The first list
--- happened to it since, the second at the host's end of its link, and what is between them is on its
--- way; what the multiplier dropped never comes.
+-- The unit at port n was plugged in as connection c, and was not unplugged since. The first list
+-- happened to it since, the second at the host's end of its link, and what is between them is on
+-- its way; what the multiplier dropped never comes.
 pub record IsWired (n c : ℕ) (now : Places) (disk given : List Happening) : Type 0 where
   pub down : List (List ℕ)
   pub up : List (List ℕ)
@@ -185,9 +186,9 @@ RunsStayLinked =
     → AreFine (over (happens n) old steps answers new run) → IsWired n c old disk given
     → StaysWired n c old steps answers new run disk given
 
--- And they are linked from the step on in which the unit is plugged in, where nothing of the port
--- was on its way, but what of a connection before it a recorded removal will drop. So it is in each
--- world that a run from a new one leads to.
+-- And they are linked from each step on in which the unit is plugged in, also anew after a removal,
+-- where nothing of the port was on its way, but what of a connection before a recorded removal will
+-- drop. So it is in each world to which a run from a new one leads.
 abbrev pub PluggedIsLinked : Type 0
 PluggedIsLinked =
     (n c : ℕ) (old new : Places) → n ≢ control_port → IsOrderly old

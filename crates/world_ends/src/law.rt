@@ -6,8 +6,8 @@ ghost use Rattle.world_ends.specs.Honest.{TookIsHonest};
 ghost use Rattle.world_ends.specs.Wired.{DisksStayLinked, PluggedIsLinked, RunsStayLinked};
 
 /// What a disk and the host did at their ends of the disk's link, and what is on its way between
-/// them, are linked from the plugging on, and go on to be so at each step of a world and over each
-/// run of it.
+/// them, are linked from each plugging on, and go on to be so at each step of a world and over each
+/// run of it, until the disk is unplugged.
 pub fn disks_stay_linked()
     ensures plugged { PluggedIsLinked }
     ensures steps { DisksStayLinked }

@@ -1,0 +1,117 @@
+-- What is known of the ends of a run.
+use Rattle.std.proofs.Common.{◌≡◌, ℕ, zero, suc, ◌<◌, ◌≤◌, List, [], ◌∷◌, ◌++◌, length, append_assoc, append-nil, refl, sym, ap, ◌∙◌, subst, None, Option, drop, arith}
+use Rattle.std.specs.Prelude.{map, All, IfOk, OnOk, Result, Ok, Err}
+use Rattle.std.specs.List.{AllZip}
+use Rattle.std.proofs.lemmas.List.{map-append}
+use Rattle.std.proofs.lemmas.List.Elements.{filter-append}
+use Rattle.fis_view.specs.Frames.{Stamped}
+use Rattle.disk_model.specs.Histories.{Happening, Plan}
+use Rattle.disk_model.specs.declared.unit.Unit.{Unit}
+use Rattle.ruled_links.specs.Links.{IsLink}
+use Rattle.ruled_links.specs.Lists.{IsPrefixOf}
+use Rattle.multiplier.specs.Orders.{of_connection}
+use Rattle.multiplier.specs.State.{rising}
+use Rattle.multiplier.specs.Passing.{of_conn}
+use Rattle.disk_thread.specs.Runs.{StationState, IsRun, GoesOnRunning, IsAtSamePort}
+use Rattle.pm_thread.specs.Runs.{PortSeats, ends_of, IsUnused, frames_at}
+use Rattle.pm_thread.specs.Passing.{risen}
+use Rattle.pm_threads.specs.Seats.{TiedTo, Starts, Handed}
+use Rattle.pm_threads.specs.Ends.{sent_at, EachArrives}
+
+-- ---- beginnings
+
+prefix_then : {T : Type 0} (xs ys zs : List T) → IsPrefixOf xs ys → IsPrefixOf ys zs → IsPrefixOf xs zs
+prefix_then xs ys zs a b = (a.0 ++ b.0, sym (append_assoc xs a.0 b.0) ∙ ap (λ l. l ++ b.0) a.1 ∙ b.1)
+
+of_conn_prefix : (n c : ℕ) (xs ys : List Stamped) → IsPrefixOf xs ys → IsPrefixOf (of_conn n c xs) (of_conn n c ys)
+of_conn_prefix n c xs ys h = (of_conn n c h.0, sym (filter-append _ xs h.0) ∙ ap (of_conn n c) h.1)
+
+risen_prefix : (n c : ℕ) (xs ys : List Stamped) → IsPrefixOf xs ys → IsPrefixOf (risen n c xs) (risen n c ys)
+risen_prefix n c xs ys h = (
+  risen n c h.0,
+  sym (map-append (rising n) (of_connection c xs) (of_connection c h.0)) ∙ ap (map (rising n)) (sym (filter-append _ xs h.0))
+      ∙ ap (risen n c) h.1,
+)
+
+-- what was taken off a link is a beginning of what was sent over it
+pub link_prefix : {T : Type 0} (room : ℕ) (sent taken content : List T) → IsLink room sent taken content → IsPrefixOf taken sent
+link_prefix room sent taken content h = (content, h.whole)
+
+-- ---- before the run, and after it
+
+module _ {D : Type 0} where
+  pub all_unused : (ws : List (StationState D)) (ps : List PortSeats) → AllZip Starts ws ps → All IsUnused ps
+  all_unused [] [] h = λ k d less. absurd (omega (arith, less))
+  all_unused [] (p ∷ ps) h = absurd h
+  all_unused (w ∷ ws) [] h = absurd h
+  all_unused (w ∷ ws) (p ∷ ps) h = by h.0.unused (all_unused ws ps h.1)
+    where
+      by : IsUnused p → All IsUnused ps → All IsUnused (p ∷ ps)
+      by here rest zero d less = here
+      by here rest (suc k) d less = rest k d (omega (arith, less))
+
+  pub starts_tied : (ws : List (StationState D)) (ps : List PortSeats) → AllZip Starts ws ps → AllZip TiedTo ws ps
+  starts_tied [] [] h = tt
+  starts_tied [] (p ∷ ps) h = absurd h
+  starts_tied (w ∷ ws) [] h = absurd h
+  starts_tied (w ∷ ws) (p ∷ ps) h = (h.0.tied, starts_tied ws ps h.1)
+
+  still_tied : (w d : StationState D) (p q : PortSeats) → TiedTo w p → IsAtSamePort w d → ends_of q ≡ ends_of p → TiedTo d q
+  still_tied w d p q tied same ends = record {
+    frames = same.frames.0 ∙ tied.frames ∙ sym (ap (λ x. x.frames.link) ends);
+    commands = ap (λ x. x.commands.link) ends ∙ tied.commands ∙ sym same.commands.0;
+    presence = same.presence.0 ∙ tied.presence ∙ sym (ap (λ x. x.presence.link) ends);
+  }
+
+-- the ends of workers, in whatever they lie
+module _ {D E : Type 0} (station : E → StationState D) (R : StationState D → E → Type 0) where
+  module _ (same : (w : StationState D) (e : E) → R w e → IsAtSamePort w (station e)) where
+    pub all_tied : (ws : List (StationState D)) (ps qs : List PortSeats) (es : List E) → AllZip TiedTo ws ps → AllZip R ws es → map ends_of qs ≡ map ends_of ps
+        → AllZip TiedTo (map station es) qs
+    all_tied [] [] [] [] s r e = tt
+    all_tied [] [] (q ∷ qs) es s r e = absurd cc
+    all_tied [] [] [] (x ∷ es) s r e = absurd r
+    all_tied [] (p ∷ ps) qs es s r e = absurd s
+    all_tied (w ∷ ws) [] qs es s r e = absurd s
+    all_tied (w ∷ ws) (p ∷ ps) [] es s r e = absurd cc
+    all_tied (w ∷ ws) (p ∷ ps) (q ∷ qs) [] s r e = absurd r
+    all_tied (w ∷ ws) (p ∷ ps) (q ∷ qs) (x ∷ es) s r e =
+        let rest : map ends_of qs ≡ map ends_of ps = ap (drop 1) e in
+        let here : ends_of q ≡ ends_of p = cc in
+        (still_tied w (station x) p q s.0 (same w x r.0) here, all_tied ws ps qs es s.1 r.1 rest)
+
+  module _ {F U : Type 0} (fault : E → Option F) (Ran : U → StationState D → Type 0) (goes_on : (u : U) (w : StationState D) (e : E) → R w e → fault e ≡ None → Ran u w → Ran u (station e)) where
+    pub all_ran : (us : List U) (ws : List (StationState D)) (es : List E) → AllZip Ran us ws → AllZip R ws es → All (λ e. fault e ≡ None) es → AllZip Ran us (map station es)
+    all_ran [] [] [] u r f = tt
+    all_ran [] [] (x ∷ es) u r f = absurd r
+    all_ran [] (w ∷ ws) es u r f = absurd u
+    all_ran (x ∷ us) [] es u r f = absurd u
+    all_ran (x ∷ us) (w ∷ ws) [] u r f = absurd r
+    all_ran (x ∷ us) (w ∷ ws) (y ∷ es) u r f =
+        (goes_on x w y r.0 (f 0 y (omega arith)) u.0, all_ran us ws es u.1 r.1 (λ k d less. f (suc k) d (omega (arith, less))))
+
+-- what follows of two clauses on a success
+pub on_ok : {T E : Type 0} (r : Result T E) (P : Type 0) (Q S : T → Type 0) → IfOk r Q → OnOk r P → ((x : T) → Q x → P → S x) → IfOk r S
+on_ok (Ok x) P Q S q p f = f x q p
+on_ok (Err e) P Q S q p f = tt
+
+pub if_ok : {T E : Type 0} (r : Result T E) (Q S : T → Type 0) → IfOk r Q → ((x : T) → Q x → S x) → IfOk r S
+if_ok (Ok x) Q S q f = f x q
+if_ok (Err e) Q S q f = tt
+
+-- ---- all seats together
+
+handed_at : (ss : List (StationState Unit)) (ps : List PortSeats) → AllZip Handed ss ps → (n : ℕ) → IsPrefixOf (frames_at ps n) (sent_at ss n)
+handed_at [] [] h n = ([], refl)
+handed_at [] (p ∷ ps) h n = absurd h
+handed_at (s ∷ ss) [] h n = absurd h
+handed_at (s ∷ ss) (p ∷ ps) h zero = h.0.frames
+handed_at (s ∷ ss) (p ∷ ps) h (suc n) = handed_at ss ps h.1 n
+
+pub all_arrive : (ss : List (StationState Unit)) (ps : List PortSeats) (sent taken : List Stamped) → AllZip Handed ss ps
+    → ((n c : ℕ) → n < 15 → IsPrefixOf (of_conn n c sent) (risen n c (frames_at ps n))) → IsPrefixOf taken sent → EachArrives ss taken
+all_arrive ss ps sent taken handed begun met n c low =
+    prefix_then (of_conn n c taken) (of_conn n c sent) (risen n c (sent_at ss n))
+    (of_conn_prefix n c taken sent met)
+    (prefix_then (of_conn n c sent) (risen n c (frames_at ps n)) (risen n c (sent_at ss n)) (begun n c low)
+    (risen_prefix n c (frames_at ps n) (sent_at ss n) (handed_at ss ps handed n)))

@@ -1,0 +1,28 @@
+-- One more put into a memory.
+use Rattle.std.proofs.Common.{◌≡◌, ℕ, suc, ◌+◌, ◌<◌, ◌-◌, List, [], ◌∷◌, ◌++◌, length, get_or, take, refl, sym, ap, ◌∙◌, arith}
+use Rattle.std.specs.Prelude.{map}
+use Rattle.std.proofs.lemmas.List.{map-append}
+use Rattle.std.proofs.Math.Seq.{take-suc}
+use Rattle.host_memory.specs.Memory.{Memory, client_start, overwritten, zeroed}
+use Rattle.pm_threads.specs.Setups.{put_all, memory_of}
+
+put_all_more : (m : Memory) (ps : List (ℕ × List ℕ)) (p : ℕ × List ℕ)
+    → put_all m (ps ++ p ∷ []) ≡ record { structure = (put_all m ps).structure; client = overwritten (put_all m ps).client (p.0 - client_start) p.1 }
+put_all_more m [] p = refl
+put_all_more m (x ∷ ps) p = put_all_more (record { structure = m.structure; client = overwritten m.client (x.0 - client_start) x.1 }) ps p
+
+pub filled_more : {P : Type 0} (put_of : P → ℕ × List ℕ) (len : ℕ) (puts : List P) (i : ℕ) (other : P) (m : Memory) → i < length puts
+    → m ≡ memory_of len (map put_of (take i puts))
+    → record { structure = m.structure; client = overwritten m.client ((put_of (get_or puts i other)).0 - client_start) (put_of (get_or puts i other)).1 }
+    ≡ memory_of len (map put_of (take (i + 1) puts))
+filled_more put_of len puts i other m lt is =
+    let x = get_or puts i other in
+    let ps : List (ℕ × List ℕ) = map put_of (take i puts) in
+    let next : i + 1 ≡ suc i = omega arith in
+    let step : take (i + 1) puts ≡ take i puts ++ x ∷ [] = ap (λ (k : ℕ). take k puts) next ∙ take-suc puts i other lt in
+    let list : map put_of (take (i + 1) puts) ≡ ps ++ put_of x ∷ [] = ap (map put_of) step ∙ map-append put_of (take i puts) (x ∷ []) in
+    let all : memory_of len (map put_of (take (i + 1) puts))
+    ≡ record { structure = (memory_of len ps).structure; client = overwritten (memory_of len ps).client ((put_of x).0 - client_start) (put_of x).1 } =
+    ap (memory_of len) list ∙ put_all_more (zeroed len) ps (put_of x) in
+    ap (λ (y : Memory). record { structure = y.structure; client = overwritten y.client ((put_of x).0 - client_start) (put_of x).1 }) is
+    ∙ sym all

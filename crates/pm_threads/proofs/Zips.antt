@@ -1,0 +1,55 @@
+-- Two lists, place by place.
+use Rattle.std.proofs.Common.{◌≡◌, suc, List, [], ◌∷◌, ◌++◌, length, refl, ap, sym, subst}
+use Rattle.std.specs.Prelude.{map}
+use Rattle.std.specs.List.{AllZip}
+use Rattle.std.proofs.lemmas.List.{map-append}
+
+module _ {A B : Type 0} (R : A → B → Type 0) where
+  -- one pair more, at the end
+  pub zip_push : (xs : List A) (ys : List B) (x : A) (y : B) → AllZip R xs ys → R x y → AllZip R (xs ++ x ∷ []) (ys ++ y ∷ [])
+  zip_push [] [] x y h r = (r, tt)
+  zip_push [] (y' ∷ ys) x y h r = absurd h
+  zip_push (x' ∷ xs) [] x y h r = absurd h
+  zip_push (x' ∷ xs) (y' ∷ ys) x y h r = (h.0, zip_push xs ys x y h.1 r)
+
+  no_right : (ys : List B) (y : B) → AllZip R [] (ys ++ y ∷ []) → ⊥
+  no_right [] y h = h
+  no_right (y' ∷ ys) y h = h
+
+  no_left : (xs : List A) (x : A) → AllZip R (xs ++ x ∷ []) [] → ⊥
+  no_left [] x h = h
+  no_left (x' ∷ xs) x h = h
+
+  -- the last pair, and those before it
+  pub zip_pop : (xs : List A) (ys : List B) (x : A) (y : B) → AllZip R (xs ++ x ∷ []) (ys ++ y ∷ []) → AllZip R xs ys × R x y
+  zip_pop [] [] x y h = (tt, h.0)
+  zip_pop [] (y' ∷ ys) x y h = absurd (no_right ys y h.1)
+  zip_pop (x' ∷ xs) [] x y h = absurd (no_left xs x h.1)
+  zip_pop (x' ∷ xs) (y' ∷ ys) x y h = let r = zip_pop xs ys x y h.1 in ((h.0, r.0), r.1)
+
+  -- both are as long
+  pub zip_long : (xs : List A) (ys : List B) → AllZip R xs ys → length ys ≡ length xs
+  zip_long [] [] h = refl
+  zip_long [] (y ∷ ys) h = absurd h
+  zip_long (x ∷ xs) [] h = absurd h
+  zip_long (x ∷ xs) (y ∷ ys) h = ap suc (zip_long xs ys h.1)
+
+-- an empty list has no pairs
+module _ {A B : Type 0} (R S : A → B → Type 0) where
+  pub none_left : (xs : List A) (ys : List B) → xs ≡ [] → AllZip R xs ys → AllZip S xs ys
+  none_left [] [] e h = tt
+  none_left [] (y ∷ ys) e h = absurd h
+  none_left (x ∷ xs) ys e h = absurd cc
+
+  pub none_right : (xs : List A) (ys : List B) → ys ≡ [] → AllZip R xs ys → AllZip S xs ys
+  none_right [] [] e h = tt
+  none_right (x ∷ xs) [] e h = absurd h
+  none_right xs (y ∷ ys) e h = absurd cc
+
+-- pairs with a part of each element
+module _ {A B E : Type 0} (f : E → A) (R : A → B → Type 0) where
+  pub map_push : (es : List E) (ys : List B) (e : E) (y : B) → AllZip R (map f es) ys → R (f e) y → AllZip R (map f (es ++ e ∷ [])) (ys ++ y ∷ [])
+  map_push es ys e y h r = subst (λ l. AllZip R l (ys ++ y ∷ [])) (sym (map-append f es (e ∷ []))) (zip_push R (map f es) ys (f e) y h r)
+
+  pub map_pop : (es : List E) (ys : List B) (e : E) (y : B) → AllZip R (map f (es ++ e ∷ [])) (ys ++ y ∷ []) → AllZip R (map f es) ys × R (f e) y
+  map_pop es ys e y h = zip_pop R (map f es) ys (f e) y (subst (λ l. AllZip R l (ys ++ y ∷ [])) (map-append f es (e ∷ [])) h)

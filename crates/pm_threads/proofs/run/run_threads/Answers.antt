@@ -1,0 +1,63 @@
+use Rattle.std.proofs.Common.{rules, ◌≡◌, ◌≤◌, ℕ, true, List, length, Vec, Global, subst, ap, ◌∙◌, arith}
+use Rattle.std.specs.Prelude.{map}
+use Rattle.std.specs.List.{AllZip}
+use Rattle.disk_model.specs.Units.{plan_of, StandsFor, MaySend}
+use Rattle.disk_thread.specs.Runs.{IsRun}
+use Rattle.host_thread.specs.Runs.{GoesOn, IsRun as IsHostRun}
+use Rattle.pm_threads.specs.Ends.{Ends, AllGoOn}
+use Rattle.pm_threads.specs.Seats.{Starts}
+use Rattle.pm_threads.specs.Setups.{is_fitting, memory_of}
+use Rattle.pm_threads.proofs.Ends.{all_unused, starts_tied, if_ok}
+use Rattle.pm_threads.proofs.Fits.{first_three, unit_for_each}
+use Rattle.pm_threads.proofs.Zips.{zip_long}
+use Rattle.pm_threads.proofs.run.run_threads.Goals as goal
+
+pub new-pm-requires-clause-some : goal.new-pm-requires-clause-some
+new-pm-requires-clause-some g c =
+    let starts : AllZip Starts c.in-Some-2.workers.items c.in-Some-2.ports.items = search rules in
+    let runs : AllZip (IsRun plan_of StandsFor MaySend) c.args.setup.units.items c.in-Some-2.workers.items = search rules in
+    let fits : is_fitting c.ports.result c.args.setup ≡ true = search rules in
+    let few = unit_for_each c.ports.result (length c.args.setup.units.items) (first_three _ _ _ _ _ _ _ _ _ fits) in
+    let one = few.0 in
+    let long = zip_long Starts _ _ starts in
+    let same = zip_long (IsRun plan_of StandsFor MaySend) _ _ runs in
+    omega (arith, one, long, same)
+
+pub new-pm-requires-clause-at_most : goal.new-pm-requires-clause-at_most
+new-pm-requires-clause-at_most g c =
+    let starts : AllZip Starts c.in-Some-2.workers.items c.in-Some-2.ports.items = search rules in
+    let runs : AllZip (IsRun plan_of StandsFor MaySend) c.args.setup.units.items c.in-Some-2.workers.items = search rules in
+    let fits : is_fitting c.ports.result c.args.setup ≡ true = search rules in
+    let few = unit_for_each c.ports.result (length c.args.setup.units.items) (first_three _ _ _ _ _ _ _ _ _ fits) in
+    let most = few.1 in
+    let long = zip_long Starts _ _ starts in
+    let same = zip_long (IsRun plan_of StandsFor MaySend) _ _ runs in
+    omega (arith, most, long, same)
+
+pub new-pm-requires-clause-unused : goal.new-pm-requires-clause-unused
+new-pm-requires-clause-unused g c =
+    let starts : AllZip Starts c.in-Some-2.workers.items c.in-Some-2.ports.items = search rules in
+    all_unused _ _ starts
+
+pub run_seated-requires-clause-tied : goal.run_seated-requires-clause-tied
+run_seated-requires-clause-tied g c κs within =
+    let starts : AllZip Starts c.in-Some-2.workers.items c.in-Some-2.ports.items = search rules in
+    rw c.new-pm.ensures.ports (starts_tied _ _ starts)
+
+pub returns-clause-disks : goal.returns-clause-disks
+returns-clause-disks g c =
+    let runs : AllZip (IsRun plan_of StandsFor MaySend) c.args.setup.units.items c.in-Some-2.workers.items = search rules in
+    if_ok c.run_seated.result (λ (f : Ends). AllGoOn c.in-Some-2.workers.items f.disks)
+    (λ (f : Ends). AllZip (IsRun plan_of StandsFor MaySend) c.args.setup.units.items f.disks) c.run_seated.ensures.disks
+    (λ f goes. goes c.args.setup.units.items runs)
+
+pub returns-clause-host : goal.returns-clause-host
+returns-clause-host g c =
+    let start = memory_of c.args.setup.memory (map (λ (put : ℕ × Vec ℕ Global). (put.0, put.1.items)) c.args.setup.puts.items) in
+    let given : c.deref-2.result.now ≡ c.args.setup.puts.items = search rules in
+    let is : c.in_ok-memory.memory ≡ start =
+    c.in_ok-memory.ensures
+    ∙ ap (λ (l : List (ℕ × Vec ℕ Global)). memory_of c.args.setup.memory (map (λ (put : ℕ × Vec ℕ Global). (put.0, put.1.items)) l)) given in
+    let ran : IsHostRun c.in_ok-memory.memory c.in_ok-host.host = search rules in
+    if_ok c.run_seated.result (λ (f : Ends). GoesOn c.in_ok-host.host f.host) (λ (f : Ends). IsHostRun start f.host) c.run_seated.ensures.host
+    (λ f goes. goes start (subst (λ m. IsHostRun m c.in_ok-host.host) is ran))

@@ -1,0 +1,41 @@
+-- What a run is given.
+use Rattle.std.specs.Prelude.{◌≡◌, ℕ, ◌-◌, nat_le, nat_lt, ◌==◌, ◌&&◌, Bool, List, [], ◌∷◌, length}
+use Rattle.std.specs.List.{list_all}
+use Rattle.host_memory.specs.Memory.{Memory, client_start, is_memory_size, overwritten, zeroed}
+use Rattle.host_memory.specs.declared.memory.MemoryError.{MemoryError}
+use Rattle.host_memory.specs.declared.memory.MemoryError.TheVariants as memory_error
+use Rattle.pm_threads.specs.declared.run.RunError.{RunError}
+use Rattle.pm_threads.specs.declared.run.RunError.TheVariants as run_error
+use Rattle.pm_threads.specs.declared.setup.Setup.{Setup}
+
+-- whether so many bytes from this address on lie in the client area of a memory
+abbrev pub lies_in : ℕ → ℕ → ℕ → Bool
+lies_in memory at count = nat_le client_start at && nat_le at memory && nat_le count (memory - at)
+
+-- whether there may be so many ports, units, turns and bytes of memory: 1 to 15 ports, a unit for each, 1 to 16,777,216
+-- turns, a memory of a size that there is
+abbrev pub are_numbers : ℕ → ℕ → ℕ → ℕ → Bool
+are_numbers ports units turns memory =
+    nat_le 1 ports && nat_le ports 15 && (units == ports) && nat_le 1 turns && nat_le turns 16777216 && is_memory_size memory
+
+-- Whether a run of so many ports can have this: its numbers fit, its puts lie in the client area, and its requests and pulls
+-- are of ports that are there.
+abbrev pub is_fitting : ℕ → Setup → Bool
+is_fitting ports s =
+    are_numbers ports (length s.units.items) s.turns s.memory
+    && list_all (λ put. lies_in s.memory put.0 (length put.1.items)) s.puts.items
+    && list_all (λ planned. nat_lt planned.dev ports) s.plan.items && list_all (λ pull. nat_lt pull.0 ports) s.pulls.items
+
+-- a memory with these bytes put at their addresses, one after another
+abbrev pub put_all : Memory → List (ℕ × List ℕ) → Memory
+put_all m [] = m
+put_all m (p ∷ ps) = put_all (record { structure = m.structure; client = overwritten m.client (p.0 - client_start) p.1 }) ps
+
+-- a memory of so many bytes, all 0 but for these
+abbrev pub memory_of : ℕ → List (ℕ × List ℕ) → Memory
+memory_of len puts = put_all (zeroed len) puts
+
+-- why there is no run, where there is no memory
+abbrev pub IsErrorOf : MemoryError → RunError → Type 0
+IsErrorOf memory_error.BadSize e = e ≡ run_error.BadSetup
+IsErrorOf memory_error.OutOfMemory e = e ≡ run_error.OutOfMemory

@@ -1,0 +1,46 @@
+//! What is left of a run.
+
+ghost use Rattle.std.specs.Prelude.{◌≡◌, map};
+ghost use Rattle.pm_threads.specs.Ends.{AreOfOneRun};
+
+use disk_model::Unit;
+use disk_thread::DiskEnd;
+use host_thread::HostEnd;
+use pm_thread::PmEnd;
+use std::marker::Model;
+
+/// The ends of all workers of one run, with their seats.
+#[derive(Drop)]
+pub struct Finished<'a> {
+    pub(crate) disks: Vec<DiskEnd<'a, Unit>>,
+    pub(crate) pm: PmEnd<'a>,
+    pub(crate) host: HostEnd<'a>,
+}
+
+impl<'a> Model for Finished<'a> {
+    ghost use Rattle.std.specs.Prelude.{map};
+    ghost use Rattle.pm_threads.specs.Ends.{AreOfOneRun, Ends};
+
+    ghost Value = { Ends };
+
+    ghost view = { λ f. record { disks = map (λ e. e.station) f.disks.items; pm = f.pm; host = f.host } };
+
+    ghost invariant = { λ f. AreOfOneRun (record {
+      disks = map (λ e. e.station) f.disks.items;
+      pm = f.pm;
+      host = f.host;
+    }) };
+}
+
+impl<'a> Finished<'a> {
+    /// The ends one by one. Their seats are of the same links.
+    pub(crate) fn into_parts(self) -> (Vec<DiskEnd<'a, Unit>>, PmEnd<'a>, HostEnd<'a>)
+        ensures disks { map (λ e. e.station) result.0.items ≡ self.entry.disks }
+        ensures pm { result.1 ≡ self.entry.pm }
+        ensures host { result.2 ≡ self.entry.host }
+        ensures one { AreOfOneRun self.entry }
+    {
+        let Finished { disks, pm, host } = self;
+        (disks, pm, host)
+    }
+}

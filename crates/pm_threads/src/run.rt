@@ -1,0 +1,171 @@
+//! All workers at once.
+
+ghost use Rattle.std.specs.Prelude.{◌≡◌, ◌≤◌, false, length, map, None, All, IfOk, IfNone, OnOk};
+ghost use Rattle.std.specs.List.{AllZip, list_any};
+ghost use Rattle.disk_model.specs.Units.{plan_of, StandsFor, MaySend};
+ghost use Rattle.disk_thread.specs.Runs.{IsRun};
+ghost use Rattle.host_thread.specs.Runs.{GoesOn, IsRun as IsHostRun, is_open};
+ghost use Rattle.pm_threads.specs.Ends.{AllGoOn, AreOfOneRun};
+ghost use Rattle.pm_threads.specs.Seats.{TiedTo};
+ghost use Rattle.pm_threads.specs.Setups.{is_fitting, memory_of};
+
+use crate::finished::Finished;
+use crate::links::Links;
+use crate::seats::seated;
+use crate::setup::{Setup, filled};
+use disk_model::Unit;
+use disk_thread::{DiskEnd, DiskWorker, Gate};
+use host_memory::MemoryError;
+use host_thread::{HostEnd, HostWorker};
+use pm_thread::{PmEnd, PmWorker};
+use runner::{Fault, run_three};
+use std::alloc::{AllocError, Global};
+use std::sync::Wait;
+use std::sync::atomic::AtomicBool;
+use std::thread::Threads;
+use thiserror::Error;
+
+/// Why there is nothing left of a run.
+#[derive(Clone, Copy, Debug, PartialEq, Eq, Error)]
+pub enum RunError {
+    /// The allocator refused memory.
+    #[error("out of memory")]
+    OutOfMemory = 1,
+    /// All turns were spent, and a request has not ended.
+    #[error("turns spent")]
+    TurnsSpent = 2,
+    /// The gate of the disks did not open.
+    #[error("gate shut")]
+    GateShut = 3,
+    /// The setup is none that a run on these links can have, or their seats were given before.
+    #[error("bad setup")]
+    BadSetup = 4,
+}
+
+impl From<AllocError> for RunError {
+    ghost use Rattle.std.specs.Prelude.{◌≡◌};
+    ghost use Rattle.pm_threads.specs.declared.run.RunError.TheVariants.{OutOfMemory};
+
+    ghost from_gives = { λ _ e. e ≡ OutOfMemory };
+
+    fn from(_: AllocError) -> RunError {
+        RunError::OutOfMemory
+    }
+}
+
+impl From<MemoryError> for RunError {
+    ghost use Rattle.pm_threads.specs.Setups.{IsErrorOf};
+
+    ghost from_gives = { IsErrorOf };
+
+    fn from(error: MemoryError) -> RunError {
+        match error {
+            MemoryError::BadSize => RunError::BadSetup,
+            MemoryError::OutOfMemory => RunError::OutOfMemory,
+        }
+    }
+}
+
+/// Whether one of the workers ended by this fault.
+fn any_fault(disks: &[DiskEnd<'_, Unit>], others: [Option<Fault>; 2], fault: Fault) -> bool {
+    disks.iter().any(|end| end.fault == Some(fault)) || others.contains(&Some(fault))
+}
+
+/// Whether the worker of a device ended by a fault.
+fn has_fault(disks: &[DiskEnd<'_, Unit>]) -> bool
+    ensures { result ≡ false → All (λ end. end.fault ≡ None) disks.now }
+{
+    disks.iter().any(|end| end.fault.is_some())
+}
+
+/// What is left of a run, where no worker ended by a fault and no request is open.
+fn finished<'a>(
+    disks: Vec<DiskEnd<'a, Unit>>,
+    pm: PmEnd<'a>,
+    host: HostEnd<'a>,
+) -> Result<Finished<'a>, RunError>
+    requires { AreOfOneRun (record { disks = map (λ e. e.station) disks.items; pm = pm; host = host }) }
+    ensures disks { IfOk result (λ f. f.disks ≡ map (λ e. e.station) disks.entry.items) }
+    ensures no_fault { OnOk result (All (λ e. e.fault ≡ None) disks.entry.items) }
+    ensures host { IfOk result (λ f. f.host ≡ host.entry) }
+    ensures closed { OnOk result (list_any is_open host.entry.states ≡ false) }
+{
+    let others = [pm.fault(), host.fault()];
+    if any_fault(disks.as_slice(), others, Fault::OutOfMemory) {
+        return Err(RunError::OutOfMemory);
+    }
+    if has_fault(disks.as_slice()) {
+        return Err(RunError::GateShut);
+    }
+    if host.is_open() {
+        return Err(RunError::TurnsSpent);
+    }
+    Ok(Finished { disks, pm, host })
+}
+
+/// Runs the workers side by side, until all have ended. Whatever units' runs the stations were, they go on to be, and so does
+/// the host.
+fn run_seated<'a, 'g, G: Gate + Sync, R: Threads + Wait + Sync>(
+    rt: &R,
+    alloc: Global,
+    workers: Vec<DiskWorker<'a, 'g, Unit, G>>,
+    pm: PmWorker<'a>,
+    host: HostWorker<'a>,
+    turns: u64,
+) -> Result<Finished<'a>, RunError>
+    requires tied { AllZip TiedTo workers.items pm.ports }
+    requires up { pm.host.link ≡ host.frames.link }
+    requires down { host.commands.link ≡ pm.commands.link }
+    ensures disks { IfOk result (λ f. AllGoOn workers.entry.items f.disks) }
+    ensures host { IfOk result (λ f. GoesOn host.entry f.host) }
+    ensures plan { IfOk result (λ f. f.host.plan ≡ host.entry.plan) }
+    ensures closed { IfOk result (λ f. list_any is_open f.host.states ≡ false) }
+{
+    let stop = AtomicBool::new(false);
+    let (disks, pm, host) = run_three(rt, alloc, workers, pm, host, &stop, turns)?;
+    finished(disks, pm, host)
+}
+
+/// Runs each device, the multiplier and the host in threads of their own, until all requests have ended or all turns are
+/// spent. The end of each device is a run of the unit that was given for its port, and that of the host one beside the
+/// memory with the puts.
+pub fn run_threads<'a, G: Gate + Sync, R: Threads + Wait + Sync>(
+    rt: &R,
+    alloc: Global,
+    links: &'a mut Links,
+    setup: Setup,
+    gate: &G,
+) -> Result<Finished<'a>, RunError>
+    ensures bad_setup { is_fitting (length links.old.devices) setup ≡ false → result ≡ Err RunError.BadSetup }
+    ensures disks { IfOk result (λ f. AllZip (IsRun plan_of StandsFor MaySend) setup.units.items f.disks) }
+    ensures host { IfOk result (λ f. IsHostRun
+        (memory_of setup.memory (map (λ put. (put.0, put.1.items)) setup.puts.items)) f.host) }
+    ensures plan { IfOk result (λ f. f.host.plan ≡ setup.plan.items) }
+    ensures closed { IfOk result (λ f. list_any is_open f.host.states ≡ false) }
+{
+    if !setup.fits(links.ports()) {
+        return Err(RunError::BadSetup);
+    }
+    let Setup {
+        units,
+        memory,
+        puts,
+        plan,
+        pulls,
+        turns,
+    } = setup;
+    let Links { devices, up, down } = links;
+    let Some((sent, taken)) = up.seats() else {
+        return Err(RunError::BadSetup);
+    };
+    let Some((said, told)) = down.seats() else {
+        return Err(RunError::BadSetup);
+    };
+    let Some((workers, ports)) = seated(alloc, devices.as_mut_slice(), units, gate, &pulls)? else {
+        return Err(RunError::BadSetup);
+    };
+    let memory = filled(alloc, memory, &puts)?;
+    let pm = PmWorker::new(alloc, ports, sent, told);
+    let host = HostWorker::new(alloc, taken, said, memory, plan)?;
+    run_seated(rt, alloc, workers, pm, host, turns)
+}

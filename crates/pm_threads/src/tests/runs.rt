@@ -1,0 +1,125 @@
+//! Runs of disks: their requests end, and bytes come back.
+
+use super::setups::{Door, planned, ran, setup};
+use crate::{Links, RunError, Setup, Summary};
+use disk_thread::{Gate, GateShut};
+use hba_driver::{Outcome, Work};
+use host_thread::{Ended, State};
+use std::alloc::Global;
+use std::sync::Wait;
+use std::sync::atomic::{AtomicU64, Ordering};
+use std::test::Fail;
+use std::thread;
+use std::thread::Threads;
+
+/// Where the write of device 0 has its bytes, and where they come back.
+const FROM: u32 = 0x10_2000;
+
+const BACK: u32 = 0x10_4000;
+
+/// Device 0 writes a sector and then reads it back, each other device reads one.
+fn reading(alloc: Global, count: u8) -> Result<Setup, Fail> {
+    let mut given = setup(alloc, count)?;
+    given.puts.push((FROM, vec![in alloc; 0x5A; 512]?))?;
+    given
+        .plan
+        .push(planned(alloc, 0, Work::Write, FROM, false)?)?;
+    for dev in 1..count {
+        let place = 0x10_6000 + 0x1000 * u32::from(dev);
+        given
+            .plan
+            .push(planned(alloc, dev, Work::Read, place, false)?)?;
+    }
+    given.plan.push(planned(alloc, 0, Work::Read, BACK, true)?)?;
+    Ok(given)
+}
+
+/// Whether all are done, and the bytes have come back.
+fn is_done(summary: &Summary) -> bool {
+    let done = State::Ended(Ended::Polled(Outcome::Done));
+    let at = (BACK - 0x10_0000) as usize;
+    summary.results.iter().all(|state| *state == done)
+        && summary.memory.client()[at..at + 512]
+            .iter()
+            .all(|byte| *byte == 0x5A)
+}
+
+/// Holds each disk at its second FIS until all are at theirs.
+#[derive(Drop)]
+struct AllEnter {
+    counts: Vec<AtomicU64>,
+    there: AtomicU64,
+}
+
+impl AllEnter {
+    fn new(alloc: Global, count: u8) -> Result<AllEnter, Fail> {
+        let mut counts = Vec::new(alloc);
+        for _ in 0..count {
+            counts.push(AtomicU64::new(0))?;
+        }
+        Ok(AllEnter {
+            counts,
+            there: AtomicU64::new(0),
+        })
+    }
+}
+
+impl Gate for AllEnter {
+    fn enter(&self, port: u8) -> Result<(), GateShut> {
+        let Some(count) = self.counts.get(usize::from(port)) else {
+            return Err(GateShut);
+        };
+        if count.fetch_add(1, Ordering::SeqCst) != 1 {
+            return Ok(());
+        }
+        self.there.fetch_add(1, Ordering::SeqCst);
+        for _ in 0..100_000_000u64 {
+            if self.there.load(Ordering::SeqCst) >= self.counts.len() as u64 {
+                return Ok(());
+            }
+            thread::yield_now();
+        }
+        Err(GateShut)
+    }
+}
+
+/// What comes of it on new links.
+fn on_links<R: Threads + Wait + Sync, G: Gate + Sync>(
+    rt: &R,
+    alloc: Global,
+    count: u8,
+    capacity: usize,
+    gate: &G,
+) -> Result<Result<Summary, RunError>, Fail> {
+    let mut links = Links::new(alloc, count, capacity)?;
+    Ok(ran(rt, alloc, &mut links, reading(alloc, count)?, gate))
+}
+
+#[test]
+fn bytes_come_back(rt: HostRuntime) -> Result<(), Fail> {
+    let alloc = rt.alloc();
+    let door = Door { open: true };
+    for (count, capacity) in [(1, 1), (2, 4), (15, 1), (15, 64)] {
+        let summary = on_links(&rt, alloc, count, capacity, &door)??;
+        assert!(rt; is_done(&summary), "at {count}, {capacity}");
+    }
+    Ok(())
+}
+
+#[test]
+fn all_disks_enter(rt: HostRuntime) -> Result<(), Fail> {
+    let alloc = rt.alloc();
+    for count in [2, 15] {
+        let gate = AllEnter::new(alloc, count)?;
+        let summary = on_links(&rt, alloc, count, 4, &gate)??;
+        assert!(rt; is_done(&summary), "at {count}");
+    }
+    Ok(())
+}
+
+#[test]
+fn a_gate_that_is_shut(rt: HostRuntime) -> Result<(), Fail> {
+    let error = on_links(&rt, rt.alloc(), 2, 4, &Door { open: false })?.err();
+    assert_eq!(rt; error, Some(RunError::GateShut));
+    Ok(())
+}
