@@ -8,20 +8,15 @@ use Rattle.hba_laws.specs.Delivering.{touched}
 use Rattle.hba_laws.specs.History.{History}
 use Rattle.hba_laws.specs.Hosts.{Does, Flushed, Gave, Host, HostEvent, Put, Rewrote, Stored, Took, Wrote}
 use Rattle.hba_laws.specs.Sound.{IsHost}
-use Rattle.disk_ends.specs.Calm.{CalmRunsKeep, IsCalm, IssuesFor, StaysHosted}
+use Rattle.disk_ends.specs.Calm.{CalmRunsKeep, IsCalm, IssuesFor}
 use Rattle.disk_ends.specs.Elsewhere.{LeavesDevice}
 use Rattle.disk_ends.specs.Hosted.{IsHosted, issues, stays}
 use Rattle.disk_ends.proofs.ElsewhereLemmas.{others_leave_device}
 
 issued_for : (n : ℕ) (old new : Host) (event : HostEvent) (given : List Happening) (commands next : ℕ → Command) (past : History) → IsHost old
     → Does old event new → IssuesFor n old commands event next → IsHosted n old given commands past
-    → StaysHosted n new given next
-issued_for n old new (Wrote Ci value) given commands next past sound does i hosted =
-    record {
-      later = own n
-          (touched old (Wrote Ci value)) ++ past;
-      hosted = issues old new value given commands next past sound i.0 does i.1 i.2 hosted;
-    }
+    → IsHosted n new given next (own n (touched old event) ++ past)
+issued_for n old new (Wrote Ci value) given commands next past sound does i hosted = issues old new value given commands next past sound i.0 does i.1 i.2 hosted
 issued_for n old new (Wrote Clb value) given commands next past sound does i hosted = absurd i
 issued_for n old new (Wrote Clbu value) given commands next past sound does i hosted = absurd i
 issued_for n old new (Wrote Fb value) given commands next past sound does i hosted = absurd i
@@ -44,23 +39,18 @@ issued_for n old new (Put at bytes) given commands next past sound does i hosted
 
 calm_one : (n : ℕ) (old new : Host) (event : HostEvent) (given : List Happening) (commands next : ℕ → Command) (past : History) → n < 15 → IsHost old
     → Does old event new → IsCalm n old commands event next → IsHosted n old given commands past
-    → StaysHosted n new given next
+    → IsHosted n new given next (own n (touched old event) ++ past)
 calm_one n old new event given commands next past below sound does (inl away) hosted =
     let small : n < 16 = omega (arith, below) in
     let left : LeavesDevice n old event new = others_leave_device n old new event small does away.0 in
-    record {
-      later = past;
-      hosted = subst (λ (f : ℕ → Command). IsHosted n new given f past) (sym away.1)
-          (stays old new given commands past left.view hosted);
-    }
+    let same : IsHosted n new given next past = subst (λ (f : ℕ → Command). IsHosted n new given f past) (sym away.1) (stays old new given commands past left.view hosted) in
+    subst (λ (h : History). IsHosted n new given next (h ++ past)) (sym left.history) same
 calm_one n old new event given commands next past below sound does (inr here) hosted =
     issued_for n old new event given commands next past sound does here hosted
 
 pub calm_runs_keep : CalmRunsKeep
-calm_runs_keep n old new [] run given commands next past below hosts calm hosted = record {
-  later = past;
-  hosted = subst (λ (h : Host). IsHosted n h given next past) (sym run) (subst (λ (f : ℕ → Command). IsHosted n old given f past) (sym calm) hosted);
-}
+calm_runs_keep n old new [] run given commands next past below hosts calm hosted =
+    subst (λ (h : Host). IsHosted n h given next past) (sym run) (subst (λ (f : ℕ → Command). IsHosted n old given f past) (sym calm) hosted)
 calm_runs_keep n old new (event ∷ events) run given commands next past below hosts calm hosted =
-    let one : StaysHosted n run.0 given calm.0 = calm_one n old run.0 event given commands calm.0 past below hosts.0 run.1 calm.1 hosted in
-    calm_runs_keep n run.0 new events run.2 given calm.0 next one.later below hosts.1 calm.2 one.hosted
+    let one : IsHosted n run.0 given calm.0 (own n (touched old event) ++ past) = calm_one n old run.0 event given commands calm.0 past below hosts.0 run.1 calm.1 hosted in
+    calm_runs_keep n run.0 new events run.2 given calm.0 next (own n (touched old event) ++ past) below hosts.1 calm.2 one

@@ -17,12 +17,13 @@ use Rattle.slots.specs.Work.{is_queued}
 use Rattle.disk_model.specs.declared.request.Command.{Command}
 use Rattle.disk_model.specs.Chunks.{sectors_at}
 use Rattle.disk_model.specs.Ends.{AreEntered, AreRight, EndsAgree, IsBits, IsRight}
-use Rattle.disk_model.specs.Histories.{Sent}
+use Rattle.disk_model.specs.Histories.{Happening, Sent}
 use Rattle.disk_model.specs.Ledger.{IsRead, Ledger, Names, ReadOut, Written, ledger, listens, medium_with}
 use Rattle.disk_model.proofs.EndsLemmas.{ends_agree}
-use Rattle.hba_laws.specs.History.{History, Named, Transfer, completes, filled, is_all_filled}
+use Rattle.hba_laws.specs.History.{History, Named, Transfer, completes, filled, is_all_filled, issued}
 use Rattle.disk_ends.specs.Same.{IsReadOf, IsWriteOf, Stand}
 use Rattle.disk_ends.specs.Answers.{ByRead, ByWrite, HasEnded}
+use Rattle.disk_ends.specs.Together.{Same}
 use Rattle.disk_ends.specs.Honest.{AreFilledBy, BroughtSectors, DoneIsHonest, IsDoneHonestly, IsOnMedium, NextIsRight}
 use Rattle.disk_ends.proofs.AnswerLemmas.{StandsFirst, named_first, names_keep}
 
@@ -67,20 +68,24 @@ fills_all g len bytes all stands i lt =
 
 -- ## What comes next
 
-pub next_right : NextIsRight
+pub next_where : (sectors : ℕ) (disk host : List Happening) (down up : List (List ℕ)) (bytes : List ℕ) → EndsAgree sectors disk host down (bytes ∷ up)
+    → IsRight (ledger host) (seen bytes)
 unfolding AreRight
-next_right plan sectors disk host down up bytes size run linked careful =
-    let ends : EndsAgree sectors disk host down (bytes ∷ up) = ends_agree plan sectors disk host down (bytes ∷ up) size run linked careful in
+next_where sectors disk host down up bytes ends =
     let right : IsRight (ledger host) (seen bytes) × AreRight (listens (ledger host) (Sent bytes)) up = ends.right in
     right.0
 
+pub next_right : NextIsRight
+next_right plan sectors disk host down up bytes size run linked careful =
+    next_where sectors disk host down up bytes (ends_agree plan sectors disk host down (bytes ∷ up) size run linked careful)
+
 -- ## A command that is done
 
-record IsNamed (s mask : ℕ) (past : History) (t : Transfer) : Type 0 where
-  bit : has_bit mask s ≡ true
-  filled_is : is_all_filled (filled s past) t.work.len ≡ true
+pub record IsNamed (s mask : ℕ) (past : History) (t : Transfer) : Type 0 where
+  pub bit : has_bit mask s ≡ true
+  pub filled_is : is_all_filled (filled s past) t.work.len ≡ true
 
-named_by : (s mask : ℕ) (past : History) (t : Transfer) → completes s (Named mask) past t.work ≡ true → IsNamed s mask past t
+pub named_by : (s mask : ℕ) (past : History) (t : Transfer) → completes s (Named mask) past t.work ≡ true → IsNamed s mask past t
 named_by s mask past t done =
     let parts = and_parts (has_bit mask s) (is_queued t.work.kind && is_all_filled (filled s past) t.work.len) done in
     let more = and_parts (is_queued t.work.kind) (is_all_filled (filled s past) t.work.len) parts.1 in
@@ -124,7 +129,7 @@ entered s at c past t disk k w tag all on there of stands =
       bytes = fills_all (filled s past) t.work.len w.bytes all stands;
     }
 
-done_by : (sectors s : ℕ) (c : Command) (past : History) (t : Transfer) (disk k : Ledger) → c.tag ≡ s
+pub done_by : (sectors s : ℕ) (c : Command) (past : History) (t : Transfer) (disk k : Ledger) → c.tag ≡ s
     → is_all_filled (filled s past) t.work.len ≡ true → All (IsRead sectors) k.reads → AreEntered disk k s → HasEnded s c past k
     → IsDoneHonestly sectors c (filled s past) t.work.len disk k
 done_by sectors s c past t disk k tag all reads on (ByRead at r there of stands) =
@@ -132,20 +137,29 @@ done_by sectors s c past t disk k tag all reads on (ByRead at r there of stands)
 done_by sectors s c past t disk k tag all reads on (ByWrite at w there of stands) =
     record { reads = λ way. other_way c.write way of.writes; writes = λ way. entered s at c past t disk k w tag all on there of stands }
 
-names_of : (k : Ledger) (fis : Result Fis FisFault) (f : List ℕ) → fis ≡ Ok (view.SetBits f) → IsRight k fis
+pub names_of : (k : Ledger) (fis : Result Fis FisFault) (f : List ℕ) → fis ≡ Ok (view.SetBits f) → IsRight k fis
     → Names k.unanswered (field Bits SActive f)
 names_of k fis f is right =
     let r : IsRight k (Ok (view.SetBits f)) = subst (IsRight k) is right in
     r.answers r.fine
 
-pub done_is_honest : DoneIsHonest
-done_is_honest plan sectors disk host down up bytes f size run linked careful is commands past same s t there queued done =
+-- where both ends agree
+pub done_where : (sectors : ℕ) (disk host : List Happening) (down up : List (List ℕ)) (bytes f : List ℕ) → EndsAgree sectors disk host down (bytes ∷ up)
+    → IsRight (ledger host) (seen bytes) → seen bytes ≡ Ok (view.SetBits f)
+    → (commands : ℕ → Command) (past : History) → Same commands past (ledger host)
+    → (s : ℕ) (t : Transfer) → issued s past ≡ Some t → is_queued t.work.kind ≡ true
+    → completes s (Named (field Bits SActive f)) past t.work ≡ true
+    → IsDoneHonestly sectors (commands s) (filled s past) t.work.len (ledger disk) (ledger host)
+done_where sectors disk host down up bytes f ends right is commands past same s t there queued done =
     let k : Ledger = ledger host in
-    let ends : EndsAgree sectors disk host down (bytes ∷ up) = ends_agree plan sectors disk host down (bytes ∷ up) size run linked careful in
-    let right : IsRight (ledger host) (seen bytes) = next_right plan sectors disk host down up bytes size run linked careful in
     let names : Names k.unanswered (field Bits SActive f) = names_of (ledger host) (seen bytes) f is right in
     let named : IsNamed s (field Bits SActive f) past t = named_by s (field Bits SActive f) past t done in
     let first : StandsFirst s k.unanswered = named_first s (field Bits SActive f) k.unanswered names named.bit in
     let on : AreEntered (ledger disk) (ledger host) s = ends.entered (subst IsBits (sym is) tt) s first.rest first.is in
     done_by sectors s (commands s) past t (ledger disk) (ledger host) (same.tags s) named.filled_is ends.reads on
     (names_keep.own s (field Bits SActive f) (commands s) past (ledger host) names named.bit (same.live s t there queued))
+
+pub done_is_honest : DoneIsHonest
+done_is_honest plan sectors disk host down up bytes f size run linked careful is commands past same s t there queued done =
+    done_where sectors disk host down up bytes f (ends_agree plan sectors disk host down (bytes ∷ up) size run linked careful)
+    (next_right plan sectors disk host down up bytes size run linked careful) is commands past same s t there queued done

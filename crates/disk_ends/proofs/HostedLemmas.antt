@@ -29,13 +29,13 @@ use Rattle.disk_ends.proofs.TogetherLemmas.{same_goes_on}
 
 -- ## One happening more
 
-ledger_more : (l : Ledger) (given : List Happening) (e : Happening) → ledger_after l (given ++ e ∷ []) ≡ listens (ledger_after l given) e
+pub ledger_more : (l : Ledger) (given : List Happening) (e : Happening) → ledger_after l (given ++ e ∷ []) ≡ listens (ledger_after l given) e
 unfolding ledger_after
 ledger_more l [] e = refl
 ledger_more l (x ∷ given) e = ledger_more (listens l x) given e
 
 -- it comes up, or it goes down and fits
-abbrev FitsOne : Ledger → Happening → Type 0
+abbrev pub FitsOne : Ledger → Happening → Type 0
 FitsOne l (Received bytes) = Fits l (seen bytes)
 FitsOne l (Sent bytes) = Unit {0}
 FitsOne l Plugged = Unit {0}
@@ -46,7 +46,7 @@ fits_last l (Received bytes) fits = (fits, tt)
 fits_last l (Sent bytes) fits = tt
 fits_last l Plugged fits = tt
 
-fits_more : (l : Ledger) (given : List Happening) (e : Happening) → FitsAll l given → FitsOne (ledger_after l given) e → FitsAll l (given ++ e ∷ [])
+pub fits_more : (l : Ledger) (given : List Happening) (e : Happening) → FitsAll l given → FitsOne (ledger_after l given) e → FitsAll l (given ++ e ∷ [])
 unfolding FitsAll ledger_after
 fits_more l [] e all one = fits_last l e one
 fits_more l (Received bytes ∷ given) e all one = (all.0, fits_more (listens l (Received bytes)) given e all.1 one)
@@ -71,7 +71,7 @@ kept_more n new given e commands past careful fits joined = record {
   joined = subst (IsJoined n commands new past) (sym (ledger_more empty given e)) joined;
 }
 
-no_context : (n : ℕ) (host : Host) (past : History) → IsHistoryOf n host past → ((s : ℕ) → own_issue (view_of n host.port).slots s ≡ None)
+pub no_context : (n : ℕ) (host : Host) (past : History) → IsHistoryOf n host past → ((s : ℕ) → own_issue (view_of n host.port).slots s ≡ None)
     → (c : Context) → (view_of n host.port).slots.context ≡ Some c → ⊥
 no_context n host past history none c now =
     let agrees : ContextAgrees _ c _ past = history.agrees.context_agrees c now in

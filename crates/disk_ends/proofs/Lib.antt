@@ -16,3 +16,11 @@ pub mod MarkedLemmas
 pub mod ReportLemmas
 pub mod ElsewhereLemmas
 pub mod CalmLemmas
+pub mod SignsLemmas
+pub mod AnewJoins
+pub mod AnewHonest
+pub mod AsideLemmas
+pub mod FollowedLemmas
+pub mod LaterJoins
+pub mod PhaseLemmas
+pub mod CalmOn

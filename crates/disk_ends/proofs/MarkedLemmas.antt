@@ -235,7 +235,7 @@ pub record IsMarkedBits (old new g : List ℕ) : Type 0 where
   pub is : seen old ≡ Ok (view.SetBits old)
   pub same : g ≡ new
 
-bits_by : (kind : Kind) (b : Bool) (old new g : List ℕ) → (if b then Ok (view_as kind new) else Err WrongLength) ≡ Ok (view.SetBits g)
+pub bits_by : (kind : Kind) (b : Bool) (old new g : List ℕ) → (if b then Ok (view_as kind new) else Err WrongLength) ≡ Ok (view.SetBits g)
     → ((if b then Ok (view_as kind old) else Err WrongLength) ≡ Ok (view.SetBits old)) × (g ≡ new)
 bits_by kind false old new g e = absurd (cc e)
 bits_by Bits true old new g e = let same : new ≡ g = cc e in (refl, sym same)

@@ -123,7 +123,7 @@ chunk_high plan sectors size =
     let most = and_parts (nat_le 1 sectors && nat_le sectors 65536 && nat_le 512 plan.chunk) (nat_le plan.chunk 8192) all.0 in
     leb-true plan.chunk 8192 most.1
 
-sent_short : (plan : DiskPlan) (sectors : ℕ) (h : List Happening) (b : List ℕ) → IsSize plan sectors → IsDiskRun plan sectors (h ++ Sent b ∷ [])
+pub sent_short : (plan : DiskPlan) (sectors : ℕ) (h : List Happening) (b : List ℕ) → IsSize plan sectors → IsDiskRun plan sectors (h ++ Sent b ∷ [])
     → IsShort (seen b)
 sent_short plan sectors h b size run =
     let parts = last_may plan sectors (opening sectors) h (Sent b) run in
@@ -134,11 +134,11 @@ sent_short plan sectors h b size run =
 
 -- ## What is on its way up
 
-abbrev AllShort : List (List ℕ) → Type 0
+abbrev pub AllShort : List (List ℕ) → Type 0
 AllShort [] = Unit {0}
 AllShort (b ∷ up) = IsShort (seen b) × AllShort up
 
-more_short : (up : List (List ℕ)) (b : List ℕ) → AllShort up → IsShort (seen b) → AllShort (up ++ b ∷ [])
+pub more_short : (up : List (List ℕ)) (b : List ℕ) → AllShort up → IsShort (seen b) → AllShort (up ++ b ∷ [])
 more_short [] b all one = (one, tt)
 more_short (x ∷ up) b all one = (all.0, more_short up b all.1 one)
 

@@ -139,7 +139,7 @@ free_ends s k w true false other free = record {
 
 -- ## The plugging
 
-idle_free : (s : ℕ) (k : Ledger) → IsIdle k → IsFree k s
+pub idle_free : (s : ℕ) (k : Ledger) → IsIdle k → IsFree k s
 idle_free s k idle = record {
   outstanding = ap (list_any (λ (q : Command). q.tag == s)) idle.outstanding;
   unanswered = ap (has s) idle.unanswered;

@@ -6,6 +6,7 @@ use Rattle.hba_fbs.specs.declared.register.Register.TheVariants.{Ci}
 use Rattle.hba_fbs.specs.Issuing.{asked}
 use Rattle.disk_model.specs.declared.request.Command.{Command}
 use Rattle.disk_model.specs.Histories.{Happening}
+use Rattle.hba_laws.specs.Delivering.{history_after}
 use Rattle.hba_laws.specs.History.{History}
 use Rattle.hba_laws.specs.Hosts.{Host, HostEvent, Runs, Wrote}
 use Rattle.hba_laws.specs.Sound.{AreHosts}
@@ -37,15 +38,11 @@ AreCalm n commands old new (event ∷ events) run next =
     (mid : ℕ → Command) × IsCalm n old commands event mid
     × AreCalm n mid run.0 new events run.2 next
 
--- what a host has of a device after such events
-pub record StaysHosted (n : ℕ) (new : Host) (given : List Happening) (commands : ℕ → Command)
-    : Type 0 where
-  pub later : History
-  pub hosted : IsHosted n new given commands later
-
+-- what a host has of a device after such events, with the device's history over them
 abbrev pub CalmRunsKeep : Type 0
 CalmRunsKeep =
     (n : ℕ) (old new : Host) (events : List HostEvent) (run : Runs old events new)
     (given : List Happening) (commands next : ℕ → Command) (past : History)
     → n < 15 → AreHosts old new events run → AreCalm n commands old new events run next
-    → IsHosted n old given commands past → StaysHosted n new given next
+    → IsHosted n old given commands past
+    → IsHosted n new given next (history_after n past old new events run)

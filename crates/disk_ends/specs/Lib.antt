@@ -9,3 +9,8 @@ pub mod Hosted
 pub mod Marked
 pub mod Elsewhere
 pub mod Calm
+pub mod Anew
+pub mod Aside
+pub mod Followed
+pub mod Later
+pub mod Phases

@@ -1,14 +1,21 @@
 //! Laws of a host's two views of a disk. The functions do nothing when they run.
 
+ghost use Rattle.disk_ends.specs.Anew.{HonestStays, HostedOnIsKept, HostedSinceNew};
+ghost use Rattle.disk_ends.specs.Anew.{NextIsRightAnew, OpensAfter, OpensTheSame};
+ghost use Rattle.disk_ends.specs.Anew.{ReportsHonestlyAnew, SignatureIsNone};
 ghost use Rattle.disk_ends.specs.Answers.{AnswersKeep, NamesKeep, OthersKeep};
+ghost use Rattle.disk_ends.specs.Aside.{AsideIsKept};
 ghost use Rattle.disk_ends.specs.Calm.{CalmRunsKeep};
 ghost use Rattle.disk_ends.specs.Elsewhere.{OthersLeaveDevice};
+ghost use Rattle.disk_ends.specs.Followed.{FollowedIsHonest, FollowsOn, NextIsRightOrFails};
 ghost use Rattle.disk_ends.specs.Heard.{HeardAsTold};
 ghost use Rattle.disk_ends.specs.Honest.{DoneIsHonest, NextIsRight};
 ghost use Rattle.disk_ends.specs.Hosted.{HostedIsKept, NextIsShort};
 ghost use Rattle.disk_ends.specs.Joined.{JoinsCommands, JoinsData, JoinsFrames};
 ghost use Rattle.disk_ends.specs.Joined.{JoinsIssues, JoinsOthers, ReportsHonestly, StaysJoined};
+ghost use Rattle.disk_ends.specs.Later.{NextIsRightLater, ReportsHonestlyLater};
 ghost use Rattle.disk_ends.specs.Marked.{MarksTellNothing};
+ghost use Rattle.disk_ends.specs.Phases.{CalmLeavesTogether, EachDoneIsHonest, TakesInEachPhase};
 ghost use Rattle.disk_ends.specs.Same.{CommandsKeep, DataFills, IssuesKeep, SetupsStart};
 ghost use Rattle.disk_ends.specs.Steps.{ActivatesKeep, DataDown, DataUp, SetupsGoOn};
 ghost use Rattle.disk_ends.specs.Together.{SameGoesOn};
@@ -105,4 +112,56 @@ pub fn reports_are_honest()
 pub fn others_leave_a_device()
     ensures others { OthersLeaveDevice }
     ensures calm { CalmRunsKeep }
+{}
+
+/// A host and its disk begin anew where nothing queued is issued and nothing of it is to come:
+/// after any plugging, after a software reset, or with the log after an error. From there on port,
+/// history and ledger agree again, as they do since the disk was new. The signature that ends the
+/// reset is no event of the history.
+pub fn hosts_begin_anew()
+    ensures after { OpensAfter }
+    ensures opens { OpensTheSame }
+    ensures kept { HostedOnIsKept }
+    ensures new { HostedSinceNew }
+    ensures signature { SignatureIsNone }
+{}
+
+/// From there on what comes next to the host is right, and what a report says is done was done
+/// honestly, also where the report has a fault; and it stays so whatever the disk does later.
+pub fn reports_are_honest_anew()
+    ensures next { NextIsRightAnew }
+    ensures done { ReportsHonestlyAnew }
+    ensures stays { HonestStays }
+{}
+
+/// From its first fault on, or once it is flushed or its error is cleared, a device is set aside:
+/// the port hears nothing of it, or nothing queued of it is issued. So it stays until a queued
+/// command is issued for it, and no report says meanwhile that a queued command of it is done.
+pub fn devices_are_set_aside()
+    ensures { AsideIsKept }
+{}
+
+/// Whatever a disk does, errors too, it is followed up to the error that the host takes of it: what
+/// comes next is right or is an error, and what a report says is done was done honestly.
+pub fn disks_are_followed_to_their_errors()
+    ensures follows { FollowsOn }
+    ensures next { NextIsRightOrFails }
+    ensures done { FollowedIsHonest }
+{}
+
+/// Whatever goes wrong with a disk or at the port, a queued command that a report says is done was
+/// done honestly: while host and disk are together, and, since none is, while the device is set
+/// aside. Whatever comes next and is not ignored, they are still together, or the device is set
+/// aside; and what is another device's, or issues commands for this one, leaves them together.
+pub fn reports_are_honest_in_each_phase()
+    ensures done { EachDoneIsHonest }
+    ensures next { TakesInEachPhase }
+    ensures calm { CalmLeavesTogether }
+{}
+
+/// Of a disk that is plugged in again, also after a removal, what a host does is told from that
+/// plugging on, and what a report says is done is honest by all that the disk did before, too.
+pub fn reports_are_honest_later()
+    ensures next { NextIsRightLater }
+    ensures done { ReportsHonestlyLater }
 {}

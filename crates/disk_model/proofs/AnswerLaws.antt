@@ -42,7 +42,8 @@ of_512 : (b : List ℕ) → Shows page_follows b → field Pio Transfer b ≡ 51
 unfolding places cut
 of_512 b shows = shows.fields Transfer
 
-answers_by : (l : Ledger) (sectors : ℕ) (a : Answer) (later : List Answer) (b : List ℕ) → l.awaited ≡ replies (a ∷ later) → Shows (answer_sent sectors a) b → AnswersRight l (seen b)
+answers_by : (l : Ledger) (sectors : ℕ) (a : Answer) (later : List Answer) (b : List ℕ) → l.awaited ≡ replies (a ∷ later)
+    → Shows (answer_sent sectors a) b → AnswersRight l (seen b)
 answers_by l sectors Signature later b is shows = rw (shows.viewed, is) (signs b shows)
 answers_by l sectors Accepted later b is shows = rw (shows.viewed, is) (accepts b shows)
 answers_by l sectors Finished later b is shows = rw (shows.viewed, is) (finishes b shows)
@@ -59,7 +60,8 @@ goes_by l Activates b moves shows = rw shows.viewed tt
 goes_by l (SetsUpPio f) b moves shows = absurd moves
 goes_by l (Carries bytes) b moves shows = rw shows.1 tt
 
-pub answers_right : (plan : DiskPlan) (sectors : ℕ) (h : List Happening) (b : List ℕ) → IsSize plan sectors → IsDiskRun plan sectors (h ++ Sent b ∷ []) → AnswersRight (ledger h) (seen b)
+pub answers_right : (plan : DiskPlan) (sectors : ℕ) (h : List Happening) (b : List ℕ) → IsSize plan sectors
+    → IsDiskRun plan sectors (h ++ Sent b ∷ []) → AnswersRight (ledger h) (seen b)
 answers_right plan sectors h b size run = sent_by plan sectors h b _ size run (λ agrees. record {
   answers = λ a later is shows. answers_by (ledger h) sectors a later b (agrees.awaited ∙ ap replies is) shows;
   fails = λ c f turn is none shows. rw shows.viewed tt;

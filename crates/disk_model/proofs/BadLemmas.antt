@@ -18,7 +18,8 @@ record IsLowest (test : ℕ → Bool) (from count : ℕ) (found : Option ℕ) : 
 same_or_more : (from q : ℕ) → from ≤ q → (from ≡ q) ⊎ (from + 1 ≤ q)
 same_or_more from q le = elim (cases_eq from q) [ inl e ↦ inl e | inr ne ↦ inr (omega arith) ]
 
-found_by : (test : ℕ → Bool) (from n : ℕ) (b : Bool) → test from ≡ b → IsLowest test (from + 1) n (find test (range_with_len (from + 1) n))
+found_by : (test : ℕ → Bool) (from n : ℕ) (b : Bool) → test from ≡ b
+    → IsLowest test (from + 1) n (find test (range_with_len (from + 1) n))
     → IsLowest test from (suc n) (cond b (Some from) (find test (range_with_len (from + 1) n)))
 found_by test from n true is rest = record {
   inside = λ r e. let s : from ≡ r = cc in (omega arith, omega arith, sym (ap test s) ∙ is);
@@ -41,7 +42,8 @@ search_finds test from zero = record {
 search_finds test from (suc n) = found_by test from n (test from) refl (search_finds test (from + 1) n)
 
 -- there is only one
-one_lowest : (test : ℕ → Bool) (from count : ℕ) (a b : Option ℕ) → IsLowest test from count a → IsLowest test from count b → a ≡ b
+one_lowest : (test : ℕ → Bool) (from count : ℕ) (a b : Option ℕ) → IsLowest test from count a → IsLowest test from count b
+    → a ≡ b
 one_lowest test from count None None f g = refl
 one_lowest test from count None (Some r) f g = let k = g.inside r refl in absurd (let no = f.none r refl k.0 k.1 in let yes = k.2 in cc)
 one_lowest test from count (Some r) None f g = let k = f.inside r refl in absurd (let no = g.none r refl k.0 k.1 in let yes = k.2 in cc)
@@ -54,7 +56,8 @@ one_lowest test from count (Some r) (Some s) f g =
     ap (λ (x : ℕ). Some x) e
 
 -- the same for a test that tells the same
-same_test : (test other : ℕ → Bool) (from count : ℕ) (found : Option ℕ) → ((q : ℕ) → test q ≡ other q) → IsLowest test from count found → IsLowest other from count found
+same_test : (test other : ℕ → Bool) (from count : ℕ) (found : Option ℕ) → ((q : ℕ) → test q ≡ other q)
+    → IsLowest test from count found → IsLowest other from count found
 same_test test other from count found same f = record {
   inside = λ r e. let k = f.inside r e in (k.0, k.1, sym (same r) ∙ k.2);
   first = λ r q e le t. f.first r q e le (same q ∙ t);
@@ -95,7 +98,8 @@ is_outside c bad t a b =
     cc
 
 -- the lower of two numbers
-taken : (test : ℕ → Bool) (c : Command) (m bad : ℕ) → is_of c bad ≡ true → IsLowest test c.lba c.count (Some m) → (low : ℕ) → (low ≡ m) ⊎ (low ≡ bad) → low ≤ m → low ≤ bad → IsLowest (or_this test bad) c.lba c.count (Some low)
+taken : (test : ℕ → Bool) (c : Command) (m bad : ℕ) → is_of c bad ≡ true → IsLowest test c.lba c.count (Some m) → (low : ℕ)
+    → (low ≡ m) ⊎ (low ≡ bad) → low ≤ m → low ≤ bad → IsLowest (or_this test bad) c.lba c.count (Some low)
 taken test c m bad here f low which a b =
     let k = f.inside m refl in
     let i = is_inside c bad here in
@@ -111,7 +115,8 @@ taken test c m bad here f low which a b =
       none = λ q e le lt. absurd cc;
     }
 
-taken_first : (test : ℕ → Bool) (c : Command) (bad : ℕ) → is_of c bad ≡ true → IsLowest test c.lba c.count None → IsLowest (or_this test bad) c.lba c.count (Some bad)
+taken_first : (test : ℕ → Bool) (c : Command) (bad : ℕ) → is_of c bad ≡ true → IsLowest test c.lba c.count None
+    → IsLowest (or_this test bad) c.lba c.count (Some bad)
 taken_first test c bad here f =
     let i = is_inside c bad here in
     record {
@@ -129,7 +134,8 @@ taken_first test c bad here f =
       none = λ q e le lt. absurd cc;
     }
 
-left_out : (test : ℕ → Bool) (c : Command) (bad : ℕ) (found : Option ℕ) → is_of c bad ≡ false → IsLowest test c.lba c.count found → IsLowest (or_this test bad) c.lba c.count found
+left_out : (test : ℕ → Bool) (c : Command) (bad : ℕ) (found : Option ℕ) → is_of c bad ≡ false
+    → IsLowest test c.lba c.count found → IsLowest (or_this test bad) c.lba c.count found
 left_out test c bad found out f = record {
   inside = λ r e. let k = f.inside r e in (k.0, k.1, by_test test bad r k.2);
   first = λ r q e le t. let k = f.inside r e in elim (is_there test bad q t) [
@@ -145,21 +151,24 @@ left_out test c bad found out f = record {
   ]);
 }
 
-one_more_in : (test : ℕ → Bool) (c : Command) (bad : ℕ) (found : Option ℕ) → is_of c bad ≡ true → IsLowest test c.lba c.count found → IsLowest (or_this test bad) c.lba c.count (Some (lower_of found bad))
+one_more_in : (test : ℕ → Bool) (c : Command) (bad : ℕ) (found : Option ℕ) → is_of c bad ≡ true
+    → IsLowest test c.lba c.count found → IsLowest (or_this test bad) c.lba c.count (Some (lower_of found bad))
 one_more_in test c bad None here f = taken_first test c bad here f
 one_more_in test c bad (Some m) here f = elim (cases_Bool (nat_le m bad)) [
   | inl low ↦ (let le : m ≤ bad = leb-true m bad low in taken test c m bad here f (min m bad) (inl (min-eq_left le)) (min-le_left m bad) (min-le_right m bad))
   | inr high ↦ (let lt : bad < m = leb-false m bad high in let le : bad ≤ m = omega (arith, lt) in taken test c m bad here f (min m bad) (inr (min-eq_right le)) (min-le_left m bad) (min-le_right m bad))
 ]
 
-one_more : (test : ℕ → Bool) (c : Command) (bad : ℕ) (found : Option ℕ) → IsLowest test c.lba c.count found → IsLowest (or_this test bad) c.lba c.count (lower_bad c found bad)
+one_more : (test : ℕ → Bool) (c : Command) (bad : ℕ) (found : Option ℕ) → IsLowest test c.lba c.count found
+    → IsLowest (or_this test bad) c.lba c.count (lower_bad c found bad)
 one_more test c bad found f = by_place (is_of c bad) refl
   where
     by_place : (b : Bool) → is_of c bad ≡ b → IsLowest (or_this test bad) c.lba c.count (cond b (Some (lower_of found bad)) found)
     by_place true e = one_more_in test c bad found e f
     by_place false e = left_out test c bad found e f
 
-folds : (test : ℕ → Bool) (c : Command) (found : Option ℕ) (bads : List ℕ) → IsLowest test c.lba c.count found → IsLowest (λ q. test q || is_bad bads q) c.lba c.count (fold (lower_bad c) found bads)
+folds : (test : ℕ → Bool) (c : Command) (found : Option ℕ) (bads : List ℕ) → IsLowest test c.lba c.count found
+    → IsLowest (λ q. test q || is_bad bads q) c.lba c.count (fold (lower_bad c) found bads)
 folds test c found [] f = same_test test (λ q. test q || is_bad [] q) c.lba c.count found (λ q. sym (or-false (test q))) f
 folds test c found (bad ∷ bads) f =
     same_test (λ q. or_this test bad q || is_bad bads q) (λ q. test q || is_bad (bad ∷ bads) q) c.lba c.count _ (λ q. or_assoc (test q) (bad == q) (is_bad bads q))

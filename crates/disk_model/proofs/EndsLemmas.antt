@@ -291,22 +291,22 @@ unfolding with_down
 fit_push l [] bytes all fits = (fits, tt)
 fit_push l (b ∷ down) bytes all fits = (all.0, fit_push (listens l (Received b)) down bytes all.1 fits)
 
-after_push : (l : Ledger) (history : List Happening) (e : Happening) → ledger_after l (history ++ e ∷ []) ≡ listens (ledger_after l history) e
+pub after_push : (l : Ledger) (history : List Happening) (e : Happening) → ledger_after l (history ++ e ∷ []) ≡ listens (ledger_after l history) e
 unfolding ledger_after
 after_push l [] e = refl
 after_push l (x ∷ history) e = after_push (listens l x) history e
 
-ledger_push : (history : List Happening) (e : Happening) → ledger (history ++ e ∷ []) ≡ listens (ledger history) e
+pub ledger_push : (history : List Happening) (e : Happening) → ledger (history ++ e ∷ []) ≡ listens (ledger history) e
 ledger_push history e = after_push empty history e
 
 -- ## Careful hosts
 
-abbrev FitsOne : Ledger → Happening → Type 0
+abbrev pub FitsOne : Ledger → Happening → Type 0
 FitsOne l (Received bytes) = Fits l (seen bytes)
 FitsOne l (Sent bytes) = Unit {0}
 FitsOne l Plugged = Unit {0}
 
-careful_last : (l : Ledger) (host : List Happening) (e : Happening) → FitsAll l (host ++ e ∷ []) → FitsAll l host × FitsOne (ledger_after l host) e
+pub careful_last : (l : Ledger) (host : List Happening) (e : Happening) → FitsAll l (host ++ e ∷ []) → FitsAll l host × FitsOne (ledger_after l host) e
 unfolding FitsAll ledger_after
 careful_last l [] (Received bytes) careful = (tt, careful.0)
 careful_last l [] (Sent bytes) careful = (tt, tt)
@@ -358,7 +358,7 @@ reads_up P l (Ok (view.Payload f)) all = reads_sent P l l.moving (drop 4 f) all
 reads_up P l (Ok (view.Unknown f)) all = all
 reads_up P l (Err e) all = all
 
-all_reads_up : (P : ReadOut → Type 0) (l : Ledger) (up : List (List ℕ)) → All P (with_up l up).reads → All P l.reads
+pub all_reads_up : (P : ReadOut → Type 0) (l : Ledger) (up : List (List ℕ)) → All P (with_up l up).reads → All P l.reads
 unfolding with_up
 all_reads_up P l [] all = all
 all_reads_up P l (f ∷ up) all = reads_up P l (seen f) (all_reads_up P (listens l (Sent f)) up all)
@@ -382,24 +382,24 @@ reads_down l (Ok (view.PioSetup f)) fits = refl
 reads_down l (Ok (view.Unknown f)) fits = refl
 reads_down l (Err e) fits = refl
 
-all_reads_down : (l : Ledger) (down : List (List ℕ)) → AreFit l down → (with_down l down).reads ≡ l.reads
+pub all_reads_down : (l : Ledger) (down : List (List ℕ)) → AreFit l down → (with_down l down).reads ≡ l.reads
 unfolding with_down
 all_reads_down l [] fit = refl
 all_reads_down l (b ∷ down) fit = all_reads_down (listens l (Received b)) down fit.1 ∙ reads_down l (seen b) fit.0
 
 -- ## The two ends
 
-record Ties (disk host : List Happening) (down up : List (List ℕ)) : Type 0 where
-  same : with_up (ledger host) up ≡ with_down (ledger disk) down
-  right : AreRight (ledger host) up
-  fit : AreFit (ledger disk) down
-  apart : AreApart (ledger host) (ledger host).unanswered
+pub record Ties (disk host : List Happening) (down up : List (List ℕ)) : Type 0 where
+  pub same : with_up (ledger host) up ≡ with_down (ledger disk) down
+  pub right : AreRight (ledger host) up
+  pub fit : AreFit (ledger disk) down
+  pub apart : AreApart (ledger host) (ledger host).unanswered
 
 tie_begins : Ties (Plugged ∷ []) (Plugged ∷ []) [] []
 unfolding with_up with_down AreRight ledger_after
 tie_begins = record { same = refl; right = tt; fit = tt; apart = tt }
 
-tie_gives : (disk host : List Happening) (down up : List (List ℕ)) (bytes : List ℕ) → Ties disk host down up → Fits (ledger host) (seen bytes) → Ties disk (host ++ Received bytes ∷ []) (down ++ bytes ∷ []) up
+pub tie_gives : (disk host : List Happening) (down up : List (List ℕ)) (bytes : List ℕ) → Ties disk host down up → Fits (ledger host) (seen bytes) → Ties disk (host ++ Received bytes ∷ []) (down ++ bytes ∷ []) up
 tie_gives disk host down up bytes t fits =
     let p : PastUp (ledger host) up bytes = past_up (ledger host) up bytes t.right fits in
     let told : ledger (host ++ Received bytes ∷ []) ≡ listens (ledger host) (Received bytes) = ledger_push host (Received bytes) in
@@ -414,7 +414,7 @@ tie_gives disk host down up bytes t fits =
       apart = subst (λ (x : Ledger). AreApart x x.unanswered) (sym told) (apart_down (ledger host) bytes fits t.apart);
     }
 
-tie_comes : (disk host : List Happening) (front back up : List (List ℕ)) (bytes : List ℕ) → Ties disk host (front ++ bytes ∷ back) up → Ties (disk ++ Received bytes ∷ []) host (front ++ back) up
+pub tie_comes : (disk host : List Happening) (front back up : List (List ℕ)) (bytes : List ℕ) → Ties disk host (front ++ bytes ∷ back) up → Ties (disk ++ Received bytes ∷ []) host (front ++ back) up
 tie_comes disk host front back up bytes t =
     let p : Picked (ledger disk) front bytes back = pick (ledger disk) front bytes back t.fit in
     let told : ledger (disk ++ Received bytes ∷ []) ≡ listens (ledger disk) (Received bytes) = ledger_push disk (Received bytes) in
@@ -425,7 +425,7 @@ tie_comes disk host front back up bytes t =
       apart = t.apart;
     }
 
-tie_sends : (disk host : List Happening) (down up : List (List ℕ)) (bytes : List ℕ) → Ties disk host down up → IsRight (ledger disk) (seen bytes) → Ties (disk ++ Sent bytes ∷ []) host down (up ++ bytes ∷ [])
+pub tie_sends : (disk host : List Happening) (down up : List (List ℕ)) (bytes : List ℕ) → Ties disk host down up → IsRight (ledger disk) (seen bytes) → Ties (disk ++ Sent bytes ∷ []) host down (up ++ bytes ∷ [])
 tie_sends disk host down up bytes t right =
     let p : PastDown (ledger disk) down bytes = past_down (ledger disk) down bytes right t.fit in
     let told : ledger (disk ++ Sent bytes ∷ []) ≡ listens (ledger disk) (Sent bytes) = ledger_push disk (Sent bytes) in
@@ -440,7 +440,7 @@ tie_sends disk host down up bytes t right =
       apart = t.apart;
     }
 
-tie_takes : (disk host : List Happening) (down up : List (List ℕ)) (bytes : List ℕ) → Ties disk host down (bytes ∷ up) → Ties disk (host ++ Sent bytes ∷ []) down up
+pub tie_takes : (disk host : List Happening) (down up : List (List ℕ)) (bytes : List ℕ) → Ties disk host down (bytes ∷ up) → Ties disk (host ++ Sent bytes ∷ []) down up
 unfolding with_up AreRight
 tie_takes disk host down up bytes t =
     let told : ledger (host ++ Sent bytes ∷ []) ≡ listens (ledger host) (Sent bytes) = ledger_push host (Sent bytes) in
@@ -467,7 +467,7 @@ data_asked plan sectors l (Ok (view.Unknown f)) right = tt
 data_asked plan sectors l (Err e) right = tt
 
 module _ (plan : DiskPlan) (sectors : ℕ) (size : IsSize plan sectors) where
-  sent_right : (disk : List Happening) (bytes : List ℕ) → IsDiskRun plan sectors (disk ++ Sent bytes ∷ []) → reports (seen bytes) ≡ false → IsRight (ledger disk) (seen bytes)
+  pub sent_right : (disk : List Happening) (bytes : List ℕ) → IsDiskRun plan sectors (disk ++ Sent bytes ∷ []) → reports (seen bytes) ≡ false → IsRight (ledger disk) (seen bytes)
   sent_right disk bytes run fine = record {
     moves = moves_right plan sectors disk bytes size run;
     answers = answers_once plan sectors disk bytes size run;
@@ -476,7 +476,7 @@ module _ (plan : DiskPlan) (sectors : ℕ) (size : IsSize plan sectors) where
     fine = fine;
   }
 
-  run_before : (disk : List Happening) (e : Happening) → IsDiskRun plan sectors (disk ++ e ∷ []) → IsDiskRun plan sectors disk
+  pub run_before : (disk : List Happening) (e : Happening) → IsDiskRun plan sectors (disk ++ e ∷ []) → IsDiskRun plan sectors disk
   run_before disk e run = (last_may plan sectors (opening sectors) disk e run).0
 
   ties : {disk host : List Happening} {down up : List (List ℕ)} → IsLinked disk host down up → IsDiskRun plan sectors disk → IsCareful host → Ties disk host down up
@@ -491,9 +491,8 @@ module _ (plan : DiskPlan) (sectors : ℕ) (size : IsSize plan sectors) where
   ties (takes disk host down up bytes linked) run careful =
       tie_takes disk host down up bytes (ties linked run (careful_last empty host (Sent bytes) careful).0)
 
-  agree : (disk host : List Happening) (down up : List (List ℕ)) → IsDiskRun plan sectors disk → IsLinked disk host down up → IsCareful host → EndsAgree sectors disk host down up
-  agree disk host down up run linked careful =
-      let t : Ties disk host down up = ties linked run careful in
+  pub agree : (disk host : List Happening) (down up : List (List ℕ)) → IsDiskRun plan sectors disk → Ties disk host down up → EndsAgree sectors disk host down up
+  agree disk host down up run t =
       let read : All (IsRead sectors) (ledger disk).reads = (agrees plan sectors disk size run).reads in
       let below : All (IsRead sectors) (with_down (ledger disk) down).reads = subst (λ (rs : List ReadOut). All (IsRead sectors) rs) (sym (all_reads_down (ledger disk) down t.fit)) read in
       record {
@@ -504,4 +503,4 @@ module _ (plan : DiskPlan) (sectors : ℕ) (size : IsSize plan sectors) where
       }
 
 pub ends_agree : EndsTellTheSame
-ends_agree plan sectors disk host down up size run linked careful = agree plan sectors size disk host down up run linked careful
+ends_agree plan sectors disk host down up size run linked careful = agree plan sectors size disk host down up run (ties plan sectors size linked run careful)

@@ -19,7 +19,9 @@ abbrev pub FaultIs : DiskPlan → ℕ → Command → Fault → Type 0
 FaultIs plan sectors c (Failed tag error lba) = (tag ≡ c.tag) × Fails plan sectors c error lba
 FaultIs plan sectors c Mixed = ⊥
 
-fault_by : (plan : DiskPlan) (sectors : ℕ) (c : Command) (f : Fault) (past write : Bool) (bad : Option ℕ) → nat_lt sectors (c.lba + c.count) ≡ past → c.write ≡ write → first_bad c plan.bad.items ≡ bad → fault_of plan sectors c ≡ Some f → FaultIs plan sectors c f
+fault_by : (plan : DiskPlan) (sectors : ℕ) (c : Command) (f : Fault) (past write : Bool) (bad : Option ℕ)
+    → nat_lt sectors (c.lba + c.count) ≡ past → c.write ≡ write → first_bad c plan.bad.items ≡ bad
+    → fault_of plan sectors c ≡ Some f → FaultIs plan sectors c f
 unfolding first_bad
 fault_by plan sectors c f true write bad e w b is =
     let got = rw e at is in
@@ -34,16 +36,19 @@ fault_by plan sectors c f false false (Some lba) e w b is =
     subst (FaultIs plan sectors c) same (refl, inr (record { inside = within; reads = w; error_is = refl; first = b }))
 fault_by plan sectors c f false false None e w b is = let got = rw (e, w, b) at is in cc got
 
-pub fault_is : (plan : DiskPlan) (sectors : ℕ) (c : Command) (f : Fault) → fault_of plan sectors c ≡ Some f → FaultIs plan sectors c f
+pub fault_is : (plan : DiskPlan) (sectors : ℕ) (c : Command) (f : Fault) → fault_of plan sectors c ≡ Some f
+    → FaultIs plan sectors c f
 fault_is plan sectors c f is = fault_by plan sectors c f _ _ _ refl refl refl is
 
-good_by : (plan : DiskPlan) (sectors : ℕ) (c : Command) (past : Bool) (bad : Option ℕ) → nat_lt sectors (c.lba + c.count) ≡ past → c.write ≡ false → first_bad c plan.bad.items ≡ bad → fault_of plan sectors c ≡ None → first_bad c plan.bad.items ≡ None
+good_by : (plan : DiskPlan) (sectors : ℕ) (c : Command) (past : Bool) (bad : Option ℕ) → nat_lt sectors (c.lba + c.count) ≡ past
+    → c.write ≡ false → first_bad c plan.bad.items ≡ bad → fault_of plan sectors c ≡ None → first_bad c plan.bad.items ≡ None
 unfolding first_bad
 good_by plan sectors c true bad e w b is = let got = rw e at is in cc got
 good_by plan sectors c false (Some lba) e w b is = let got = rw (e, w, b) at is in cc got
 good_by plan sectors c false None e w b is = b
 
-in_end_by : (plan : DiskPlan) (sectors : ℕ) (c : Command) (past : Bool) → nat_lt sectors (c.lba + c.count) ≡ past → fault_of plan sectors c ≡ None → c.lba + c.count ≤ sectors
+in_end_by : (plan : DiskPlan) (sectors : ℕ) (c : Command) (past : Bool) → nat_lt sectors (c.lba + c.count) ≡ past
+    → fault_of plan sectors c ≡ None → c.lba + c.count ≤ sectors
 in_end_by plan sectors c true e good = let no = rw e at good in cc no
 in_end_by plan sectors c false e good = ltb-false sectors (c.lba + c.count) e
 
@@ -66,7 +71,9 @@ IsNoted plan sectors (Some Mixed) None = Unit {0}
 IsNoted plan sectors (Some (Failed tag error lba)) (Some f) = (c : Command) × (picked plan.order f.among ≡ Some c) × (tag ≡ c.tag) × Fails plan sectors c error lba × (f.error ≡ error)
 IsNoted plan sectors _ _ = ⊥
 
-pub noted : (plan : DiskPlan) (sectors : ℕ) (c : Command) (f : Fault) (among : List Command) (error : ℕ) → picked plan.order among ≡ Some c → FaultIs plan sectors c f → error ≡ error_of f → IsNoted plan sectors (Some f) (Some (record { error = error; among = among }))
+pub noted : (plan : DiskPlan) (sectors : ℕ) (c : Command) (f : Fault) (among : List Command) (error : ℕ)
+    → picked plan.order among ≡ Some c → FaultIs plan sectors c f → error ≡ error_of f → IsNoted plan sectors (Some f)
+    (Some (record { error = error; among = among }))
 noted plan sectors c (Failed tag e lba) among error turn is same = (c, turn, is.0, is.1, same)
 noted plan sectors c Mixed among error turn is same = absurd is
 
@@ -82,12 +89,14 @@ AreWanted plan sectors [] [] = Unit {0}
 AreWanted plan sectors (p ∷ later) (w ∷ more) = IsWanted plan sectors p w × AreWanted plan sectors later more
 AreWanted plan sectors _ _ = ⊥
 
-pub AreWanted-append : (plan : DiskPlan) (sectors : ℕ) (pages : List Page) (ws : List Wanted) (p : Page) (w : Wanted) → AreWanted plan sectors pages ws → IsWanted plan sectors p w → AreWanted plan sectors (pages ++ p ∷ []) (ws ++ w ∷ [])
+pub AreWanted-append : (plan : DiskPlan) (sectors : ℕ) (pages : List Page) (ws : List Wanted) (p : Page) (w : Wanted)
+    → AreWanted plan sectors pages ws → IsWanted plan sectors p w → AreWanted plan sectors (pages ++ p ∷ []) (ws ++ w ∷ [])
 AreWanted-append plan sectors [] [] p w are is = (is, tt)
 AreWanted-append plan sectors [] (x ∷ ws) p w are is = absurd are
 AreWanted-append plan sectors (q ∷ pages) [] p w are is = absurd are
 AreWanted-append plan sectors (q ∷ pages) (x ∷ ws) p w are is = (are.0, AreWanted-append plan sectors pages ws p w are.1 is)
 
-pub wanted_left : (plan : DiskPlan) (sectors : ℕ) (p : Page) (pages : List Page) (ws : List Wanted) → AreWanted plan sectors (p ∷ pages) ws → AreWanted plan sectors pages (drop 1 ws)
+pub wanted_left : (plan : DiskPlan) (sectors : ℕ) (p : Page) (pages : List Page) (ws : List Wanted)
+    → AreWanted plan sectors (p ∷ pages) ws → AreWanted plan sectors pages (drop 1 ws)
 wanted_left plan sectors p pages [] are = absurd are
 wanted_left plan sectors p pages (w ∷ ws) are = are.1

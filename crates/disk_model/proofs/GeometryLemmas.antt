@@ -23,7 +23,8 @@ more_mul zero s some = absurd (omega arith)
 more_mul (suc k) s some = let e : suc k - 1 ≡ k = omega arith in rw e (omega arith)
 
 -- so many chunks cover the command, and one less do not
-covers : (size count : ℕ) → 0 < size → 0 < count → (count ≤ (count + (size - 1)) / size * size) × (((count + (size - 1)) / size - 1) * size < count)
+covers : (size count : ℕ) → 0 < size → 0 < count
+    → (count ≤ (count + (size - 1)) / size * size) × (((count + (size - 1)) / size - 1) * size < count)
 covers size count s c =
     let x = count + (size - 1) in
     let q = (count + (size - 1)) / size in
@@ -54,7 +55,9 @@ pub record Part (downwards : Bool) (all size count left from part : ℕ) : Type 
 abbrev pub from_of : Bool → (all size left : ℕ) → ℕ
 from_of downwards all size left = (if downwards then left - 1 else all - left) * size
 
-pub part_of : (downwards : Bool) (all size count left : ℕ) → 0 < size → 0 < left → left ≤ all → count ≤ all * size → (all - 1) * size < count → Part downwards all size count left (from_of downwards all size left) (min size (count - from_of downwards all size left))
+pub part_of : (downwards : Bool) (all size count left : ℕ) → 0 < size → 0 < left → left ≤ all → count ≤ all * size
+    → (all - 1) * size < count → Part downwards all size count left (from_of downwards all size left)
+    (min size (count - from_of downwards all size left))
 part_of true all size count left s l among covered short =
     let step : left * size ≡ (left - 1) * size + size = more_mul left size l in
     let low : (left - 1) * size ≤ (all - 1) * size = mul-le-mul_right size (let h : left - 1 ≤ all - 1 = omega arith in h) in
@@ -90,7 +93,8 @@ part_of false all size count left s l among covered short =
 abbrev pub ChunkPart : DiskPlan → Command → ℕ → Type 0
 ChunkPart plan c left = Part plan.last_first (chunks plan c) (plan.chunk / 512) c.count left (chunk_from plan c left) (chunk_count plan c left)
 
-pub chunk_part : (plan : DiskPlan) (c : Command) (left : ℕ) → 512 ≤ plan.chunk → 0 < c.count → 0 < left → left ≤ chunks plan c → ChunkPart plan c left
+pub chunk_part : (plan : DiskPlan) (c : Command) (left : ℕ) → 512 ≤ plan.chunk → 0 < c.count → 0 < left → left ≤ chunks plan c
+    → ChunkPart plan c left
 chunk_part plan c left low some more among =
     let s : 0 < plan.chunk / 512 = omega arith in
     let all = covers (plan.chunk / 512) c.count s some in

@@ -21,7 +21,9 @@ script_stays s e quiet = record {
 }
 
 -- the next frame of the script is sent
-pub script_sends : (frames : List (List ℕ)) (n : ℕ) (old : Reading) (bytes : List ℕ) → record { frames = frames; left = drop n frames } ≡ old → n < length frames → bytes ≡ get_or frames n bytes → SendsNext script_of ScriptStandsFor ScriptMaySend old bytes (record { frames = frames; left = drop (n + 1) frames })
+pub script_sends : (frames : List (List ℕ)) (n : ℕ) (old : Reading) (bytes : List ℕ)
+    → record { frames = frames; left = drop n frames } ≡ old → n < length frames → bytes ≡ get_or frames n bytes
+    → SendsNext script_of ScriptStandsFor ScriptMaySend old bytes (record { frames = frames; left = drop (n + 1) frames })
 script_sends frames n old bytes was below read =
     let next : drop n frames ≡ bytes ∷ drop (n + 1) frames = drop_more frames n bytes below ∙ ap (λ (b : List ℕ). b ∷ drop (n + 1) frames) (sym read) in
     let left : old.left ≡ bytes ∷ drop (n + 1) frames = ap (λ (s : Reading). s.left) (sym was) ∙ next in

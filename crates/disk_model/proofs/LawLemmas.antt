@@ -23,12 +23,12 @@ use Rattle.disk_model.specs.Sendings.{Sending, Register, SetsBits, SetsUp, Activ
 use Rattle.disk_model.specs.Chunks.{chunks, chunk_setup, fault_of, report, error_of}
 use Rattle.disk_model.specs.Disks.{Moment, Started, Writing, Turn, turn, read_turn, write_turn, pick_turn, begun, starts, picked, heard, after, moment_after, opening, opening_byte}
 use Rattle.disk_model.specs.Runs.{IsTurn, MayHappen, Runs, IsDiskRun, moment}
-use Rattle.disk_model.specs.Ledger.{Failure, Wanted, Ledger, Moving, Written, ReadOut, empty, listens, listens_down, ledger_after, ledger, with_writes, Names, AnswersOne, IsSize}
+use Rattle.disk_model.specs.Ledger.{Ledger, Moving, empty, listens, listens_down, ledger_after, ledger, with_writes, Names, AnswersOne, IsSize}
 use Rattle.disk_model.proofs.SendLemmas.{sends_left_next}
 use Rattle.disk_model.proofs.ShowsLemmas.{error_tells, sactive_tells}
 use Rattle.disk_model.proofs.GeometryLemmas.{some_chunks}
 use Rattle.disk_model.proofs.QueueLemmas.{ended_tags, AreTags, IsQueue}
-use Rattle.disk_model.proofs.AgreeLemmas.{Agrees, Moves, IsReading, IsWriting, Stage, Fresh, SetUp, Asked, ledger_is, shown, at, gives_up, step_request}
+use Rattle.disk_model.proofs.AgreeLemmas.{Agrees, Asked, Beside, Fresh, IsReading, IsWriting, Moves, SetUp, Stage, Stands, beside, gives_up, idle, ledger_is, reading, shown, step_request, under, writing}
 use Rattle.disk_model.proofs.StoreLemmas.{IsSized}
 use Rattle.disk_model.proofs.TransferLemmas.{step_data}
 use Rattle.disk_model.proofs.StartLemmas.{step_sent, picked_in}
@@ -59,30 +59,39 @@ asks_of f =
 
 -- ## One event
 
-step_heard : (plan : DiskPlan) (sectors : ℕ) (m : Moment) (v : Option Moving) (ws : List Written) (rs : List ReadOut) (fl : Option Failure) (ps : List Wanted) (s : Result Fis FisFault) → IsSized plan sectors → Agrees plan sectors m (shown m v ws rs fl ps) → Agrees plan sectors (heard plan m s) (listens_down (shown m v ws rs fl ps) s)
-step_heard plan sectors m v ws rs fl ps (Ok (view.RegH2D f)) sized a = step_request plan sectors m.medium m.queued m.fault m.resetting m.owed m.started m.writing v ws rs fl ps (request_of f) (asks_of f) a
-step_heard plan sectors m v ws rs fl ps (Ok (view.Payload f)) sized a = step_data plan sectors m.medium m.queued m.fault m.resetting m.owed m.started m.writing v ws rs fl ps (drop 4 f) sized a.moving a
-step_heard plan sectors m v ws rs fl ps (Ok (view.RegD2H f)) sized a = a
-step_heard plan sectors m v ws rs fl ps (Ok (view.SetBits f)) sized a = a
-step_heard plan sectors m v ws rs fl ps (Ok (view.DmaActivate f)) sized a = a
-step_heard plan sectors m v ws rs fl ps (Ok (view.DmaSetup f)) sized a = a
-step_heard plan sectors m v ws rs fl ps (Ok (view.PioSetup f)) sized a = a
-step_heard plan sectors m v ws rs fl ps (Ok (view.Unknown f)) sized a = a
-step_heard plan sectors m v ws rs fl ps (Err e) sized a = a
+step_heard : (plan : DiskPlan) (sectors : ℕ) (m : Moment) (k : Beside) (s : Result Fis FisFault) → IsSized plan sectors
+    → Stands plan sectors m k → Agrees plan sectors (heard plan m s) (listens_down (shown m k) s)
+step_heard plan sectors m k (Ok (view.RegH2D f)) sized a =
+    step_request plan sectors m k m.queued m.fault m.resetting (request_of f) (asks_of f) a
+step_heard plan sectors m k (Ok (view.Payload f)) sized a =
+    step_data plan sectors m k m.started m.writing k.moving (drop 4 f) sized a.moving a
+step_heard plan sectors m k (Ok (view.RegD2H f)) sized a = a
+step_heard plan sectors m k (Ok (view.SetBits f)) sized a = a
+step_heard plan sectors m k (Ok (view.DmaActivate f)) sized a = a
+step_heard plan sectors m k (Ok (view.DmaSetup f)) sized a = a
+step_heard plan sectors m k (Ok (view.PioSetup f)) sized a = a
+step_heard plan sectors m k (Ok (view.Unknown f)) sized a = a
+step_heard plan sectors m k (Err e) sized a = a
 
-step_shown : (plan : DiskPlan) (sectors : ℕ) (m : Moment) (v : Option Moving) (ws : List Written) (rs : List ReadOut) (fl : Option Failure) (ps : List Wanted) (e : Happening) → IsSized plan sectors → Agrees plan sectors m (shown m v ws rs fl ps) → MayHappen plan sectors m e → Agrees plan sectors (after plan sectors m e) (listens (shown m v ws rs fl ps) e)
-step_shown plan sectors m v ws rs fl ps (Received bytes) sized a may = step_heard plan sectors m v ws rs fl ps (seen bytes) sized a
-step_shown plan sectors m v ws rs fl ps (Sent bytes) sized a may = step_sent plan sectors m.medium m.queued m.fault m.resetting m.owed m.started m.writing v ws rs fl ps bytes sized a.moving a may
-step_shown plan sectors m v ws rs fl ps Plugged sized a may = gives_up plan sectors m (shown m v ws rs fl ps) a None None m.resetting (Signature ∷ []) tt refl refl
+step_shown : (plan : DiskPlan) (sectors : ℕ) (m : Moment) (k : Beside) (e : Happening) → IsSized plan sectors
+    → Stands plan sectors m k → MayHappen plan sectors m e → Agrees plan sectors (after plan sectors m e) (listens (shown m k) e)
+step_shown plan sectors m k (Received bytes) sized a may = step_heard plan sectors m k (seen bytes) sized a
+step_shown plan sectors m k (Sent bytes) sized a may =
+    step_sent plan sectors m k m.owed m.started m.writing k.moving bytes sized a.moving a may
+step_shown plan sectors m k Plugged sized a may =
+    gives_up plan sectors m (shown m k) a None None m.resetting (Signature ∷ []) tt refl refl
 
-step : (plan : DiskPlan) (sectors : ℕ) (m : Moment) (l : Ledger) (e : Happening) → IsSized plan sectors → Agrees plan sectors m l → MayHappen plan sectors m e → Agrees plan sectors (after plan sectors m e) (listens l e)
+step : (plan : DiskPlan) (sectors : ℕ) (m : Moment) (l : Ledger) (e : Happening) → IsSized plan sectors
+    → Agrees plan sectors m l → MayHappen plan sectors m e → Agrees plan sectors (after plan sectors m e) (listens l e)
 step plan sectors m l e sized a may =
     let is = ledger_is plan sectors m l a in
-    subst (λ (x : Ledger). Agrees plan sectors (after plan sectors m e) (listens x e)) (sym is) (step_shown plan sectors m l.moving l.writes l.reads l.failure l.pages e sized (subst (Agrees plan sectors m) is a) may)
+    subst (λ (x : Ledger). Agrees plan sectors (after plan sectors m e) (listens x e)) (sym is)
+    (step_shown plan sectors m (beside l) e sized (subst (Agrees plan sectors m) is a) may)
 
 -- ## Whole runs
 
-agrees_after : (plan : DiskPlan) (sectors : ℕ) (m : Moment) (l : Ledger) (h : List Happening) → IsSized plan sectors → Agrees plan sectors m l → Runs plan sectors m h → Agrees plan sectors (moment_after plan sectors m h) (ledger_after l h)
+agrees_after : (plan : DiskPlan) (sectors : ℕ) (m : Moment) (l : Ledger) (h : List Happening) → IsSized plan sectors
+    → Agrees plan sectors m l → Runs plan sectors m h → Agrees plan sectors (moment_after plan sectors m h) (ledger_after l h)
 unfolding moment_after ledger_after Runs
 agrees_after plan sectors m l [] sized a run = a
 agrees_after plan sectors m l (e ∷ later) sized a run = agrees_after plan sectors (after plan sectors m e) (listens l e) later sized (step plan sectors m l e sized a run.0) run.1
@@ -119,7 +128,8 @@ sized_by plan sectors size =
     let is_few : nat_le sectors 65536 ≡ true = one.1 in
     record { low = grind (arith, nat_tests, is_low); most = grind (arith, nat_tests, is_few) }
 
-pub agrees : (plan : DiskPlan) (sectors : ℕ) (h : List Happening) → IsSize plan sectors → IsDiskRun plan sectors h → Agrees plan sectors (moment plan sectors h) (ledger h)
+pub agrees : (plan : DiskPlan) (sectors : ℕ) (h : List Happening) → IsSize plan sectors → IsDiskRun plan sectors h
+    → Agrees plan sectors (moment plan sectors h) (ledger h)
 agrees plan sectors h size run = agrees_after plan sectors (opening sectors) empty h (sized_by plan sectors size) (opens_agreeing plan sectors) run
 
 -- ## Answers
@@ -141,7 +151,8 @@ answers_nothing l (Carries d) b none shows = rw shows.1 tt
 reports : (l : Ledger) (f : Fault) (b : List ℕ) → Shows (report f) b → AnswersOne l (seen b)
 reports l f b shows = let e = error_tells (error_of f) b shows in rw shows.viewed (λ fine. cc (e, fine))
 
-answers_by : (l : Ledger) (sectors : ℕ) (a : Answer) (later : List Answer) (b : List ℕ) → l.unanswered ≡ ended_tags (a ∷ later) → AreTags (ended_tags (a ∷ later)) → Shows (answer_sent sectors a) b → AnswersOne l (seen b)
+answers_by : (l : Ledger) (sectors : ℕ) (a : Answer) (later : List Answer) (b : List ℕ) → l.unanswered ≡ ended_tags (a ∷ later)
+    → AreTags (ended_tags (a ∷ later)) → Shows (answer_sent sectors a) b → AnswersOne l (seen b)
 answers_by l sectors Signature later b is tags shows = answers_nothing l (answer_sent sectors Signature) b tt shows
 answers_by l sectors Accepted later b is tags shows = answers_nothing l (answer_sent sectors Accepted) b tt shows
 answers_by l sectors Finished later b is tags shows = answers_nothing l (answer_sent sectors Finished) b tt shows
@@ -160,22 +171,28 @@ abbrev pub begun_by : DiskPlan → Moment → Command → Option Fault → Bool 
 begun_by plan m c None write = starts plan m c write
 begun_by plan m c (Some f) write = begun plan m c (Some f)
 
-begins_answering : (plan : DiskPlan) (sectors : ℕ) (m : Moment) (l : Ledger) (c : Command) (bad : Option Fault) (write : Bool) (b : List ℕ) → IsSized plan sectors → 0 < c.count → IsTurn (begun_by plan m c bad write) b → AnswersOne l (seen b)
+begins_answering : (plan : DiskPlan) (sectors : ℕ) (m : Moment) (l : Ledger) (c : Command) (bad : Option Fault) (write : Bool)
+    (b : List ℕ) → IsSized plan sectors → 0 < c.count → IsTurn (begun_by plan m c bad write) b → AnswersOne l (seen b)
 begins_answering plan sectors m l c (Some f) write b sized some may = reports l f b may
 begins_answering plan sectors m l c None true b sized some may = answers_nothing l (chunk_setup plan c (chunks plan c)) b tt may
 begins_answering plan sectors m l c None false b sized some may =
     let next = sends_left_next plan m.medium c (chunks plan c) (some_chunks plan c sized.low some) in
     answers_nothing l (chunk_setup plan c (chunks plan c)) b tt (subst (λ (xs : List Sending). IsTurn (read_turn m c xs) b) next may)
 
-pub same_turn : (plan : DiskPlan) (m : Moment) (c : Command) (bad : Option Fault) (b : List ℕ) → IsTurn (begun plan m c bad) b → IsTurn (begun_by plan m c bad c.write) b
+pub same_turn : (plan : DiskPlan) (m : Moment) (c : Command) (bad : Option Fault) (b : List ℕ) → IsTurn (begun plan m c bad) b
+    → IsTurn (begun_by plan m c bad c.write) b
 same_turn plan m c None b may = may
 same_turn plan m c (Some f) b may = may
 
-picks_answering : (plan : DiskPlan) (sectors : ℕ) (m : Moment) (l : Ledger) (o : Option Command) (b : List ℕ) → IsSized plan sectors → IsQueue m.queued → picked plan.order m.queued ≡ o → IsTurn (pick_turn plan sectors m o) b → AnswersOne l (seen b)
+picks_answering : (plan : DiskPlan) (sectors : ℕ) (m : Moment) (l : Ledger) (o : Option Command) (b : List ℕ)
+    → IsSized plan sectors → IsQueue m.queued → picked plan.order m.queued ≡ o → IsTurn (pick_turn plan sectors m o) b
+    → AnswersOne l (seen b)
 picks_answering plan sectors m l None b sized queue is may = absurd may
 picks_answering plan sectors m l (Some c) b sized queue is may = begins_answering plan sectors m l c _ c.write b sized (picked_in plan.order m.queued c queue is).some (same_turn plan m c (fault_of plan sectors c) b may)
 
-reads_answering : (plan : DiskPlan) (sectors : ℕ) (m : Moment) (l : Ledger) (medium : List ℕ) (s : Started) (v : Moving) (left : ℕ) (up : Bool) (b : List ℕ) → IsReading plan sectors medium s v left up → IsTurn (read_turn m s.command s.sends) b → AnswersOne l (seen b)
+reads_answering : (plan : DiskPlan) (sectors : ℕ) (m : Moment) (l : Ledger) (medium : List ℕ) (s : Started) (v : Moving)
+    (left : ℕ) (up : Bool) (b : List ℕ) → IsReading plan sectors medium s v left up → IsTurn (read_turn m s.command s.sends) b
+    → AnswersOne l (seen b)
 reads_answering plan sectors m l medium s v left false b r may =
     let next = sends_left_next plan medium s.command left r.moving.more in
     answers_nothing l (chunk_setup plan s.command left) b tt (subst (λ (xs : List Sending). IsTurn (read_turn m s.command xs) b) (r.stage ∙ next) may)
@@ -183,31 +200,41 @@ reads_answering plan sectors m l medium s v left true b r may =
     let next = sends_left_next plan medium s.command left r.moving.more in
     answers_nothing l (Carries _) b tt (subst (λ (xs : List Sending). IsTurn (read_turn m s.command xs) b) (r.stage.0 ∙ ap (drop 1) next) may)
 
-writes_answering : (plan : DiskPlan) (sectors : ℕ) (m : Moment) (l : Ledger) (w : Writing) (v : Moving) (stage : Stage) (b : List ℕ) → IsWriting plan sectors w v stage → IsTurn (write_turn m w w.sends) b → AnswersOne l (seen b)
+writes_answering : (plan : DiskPlan) (sectors : ℕ) (m : Moment) (l : Ledger) (w : Writing) (v : Moving) (stage : Stage)
+    (b : List ℕ) → IsWriting plan sectors w v stage → IsTurn (write_turn m w w.sends) b → AnswersOne l (seen b)
 writes_answering plan sectors m l w v Fresh b r may = answers_nothing l (chunk_setup plan w.command w.left) b tt (subst (λ (xs : List Sending). IsTurn (write_turn m w xs) b) r.stage.0 may)
 writes_answering plan sectors m l w v SetUp b r may = answers_nothing l Activates b tt (subst (λ (xs : List Sending). IsTurn (write_turn m w xs) b) r.stage.0 may)
 writes_answering plan sectors m l w v Asked b r may = absurd (subst (λ (xs : List Sending). IsTurn (write_turn m w xs) b) r.stage.0 may)
 
-turn_answers : (plan : DiskPlan) (sectors : ℕ) (medium : List ℕ) (queued : List Command) (fault : Option Fault) (resetting : Bool) (owed : List Answer) (s : Option Started) (w : Option Writing) (v : Option Moving) (l : Ledger) (b : List ℕ) → IsSized plan sectors → IsQueue queued → l.unanswered ≡ ended_tags owed → AreTags (ended_tags owed) → Moves plan sectors medium queued owed s w v → IsTurn (turn plan sectors (at medium queued fault resetting owed s w)) b → AnswersOne l (seen b)
-turn_answers plan sectors medium queued fault resetting (x ∷ later) s w v l b sized queue is tags m may = answers_by l sectors x later b is tags may
-turn_answers plan sectors medium queued fault resetting [] None None v l b sized queue is tags m may = picks_answering plan sectors (at medium queued fault resetting [] None None) l _ b sized queue refl may
-turn_answers plan sectors medium queued fault resetting [] (Some s) None None l b sized queue is tags m may = absurd m
-turn_answers plan sectors medium queued fault resetting [] (Some s) None (Some v) l b sized queue is tags m may = reads_answering plan sectors (at medium queued fault resetting [] (Some s) None) l medium s v m.0 m.1 b m.2 may
-turn_answers plan sectors medium queued fault resetting [] None (Some w) None l b sized queue is tags m may = absurd m
-turn_answers plan sectors medium queued fault resetting [] None (Some w) (Some v) l b sized queue is tags m may = writes_answering plan sectors (at medium queued fault resetting [] None (Some w)) l w v m.0 b m.1 may
-turn_answers plan sectors medium queued fault resetting [] (Some s) (Some w) v l b sized queue is tags m may = absurd m
+turn_answers : (plan : DiskPlan) (sectors : ℕ) (m : Moment) (owed : List Answer) (s : Option Started) (w : Option Writing)
+    (v : Option Moving) (l : Ledger) (b : List ℕ) → IsSized plan sectors → IsQueue m.queued → l.unanswered ≡ ended_tags owed
+    → AreTags (ended_tags owed) → Moves plan sectors m.medium m.queued owed s w v
+    → IsTurn (turn plan sectors (under m owed s w)) b → AnswersOne l (seen b)
+turn_answers plan sectors m (x ∷ later) s w v l b sized queue is tags moves may = answers_by l sectors x later b is tags may
+turn_answers plan sectors m [] None None v l b sized queue is tags moves may =
+    picks_answering plan sectors (idle m) l _ b sized queue refl may
+turn_answers plan sectors m [] (Some s) None None l b sized queue is tags moves may = absurd moves
+turn_answers plan sectors m [] (Some s) None (Some v) l b sized queue is tags moves may =
+    reads_answering plan sectors (reading m s) l m.medium s v moves.0 moves.1 b moves.2 may
+turn_answers plan sectors m [] None (Some w) None l b sized queue is tags moves may = absurd moves
+turn_answers plan sectors m [] None (Some w) (Some v) l b sized queue is tags moves may =
+    writes_answering plan sectors (writing m [] w) l w v moves.0 b moves.1 may
+turn_answers plan sectors m [] (Some s) (Some w) v l b sized queue is tags moves may = absurd moves
 
 -- the last event of a run
-pub last_may : (plan : DiskPlan) (sectors : ℕ) (m : Moment) (h : List Happening) (e : Happening) → Runs plan sectors m (h ++ e ∷ []) → Runs plan sectors m h × MayHappen plan sectors (moment_after plan sectors m h) e
+pub last_may : (plan : DiskPlan) (sectors : ℕ) (m : Moment) (h : List Happening) (e : Happening)
+    → Runs plan sectors m (h ++ e ∷ []) → Runs plan sectors m h × MayHappen plan sectors (moment_after plan sectors m h) e
 unfolding Runs moment_after
 last_may plan sectors m [] e run = (tt, run.0)
 last_may plan sectors m (x ∷ h) e run =
     let rest = last_may plan sectors (after plan sectors m x) h e run.1 in
     ((run.0, rest.0), rest.1)
 
-pub answers_once : (plan : DiskPlan) (sectors : ℕ) (h : List Happening) (b : List ℕ) → IsSize plan sectors → IsDiskRun plan sectors (h ++ Sent b ∷ []) → AnswersOne (ledger h) (seen b)
+pub answers_once : (plan : DiskPlan) (sectors : ℕ) (h : List Happening) (b : List ℕ) → IsSize plan sectors
+    → IsDiskRun plan sectors (h ++ Sent b ∷ []) → AnswersOne (ledger h) (seen b)
 answers_once plan sectors h b size run =
     let parts = last_may plan sectors (opening sectors) h (Sent b) run in
     let a = agrees plan sectors h size parts.0 in
     let m = moment plan sectors h in
-    turn_answers plan sectors m.medium m.queued m.fault m.resetting m.owed m.started m.writing (ledger h).moving (ledger h) b (sized_by plan sectors size) a.queue a.unanswered a.tags a.moving parts.1
+    turn_answers plan sectors m m.owed m.started m.writing (ledger h).moving (ledger h) b
+    (sized_by plan sectors size) a.queue a.unanswered a.tags a.moving parts.1

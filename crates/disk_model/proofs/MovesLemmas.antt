@@ -19,7 +19,7 @@ use Rattle.disk_model.proofs.ShowsLemmas.{TellsSetup}
 use Rattle.disk_model.proofs.GeometryLemmas.{moved_sectors, moved_none, chunk_part, some_chunks, ChunkPart}
 use Rattle.disk_model.proofs.SetupLemmas.{AreSetUp, set_up_none, set_up_apart}
 use Rattle.disk_model.proofs.QueueLemmas.{IsQueue, IsIn, is_page}
-use Rattle.disk_model.proofs.AgreeLemmas.{Moves, IsReading, IsWriting, Stage, Fresh, SetUp, Asked, at}
+use Rattle.disk_model.proofs.AgreeLemmas.{Asked, Fresh, IsReading, IsWriting, Moves, SetUp, Stage, idle, reading, under, writing}
 use Rattle.disk_model.proofs.StoreLemmas.{IsSized}
 use Rattle.disk_model.proofs.ListenLemmas.{page_goes}
 use Rattle.disk_model.proofs.TransferLemmas.{length-sectors_at, setup_of_chunk}
@@ -28,7 +28,8 @@ use Rattle.disk_model.proofs.FaultLemmas.{can_be_done}
 use Rattle.disk_model.proofs.LawLemmas.{agrees, sized_by, last_may, same_turn, begun_by}
 
 -- an answer moves no command's data
-answer_moves : (l : Ledger) (sectors : ℕ) (a : Answer) (b : List ℕ) → (is_page a ≡ true → l.moving ≡ None) → Shows (answer_sent sectors a) b → MovesRight l (seen b)
+answer_moves : (l : Ledger) (sectors : ℕ) (a : Answer) (b : List ℕ) → (is_page a ≡ true → l.moving ≡ None)
+    → Shows (answer_sent sectors a) b → MovesRight l (seen b)
 answer_moves l sectors Signature b none shows = rw shows.viewed tt
 answer_moves l sectors Accepted b none shows = rw shows.viewed tt
 answer_moves l sectors Finished b none shows = rw shows.viewed tt
@@ -38,7 +39,9 @@ answer_moves l sectors PageFollows b none shows = rw shows.viewed tt
 answer_moves l sectors (PageData page) b none shows = let is : l.moving ≡ None = none refl in rw (shows.1, is) tt
 
 -- the DMA Setup of a chunk
-setup_next : (plan : DiskPlan) (c : Command) (moved left : ℕ) (setups : List Stretch) (b : List ℕ) → ChunkPart plan c left → AreSetUp plan c left setups → moved ≡ 512 * moved_sectors plan c left → TellsSetup c.tag (512 * chunk_from plan c left) (512 * chunk_count plan c left) (not c.write) b → SetsUpNext c moved setups b
+setup_next : (plan : DiskPlan) (c : Command) (moved left : ℕ) (setups : List Stretch) (b : List ℕ) → ChunkPart plan c left
+    → AreSetUp plan c left setups → moved ≡ 512 * moved_sectors plan c left → TellsSetup c.tag (512 * chunk_from plan c left)
+    (512 * chunk_count plan c left) (not c.write) b → SetsUpNext c moved setups b
 setup_next plan c moved left setups b part was is told =
     let room : 512 * chunk_from plan c left + 512 * chunk_count plan c left ≤ 512 * c.count = omega (arith, part.inside) in
     record {
@@ -49,7 +52,9 @@ setup_next plan c moved left setups b part was is told =
       apart = rw (told.offset_is, told.count_is) (set_up_apart plan c left setups part was);
     }
 
-start_moves : (plan : DiskPlan) (sectors : ℕ) (l : Ledger) (queued : List Command) (c : Command) (b : List ℕ) → IsSized plan sectors → l.moving ≡ None → l.outstanding ≡ queued → IsIn queued c → c.lba + c.count ≤ sectors → Shows (chunk_setup plan c (chunks plan c)) b → MovesRight l (seen b)
+start_moves : (plan : DiskPlan) (sectors : ℕ) (l : Ledger) (queued : List Command) (c : Command) (b : List ℕ)
+    → IsSized plan sectors → l.moving ≡ None → l.outstanding ≡ queued → IsIn queued c → c.lba + c.count ≤ sectors
+    → Shows (chunk_setup plan c (chunks plan c)) b → MovesRight l (seen b)
 start_moves plan sectors l queued c b sized none out here inside shows =
     let all = chunks plan c in
     let more : 0 < chunks plan c = some_chunks plan c sized.low here.some in
@@ -62,18 +67,24 @@ start_moves plan sectors l queued c b sized none out here inside shows =
     let found = here.found in
     rw (viewed, none, out, tag, found) next
 
-begins_moving : (plan : DiskPlan) (sectors : ℕ) (m : Moment) (l : Ledger) (c : Command) (bad : Option Fault) (write : Bool) (b : List ℕ) → fault_of plan sectors c ≡ bad → IsSized plan sectors → l.moving ≡ None → l.outstanding ≡ m.queued → IsIn m.queued c → IsTurn (begun_by plan m c bad write) b → MovesRight l (seen b)
+begins_moving : (plan : DiskPlan) (sectors : ℕ) (m : Moment) (l : Ledger) (c : Command) (bad : Option Fault) (write : Bool)
+    (b : List ℕ) → fault_of plan sectors c ≡ bad → IsSized plan sectors → l.moving ≡ None → l.outstanding ≡ m.queued
+    → IsIn m.queued c → IsTurn (begun_by plan m c bad write) b → MovesRight l (seen b)
 begins_moving plan sectors m l c (Some f) write b is sized none out here may = rw may.viewed tt
 begins_moving plan sectors m l c None true b is sized none out here may = start_moves plan sectors l m.queued c b sized none out here (can_be_done plan sectors c is).inside may
 begins_moving plan sectors m l c None false b is sized none out here may =
     let next = sends_left_next plan m.medium c (chunks plan c) (some_chunks plan c sized.low here.some) in
     start_moves plan sectors l m.queued c b sized none out here (can_be_done plan sectors c is).inside (subst (λ (xs : List Sending). IsTurn (read_turn m c xs) b) next may)
 
-picks_moving : (plan : DiskPlan) (sectors : ℕ) (m : Moment) (l : Ledger) (o : Option Command) (b : List ℕ) → IsSized plan sectors → IsQueue m.queued → l.moving ≡ None → l.outstanding ≡ m.queued → picked plan.order m.queued ≡ o → IsTurn (pick_turn plan sectors m o) b → MovesRight l (seen b)
+picks_moving : (plan : DiskPlan) (sectors : ℕ) (m : Moment) (l : Ledger) (o : Option Command) (b : List ℕ)
+    → IsSized plan sectors → IsQueue m.queued → l.moving ≡ None → l.outstanding ≡ m.queued → picked plan.order m.queued ≡ o
+    → IsTurn (pick_turn plan sectors m o) b → MovesRight l (seen b)
 picks_moving plan sectors m l None b sized queue none out is may = absurd may
 picks_moving plan sectors m l (Some c) b sized queue none out is may = begins_moving plan sectors m l c _ c.write b refl sized none out (picked_in plan.order m.queued c queue is) (same_turn plan m c (fault_of plan sectors c) b may)
 
-reads_moving : (plan : DiskPlan) (sectors : ℕ) (m : Moment) (l : Ledger) (medium : List ℕ) (s : Started) (v : Moving) (left : ℕ) (up : Bool) (b : List ℕ) → IsSized plan sectors → length medium ≡ 512 * sectors → l.moving ≡ Some v → IsReading plan sectors medium s v left up → IsTurn (read_turn m s.command s.sends) b → MovesRight l (seen b)
+reads_moving : (plan : DiskPlan) (sectors : ℕ) (m : Moment) (l : Ledger) (medium : List ℕ) (s : Started) (v : Moving) (left : ℕ)
+    (up : Bool) (b : List ℕ) → IsSized plan sectors → length medium ≡ 512 * sectors → l.moving ≡ Some v
+    → IsReading plan sectors medium s v left up → IsTurn (read_turn m s.command s.sends) b → MovesRight l (seen b)
 reads_moving plan sectors m l medium s v left false b sized size is r may =
     let c = s.command in
     let mv = r.moving in
@@ -99,7 +110,9 @@ reads_moving plan sectors m l medium s v left true b sized size is r may =
     } in
     rw (shows.1, is) carries
 
-writes_moving : (plan : DiskPlan) (sectors : ℕ) (m : Moment) (l : Ledger) (w : Writing) (v : Moving) (stage : Stage) (b : List ℕ) → IsSized plan sectors → l.moving ≡ Some v → IsWriting plan sectors w v stage → IsTurn (write_turn m w w.sends) b → MovesRight l (seen b)
+writes_moving : (plan : DiskPlan) (sectors : ℕ) (m : Moment) (l : Ledger) (w : Writing) (v : Moving) (stage : Stage)
+    (b : List ℕ) → IsSized plan sectors → l.moving ≡ Some v → IsWriting plan sectors w v stage
+    → IsTurn (write_turn m w w.sends) b → MovesRight l (seen b)
 writes_moving plan sectors m l w v Fresh b sized is r may =
     let c = w.command in
     let mv = r.moving in
@@ -123,19 +136,28 @@ writes_moving plan sectors m l w v SetUp b sized is r may =
     rw (shows.viewed, is) asks
 writes_moving plan sectors m l w v Asked b sized is r may = absurd (subst (λ (xs : List Sending). IsTurn (write_turn m w xs) b) r.stage.0 may)
 
-turn_moves : (plan : DiskPlan) (sectors : ℕ) (medium : List ℕ) (queued : List Command) (fault : Option Fault) (resetting : Bool) (owed : List Answer) (s : Option Started) (w : Option Writing) (v : Option Moving) (l : Ledger) (b : List ℕ) → IsSized plan sectors → IsQueue queued → length medium ≡ 512 * sectors → l.outstanding ≡ queued → l.moving ≡ v → Moves plan sectors medium queued owed s w v → IsTurn (turn plan sectors (at medium queued fault resetting owed s w)) b → MovesRight l (seen b)
-turn_moves plan sectors medium queued fault resetting (x ∷ later) s w v l b sized queue size out is m may = answer_moves l sectors x b (λ page. is ∙ page_goes plan sectors medium queued fault resetting x later s w v l.writes l.reads l.failure l.pages page m) may
-turn_moves plan sectors medium queued fault resetting [] None None None l b sized queue size out is m may = picks_moving plan sectors (at medium queued fault resetting [] None None) l _ b sized queue is out refl may
-turn_moves plan sectors medium queued fault resetting [] None None (Some v) l b sized queue size out is m may = absurd m
-turn_moves plan sectors medium queued fault resetting [] (Some s) None None l b sized queue size out is m may = absurd m
-turn_moves plan sectors medium queued fault resetting [] (Some s) None (Some v) l b sized queue size out is m may = reads_moving plan sectors (at medium queued fault resetting [] (Some s) None) l medium s v m.0 m.1 b sized size is m.2 may
-turn_moves plan sectors medium queued fault resetting [] None (Some w) None l b sized queue size out is m may = absurd m
-turn_moves plan sectors medium queued fault resetting [] None (Some w) (Some v) l b sized queue size out is m may = writes_moving plan sectors (at medium queued fault resetting [] None (Some w)) l w v m.0 b sized is m.1 may
-turn_moves plan sectors medium queued fault resetting [] (Some s) (Some w) v l b sized queue size out is m may = absurd m
+turn_moves : (plan : DiskPlan) (sectors : ℕ) (m : Moment) (owed : List Answer) (s : Option Started) (w : Option Writing)
+    (v : Option Moving) (l : Ledger) (b : List ℕ) → IsSized plan sectors → IsQueue m.queued
+    → length m.medium ≡ 512 * sectors → l.outstanding ≡ m.queued → l.moving ≡ v
+    → Moves plan sectors m.medium m.queued owed s w v → IsTurn (turn plan sectors (under m owed s w)) b → MovesRight l (seen b)
+turn_moves plan sectors m (x ∷ later) s w v l b sized queue size out is moves may =
+    answer_moves l sectors x b (λ page. is ∙ page_goes plan sectors m.medium m.queued x later s w v page moves) may
+turn_moves plan sectors m [] None None None l b sized queue size out is moves may =
+    picks_moving plan sectors (idle m) l _ b sized queue is out refl may
+turn_moves plan sectors m [] None None (Some v) l b sized queue size out is moves may = absurd moves
+turn_moves plan sectors m [] (Some s) None None l b sized queue size out is moves may = absurd moves
+turn_moves plan sectors m [] (Some s) None (Some v) l b sized queue size out is moves may =
+    reads_moving plan sectors (reading m s) l m.medium s v moves.0 moves.1 b sized size is moves.2 may
+turn_moves plan sectors m [] None (Some w) None l b sized queue size out is moves may = absurd moves
+turn_moves plan sectors m [] None (Some w) (Some v) l b sized queue size out is moves may =
+    writes_moving plan sectors (writing m [] w) l w v moves.0 b sized is moves.1 may
+turn_moves plan sectors m [] (Some s) (Some w) v l b sized queue size out is moves may = absurd moves
 
-pub moves_right : (plan : DiskPlan) (sectors : ℕ) (h : List Happening) (b : List ℕ) → IsSize plan sectors → IsDiskRun plan sectors (h ++ Sent b ∷ []) → MovesRight (ledger h) (seen b)
+pub moves_right : (plan : DiskPlan) (sectors : ℕ) (h : List Happening) (b : List ℕ) → IsSize plan sectors
+    → IsDiskRun plan sectors (h ++ Sent b ∷ []) → MovesRight (ledger h) (seen b)
 moves_right plan sectors h b size run =
     let parts = last_may plan sectors (opening sectors) h (Sent b) run in
     let a = agrees plan sectors h size parts.0 in
     let m = moment plan sectors h in
-    turn_moves plan sectors m.medium m.queued m.fault m.resetting m.owed m.started m.writing (ledger h).moving (ledger h) b (sized_by plan sectors size) a.queue a.length_is a.outstanding refl a.moving parts.1
+    turn_moves plan sectors m m.owed m.started m.writing (ledger h).moving (ledger h) b
+    (sized_by plan sectors size) a.queue a.length_is a.outstanding refl a.moving parts.1

@@ -19,22 +19,25 @@ use Rattle.disk_model.proofs.TurnLemmas.{none_left}
 use Rattle.disk_model.proofs.GeometryLemmas.{some_chunks}
 use Rattle.disk_model.proofs.QueueLemmas.{IsQueue, ended_tags, replies, pages_of}
 use Rattle.disk_model.proofs.FaultLemmas.{AreWanted}
-use Rattle.disk_model.proofs.AgreeLemmas.{Moves, IsReading, IsWriting, Stage, Fresh, SetUp, Asked, at}
+use Rattle.disk_model.proofs.AgreeLemmas.{Asked, Fresh, IsReading, IsWriting, Moves, SetUp, Stage, idle, reading, under, writing}
 use Rattle.disk_model.proofs.StoreLemmas.{IsSized}
 use Rattle.disk_model.proofs.StartLemmas.{picked_in}
 use Rattle.disk_model.proofs.LawLemmas.{agrees, sized_by, begun_by}
 
 -- ## A turn that is none
 
-asks_something : (m : Moment) (w : Writing) (sends later : List Sending) (s : Sending) → sends ≡ s ∷ later → write_turn m w sends ≢ None
+asks_something : (m : Moment) (w : Writing) (sends later : List Sending) (s : Sending) → sends ≡ s ∷ later
+    → write_turn m w sends ≢ None
 asks_something m w sends later s is = λ none. let e = rw is at none in cc e
 
-begins_something : (plan : DiskPlan) (sectors : ℕ) (m : Moment) (c : Command) (bad : Option Fault) (write : Bool) → IsSized plan sectors → 0 < c.count → begun_by plan m c bad write ≢ None
+begins_something : (plan : DiskPlan) (sectors : ℕ) (m : Moment) (c : Command) (bad : Option Fault) (write : Bool)
+    → IsSized plan sectors → 0 < c.count → begun_by plan m c bad write ≢ None
 begins_something plan sectors m c (Some f) write sized some = λ none. cc none
 begins_something plan sectors m c None true sized some = λ none. cc none
 begins_something plan sectors m c None false sized some = none_left m c _ _ _ (sends_left_next plan m.medium c (chunks plan c) (some_chunks plan c sized.low some))
 
-by_begun : (plan : DiskPlan) (m : Moment) (c : Command) (bad : Option Fault) → begun plan m c bad ≡ None → begun_by plan m c bad c.write ≡ None
+by_begun : (plan : DiskPlan) (m : Moment) (c : Command) (bad : Option Fault) → begun plan m c bad ≡ None
+    → begun_by plan m c bad c.write ≡ None
 by_begun plan m c None none = none
 by_begun plan m c (Some f) none = none
 
@@ -43,11 +46,13 @@ picked_none order [] none = refl
 picked_none Oldest (q ∷ qs) none = cc none
 picked_none Newest (q ∷ qs) none = let e = slice_get-get_or (q ∷ qs) (length (q ∷ qs) - 1) q (omega arith) in cc (e, none)
 
-picks_nothing : (plan : DiskPlan) (sectors : ℕ) (m : Moment) (o : Option Command) → IsSized plan sectors → IsQueue m.queued → picked plan.order m.queued ≡ o → pick_turn plan sectors m o ≡ None → m.queued ≡ []
+picks_nothing : (plan : DiskPlan) (sectors : ℕ) (m : Moment) (o : Option Command) → IsSized plan sectors → IsQueue m.queued
+    → picked plan.order m.queued ≡ o → pick_turn plan sectors m o ≡ None → m.queued ≡ []
 picks_nothing plan sectors m None sized queue is none = picked_none plan.order m.queued is
 picks_nothing plan sectors m (Some c) sized queue is none = absurd (begins_something plan sectors m c (fault_of plan sectors c) c.write sized (picked_in plan.order m.queued c queue is).some (by_begun plan m c (fault_of plan sectors c) none))
 
-reads_something : (plan : DiskPlan) (sectors : ℕ) (m : Moment) (medium : List ℕ) (s : Started) (v : Moving) (left : ℕ) (up : Bool) → IsReading plan sectors medium s v left up → read_turn m s.command s.sends ≢ None
+reads_something : (plan : DiskPlan) (sectors : ℕ) (m : Moment) (medium : List ℕ) (s : Started) (v : Moving) (left : ℕ)
+    (up : Bool) → IsReading plan sectors medium s v left up → read_turn m s.command s.sends ≢ None
 reads_something plan sectors m medium s v left false r = none_left m s.command _ _ _ (r.stage ∙ sends_left_next plan medium s.command left r.moving.more)
 reads_something plan sectors m medium s v left true r = none_left m s.command _ _ _ (r.stage.0 ∙ ap (drop 1) (sends_left_next plan medium s.command left r.moving.more))
 
@@ -57,27 +62,35 @@ none_wanted : (plan : DiskPlan) (sectors : ℕ) (ws : List Wanted) → AreWanted
 none_wanted plan sectors [] are = refl
 none_wanted plan sectors (w ∷ ws) are = absurd are
 
-writes_waiting : (plan : DiskPlan) (sectors : ℕ) (m : Moment) (w : Writing) (v : Moving) (stage : Stage) → IsWriting plan sectors w v stage → write_turn m w w.sends ≡ None → (v.command.write ≡ true) × (v.active ≡ true)
+writes_waiting : (plan : DiskPlan) (sectors : ℕ) (m : Moment) (w : Writing) (v : Moving) (stage : Stage)
+    → IsWriting plan sectors w v stage → write_turn m w w.sends ≡ None → (v.command.write ≡ true) × (v.active ≡ true)
 writes_waiting plan sectors m w v Fresh r none = absurd (asks_something m w _ _ _ r.stage.0 none)
 writes_waiting plan sectors m w v SetUp r none = absurd (asks_something m w _ _ _ r.stage.0 none)
 writes_waiting plan sectors m w v Asked r none = (ap (λ (c : Command). c.write) r.moving.same ∙ r.writes, r.stage.1)
 
-silent_by : (plan : DiskPlan) (sectors : ℕ) (medium : List ℕ) (queued : List Command) (fault : Option Fault) (resetting : Bool) (owed : List Answer) (s : Option Started) (w : Option Writing) (v : Option Moving) (l : Ledger) → IsSized plan sectors → IsQueue queued → l.outstanding ≡ queued → l.unanswered ≡ ended_tags owed → l.awaited ≡ replies owed → AreWanted plan sectors (pages_of owed) l.pages → l.moving ≡ v → Moves plan sectors medium queued owed s w v → turn plan sectors (at medium queued fault resetting owed s w) ≡ None → OwesNothing l
-silent_by plan sectors medium queued fault resetting (x ∷ later) s w v l sized queue out tags replied are is m none = cc none
-silent_by plan sectors medium queued fault resetting [] None None None l sized queue out tags replied are is m none =
-    let nothing = out ∙ picks_nothing plan sectors (at medium queued fault resetting [] None None) _ sized queue refl none in
+silent_by : (plan : DiskPlan) (sectors : ℕ) (m : Moment) (owed : List Answer) (s : Option Started) (w : Option Writing)
+    (v : Option Moving) (l : Ledger) → IsSized plan sectors → IsQueue m.queued → l.outstanding ≡ m.queued
+    → l.unanswered ≡ ended_tags owed → l.awaited ≡ replies owed → AreWanted plan sectors (pages_of owed) l.pages
+    → l.moving ≡ v → Moves plan sectors m.medium m.queued owed s w v
+    → turn plan sectors (under m owed s w) ≡ None → OwesNothing l
+silent_by plan sectors m (x ∷ later) s w v l sized queue out tags replied are is moves none = cc none
+silent_by plan sectors m [] None None None l sized queue out tags replied are is moves none =
+    let nothing = out ∙ picks_nothing plan sectors (idle m) _ sized queue refl none in
     record { awaited = replied; unanswered = tags; pages = none_wanted plan sectors l.pages are; waits = rw is nothing }
-silent_by plan sectors medium queued fault resetting [] None None (Some v) l sized queue out tags replied are is m none = absurd m
-silent_by plan sectors medium queued fault resetting [] (Some s) None None l sized queue out tags replied are is m none = absurd m
-silent_by plan sectors medium queued fault resetting [] (Some s) None (Some v) l sized queue out tags replied are is m none = absurd (reads_something plan sectors (at medium queued fault resetting [] (Some s) None) medium s v m.0 m.1 m.2 none)
-silent_by plan sectors medium queued fault resetting [] None (Some w) None l sized queue out tags replied are is m none = absurd m
-silent_by plan sectors medium queued fault resetting [] None (Some w) (Some v) l sized queue out tags replied are is m none =
-    let waits = writes_waiting plan sectors (at medium queued fault resetting [] None (Some w)) w v m.0 m.1 none in
+silent_by plan sectors m [] None None (Some v) l sized queue out tags replied are is moves none = absurd moves
+silent_by plan sectors m [] (Some s) None None l sized queue out tags replied are is moves none = absurd moves
+silent_by plan sectors m [] (Some s) None (Some v) l sized queue out tags replied are is moves none =
+    absurd (reads_something plan sectors (reading m s) m.medium s v moves.0 moves.1 moves.2 none)
+silent_by plan sectors m [] None (Some w) None l sized queue out tags replied are is moves none = absurd moves
+silent_by plan sectors m [] None (Some w) (Some v) l sized queue out tags replied are is moves none =
+    let waits = writes_waiting plan sectors (writing m [] w) w v moves.0 moves.1 none in
     record { awaited = replied; unanswered = tags; pages = none_wanted plan sectors l.pages are; waits = rw is waits }
-silent_by plan sectors medium queued fault resetting [] (Some s) (Some w) v l sized queue out tags replied are is m none = absurd m
+silent_by plan sectors m [] (Some s) (Some w) v l sized queue out tags replied are is moves none = absurd moves
 
-pub silent_right : (plan : DiskPlan) (sectors : ℕ) (h : List Happening) → IsSize plan sectors → IsDiskRun plan sectors h → SilentRight plan sectors h
+pub silent_right : (plan : DiskPlan) (sectors : ℕ) (h : List Happening) → IsSize plan sectors → IsDiskRun plan sectors h
+    → SilentRight plan sectors h
 silent_right plan sectors h size run = λ none.
     let a = agrees plan sectors h size run in
     let m = moment plan sectors h in
-    silent_by plan sectors m.medium m.queued m.fault m.resetting m.owed m.started m.writing (ledger h).moving (ledger h) (sized_by plan sectors size) a.queue a.outstanding a.unanswered a.awaited a.pages refl a.moving none
+    silent_by plan sectors m m.owed m.started m.writing (ledger h).moving (ledger h)
+    (sized_by plan sectors size) a.queue a.outstanding a.unanswered a.awaited a.pages refl a.moving none

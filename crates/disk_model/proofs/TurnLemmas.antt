@@ -21,35 +21,53 @@ use Rattle.disk_model.proofs.SendLemmas.{sends_left_next}
 pub takes : (t : Turn) (s : Sending) (bytes : List ℕ) (m n : Moment) → t ≡ Some (s, m) → Shows s bytes → n ≡ m → Takes t bytes n
 takes t s bytes m n is shows same = rw is (shows, same)
 
-pub takes_answer : (plan : DiskPlan) (sectors : ℕ) (m n : Moment) (a : Answer) (later : List Answer) (bytes : List ℕ) → m.owed ≡ a ∷ later → Shows (answer_sent sectors a) bytes → n ≡ record m { owed = later } → Takes (turn plan sectors m) bytes n
+pub takes_answer : (plan : DiskPlan) (sectors : ℕ) (m n : Moment) (a : Answer) (later : List Answer) (bytes : List ℕ)
+    → m.owed ≡ a ∷ later → Shows (answer_sent sectors a) bytes → n ≡ record m { owed = later }
+    → Takes (turn plan sectors m) bytes n
 takes_answer plan sectors m n a later bytes owed shows same =
     takes _ (answer_sent sectors a) bytes (record m { owed = later }) n (rw owed refl) shows same
 
-takes_first : (m n : Moment) (c : Command) (sends later : List Sending) (bytes : List ℕ) → Leads sends bytes later → n ≡ went m c later → Takes (read_turn m c sends) bytes n
+takes_first : (m n : Moment) (c : Command) (sends later : List Sending) (bytes : List ℕ) → Leads sends bytes later
+    → n ≡ went m c later → Takes (read_turn m c sends) bytes n
 takes_first m n c [] later bytes leads same = absurd leads
 takes_first m n c (s ∷ rest) later bytes leads same = (leads.0, same ∙ ap (went m c) (sym leads.1))
 
-pub takes_read : (plan : DiskPlan) (sectors : ℕ) (m n : Moment) (c : Command) (sends later : List Sending) (bytes : List ℕ) → m.owed ≡ [] → m.started ≡ Some (record { command = c; sends = sends }) → Leads sends bytes later → n ≡ went m c later → Takes (turn plan sectors m) bytes n
+pub takes_read : (plan : DiskPlan) (sectors : ℕ) (m n : Moment) (c : Command) (sends later : List Sending) (bytes : List ℕ)
+    → m.owed ≡ [] → m.started ≡ Some (record { command = c; sends = sends }) → Leads sends bytes later → n ≡ went m c later
+    → Takes (turn plan sectors m) bytes n
 takes_read plan sectors m n c sends later bytes owed started leads same =
     let a : turn plan sectors m ≡ read_turn m c sends = rw (owed, started) refl in
     rw a (takes_first m n c sends later bytes leads same)
 
-pub takes_start : (plan : DiskPlan) (sectors : ℕ) (m n : Moment) (c : Command) (later : List Sending) (bytes : List ℕ) → c.write ≡ false → m.owed ≡ [] → m.started ≡ None → m.writing ≡ None → picked plan.order m.queued ≡ Some c → fault_of plan sectors c ≡ None → Leads (sends_left plan m.medium c (chunks plan c)) bytes later → n ≡ went m c later → Takes (turn plan sectors m) bytes n
+pub takes_start : (plan : DiskPlan) (sectors : ℕ) (m n : Moment) (c : Command) (later : List Sending) (bytes : List ℕ)
+    → c.write ≡ false → m.owed ≡ [] → m.started ≡ None → m.writing ≡ None → picked plan.order m.queued ≡ Some c
+    → fault_of plan sectors c ≡ None → Leads (sends_left plan m.medium c (chunks plan c)) bytes later → n ≡ went m c later
+    → Takes (turn plan sectors m) bytes n
 takes_start plan sectors m n c later bytes read owed started writing pick good leads same =
     let a : turn plan sectors m ≡ starts plan m c c.write = rw (owed, started, writing, pick, good) refl in
     rw (a ∙ ap (starts plan m c) read) (takes_first m n c _ later bytes leads same)
 
-takes_ask : (m n : Moment) (c : Command) (left : ℕ) (staged : List ℕ) (whole sends later : List Sending) (bytes : List ℕ) → Leads sends bytes later → n ≡ record m { writing = Some (record { command = c; sends = later; left = left; staged = staged }) } → Takes (write_turn m (record { command = c; sends = whole; left = left; staged = staged }) sends) bytes n
+takes_ask : (m n : Moment) (c : Command) (left : ℕ) (staged : List ℕ) (whole sends later : List Sending) (bytes : List ℕ)
+    → Leads sends bytes later
+    → n ≡ record m { writing = Some (record { command = c; sends = later; left = left; staged = staged }) }
+    → Takes (write_turn m (record { command = c; sends = whole; left = left; staged = staged }) sends) bytes n
 takes_ask m n c left staged whole [] later bytes leads same = absurd leads
 takes_ask m n c left staged whole (s ∷ rest) later bytes leads same =
     (leads.0, same ∙ ap (λ (xs : List Sending). record m { writing = Some (record { command = c; sends = xs; left = left; staged = staged }) }) (sym leads.1))
 
-pub takes_start_write : (plan : DiskPlan) (sectors : ℕ) (m n : Moment) (c : Command) (staged : List ℕ) (later : List Sending) (bytes : List ℕ) → c.write ≡ true → m.owed ≡ [] → m.started ≡ None → m.writing ≡ None → picked plan.order m.queued ≡ Some c → fault_of plan sectors c ≡ None → (begun_write plan c).staged ≡ staged → Leads (asks_for plan c (chunks plan c)) bytes later → n ≡ record m { writing = Some (record { command = c; sends = later; left = chunks plan c; staged = staged }) } → Takes (turn plan sectors m) bytes n
+pub takes_start_write : (plan : DiskPlan) (sectors : ℕ) (m n : Moment) (c : Command) (staged : List ℕ) (later : List Sending)
+    (bytes : List ℕ) → c.write ≡ true → m.owed ≡ [] → m.started ≡ None → m.writing ≡ None → picked plan.order m.queued ≡ Some c
+    → fault_of plan sectors c ≡ None → (begun_write plan c).staged ≡ staged
+    → Leads (asks_for plan c (chunks plan c)) bytes later
+    → n ≡ record m { writing = Some (record { command = c; sends = later; left = chunks plan c; staged = staged }) }
+    → Takes (turn plan sectors m) bytes n
 takes_start_write plan sectors m n c staged later bytes write owed started writing pick good zeros leads same =
     let a : turn plan sectors m ≡ starts plan m c c.write = rw (owed, started, writing, pick, good) refl in
     rw (a ∙ ap (starts plan m c) write, zeros) (takes_ask m n c (chunks plan c) staged (asks_for plan c (chunks plan c)) (asks_for plan c (chunks plan c)) later bytes leads same)
 
-pub takes_fault : (plan : DiskPlan) (sectors : ℕ) (m n : Moment) (c : Command) (f : Fault) (bytes : List ℕ) → m.owed ≡ [] → m.started ≡ None → m.writing ≡ None → picked plan.order m.queued ≡ Some c → fault_of plan sectors c ≡ Some f → Shows (report f) bytes → n ≡ stopped m f → Takes (turn plan sectors m) bytes n
+pub takes_fault : (plan : DiskPlan) (sectors : ℕ) (m n : Moment) (c : Command) (f : Fault) (bytes : List ℕ) → m.owed ≡ []
+    → m.started ≡ None → m.writing ≡ None → picked plan.order m.queued ≡ Some c → fault_of plan sectors c ≡ Some f
+    → Shows (report f) bytes → n ≡ stopped m f → Takes (turn plan sectors m) bytes n
 takes_fault plan sectors m n c f bytes owed started writing pick bad shows same =
     takes _ (report f) bytes (stopped m f) n (rw (owed, started, writing, pick, bad) refl) shows same
 
@@ -60,32 +78,40 @@ pub on_err_so : {T E P : Type 0} (r : Result T E) → P → OnErr r P
 on_err_so (Ok x) p = tt
 on_err_so (Err e) p = p
 
-pub none_left : (m : Moment) (c : Command) (sends later : List Sending) (s : Sending) → sends ≡ s ∷ later → read_turn m c sends ≢ None
+pub none_left : (m : Moment) (c : Command) (sends later : List Sending) (s : Sending) → sends ≡ s ∷ later
+    → read_turn m c sends ≢ None
 none_left m c sends later s is = λ none. let e = rw is at none in cc e
 
-read_left : (plan : DiskPlan) (m : Moment) (medium : List ℕ) (r : Reading) (up : Bool) → 0 < r.left → read_turn m r.command (sends_of plan medium r up) ≢ None
+read_left : (plan : DiskPlan) (m : Moment) (medium : List ℕ) (r : Reading) (up : Bool) → 0 < r.left
+    → read_turn m r.command (sends_of plan medium r up) ≢ None
 read_left plan m medium r false some = none_left m r.command _ _ _ (sends_left_next plan medium r.command r.left some)
 read_left plan m medium r true some = none_left m r.command _ _ _ (ap (drop 1) (sends_left_next plan medium r.command r.left some))
 
 -- a read goes on
-pub has_read : (plan : DiskPlan) (sectors : ℕ) (m : Moment) (medium : List ℕ) (r : Reading) → m.owed ≡ [] → m.started ≡ Some (record { command = r.command; sends = sends_of plan medium r r.set_up }) → 0 < r.left → turn plan sectors m ≢ None
+pub has_read : (plan : DiskPlan) (sectors : ℕ) (m : Moment) (medium : List ℕ) (r : Reading) → m.owed ≡ []
+    → m.started ≡ Some (record { command = r.command; sends = sends_of plan medium r r.set_up }) → 0 < r.left
+    → turn plan sectors m ≢ None
 has_read plan sectors m medium r owed started some =
     let a : turn plan sectors m ≡ read_turn m r.command (sends_of plan medium r r.set_up) = rw (owed, started) refl in
     λ none. read_left plan m medium r r.set_up some (sym a ∙ none)
 
 -- a read is started
-pub has_start : (plan : DiskPlan) (sectors : ℕ) (m : Moment) (c : Command) → c.write ≡ false → m.owed ≡ [] → m.started ≡ None → m.writing ≡ None → picked plan.order m.queued ≡ Some c → fault_of plan sectors c ≡ None → 0 < chunks plan c → turn plan sectors m ≢ None
+pub has_start : (plan : DiskPlan) (sectors : ℕ) (m : Moment) (c : Command) → c.write ≡ false → m.owed ≡ [] → m.started ≡ None
+    → m.writing ≡ None → picked plan.order m.queued ≡ Some c → fault_of plan sectors c ≡ None → 0 < chunks plan c
+    → turn plan sectors m ≢ None
 has_start plan sectors m c read owed started writing pick good some =
     let a : turn plan sectors m ≡ starts plan m c c.write = rw (owed, started, writing, pick, good) refl in
     λ none. none_left m c _ _ _ (sends_left_next plan m.medium c (chunks plan c) some) (ap (starts plan m c) (sym read) ∙ sym a ∙ none)
 
 -- ## What a read's FIS leaves
 
-went_more : (m : Moment) (c : Command) (sends : List Sending) (s : Sending) (later : List Sending) → sends ≡ s ∷ later → went m c sends ≡ record m { started = Some (record { command = c; sends = sends }) }
+went_more : (m : Moment) (c : Command) (sends : List Sending) (s : Sending) (later : List Sending) → sends ≡ s ∷ later
+    → went m c sends ≡ record m { started = Some (record { command = c; sends = sends }) }
 went_more m c sends s later is = rw is refl
 
 -- the read moves on
-pub went_on : (plan : DiskPlan) (m : Moment) (r : Reading) (up : Bool) → r.set_up ≡ up → 0 < r.left → (up ≡ true → 1 < r.left) → went m r.command (sends_after plan m.medium r up) ≡ record m { started = started_by plan m.medium (Read (moved r)) }
+pub went_on : (plan : DiskPlan) (m : Moment) (r : Reading) (up : Bool) → r.set_up ≡ up → 0 < r.left → (up ≡ true → 1 < r.left)
+    → went m r.command (sends_after plan m.medium r up) ≡ record m { started = started_by plan m.medium (Read (moved r)) }
 went_on plan m r true is some more =
     let rest = sends_left_next plan m.medium r.command (r.left - 1) (let h : 1 < r.left = more refl in omega arith) in
     rw is (went_more m r.command _ _ _ rest)
@@ -94,7 +120,8 @@ went_on plan m r false is some more =
     rw is (went_more m r.command _ _ _ rest)
 
 -- the read ends
-pub went_last : (plan : DiskPlan) (m : Moment) (r : Reading) (up : Bool) → up ≡ true → r.left ≡ 1 → went m r.command (sends_after plan m.medium r up) ≡ ended m r.command
+pub went_last : (plan : DiskPlan) (m : Moment) (r : Reading) (up : Bool) → up ≡ true → r.left ≡ 1
+    → went m r.command (sends_after plan m.medium r up) ≡ ended m r.command
 unfolding sends_left
 went_last plan m r up is last = rw (is, last) refl
 
@@ -104,11 +131,14 @@ front_is [] a some is = absurd (omega arith)
 front_is (x ∷ xs) a some is = ap (λ y. y ∷ xs) (sym is)
 
 -- two moments with the same parts
-pub same_moment : (m n : Moment) → m.medium ≡ n.medium → m.queued ≡ n.queued → m.fault ≡ n.fault → m.resetting ≡ n.resetting → m.owed ≡ n.owed → m.started ≡ n.started → m.writing ≡ n.writing → m ≡ n
+pub same_moment : (m n : Moment) → m.medium ≡ n.medium → m.queued ≡ n.queued → m.fault ≡ n.fault → m.resetting ≡ n.resetting
+    → m.owed ≡ n.owed → m.started ≡ n.started → m.writing ≡ n.writing → m ≡ n
 same_moment m n a b c d e f g = λ i. record { medium = a i; queued = b i; fault = c i; resetting = d i; owed = e i; started = f i; writing = g i }
 
 -- a chunk came that is not the last
-pub stored_more : (plan : DiskPlan) (m : Moment) (c : Command) (left gone : ℕ) (staged bytes : List ℕ) → 2 ≤ gone → length bytes ≡ 512 * chunk_count plan c left → (left ≡ 1 → ⊥) → data_taken plan m (Some (record { command = c; sends = drop gone (asks_for plan c left); left = left; staged = staged })) bytes ≡ record m { writing = Some (record { command = c; sends = asks_for plan c (left - 1); left = left - 1; staged = put staged (512 * chunk_from plan c left) bytes }) }
+pub stored_more : (plan : DiskPlan) (m : Moment) (c : Command) (left gone : ℕ) (staged bytes : List ℕ) → 2 ≤ gone
+    → length bytes ≡ 512 * chunk_count plan c left → (left ≡ 1 → ⊥)
+    → data_taken plan m (Some (record { command = c; sends = drop gone (asks_for plan c left); left = left; staged = staged })) bytes ≡ record m { writing = Some (record { command = c; sends = asks_for plan c (left - 1); left = left - 1; staged = put staged (512 * chunk_from plan c left) bytes }) }
 stored_more plan m c left gone staged bytes past is more =
     let none : (length (drop gone (asks_for plan c left)) == 0) ≡ true = grind (arith, length-drop gone (asks_for plan c left), nat_tests) in
     let fits : (length bytes == 512 * chunk_count plan c left) ≡ true = search (rules, tests) in

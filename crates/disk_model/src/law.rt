@@ -3,7 +3,10 @@
 //! run.
 
 ghost use Rattle.std.specs.Prelude.{◌≡◌, All};
+ghost use Rattle.disk_model.specs.Anew.{BeginsAnew, EndsTellTheSameAnew, LinkedSinceNew};
+ghost use Rattle.disk_model.specs.Anew.{RestingIsSilent, RestsUntil, WritesStay};
 ghost use Rattle.disk_model.specs.Ends.{EndsTellTheSame};
+ghost use Rattle.disk_model.specs.Later.{LaterIsLinked, LaterTellsOfAll};
 ghost use Rattle.disk_model.specs.Laws.{AfterEachRun, AnswersRight, AtEachSending, ErrsRight, MovesRight, SilentRight};
 ghost use Rattle.disk_model.specs.Ledger.{AnswersOne, IsRead, ledger, medium_with};
 ghost use Rattle.disk_model.specs.Puts.{LieWherePut};
@@ -69,6 +72,31 @@ pub fn is_silent_where_nothing_is_owed()
 /// asked for.
 pub fn ends_tell_the_same()
     ensures { EndsTellTheSame }
+{}
+
+/// When it is plugged in, also again, a disk only owes its signature, and so it does after a
+/// software reset, whatever happened before: nothing that was queued is outstanding. With the log
+/// after an error it only owes the log. While SRST is set, and in the error mode, it sends nothing.
+pub fn disks_begin_anew()
+    ensures begins { BeginsAnew }
+    ensures rests { RestsUntil }
+    ensures silent { RestingIsSilent }
+{}
+
+/// From where both ends begin anew they tell the same again, as long as the disk reports no error:
+/// what it sent before comes first, and the host throws it away. What was written stays written.
+pub fn ends_tell_the_same_anew()
+    ensures same { EndsTellTheSameAnew }
+    ensures new { LinkedSinceNew }
+    ensures stays { WritesStay }
+{}
+
+/// Of a disk that is plugged in again what both ends tell of that connection is what they would tell
+/// of a new disk, beside what ended on earlier ones: so what is linked, careful and right since then
+/// is so of the whole history.
+pub fn later_connections_tell_of_all()
+    ensures linked { LaterIsLinked }
+    ensures tells { LaterTellsOfAll }
 {}
 
 /// Where bytes are put over others, as the ledger puts those of Data from their DMA Setup's offset

@@ -26,6 +26,3 @@ pub use mark::marks_keep_fields;
 pub use view::{
     DmaActivate, DmaSetup, Fis, FisFault, Payload, PioSetup, RegD2H, RegH2D, SetBits, Unknown,
 };
-
-#[cfg(test)]
-mod tests;

@@ -176,11 +176,11 @@ identify_test false h = absurd (false≢true h)
 equal_is : (x y : ℕ) → x ≡ y → (x == y) ≡ true
 equal_is x y h = grind (arith, nat_tests)
 
-identify_proper : (dev : ℕ) → is_proper (header_for (request_of (identify_fields dev)) (table_of 30) 1) (request_of (identify_fields dev)) 512 30 false ≡ true
+pub identify_proper : (dev : ℕ) → is_proper (header_for (request_of (identify_fields dev)) (table_of 30) 1) (request_of (identify_fields dev)) 512 30 false ≡ true
 unfolding is_proper work_of
 identify_proper dev = identify_test (dev % 16 == dev % 16) (equal_is (dev % 16) (dev % 16) refl)
 
-buffer_usable : (len : ℕ) → 1048576 ≤ len → total_if_usable len (buffer_prd ∷ []) ≡ Some 512
+pub buffer_usable : (len : ℕ) → 1048576 ≤ len → total_if_usable len (buffer_prd ∷ []) ≡ Some 512
 buffer_usable len long = by_end (nat_lt (1048576 + len) (1048576 + 512)) 512 (le-ltb (1048576 + len) (1048576 + 512) (omega (arith, long)))
   where
     by_end : (b : Bool) (n : ℕ) → b ≡ false → (if (((1048576 % 2 == 0) && (512 % 2 == 0) && not (nat_lt 1048576 1048576 || b)) && true) && not (false || false) then Some n else None) ≡ Some n
@@ -274,7 +274,7 @@ not_issued : (o : Option Issue) → is_some o ≡ false → o ≡ None
 not_issued None h = refl
 not_issued (Some i) h = cc
 
-free_here : (d : Driver) (port : Port) (memory : Memory) → Knows d port memory → (slot : ℕ) → IsFree d slot → issue_at port.slots slot ≡ None
+pub free_here : (d : Driver) (port : Port) (memory : Memory) → Knows d port memory → (slot : ℕ) → IsFree d slot → issue_at port.slots slot ≡ None
 free_here d port memory k slot free = elim (cases_Bool (is_some (issue_at port.slots slot))) [
   | inl busy ↦ absurd (not_busy d (beside port memory) k.past slot slot (sound_beside port memory k.ruled k.sized) k.served free busy refl)
   | inr idle ↦ not_issued (issue_at port.slots slot) idle

@@ -158,16 +158,17 @@ due_turn v plan entries = if_due v (is_some (early_due v plan)) _ _ entries (due
 pub record PlanGoes (v : Sight) (p q : Plan) : Type 0 where
   pub asked : has_bit v.issued 31 ≡ true → p.asked ≡ true → q.asked ≡ true
   pub path : has_bit v.issued 30 ≡ true → (x : Path) → p.path ≡ Some x → x.asked ≡ true → q.path ≡ Some x
+  pub back : (x : Path) → q.path ≡ Some x → x.asked ≡ true → p.path ≡ Some x
   pub devices : length q.devices ≡ length p.devices
   pub opened : q.opened ≡ p.opened
   pub restarted : q.restarted ≡ p.restarted
   pub low : IsPath p.path → IsPath q.path
 
 goes_same : (v : Sight) (p : Plan) → PlanGoes v p p
-goes_same v p = record { asked = λ b h. h; path = λ b x here a. here; devices = refl; opened = refl; restarted = refl; low = λ h. h }
+goes_same v p = record { asked = λ b h. h; path = λ b x here a. here; back = λ x here a. here; devices = refl; opened = refl; restarted = refl; low = λ h. h }
 
 goes_then : (v : Sight) (p q r : Plan) → PlanGoes v p q → PlanGoes v q r → PlanGoes v p r
-goes_then v p q r h k = record { asked = λ b a. k.asked b (h.asked b a); path = λ b x here a. k.path b x (h.path b x here a) a; devices = k.devices ∙ h.devices; opened = k.opened ∙ h.opened; restarted = k.restarted ∙ h.restarted; low = λ x. k.low (h.low x) }
+goes_then v p q r h k = record { asked = λ b a. k.asked b (h.asked b a); path = λ b x here a. k.path b x (h.path b x here a) a; back = λ x here a. h.back x (k.back x here a) a; devices = k.devices ∙ h.devices; opened = k.opened ∙ h.opened; restarted = k.restarted ∙ h.restarted; low = λ x. k.low (h.low x) }
 
 -- the rest of the plan is as it was
 record Alike (p q : Plan) : Type 0 where
@@ -189,6 +190,7 @@ goes_answer v false c next plan is same = goes_same v plan
 goes_answer v true false next plan is same = record {
   asked = λ bit h. absurd (true≢false (sym bit ∙ is));
   path = λ bit x here a. same.path ∙ here;
+  back = λ x here a. sym same.path ∙ here;
   devices = same.devices;
   opened = same.opened;
   restarted = same.restarted;
@@ -207,7 +209,7 @@ goes_if v false p q r h k = k
 
 goes_met : (v : Sight) (plan : Plan) → PlanGoes v plan (met v plan)
 goes_met v plan =
-    goes_if v plan.asked plan plan (record plan { order = met_order v plan.order }) (goes_same v plan) (record { asked = λ b h. h; path = λ b x here a. here; devices = refl; opened = refl; restarted = refl; low = λ h. h })
+    goes_if v plan.asked plan plan (record plan { order = met_order v plan.order }) (goes_same v plan) (record { asked = λ b h. h; path = λ b x here a. here; back = λ x here a. here; devices = refl; opened = refl; restarted = refl; low = λ h. h })
 
 goes_control : (v : Sight) (plan : Plan) → PlanGoes v plan (control_seen v plan)
 goes_control v plan = goes_then v plan (answered v plan) (control_seen v plan) (goes_answered v plan) (goes_met v (answered v plan))
@@ -236,6 +238,9 @@ restarted_found v Identify dev plan = refl
 restarted_found v (ReadLog file) dev plan = refl
 restarted_found v stage dev plan = refl
 
+same_path : (x y : Path) → Some x ≡ Some y → x ≡ y
+same_path x y h = cc
+
 path_low : (dev : ℕ) (stage : Option Stage) → dev < 15 → IsPath (path_to dev stage)
 path_low dev None h = tt
 path_low dev (Some s) h = h
@@ -248,6 +253,14 @@ met_low : (v : Sight) (o : Option Path) → IsPath o → IsPath (option_map (met
 met_low v None h = tt
 met_low v (Some path) h = met_if path.asked path _ h h
 
+-- a path that goes on has no command out yet
+unasked : (dev : ℕ) (stage : Option Stage) (x : Path) → path_to dev stage ≡ Some x → x.asked ≡ true → ⊥
+unasked dev None x here a = cc
+unasked dev (Some s) x here a =
+    let next : Path = record { dev = dev; stage = s; asked = false } in
+    let is : next ≡ x = same_path next x here in
+    false≢true (ap (λ (p : Path). p.asked) is ∙ a)
+
 goes_back : (v : Sight) (bit : Bool) (path : Path) (plan : Plan) → plan.path ≡ Some path → has_bit v.issued 30 ≡ bit → PlanGoes v plan (if path.asked && not bit then advanced v path plan else plan)
 goes_back v bit path plan here is = by_asked path.asked bit is refl
   where
@@ -256,6 +269,7 @@ goes_back v bit path plan here is = by_asked path.asked bit is refl
     by_asked true false is a = record {
       asked = λ b h. asked_found v path.stage path.dev plan ∙ h;
       path = λ on x there ax. absurd (true≢false (sym on ∙ is));
+      back = λ x there ax. absurd (unasked path.dev (next_stage path.stage) x there ax);
       devices = length_found v path.stage path.dev plan;
       opened = opened_found v path.stage path.dev plan;
       restarted = restarted_found v path.stage path.dev plan;
@@ -270,10 +284,22 @@ goes_answered_by v (Some path) plan here = goes_back v (has_bit v.issued 30) pat
 met_asked : (v : Sight) (path : Path) → path.asked ≡ true → met_path v path ≡ path
 met_asked v path h = ap (λ (b : Bool). if b then path else record path { stage = Rattle.hba_driver.specs.Turns.met_stage v path.dev path.stage }) h
 
+met_back : (v : Sight) (o : Option Path) (x : Path) → option_map (met_path v) o ≡ Some x → x.asked ≡ true → o ≡ Some x
+met_back v None x here a = here
+met_back v (Some path) x here a = by_asked path.asked refl (same_path (met_path v path) x here)
+  where
+    by_asked : (b : Bool) → path.asked ≡ b → met_path v path ≡ x → Some path ≡ Some x
+    by_asked true on is = ap Some (sym (met_asked v path on) ∙ is)
+    by_asked false off is =
+        let asked_is : (met_path v path).asked ≡ false =
+        ap (λ (b : Bool). (if b then path else record path { stage = Rattle.hba_driver.specs.Turns.met_stage v path.dev path.stage }).asked) off ∙ off in
+        absurd (false≢true (sym asked_is ∙ ap (λ (p : Path). p.asked) is ∙ a))
+
 goes_path_met : (v : Sight) (plan : Plan) → PlanGoes v plan (path_met v plan)
 goes_path_met v plan = record {
   asked = λ b h. h;
   path = λ b x here a. ap (option_map (met_path v)) here ∙ ap Some (met_asked v x a);
+  back = λ x here a. met_back v plan.path x here a;
   devices = refl;
   opened = refl;
   restarted = refl;

@@ -47,12 +47,15 @@ use Rattle.hba_driver.proofs.HistoryLemmas.{back_of}
 use Rattle.hba_driver.proofs.IssuingLemmas.{From}
 use Rattle.hba_driver.proofs.LifeLemmas.{entry_of_rephased, keeps_set_aside, keeps_stopped, length_of_rephased}
 use Rattle.hba_driver.proofs.ServingLemmas.{Follows, Goes, first_goes, from_moves, not_flushed, taken_goes, write_goes}
-use Rattle.hba_driver.proofs.TickingLemmas.{Needs, act_goes, else_entry, last_goes, unless_other, unless_path}
+use Rattle.hba_driver.proofs.TickingLemmas.{Needs, act_goes, else_entry, last_goes, unless_back, unless_other, unless_path}
 
 -- ---- the port is stopped
 
 stopped : Driver → Driver
 stopped d = record d { plan = stopped_plan d.plan; entries = rephase_all is_open (Ended PortError) d.entries }
+
+none_path : (x : Path) {P : Type 0} → None ≡ Some x → P
+none_path x h = cc
 
 stopped_follows : (d : Driver) → Follows d (stopped d)
 unfolding stopped
@@ -60,6 +63,7 @@ stopped_follows d = record {
   devices = length-map d.plan.devices reset_if_there;
   slots = length_of_rephased is_open (Ended PortError) d.entries;
   path = λ h. tt;
+  asked = λ x here a. none_path x here;
   entries = λ s f here.
       let b = back_of (entry_at d.entries s) (entry_at (rephase_all is_open (Ended PortError) d.entries) s) (keeps_stopped d.entries s) f here in
       (b.0, b.1, b.2.same);
@@ -103,12 +107,17 @@ path_if : (b : Bool) (dev : ℕ) (file : TaskFile) (plan : Plan) → IsPath plan
 path_if true dev file plan h = unless_path dev plan.path h
 path_if false dev file plan h = h
 
+path_back : (b : Bool) (dev : ℕ) (file : TaskFile) (plan : Plan) (x : Path) → (if b then recovering dev file plan else from_reset plan).path ≡ Some x → plan.path ≡ Some x
+path_back true dev file plan x h = unless_back dev plan.path x h
+path_back false dev file plan x h = h
+
 aside_follows : (dev : ℕ) (file : TaskFile) (d : Driver) → Follows d (set_aside dev file d)
 unfolding set_aside
 aside_follows dev file d = record {
   devices = devices_if (nat_lt dev 15) dev file d.plan;
   slots = length_of_rephased (is_open_of dev) Aside d.entries;
   path = λ h. path_if (nat_lt dev 15) dev file d.plan h;
+  asked = λ x here a. inl (path_back (nat_lt dev 15) dev file d.plan x here);
   entries = λ s f here.
       let b = back_of (entry_at d.entries s) (entry_at (rephase_all (is_open_of dev) Aside d.entries) s) (keeps_set_aside dev d.entries s) f here in
       (b.0, b.1, b.2.same);
@@ -257,6 +266,18 @@ faulty_is : (port : Port) (memory : Memory) (dev : ℕ) → IsRuled port → (si
 unfolding sight_of shown register_at value_of
 faulty_is port memory dev ruled h =
     faulty_by port.registers.switching port.registers.chosen port.errors.reported port.errors.port dev ruled.rules.registers.chosen (λ x is. (ruled.faults.reported_is_marked x is).0) h
+
+-- PxFBS shows the device that is reported, where no fault of the port stands
+pub faulty_reported : (port : Port) (memory : Memory) (x : ℕ) → IsRuled port → port.errors.port ≡ None → port.errors.reported ≡ Some x → (sight_of port memory).faulty ≡ Some x
+unfolding sight_of shown register_at value_of
+faulty_reported port memory x ruled none is =
+    let low : ℕ = bit en port.registers.switching + 256 * port.registers.chosen + 61440 in
+    let n : ℕ = low + (4 + 65536 * x) in
+    ap (λ (p : Option PortCause). faulty_in (low + fbs_errors (errors_shown port.errors.reported p))) none
+    ∙ ap (λ (o : Option ℕ). faulty_in (low + fbs_errors (errors_shown o None))) is
+    ∙ ap (λ (b : Bool). if b then Some (n / 65536 % 16) else None) (second_bit n 1 (sde_at (bit en port.registers.switching) port.registers.chosen x (bit_most port.registers.switching)))
+    ∙ ap (λ (k : ℕ). Some k)
+    (dwe_at (bit en port.registers.switching) port.registers.chosen x (bit_most port.registers.switching) ruled.rules.registers.chosen (ruled.faults.reported_is_marked x is).0)
 
 -- ---- each act
 

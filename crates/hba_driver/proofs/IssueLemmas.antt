@@ -4,6 +4,8 @@ use Rattle.std.specs.Prelude.{MatchOption, is_some, slice_index}
 use Rattle.std.specs.Option.{option_map}
 use Rattle.std.proofs.lemmas.Bool.{cases_lt}
 use Rattle.std.proofs.lemmas.List.{ext_get_or, get_or-drop, get_or-take, get_or_past, length-drop, length-take}
+use Rattle.fis_view.specs.Built.{IsBuilt, h2d_given}
+use Rattle.fis_view.specs.Table.{H2d}
 use Rattle.host_memory.specs.Memory.{Memory}
 use Rattle.host_memory.specs.Reading.{AgreeFrom}
 use Rattle.host_memory.proofs.AgreeLemmas.{says_the_same}
@@ -27,6 +29,7 @@ use Rattle.hba_laws.proofs.WithinLemmas.{the_transfer}
 use Rattle.hba_driver.specs.Drivers.{Driver, Entry}
 use Rattle.hba_driver.specs.Effects.{table_of}
 use Rattle.hba_driver.specs.Laws.{Stands}
+use Rattle.hba_driver.specs.Orders.{request_fields}
 use Rattle.hba_driver.specs.Served.{HasCommand, HaveCommands, IsServed}
 
 -- ---- lists of events that serve
@@ -108,6 +111,7 @@ pub command_stays : (s : ℕ) (e : Entry) (m n : Memory) → length n.structure 
 command_stays s e m n long few stands h = record {
   header = sym (header_same 0 s m.structure n.structure stands.header) ∙ h.header;
   request = ap (λ (f : List ℕ). request_at f) (cfis_same (table_of s) m.structure n.structure long stands.table) ∙ h.request;
+  cfis = subst (λ (f : List ℕ). IsBuilt H2d (h2d_given (request_fields s e.head)) f) (sym (cfis_same (table_of s) m.structure n.structure long stands.table)) h.cfis;
   entries = entries_same (length m.client) (table_of s) (length e.prds) m.structure n.structure long stands.table few ∙ h.entries;
 }
 
@@ -129,5 +133,6 @@ calm_event d a b e past host framed does none commands stand served = record {
   bounded = served.bounded;
   commands = stand;
   issues = λ n s t here. served.issues n s t (was_there n s (touched a e) past t none here);
+  fises = λ n s t command here is. served.fises n s t command (was_there n s (touched a e) past t none here) (ap (λ c. last_command c s) (sym commands) ∙ is);
   tables = λ s command is. served.tables s command (ap (λ c. last_command c s) (sym commands) ∙ is);
 }

@@ -1,7 +1,7 @@
 -- What a write of PxCI issues, where the command of one slot stands.
 use Rattle.std.proofs.Common.{◌≡◌, ◌≢◌, ℕ, zero, suc, ◌+◌, ◌*◌, ◌^◌, ◌<◌, ◌≤◌, ◌⊎◌, Bool, true, false, cond, eqb, List, ◌++◌, length, refl, sym, ◌∙◌, ap, subst, inl, inr, arith, Option, Some, None}
-use Rattle.std.specs.Prelude.{if◌then◌else◌, ◌&&◌, ◌||◌, ◌==◌, not, is_none, is_some, nat_lt}
-use Rattle.std.specs.Option.{option_or}
+use Rattle.std.specs.Prelude.{if◌then◌else◌, ◌&&◌, ◌||◌, ◌==◌, ◌%◌, not, is_none, is_some, nat_lt}
+use Rattle.std.specs.Option.{option_map, option_or}
 use Rattle.std.proofs.lemmas.Bool.{and_parts, cases_Bool, cases_eq, cases_lt, eqb-true, false≢true, or_parts, true≢false}
 use Rattle.std.proofs.lemmas.Bool.Decides.{nat_tests}
 use Rattle.std.proofs.lemmas.List.{get_or_past}
@@ -14,12 +14,14 @@ use Rattle.host_memory.specs.declared.table.Prd.{Prd}
 use Rattle.host_memory.specs.declared.table.PrdError.{PrdError}
 use Rattle.host_memory.specs.declared.table.PrdError.TheVariants.{OutsideStructure, Overlap}
 use Rattle.hba_commands.specs.declared.command.Command.{Command}
+use Rattle.fis_view.specs.Built.{IsBuilt, cut, h2d_given}
+use Rattle.fis_view.specs.Table.{H2d, PmPort, places}
 use Rattle.fis_view.specs.declared.build.H2dFields.{H2dFields}
 use Rattle.hba_commands.specs.Commands.{cfis_at, command_at, command_in, command_under, has_table, is_proper, total_at}
 use Rattle.hba_commands.specs.Headers.{header_at}
 use Rattle.hba_commands.specs.Requests.{request_at, request_of, work_of}
 use Rattle.hba_commands.specs.Writing.{header_for}
-use Rattle.slots.specs.Slots.{has_bit, lowest}
+use Rattle.slots.specs.Slots.{Issue, has_bit, issue_at, lowest, own_issue, slots_of}
 use Rattle.slots.specs.declared.work.Work.{Work}
 use Rattle.slots.proofs.MaskLemmas.{none_below}
 use Rattle.hba_fbs.specs.declared.error.WriteError.{WriteError}
@@ -30,6 +32,7 @@ use Rattle.hba_fbs.specs.Registers.{own_refusal}
 use Rattle.hba_fbs.specs.Tables.{is_readable, prds_of}
 use Rattle.hba_fbs.specs.Views.{Port, last_command}
 use Rattle.hba_fbs.specs.Writing.{commands_after, refusal_of, slots_refusal}
+use Rattle.hba_laws.specs.Agreement.{AreHistoriesOf, work_of_issue, work_of_transfer}
 use Rattle.hba_laws.specs.Client.{IsKept, Touches, own}
 use Rattle.hba_laws.specs.Delivering.{issued_below, issued_in, touched}
 use Rattle.hba_laws.specs.History.{History, Transfer, issued}
@@ -39,9 +42,13 @@ use Rattle.hba_laws.proofs.ClientLemmas.{histories_step}
 use Rattle.hba_laws.proofs.IssueLemmas.{history_below, other_below, own_app, own_below_is, transfer_of, with_issued}
 use Rattle.hba_laws.proofs.StandLemmas.{some_inj}
 use Rattle.hba_laws.proofs.TableLemmas.{stands_readable}
-use Rattle.hba_driver.specs.Drivers.{Driver}
+use Rattle.hba_laws.proofs.ViewLemmas.{own_in}
+use Rattle.hba_driver.specs.declared.path.Path.{Path}
+use Rattle.hba_driver.specs.Drivers.{Driver, Entry, entry_at}
 use Rattle.hba_driver.specs.Effects.{table_of}
-use Rattle.hba_driver.specs.Served.{HasItsTable, HaveCommands, IsIssueOf, IsOrdered, IsRequest, IsServed, IsStep}
+use Rattle.hba_driver.specs.Orders.{request_fields}
+use Rattle.hba_driver.specs.Paths.{stage_fields}
+use Rattle.hba_driver.specs.Served.{HasItsTable, HaveCommands, IsBuiltOf, IsFisOf, IsIssueOf, IsOrdered, IsRequest, IsServed, IsStep}
 
 -- ---- the command that stands in a slot
 
@@ -50,6 +57,7 @@ pub record Standing (slot dev : ℕ) (prds : List Prd) (fields : H2dFields) (mem
   pub header : header_at memory.structure 0 slot ≡ header_for (request_of fields) (table_of slot) (length prds)
   pub to_dev : (request_of fields).pm_port ≡ dev
   pub request_is : request_at (cfis_at memory.structure (table_of slot)) ≡ Some (request_of fields)
+  pub cfis : IsBuilt H2d (h2d_given fields) (cfis_at memory.structure (table_of slot))
   pub entries : prds_at memory.structure (table_of slot + 128) (length prds) ≡ prds
 
 -- what is known of such a command once it is issued
@@ -57,6 +65,7 @@ pub record Stood (slot : ℕ) (prds : List Prd) (fields : H2dFields) (memory : M
   pub place : HasItsTable slot command
   pub entries : prds_of memory command ≡ prds
   pub work : command.work ≡ work_of (request_of fields)
+  pub cfis : IsBuilt H2d (h2d_given fields) command.cfis
   pub total : total_of prds ≡ command.work.len
   pub apart : have_overlap prds ≡ false
 
@@ -64,13 +73,14 @@ then_some : {A : Type 0} (b : Bool) (o : Option A) (a : A) → (if b then o else
 then_some true o a h = (refl, h)
 then_some false o a h = cc
 
-record Made (fields : H2dFields) (table count : ℕ) (command : Command) : Type 0 where
+record Made (fields : H2dFields) (table count : ℕ) (cfis : List ℕ) (command : Command) : Type 0 where
   pub table_is : command.table ≡ table
   pub count_is : command.count ≡ count
   pub work_is : command.work ≡ work_of (request_of fields)
+  pub cfis_is : command.cfis ≡ cfis
 
 made : (fields : H2dFields) (table count : ℕ) (cfis : List ℕ) (total : Option ℕ) (slot : ℕ) (armed : Bool) (command : Command)
-    → command_in (header_for (request_of fields) table count) cfis (Some (request_of fields)) total slot armed ≡ Some command → Made fields table count command
+    → command_in (header_for (request_of fields) table count) cfis (Some (request_of fields)) total slot armed ≡ Some command → Made fields table count cfis command
 made fields table count cfis None slot armed command h = cc
 made fields table count cfis (Some n) slot armed command h =
     let whole : Command = record { work = work_of (request_of fields); cfis = cfis; table = table; count = count } in
@@ -79,10 +89,11 @@ made fields table count cfis (Some n) slot armed command h =
       table_is = sym (ap (λ (c : Command). c.table) it);
       count_is = sym (ap (λ (c : Command). c.count) it);
       work_is = sym (ap (λ (c : Command). c.work) it);
+      cfis_is = sym (ap (λ (c : Command). c.cfis) it);
     }
 
 made_under : (memory : Memory) (fields : H2dFields) (table count slot : ℕ) (armed : Bool) (command : Command) → command_under memory (header_for (request_of fields) table count) slot armed ≡ Some command
-    → request_at (cfis_at memory.structure table) ≡ Some (request_of fields) → Made fields table count command
+    → request_at (cfis_at memory.structure table) ≡ Some (request_of fields) → Made fields table count (cfis_at memory.structure table) command
 unfolding command_under
 made_under memory fields table count slot armed command h is =
     let total : Option ℕ = total_at memory.structure (length memory.client) table count in
@@ -122,7 +133,7 @@ readable memory command h =
 stood : (slot dev : ℕ) (prds : List Prd) (fields : H2dFields) (memory : Memory) (armed : Bool) (command : Command) → Standing slot dev prds fields memory → command_at memory 0 slot armed ≡ Some command → Stood slot prds fields memory command
 stood slot dev prds fields memory armed command s h =
     let under : command_under memory (header_for (request_of fields) (table_of slot) (length prds)) slot armed ≡ Some command = ap (λ x. command_under memory x slot armed) (sym s.header) ∙ h in
-    let m : Made fields (table_of slot) (length prds) command = made_under memory fields (table_of slot) (length prds) slot armed command under s.request_is in
+    let m : Made fields (table_of slot) (length prds) (cfis_at memory.structure (table_of slot)) command = made_under memory fields (table_of slot) (length prds) slot armed command under s.request_is in
     let r : Readable memory command = readable memory command (stands_readable memory 0 slot armed command h) in
     let here : prds_of memory command ≡ prds =
     ap (λ (k : ℕ). prds_at memory.structure (k + 128) command.count) m.table_is ∙ ap (λ (k : ℕ). prds_at memory.structure (table_of slot + 128) k) m.count_is ∙ s.entries in
@@ -130,6 +141,7 @@ stood slot dev prds fields memory armed command s h =
       place = record { table = m.table_is; few = r.few };
       entries = here;
       work = m.work_is;
+      cfis = subst (λ (f : List ℕ). IsBuilt H2d (h2d_given fields) f) (sym m.cfis_is) s.cfis;
       total = sym (ap total_of here) ∙ r.total;
       apart = sym (ap have_overlap here) ∙ r.apart;
     }
@@ -143,11 +155,11 @@ pub bit_other : (slot s : ℕ) → s ≢ slot → has_bit (2 ^ slot) s ≡ false
 bit_other slot s other = ap (λ (k : ℕ). k == 1) (bit_at-pow_other slot s other)
 
 -- one slot alone, and what stands there
-record Asked (port : Port) (memory : Memory) (slot s : ℕ) (command : Command) : Type 0 where
+pub record Asked (port : Port) (memory : Memory) (slot s : ℕ) (command : Command) : Type 0 where
   pub slot_is : s ≡ slot
   pub command_is : command_at memory port.registers.clb slot (has_bit port.registers.armed slot) ≡ Some command
 
-asked_is : (port : Port) (memory : Memory) (slot s : ℕ) (command : Command) → asked port.registers memory (2 ^ slot) s ≡ Some command → Asked port memory slot s command
+pub asked_is : (port : Port) (memory : Memory) (slot s : ℕ) (command : Command) → asked port.registers memory (2 ^ slot) s ≡ Some command → Asked port memory slot s command
 asked_is port memory slot s command h = elim (cases_eq s slot) [
   | inl same ↦
       let at : asked port.registers memory (2 ^ slot) slot ≡ Some command = subst (λ (k : ℕ). asked port.registers memory (2 ^ slot) k ≡ Some command) same h in
@@ -159,14 +171,14 @@ asked_is port memory slot s command h = elim (cases_eq s slot) [
 
 -- ---- whom the command is for
 
-own_when : (started test busy foreign : Bool) (e f : WriteError) (o : Option WriteError) → started ≡ true
+pub own_when : (started test busy foreign : Bool) (e f : WriteError) (o : Option WriteError) → started ≡ true
     → option_or (if not started && test then Some refusal.Stopped else None) (if started then (if busy then Some e else if foreign then Some f else o) else None) ≡ None → foreign ≡ false
 own_when true test true foreign e f o run h = cc
 own_when true test false true e f o run h = cc
 own_when true test false false e f o run h = refl
 own_when false test busy foreign e f o run h = absurd (false≢true run)
 
-started_when : (started is_zero : Bool) (o : Option WriteError) → is_zero ≡ false → option_or (if not started && not is_zero then Some refusal.Stopped else None) o ≡ None → started ≡ true
+pub started_when : (started is_zero : Bool) (o : Option WriteError) → is_zero ≡ false → option_or (if not started && not is_zero then Some refusal.Stopped else None) o ≡ None → started ≡ true
 started_when true is_zero o some h = refl
 started_when false true o some h = absurd (true≢false some)
 started_when false false o some h = cc
@@ -184,7 +196,7 @@ foreign_none port memory slot h =
     own_when port.registers.started (not (2 ^ slot == 0)) (any_slot (2 ^ slot) (is_busy port.slots)) (any_slot (2 ^ slot) (is_foreign port.registers memory.structure)) refusal.SlotBusy refusal.WrongDevice
     (if any_slot (2 ^ slot) (is_bad port.registers memory) then Some refusal.BadTable else None) run h
 
-not_some : (o : Option ℕ) → is_some o ≡ false → o ≡ None
+pub not_some : (o : Option ℕ) → is_some o ≡ false → o ≡ None
 not_some None h = refl
 not_some (Some k) h = absurd (true≢false h)
 
@@ -192,6 +204,72 @@ not_not : (a b : Bool) → a ≡ true → (a && not b) ≡ false → b ≡ true
 not_not true true h k = refl
 not_not true false h k = absurd (true≢false k)
 not_not false b h k = absurd (false≢true h)
+
+-- and nothing is issued in the slot
+busy_when : (started test busy foreign : Bool) (e f : WriteError) (o : Option WriteError) → started ≡ true
+    → option_or (if not started && test then Some refusal.Stopped else None) (if started then (if busy then Some e else if foreign then Some f else o) else None) ≡ None → busy ≡ false
+busy_when true test true foreign e f o run h = cc
+busy_when true test false foreign e f o run h = refl
+busy_when false test busy foreign e f o run h = absurd (false≢true run)
+
+busy_none : (port : Port) (memory : Memory) (slot : ℕ) → refusal_of Ci port memory (2 ^ slot) ≡ None → any_slot (2 ^ slot) (is_busy port.slots) ≡ false
+unfolding own_refusal slots_refusal
+busy_none port memory slot h =
+    let run : port.registers.started ≡ true = started_when port.registers.started (2 ^ slot == 0) (slots_refusal Ci port memory (2 ^ slot)) (not_zero slot) h in
+    busy_when port.registers.started (not (2 ^ slot == 0)) (any_slot (2 ^ slot) (is_busy port.slots)) (any_slot (2 ^ slot) (is_foreign port.registers memory.structure)) refusal.SlotBusy refusal.WrongDevice
+    (if any_slot (2 ^ slot) (is_bad port.registers memory) then Some refusal.BadTable else None) run h
+
+not_there : (a b : Bool) → a ≡ true → (a && b) ≡ false → b ≡ false
+not_there true b h k = k
+not_there false b h k = absurd (false≢true h)
+
+idle : (port : Port) (memory : Memory) (slot : ℕ) → slot < 32 → refusal_of Ci port memory (2 ^ slot) ≡ None → is_some (issue_at port.slots slot) ≡ false
+idle port memory slot below h =
+    let calm : (has_bit (2 ^ slot) slot && is_busy port.slots slot) ≡ false =
+    none_below (λ k. has_bit (2 ^ slot) k && is_busy port.slots k) 32 (not_some (lowest (λ k. has_bit (2 ^ slot) k && is_busy port.slots k)) (busy_none port memory slot h)) slot below in
+    not_there (has_bit (2 ^ slot) slot) (is_busy port.slots slot) (bit_same slot) calm
+
+-- and the command that stands in the slot can be read
+bad_when : (started test busy foreign bad : Bool) (e f g : WriteError) → started ≡ true
+    → option_or (if not started && test then Some refusal.Stopped else None) (if started then (if busy then Some e else if foreign then Some f else if bad then Some g else None) else None) ≡ None → bad ≡ false
+bad_when true test true foreign bad e f g run h = cc
+bad_when true test false true bad e f g run h = cc
+bad_when true test false false true e f g run h = cc
+bad_when true test false false false e f g run h = refl
+bad_when false test busy foreign bad e f g run h = absurd (false≢true run)
+
+bad_none : (port : Port) (memory : Memory) (slot : ℕ) → refusal_of Ci port memory (2 ^ slot) ≡ None → any_slot (2 ^ slot) (is_bad port.registers memory) ≡ false
+unfolding own_refusal slots_refusal
+bad_none port memory slot h =
+    let run : port.registers.started ≡ true = started_when port.registers.started (2 ^ slot == 0) (slots_refusal Ci port memory (2 ^ slot)) (not_zero slot) h in
+    bad_when port.registers.started (not (2 ^ slot == 0)) (any_slot (2 ^ slot) (is_busy port.slots)) (any_slot (2 ^ slot) (is_foreign port.registers memory.structure))
+    (any_slot (2 ^ slot) (is_bad port.registers memory)) refusal.SlotBusy refusal.WrongDevice refusal.BadTable run h
+
+some_not : {A : Type 0} (o : Option A) → is_none o ≡ false → is_some o ≡ true
+some_not None h = absurd (true≢false h)
+some_not (Some x) h = refl
+
+pub asks_here : (port : Port) (memory : Memory) (slot : ℕ) → slot < 32 → refusal_of Ci port memory (2 ^ slot) ≡ None → is_some (asked port.registers memory (2 ^ slot) slot) ≡ true
+asks_here port memory slot below h =
+    let calm : (has_bit (2 ^ slot) slot && is_bad port.registers memory slot) ≡ false =
+    none_below (λ k. has_bit (2 ^ slot) k && is_bad port.registers memory k) 32 (not_some (lowest (λ k. has_bit (2 ^ slot) k && is_bad port.registers memory k)) (bad_none port memory slot h)) slot below in
+    let there : is_some (command_at memory port.registers.clb slot (has_bit port.registers.armed slot)) ≡ true =
+    some_not (command_at memory port.registers.clb slot (has_bit port.registers.armed slot)) (not_there (has_bit (2 ^ slot) slot) (is_bad port.registers memory slot) (bit_same slot) calm) in
+    ap (λ (b : Bool). is_some (if b then command_at memory port.registers.clb slot (has_bit port.registers.armed slot) else None)) (bit_same slot) ∙ there
+
+-- what the history of a device issues is issued at the port
+told_there : (a : event.Host) (past : Touches) → AreHistoriesOf a past → (n s : ℕ) (t : Transfer) → n < 16 → issued s (own n past) ≡ Some t → is_some (issue_at a.port.slots s) ≡ true
+told_there a past told n s t below here = by_issue (own_issue (slots_of n a.port.slots) s) refl
+  where
+    by_issue : (o : Option Issue) → own_issue (slots_of n a.port.slots) s ≡ o → is_some (issue_at a.port.slots s) ≡ true
+    by_issue None e =
+        let bad : Some t.work ≡ None = sym (ap (option_map work_of_transfer) here) ∙ (told n below).issued s ∙ ap (option_map work_of_issue) e in cc
+    by_issue (Some i) e = ap is_some (own_in n s a.port.slots i e).1
+
+-- the PM Port of a built FIS
+low_bits : (port : ℕ) → cut (places H2d PmPort) port ≡ port % 16
+unfolding cut places
+low_bits port = omega arith
 
 -- the device that PxFBS.DEV names is that of the header
 chosen_is : (port : Port) (memory : Memory) (slot : ℕ) → slot < 32 → refusal_of Ci port memory (2 ^ slot) ≡ None → (header_at memory.structure port.registers.clb slot).pmp ≡ port.registers.chosen
@@ -202,7 +280,7 @@ chosen_is port memory slot below h =
 
 -- ---- what is issued after it
 
-abbrev New : Memory → (ℕ → Option Command) → ℕ → Transfer → Type 0
+abbrev pub New : Memory → (ℕ → Option Command) → ℕ → Transfer → Type 0
 New memory commands s t = (command : Command) × (commands s ≡ Some command) × (transfer_of memory command ≡ t)
 
 below_case : (memory : Memory) (commands : ℕ → Option Command) (h later : History) (m s : ℕ) (t : Transfer) → (issued s later ≡ Some t → New memory commands s t ⊎ (issued s h ≡ Some t)) → (o : Option Command) → commands m ≡ o
@@ -219,7 +297,7 @@ below_cases memory commands h zero s t e = inr e
 below_cases memory commands h (suc m) s t e = below_case memory commands h (history_below memory commands h m) m s t (below_cases memory commands h m s t) (commands m) refl e
 
 -- in the history of one device
-issued_cases : (dev n : ℕ) (memory : Memory) (commands : ℕ → Option Command) (past : Touches) (s : ℕ) (t : Transfer) → issued s (own n (issued_below dev memory commands 32 ++ past)) ≡ Some t
+pub issued_cases : (dev n : ℕ) (memory : Memory) (commands : ℕ → Option Command) (past : Touches) (s : ℕ) (t : Transfer) → issued s (own n (issued_below dev memory commands 32 ++ past)) ≡ Some t
     → ((dev ≡ n) × New memory commands s t) ⊎ (issued s (own n past) ≡ Some t)
 issued_cases dev n memory commands past s t at = elim (cases_eq dev n) [
   | inl same ↦
@@ -263,9 +341,15 @@ or_cases (Some x) p a h = inl h
 abbrev pub From : Driver → (n s : ℕ) → Transfer → Type 0
 From d n s t = IsRequest d n s t ⊎ (IsStep d n s t ⊎ IsOrdered d n s t)
 
+-- the fields are those of the request in the slot, or of the path that has slot 30
+pub record AreFields (d : Driver) (slot : ℕ) (fields : H2dFields) : Type 0 where
+  pub of_request : (e : Entry) → slot < 30 → entry_at d.entries slot ≡ Some e → request_fields slot e.head ≡ fields
+  pub of_step : (path : Path) (given : H2dFields) → slot ≡ 30 → d.plan.path ≡ Some path → path.asked ≡ true → stage_fields path.dev path.stage ≡ Some given → given ≡ fields
+
 -- what stands in the slot may be issued
-abbrev pub MayIssue : Driver → (slot dev : ℕ) → List Prd → H2dFields → Type 0
-MayIssue d slot dev prds fields = (t : Transfer) → t.table ≡ prds → t.work ≡ work_of (request_of fields) → From d dev slot t
+pub record MayIssue (d : Driver) (slot dev : ℕ) (prds : List Prd) (fields : H2dFields) : Type 0 where
+  pub from : (t : Transfer) → t.table ≡ prds → t.work ≡ work_of (request_of fields) → From d dev slot t
+  pub are : AreFields d slot fields
 
 pmp_is : (structure : List ℕ) (clb slot table count dev : ℕ) (fields : H2dFields) → clb ≡ 0 → header_at structure 0 slot ≡ header_for (request_of fields) table count → (request_of fields).pm_port ≡ dev
     → (header_at structure clb slot).pmp ≡ dev
@@ -292,7 +376,7 @@ module _ (d : Driver) (a b : event.Host) (past : Touches) (slot dev : ℕ) (prds
       let is_dev : dev ≡ n = sym for_dev ∙ chosen in
       let table : t.table ≡ prds = sym (ap (λ (x : Transfer). x.table) new.2) ∙ it.1.entries in
       let work : t.work ≡ new.0.work = sym (ap (λ (x : Transfer). x.work) new.2) in
-      let from : From d dev slot t = may t table (work ∙ it.1.work) in
+      let from : From d dev slot t = may.from t table (work ∙ it.1.work) in
       record {
         dev = subst (λ (k : ℕ). k < 16) is_dev dev_below;
         from = subst (λ (k : ℕ). From d n k t) (sym it.0) (subst (λ (k : ℕ). From d k slot t) is_dev from);
@@ -304,6 +388,46 @@ module _ (d : Driver) (a b : event.Host) (past : Touches) (slot dev : ℕ) (prds
   issues_then n s t at = elim (issued_cases a.port.registers.chosen n a.memory (asked a.port.registers a.memory (2 ^ slot)) past s t at) [
     | inl new ↦ fresh n s t new.0 new.1
     | inr old ↦ served.issues n s t old
+  ]
+
+  -- what is asked for is not issued yet
+  not_yet : (n s : ℕ) (t : Transfer) (command : Command) → issued s (own n past) ≡ Some t → asked a.port.registers a.memory (2 ^ slot) s ≡ Some command → ⊥
+  not_yet n s t command old new =
+      let it = found s command new in
+      let busy : is_some (issue_at a.port.slots slot) ≡ true = subst (λ (k : ℕ). is_some (issue_at a.port.slots k) ≡ true) it.0 (told_there a past served.told n s t (served.issues n s t old).dev old) in
+      false≢true (sym (idle a.port a.memory slot below does.0) ∙ busy)
+
+  -- the command that stood in the slot is that of its fields
+  fis_fresh : (n s : ℕ) (t : Transfer) (command : Command) → a.port.registers.chosen ≡ n → asked a.port.registers a.memory (2 ^ slot) s ≡ Some command → transfer_of a.memory command ≡ t → IsFisOf d n s t command
+  fis_fresh n s t command chosen new is =
+      let it = found s command new in
+      let work : t.work ≡ work_of (request_of fields) = sym (ap (λ (x : Transfer). x.work) is) ∙ it.1.work in
+      let built : IsBuiltOf fields t command = record { cfis = it.1.cfis; work = work } in
+      record {
+        to_dev = it.1.cfis.fields PmPort ∙ low_bits fields.pm_port ∙ stands.to_dev ∙ sym for_dev ∙ chosen;
+        of_request = λ e low here.
+            let same : request_fields slot e.head ≡ fields = may.are.of_request e (subst (λ (k : ℕ). k < 30) it.0 low) (subst (λ (k : ℕ). entry_at d.entries k ≡ Some e) it.0 here) in
+            subst (λ (k : ℕ). IsBuiltOf (request_fields k e.head) t command) (sym it.0) (subst (λ (f : H2dFields). IsBuiltOf f t command) (sym same) built);
+        of_step = λ path given at_step here out given_is.
+            let same : given ≡ fields = may.are.of_step path given (sym it.0 ∙ at_step) here out given_is in
+            subst (λ (f : H2dFields). IsBuiltOf f t command) (sym same) built;
+      }
+
+  later_of : (s : ℕ) (command : Command) → last_command b.port.commands s ≡ Some command → option_or (asked a.port.registers a.memory (2 ^ slot) s) (last_command a.port.commands s) ≡ Some command
+  unfolding commands_after
+  later_of s command is =
+      let later : last_command (commands_with (asked a.port.registers a.memory (2 ^ slot)) a.port.commands) s ≡ Some command = sym (ap (λ c. last_command c s) does.1.commands) ∙ is in
+      command_then (asked a.port.registers a.memory (2 ^ slot)) s a.port.commands command later
+
+  fises_then : (n s : ℕ) (t : Transfer) (command : Command) → issued s (own n (touched a (event.Wrote Ci (2 ^ slot)) ++ past)) ≡ Some t → last_command b.port.commands s ≡ Some command → IsFisOf d n s t command
+  fises_then n s t command at is = elim (issued_cases a.port.registers.chosen n a.memory (asked a.port.registers a.memory (2 ^ slot)) past s t at) [
+    | inl new ↦
+        let same : new.1.0 ≡ command = some_inj new.1.0 command (sym (ap (λ o. option_or o (last_command a.port.commands s)) new.1.1) ∙ later_of s command is) in
+        subst (λ (c : Command). IsFisOf d n s t c) same (fis_fresh n s t new.1.0 new.0 new.1.1 new.1.2)
+    | inr old ↦ elim (or_cases (asked a.port.registers a.memory (2 ^ slot) s) (last_command a.port.commands s) command (later_of s command is)) [
+      | inl new ↦ absurd (not_yet n s t command old new)
+      | inr last ↦ served.fises n s t command old last
+    ]
   ]
 
   tables_then : (s : ℕ) (command : Command) → last_command b.port.commands s ≡ Some command → HasItsTable s command
@@ -321,5 +445,6 @@ module _ (d : Driver) (a b : event.Host) (past : Touches) (slot dev : ℕ) (prds
     bounded = served.bounded;
     commands = subst (HaveCommands d) (sym does.2) served.commands;
     issues = issues_then;
+    fises = fises_then;
     tables = tables_then;
   }

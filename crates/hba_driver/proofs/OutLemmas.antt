@@ -314,12 +314,12 @@ kept_write (Some register) offset value old new memory dev s i at calm below tri
 -- ---- effects
 
 -- a write after which what is issued stands: ST does not fall, and no device is cleared
-abbrev lasting : Option Register → ℕ → Bool
+abbrev pub lasting : Option Register → ℕ → Bool
 lasting (Some Cmd) value = has_bit value 0
 lasting (Some Fbs) value = not (has_bit value dec)
 lasting o value = true
 
-abbrev lasting_effect : Effect → Bool
+abbrev pub lasting_effect : Effect → Bool
 lasting_effect (effect.Writes offset value) = lasting (register_at offset) value
 lasting_effect e = true
 
@@ -357,7 +357,7 @@ kept_effect (effect.Flushes n) old new before after dev s i calm other below act
 kept_effect (effect.Empties n) old new before after dev s i calm other below acts table here = subst (λ (p : Port). IsIssuedAt p dev s i) (sym acts.0) here
 kept_effect (effect.Commands slot fields buffer) old new before after dev s i calm other below acts table here = subst (λ (p : Port). IsIssuedAt p dev s i) (sym acts.0) here
 
-kept_effects : (es : List Effect) (old new : Port) (before after : Memory) (dev s : ℕ) (i : Issue) → list_all lasting_effect es ≡ true → list_any (flushes dev) es ≡ false → dev < 16 → ActsAll es old before new after
+pub kept_effects : (es : List Effect) (old new : Port) (before after : Memory) (dev s : ℕ) (i : Issue) → list_all lasting_effect es ≡ true → list_any (flushes dev) es ≡ false → dev < 16 → ActsAll es old before new after
     → IsTable old.slots → IsIssuedAt old dev s i → IsIssuedAt new dev s i
 unfolding ActsAll
 kept_effects [] old new before after dev s i calm other below acts table here = subst (λ (p : Port). IsIssuedAt p dev s i) (sym acts.0) here
@@ -393,7 +393,7 @@ lasting_restart : (k : ℕ) → lasting_effect (restart_write k) ≡ true
 unfolding restart_write register_at
 lasting_restart k = all_at lasting_effect restart_writes k _ refl refl
 
-lasting_act : (a : Option Act) → is_calm a ≡ true → ((k : ℕ) → a ≡ Some (act.Opens k) → ⊥) → list_all lasting_effect (effects_due a) ≡ true
+pub lasting_act : (a : Option Act) → is_calm a ≡ true → ((k : ℕ) → a ≡ Some (act.Opens k) → ⊥) → list_all lasting_effect (effects_due a) ≡ true
 unfolding effects_of
 lasting_act None calm opens = refl
 lasting_act (Some (act.Opens k)) calm opens = absurd (opens k refl)
@@ -406,21 +406,25 @@ lasting_act (Some (act.Issues slot dev queued)) calm opens = lasting_issuing slo
 
 -- ---- another device is cleared
 
-out_clear : (old new : Port) (before after : Memory) (slot dev k : ℕ) → dev < 16 → dev ≢ k → MayClear k old → IsTable old.slots → ActsAll (clearing k) old before new after → HasOut old slot dev → HasOut new slot dev
+pub kept_clear : (old new : Port) (before after : Memory) (slot dev k : ℕ) (i : Issue) → dev < 16 → dev ≢ k → MayClear k old → IsTable old.slots → ActsAll (clearing k) old before new after → IsIssuedAt old dev slot i → IsIssuedAt new dev slot i
 unfolding ActsAll register_at view_after
-out_clear old new before after slot dev k below other may table acts h =
+kept_clear old new before after slot dev k i below other may table acts here =
     let value : ℕ = 256 * k + 3 in
     let next : MayClear k acts.0 = may_then k 1224736768 old acts.0 before (is_accepted 1224736768 old acts.0 before acts.1 acts.2) may in
-    let first : IsIssuedAt acts.0 dev slot h.issue = kept_write (register_at px_is) px_is 1224736768 old acts.0 before dev slot h.issue refl tt below acts.2.0 table h.is in
-    let second : IsIssuedAt acts.4.0 dev slot h.issue = elim (tried_at Fbs px_fbs value acts.0 acts.1 acts.4.0 refl acts.4.2.0) [
+    let first : IsIssuedAt acts.0 dev slot i = kept_write (register_at px_is) px_is 1224736768 old acts.0 before dev slot i refl tt below acts.2.0 table here in
+    let second : IsIssuedAt acts.4.0 dev slot i = elim (tried_at Fbs px_fbs value acts.0 acts.1 acts.4.0 refl acts.4.2.0) [
       | inl taken ↦
           ap (λ (v : DeviceView). own_issue v.slots slot)
           (taken.accepts.views dev below ∙ ap (λ (o : Option ℕ). view_cleared dev o (view_of dev acts.0)) (only_cleared k acts.0.errors next.faulty)
           ∙ ap (λ (b : Bool). if b then stopped_view (view_of dev acts.0) else view_of dev acts.0) (ne_eqb k dev (λ same. other (sym same))))
           ∙ first
-      | inr refused ↦ subst (λ (p : Port). IsIssuedAt p dev slot h.issue) (sym refused.stays) first
+      | inr refused ↦ subst (λ (p : Port). IsIssuedAt p dev slot i) (sym refused.stays) first
     ] in
-    record { issue = h.issue; is = subst (λ (p : Port). IsIssuedAt p dev slot h.issue) (sym acts.4.4.0) second; pio = h.pio; control = h.control }
+    subst (λ (p : Port). IsIssuedAt p dev slot i) (sym acts.4.4.0) second
+
+out_clear : (old new : Port) (before after : Memory) (slot dev k : ℕ) → dev < 16 → dev ≢ k → MayClear k old → IsTable old.slots → ActsAll (clearing k) old before new after → HasOut old slot dev → HasOut new slot dev
+out_clear old new before after slot dev k below other may table acts h =
+    record { issue = h.issue; is = kept_clear old new before after slot dev k h.issue below other may table acts h.is; pio = h.pio; control = h.control }
 
 -- ---- each act, but one that stops the port
 
@@ -443,7 +447,7 @@ out_act (Some (act.Issues s n queued)) old new before after slot dev below may s
 
 -- ---- a write that opens the port
 
-abbrev clears_none : Option Register → ℕ → Bool
+abbrev pub clears_none : Option Register → ℕ → Bool
 clears_none (Some Fbs) value = not (has_bit value dec)
 clears_none o value = true
 
@@ -465,17 +469,17 @@ stopped_fall (Some Sntf) r value h none = tt
 stopped_fall (Some Fbs) r value h none = none
 
 -- a write that clears no device
-abbrev is_write : Effect → Bool
+abbrev pub is_write : Effect → Bool
 is_write (effect.Writes offset value) = clears_none (register_at offset) value
 is_write (effect.Flushes dev) = false
 is_write (effect.Empties dev) = false
 is_write (effect.Commands slot fields buffer) = false
 
-opening_is : (k : ℕ) → is_write (opening_write k) ≡ true
+pub opening_is : (k : ℕ) → is_write (opening_write k) ≡ true
 unfolding opening_write register_at
 opening_is k = all_at is_write opening_writes k _ refl refl
 
-kept_stopped : (e : Effect) (old new : Port) (before after : Memory) (dev s : ℕ) (i : Issue) → is_write e ≡ true → old.registers.started ≡ false → dev < 16 → Acts e old before new after → IsTable old.slots
+pub kept_stopped : (e : Effect) (old new : Port) (before after : Memory) (dev s : ℕ) (i : Issue) → is_write e ≡ true → old.registers.started ≡ false → dev < 16 → Acts e old before new after → IsTable old.slots
     → IsIssuedAt old dev s i → IsIssuedAt new dev s i
 kept_stopped (effect.Writes offset value) old new before after dev s i is stopped below acts table here =
     kept_write (register_at offset) offset value old new before dev s i refl (stopped_fall (register_at offset) old.registers value stopped is) below acts.0 table here

@@ -97,7 +97,7 @@ clears dev (Detect port) h = absurd (false≢true h)
 clears dev Watch h = absurd (false≢true h)
 clears dev NoMultiplier h = absurd (false≢true h)
 
-act_clears : (dev : ℕ) (a : Option Act) → list_any (flushes dev) (effects_due a) ≡ true → a ≡ Some (act.Orders (Clear dev))
+pub act_clears : (dev : ℕ) (a : Option Act) → list_any (flushes dev) (effects_due a) ≡ true → a ≡ Some (act.Orders (Clear dev))
 unfolding effects_of
 act_clears dev None h = absurd (false≢true h)
 act_clears dev (Some (act.Opens k)) h = absurd (false≢true (sym (opens_none dev k) ∙ h))
@@ -114,7 +114,7 @@ unfolding after_tick
 tick_of v file d a is = ap (λ (x : Option Act). acted x file (seen v d)) is
 
 -- so the tick is that of the port's scan
-cleared : (v : Sight) (file : TaskFile) (d : Driver) (dev : ℕ) → list_any (flushes dev) (effects v d) ≡ true → after_tick v file d ≡ acted (Some (act.Orders (Clear dev))) file (seen v d)
+pub cleared : (v : Sight) (file : TaskFile) (d : Driver) (dev : ℕ) → list_any (flushes dev) (effects v d) ≡ true → after_tick v file d ≡ acted (Some (act.Orders (Clear dev))) file (seen v d)
 cleared v file d dev h = tick_of v file d (act.Orders (Clear dev)) (act_clears dev (due v d) h)
 
 absent_set : (devices : List Device) (dev : ℕ) → get_or (set devices dev Absent) dev Absent ≡ Absent

@@ -1,6 +1,6 @@
 -- Each turn leaves it so that all that is issued is the driver's, and serves what is issued.
 use Rattle.std.proofs.Common.{◌≡◌, ℕ, ◌+◌, ◌<◌, ◌≤◌, Bool, true, false, ◌&&◌, ◌||◌, List, [], ◌∷◌, ◌++◌, length, replicate, set, refl, sym, ◌∙◌, ap, subst, inl, inr, arith, Option, Some, None}
-use Rattle.std.specs.Prelude.{if◌then◌else◌, ◌==◌, ◌%◌, is_some, max, min, not, nat_lt}
+use Rattle.std.specs.Prelude.{if◌then◌else◌, ◌==◌, ◌%◌, is_some, max, min, not, nat_le, nat_lt}
 use Rattle.std.specs.List.{list_any}
 use Rattle.std.proofs.lemmas.Bool.{cases_Bool, cases_eq, cases_lt, false≢true, le-ltb, or_parts, true≢false}
 use Rattle.std.proofs.lemmas.Bool.Decides.{nat_tests}
@@ -34,6 +34,8 @@ use Rattle.hba_driver.specs.declared.request.Outcome.TheVariants.{Done}
 use Rattle.hba_driver.specs.declared.request.Request.{Request}
 use Rattle.hba_driver.specs.declared.request.SubmitError.{SubmitError}
 use Rattle.hba_driver.specs.declared.request.SubmitError.TheVariants as refusal
+use Rattle.hba_driver.specs.declared.request.Work.{Work}
+use Rattle.hba_driver.specs.declared.request.Work.TheVariants as work
 use Rattle.hba_driver.specs.declared.sight.Sight.{Sight}
 use Rattle.hba_driver.specs.declared.slot.Phase.{Phase}
 use Rattle.hba_driver.specs.declared.slot.Phase.TheVariants.{Waits, Issued, Aside, Ended}
@@ -42,10 +44,11 @@ use Rattle.hba_driver.specs.Drivers.{Driver, Entry, device_at, entry_at, has_end
 use Rattle.hba_driver.specs.Effects.{buffer_prd, table_of}
 use Rattle.hba_driver.specs.Events.{IsSoundHost, events_of, events_over, opening_host, shared_by}
 use Rattle.hba_driver.specs.HostTurns.{Does, DoesAll, Host, HostTurn, Took, Pushed, Ticked, Submitted, Polled, Put, sight_in}
-use Rattle.hba_driver.specs.Requests.{device_refusal, is_bad_prd}
-use Rattle.hba_driver.specs.Served.{AreBounded, HasCommand, HaveCommands, IsBounded, IsIssueOf, IsServed, RunServes, TurnsServe}
+use Rattle.hba_driver.specs.Orders.{is_flush, is_queued}
+use Rattle.hba_driver.specs.Requests.{device_refusal, is_bad_count, is_bad_prd}
+use Rattle.hba_driver.specs.Served.{AreBounded, HasCommand, HaveCommands, HasSize, IsBounded, IsFisOf, IsIssueOf, IsServed, RunServes, TurnsServe}
 use Rattle.hba_driver.specs.Sights.{file_shown, sight_of}
-use Rattle.hba_driver.specs.Submits.{after_submit, end_of, lowest_ended, new_entry, next_slot, submit_refusal}
+use Rattle.hba_driver.specs.Submits.{after_submit, end_of, lowest_ended, new_entry, new_head, next_slot, submit_refusal}
 use Rattle.hba_driver.specs.Ticks.{after_tick, done_ended, is_done, seen, turn}
 use Rattle.hba_driver.proofs.ApartLemmas.{issues_apart, kept_device, puts_spare}
 use Rattle.hba_driver.proofs.DoneLemmas.{free_slot}
@@ -98,6 +101,7 @@ module _ (port : Port) (memory : Memory) (d : Driver) (past : Touches) (host : s
     devices = (goes_turn (sight_of port memory) d.plan (done_ended (sight_of port memory).issued d.entries)).devices;
     slots = slots_seen (sight_of port memory) d;
     path = (goes_turn (sight_of port memory) d.plan (done_ended (sight_of port memory).issued d.entries)).low;
+    asked = λ x here a. inl ((goes_turn (sight_of port memory) d.plan (done_ended (sight_of port memory).issued d.entries)).back x here a);
     entries = λ s f here.
         let b = back_of (entry_at d.entries s) (entry_at (seen (sight_of port memory) d).entries s) (keeps_seen (sight_of port memory) d s) f here in
         (b.0, b.1, b.2.same);
@@ -213,11 +217,26 @@ past_all end (prd ∷ prds) h =
     let p = or_parts (is_bad_prd end prd) (list_any (is_bad_prd end) prds) h in
     rw (past_buffer end prd p.0, past_all end prds p.1) refl
 
+-- a read or a write whose count is not refused
+count_good : (s l : ℕ) → ((s == 0) || nat_lt 256 s || nat_le 281474976710656 l) ≡ false → (0 < s) × ((s ≤ 256) × (l < 281474976710656))
+count_good s l h = (grind (arith, nat_tests), (grind (arith, nat_tests), grind (arith, nat_tests)))
+
+sized : (w : Work) (s l : ℕ) → (if is_flush w then not (s == 0) else (s == 0) || nat_lt 256 s || nat_le 281474976710656 l) ≡ false → is_queued w ≡ true → (0 < s) × ((s ≤ 256) × (l < 281474976710656))
+sized work.Read s l h q = count_good s l h
+sized work.Write s l h q = count_good s l h
+sized work.Flush s l h q = absurd (false≢true q)
+
+sized_request : (request : Request) (ticket dev : ℕ) → is_bad_count request ≡ false → is_queued request.work ≡ true → HasSize (new_head ticket dev request)
+sized_request request ticket dev h q =
+    let is = sized request.work request.sectors request.lba h q in
+    record { some = is.0; most = is.1.0; place = is.1.1 }
+
 new_bounded : (d : Driver) (memory : Memory) (dev : ℕ) (request : Request) (ticket : ℕ) → length d.plan.devices ≡ 15 → submit_refusal d memory dev request ≡ None → IsBounded (new_entry ticket dev request)
 new_bounded d memory dev request ticket long h =
     let taken = is_taken d memory dev request h in
     record {
       dev = device_there d memory dev request long h;
+      size = sized_request request ticket dev taken.counted;
       few = taken.few;
       beyond = ap (λ (b : Bool). b || false) (past_all (end_of memory) request.prds.items taken.good);
     }
@@ -248,7 +267,7 @@ submit_served old dev request ticket new past h served = record {
   commands = λ s f here. elim (set_cases old.driver.entries (next_slot old.driver) (Some (new_entry (old.driver.given + 1) dev request)) s f here) [
     | inl at ↦
         let w = h.taken.command in
-        let mine : HasCommand (next_slot old.driver) (new_entry ticket dev request) new.memory = record { header = w.header; request = w.request; entries = w.entries } in
+        let mine : HasCommand (next_slot old.driver) (new_entry ticket dev request) new.memory = record { header = w.header; request = w.request; cfis = w.cfis; entries = w.entries } in
         let named : HasCommand (next_slot old.driver) (new_entry (old.driver.given + 1) dev request) new.memory = subst (λ (k : ℕ). HasCommand (next_slot old.driver) (new_entry k dev request) new.memory) h.taken.next mine in
         subst (λ (k : ℕ). HasCommand k f new.memory) (sym at.0) (subst (λ (x : Entry). HasCommand (next_slot old.driver) x new.memory) (some_same (new_entry (old.driver.given + 1) dev request) f at.1) named)
     | inr beside ↦ served.commands s f beside.1
@@ -256,6 +275,16 @@ submit_served old dev request ticket new past h served = record {
   issues = λ n s t here.
       let i = served.issues n s t here in
       record { dev = i.dev; from = submit_moves old.driver old.memory dev request h.accepted n s t i.from; total = i.total; apart = i.apart };
+  fises = λ n s t command here is.
+      let f = served.fises n s t command here is in
+      record {
+        to_dev = f.to_dev;
+        of_request = λ x low there. elim (set_cases old.driver.entries (next_slot old.driver) (Some (new_entry (old.driver.given + 1) dev request)) s x there) [
+          | inl at ↦ absurd (free_next old.driver old.memory dev request h.accepted n t (subst (λ (k : ℕ). From old.driver n k t) at.0 (served.issues n s t here).from))
+          | inr beside ↦ f.of_request x low beside.1
+        ];
+        of_step = f.of_step;
+      };
   tables = served.tables;
 }
 
@@ -278,6 +307,7 @@ module _ (d : Driver) (c : Completion) (f : PollFacts d c) where
   poll_follows = record {
     devices = refl;
     path = λ h. h;
+    asked = λ x here a. inl here;
     slots = length-set d.entries f.place None;
     entries = λ s x here. elim (set_cases d.entries f.place None s x here) [
       | inl at ↦ none_some x at.1
@@ -398,12 +428,16 @@ no_command s command h = elim (cases_lt s 32) [
 none_issued : (d : Driver) (n s : ℕ) (t : Transfer) → None ≡ Some t → IsIssueOf d n s t
 none_issued d n s t h = cc
 
+none_fis : (d : Driver) (n s : ℕ) (t : Transfer) (command : Command) → None ≡ Some t → IsFisOf d n s t command
+none_fis d n s t command h = cc
+
 opens : (given len : ℕ) → is_memory_size len ≡ true → IsServed (new_driver given) (shared_by (opening_host given len)) []
 opens given len h = record {
   told = λ n below. opens_untold n (shared_by (opening_host given len)).memory;
   bounded = record { devices = length-replicate {A = Device} 15 Absent; path = tt; slots = length-replicate {A = Option Entry} 30 None; entries = λ s e here. none_here s e here };
   commands = λ s e here. none_here s e here;
   issues = λ n s t here. none_issued (new_driver given) n s t here;
+  fises = λ n s t command here is. none_fis (new_driver given) n s t command here;
   tables = λ s command is. no_command s command is;
 }
 

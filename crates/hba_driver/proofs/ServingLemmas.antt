@@ -1,5 +1,5 @@
 -- What each effect of a tick leaves of it that all that is issued is the driver's.
-use Rattle.std.proofs.Common.{◌≡◌, ◌≢◌, ℕ, ◌+◌, ◌*◌, ◌^◌, ◌<◌, Bool, true, false, cond, List, [], ◌∷◌, ◌++◌, length, replicate, refl, sym, ◌∙◌, ap, subst, inl, inr, arith, append_assoc, Option, Some, None}
+use Rattle.std.proofs.Common.{◌≡◌, ◌≢◌, ℕ, ◌+◌, ◌*◌, ◌^◌, ◌<◌, ◌⊎◌, Bool, true, false, cond, List, [], ◌∷◌, ◌++◌, length, replicate, refl, sym, ◌∙◌, ap, subst, inl, inr, arith, append_assoc, Option, Some, None}
 use Rattle.std.specs.Prelude.{MatchOption, is_some}
 use Rattle.std.proofs.lemmas.Bool.{cases_lt, eq-eqb, true≢false}
 use Rattle.std.proofs.lemmas.List.{length-replicate}
@@ -7,6 +7,7 @@ use Rattle.host_memory.specs.Memory.{IsHostMemory, Memory}
 use Rattle.host_memory.specs.Reading.{LieApart}
 use Rattle.host_memory.specs.declared.table.Prd.{Prd}
 use Rattle.hba_commands.specs.Headers.{header_place}
+use Rattle.hba_commands.specs.declared.command.Command.{Command}
 use Rattle.slots.specs.Slots.{Issue, issue_at, match_some}
 use Rattle.fis_view.specs.declared.build.H2dFields.{H2dFields}
 use Rattle.hba_fbs.specs.declared.error.WriteError.{WriteError}
@@ -33,7 +34,7 @@ use Rattle.hba_driver.specs.Drivers.{Driver, Entry, IsPath, entry_at, is_issued,
 use Rattle.hba_driver.specs.Effects.{Acts, Tries, is_effect, prds_with, table_of}
 use Rattle.hba_driver.specs.Events.{events_of_effect, wrote_to}
 use Rattle.hba_driver.specs.Orders.{request_fields}
-use Rattle.hba_driver.specs.Served.{AreBounded, HasCommand, HaveCommands, IsBounded, IsServed}
+use Rattle.hba_driver.specs.Served.{AreBounded, HasCommand, HaveCommands, IsBounded, IsBuiltOf, IsFisOf, IsServed}
 use Rattle.hba_driver.proofs.DrivenLemmas.{refusal_is}
 use Rattle.hba_driver.proofs.EventLemmas.{beside, beside_area, beside_same, does_store}
 use Rattle.hba_driver.proofs.IssueLemmas.{Rest, calm_event, command_stays, rest_then, spares_by, told_of}
@@ -42,11 +43,17 @@ use Rattle.hba_driver.proofs.StandLemmas.{Same, few_prds, header_area, in_slots,
 
 -- ---- the driver goes on
 
+-- slot 30 has no command out
+abbrev pub IsNoStep : Driver → Type 0
+IsNoStep d = (x : Path) → d.plan.path ≡ Some x → x.asked ≡ true → ⊥
+
 -- of each request only the phase may be another
 pub record Follows (d e : Driver) : Type 0 where
   pub devices : length e.plan.devices ≡ length d.plan.devices
   pub slots : length e.entries ≡ length d.entries
   pub path : IsPath d.plan.path → IsPath e.plan.path
+  -- a path whose command is out was there before, or slot 30 was free
+  pub asked : (x : Path) → e.plan.path ≡ Some x → x.asked ≡ true → (d.plan.path ≡ Some x) ⊎ IsNoStep d
   pub entries : (s : ℕ) (f : Entry) → entry_at e.entries s ≡ Some f → (x : Entry) × (entry_at d.entries s ≡ Some x) × (f ≡ rephased f.head.phase x)
 
 bounded_follows : (d e : Driver) → Follows d e → AreBounded d → AreBounded e
@@ -57,13 +64,36 @@ bounded_follows d e h b = record {
   entries = λ s f here.
       let was = h.entries s f here in
       let x : IsBounded was.0 = b.entries s was.0 was.1 in
-      let y : IsBounded (rephased f.head.phase was.0) = record { dev = x.dev; few = x.few; beyond = x.beyond } in
+      let y : IsBounded (rephased f.head.phase was.0) = record { dev = x.dev; size = λ q. let z = x.size q in record { some = z.some; most = z.most; place = z.place }; few = x.few; beyond = x.beyond } in
       subst IsBounded (sym was.2) y;
 }
 
 command_rephased : (phase : Rattle.hba_driver.specs.declared.slot.Phase.Phase) (s : ℕ) (x : Entry) (m : Memory) → HasCommand s x m → HasCommand s (rephased phase x) m
 unfolding request_fields
-command_rephased phase s x m h = record { header = h.header; request = h.request; entries = h.entries }
+command_rephased phase s x m h = record { header = h.header; request = h.request; cfis = h.cfis; entries = h.entries }
+
+built_rephased : (phase : Rattle.hba_driver.specs.declared.slot.Phase.Phase) (s : ℕ) (x : Entry) (t : Transfer) (command : Command) → IsBuiltOf (request_fields s x.head) t command
+    → IsBuiltOf (request_fields s (rephased phase x).head) t command
+unfolding request_fields
+built_rephased phase s x t command h = record { cfis = h.cfis; work = h.work }
+
+-- what goes out of slot 30 is the path's, so that was there before
+step_stays : (d : Driver) (n s : ℕ) (t : Transfer) → IsNoStep d → s ≡ 30 → From d n s t → ⊥
+step_stays d n s t none is (inl r) = absurd (omega (arith, is, r.slot))
+step_stays d n s t none is (inr (inl i)) = none i.path i.goes i.asked
+step_stays d n s t none is (inr (inr o)) = absurd (omega (arith, is, o.slot))
+
+fis_moves : (d e : Driver) (n s : ℕ) (t : Transfer) (command : Command) → Follows d e → From d n s t → IsFisOf d n s t command → IsFisOf e n s t command
+fis_moves d e n s t command follows from f = record {
+  to_dev = f.to_dev;
+  of_request = λ x below here.
+      let was = follows.entries s x here in
+      subst (λ (y : Entry). IsBuiltOf (request_fields s y.head) t command) (sym was.2) (built_rephased x.head.phase s was.0 t command (f.of_request was.0 below was.1));
+  of_step = λ path fields is here a given. elim (follows.asked path here a) [
+    | inl same ↦ f.of_step path fields is same a given
+    | inr none ↦ absurd (step_stays d n s t none is from)
+  ];
+}
 
 -- each issue stays one of the driver's
 pub served_moves : (d e : Driver) (h : event.Host) (past : Touches) → Follows d e → ((n s : ℕ) (t : Transfer) → n < 16 → issued s (own n past) ≡ Some t → From d n s t → From e n s t) → IsServed d h past → IsServed e h past
@@ -76,6 +106,7 @@ served_moves d e h past follows moves served = record {
   issues = λ n s t here.
       let i = served.issues n s t here in
       record { dev = i.dev; from = moves n s t i.dev here i.from; total = i.total; apart = i.apart };
+  fises = λ n s t command here is. fis_moves d e n s t command follows (served.issues n s t here).from (served.fises n s t command here is);
   tables = served.tables;
 }
 

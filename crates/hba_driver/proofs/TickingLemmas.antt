@@ -107,7 +107,7 @@ sending_goes : (D d e : Driver) (fs : List HostEvent) (c : event.Host) (slot dev
 unfolding ActsAll events_of_effects
 sending_goes D d e fs c slot dev fields buffer old new before after is l dev_below to free follows moves may list area ruled m acts go =
     let w = acts.2.1.structure in
-    let standing : Standing slot dev (prds_with buffer) fields acts.1 = record { header = w.header; to_dev = to; request_is = w.request; entries = w.entries } in
+    let standing : Standing slot dev (prds_with buffer) fields acts.1 = record { header = w.header; to_dev = to; request_is = w.request; cfis = w.cfis; entries = w.entries } in
     let later : IsHostMemory acts.1 = sized_effect (effect.Commands slot fields buffer) old acts.0 before acts.1 is acts.2 m in
     let rest = issuing_goes D e fs c slot dev false (prds_with buffer) fields acts.0 new acts.1 after (lt_of slot 32 is) dev_below (ap (λ (p : Port). p.registers.clb) acts.2.0 ∙ list) standing may acts.3 later acts.4 go in
     let es : List HostEvent = events_of_effects (issuing slot dev false) acts.0 acts.1 new after acts.4 in
@@ -125,7 +125,7 @@ record Asks (d e : Driver) : Type 0 where
 
 asks : (d : Driver) → Asks d (record d { plan = record d.plan { asked = true } })
 asks d = record {
-  follows = record { devices = refl; slots = refl; path = λ h. h; entries = λ s f here. (f, here, refl) };
+  follows = record { devices = refl; slots = refl; path = λ h. h; asked = λ x here a. inl here; entries = λ s f here. (f, here, refl) };
   moves = λ n s t from. from_moves d (record d { plan = record d.plan { asked = true } }) n s t (λ f below here goes of_dev. here) (λ is x here a of_dev. here) (λ is h. refl) from;
   asked = refl;
 }
@@ -143,7 +143,10 @@ order_goes D d e fs c None old new before after to free a list area ruled m acts
     last_goes D d fs c old new before after acts (moves_goes D d e fs c (beside new after) a.follows a.moves go)
 order_goes D d e fs c (Some f) old new before after to free a list area ruled m acts go =
     sending_goes D d e fs c 31 control_port f false old new before after refl refl (omega arith) (ap (λ (k : ℕ). k % 16) (to f refl)) (free_order d free) a.follows a.moves
-    (λ t table is. inr (inr (record { slot = refl; of_dev = refl; goes = a.asked; table = table }))) list area ruled m acts go
+    (record {
+      from = λ t table is. inr (inr (record { slot = refl; of_dev = refl; goes = a.asked; table = table }));
+      are = record { of_request = λ x low here. absurd (omega (arith, low)); of_step = λ path given is here out g. absurd (omega (arith, is)) };
+    }) list area ruled m acts go
 
 port_by : (g f : H2dFields) → g.pm_port ≡ 15 → Some g ≡ Some f → f.pm_port ≡ 15
 port_by g f is h = ap (λ (x : H2dFields). x.pm_port) (sym (some_inj g f h)) ∙ is
@@ -179,12 +182,21 @@ pub unless_path : (port : ℕ) (o : Option Path) → IsPath o → IsPath (unless
 unless_path port None h = tt
 unless_path port (Some path) h = unless_if (path.dev == port) path h
 
+unless_in : (b : Bool) (path x : Path) → (if b then None else Some path) ≡ Some x → Some path ≡ Some x
+unless_in true path x h = cc
+unless_in false path x h = h
+
+pub unless_back : (port : ℕ) (o : Option Path) (x : Path) → unless port o ≡ Some x → o ≡ Some x
+unless_back port None x h = h
+unless_back port (Some path) x h = unless_in (path.dev == port) path x h
+
 cleared_follows : (port : ℕ) (d : Driver) → Follows d (cleared port d)
 unfolding cleared
 cleared_follows port d = record {
   devices = length-set d.plan.devices port _;
   slots = length_of_rephased (is_open_of port) (Ended Removed) d.entries;
   path = λ h. unless_path port d.plan.path h;
+  asked = λ x here a. inl (unless_back port d.plan.path x here);
   entries = λ s f here.
       let b = back_of (entry_at d.entries s) (entry_at (removed (Clear port) d.entries) s) (keeps_removed (Clear port) d.entries s) f here in
       (b.0, b.1, b.2.same);
@@ -278,12 +290,13 @@ step_dev d dev stage path (inr goes) = subst IsPath goes path
 steps : ℕ → Stage → Driver → Driver
 steps dev stage d = record d { plan = record d.plan { path = Some (record { dev = dev; stage = stage; asked = true }) }; entries = stage_ended dev stage d.entries }
 
-steps_follows : (dev : ℕ) (stage : Stage) (d : Driver) → dev < 15 → Follows d (steps dev stage d)
+steps_follows : (dev : ℕ) (stage : Stage) (d : Driver) → dev < 15 → MayStep d.plan dev stage → Follows d (steps dev stage d)
 unfolding steps
-steps_follows dev stage d below = record {
+steps_follows dev stage d below may = record {
   devices = refl;
   slots = length_staged dev stage d.entries;
   path = λ h. below;
+  asked = λ x here a. inr (free_step d dev stage may);
   entries = λ s f here.
       let b = back_of (entry_at d.entries s) (entry_at (stage_ended dev stage d.entries) s) (keeps_staged dev stage d.entries s) f here in
       (b.0, b.1, b.2.same);
@@ -324,24 +337,36 @@ port_of_stage dev stage.AwaitReset f h = port_nowhere f h
 small_dev : (n : ℕ) → n < 15 → n % 16 ≡ n
 small_dev n h = omega (arith, h)
 
-step_goes : (D d : Driver) (fs : List HostEvent) (c : event.Host) (dev : ℕ) (stage : Stage) (o : Option H2dFields) (old new : Port) (before after : Memory) → ((f : H2dFields) → o ≡ Some f → f.pm_port ≡ dev) → MayStep d.plan dev stage → dev < 15
+-- a path's fields are those of its stage
+step_given : (dev : ℕ) (stage : Stage) (f : H2dFields) (path : Path) (given : H2dFields) → stage_fields dev stage ≡ Some f → Some (record { dev = dev; stage = stage; asked = true }) ≡ Some path
+    → stage_fields path.dev path.stage ≡ Some given → given ≡ f
+step_given dev stage f path given stands here g =
+    let made : Path = record { dev = dev; stage = stage; asked = true } in
+    let is : made ≡ path = some_inj made path here in
+    some_inj given f (sym g ∙ ap (λ (p : Path). stage_fields p.dev p.stage) (sym is) ∙ stands)
+
+step_goes : (D d : Driver) (fs : List HostEvent) (c : event.Host) (dev : ℕ) (stage : Stage) (o : Option H2dFields) (old new : Port) (before after : Memory) → ((f : H2dFields) → o ≡ Some f → f.pm_port ≡ dev) → ((f : H2dFields) → o ≡ Some f → stage_fields dev stage ≡ Some f) → MayStep d.plan dev stage → dev < 15
     → old.registers.clb ≡ 0 → old.registers.fb ≡ 4096 → IsRuled old → IsHostMemory before
     → (acts : ActsAll (match_some o [] (λ f. sending 30 dev f (reads_page stage))) old before new after) → Goes D (steps dev stage d) fs c (beside new after)
     → Goes D d (events_of_effects (match_some o [] (λ f. sending 30 dev f (reads_page stage))) old before new after acts ++ fs) c (beside old before)
 unfolding steps
-step_goes D d fs c dev stage None old new before after to may below list area ruled m acts go =
-    last_goes D d fs c old new before after acts (moves_goes D d (steps dev stage d) fs c (beside new after) (steps_follows dev stage d below) (steps_moves dev stage d may) go)
-step_goes D d fs c dev stage (Some f) old new before after to may below list area ruled m acts go =
+step_goes D d fs c dev stage None old new before after to is_stage may below list area ruled m acts go =
+    last_goes D d fs c old new before after acts (moves_goes D d (steps dev stage d) fs c (beside new after) (steps_follows dev stage d below may) (steps_moves dev stage d may) go)
+step_goes D d fs c dev stage (Some f) old new before after to is_stage may below list area ruled m acts go =
+    let stands : stage_fields dev stage ≡ Some f = is_stage f refl in
     sending_goes D d (steps dev stage d) fs c 30 dev f (reads_page stage) old new before after refl refl (omega (arith, below)) (ap (λ (k : ℕ). k % 16) (to f refl) ∙ small_dev dev below) (free_slot d dev stage may)
-    (steps_follows dev stage d below) (steps_moves dev stage d may)
-    (λ t table is. inr (inl (record { slot = refl; path = record { dev = dev; stage = stage; asked = true }; goes = refl; asked = refl; of_dev = refl; table = table }))) list area ruled m acts go
+    (steps_follows dev stage d below may) (steps_moves dev stage d may)
+    (record {
+      from = λ t table is. inr (inl (record { slot = refl; path = record { dev = dev; stage = stage; asked = true }; goes = refl; asked = refl; of_dev = refl; table = table }));
+      are = record { of_request = λ x low here. absurd (omega (arith, low)); of_step = λ path given is here out g. step_given dev stage f path given stands here g };
+    }) list area ruled m acts go
 
 step_act : (D d : Driver) (file : TaskFile) (fs : List HostEvent) (c : event.Host) (dev : ℕ) (stage : Stage) (old new : Port) (before after : Memory) → MayStep d.plan dev stage → old.registers.clb ≡ 0 → old.registers.fb ≡ 4096 → IsRuled old → IsHostMemory before
     → (acts : ActsAll (stage_effects dev stage) old before new after) → Goes D (acted (Some (act.Steps dev stage)) file d) fs c (beside new after)
     → Goes D d (events_of_effects (stage_effects dev stage) old before new after acts ++ fs) c (beside old before)
 unfolding plan_after entries_after steps
 step_act D d file fs c dev stage old new before after may list area ruled m acts go past served =
-    step_goes D d fs c dev stage (stage_fields dev stage) old new before after (port_of_stage dev stage) may (step_dev d dev stage served.bounded.path may) list area ruled m acts go past served
+    step_goes D d fs c dev stage (stage_fields dev stage) old new before after (port_of_stage dev stage) (λ f is. is) may (step_dev d dev stage served.bounded.path may) list area ruled m acts go past served
 
 -- ---- a request is issued
 
@@ -370,6 +395,10 @@ not_both Issued h k = false≢true h
 not_both Aside h k = false≢true h
 not_both (Ended o) h k = false≢true k
 
+fields_rephased : (slot : ℕ) (phase : Rattle.hba_driver.specs.declared.slot.Phase.Phase) (x : Entry) → request_fields slot (rephased phase x).head ≡ request_fields slot x.head
+unfolding request_fields
+fields_rephased slot phase x = refl
+
 goes_out : ℕ → Driver → Driver
 goes_out slot d = record d { entries = set d.entries slot (option_map (rephased Issued) (entry_at d.entries slot)) }
 
@@ -380,6 +409,7 @@ module _ (d : Driver) (slot dev : ℕ) (w : Waiting d.plan d.entries slot dev) w
     devices = refl;
     slots = length-set d.entries slot _;
     path = λ h. h;
+    asked = λ x here a. inl here;
     entries = λ s f here. by_case s f (set_cases d.entries slot (option_map (rephased Issued) (entry_at d.entries slot)) s f here);
   }
     where
@@ -404,15 +434,25 @@ module _ (d : Driver) (slot dev : ℕ) (w : Waiting d.plan d.entries slot dev) w
 
   out_may : length d.entries ≡ 30 → MayIssue (goes_out slot d) slot dev w.entry.prds (request_fields slot w.entry.head)
   unfolding goes_out
-  out_may long t table is = inl (record {
-    slot = w.below;
-    entry = rephased Issued w.entry;
-    stands = get_or-set_same d.entries slot _ None (omega (arith, long, w.below)) ∙ ap (option_map (rephased Issued)) w.stands;
-    of_dev = w.of_dev;
-    goes = refl;
-    table = table;
-    reads = λ h. request_reads slot w.entry.head (ap (λ (x : slot_work.Work). moved.is_read x.kind) (sym is) ∙ h);
-  })
+  out_may long = record {
+    from = λ t table is. inl (record {
+      slot = w.below;
+      entry = rephased Issued w.entry;
+      stands = get_or-set_same d.entries slot _ None (omega (arith, long, w.below)) ∙ ap (option_map (rephased Issued)) w.stands;
+      of_dev = w.of_dev;
+      goes = refl;
+      table = table;
+      reads = λ h. request_reads slot w.entry.head (ap (λ (x : slot_work.Work). moved.is_read x.kind) (sym is) ∙ h);
+    });
+    are = record {
+      of_request = λ x low here.
+          let there : entry_at (set d.entries slot (option_map (rephased Issued) (entry_at d.entries slot))) slot ≡ Some (rephased Issued w.entry) =
+          get_or-set_same d.entries slot _ None (omega (arith, long, w.below)) ∙ ap (option_map (rephased Issued)) w.stands in
+          let is : rephased Issued w.entry ≡ x = some_inj (rephased Issued w.entry) x (sym there ∙ here) in
+          ap (λ (y : Entry). request_fields slot y.head) (sym is) ∙ fields_rephased slot Issued w.entry;
+      of_step = λ path given is here out g. absurd (omega (arith, is, w.below));
+    };
+  }
 
   small : (n : ℕ) → n < 15 → n % 16 ≡ n
   small n h = omega (arith, h)
@@ -425,7 +465,7 @@ module _ (d : Driver) (slot dev : ℕ) (w : Waiting d.plan d.entries slot dev) w
       let stood = served.commands slot w.entry w.stands in
       let low : w.entry.head.dev < 15 = (served.bounded.entries slot w.entry w.stands).dev in
       let to : (request_of (request_fields slot w.entry.head)).pm_port ≡ dev = ap (λ (k : ℕ). k % 16) (request_port slot w.entry.head) ∙ small w.entry.head.dev low ∙ w.of_dev in
-      let standing : Standing slot dev w.entry.prds (request_fields slot w.entry.head) before = record { header = stood.header; to_dev = to; request_is = stood.request; entries = stood.entries } in
+      let standing : Standing slot dev w.entry.prds (request_fields slot w.entry.head) before = record { header = stood.header; to_dev = to; request_is = stood.request; cfis = stood.cfis; entries = stood.entries } in
       let below : dev < 16 = subst (λ (k : ℕ). k < 16) w.of_dev (omega (arith, low)) in
       moves_goes D d (goes_out slot d) _ c (beside old before) out_follows out_moves
       (issuing_goes D (goes_out slot d) fs c slot dev queued w.entry.prds (request_fields slot w.entry.head) old new before after (omega (arith, w.below)) below list standing (out_may served.bounded.slots) ruled m acts go) past served
@@ -470,7 +510,7 @@ opening_act : (D d : Driver) (file : TaskFile) (fs : List HostEvent) (c : event.
 unfolding plan_after entries_after
 opening_act D d file fs c k old new before after ruled m acts go =
     plain_goes D d fs c (opening_write k) old new before after (plain_opening k) ruled m acts
-    (moves_goes D d (acted (Some (act.Opens k)) file d) fs c (beside new after) (record { devices = refl; slots = refl; path = λ h. h; entries = λ s f here. (f, here, refl) })
+    (moves_goes D d (acted (Some (act.Opens k)) file d) fs c (beside new after) (record { devices = refl; slots = refl; path = λ h. h; asked = λ x here a. inl here; entries = λ s f here. (f, here, refl) })
     (λ n s t from. from_moves d (acted (Some (act.Opens k)) file d) n s t (λ f below here goes of_dev. here) (λ is x here a of_dev. here) (λ is h. h) from) go)
 
 -- ---- the writes that start it again
@@ -484,7 +524,7 @@ restart_act : (D d : Driver) (file : TaskFile) (fs : List HostEvent) (c : event.
 unfolding plan_after entries_after
 restart_act D d file fs c k old new before after ruled m acts go =
     plain_goes D d fs c (restart_write k) old new before after (plain_restart k) ruled m acts
-    (moves_goes D d (acted (Some (act.Restarts k)) file d) fs c (beside new after) (record { devices = refl; slots = refl; path = λ h. h; entries = λ s f here. (f, here, refl) })
+    (moves_goes D d (acted (Some (act.Restarts k)) file d) fs c (beside new after) (record { devices = refl; slots = refl; path = λ h. h; asked = λ x here a. inl here; entries = λ s f here. (f, here, refl) })
     (λ n s t from. from_moves d (acted (Some (act.Restarts k)) file d) n s t (λ f below here goes of_dev. here) (λ is x here a of_dev. here) (λ is h. h) from) go)
 
 -- ---- each act

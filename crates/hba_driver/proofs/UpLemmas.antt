@@ -264,7 +264,7 @@ module _ (slot dev : ℕ) (prds : List Prd) (fields : H2dFields) (port : Port) (
       (any_slot (2 ^ slot) (is_bad port.registers memory)) r.up.starts (free_busy port.slots slot r.free) (any_none slot (is_foreign port.registers memory.structure) own_port)
       (any_none slot (is_bad port.registers memory) (ap is_none stands))
 
-  asks : asked port.registers memory (2 ^ slot) slot ≡ Some (command_placed slot prds fields memory)
+  pub asks : asked port.registers memory (2 ^ slot) slot ≡ Some (command_placed slot prds fields memory)
   asks = then_is (has_bit (2 ^ slot) slot) (command_at memory port.registers.clb slot (has_bit port.registers.armed slot)) (bit_same slot) ∙ stands
 
   pub ci_step : (new : Port) (after : Memory) → IsTable port.slots → Acts (effect.Writes px_ci (2 ^ slot)) port memory new after → CiDone slot dev fields port memory new
@@ -298,11 +298,11 @@ pub record Issues (slot dev : ℕ) (queued : Bool) (fields : H2dFields) (old : P
   pub unarmed : new.registers.armed ≡ 0
   pub issued : IsIssuedAt new dev slot (new_issue dev (work_of (request_of fields)))
 
-placed_as : (slot dev : ℕ) (prds : List Prd) (fields : H2dFields) (a b : Bool) (m n : Memory) → b ≡ a → n ≡ m → Placed slot dev prds fields a m → Placed slot dev prds fields b n
+pub placed_as : (slot dev : ℕ) (prds : List Prd) (fields : H2dFields) (a b : Bool) (m n : Memory) → b ≡ a → n ≡ m → Placed slot dev prds fields a m → Placed slot dev prds fields b n
 placed_as slot dev prds fields a b m n h k p =
     subst (λ (x : Bool). Placed slot dev prds fields x n) (sym h) (subst (λ (x : Memory). Placed slot dev prds fields a x) (sym k) p)
 
-no_bit : (n slot : ℕ) → n ≡ 0 → has_bit n slot ≡ false
+pub no_bit : (n slot : ℕ) → n ≡ 0 → has_bit n slot ≡ false
 no_bit n slot h = ap (λ (k : ℕ). has_bit k slot) h ∙ ap (λ (k : ℕ). k == 1) (bit_at-zero slot)
 
 pub issuing_taken : (slot dev : ℕ) (queued : Bool) (prds : List Prd) (fields : H2dFields) (old new : Port) (before after : Memory) → slot < 32 → dev < 16 → IsUp old.registers → old.registers.armed ≡ 0

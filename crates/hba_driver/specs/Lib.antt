@@ -15,3 +15,8 @@ pub mod Served
 pub mod Delivered
 pub mod Accepted
 pub mod Done
+pub mod Steady
+pub mod Known
+pub mod Going
+pub mod Slot31
+pub mod Addressed

@@ -4,6 +4,9 @@
 -- Descriptor Table, and 5.5, how commands are issued).
 use Rattle.std.specs.Prelude.{ℕ, ◌≡◌, ◌+◌, ◌<◌, ◌≤◌, ◌⊎◌, true, false, List, [], ◌∷◌, length}
 use Rattle.std.specs.Prelude.{Some}
+use Rattle.fis_view.specs.Built.{IsBuilt, h2d_given}
+use Rattle.fis_view.specs.Table.{H2d, PmPort, field}
+use Rattle.fis_view.specs.declared.build.H2dFields.{H2dFields}
 use Rattle.host_memory.specs.Memory.{Memory, is_memory_size}
 use Rattle.host_memory.specs.Place.{total_of}
 use Rattle.host_memory.specs.Reading.{have_overlap, prds_at, share_with}
@@ -11,9 +14,10 @@ use Rattle.hba_commands.specs.declared.command.Command.{Command}
 use Rattle.hba_commands.specs.Commands.{cfis_at}
 use Rattle.hba_commands.specs.Headers.{header_at}
 use Rattle.hba_commands.specs.Requests.{request_at, request_of}
+use Rattle.hba_commands.specs.Requests.{work_of as moved_by}
 use Rattle.hba_commands.specs.Writing.{header_for}
 use Rattle.slots.specs.Work as moved
-use Rattle.hba_fbs.specs.Views.{last_command}
+use Rattle.hba_fbs.specs.Views.{Port, last_command}
 use Rattle.hba_laws.specs.Agreement.{AreHistoriesOf}
 use Rattle.hba_laws.specs.Client.{IsKept, Touches, own}
 use Rattle.hba_laws.specs.Delivering.{AreSpared, IsSound, touches_after}
@@ -21,12 +25,13 @@ use Rattle.hba_laws.specs.History.{Transfer, issued}
 use Rattle.hba_laws.specs.Hosts as event
 use Rattle.hba_laws.specs.Hosts.{Runs}
 use Rattle.hba_driver.specs.declared.path.Path.{Path}
+use Rattle.hba_driver.specs.declared.slot.Head.{Head}
 use Rattle.hba_driver.specs.Drivers.{Driver, Entry, IsPath, entry_at, is_issued, is_read, new_driver}
 use Rattle.hba_driver.specs.Effects.{buffer_prd, prds_with, table_of}
 use Rattle.hba_driver.specs.Events.{IsSoundHost, events_over, opening_host, shared_by}
 use Rattle.hba_driver.specs.HostTurns.{DoesAll, Host, HostTurn}
-use Rattle.hba_driver.specs.Orders.{control_port, request_fields}
-use Rattle.hba_driver.specs.Paths.{reads_page}
+use Rattle.hba_driver.specs.Orders.{control_port, is_queued, request_fields}
+use Rattle.hba_driver.specs.Paths.{reads_page, stage_fields}
 
 -- ---- what a request wrote
 
@@ -36,6 +41,9 @@ pub record HasCommand (s : ℕ) (e : Entry) (memory : Memory) : Type 0 where
       ≡ header_for (request_of (request_fields s e.head)) (table_of s) (length e.prds)
   pub request : request_at (cfis_at memory.structure (table_of s))
       ≡ Some (request_of (request_fields s e.head))
+  -- each field of the command FIS is the request's, and no other bit is set
+  pub cfis : IsBuilt H2d (h2d_given (request_fields s e.head))
+      (cfis_at memory.structure (table_of s))
   pub entries : prds_at memory.structure (table_of s + 128) (length e.prds) ≡ e.prds
 
 -- so it is for each request that is not polled
@@ -43,9 +51,16 @@ abbrev pub HaveCommands : Driver → Memory → Type 0
 HaveCommands d memory =
     (s : ℕ) (e : Entry) → entry_at d.entries s ≡ Some e → HasCommand s e memory
 
+-- a read or a write has 1 to 256 sectors, and its first is below 2^48
+pub record HasSize (head : Head) : Type 0 where
+  pub some : 0 < head.sectors
+  pub most : head.sectors ≤ 256
+  pub place : head.lba < 281474976710656
+
 -- a request is to a fan-out port, and its PRDs are not too many and apart from the driver's buffer
 pub record IsBounded (e : Entry) : Type 0 where
   pub dev : e.head.dev < 15
+  pub size : is_queued e.head.work ≡ true → HasSize e.head
   pub few : length e.prds ≤ 248
   pub beyond : share_with (buffer_prd ∷ []) e.prds ≡ false
 
@@ -94,6 +109,29 @@ abbrev pub IssuesAreRequests : Driver → Touches → Type 0
 IssuesAreRequests d past =
     (n s : ℕ) (t : Transfer) → issued s (own n past) ≡ Some t → IsIssueOf d n s t
 
+-- ---- what goes out
+
+-- the command FIS is built of these fields, and the command moves what they ask for
+pub record IsBuiltOf (fields : H2dFields) (t : Transfer) (command : Command) : Type 0 where
+  pub cfis : IsBuilt H2d (h2d_given fields) command.cfis
+  pub work : t.work ≡ moved_by (request_of fields)
+
+-- What goes out of a slot has its device as PM Port, and is the command of the request that stands
+-- in the slot, or of the path that has slot 30.
+pub record IsFisOf (d : Driver) (n s : ℕ) (t : Transfer) (command : Command) : Type 0 where
+  pub to_dev : field H2d PmPort command.cfis ≡ n
+  pub of_request : (e : Entry) → s < 30 → entry_at d.entries s ≡ Some e
+      → IsBuiltOf (request_fields s e.head) t command
+  pub of_step : (path : Path) (fields : H2dFields) → s ≡ 30 → d.plan.path ≡ Some path
+      → path.asked ≡ true → stage_fields path.dev path.stage ≡ Some fields
+      → IsBuiltOf fields t command
+
+-- so it is for each command that is issued
+abbrev pub FisesAreTheirs : Driver → Port → Touches → Type 0
+FisesAreTheirs d port past =
+    (n s : ℕ) (t : Transfer) (command : Command) → issued s (own n past) ≡ Some t
+    → last_command port.commands s ≡ Some command → IsFisOf d n s t command
+
 -- the command that was issued last in a slot has the slot's own table
 pub record HasItsTable (s : ℕ) (command : Command) : Type 0 where
   pub table : command.table ≡ table_of s
@@ -106,6 +144,7 @@ pub record IsServed (d : Driver) (h : event.Host) (past : Touches) : Type 0 wher
   pub bounded : AreBounded d
   pub commands : HaveCommands d h.memory
   pub issues : IssuesAreRequests d past
+  pub fises : FisesAreTheirs d h.port past
   pub tables : (s : ℕ) (command : Command) → last_command h.port.commands s ≡ Some command
       → HasItsTable s command
 

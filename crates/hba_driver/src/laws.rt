@@ -5,8 +5,10 @@ ghost use Rattle.hba_driver.specs.Accepted.{WritesAreAccepted};
 ghost use Rattle.hba_driver.specs.Done.{DoneIsTrue};
 ghost use Rattle.hba_driver.specs.Events.{EachRunTells, HostsAreSound, TurnsAreEvents};
 ghost use Rattle.hba_driver.specs.Faults.{ErrorsAreNamed};
+ghost use Rattle.hba_driver.specs.Known.{DevicesAreKnown};
 ghost use Rattle.hba_driver.specs.Laws.{CommandsStand, DoneIsFree, EachRunKeeps, TicksKeep, TicksServe};
 ghost use Rattle.hba_driver.specs.Served.{TurnsServe};
+ghost use Rattle.hba_driver.specs.Steady.{EachIsSteady};
 
 /// A tick takes no request and gives none away, gives no ticket, and ends no request twice. It does
 /// nothing when it runs.
@@ -93,4 +95,19 @@ pub fn writes_are_accepted()
 /// nothing when it runs.
 pub fn done_is_true()
     ensures { DoneIsTrue }
+{}
+
+/// Of a device of which nothing failed since its flush the driver has requests open only while it is
+/// ready, a Flush alone, and identifies it after its signature came, while nothing of it is open. In a
+/// tick that does not flush it and ends no fault of it or of the port, all that happens at the port is
+/// none of it, or issues for it what stands in one slot. It does nothing when it runs.
+pub fn turns_are_steady()
+    ensures { EachIsSteady }
+{}
+
+/// A device that is ready, one of which a request is issued, and one to which the command of a request
+/// goes out, is known: over every list of turns of the host from its opening, IDENTIFY data of it were
+/// accepted since it was flushed last. It does nothing when it runs.
+pub fn devices_are_known()
+    ensures { DevicesAreKnown }
 {}

@@ -31,6 +31,3 @@ pub use registers::Registers;
 pub use report::{TakeReport, Wrote};
 pub use state::DeviceState;
 pub use status::Block;
-
-#[cfg(test)]
-mod tests;

@@ -21,6 +21,3 @@ pub const MIN_MEMORY: u32 = 0x20_0000;
 pub const MAX_MEMORY: u32 = 0x100_0000;
 /// The most entries that a table may have.
 pub const MAX_PRDS: u16 = 248;
-
-#[cfg(test)]
-mod tests;

@@ -44,7 +44,7 @@ use Rattle.pm_world.proofs.Steps.{at_both, at_device}
 
 -- ---- bit X
 
-abbrev HasX : ℕ → Type 0
+abbrev pub HasX : ℕ → Type 0
 HasX error = bit_at error 26 ≡ 1
 
 -- where it is set, it is shared
@@ -82,7 +82,7 @@ without_x error value is none =
 -- ---- the registers of a port
 
 -- where the port is open to a device the host has not cleared what it told, and it shows the device truly
-abbrev Told : PortRegisters → Type 0
+abbrev pub Told : PortRegisters → Type 0
 Told p = is_open p ≡ true → p.present ≡ true → HasX p.error
 
 all_but : (a b c : Bool) → (a ≡ true → b ≡ true → c ≡ false) → (a && b && c) ≡ false
@@ -155,10 +155,10 @@ set_this Is (p ∷ bank) zero q d below is = is
 set_this Is (p ∷ bank) (suc n) q d below is = set_this Is bank n q d (omega (arith, below)) is
 
 -- port n shows its device truly; and it waits for the host
-abbrev Shows : ℕ → RegisterMap → Type 0
+abbrev pub Shows : ℕ → RegisterMap → Type 0
 Shows n m = ShowsTruly (map.port_at m n)
 
-abbrev Waits : ℕ → RegisterMap → Type 0
+abbrev pub Waits : ℕ → RegisterMap → Type 0
 Waits n m = Told (map.port_at m n)
 
 -- what a write of a port keeps, a write of the map does
@@ -384,7 +384,7 @@ from_host_goes n old new _ acts = absurd acts
 on_device : (n : ℕ) (old : Places) (k : ℕ) (a : Answer) (new : Places) (R : Place → Outcome → Place → Type 0) → OnDevice old k (Ok a) new R → PortGoes n (is_cleared n old a) old.multiplier new.multiplier
 on_device n old k a new R rule = equal_goes n (is_cleared n old a) old.multiplier new.multiplier (ap (λ (w : Places). w.multiplier) (at_device old k a new R rule).new_is)
 
-rule_goes : (n : ℕ) (old : Places) (s : Step) (a : Answer) (new : Places) → Rule old s (Ok a) new → PortGoes n (is_cleared n old a) old.multiplier new.multiplier
+pub rule_goes : (n : ℕ) (old : Places) (s : Step) (a : Answer) (new : Places) → Rule old s (Ok a) new → PortGoes n (is_cleared n old a) old.multiplier new.multiplier
 rule_goes n old (step.Came k) a new rule = on_device n old k a new (CameRule k) rule
 rule_goes n old (step.Gone k) a new rule = on_device n old k a new (GoneRule k) rule
 rule_goes n old (step.DiskSend k) a new rule = on_device n old k a new (DiskSendRule k) rule
@@ -415,12 +415,12 @@ and_false true b e = e
 and_false false b e = refl
 
 -- port n shows its device truly, and waits for the host
-record IsWaiting (n : ℕ) (m : RegisterMap) : Type 0 where
-  shows : Shows n m
-  told : Waits n m
+pub record IsWaiting (n : ℕ) (m : RegisterMap) : Type 0 where
+  pub shows : Shows n m
+  pub told : Waits n m
 
 -- so it forwards nothing
-forwards_none : (n : ℕ) (m : RegisterMap) → IsWaiting n m → forwards m n ≡ false
+pub forwards_none : (n : ℕ) (m : RegisterMap) → IsWaiting n m → forwards m n ≡ false
 forwards_none n m is = and_false (nat_lt n m.ports) (passes (map.port_at m n)) (passes_none (map.port_at m n) is.shows is.told)
 
 -- down
@@ -428,7 +428,7 @@ falls_none : (frames : List Stamped) → flat_map (falls None) frames ≡ []
 falls_none [] = refl
 falls_none (f ∷ frames) = falls_none frames
 
-none_fell : (n : ℕ) (old : Places) (s : Step) (a : Answer) (new : Places) → IsWaiting n old.multiplier.registers → fell_to n old s a new ≡ []
+pub none_fell : (n : ℕ) (old : Places) (s : Step) (a : Answer) (new : Places) → IsWaiting n old.multiplier.registers → fell_to n old s a new ≡ []
 none_fell n old s (answer.Passed (passed.Down m)) new is = by_test (m == n)
   where
     to_none : passes_to old.multiplier n ≡ None
@@ -441,7 +441,7 @@ none_fell n old s (answer.Passed p) new is = refl
 none_fell n old s a new is = refl
 
 -- and up: what a port gives it holds, and forwards
-holds_forward : (forwards : Bool) (present : Option ℕ) (up : Option Stamped) (frame : Stamped) → rises forwards present up ≡ Some frame → forwards ≡ true
+pub holds_forward : (forwards : Bool) (present : Option ℕ) (up : Option Stamped) (frame : Stamped) → rises forwards present up ≡ Some frame → forwards ≡ true
 holds_forward true present up frame e = refl
 holds_forward false present None frame e = absurd (cc)
 holds_forward false present (Some f) frame e = absurd (cc)
@@ -485,7 +485,7 @@ none_up n old (step.Submit dev request) a new below orderly is rule = refl
 none_up n old step.Poll a new below orderly is rule = refl
 none_up n old (step.Put at bytes) a new below orderly is rule = refl
 
-run_waits : (n : ℕ) (old : Places) (steps : List Step) (answers : List Answer) (new : Places) (run : Run old steps answers new) → n < 15 → IsOrderly old → IsWaiting n old.multiplier.registers → PassesNone n old steps answers new run
+pub run_waits : (n : ℕ) (old : Places) (steps : List Step) (answers : List Answer) (new : Places) (run : Run old steps answers new) → n < 15 → IsOrderly old → IsWaiting n old.multiplier.registers → PassesNone n old steps answers new run
 run_waits n old [] answers new run below orderly is = tt
 run_waits n old (s ∷ steps) [] new run below orderly is = tt
 run_waits n old (s ∷ steps) (a ∷ answers) new run below orderly is =
@@ -496,7 +496,7 @@ run_waits n old (s ∷ steps) (a ∷ answers) new run below orderly is =
     )
 
 -- a port at which a connection is present is there
-there_below : (n : ℕ) (now : Places) (c : ℕ) → IsOrderly now → (port_at now.multiplier n).present ≡ Some c → n < 15
+pub there_below : (n : ℕ) (now : Places) (c : ℕ) → IsOrderly now → (port_at now.multiplier n).present ≡ Some c → n < 15
 there_below n now c orderly there =
     let within : n < length now.multiplier.ports = has_present now.multiplier.ports n c there in
     let count : length now.multiplier.ports ≡ 15 = orderly.room in
@@ -515,7 +515,7 @@ each_waits old (s ∷ steps) (a ∷ answers) new run orderly room shows =
     )
 
 -- the ports of a new multiplier are closed
-opening_shows : (config : Config) (units : List Unit) (n : ℕ) → Shows n (new_world config units).multiplier.registers
+pub opening_shows : (config : Config) (units : List Unit) (n : ℕ) → Shows n (new_world config units).multiplier.registers
 opening_shows config units n = all_closed 15 n
   where
     all_closed : (count n : ℕ) → ShowsTruly (get_or (replicate count opening_port) n opening_port)

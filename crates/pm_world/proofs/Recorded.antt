@@ -41,23 +41,23 @@ use Rattle.pm_world.proofs.Steps.{at_device, at_both}
 -- ---- changes, one after another
 
 -- what a port knows: the connection that is present, the last one, and the highest that is gone
-abbrev Known : Type 0
+abbrev pub Known : Type 0
 Known = Option ℕ × ℕ × ℕ
 
 -- after a change that it lets in
-abbrev one : Change → Known → Known
+abbrev pub one : Change → Known → Known
 one (change.Came conn) k = (Some conn, conn, k.2)
 one (change.Gone conn) k = (None, k.1, conn)
 
-abbrev all : List Change → Known → Known
+abbrev pub all : List Change → Known → Known
 all [] k = k
 all (c ∷ cs) k = all cs (one c k)
 
-abbrev LetIn : Change → Known → Type 0
+abbrev pub LetIn : Change → Known → Type 0
 LetIn (change.Came conn) k = (k.0 ≡ None) × (k.1 < conn)
 LetIn (change.Gone conn) k = k.0 ≡ Some conn
 
-abbrev AreLetIn : List Change → Known → Type 0
+abbrev pub AreLetIn : List Change → Known → Type 0
 AreLetIn [] k = Prim.Unit {0}
 AreLetIn (c ∷ cs) k = LetIn c k × AreLetIn cs (one c k)
 
@@ -103,23 +103,44 @@ gone_is (change.Gone conn ∷ cs) k h is =
 -- ---- the place of a device, and its port
 
 -- the changes led to what the place is
-abbrev Stands : Option Place → Known → Type 0
+abbrev pub Stands : Option Place → Known → Type 0
 Stands None k = Prim.Unit {0}
 Stands (Some place) k = (k.0 ≡ (if place.plugged then Some place.conn else None)) × (k.1 ≡ place.conn)
 
 -- the port lets in all that is on the presence link, and then knows what the place is
-record IsLed (o : Option Place) (k : Known) : Type 0 where
-  let_in : AreLetIn (on_presence o) k
-  stands : Stands o (all (on_presence o) k)
+pub record IsLed (o : Option Place) (k : Known) : Type 0 where
+  pub let_in : AreLetIn (on_presence o) k
+  pub stands : Stands o (all (on_presence o) k)
 
 -- what an answer does to the presence link at port n and to what the port knows
-record Records (n : ℕ) (o : Option Place) (k : Known) (a : Answer) (after : Option Place) (left : Known) : Type 0 where
-  read : List Change
-  link : read ++ on_presence after ≡ on_presence o ++ changed_by n a
-  count : length read ≡ times (is_recorded n) (a ∷ [])
-  let_in : AreLetIn read k
-  knows : left ≡ all read k
-  led : IsLed after left
+pub record Records (n : ℕ) (o : Option Place) (k : Known) (a : Answer) (after : Option Place) (left : Known) : Type 0 where
+  pub read : List Change
+  pub link : read ++ on_presence after ≡ on_presence o ++ changed_by n a
+  pub count : length read ≡ times (is_recorded n) (a ∷ [])
+  pub let_in : AreLetIn read k
+  pub knows : left ≡ all read k
+  pub led : IsLed after left
+
+-- the last connection that came is none above that of the place, and never falls
+last_rises : (cs : List Change) (k : Known) → AreLetIn cs k → k.1 ≤ (all cs k).1
+last_rises [] k h = omega arith
+last_rises (change.Came conn ∷ cs) k h =
+    let above : k.1 < conn = h.0.1 in
+    let more : conn ≤ (all cs (one (change.Came conn) k)).1 = last_rises cs (one (change.Came conn) k) h.1 in
+    omega (arith, above, more)
+last_rises (change.Gone conn ∷ cs) k h = last_rises cs (one (change.Gone conn) k) h.1
+
+pub led_last : (place : Place) (k : Known) → IsLed (Some place) k → k.1 ≤ place.conn
+led_last place k led =
+    let more : k.1 ≤ (all place.presence.changes k).1 = last_rises place.presence.changes k led.let_in in
+    let is : (all place.presence.changes k).1 ≡ place.conn = led.stands.1 in
+    omega (arith, more, is)
+
+pub records_last : (n : ℕ) (o : Option Place) (k : Known) (a : Answer) (after : Option Place) (left : Known) → Records n o k a after left → k.1 ≤ left.1
+records_last n o k a after left r =
+    let more : k.1 ≤ (all r.read k).1 = last_rises r.read k r.let_in in
+    let is : left.1 ≡ (all r.read k).1 = ap (λ (x : Known). x.1) r.knows in
+    omega (arith, more, is)
 
 -- the answer tells of no change at port n
 record IsStill (n : ℕ) (a : Answer) : Type 0 where
@@ -282,7 +303,7 @@ elsewhere n m place (answer.Presence port) after other is = absurd is
 elsewhere n m place _ after other is = record { came = refl; recorded = refl }
 
 -- what a step does at port m
-abbrev RecordsAt : ℕ → Places → Answer → Places → Type 0
+abbrev pub RecordsAt : ℕ → Places → Answer → Places → Type 0
 RecordsAt m old a new =
     IsLed (slice_get old.devices m) (known (port_at old.multiplier m))
     → Records m (slice_get old.devices m) (known (port_at old.multiplier m)) a (slice_get new.devices m) (known (port_at new.multiplier m))
@@ -484,7 +505,7 @@ aside old a new after quiet e devices same =
 
 -- ---- each step, and a whole run
 
-rule_records : (old : Places) (s : Step) (a : Answer) (new : Places) → IsOrderly old → Rule old s (Ok a) new → (m : ℕ) → RecordsAt m old a new
+pub rule_records : (old : Places) (s : Step) (a : Answer) (new : Places) → IsOrderly old → Rule old s (Ok a) new → (m : ℕ) → RecordsAt m old a new
 rule_records old (step.Came n) a new orderly rule m = on_device old n a new (CameRule n) (λ place after r. came_records n place a after r.0 r.1) rule m
 rule_records old (step.Gone n) a new orderly rule m = on_device old n a new (GoneRule n) (λ place after r. gone_records n place a after r.0 r.1) rule m
 rule_records old (step.DiskSend n) a new orderly rule m = on_device old n a new (DiskSendRule n) (λ place after r. send_records n place a after r.1) rule m
@@ -571,10 +592,10 @@ run_records old (s ∷ steps) [] new orderly run n led = absurd run
 -- ---- since the world was made
 
 -- what a port knows to which no device came
-abbrev nothing_known : Known
+abbrev pub nothing_known : Known
 nothing_known = (None, 0, 0)
 
-opening_led : (capacity : ℕ) (units : List Unit) (n : ℕ) → IsLed (slice_get (map (opening capacity) units) n) nothing_known
+pub opening_led : (capacity : ℕ) (units : List Unit) (n : ℕ) → IsLed (slice_get (map (opening capacity) units) n) nothing_known
 opening_led capacity [] n = record { let_in = tt; stands = tt }
 opening_led capacity (u ∷ units) zero = record { let_in = tt; stands = (refl, refl) }
 opening_led capacity (u ∷ units) (suc n) = opening_led capacity units n

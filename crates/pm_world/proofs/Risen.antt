@@ -370,7 +370,7 @@ on_both old n a new R risen tells h =
 on_host : (old new : Places) (a : Answer) → AllRisen old.multiplier old.upward.frames → IsOfItsPort a → new.multiplier ≡ old.multiplier → new.upward ≡ old.upward → Rises a new
 on_host old new a risen tells same upward = as_before old new a risen tells (equal_rising old.multiplier new.multiplier same risen.rising) upward
 
-rule_rises : (old : Places) (s : Step) (a : Answer) (new : Places) → AllRisen old.multiplier old.upward.frames → Rule old s (Ok a) new → Rises a new
+pub rule_rises : (old : Places) (s : Step) (a : Answer) (new : Places) → AllRisen old.multiplier old.upward.frames → Rule old s (Ok a) new → Rises a new
 rule_rises old (step.Came n) a new risen rule = on_device old n a new (CameRule n) risen (λ place after r. came_tells n place a after r.1) rule
 rule_rises old (step.Gone n) a new risen rule = on_device old n a new (GoneRule n) risen (λ place after r. gone_tells n place a after r.1) rule
 rule_rises old (step.DiskSend n) a new risen rule = on_device old n a new (DiskSendRule n) risen (λ place after r. sends_tells n place a after r.1) rule

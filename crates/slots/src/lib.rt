@@ -16,6 +16,3 @@ pub use answer::{Answered, ArriveError, Busy, Completed, SetupError, Stray};
 pub use laws::words_mean_sets;
 pub use table::{Context, SlotTable};
 pub use work::{Kind, Work};
-
-#[cfg(test)]
-mod tests;

@@ -35,12 +35,12 @@ use Rattle.world_ends.proofs.WiredLemmas.{disks_stay_linked, drop_front}
 
 -- ## The host gives in a step of its own
 
-record HasGiven (old new : Places) : Type 0 where
-  frame : Stamped
-  pushes : Pushes old.host (Some frame) new.host
-  link : new.downward ≡ pushed old.downward frame
+pub record HasGiven (old new : Places) : Type 0 where
+  pub frame : Stamped
+  pub pushes : Pushes old.host (Some frame) new.host
+  pub link : new.downward ≡ pushed old.downward frame
 
-host_gives : (old new : Places) (s : Step) → Rule old s (Ok answer.Pushed) new → HasGiven old new
+pub host_gives : (old new : Places) (s : Step) → Rule old s (Ok answer.Pushed) new → HasGiven old new
 host_gives old new step.HostPush rule = let r = rule.0.1 in record { frame = r.0; pushes = r.1; link = r.2 }
 host_gives old new (step.Came m) rule = absurd (at_device old m answer.Pushed new (CameRule m) rule).rule.1
 host_gives old new (step.Gone m) rule = absurd (at_device old m answer.Pushed new (GoneRule m) rule).rule.1

@@ -379,7 +379,7 @@ run_ahead n old (s ∷ steps) (a ∷ answers) new orderly run ahead =
 run_ahead n old [] (a ∷ answers) new orderly run ahead = absurd run
 run_ahead n old (s ∷ steps) [] new orderly run ahead = absurd run
 
-none_posted : (capacity : ℕ) (units : List Unit) (n k : ℕ) → AreBefore k (on_presence (slice_get (map (opening capacity) units) n))
+pub none_posted : (capacity : ℕ) (units : List Unit) (n k : ℕ) → AreBefore k (on_presence (slice_get (map (opening capacity) units) n))
 none_posted capacity [] n k = tt
 none_posted capacity (u ∷ units) zero k = tt
 none_posted capacity (u ∷ units) (suc n) k = none_posted capacity units n k

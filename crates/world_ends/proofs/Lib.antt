@@ -4,3 +4,11 @@ pub mod RunLemmas
 pub mod TookLemmas
 pub mod GivenLemmas
 pub mod BroughtLemmas
+pub mod TouchedLemmas
+pub mod OpeningLemmas
+pub mod ReadLemmas
+pub mod FrameLemmas
+pub mod HostLemmas
+pub mod FirstLemmas
+pub mod SecondLemmas
+pub mod DisksLemmas

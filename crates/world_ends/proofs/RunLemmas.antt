@@ -31,9 +31,9 @@ use Rattle.world_ends.proofs.WiredLemmas.{away_after, disks_stay_linked, rests_b
 -- ## The unit stays there
 
 -- a place that is written over keeps that it is plugged in, and its connection
-record KeepsPlace (old new : Place) : Type 0 where
-  plugged : new.plugged ≡ old.plugged
-  conn : new.conn ≡ old.conn
+pub record KeepsPlace (old new : Place) : Type 0 where
+  pub plugged : new.plugged ≡ old.plugged
+  pub conn : new.conn ≡ old.conn
 
 same_place : (old new : Place) → new ≡ old → KeepsPlace old new
 same_place old new is = record { plugged = ap (λ (p : Place). p.plugged) is; conn = ap (λ (p : Place). p.conn) is }
@@ -66,7 +66,7 @@ written_there n c m devices place after is keeps there = elim (cases_eq n m) [
   | inr other ↦ subst (IsPlugged c) (sym (slice_get-set_other devices m n after other)) there
 ]
 
-keeps_send : (m : ℕ) (old : Place) (a : Answer) (new : Place) → DiskSendActs m old a new → KeepsPlace old new
+pub keeps_send : (m : ℕ) (old : Place) (a : Answer) (new : Place) → DiskSendActs m old a new → KeepsPlace old new
 keeps_send m old answer.Idle new acts = same_place old new acts.1
 keeps_send m old answer.Blocked new acts = same_place old new acts.2
 keeps_send m old
@@ -77,7 +77,7 @@ keeps_send m old
     }
 keeps_send m old _ new acts = absurd acts
 
-keeps_inject : (m : ℕ) (given : List ℕ) (old : Place) (a : Answer) (new : Place) → InjectActs m given old a new → KeepsPlace old new
+pub keeps_inject : (m : ℕ) (given : List ℕ) (old : Place) (a : Answer) (new : Place) → InjectActs m given old a new → KeepsPlace old new
 keeps_inject m given old answer.Blocked new acts = same_place old new acts.1
 keeps_inject m given old
     (answer.Sent p conn number bytes) new acts = let is : new ≡ after_sending m old given old.unit = acts.5 in record {
@@ -87,7 +87,7 @@ keeps_inject m given old
     }
 keeps_inject m given old _ new acts = absurd acts
 
-keeps_take : (m : ℕ) (old : Place) (a : Answer) (new : Place) → DiskTakeActs m old a new → KeepsPlace old new
+pub keeps_take : (m : ℕ) (old : Place) (a : Answer) (new : Place) → DiskTakeActs m old a new → KeepsPlace old new
 keeps_take m old answer.Idle new acts = same_place old new acts.1
 keeps_take m old
     (answer.DiskTook p dropped) new acts = let is = acts.2 in record {
@@ -97,7 +97,7 @@ keeps_take m old
     }
 keeps_take m old _ new acts = absurd acts
 
-keeps_presence : (m : ℕ) (old : Place) (pm : PmState) (a : Answer) (new : Place) (after : PmState) → PmPresenceRule m old pm (Ok a) new after
+pub keeps_presence : (m : ℕ) (old : Place) (pm : PmState) (a : Answer) (new : Place) (after : PmState) → PmPresenceRule m old pm (Ok a) new after
     → KeepsPlace old new
 keeps_presence m old pm answer.Idle new after rule = same_place old new rule.1
 keeps_presence m old pm
@@ -108,7 +108,7 @@ keeps_presence m old pm
     }
 keeps_presence m old pm _ new after rule = absurd rule
 
-keeps_from_device : (m : ℕ) (old : Place) (pm : PmState) (a : Answer) (new : Place) (after : PmState) → PmFromDeviceRule m old pm (Ok a) new after
+pub keeps_from_device : (m : ℕ) (old : Place) (pm : PmState) (a : Answer) (new : Place) (after : PmState) → PmFromDeviceRule m old pm (Ok a) new after
     → KeepsPlace old new
 keeps_from_device m old pm answer.Idle new after rule = same_place old new rule.1
 keeps_from_device m old pm answer.Blocked new after rule = same_place old new rule.2
@@ -120,7 +120,7 @@ keeps_from_device m old pm
     }
 keeps_from_device m old pm _ new after rule = absurd rule
 
-keeps_down : (m : ℕ) (old : Place) (pm : PmState) (a : Answer) (new : Place) (after : PmState) → PmDownRule m old pm (Ok a) new after
+pub keeps_down : (m : ℕ) (old : Place) (pm : PmState) (a : Answer) (new : Place) (after : PmState) → PmDownRule m old pm (Ok a) new after
     → KeepsPlace old new
 keeps_down m old pm answer.Idle new after rule = same_place old new rule.2
 keeps_down m old pm answer.Blocked new after rule = same_place old new rule.1
@@ -152,7 +152,7 @@ module _ (n c : ℕ) (old : Places) (a : Answer) (new : Places) (there : IsThere
   at_two m place after left is new_is keeps =
       subst (λ (w : Places). IsThere n c w) (sym new_is) (written_there n c m old.devices place after is keeps there)
 
-  there_after : (s : Step) → unplugs n s ≡ false → Rule old s (Ok a) new → IsThere n c new
+  pub there_after : (s : Step) → unplugs n s ≡ false → Rule old s (Ok a) new → IsThere n c new
   there_after (step.Gone m) clean rule =
       let d : AtDevice old m (Ok a) new (GoneRule m) = at_device old m a new (GoneRule m) rule in
       at_one m d.place d.after d.is d.new_is (λ same. absurd (true≢false (sym (eq-eqb m n (sym same)) ∙ clean)))
@@ -193,11 +193,11 @@ record IsSending (n c : ℕ) (old : Places) (s : Step) (port conn number : ℕ) 
   conn_is : conn ≡ c
   happened : happens n old s (answer.Sent port conn number bytes) new ≡ Sent bytes ∷ []
 
-if_some : (b : Bool) (xs : List Happening) → b ≡ true → (if b then xs else []) ≡ xs
+pub if_some : (b : Bool) (xs : List Happening) → b ≡ true → (if b then xs else []) ≡ xs
 if_some true xs e = refl
 if_some false xs e = cc e
 
-if_none : (b : Bool) (xs : List Happening) → b ≡ false → (if b then xs else []) ≡ []
+pub if_none : (b : Bool) (xs : List Happening) → b ≡ false → (if b then xs else []) ≡ []
 if_none true xs e = cc e
 if_none false xs e = refl
 
@@ -234,7 +234,7 @@ module _ (n c : ℕ) (old new : Places) (port conn number : ℕ) (bytes : List �
   sending (step.Put at bytes) clean rule = absurd rule.0
 
 -- another port's
-sent_elsewhere : (n : ℕ) (old : Places) (s : Step) (port conn number : ℕ) (bytes : List ℕ) (new : Places) → eqb port n ≡ false
+pub sent_elsewhere : (n : ℕ) (old : Places) (s : Step) (port conn number : ℕ) (bytes : List ℕ) (new : Places) → eqb port n ≡ false
     → happens n old s (answer.Sent port conn number bytes) new ≡ []
 sent_elsewhere n old (step.DiskSend m) port conn number bytes new other = if_none (port == n) (Sent bytes ∷ []) other
 sent_elsewhere n old _ port conn number bytes new other = refl
@@ -266,7 +266,7 @@ coming n c old new port conn (step.Submit dev request) there rule = absurd rule.
 coming n c old new port conn step.Poll there rule = absurd rule.0
 coming n c old new port conn (step.Put at bytes) there rule = absurd rule.0
 
-came_elsewhere : (n : ℕ) (old : Places) (s : Step) (port conn : ℕ) (new : Places) → eqb port n ≡ false
+pub came_elsewhere : (n : ℕ) (old : Places) (s : Step) (port conn : ℕ) (new : Places) → eqb port n ≡ false
     → happens n old s (answer.Came port conn) new ≡ []
 came_elsewhere n old (step.Came m) port conn new other = if_none (port == n) (Plugged ∷ []) other
 came_elsewhere n old _ port conn new other = refl
@@ -314,7 +314,7 @@ going n old new port conn step.Poll stays rule = absurd rule.0
 going n old new port conn (step.Put at bytes) stays rule = absurd rule.0
 
 -- it tells the unit nothing
-gone_tells : (n : ℕ) (old : Places) (s : Step) (port conn : ℕ) (new : Places) → [] ≡ happens n old s (answer.Gone port conn) new
+pub gone_tells : (n : ℕ) (old : Places) (s : Step) (port conn : ℕ) (new : Places) → [] ≡ happens n old s (answer.Gone port conn) new
 gone_tells n old (step.Came m) port conn new = refl
 gone_tells n old (step.DiskTake m) port conn new = refl
 gone_tells n old (step.DiskSend m) port conn new = refl
@@ -322,9 +322,9 @@ gone_tells n old _ port conn new = refl
 
 -- ## One step
 
-record IsKnown (n c : ℕ) (old : Places) (s : Step) (a : Answer) (new : Places) : Type 0 where
-  same : befalls n old a ≡ happens n old s a new
-  steady : IsSteady n c a
+pub record IsKnown (n c : ℕ) (old : Places) (s : Step) (a : Answer) (new : Places) : Type 0 where
+  pub same : befalls n old a ≡ happens n old s a new
+  pub steady : IsSteady n c a
 
 fine_one : (bytes : List ℕ) (events : List Happening) → events ≡ Sent bytes ∷ [] → AreFine events → reports (seen bytes) ≡ false
 fine_one bytes events is fine = let all : AreFine (Sent bytes ∷ []) = subst AreFine is fine in all.0
@@ -344,7 +344,7 @@ known_sent n c old s port conn number bytes new false other there clean rule fin
   steady = λ here. absurd (true≢false (sym here ∙ other));
 }
 
-known : (n c : ℕ) (old : Places) (s : Step) (a : Answer) (new : Places) → IsThere n c old → unplugs n s ≡ false → injects n s ≡ false
+pub known : (n c : ℕ) (old : Places) (s : Step) (a : Answer) (new : Places) → IsThere n c old → unplugs n s ≡ false → injects n s ≡ false
     → Rule old s (Ok a) new → AreFine (happens n old s a new) → IsKnown n c old s a new
 known n c old s (answer.Gone port conn) new there stays clean rule fine =
     record { same = gone_tells n old s port conn new; steady = going n old new port conn s stays rule }
@@ -371,7 +371,7 @@ known n c old s a new there stays clean rule fine = record { same = quiet_tells 
 
 -- ## A run
 
-fine_front : (xs ys : List Happening) → AreFine (xs ++ ys) → AreFine xs × AreFine ys
+pub fine_front : (xs ys : List Happening) → AreFine (xs ++ ys) → AreFine xs × AreFine ys
 fine_front [] ys fine = (tt, fine)
 fine_front (Sent bytes ∷ xs) ys fine = let rest = fine_front xs ys fine.1 in ((fine.0, rest.0), rest.1)
 fine_front (Received bytes ∷ xs) ys fine = fine_front xs ys fine

@@ -33,7 +33,7 @@ use Rattle.world_ends.specs.Wired.{GoesOn, IsNext, IsWired}
 use Rattle.world_ends.proofs.WiredLemmas.{disks_stay_linked}
 
 -- the host takes in a step of its own
-host_takes : (old new : Places) (s : Step) (port conn number : ℕ) (bytes : List ℕ) (report : TakeReport)
+pub host_takes : (old new : Places) (s : Step) (port conn number : ℕ) (bytes : List ℕ) (report : TakeReport)
     → Rule old s (Ok (answer.Took port conn number bytes report)) new → Tooks old.host bytes report new.host
 host_takes old new step.HostTake port conn number bytes report rule = rule.0.2
 host_takes old new (step.Came m) port conn number bytes report rule =
@@ -60,12 +60,12 @@ host_takes old new (step.Submit dev request) port conn number bytes report rule 
 host_takes old new step.Poll port conn number bytes report rule = absurd rule.0
 host_takes old new (step.Put at given) port conn number bytes report rule = absurd rule.0
 
-by_true : (P Q : Type 0) (b : Bool) → b ≡ true → MatchBool b P Q → P
+pub by_true : (P Q : Type 0) (b : Bool) → b ≡ true → MatchBool b P Q → P
 by_true P Q true e m = m
 by_true P Q false e m = absurd (true≢false (sym e))
 
 -- a marked frame is as long as the frame
-plain_frame : (plain : List ℕ) (n : ℕ) → IsFrame (marked plain n) → IsFrame plain
+pub plain_frame : (plain : List ℕ) (n : ℕ) → IsFrame (marked plain n) → IsFrame plain
 plain_frame plain n framed =
     subst (λ (k : ℕ). IsTrue (nat_le 4 k && nat_le k 8196 && k % 4 == 0)) (length-set plain 1 (slice_index plain 1 / 16 * 16 + n)) framed
 

@@ -94,7 +94,7 @@ one_step n d old new s a device orderly rule there =
     ap (λ (xs : List (List ℕ)). xs ++ transit n d new) (sym (append-nil (taken_by n d a))) ∙ whole
     ∙ ap (λ (xs : List (List ℕ)). transit n d old ++ all_marked n xs) (append-nil (sent_by n d a))
 
-none_both : (xs ys : List (List ℕ)) → xs ++ ys ≡ [] → (xs ≡ []) × (ys ≡ [])
+pub none_both : (xs ys : List (List ℕ)) → xs ++ ys ≡ [] → (xs ≡ []) × (ys ≡ [])
 none_both [] ys e = (refl, e)
 none_both (x ∷ xs) ys e = cc e
 
@@ -158,7 +158,7 @@ none_other n c d old new s a device orderly rule steady other none =
     away_after n d old new s a device orderly rule none (unsent_other n c d a steady other)
 
 -- a step that neither takes nor sends
-still_above : (n c : ℕ) (old new : Places) (s : Step) (a : Answer) → n ≢ control_port → IsOrderly old → Rule old s (Ok a) new → taken_by n c a ≡ []
+pub still_above : (n c : ℕ) (old new : Places) (s : Step) (a : Answer) → n ≢ control_port → IsOrderly old → Rule old s (Ok a) new → taken_by n c a ≡ []
     → sent_by n c a ≡ [] → is_removed n c new ≡ false → transit n c new ≡ transit n c old
 still_above n c old new s a device orderly rule untaken unsent there =
     ap (λ (xs : List (List ℕ)). xs ++ transit n c new) (sym untaken) ∙ one_step n c old new s a device orderly rule there

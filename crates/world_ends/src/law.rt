@@ -1,6 +1,7 @@
 //! Laws of the two ends of a disk's link in a world. The functions do nothing when they run.
 
 ghost use Rattle.world_ends.specs.Brought.{TookBrings};
+ghost use Rattle.world_ends.specs.Disks.{HonestDisks};
 ghost use Rattle.world_ends.specs.Given.{PushedFits};
 ghost use Rattle.world_ends.specs.Honest.{TookIsHonest};
 ghost use Rattle.world_ends.specs.Wired.{DisksStayLinked, PluggedIsLinked, RunsStayLinked};
@@ -26,4 +27,11 @@ pub fn taken_is_honest()
 /// and they are the sectors of the disk as they were when it started the read.
 pub fn reads_are_brought()
     ensures brought { TookBrings }
+{}
+
+/// From a new world on, as long as nothing goes wrong with a disk: each queued request that is
+/// reported as done ended honestly. A read has the sectors of the medium in client memory, as they
+/// were when the disk started it; a write is on the medium.
+pub fn disks_are_honest()
+    ensures { HonestDisks }
 {}

@@ -3,4 +3,4 @@
 
 mod law;
 
-pub use law::{disks_stay_linked, reads_are_brought, taken_is_honest};
+pub use law::{disks_are_honest, disks_stay_linked, reads_are_brought, taken_is_honest};

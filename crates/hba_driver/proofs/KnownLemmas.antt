@@ -1,0 +1,449 @@
+-- A device that is not known stays so in a tick, unless its IDENTIFY DEVICE came back.
+use Rattle.std.proofs.Common.{◌≡◌, ◌≢◌, ℕ, zero, suc, Bool, true, false, ◌&&◌, List, [], ◌∷◌, map, get_or, set, refl, sym, ◌∙◌, ap, subst, inl, inr, Option, Some, None}
+use Rattle.std.specs.Prelude.{if◌then◌else◌, ◌==◌, ◌%◌, is_some, nat_lt}
+use Rattle.std.specs.Option.{option_map, option_or}
+use Rattle.std.proofs.lemmas.Bool.{and_parts, eq-eqb, eqb-true, false≢true, true≢false}
+use Rattle.slots.specs.Slots.{lowest_below, match_some}
+use Rattle.fis_view.specs.declared.build.H2dFields.{H2dFields}
+use Rattle.hba_driver.specs.declared.order.Order.{Order}
+use Rattle.hba_driver.specs.declared.order.Order.TheVariants.{CountPorts, Scan, Clear, Detect}
+use Rattle.hba_driver.specs.declared.path.Path.{Path}
+use Rattle.hba_driver.specs.declared.path.Recovery.TheVariants.{Log, Reset}
+use Rattle.hba_driver.specs.declared.path.Stage.{Stage}
+use Rattle.hba_driver.specs.declared.path.Stage.TheVariants.{Identify, ReadLog, AssertReset, ReleaseReset, AwaitReset}
+use Rattle.hba_driver.specs.declared.path.TaskFile.{TaskFile}
+use Rattle.hba_driver.specs.declared.plan.Device.{Device}
+use Rattle.hba_driver.specs.declared.plan.Device.TheVariants.{Absent, Starting, Ready, Unusable, Recovering}
+use Rattle.hba_driver.specs.declared.plan.Plan.{Plan}
+use Rattle.hba_driver.specs.declared.request.Outcome.TheVariants.{Aborted, Done, PortError, Removed}
+use Rattle.hba_driver.specs.declared.sight.ErrorLog.{ErrorLog}
+use Rattle.hba_driver.specs.declared.sight.Sight.{Sight}
+use Rattle.hba_driver.specs.declared.slot.Head.{Head}
+use Rattle.hba_driver.specs.declared.slot.Phase.{Phase}
+use Rattle.hba_driver.specs.declared.slot.Phase.TheVariants.{Aside, Ended, Issued}
+use Rattle.hba_driver.specs.declared.turn.Act.{Act}
+use Rattle.hba_driver.specs.declared.turn.Act.TheVariants as act
+use Rattle.hba_driver.specs.declared.turn.Logged.{Logged}
+use Rattle.hba_driver.specs.declared.turn.Turn.{Turn}
+use Rattle.hba_driver.specs.Drivers.{Driver, Entry, device_at, entry_at, is_issued, is_issued_in, rephase, rephase_all, rephased, waits}
+use Rattle.hba_driver.specs.Orders.{order_fields}
+use Rattle.hba_driver.specs.Paths.{first_stage, next_stage, recovery, reset_if_there, stage_fields}
+use Rattle.hba_driver.specs.Ticks.{acted, after_tick, done_ended, entries_after, from_reset, is_aside_of, is_done, is_named_of, is_open, is_open_of, log_outcome, logged_ended, ordered, plan_after, recovering, removed, seen, stage_ended, turn, unless}
+use Rattle.hba_driver.specs.Turns.{advanced, answered, control_seen, detected, device_due, device_seen, early_due, fault_due, found_of, is_back, is_due, is_idle, is_in_reset, is_ready, issue_of, may_issue, met, met_order}
+use Rattle.hba_driver.specs.Turns.{met_path, met_stage, noted, opening_due, order_due, path_answered, path_due, path_to, request_due, restart_due, stage_due, stage_for, step_of, turn_of, with_next}
+use Rattle.hba_driver.proofs.DueLemmas.{Due, Waiting}
+use Rattle.hba_driver.proofs.LifeLemmas.{due_seen, entry_of_rephased}
+use Rattle.hba_driver.proofs.RequestLemmas.{set_cases}
+
+-- ---- a device that is not known
+
+-- a device that the driver takes to be identified
+abbrev pub is_trusted : Device → Bool
+is_trusted Ready = true
+is_trusted (Recovering (Log file)) = true
+is_trusted device = false
+
+abbrev pub is_logging : Stage → Bool
+is_logging (ReadLog file) = true
+is_logging stage = false
+
+-- slot 30 reads the error log of device n
+abbrev pub is_reading : ℕ → Option Path → Bool
+is_reading n None = false
+is_reading n (Some path) = (path.dev == n) && is_logging path.stage
+
+pub record IsNew (n : ℕ) (plan : Plan) : Type 0 where
+  pub device : is_trusted (device_at plan n) ≡ false
+  pub path : is_reading n plan.path ≡ false
+
+abbrev pub is_named : Stage → Bool
+is_named Identify = true
+is_named stage = false
+
+-- the IDENTIFY DEVICE of device n came back
+abbrev pub comes_back : Sight → ℕ → Option Path → Bool
+comes_back v n None = false
+comes_back v n (Some path) = (path.dev == n) && (is_named path.stage && is_back v path)
+
+-- a device that is written over
+set_new : (devices : List Device) (n k : ℕ) (d : Device) → (k ≡ n → is_trusted d ≡ false) → is_trusted (get_or devices n Absent) ≡ false → is_trusted (get_or (set devices k d) n Absent) ≡ false
+set_new [] n k d here h = h
+set_new (x ∷ devices) zero zero d here h = here refl
+set_new (x ∷ devices) zero (suc k) d here h = h
+set_new (x ∷ devices) (suc n) zero d here h = h
+set_new (x ∷ devices) (suc n) (suc k) d here h = set_new devices n k d (λ same. here (ap suc same)) h
+
+not_both : (a b : Bool) → (a && b) ≡ false → a ≡ true → b ≡ false
+not_both true b h is = h
+not_both false b h is = absurd (false≢true is)
+
+if_new : (n : ℕ) (b : Bool) (p q : Plan) → IsNew n p → IsNew n q → IsNew n (if b then p else q)
+if_new n true p q h k = h
+if_new n false p q h k = k
+
+-- ---- slot 31
+
+detected_new : (status : ℕ) → is_trusted (detected status) ≡ false
+detected_new status = by_test (status % 16 == 3)
+  where
+    by_test : (b : Bool) → is_trusted (if b then Starting else Absent) ≡ false
+    by_test true = refl
+    by_test false = refl
+
+new_noted : (n : ℕ) (v : Sight) (order : Order) (plan : Plan) → IsNew n plan → IsNew n (noted v order plan)
+unfolding noted
+new_noted n v CountPorts plan h = record { device = h.device; path = h.path }
+new_noted n v Scan plan h = record { device = h.device; path = h.path }
+new_noted n v (Detect port) plan h = record { device = set_new plan.devices n port (detected v.answer) (λ same. detected_new v.answer) h.device; path = h.path }
+new_noted n v order plan h = h
+
+path_noted : (v : Sight) (order : Order) (plan : Plan) → (noted v order plan).path ≡ plan.path
+unfolding noted
+path_noted v CountPorts plan = refl
+path_noted v Scan plan = refl
+path_noted v (Detect port) plan = refl
+path_noted v order plan = refl
+
+path_if : (b : Bool) (p q : Plan) (o : Option Path) → p.path ≡ o → q.path ≡ o → (if b then p else q).path ≡ o
+path_if true p q o h k = h
+path_if false p q o h k = k
+
+new_next : (n : ℕ) (order : Order) (plan : Plan) → IsNew n plan → IsNew n (with_next order plan)
+new_next n order plan h = record { device = h.device; path = h.path }
+
+new_answered : (n : ℕ) (v : Sight) (plan : Plan) → IsNew n plan → IsNew n (answered v plan)
+new_answered n v plan h = if_new n _ (with_next plan.order (noted v plan.order plan)) plan (new_next n plan.order (noted v plan.order plan) (new_noted n v plan.order plan h)) h
+
+new_met : (n : ℕ) (v : Sight) (plan : Plan) → IsNew n plan → IsNew n (met v plan)
+new_met n v plan h = if_new n plan.asked plan (record plan { order = met_order v plan.order }) h (record { device = h.device; path = h.path })
+
+new_control : (n : ℕ) (v : Sight) (plan : Plan) → IsNew n plan → IsNew n (control_seen v plan)
+new_control n v plan h = new_met n v (answered v plan) (new_answered n v plan h)
+
+pub path_control : (v : Sight) (plan : Plan) → (control_seen v plan).path ≡ plan.path
+path_control v plan =
+    path_if (answered v plan).asked (answered v plan) (record (answered v plan) { order = met_order v (answered v plan).order }) plan.path path_answer path_answer
+  where
+    path_answer : (answered v plan).path ≡ plan.path
+    path_answer = path_if _ (with_next plan.order (noted v plan.order plan)) plan plan.path (path_noted v plan.order plan) refl
+
+-- ---- slot 30
+
+-- what is found of a device that is another, or by a stage that finds nothing
+new_found : (n : ℕ) (v : Sight) (stage : Stage) (dev : ℕ) (plan : Plan) → (is_named stage ≡ true → dev ≢ n) → (is_logging stage ≡ true → dev ≢ n) → IsNew n plan → IsNew n (found_of v stage dev plan)
+unfolding found_of
+new_found n v Identify dev plan named logging h = record { device = set_new plan.devices n dev _ (λ same. absurd (named refl same)) h.device; path = h.path }
+new_found n v (ReadLog file) dev plan named logging h = record { device = set_new plan.devices n dev _ (λ same. absurd (logging refl same)) h.device; path = h.path }
+new_found n v stage dev plan named logging h = h
+
+and_false : (b : Bool) → (b && false) ≡ false
+and_false true = refl
+and_false false = refl
+
+next_new : (n dev : ℕ) (stage : Stage) → is_reading n (path_to dev (next_stage stage)) ≡ false
+unfolding next_stage
+next_new n dev Identify = refl
+next_new n dev (ReadLog file) = refl
+next_new n dev AssertReset = and_false (dev == n)
+next_new n dev ReleaseReset = and_false (dev == n)
+next_new n dev AwaitReset = and_false (dev == n)
+
+advanced_new : (n : ℕ) (v : Sight) (path : Path) (plan : Plan) → (is_named path.stage ≡ true → path.dev ≢ n) → (is_logging path.stage ≡ true → path.dev ≢ n) → IsNew n plan → IsNew n (advanced v path plan)
+advanced_new n v path plan named logging h =
+    record { device = (new_found n v path.stage path.dev plan named logging h).device; path = next_new n path.dev path.stage }
+
+answered_new : (n : ℕ) (v : Sight) (o : Option Path) (plan : Plan) → is_reading n o ≡ false → comes_back v n o ≡ false → IsNew n plan → IsNew n (match_some o plan (λ path. if is_back v path then advanced v path plan else plan))
+answered_new n v None plan reading back h = h
+answered_new n v (Some path) plan reading back h = by_back (is_back v path) refl
+  where
+    by_back : (b : Bool) → is_back v path ≡ b → IsNew n (if b then advanced v path plan else plan)
+    by_back true is = advanced_new n v path plan
+        (λ named same. true≢false (sym is ∙ not_both (is_named path.stage) (is_back v path) (not_both (path.dev == n) (is_named path.stage && is_back v path) back (eq-eqb path.dev n same)) named))
+        (λ logging same. true≢false (sym logging ∙ not_both (path.dev == n) (is_logging path.stage) reading (eq-eqb path.dev n same))) h
+    by_back false is = h
+
+stage_met : (v : Sight) (dev : ℕ) (stage : Stage) → is_logging (met_stage v dev stage) ≡ is_logging stage
+unfolding met_stage
+stage_met v dev AwaitReset = by_test (is_in_reset v dev)
+  where
+    by_test : (b : Bool) → is_logging (if b then AwaitReset else Identify) ≡ false
+    by_test true = refl
+    by_test false = refl
+stage_met v dev stage = refl
+
+met_new : (n : ℕ) (v : Sight) (o : Option Path) → is_reading n o ≡ false → is_reading n (option_map (met_path v) o) ≡ false
+met_new n v None h = refl
+met_new n v (Some path) h = by_asked path.asked
+  where
+    by_asked : (b : Bool) → is_reading n (Some (if b then path else record path { stage = met_stage v path.dev path.stage })) ≡ false
+    by_asked true = h
+    by_asked false = ap (λ (b : Bool). (path.dev == n) && b) (stage_met v path.dev path.stage) ∙ h
+
+new_device : (n : ℕ) (v : Sight) (plan : Plan) → comes_back v n plan.path ≡ false → IsNew n plan → IsNew n (device_seen v plan)
+new_device n v plan back h =
+    let next : IsNew n (path_answered v plan) = answered_new n v plan.path plan h.path back h in
+    record { device = next.device; path = met_new n v (path_answered v plan).path next.path }
+
+-- ---- the turn
+
+-- no log of device n is to be read
+abbrev pub Fits : ℕ → Option Act → Type 0
+Fits n (Some (act.Steps dev stage)) = ((dev == n) && is_logging stage) ≡ false
+Fits n a = Unit {0}
+
+fits_or : (n : ℕ) (a b : Option Act) → Fits n a → Fits n b → Fits n (option_or a b)
+fits_or n None b h k = k
+fits_or n (Some a) b h k = h
+
+fits_clears : (n : ℕ) (o : Option ℕ) → Fits n (option_map act.Clears o)
+fits_clears n None = tt
+fits_clears n (Some dev) = tt
+
+fits_early : (n : ℕ) (v : Sight) (plan : Plan) → Fits n (early_due v plan)
+unfolding early_due
+fits_early n v plan = fits_or n (opening_due plan) _ (by_open (nat_lt plan.opened 7)) (fits_or n (restart_due plan) (fault_due v) (by_restart (nat_lt plan.restarted 2)) (by_fault v.stopped))
+  where
+    by_open : (b : Bool) → Fits n (if b then Some (act.Opens plan.opened) else None)
+    by_open true = tt
+    by_open false = tt
+
+    by_restart : (b : Bool) → Fits n (if b then Some (act.Restarts plan.restarted) else None)
+    by_restart true = tt
+    by_restart false = tt
+
+    by_fault : (b : Bool) → Fits n (if b then Some act.Stops else option_map act.Clears v.faulty)
+    by_fault true = tt
+    by_fault false = fits_clears n v.faulty
+
+fits_order : (n : ℕ) (plan : Plan) → Fits n (order_due plan)
+fits_order n plan = by_asked plan.asked (order_fields plan.order)
+  where
+    by_asked : (b : Bool) (fields : Option H2dFields) → Fits n (if b then None else option_map (λ f. act.Orders plan.order) fields)
+    by_asked true fields = tt
+    by_asked false None = tt
+    by_asked false (Some f) = tt
+
+fits_step : (n dev : ℕ) (stage : Stage) → ((dev == n) && is_logging stage) ≡ false → Fits n (step_of dev stage)
+fits_step n dev stage h = by_fields (stage_fields dev stage)
+  where
+    by_fields : (o : Option H2dFields) → Fits n (option_map (λ f. act.Steps dev stage) o)
+    by_fields None = tt
+    by_fields (Some f) = h
+
+-- a device that is not known begins with no log
+first_new : (d : Device) (signed : Bool) (stage : Stage) → is_trusted d ≡ false → first_stage d signed ≡ Some stage → is_logging stage ≡ false
+first_new Starting true stage h e = ap is_logging (sym (same_stage Identify stage e))
+  where
+    same_stage : (x y : Stage) → Some x ≡ Some y → x ≡ y
+    same_stage x y e = cc
+first_new Starting false stage h e = absurd (cc)
+first_new (Recovering (Log file)) signed stage h e = absurd (true≢false h)
+first_new (Recovering Reset) signed stage h e = ap is_logging (sym (same_stage AssertReset stage e))
+  where
+    same_stage : (x y : Stage) → Some x ≡ Some y → x ≡ y
+    same_stage x y e = cc
+first_new Absent signed stage h e = absurd (cc)
+first_new Ready signed stage h e = absurd (cc)
+first_new Unusable signed stage h e = absurd (cc)
+
+fits_stage : (n : ℕ) (v : Sight) (plan : Plan) (dev : ℕ) → IsNew n plan → Fits n (stage_due v plan dev)
+fits_stage n v plan dev h = by_stage (stage_for v plan dev) refl
+  where
+    logs_not : (stage : Stage) → stage_for v plan dev ≡ Some stage → (b : Bool) → (dev == n) ≡ b → (b && is_logging stage) ≡ false
+    logs_not stage is true same = first_new (device_at plan dev) _ stage (subst (λ (k : ℕ). is_trusted (device_at plan k) ≡ false) (sym (eqb-true dev n same)) h.device) is
+    logs_not stage is false same = refl
+
+    by_stage : (o : Option Stage) → stage_for v plan dev ≡ o → Fits n (match_some o None (step_of dev))
+    by_stage None is = tt
+    by_stage (Some stage) is = fits_step n dev stage (logs_not stage is (dev == n) refl)
+
+fits_slot : (n : ℕ) (v : Sight) (plan : Plan) → IsNew n plan → Fits n (device_due v plan)
+unfolding device_due
+fits_slot n v plan h = by_path plan.path h.path
+  where
+    by_lowest : (o : Option ℕ) → Fits n (match_some o None (stage_due v plan))
+    by_lowest None = tt
+    by_lowest (Some dev) = fits_stage n v plan dev h
+
+    by_asked : (path : Path) → is_reading n (Some path) ≡ false → (b : Bool) → Fits n (if b then None else step_of path.dev path.stage)
+    by_asked path reading true = tt
+    by_asked path reading false = fits_step n path.dev path.stage reading
+
+    by_path : (o : Option Path) → is_reading n o ≡ false → Fits n (match_some o (match_some (lowest_below (is_due v plan) 15) None (stage_due v plan)) path_due)
+    by_path None reading = by_lowest (lowest_below (is_due v plan) 15)
+    by_path (Some path) reading = by_asked path reading path.asked
+
+fits_request : (n : ℕ) (plan : Plan) (entries : List (Option Entry)) → Fits n (request_due plan entries)
+unfolding request_due
+fits_request n plan entries = by_lowest (lowest_below (λ slot. may_issue plan (entry_at entries slot)) 30)
+  where
+    by_entry : (slot : ℕ) (o : Option Entry) → Fits n (issue_of slot o)
+    by_entry slot None = tt
+    by_entry slot (Some e) = tt
+
+    by_lowest : (o : Option ℕ) → Fits n (match_some o None (λ slot. issue_of slot (entry_at entries slot)))
+    by_lowest None = tt
+    by_lowest (Some slot) = by_entry slot (entry_at entries slot)
+
+-- what the turn knows and does
+record TurnNew (n : ℕ) (t : Turn) : Type 0 where
+  plan : IsNew n t.plan
+  act : Fits n t.act
+
+if_turn : (n : ℕ) (b : Bool) (t u : Turn) → TurnNew n t → TurnNew n u → TurnNew n (if b then t else u)
+if_turn n true t u h k = h
+if_turn n false t u h k = k
+
+new_turn : (n : ℕ) (v : Sight) (plan : Plan) (entries : List (Option Entry)) → comes_back v n plan.path ≡ false → IsNew n plan → TurnNew n (turn_of v plan entries)
+unfolding turn_of
+new_turn n v plan entries back h =
+    if_turn n (is_some (early_due v plan)) _ _ (record { plan = h; act = fits_early n v plan })
+    (if_turn n (is_idle (control_seen v plan).order) _ _ (record { plan = control; act = tt })
+    (if_turn n (is_some (order_due (control_seen v plan))) _ _ (record { plan = control; act = fits_order n (control_seen v plan) })
+    (record { plan = device; act = fits_or n (device_due v (device_seen v (control_seen v plan))) _ (fits_slot n v (device_seen v (control_seen v plan)) device) (fits_request n (device_seen v (control_seen v plan)) entries) })))
+  where
+    control : IsNew n (control_seen v plan)
+    control = new_control n v plan h
+
+    device : IsNew n (device_seen v (control_seen v plan))
+    device = new_device n v (control_seen v plan) (ap (comes_back v n) (path_control v plan) ∙ back) control
+
+-- ---- what an act leaves of the plan
+
+unless_new : (n dev : ℕ) (o : Option Path) → is_reading n o ≡ false → is_reading n (unless dev o) ≡ false
+unless_new n dev None h = refl
+unless_new n dev (Some path) h = by_test (path.dev == dev)
+  where
+    by_test : (b : Bool) → is_reading n (if b then None else Some path) ≡ false
+    by_test true = refl
+    by_test false = h
+
+there_new : (devices : List Device) (n : ℕ) → is_trusted (get_or (map reset_if_there devices) n Absent) ≡ false
+there_new [] n = refl
+there_new (Absent ∷ devices) zero = refl
+there_new (Starting ∷ devices) zero = refl
+there_new (Ready ∷ devices) zero = refl
+there_new (Unusable ∷ devices) zero = refl
+there_new (Recovering r ∷ devices) zero = refl
+there_new (d ∷ devices) (suc n) = there_new devices n
+
+recovery_new : (d : Device) (file : TaskFile) → is_trusted d ≡ false → is_trusted (Recovering (recovery d file)) ≡ false
+recovery_new Ready file h = absurd (true≢false h)
+recovery_new Absent file h = refl
+recovery_new Starting file h = refl
+recovery_new Unusable file h = refl
+recovery_new (Recovering r) file h = refl
+
+new_ordered : (n : ℕ) (order : Order) (plan : Plan) → IsNew n plan → IsNew n (ordered order plan)
+new_ordered n (Clear port) plan h = record { device = set_new plan.devices n port Absent (λ same. refl) h.device; path = unless_new n port plan.path h.path }
+new_ordered n order plan h = record { device = h.device; path = h.path }
+
+pub new_after : (n : ℕ) (a : Act) (file : TaskFile) (plan : Plan) → IsNew n plan → Fits n (Some a) → IsNew n (plan_after a file plan)
+unfolding plan_after
+new_after n (act.Opens k) file plan h fits = record { device = h.device; path = h.path }
+new_after n act.Stops file plan h fits = record { device = there_new plan.devices n; path = refl }
+new_after n (act.Restarts k) file plan h fits = record { device = h.device; path = h.path }
+new_after n (act.Clears dev) file plan h fits = if_new n (nat_lt dev 15) (recovering dev file plan) (from_reset plan)
+    (record {
+      device = set_new plan.devices n dev (Recovering (recovery (device_at plan dev) file)) (λ same. recovery_new (device_at plan dev) file (subst (λ (k : ℕ). is_trusted (device_at plan k) ≡ false) (sym same) h.device)) h.device;
+      path = unless_new n dev plan.path h.path;
+    })
+    (record { device = h.device; path = h.path })
+new_after n (act.Orders order) file plan h fits = new_ordered n order plan h
+new_after n (act.Steps dev stage) file plan h fits = record { device = h.device; path = fits }
+new_after n (act.Issues slot dev queued) file plan h fits = record { device = h.device; path = h.path }
+
+-- ---- and of the requests
+
+-- none of the device's is issued
+abbrev pub NoneIssued : ℕ → List (Option Entry) → Type 0
+NoneIssued n entries = (s : ℕ) (e : Entry) → entry_at entries s ≡ Some e → is_issued e.head ≡ true → e.head.dev ≢ n
+
+issued_was : (b : Bool) (phase : Phase) (e f : Entry) → is_issued_in phase ≡ false → (if b then Some (rephased phase e) else Some e) ≡ Some f → is_issued f.head ≡ true → e ≡ f
+issued_was true phase e f other is issued =
+    absurd (true≢false (sym issued ∙ sym (ap (λ (x : Entry). is_issued x.head) (same_entry (rephased phase e) f is)) ∙ other))
+  where
+    same_entry : (x y : Entry) → Some x ≡ Some y → x ≡ y
+    same_entry x y e = cc
+issued_was false phase e f other is issued = cc
+
+none_rephased : (n : ℕ) (test : ℕ → Head → Bool) (phase : Phase) (entries : List (Option Entry)) → is_issued_in phase ≡ false → NoneIssued n entries → NoneIssued n (rephase_all test phase entries)
+none_rephased n test phase entries other h s f here issued = by_entry (entry_at entries s) refl (sym (entry_of_rephased test phase entries s) ∙ here)
+  where
+    by_entry : (o : Option Entry) → entry_at entries s ≡ o → rephase (test s) phase o ≡ Some f → f.head.dev ≢ n
+    by_entry None was is = absurd (cc)
+    by_entry (Some e) was is =
+        let same : e ≡ f = issued_was (test s e.head) phase e f other is issued in
+        h s f (was ∙ ap (λ (x : Entry). Some x) same) issued
+
+none_logged : (n : ℕ) (log : ErrorLog) (l : Option Logged) (entries : List (Option Entry)) → NoneIssued n entries → NoneIssued n (logged_ended log l entries)
+none_logged n log None entries h = h
+none_logged n log (Some l) entries h =
+    none_rephased n (is_aside_of l.dev) (Ended Aborted) _ refl (none_rephased n (is_named_of log l.dev) (Ended (log_outcome log l.file)) entries refl h)
+
+none_removed : (n : ℕ) (order : Order) (entries : List (Option Entry)) → NoneIssued n entries → NoneIssued n (removed order entries)
+none_removed n (Clear port) entries h = none_rephased n (is_open_of port) (Ended Removed) entries refl h
+none_removed n order entries h = h
+
+none_staged : (n dev : ℕ) (stage : Stage) (entries : List (Option Entry)) → NoneIssued n entries → NoneIssued n (stage_ended dev stage entries)
+none_staged n dev AssertReset entries h = none_rephased n (is_aside_of dev) (Ended Aborted) entries refl h
+none_staged n dev stage entries h = h
+
+-- a request is issued only to a device that is ready
+ready_trusted : (plan : Plan) (e : Entry) → may_issue plan (Some e) ≡ true → is_trusted (device_at plan e.head.dev) ≡ true
+ready_trusted plan e may = by_device (device_at plan e.head.dev) (and_parts (waits e.head) (is_ready (device_at plan e.head.dev)) may).1
+  where
+    by_device : (d : Device) → is_ready d ≡ true → is_trusted d ≡ true
+    by_device Ready h = refl
+    by_device Absent h = absurd (false≢true h)
+    by_device Starting h = absurd (false≢true h)
+    by_device Unusable h = absurd (false≢true h)
+    by_device (Recovering r) h = absurd (false≢true h)
+
+none_issue : (n : ℕ) (v : Sight) (slot dev : ℕ) (queued : Bool) (plan : Plan) (entries : List (Option Entry)) → IsNew n plan → Due v plan entries (Some (act.Issues slot dev queued)) → NoneIssued n entries
+    → NoneIssued n (set entries slot (option_map (rephased Issued) (entry_at entries slot)))
+none_issue n v slot dev queued plan entries new due h s f here issued =
+    elim (set_cases entries slot (option_map (rephased Issued) (entry_at entries slot)) s f here) [
+      | inl at ↦
+          let w : Waiting plan entries slot dev = due.0 in
+          let is : Some (rephased Issued w.entry) ≡ Some f = ap (option_map (rephased Issued)) (sym w.stands) ∙ at.1 in
+          let dev_is : w.entry.head.dev ≡ f.head.dev = ap (λ (x : Entry). x.head.dev) (same_entry (rephased Issued w.entry) f is) in
+          λ same. true≢false (sym (ready_trusted plan w.entry w.may) ∙ ap (λ (k : ℕ). is_trusted (device_at plan k)) (dev_is ∙ same) ∙ new.device)
+      | inr beside ↦ h s f beside.1 issued
+    ]
+  where
+    same_entry : (x y : Entry) → Some x ≡ Some y → x ≡ y
+    same_entry x y e = cc
+
+none_after : (n : ℕ) (v : Sight) (a : Act) (plan : Plan) (entries : List (Option Entry)) → IsNew n plan → Due v plan entries (Some a) → NoneIssued n entries → NoneIssued n (entries_after a entries)
+unfolding entries_after
+none_after n v (act.Opens k) plan entries new due h = h
+none_after n v act.Stops plan entries new due h = none_rephased n is_open (Ended PortError) entries refl h
+none_after n v (act.Restarts k) plan entries new due h = h
+none_after n v (act.Clears dev) plan entries new due h = none_rephased n (is_open_of dev) Aside entries refl h
+none_after n v (act.Orders order) plan entries new due h = none_removed n order entries h
+none_after n v (act.Steps dev stage) plan entries new due h = none_staged n dev stage entries h
+none_after n v (act.Issues slot dev queued) plan entries new due h = none_issue n v slot dev queued plan entries new due h
+
+-- ---- a tick
+
+pub record IsUnknown (n : ℕ) (d : Driver) : Type 0 where
+  pub plan : IsNew n d.plan
+  pub entries : NoneIssued n d.entries
+
+pub unknown_tick : (n : ℕ) (v : Sight) (file : TaskFile) (d : Driver) → comes_back v n d.plan.path ≡ false → IsUnknown n d → IsUnknown n (after_tick v file d)
+unfolding after_tick
+unknown_tick n v file d back h = by_act (turn v d).act refl
+  where
+    t : TurnNew n (turn v d)
+    t = new_turn n v d.plan (done_ended v.issued d.entries) back h.plan
+
+    looked : NoneIssued n (seen v d).entries
+    looked = none_logged n v.log (turn v d).logged (done_ended v.issued d.entries) (none_rephased n (is_done v.issued) (Ended Done) d.entries refl h.entries)
+
+    by_act : (a : Option Act) → (turn v d).act ≡ a → IsUnknown n (acted a file (seen v d))
+    by_act None is = record { plan = t.plan; entries = looked }
+    by_act (Some a) is = record {
+      plan = new_after n a file (seen v d).plan t.plan (subst (Fits n) is t.act);
+      entries = none_after n v a (seen v d).plan (seen v d).entries t.plan (subst (Due v (seen v d).plan (seen v d).entries) is (due_seen v d)) looked;
+    }

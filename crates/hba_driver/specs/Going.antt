@@ -1,0 +1,68 @@
+-- When a host port goes on: what a device sends stops it only where the host's bus fails, and what the
+-- control port of a multiplier sends only where it is no FIS of the control port (AHCI 1.3.1, 6.1, error
+-- types, and 9.3, FIS-based Switching; Serial ATA 3.x, 16.2, control port).
+use Rattle.std.specs.Prelude.{ℕ, ◌≡◌, ◌<◌, ◌⊎◌, true, false, List, [], ◌∷◌, Some, None, Ok, is_some}
+use Rattle.fis_view.specs.Seen.{seen}
+use Rattle.fis_view.specs.declared.view.Fis.TheVariants as view
+use Rattle.host_memory.specs.Memory.{is_memory_size}
+use Rattle.slots.specs.Slots.{own_issue, slots_of}
+use Rattle.hba_fbs.specs.Sending.{outgoing}
+use Rattle.hba_fbs.specs.Tables.{sound_command}
+use Rattle.hba_fbs.specs.Taking.{port_of}
+use Rattle.hba_laws.specs.Hosts as event
+use Rattle.hba_laws.specs.Isolation.{fails_by_bus, stops_port}
+use Rattle.hba_laws.specs.Sound.{IsHost}
+use Rattle.hba_driver.specs.declared.turn.Act.{Act}
+use Rattle.hba_driver.specs.declared.turn.Act.TheVariants as act
+use Rattle.hba_driver.specs.Events.{opening_host, shared_by}
+use Rattle.hba_driver.specs.HostTurns.{DoesAll, Host, HostTurn, Took, sight_in}
+use Rattle.hba_driver.specs.Orders.{control_port}
+use Rattle.hba_driver.specs.Ticks.{due}
+
+-- a FIS that a control port may send: Register Device to Host, or Set Device Bits
+abbrev pub IsReport : List ℕ → Type 0
+IsReport bytes = (seen bytes ≡ Ok (view.RegD2H bytes)) ⊎ (seen bytes ≡ Ok (view.SetBits bytes))
+
+-- each FIS of the control port is one
+abbrev pub IsOfControl : List ℕ → Type 0
+IsOfControl frame = port_of frame ≡ control_port → IsReport frame
+
+-- the command of each slot in which something is issued has a table that can be used
+abbrev pub CanBeRead : event.Host → Type 0
+CanBeRead host =
+    (n s : ℕ) → n < 16 → is_some (own_issue (slots_of n host.port.slots) s) ≡ true
+    → is_some (sound_command host.memory host.port.commands (slots_of n host.port.slots) s) ≡ true
+
+-- then neither a FIS that comes nor the search for the next one stops the port
+pub record NothingStops (host : event.Host) : Type 0 where
+  pub takes : (frame : List ℕ) → IsOfControl frame
+      → stops_port (port_of frame) host.port host.memory frame ≡ false
+  pub gives : fails_by_bus (outgoing host.port host.memory) ≡ false
+
+abbrev pub FaultsNeverStop : Type 0
+FaultsNeverStop = (host : event.Host) → IsHost host → CanBeRead host → NothingStops host
+
+-- ---- over turns
+
+-- so is each FIS of the control port that is taken
+abbrev pub AreOfControl : List HostTurn → Type 0
+AreOfControl [] = Unit {0}
+AreOfControl (Took frame report ∷ turns) = IsOfControl frame × AreOfControl turns
+AreOfControl (turn ∷ turns) = AreOfControl turns
+
+-- the driver neither stops the port nor starts it again
+abbrev pub leaves_port : Act → Type 0
+leaves_port act.Stops = ⊥
+leaves_port (act.Restarts k) = ⊥
+leaves_port other = Unit {0}
+
+-- no fault of the port stands, nothing that comes or goes next makes one, and so no tick stops the port
+pub record GoesOn (h : Host) : Type 0 where
+  pub faultless : h.port.errors.port ≡ None
+  pub next : NothingStops (shared_by h)
+  pub ticks : (a : Act) → due (sight_in h) h.driver ≡ Some a → leaves_port a
+
+abbrev pub PortsGoOn : Type 0
+PortsGoOn =
+    (given len : ℕ) → is_memory_size len ≡ true → (turns : List HostTurn) (h : Host)
+    → DoesAll (opening_host given len) turns h → AreOfControl turns → GoesOn h

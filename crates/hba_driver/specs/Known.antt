@@ -1,0 +1,84 @@
+-- Which devices the driver knows: one whose IDENTIFY data it accepted since it flushed the device
+-- last (ACS-3, IDENTIFY DEVICE; Serial ATA 3.x, 16.3, port multiplier: presence of a device on a
+-- port). Only to such a device are requests issued.
+use Rattle.std.specs.Prelude.{ℕ, ◌≡◌, ◌<◌, ◌==◌, ◌&&◌, ◌||◌, Bool, true, false, if◌then◌else◌}
+use Rattle.std.specs.Prelude.{List, [], ◌∷◌, Option, Some, None}
+use Rattle.std.specs.List.{list_any}
+use Rattle.fis_view.specs.Frames.{Stamped}
+use Rattle.host_memory.specs.Memory.{is_memory_size}
+use Rattle.slots.specs.Slots.{match_some}
+use Rattle.slots.specs.declared.work.Kind.{Kind}
+use Rattle.slots.specs.declared.work.Kind.TheVariants.{QueuedRead, QueuedWrite, PioIn, NoData}
+use Rattle.slots.specs.declared.work.Kind.TheVariants.{Control}
+use Rattle.hba_commands.specs.Requests.{kind_of, request_at}
+use Rattle.hba_commands.specs.declared.command.Command.{Command}
+use Rattle.hba_fbs.specs.Taking.{port_of}
+use Rattle.hba_fbs.specs.Views.{Port, last_command}
+use Rattle.hba_driver.specs.declared.plan.Device.TheVariants.{Ready}
+use Rattle.hba_driver.specs.Drivers.{Entry, device_at, entry_at, is_issued}
+use Rattle.hba_driver.specs.Events.{opening_host}
+use Rattle.hba_driver.specs.HostTurns.{Does, DoesAll, Host, HostTurn, Took, Pushed, Ticked}
+use Rattle.hba_driver.specs.HostTurns.{sight_in}
+use Rattle.hba_driver.specs.Laws.{flushes}
+use Rattle.hba_driver.specs.Ticks.{effects}
+
+-- the command of a slot is IDENTIFY DEVICE, ECh
+abbrev pub is_identify : Option Command → Bool
+is_identify None = false
+is_identify (Some command) =
+    match_some (request_at command.cfis) false (λ request. request.c && request.command == 0xEC)
+
+-- bytes were written for such a command: their slot, the number of the first and how many they are
+abbrev pub is_identity : Port → Option (ℕ × ℕ × ℕ) → Bool
+is_identity port None = false
+is_identity port (Some wrote) = is_identify (last_command port.commands wrote.0)
+
+-- IDENTIFY data of device n are accepted: a FIS of it of which the port wrote bytes for an
+-- IDENTIFY DEVICE
+abbrev pub identifies : ℕ → Host → HostTurn → Bool
+identifies n old (Took frame report) = port_of frame == n && is_identity old.port report.wrote
+identifies n old turn = false
+
+-- the driver flushes device n
+abbrev pub is_flushed : ℕ → Host → HostTurn → Bool
+is_flushed n old (Ticked acted) = list_any (flushes n) (effects (sight_in old) old.driver)
+is_flushed n old turn = false
+
+-- whether IDENTIFY data of device n were accepted since it was flushed last
+abbrev pub known_after : ℕ → Bool → Host → HostTurn → Bool
+known_after n known old turn =
+    if is_flushed n old turn then false else known || identifies n old turn
+
+abbrev pub known_over : ℕ → Bool → (old new : Host) → (turns : List HostTurn)
+    → DoesAll old turns new → Bool
+known_over n known old new [] run = known
+known_over n known old new (turn ∷ turns) run =
+    known_over n (known_after n known old turn) run.0 new turns run.2
+
+-- queued reads and writes, and commands without data; those of slot 30 read a page, or reset
+abbrev pub is_asked : Kind → Bool
+is_asked QueuedRead = true
+is_asked QueuedWrite = true
+is_asked PioIn = false
+is_asked NoData = true
+is_asked Control = false
+
+-- the FIS is the command of a request
+abbrev pub is_request : List ℕ → Bool
+is_request bytes = match_some (request_at bytes) false (λ request. is_asked (kind_of request))
+
+-- Over every list of turns of the host, from its opening on: a device that is ready is known, and so
+-- is one of which a request is issued, and one to which the command of a request goes out.
+pub record DevicesAreKnown : Type 0 where
+  pub ready : (given len : ℕ) → is_memory_size len ≡ true → (turns : List HostTurn) (h : Host)
+      (run : DoesAll (opening_host given len) turns h) (n : ℕ) → n < 15
+      → device_at h.driver.plan n ≡ Ready
+      → known_over n false (opening_host given len) h turns run ≡ true
+  pub issued : (given len : ℕ) → is_memory_size len ≡ true → (turns : List HostTurn) (h : Host)
+      (run : DoesAll (opening_host given len) turns h) (s : ℕ) (e : Entry)
+      → entry_at h.driver.entries s ≡ Some e → is_issued e.head ≡ true
+      → known_over e.head.dev false (opening_host given len) h turns run ≡ true
+  pub pushed : (given len : ℕ) → is_memory_size len ≡ true → (turns : List HostTurn) (h : Host)
+      (run : DoesAll (opening_host given len) turns h) (frame : Stamped) (after : Host)
+      → Does h (Pushed (Some frame)) after → frame.stamp.port < 15 → is_request frame.bytes ≡ true
+      → known_over frame.stamp.port false (opening_host given len) h turns run ≡ true

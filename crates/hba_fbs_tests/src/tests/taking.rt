@@ -1,0 +1,402 @@
+//! FISes that are taken, with values from outside.
+
+use super::rig::Rig;
+use super::sending::command;
+use fis_view::{FrameError, H2dFields};
+use hba_fbs::TakeReport;
+use host_memory::Prd;
+use port_errors::{DeviceCause, PortCause};
+use rx_area::Posted;
+use std::process::Abort;
+use std::test::Fail;
+
+/// Issues a command of a device, and lets it go out.
+pub(super) fn issue(
+    rt: &impl Abort,
+    rig: &mut Rig,
+    dev: u8,
+    slot: u8,
+    command: u8,
+    prds: &[Prd],
+) -> Result<(), Fail> {
+    let queued = command == 0x60;
+    let sectors = if prds.len() == 1 { 2 } else { 1 };
+    let fields = H2dFields {
+        pm_port: dev,
+        c: true,
+        command,
+        features: if queued { sectors } else { 0 },
+        lba: 0x100,
+        device: 0x40,
+        count: if queued { u16::from(slot) * 8 } else { 0 },
+        icc: 0,
+        control: 0,
+    };
+    rig.issue(rt, slot, &fields, prds);
+    match rig.next_out()? {
+        Some(_) => Ok(()),
+        None => Err("no frame".into()),
+    }
+}
+
+/// Status 50h, with which a queued command is answered.
+pub(super) fn answer(dev: u8) -> [u8; 20] {
+    let mut fis = [0; 20];
+    fis[0] = 0x34;
+    fis[1] = dev;
+    fis[2] = 0x50;
+    fis
+}
+
+pub(super) fn setup(dev: u8, to_host: bool, tag: u8, offset: u16, count: u16) -> [u8; 28] {
+    let mut fis = [0; 28];
+    fis[0] = 0x41;
+    fis[1] = if to_host { dev | 0x20 } else { dev };
+    fis[4] = tag;
+    fis[16] = (offset % 256) as u8;
+    fis[17] = (offset / 256) as u8;
+    fis[20] = (count % 256) as u8;
+    fis[21] = (count / 256) as u8;
+    fis
+}
+
+pub(super) fn data(dev: u8, byte: u8) -> [u8; 516] {
+    let mut fis = [byte; 516];
+    fis[0] = 0x46;
+    fis[1] = dev;
+    fis[2] = 0;
+    fis[3] = 0;
+    fis
+}
+
+/// D and I set, Status 58h.
+pub(super) fn pio_setup(dev: u8, ends: u8, count: u16) -> [u8; 20] {
+    let mut fis = [0; 20];
+    fis[0] = 0x5F;
+    fis[1] = dev | 0x60;
+    fis[2] = 0x58;
+    fis[15] = ends;
+    fis[16] = (count % 256) as u8;
+    fis[17] = (count / 256) as u8;
+    fis
+}
+
+pub(super) fn prd(address: u32, bytes: u32) -> Prd {
+    Prd { address, bytes }
+}
+
+/// The bytes 0, 1, .. 255, 0, .. as Data of device 3.
+fn counting() -> [u8; 516] {
+    let mut bytes = data(3, 0);
+    for i in 0..512_usize {
+        bytes[4 + i] = (i % 256) as u8;
+    }
+    bytes
+}
+
+/// The queued read of slot 5 of device 3 goes to two places, and is done once.
+#[test]
+fn read_is_done_once(rt: HostRuntime) -> Result<(), Fail> {
+    let mut rig = Rig::started(rt.alloc())?;
+    let prds = [prd(0x10_1000, 300), prd(0x10_2000, 212)];
+    issue(&rt, &mut rig, 3, 5, 0x60, &prds)?;
+    assert_eq!(rt; rig.read(0x38), Some(0x20));
+    let _ = rig.take(&answer(3))?;
+    assert_eq!(rt; rig.read(0x38), Some(0));
+    let report = rig.take(&setup(3, true, 5, 0, 512))?;
+    assert_eq!(rt; (report.posted, report.fault), (Posted::Setup, None));
+    assert_eq!(rt;
+        (rig.structure_at(0x1300), rig.structure_at(0x1301)),
+        (Some(0x41), Some(0x23))
+    );
+    let report = rig.take(&counting())?;
+    assert_eq!(rt;
+        (report.posted, report.wrote),
+        (Posted::Nothing, Some((5, 0, 512)))
+    );
+    for (at, byte) in [
+        (0x112B, 0x2B),
+        (0x112C, 0),
+        (0x2000, 0x2C),
+        (0x20D3, 0xFF),
+        (0x20D4, 0),
+    ] {
+        assert_eq!(rt; rig.client_at(at), Some(byte), "{at}");
+    }
+    assert_eq!(rt; rig.read(0x34), Some(0x20));
+    let bits = [0xA1, 0x43, 0x50, 0, 0x20, 0, 0, 0];
+    assert_eq!(rt; rig.take(&bits)?.done, 0x20);
+    assert_eq!(rt; rig.first_other(&[(0x34, 0), (0x10, 8)]), None);
+    let again = rig.take(&bits)?;
+    assert_eq!(rt;
+        (again.done, again.fault, again.posted),
+        (0, None, Posted::Bits)
+    );
+    Ok(())
+}
+
+/// These reads of two sectors each go out and are answered.
+fn ask(rt: &impl Abort, rig: &mut Rig, reads: &[(u8, u8, u32)]) -> Result<(), Fail> {
+    for (dev, slot, address) in reads.iter() {
+        issue(rt, rig, *dev, *slot, 0x60, &[prd(*address, 1024)])?;
+        rig.take_all(&[&answer(*dev)])?;
+    }
+    Ok(())
+}
+
+/// A sector of Data of a device, all of whose bytes are this one: which slot's bytes it writes.
+pub(super) fn carry(
+    rig: &mut Rig,
+    dev: u8,
+    byte: u8,
+) -> Result<Option<(u8, u32, u32)>, FrameError> {
+    Ok(rig.take(&data(dev, byte))?.wrote)
+}
+
+/// Two reads of two sectors whose Data FISes cross; another comes with its second sector first.
+#[test]
+fn reads_cross(rt: HostRuntime) -> Result<(), Fail> {
+    let mut rig = Rig::started(rt.alloc())?;
+    ask(
+        &rt,
+        &mut rig,
+        &[(0, 0, 0x10_1000), (4, 1, 0x10_2000), (9, 2, 0x10_3000)],
+    )?;
+    rig.take_all(&[&setup(0, true, 0, 0, 1024), &setup(4, true, 1, 0, 1024)])?;
+    for (dev, byte, wrote) in [
+        (0, 0x11, (0, 0, 512)),
+        (4, 0x44, (1, 0, 512)),
+        (0, 0x12, (0, 512, 512)),
+        (4, 0x45, (1, 512, 512)),
+    ] {
+        assert_eq!(rt; carry(&mut rig, dev, byte)?, Some(wrote));
+    }
+    rig.take_all(&[
+        &setup(9, true, 2, 512, 512),
+        &data(9, 0x99),
+        &setup(9, true, 2, 0, 512),
+        &data(9, 0x90),
+    ])?;
+    for (at, byte) in [
+        (0x1000, 0x11),
+        (0x1200, 0x12),
+        (0x2000, 0x44),
+        (0x2200, 0x45),
+        (0x3000, 0x90),
+        (0x3200, 0x99),
+    ] {
+        assert!(rt; rig.are(at, 512, byte));
+    }
+    let twice = rig.take(&setup(9, true, 2, 512, 512))?;
+    assert_eq!(rt; twice.fault, Some(DeviceCause::Twice));
+    assert_eq!(rt; rig.take(&[0xA1, 4, 0x50, 0, 7, 0, 0, 0])?.done, 2);
+    assert_eq!(rt; rig.read(0x34), Some(5));
+    Ok(())
+}
+
+/// Device 2 reads two sectors in slot 0 of a port that opened anew, has answered and sent these. Then the last FIS makes it
+/// faulty, and shows these bits of PxIS.
+fn fails(
+    rt: &impl Abort,
+    rig: &mut Rig,
+    before: &[&[u8]],
+    fis: &[u8],
+    cause: DeviceCause,
+    interrupts: u32,
+) -> Result<(), Fail> {
+    rig.start();
+    ask(rt, rig, &[(2, 0, 0x10_1000)])?;
+    rig.take_all(before)?;
+    let report = rig.take(fis)?;
+    assert_eq!(rt;
+        (report.fault, report.done, report.wrote),
+        (Some(cause), 0, None)
+    );
+    let shown = [(0x10, interrupts), (0x40, 0x0002_F205), (0x34, 1)];
+    assert_eq!(rt; rig.first_other(&shown), None);
+    Ok(())
+}
+
+/// Causes from bytes: of DMA Setups for the read of device 2, the second time where a sector of it came.
+#[test]
+fn setups_that_are_faults(rt: HostRuntime) -> Result<(), Fail> {
+    let mut rig = Rig::new(rt.alloc())?;
+    for (to_host, tag, count, cause, interrupts) in [
+        (true, 1, 512, DeviceCause::BadTag, 0x0800_0000),
+        (true, 0, 2048, DeviceCause::Overflow, 0x0100_0000),
+        (true, 0, 2, DeviceCause::BadFis, 0x0800_0000),
+        (false, 0, 512, DeviceCause::WrongWay, 0x0800_0000),
+    ] {
+        let fis = setup(2, to_host, tag, 0, count);
+        fails(&rt, &mut rig, &[], &fis, cause, interrupts)?;
+    }
+    for (offset, count, cause, interrupts) in [
+        (0, 512, DeviceCause::Twice, 0x0800_0000),
+        (1020, 8, DeviceCause::Overflow, 0x0100_0000),
+    ] {
+        let before: [&[u8]; 2] = [&setup(2, true, 0, 0, 512), &data(2, 1)];
+        let fis = setup(2, true, 0, offset, count);
+        fails(&rt, &mut rig, &before, &fis, cause, interrupts)?;
+    }
+    Ok(())
+}
+
+/// Causes from bytes of the others: Set Device Bits with ERR and of a read whose bytes are missing, Data that nothing
+/// asked for.
+#[test]
+fn faults_have_causes(rt: HostRuntime) -> Result<(), Fail> {
+    let mut rig = Rig::new(rt.alloc())?;
+    for (fis, cause, interrupts) in [
+        (
+            [0xA1, 0x42, 0x41, 0x40, 0, 0, 0, 0],
+            DeviceCause::TaskFile,
+            0x4000_0008,
+        ),
+        ([0x46, 2, 0, 0, 1, 1, 1, 1], DeviceCause::Stray, 0x0800_0000),
+        (
+            [0xA1, 0x42, 0x50, 0, 1, 0, 0, 0],
+            DeviceCause::Short,
+            0x0800_0008,
+        ),
+    ] {
+        fails(&rt, &mut rig, &[], &fis, cause, interrupts)?;
+    }
+    Ok(())
+}
+
+/// A FIS of a known type that is too short, one of an unknown type that is too long, and Data that is longer than its
+/// setup.
+#[test]
+fn lengths_are_faults(rt: HostRuntime) -> Result<(), Fail> {
+    let mut rig = Rig::new(rt.alloc())?;
+    let bad = DeviceCause::BadFis;
+    fails(&rt, &mut rig, &[], &[0x46, 2, 0, 0], bad, 0x0800_0000)?;
+    let mut unknown = [0; 68];
+    unknown[0] = 0xC7;
+    unknown[1] = 2;
+    fails(&rt, &mut rig, &[], &unknown, bad, 0x0800_0000)?;
+    assert_eq!(rt; rig.structure_at(0x1260), Some(0));
+    let before: [&[u8]; 1] = [&setup(2, true, 0, 0, 256)];
+    let long = DeviceCause::Overflow;
+    fails(&rt, &mut rig, &before, &data(2, 1), long, 0x0100_0000)?;
+    assert!(rt; rig.are(0x1000, 512, 0));
+    Ok(())
+}
+
+/// The bytes of a FIS of an unknown type.
+fn unknown(dev: u8) -> [u8; 64] {
+    let mut fis = [0; 64];
+    fis[0] = 0xC7;
+    fis[1] = dev;
+    fis
+}
+
+/// Device 5 and then device 1 send a Data FIS without bytes; a third goes on. The control port
+/// stops the port.
+#[test]
+fn faults_are_reported(rt: HostRuntime) -> Result<(), Fail> {
+    let mut rig = Rig::started(rt.alloc())?;
+    for dev in [5, 1] {
+        let report = rig.take(&[0x46, dev, 0, 0])?;
+        assert_eq!(rt;
+            (report.dev, report.fault),
+            (dev, Some(DeviceCause::BadFis))
+        );
+        assert_eq!(rt; rig.read(0x40), Some(0x0005_F005));
+        assert!(rt; rig.take(&answer(dev))?.ignored);
+    }
+    let report = rig.take(&unknown(3))?;
+    assert_eq!(rt; (report.posted, report.fault), (Posted::Unknown, None));
+    let shown = [(0x30, 0x0200_0000), (0x10, 0x0800_0010)];
+    assert_eq!(rt; rig.first_other(&shown), None);
+    let report = rig.take(&[0xA1, 0xCF, 0x50, 0, 0, 0, 0, 0])?;
+    assert_eq!(rt; report.posted, Posted::Bits);
+    assert_eq!(rt; rig.read(0x3C), Some(0x8000));
+    let report = rig.take(&[0x39, 0x0F, 0, 0])?;
+    assert_eq!(rt;
+        (report.fault, report.stopped),
+        (None, Some(PortCause::BadControl))
+    );
+    let shown = [(0x40, 0xF001), (0x10, 0x2800_0018)];
+    assert_eq!(rt; rig.first_other(&shown), None);
+    assert!(rt; rig.take(&answer(3))?.ignored);
+    Ok(())
+}
+
+/// The signature of a port multiplier, with I.
+const PM_SIGNATURE: [u8; 20] = [
+    0x34, 0x4F, 0x50, 1, 1, 0x69, 0x96, 0, 0, 0, 0, 0, 1, 0, 0, 0, 0, 0, 0, 0,
+];
+
+/// A software reset of a device begins.
+pub(super) fn reset(rt: &impl Abort, rig: &mut Rig, dev: u8) -> Result<(), Fail> {
+    rig.issue(rt, 0, &command(dev, 0, 0, 0), &[]);
+    match rig.next_out()? {
+        Some(_) => Ok(()),
+        None => Err("no frame".into()),
+    }
+}
+
+/// A software reset of the control port ends with its signature alone.
+#[test]
+fn signature_ends_reset(rt: HostRuntime) -> Result<(), Fail> {
+    let mut rig = Rig::started(rt.alloc())?;
+    rig.take_all(&[&PM_SIGNATURE])?;
+    assert_eq!(rt; rig.read(0x24), Some(0xFFFF_FFFF));
+    reset(&rt, &mut rig, 15)?;
+    let _ = rig.write(0x10, 1);
+    assert!(rt; rig.take(&answer(0x4F))?.ignored);
+    assert!(rt; rig.resetting(&rt, 15));
+    let report = rig.take(&PM_SIGNATURE)?;
+    assert_eq!(rt; (report.posted, report.done), (Posted::D2h, 0));
+    assert!(rt; !rig.resetting(&rt, 15));
+    let _ = rig.write(0x40, 0xF01);
+    let shown = [(0x24, 0x9669_0101), (0x10, 1), (0x20, 0x0150)];
+    assert_eq!(rt; rig.first_other(&shown), None);
+    Ok(())
+}
+
+/// Sends the identify data of device 1, for slot 3, in blocks with these ends: the report of the
+/// last Data.
+fn identify(rt: &impl Abort, rig: &mut Rig, blocks: &[(u8, u16)]) -> Result<TakeReport, Fail> {
+    issue(rt, rig, 1, 3, 0xEC, &[prd(0x10_1000, 512)])?;
+    let bytes = data(1, 0x77);
+    let mut last = rig.take(&answer(2))?;
+    for (ends, count) in blocks.iter() {
+        let report = rig.take(&pio_setup(1, *ends, *count))?;
+        assert_eq!(rt; (report.posted, rig.read(0x20)), (Posted::Pio, Some(0x58)));
+        assert!(rt; *count <= 512);
+        let end = 4 + *count as usize;
+        last = rig.take(&bytes[..end])?;
+    }
+    Ok(last)
+}
+
+/// PIO data-in of 512 bytes in one block and in two, and with ERR in E_Status: the fault, and what is done then, PxIS and
+/// PxTFD.
+#[test]
+fn blocks_end(rt: HostRuntime) -> Result<(), Fail> {
+    let rows: [(&[(u8, u16)], Option<DeviceCause>, (u32, u32, u32)); 4] = [
+        (&[(0x50, 512)], None, (8, 2, 0x50)),
+        (&[(0x58, 256), (0x50, 256)], None, (8, 2, 0x50)),
+        (&[(0x58, 512)], None, (0, 2, 0x58)),
+        (
+            &[(0x51, 512)],
+            Some(DeviceCause::TaskFile),
+            (0, 0x4000_0002, 0x51),
+        ),
+    ];
+    for (blocks, fault, (done, interrupts, file)) in rows {
+        let mut rig = Rig::started(rt.alloc())?;
+        let last = identify(&rt, &mut rig, blocks)?;
+        assert_eq!(rt; (last.fault, last.done), (fault, done));
+        let shown = [
+            (0x10, interrupts),
+            (0x20, file),
+            (0x38, 8_u32.wrapping_sub(done)),
+        ];
+        assert_eq!(rt; rig.first_other(&shown), None);
+        assert!(rt; rig.are(0x1000, 512, 0x77));
+    }
+    Ok(())
+}

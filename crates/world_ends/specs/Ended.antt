@@ -1,0 +1,57 @@
+-- What a request that is done is to a disk: a read brought the sectors of the medium as they were
+-- when the disk started it, and a write is on the medium (ACS-3, READ FPDMA QUEUED and WRITE FPDMA
+-- QUEUED; AHCI 1.3.1, 4.2.3.3, Physical Region Descriptor Table). The ledger of FISes is that of
+-- `disk_model` (specs/Ledger.antt), entries are those of `hba_driver` (specs/Drivers.antt).
+use Rattle.std.specs.Prelude.{ℕ, ◌≡◌, ◌-◌, ◌*◌, ◌<◌, List, length, slice_get}
+use Rattle.std.specs.Prelude.{slice_index, Option, Some}
+use Rattle.host_memory.specs.Memory.{Memory, client_start}
+use Rattle.host_memory.specs.Place.{LiesInClient, place}
+use Rattle.host_memory.specs.declared.table.Prd.{Prd}
+use Rattle.disk_model.specs.declared.request.Command.{Command}
+use Rattle.disk_model.specs.Chunks.{sectors_at}
+use Rattle.disk_model.specs.Histories.{Happening}
+use Rattle.disk_model.specs.Ledger.{ReadOut, Written, ledger, medium_with}
+use Rattle.hba_driver.specs.declared.request.Work.TheVariants.{Read, Write}
+use Rattle.hba_driver.specs.declared.slot.Head.{Head}
+use Rattle.hba_driver.specs.Drivers.{Entry}
+
+-- byte i of these stands in client memory, where the PRDs say
+pub record StandsAt (bytes : List ℕ) (prds : List Prd) (memory : Memory) (i : ℕ) : Type 0 where
+  pub inside : LiesInClient (length memory.client) (place prds i) 1
+  pub is : slice_get bytes i ≡ Some (slice_index memory.client (place prds i - client_start))
+
+-- the command is that of the request in slot s
+pub record IsCommandOf (s : ℕ) (head : Head) (c : Command) : Type 0 where
+  pub tag : c.tag ≡ s
+  pub lba : c.lba ≡ head.lba
+  pub count : c.count ≡ head.sectors
+
+-- A read that the disk ended: its bytes stand in client memory, each at its place, and are its
+-- sectors of the medium, as the writes that had ended when the disk started it left them.
+pub record ReadsSectors (sectors s : ℕ) (e : Entry) (happened : List Happening)
+    (memory : Memory) : Type 0 where
+  pub at : ℕ
+  pub read : ReadOut
+  pub ended : slice_get (ledger happened).reads at ≡ Some read
+  pub command : IsCommandOf s e.head read.command
+  pub brought : (i : ℕ) → i < 512 * e.head.sectors
+      → StandsAt (sectors_at (medium_with sectors read.before) e.head.lba e.head.sectors) e.prds
+      memory i
+
+-- A write that the disk entered on its medium: in its sectors, with just the bytes of its transfer
+-- that went over.
+pub record WritesSectors (s : ℕ) (e : Entry) (happened : List Happening) (filled : ℕ → Option ℕ)
+    : Type 0 where
+  pub at : ℕ
+  pub written : Written
+  pub entered : slice_get (ledger happened).writes at ≡ Some written
+  pub tag : written.tag ≡ s
+  pub place : written.at ≡ 512 * e.head.lba
+  pub long : length written.bytes ≡ 512 * e.head.sectors
+  pub bytes : (i : ℕ) → i < 512 * e.head.sectors → filled i ≡ slice_get written.bytes i
+
+-- the request of an entry ended honestly, by what happened to the disk
+pub record EndsHonestly (sectors s : ℕ) (e : Entry) (happened : List Happening)
+    (filled : ℕ → Option ℕ) (memory : Memory) : Type 0 where
+  pub reads : e.head.work ≡ Read → ReadsSectors sectors s e happened memory
+  pub writes : e.head.work ≡ Write → WritesSectors s e happened filled

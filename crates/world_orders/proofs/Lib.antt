@@ -1,0 +1,6 @@
+pub mod EachLemmas
+pub mod KeepingLemmas
+pub mod UpLemmas
+pub mod DownLemmas
+pub mod IdentifiedLemmas
+pub mod StaleLemmas

@@ -1,0 +1,67 @@
+-- A port of the multiplier keeps to one connection: between two FISes of the host that clear its bit
+-- X all that passes it, up and down, is of one (Serial ATA 3.x, 16.3, port multiplier: frame
+-- transmission, presence of a device on a port; 16.4.2: PSCR[1], bit X, a device was exchanged).
+use Rattle.std.specs.Prelude.{ℕ, ◌≡◌, ◌<◌, ◌==◌, if◌then◌else◌, false}
+use Rattle.std.specs.Prelude.{true, List, [], ◌∷◌, ◌++◌, length}
+use Rattle.std.specs.Prelude.{drop}
+use Rattle.fis_view.specs.Frames.{Stamped}
+use Rattle.disk_model.specs.declared.unit.Unit.{Unit}
+use Rattle.pm_world.specs.Cleared.{is_cleared}
+use Rattle.pm_world.specs.Downward.{fell_to}
+use Rattle.pm_world.specs.Places.{Places, is_config, new_world}
+use Rattle.pm_world.specs.Rules.{Run}
+use Rattle.pm_world.specs.Runs.{Telling}
+use Rattle.pm_world.specs.declared.step.Config.{Config}
+use Rattle.pm_world.specs.declared.step.Step.{Step}
+use Rattle.pm_world.specs.declared.step.Step.TheVariants as step
+use Rattle.pm_world.specs.declared.step.Answer.{Answer}
+use Rattle.pm_world.specs.declared.step.Answer.TheVariants as answer
+
+-- the FIS of port n that went up: what the host's link has more than before
+abbrev pub rose_from : ℕ → Telling Stamped
+rose_from n old step.PmUp (answer.Up port) new =
+    if port == n then drop (length old.upward.frames) new.upward.frames else []
+rose_from n old s a new = []
+
+-- what passed port n, down or up, each FIS with the connection for which it did
+abbrev pub passed_at : ℕ → Telling Stamped
+passed_at n old s a new = fell_to n old s a new ++ rose_from n old s a new
+
+-- each of these FISes is of connection c
+abbrev pub AreOf : ℕ → List Stamped → Type 0
+AreOf c [] = Prim.Unit {0}
+AreOf c (f ∷ frames) = (f.stamp.conn ≡ c) × AreOf c frames
+
+-- up to the first of these steps in which the host clears port n, all that passes it is of
+-- connection c
+abbrev pub PassesOnly : (n c : ℕ) → (old : Places) → (steps : List Step) → (answers : List Answer)
+    → (new : Places) → Run old steps answers new → Type 0
+PassesOnly n c old [] answers new run = Prim.Unit {0}
+PassesOnly n c old (s ∷ steps) [] new run = Prim.Unit {0}
+PassesOnly n c old (s ∷ steps) (a ∷ answers) new run =
+    AreOf c (passed_at n old s a run.0)
+    × (is_cleared n old a ≡ false → PassesOnly n c run.0 steps answers new run.2)
+
+-- so it is from each of these FISes on, where they are those that a step passed
+abbrev pub Keep : (n : ℕ) → List Stamped → (old : Places) → (steps : List Step)
+    → (answers : List Answer) → (new : Places) → Run old steps answers new → Type 0
+Keep n [] old steps answers new run = Prim.Unit {0}
+Keep n (f ∷ frames) old steps answers new run =
+    PassesOnly n f.stamp.conn old steps answers new run × Keep n frames old steps answers new run
+
+-- and from each of these steps on in which one passed
+abbrev pub EachKeeps : (old : Places) → (steps : List Step) → (answers : List Answer)
+    → (new : Places) → Run old steps answers new → Type 0
+EachKeeps old [] answers new run = Prim.Unit {0}
+EachKeeps old (s ∷ steps) [] new run = Prim.Unit {0}
+EachKeeps old (s ∷ steps) (a ∷ answers) new run =
+    ((n : ℕ) → n < 15 → Keep n (passed_at n old s a run.0) run.0 steps answers new run.2)
+    × EachKeeps run.0 steps answers new run.2
+
+-- over every run from a new world
+abbrev pub PortsKeep : Type 0
+PortsKeep =
+    (config : Config) (units : List Unit) → is_config config (length units) ≡ true
+    → (steps : List Step) (answers : List Answer) (new : Places)
+    (run : Run (new_world config units) steps answers new)
+    → EachKeeps (new_world config units) steps answers new run
