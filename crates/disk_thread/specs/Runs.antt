@@ -1,7 +1,7 @@
 -- A device at its port, with the seats of its links, and what a run of it is.
-use Rattle.std.specs.Prelude.{ℕ, ◌≡◌, ◌<◌, List, ◌++◌, length, Option}
+use Rattle.std.specs.Prelude.{ℕ, ◌≡◌, ◌<◌, ◌==◌, ◌&&◌, nat_le, Bool, false, List, ◌++◌, length, Option}
 use Rattle.std.proofs.Common.{get_or}
-use Rattle.std.specs.List.{flat_map}
+use Rattle.std.specs.List.{flat_map, list_any}
 use Rattle.std.specs.Option.{option_to_list}
 use Rattle.fis_view.specs.Frames.{Stamped}
 use Rattle.disk_model.specs.Histories.{Happening, Plan}
@@ -9,6 +9,7 @@ use Rattle.ruled_links.specs.Links.{Seat}
 use Rattle.multiplier.specs.Orders.{InDeviceOrder, of_connection}
 use Rattle.link_items.specs.OrderLaws.{IsAt}
 use Rattle.link_items.specs.declared.items.Presence.{Presence}
+use Rattle.link_items.specs.declared.items.Presence.TheVariants.{Came, Gone}
 use Rattle.disk_thread.specs.Deeds.{Deed, Standing, never_plugged, after_deeds, history_of, MayAllBeDone, taken_by, given_by, told_by}
 
 pub record StationState (D : Type 0) : Type 0 where
@@ -46,6 +47,18 @@ pub record IsCounted (fises : List Stamped) (conn number : ℕ) : Type 0 where
 pub record ArePast (past : List ℕ) (conn : ℕ) (fises : List Stamped) : Type 0 where
   pub long : length past ≡ conn
   pub each : (c other : ℕ) → c < conn → get_or past c other ≡ length (of_connection c fises)
+
+-- whether it was told that connection c came
+abbrev pub is_coming : ℕ → Presence → Bool
+is_coming c (Came conn) = conn == c
+is_coming c (Gone conn) = false
+
+abbrev pub has_come : ℕ → List Presence → Bool
+has_come c told = list_any (is_coming c) told
+
+-- the connections that came are those from 1 to this one
+pub record AreTold (told : List Presence) (conn : ℕ) : Type 0 where
+  pub each : (c : ℕ) → has_come c told ≡ (nat_le 1 c && nat_le c conn)
 
 -- A run of the device that was given in: there is one order of deeds, each of which might be done after those before it,
 -- that led to what the station is now. The device stands for its history with theirs at the end, and the lists of the seats

@@ -1,8 +1,9 @@
 //! A device at its port.
 
-ghost use Rattle.std.specs.Prelude.{◌≡◌, [], length, OnOk};
+ghost use Rattle.std.specs.Prelude.{◌≡◌, [], length, Err, IfErr, OnOk};
 ghost use Rattle.multiplier.specs.Orders.{of_connection};
-ghost use Rattle.disk_thread.specs.Runs.{GoesOnRunning, IsAtSamePort, IsRun, all_given};
+ghost use Rattle.runner.specs.declared.worker.Fault.TheVariants as fault;
+ghost use Rattle.disk_thread.specs.Runs.{AreTold, GoesOnRunning, IsAtSamePort, IsRun, all_given, all_told};
 
 use crate::gate::Gate;
 use disk_model::Device;
@@ -35,7 +36,7 @@ pub struct Station<'a, D: Device + Drop> {
 impl<'a, D: Device + Drop> Model for Station<'a, D> {
     ghost use Rattle.std.specs.Prelude.{◌++◌};
     ghost use Rattle.std.specs.Option.{option_to_list};
-    ghost use Rattle.disk_thread.specs.Runs.{ArePast, IsCounted, StationState};
+    ghost use Rattle.disk_thread.specs.Runs.{ArePast, AreTold, IsCounted, StationState};
 
     ghost Value = { StationState D };
 
@@ -52,7 +53,8 @@ impl<'a, D: Device + Drop> Model for Station<'a, D> {
     } };
 
     ghost invariant = { λ s. IsCounted (s.frames.sent ++ option_to_list s.hand) s.conn s.number
-        × ArePast s.past.items s.conn (s.frames.sent ++ option_to_list s.hand) };
+        × ArePast s.past.items s.conn (s.frames.sent ++ option_to_list s.hand)
+        × AreTold (s.presence.sent ++ option_to_list s.note) s.conn };
 }
 
 impl<'a, D: Device + Drop> Station<'a, D> {
@@ -90,9 +92,10 @@ impl<'a, D: Device + Drop> Station<'a, D> {
         }
     }
 
-    /// The connection that the device has, or had last: 0 before the first.
+    /// The connection that the device has, or had last: 0 before the first. All from 1 to this one have come.
     pub fn conn(&self) -> u32
-        ensures { result ≡ self.now.standing.conn }
+        ensures conn { result ≡ self.now.standing.conn }
+        ensures come { AreTold (all_told self.now) result }
     {
         self.conn
     }
@@ -133,6 +136,7 @@ impl<'a, D: Device + Drop> Station<'a, D> {
     pub(crate) fn plug(&mut self, alloc: Global) -> Result<bool, Fault>
         ensures run { OnOk result (GoesOnRunning D.plan_of D.stands_for D.may_send self.old self.new) }
         ensures port { IsAtSamePort self.old self.new }
+        ensures fault { IfErr result (λ f. f ≡ fault.OutOfMemory) }
     {
         if self.plugged || self.note.is_some() || self.conn == u32::MAX {
             return Ok(false);
@@ -177,6 +181,7 @@ impl<'a, D: Device + Drop> Station<'a, D> {
     ) -> Result<bool, Fault>
         ensures run { OnOk result (GoesOnRunning D.plan_of D.stands_for D.may_send self.old self.new) }
         ensures port { IsAtSamePort self.old self.new }
+        ensures gate { result ≡ Err fault.GateShut → G.may_refuse }
     {
         if !self.plugged || self.note.is_some() {
             return Ok(false);
@@ -197,6 +202,7 @@ impl<'a, D: Device + Drop> Station<'a, D> {
     pub(crate) fn give(&mut self, alloc: Global) -> Result<bool, Fault>
         ensures run { OnOk result (GoesOnRunning D.plan_of D.stands_for D.may_send self.old self.new) }
         ensures port { IsAtSamePort self.old self.new }
+        ensures fault { IfErr result (λ f. f ≡ fault.OutOfMemory) }
     {
         if self.hand.is_some() || !self.plugged || self.note.is_some() || self.number == u32::MAX {
             return Ok(false);

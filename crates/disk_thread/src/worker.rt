@@ -1,6 +1,7 @@
 //! A device's thread.
 
-ghost use Rattle.std.specs.Prelude.{◌≡◌, ◌<◌, length, IfSome, OnOk};
+ghost use Rattle.std.specs.Prelude.{◌≡◌, ◌<◌, length, Err, IfSome, OnOk};
+ghost use Rattle.runner.specs.declared.worker.Fault.TheVariants as fault;
 ghost use Rattle.disk_thread.specs.Runs.{GoesOnRunning, IsAtSamePort};
 
 use crate::gate::Gate;
@@ -76,6 +77,7 @@ impl<'a, 'g, D: Device + Drop, G: Gate> DiskWorker<'a, 'g, D, G> {
     fn turn<R: Wait>(&mut self, rt: &R) -> Result<bool, Fault>
         ensures run { OnOk result (GoesOnRunning D.plan_of D.stands_for D.may_send self.old self.new) }
         ensures port { IsAtSamePort self.old self.new }
+        ensures gate { result ≡ Err fault.GateShut → G.may_refuse }
     {
         let pulled = self.pull();
         let plugged = self.station.plug(self.alloc)?;
@@ -90,11 +92,13 @@ impl<'a, 'g, D: Device + Drop, G: Gate> DiskWorker<'a, 'g, D, G> {
 impl<'a, 'g, D: Device + Drop + Send, G: Gate + Sync> Worker for DiskWorker<'a, 'g, D, G> {
     type End = DiskEnd<'a, D>;
 
-    ghost use Rattle.std.specs.Prelude.{◌≡◌, None};
+    ghost use Rattle.std.specs.Prelude.{◌≡◌, None, Some};
+    ghost use Rattle.runner.specs.declared.worker.Fault.TheVariants as fault;
     ghost use Rattle.disk_thread.specs.Runs.{GoesOnRunning, IsAtSamePort};
 
     ghost ended = { λ worker end. IsAtSamePort worker end.station
-        × (end.fault ≡ None → GoesOnRunning D.plan_of D.stands_for D.may_send worker end.station) };
+        × (end.fault ≡ None → GoesOnRunning D.plan_of D.stands_for D.may_send worker end.station)
+        × (end.fault ≡ Some fault.GateShut → G.may_refuse) };
 
     fn work<R: Wait>(mut self, rt: &R, stop: &AtomicBool, turns: u64) -> DiskEnd<'a, D> {
         let mut fault = None;

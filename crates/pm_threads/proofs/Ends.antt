@@ -1,9 +1,10 @@
 -- What is known of the ends of a run.
-use Rattle.std.proofs.Common.{◌≡◌, ℕ, zero, suc, ◌<◌, ◌≤◌, List, [], ◌∷◌, ◌++◌, length, append_assoc, append-nil, refl, sym, ap, ◌∙◌, subst, None, Option, drop, arith}
-use Rattle.std.specs.Prelude.{map, All, IfOk, OnOk, Result, Ok, Err}
-use Rattle.std.specs.List.{AllZip}
-use Rattle.std.proofs.lemmas.List.{map-append}
-use Rattle.std.proofs.lemmas.List.Elements.{filter-append}
+use Rattle.std.proofs.Common.{◌≡◌, ℕ, zero, suc, ◌+◌, ◌<◌, ◌≤◌, Bool, true, false, List, [], ◌∷◌, ◌++◌, length, append_assoc, append-nil, refl, sym, ap, ◌∙◌, subst, None, Some, Option, drop, length-append, arith}
+use Rattle.std.specs.Prelude.{◌||◌, if◌then◌else◌, map, All, IfOk, OnOk, Result, Ok, Err}
+use Rattle.std.specs.List.{AllZip, list_any}
+use Rattle.std.specs.Option.{ForSome, option_to_list}
+use Rattle.std.proofs.lemmas.List.{length-map, map-append}
+use Rattle.std.proofs.lemmas.List.Elements.{All-cons, filter-append}
 use Rattle.fis_view.specs.Frames.{Stamped}
 use Rattle.disk_model.specs.Histories.{Happening, Plan}
 use Rattle.disk_model.specs.declared.unit.Unit.{Unit}
@@ -16,7 +17,9 @@ use Rattle.disk_thread.specs.Runs.{StationState, IsRun, GoesOnRunning, IsAtSameP
 use Rattle.pm_thread.specs.Runs.{PortSeats, ends_of, IsUnused, frames_at}
 use Rattle.pm_thread.specs.Passing.{risen}
 use Rattle.pm_threads.specs.Seats.{TiedTo, Starts, Handed}
-use Rattle.pm_threads.specs.Ends.{sent_at, EachArrives}
+use Rattle.pm_threads.specs.Ends.{sent_at, EachArrives, is_short, is_shut}
+use Rattle.runner.specs.declared.worker.Fault.{Fault}
+use Rattle.runner.specs.declared.worker.Fault.TheVariants as fault
 
 -- ---- beginnings
 
@@ -66,6 +69,14 @@ module _ {D : Type 0} where
 -- the ends of workers, in whatever they lie
 module _ {D E : Type 0} (station : E → StationState D) (R : StationState D → E → Type 0) where
   module _ (same : (w : StationState D) (e : E) → R w e → IsAtSamePort w (station e)) where
+    pub all_at_ports : (ws : List (StationState D)) (es : List E) → AllZip R ws es → map (λ s. s.port) (map station es) ≡ map (λ w. w.port) ws
+    all_at_ports [] [] r = refl
+    all_at_ports [] (x ∷ es) r = absurd r
+    all_at_ports (w ∷ ws) [] r = absurd r
+    all_at_ports (w ∷ ws) (x ∷ es) r =
+        let rest : List ℕ = map (λ s. s.port) (map station es) in
+        ap (λ p. p ∷ rest) (same w x r.0).port ∙ ap (λ l. w.port ∷ l) (all_at_ports ws es r.1)
+
     pub all_tied : (ws : List (StationState D)) (ps qs : List PortSeats) (es : List E) → AllZip TiedTo ws ps → AllZip R ws es → map ends_of qs ≡ map ends_of ps
         → AllZip TiedTo (map station es) qs
     all_tied [] [] [] [] s r e = tt
@@ -89,6 +100,35 @@ module _ {D E : Type 0} (station : E → StationState D) (R : StationState D →
     all_ran (x ∷ us) (w ∷ ws) [] u r f = absurd r
     all_ran (x ∷ us) (w ∷ ws) (y ∷ es) u r f =
         (goes_on x w y r.0 (f 0 y (omega arith)) u.0, all_ran us ws es u.1 r.1 (λ k d less. f (suc k) d (omega (arith, less))))
+
+-- ---- faults
+
+module _ {E : Type 0} (fault_of : E → Option Fault) where
+  quiet : (f : Option Fault) (s t : Bool) → (is_short f || s) ≡ false → (is_shut f || t) ≡ false → (f ≡ None) × (s ≡ false) × (t ≡ false)
+  quiet None s t a b = (refl, a, b)
+  quiet (Some fault.OutOfMemory) s t a b = absurd cc
+  quiet (Some fault.GateShut) s t a b = absurd cc
+
+  -- no worker had a fault
+  pub all_quiet : (es : List E) → list_any (λ e. is_short (fault_of e)) es ≡ false → list_any (λ e. is_shut (fault_of e)) es ≡ false → All (λ e. fault_of e ≡ None) es
+  all_quiet [] a b = λ k d less. absurd (omega (arith, less))
+  all_quiet (x ∷ es) a b =
+      let q = quiet (fault_of x) (list_any (λ e. is_short (fault_of e)) es) (list_any (λ e. is_shut (fault_of e)) es) a b in
+      All-cons (λ e. fault_of e ≡ None) x es q.0 (all_quiet es q.1 q.2)
+
+  module _ {D : Type 0} (R : StationState D → E → Type 0) (MayRefuse : Type 0) (by : (w : StationState D) (e : E) → R w e → fault_of e ≡ Some fault.GateShut → MayRefuse) where
+    first_refused : (w : StationState D) (x : E) (rest : Bool) (f : Option Fault) → R w x → fault_of x ≡ f → (is_shut f || rest) ≡ true → (rest ≡ true → MayRefuse) → MayRefuse
+    first_refused w x rest None r e h later = later h
+    first_refused w x rest (Some fault.OutOfMemory) r e h later = later h
+    first_refused w x rest (Some fault.GateShut) r e h later = by w x r e
+
+    -- where a worker ended by its gate, that may refuse
+    pub one_refused : (ws : List (StationState D)) (es : List E) → AllZip R ws es → list_any (λ e. is_shut (fault_of e)) es ≡ true → MayRefuse
+    one_refused [] [] r h = absurd cc
+    one_refused [] (x ∷ es) r h = absurd r
+    one_refused (w ∷ ws) [] r h = absurd r
+    one_refused (w ∷ ws) (x ∷ es) r h =
+        first_refused w x (list_any (λ e. is_shut (fault_of e)) es) (fault_of x) r.0 refl h (λ t. one_refused ws es r.1 t)
 
 -- what follows of two clauses on a success
 pub on_ok : {T E : Type 0} (r : Result T E) (P : Type 0) (Q S : T → Type 0) → IfOk r Q → OnOk r P → ((x : T) → Q x → P → S x) → IfOk r S

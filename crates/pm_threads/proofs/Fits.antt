@@ -1,8 +1,12 @@
 -- What a setup that fits says of its numbers.
 use Rattle.std.proofs.Common.{◌≡◌, ◌≤◌, ℕ, Bool, true, arith}
-use Rattle.std.specs.Prelude.{◌&&◌, ◌==◌, nat_le}
+use Rattle.std.specs.Prelude.{◌&&◌, ◌==◌, nat_le, nat_lt, length}
+use Rattle.std.specs.List.{list_all}
 use Rattle.std.proofs.lemmas.Bool.{and_parts}
 use Rattle.std.proofs.lemmas.Bool.Decides.{nat_tests}
+use Rattle.host_memory.specs.Memory.{is_memory_size}
+use Rattle.pm_threads.specs.Setups.{is_fitting, lies_in}
+use Rattle.pm_threads.specs.declared.setup.Setup.{Setup}
 
 pub first_three : (a b u t m x p q r : Bool) → ((((((((a && b) && u) && t) && m) && x) && p) && q) && r) ≡ true → (a ≡ true) × (b ≡ true) × (u ≡ true)
 first_three a b u t m x p q r h =
@@ -20,3 +24,26 @@ pub unit_for_each : (ports units : ℕ) → (nat_le 1 ports ≡ true) × (nat_le
 unit_for_each ports units h =
     let a = h.0 in let b = h.1 in let c = h.2 in
     (grind (arith, nat_tests, a, b, c), grind (arith, nat_tests, a, b, c))
+
+pub puts_part : (a b u t m x p q r : Bool) → ((((((((a && b) && u) && t) && m) && x) && p) && q) && r) ≡ true → p ≡ true
+puts_part a b u t m x p q r h =
+    let s1 = and_parts (((((((a && b) && u) && t) && m) && x) && p) && q) r h in
+    let s2 = and_parts ((((((a && b) && u) && t) && m) && x) && p) q s1.0 in
+    let s3 = and_parts (((((a && b) && u) && t) && m) && x) p s2.0 in
+    s3.1
+
+pub as_many : (ports units : ℕ) → (units == ports) ≡ true → units ≡ ports
+as_many ports units h = grind (arith, nat_tests, h)
+
+module _ (ports : ℕ) (s : Setup) (h : is_fitting ports s ≡ true) where
+  pub fits_puts : list_all (λ put. lies_in s.memory put.0 (length put.1.items)) s.puts.items ≡ true
+  fits_puts =
+      puts_part (nat_le 1 ports) (nat_le ports 15) (length s.units.items == ports) (nat_le 1 s.turns) (nat_le s.turns 16777216)
+      (is_memory_size s.memory) (list_all (λ put. lies_in s.memory put.0 (length put.1.items)) s.puts.items)
+      (list_all (λ planned. nat_lt planned.dev ports) s.plan.items) (list_all (λ pull. nat_lt pull.0 ports) s.pulls.items) h
+
+  pub fits_units : length s.units.items ≡ ports
+  fits_units = as_many ports (length s.units.items)
+      (first_three (nat_le 1 ports) (nat_le ports 15) (length s.units.items == ports) (nat_le 1 s.turns) (nat_le s.turns 16777216)
+      (is_memory_size s.memory) (list_all (λ put. lies_in s.memory put.0 (length put.1.items)) s.puts.items)
+      (list_all (λ planned. nat_lt planned.dev ports) s.plan.items) (list_all (λ pull. nat_lt pull.0 ports) s.pulls.items) h).2

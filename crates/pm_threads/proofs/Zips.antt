@@ -1,8 +1,9 @@
 -- Two lists, place by place.
-use Rattle.std.proofs.Common.{◌≡◌, suc, List, [], ◌∷◌, ◌++◌, length, refl, ap, sym, subst}
-use Rattle.std.specs.Prelude.{map}
-use Rattle.std.specs.List.{AllZip}
-use Rattle.std.proofs.lemmas.List.{map-append}
+use Rattle.std.proofs.Common.{◌≡◌, ◌∙◌, ◌+◌, ℕ, zero, suc, arith, List, [], ◌∷◌, ◌++◌, length, length-append, refl, ap, sym, subst}
+use Rattle.std.specs.Prelude.{All, map}
+use Rattle.std.specs.List.{AllZip, range_with_len}
+use Rattle.std.proofs.lemmas.List.{get_or_append_left, map-append}
+use Rattle.pm_threads.specs.Seats.{first_ports}
 
 module _ {A B : Type 0} (R : A → B → Type 0) where
   -- one pair more, at the end
@@ -53,3 +54,24 @@ module _ {A B E : Type 0} (f : E → A) (R : A → B → Type 0) where
 
   pub map_pop : (es : List E) (ys : List B) (e : E) (y : B) → AllZip R (map f (es ++ e ∷ [])) (ys ++ y ∷ []) → AllZip R (map f es) ys × R (f e) y
   map_pop es ys e y h = zip_pop R (map f es) ys (f e) y (subst (λ l. AllZip R l (ys ++ y ∷ [])) (map-append f es (e ∷ [])) h)
+
+-- the ports from 0 on, one more
+ports_from : (a n : ℕ) → range_with_len a (suc n) ≡ range_with_len a n ++ (a + n) ∷ []
+ports_from a zero = ap (λ k. k ∷ []) (let e : a ≡ a + 0 = omega arith in e)
+ports_from a (suc n) =
+    let e : (a + 1) + n ≡ a + suc n = omega arith in
+    let rest : range_with_len (a + 1) (suc n) ≡ range_with_len (a + 1) n ++ (a + suc n) ∷ [] =
+    ports_from (a + 1) n ∙ ap (λ k. range_with_len (a + 1) n ++ k ∷ []) e in
+    ap (λ l. a ∷ l) rest
+
+pub ports_push : {A : Type 0} (port : A → ℕ) (ws : List A) (w : A) (n : ℕ) → map port ws ≡ first_ports n → port w ≡ n
+    → map port (ws ++ w ∷ []) ≡ first_ports (n + 1)
+ports_push port ws w n h is =
+    let zero_first : n ≡ 0 + n = omega arith in
+    let next : suc n ≡ n + 1 = omega arith in
+    map-append port ws (w ∷ []) ∙ ap (λ l. l ++ port w ∷ []) h ∙ ap (λ k. first_ports n ++ k ∷ []) (is ∙ zero_first)
+    ∙ sym (ports_from 0 n) ∙ ap first_ports next
+
+-- what is true of all is true of those in front
+pub all_front : {A : Type 0} (P : A → Type 0) (xs ys : List A) → All P (xs ++ ys) → All P xs
+all_front P xs ys h k d lt = subst P (get_or_append_left xs ys d k lt) (h k d (omega (arith, lt, length-append xs ys)))

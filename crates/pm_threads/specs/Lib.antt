@@ -2,3 +2,4 @@ pub mod Ends
 pub mod Links
 pub mod Seats
 pub mod Setups
+pub mod Summaries

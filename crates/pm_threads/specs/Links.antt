@@ -1,5 +1,5 @@
 -- The links of one run, as contracts see them.
-use Rattle.std.specs.Prelude.{◌≡◌, ℕ, Bool, nat_le, ◌&&◌, List, replicate}
+use Rattle.std.specs.Prelude.{◌≡◌, ℕ, Bool, false, nat_le, ◌&&◌, All, List, replicate}
 use Rattle.ruled_links.specs.Links.{LinkState, is_capacity, new_link}
 use Rattle.ruled_links.specs.declared.link.LinkError.{LinkError}
 use Rattle.ruled_links.specs.declared.link.LinkError.TheVariants as link
@@ -22,6 +22,20 @@ pub record LinksState : Type 0 where
   pub up : LinkState
   -- FISes of the host
   pub down : LinkState
+  -- whether a run has taken their seats
+  pub given : Bool
+
+-- the seats of a device's links were not given
+pub record IsFree (d : DeviceState) : Type 0 where
+  pub up : d.up.seated ≡ false
+  pub down : d.down.seated ≡ false
+  pub presence : d.presence.seated ≡ false
+
+-- no seat was given
+pub record AllFree (l : LinksState) : Type 0 where
+  pub devices : All IsFree l.devices
+  pub up : l.up.seated ≡ false
+  pub down : l.down.seated ≡ false
 
 -- whether there may be so many ports, with so many places on each link
 abbrev pub is_config : ℕ → ℕ → Bool
@@ -32,7 +46,7 @@ new_device capacity = record { up = new_link capacity; down = new_link capacity;
 
 abbrev pub new_links : ℕ → ℕ → LinksState
 new_links ports capacity =
-    record { devices = replicate ports (new_device capacity); up = new_link capacity; down = new_link capacity }
+    record { devices = replicate ports (new_device capacity); up = new_link capacity; down = new_link capacity; given = false }
 
 -- why no links are made, where one link is refused
 abbrev pub IsErrorOf : LinkError → LinksError → Type 0

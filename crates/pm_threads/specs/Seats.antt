@@ -1,5 +1,6 @@
 -- The seats of a device and of the multiplier at its port.
-use Rattle.std.specs.Prelude.{◌≡◌}
+use Rattle.std.specs.Prelude.{◌≡◌, ℕ, List}
+use Rattle.std.specs.List.{range_with_len}
 use Rattle.ruled_links.specs.Lists.{IsPrefixOf}
 use Rattle.disk_thread.specs.Runs.{StationState}
 use Rattle.pm_thread.specs.Runs.{PortSeats, IsUnused}
@@ -20,3 +21,7 @@ pub record Handed {D : Type 0} (s : StationState D) (p : PortSeats) : Type 0 whe
   pub frames : IsPrefixOf p.frames.taken s.frames.sent
   pub commands : IsPrefixOf s.commands.taken p.commands.sent
   pub presence : IsPrefixOf p.presence.taken s.presence.sent
+
+-- the ports from 0 on, so many
+abbrev pub first_ports : ℕ → List ℕ
+first_ports count = range_with_len 0 count

@@ -1,11 +1,8 @@
 -- What a run is given.
-use Rattle.std.specs.Prelude.{◌≡◌, ℕ, ◌-◌, nat_le, nat_lt, ◌==◌, ◌&&◌, Bool, List, [], ◌∷◌, length}
+use Rattle.std.specs.Prelude.{◌≡◌, ℕ, ◌-◌, nat_le, nat_lt, ◌==◌, ◌&&◌, not, Bool, List, [], ◌∷◌, length}
 use Rattle.std.specs.List.{list_all}
 use Rattle.host_memory.specs.Memory.{Memory, client_start, is_memory_size, overwritten, zeroed}
-use Rattle.host_memory.specs.declared.memory.MemoryError.{MemoryError}
-use Rattle.host_memory.specs.declared.memory.MemoryError.TheVariants as memory_error
-use Rattle.pm_threads.specs.declared.run.RunError.{RunError}
-use Rattle.pm_threads.specs.declared.run.RunError.TheVariants as run_error
+use Rattle.pm_threads.specs.Links.{LinksState}
 use Rattle.pm_threads.specs.declared.setup.Setup.{Setup}
 
 -- whether so many bytes from this address on lie in the client area of a memory
@@ -26,6 +23,10 @@ is_fitting ports s =
     && list_all (λ put. lies_in s.memory put.0 (length put.1.items)) s.puts.items
     && list_all (λ planned. nat_lt planned.dev ports) s.plan.items && list_all (λ pull. nat_lt pull.0 ports) s.pulls.items
 
+-- Whether there may be a run: the setup fits, and no run has taken the seats of these links.
+abbrev pub can_run : LinksState → Setup → Bool
+can_run l s = not l.given && is_fitting (length l.devices) s
+
 -- a memory with these bytes put at their addresses, one after another
 abbrev pub put_all : Memory → List (ℕ × List ℕ) → Memory
 put_all m [] = m
@@ -34,8 +35,3 @@ put_all m (p ∷ ps) = put_all (record { structure = m.structure; client = overw
 -- a memory of so many bytes, all 0 but for these
 abbrev pub memory_of : ℕ → List (ℕ × List ℕ) → Memory
 memory_of len puts = put_all (zeroed len) puts
-
--- why there is no run, where there is no memory
-abbrev pub IsErrorOf : MemoryError → RunError → Type 0
-IsErrorOf memory_error.BadSize e = e ≡ run_error.BadSetup
-IsErrorOf memory_error.OutOfMemory e = e ≡ run_error.OutOfMemory

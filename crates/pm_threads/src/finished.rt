@@ -1,6 +1,8 @@
 //! What is left of a run.
 
-ghost use Rattle.std.specs.Prelude.{◌≡◌, map};
+ghost use Rattle.std.specs.Prelude.{◌≡◌, false, map};
+ghost use Rattle.std.specs.List.{list_any};
+ghost use Rattle.host_thread.specs.Runs.{is_open};
 ghost use Rattle.pm_threads.specs.Ends.{AreOfOneRun};
 
 use disk_model::Unit;
@@ -9,7 +11,7 @@ use host_thread::HostEnd;
 use pm_thread::PmEnd;
 use std::marker::Model;
 
-/// The ends of all workers of one run, with their seats.
+/// The ends of all workers of one run, with their seats. All requests have ended.
 #[derive(Drop)]
 pub struct Finished<'a> {
     pub(crate) disks: Vec<DiskEnd<'a, Unit>>,
@@ -18,7 +20,9 @@ pub struct Finished<'a> {
 }
 
 impl<'a> Model for Finished<'a> {
-    ghost use Rattle.std.specs.Prelude.{map};
+    ghost use Rattle.std.specs.Prelude.{◌≡◌, false, map};
+    ghost use Rattle.std.specs.List.{list_any};
+    ghost use Rattle.host_thread.specs.Runs.{is_open};
     ghost use Rattle.pm_threads.specs.Ends.{AreOfOneRun, Ends};
 
     ghost Value = { Ends };
@@ -29,7 +33,7 @@ impl<'a> Model for Finished<'a> {
       disks = map (λ e. e.station) f.disks.items;
       pm = f.pm;
       host = f.host;
-    }) };
+    }) × (list_any is_open f.host.states ≡ false) };
 }
 
 impl<'a> Finished<'a> {
@@ -39,6 +43,7 @@ impl<'a> Finished<'a> {
         ensures pm { result.1 ≡ self.entry.pm }
         ensures host { result.2 ≡ self.entry.host }
         ensures one { AreOfOneRun self.entry }
+        ensures closed { list_any is_open self.entry.host.states ≡ false }
     {
         let Finished { disks, pm, host } = self;
         (disks, pm, host)

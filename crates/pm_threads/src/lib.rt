@@ -6,15 +6,19 @@
 #![tactic(auto)]
 
 mod closing;
+mod counting;
 mod finished;
 mod links;
 mod meeting;
+mod outcomes;
 mod run;
 mod seats;
 mod setup;
 
-pub use closing::{Summary, close};
+pub use closing::{CloseError, Summary, close};
+pub use disk_thread::{Gate, GateShut};
 pub use finished::Finished;
+pub use host_thread::Planned;
 pub use links::{Links, LinksError};
 pub use run::{RunError, run_threads};
 pub use setup::{MAX_TURNS, Setup};

@@ -72,14 +72,20 @@ pub struct Links {
     pub(crate) devices: Vec<DeviceLinks>,
     pub(crate) up: Link<ToHost>,
     pub(crate) down: Link<Down>,
+    /// Whether a run has taken the seats.
+    pub(crate) given: bool,
 }
 
 impl Model for Links {
-    ghost use Rattle.pm_threads.specs.Links.{LinksState};
+    ghost use Rattle.std.specs.Prelude.{◌≡◌, false};
+    ghost use Rattle.pm_threads.specs.Links.{AllFree, LinksState};
 
     ghost Value = { LinksState };
 
-    ghost view = { λ l. record { devices = l.devices.items; up = l.up; down = l.down } };
+    ghost view = { λ l. record { devices = l.devices.items; up = l.up; down = l.down; given = l.given } };
+
+    ghost invariant = { λ l. l.given ≡ false
+        → AllFree (record { devices = l.devices.items; up = l.up; down = l.down; given = l.given }) };
 }
 
 impl Links {
@@ -101,8 +107,21 @@ impl Links {
                 return Err(LinksError::OutOfMemory);
             }
         }
-        Ok(Links { devices, up, down })
+        Ok(Links {
+            devices,
+            up,
+            down,
+            given: false,
+        })
     }
+
+    /// Whether a run has taken their seats, as each does that does not answer `BadSetup`. Then they serve no other.
+    pub fn are_given(&self) -> bool
+        ensures { result ≡ self.now.given }
+    {
+        self.given
+    }
+
     /// How many device ports there are.
     pub(crate) fn ports(&self) -> usize
         ensures { result ≡ length self.now.devices }

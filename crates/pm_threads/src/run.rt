@@ -1,13 +1,13 @@
 //! All workers at once.
 
-ghost use Rattle.std.specs.Prelude.{◌≡◌, ◌≤◌, false, length, map, None, All, IfOk, IfNone, OnOk};
+ghost use Rattle.std.specs.Prelude.{◌≡◌, ◌≤◌, ◌↔◌, true, false, length, map, None, Err, All, IfOk, OnOk};
 ghost use Rattle.std.specs.List.{AllZip, list_any};
 ghost use Rattle.disk_model.specs.Units.{plan_of, StandsFor, MaySend};
 ghost use Rattle.disk_thread.specs.Runs.{IsRun};
 ghost use Rattle.host_thread.specs.Runs.{GoesOn, IsRun as IsHostRun, is_open};
-ghost use Rattle.pm_threads.specs.Ends.{AllGoOn, AreOfOneRun};
-ghost use Rattle.pm_threads.specs.Seats.{TiedTo};
-ghost use Rattle.pm_threads.specs.Setups.{is_fitting, memory_of};
+ghost use Rattle.pm_threads.specs.Ends.{AllGoOn, AreOfOneRun, LeavesOpen, MayLeaveOpen, is_short, is_shut};
+ghost use Rattle.pm_threads.specs.Seats.{TiedTo, first_ports};
+ghost use Rattle.pm_threads.specs.Setups.{can_run, memory_of};
 
 use crate::finished::Finished;
 use crate::links::Links;
@@ -15,7 +15,6 @@ use crate::seats::seated;
 use crate::setup::{Setup, filled};
 use disk_model::Unit;
 use disk_thread::{DiskEnd, DiskWorker, Gate};
-use host_memory::MemoryError;
 use host_thread::{HostEnd, HostWorker};
 use pm_thread::{PmEnd, PmWorker};
 use runner::{Fault, run_three};
@@ -53,29 +52,32 @@ impl From<AllocError> for RunError {
     }
 }
 
-impl From<MemoryError> for RunError {
-    ghost use Rattle.pm_threads.specs.Setups.{IsErrorOf};
-
-    ghost from_gives = { IsErrorOf };
-
-    fn from(error: MemoryError) -> RunError {
-        match error {
-            MemoryError::BadSize => RunError::BadSetup,
-            MemoryError::OutOfMemory => RunError::OutOfMemory,
-        }
-    }
-}
-
-/// Whether one of the workers ended by this fault.
-fn any_fault(disks: &[DiskEnd<'_, Unit>], others: [Option<Fault>; 2], fault: Fault) -> bool {
-    disks.iter().any(|end| end.fault == Some(fault)) || others.contains(&Some(fault))
-}
-
-/// Whether the worker of a device ended by a fault.
-fn has_fault(disks: &[DiskEnd<'_, Unit>]) -> bool
-    ensures { result ≡ false → All (λ end. end.fault ≡ None) disks.now }
+/// Whether a worker ended by want of memory.
+fn is_short(fault: Option<Fault>) -> bool
+    ensures { result ≡ is_short fault }
 {
-    disks.iter().any(|end| end.fault.is_some())
+    matches!(fault, Some(Fault::OutOfMemory))
+}
+
+/// Whether it ended by its gate.
+fn is_shut(fault: Option<Fault>) -> bool
+    ensures { result ≡ is_shut fault }
+{
+    matches!(fault, Some(Fault::GateShut))
+}
+
+/// Whether the worker of a device ended by want of memory.
+fn any_short(disks: &[DiskEnd<'_, Unit>]) -> bool
+    ensures { result ≡ list_any (λ end. is_short end.fault) disks.now }
+{
+    disks.iter().any(|end| is_short(end.fault))
+}
+
+/// Whether one ended by its gate.
+fn any_shut(disks: &[DiskEnd<'_, Unit>]) -> bool
+    ensures { result ≡ list_any (λ end. is_shut end.fault) disks.now }
+{
+    disks.iter().any(|end| is_shut(end.fault))
 }
 
 /// What is left of a run, where no worker ended by a fault and no request is open.
@@ -89,12 +91,15 @@ fn finished<'a>(
     ensures no_fault { OnOk result (All (λ e. e.fault ≡ None) disks.entry.items) }
     ensures host { IfOk result (λ f. f.host ≡ host.entry) }
     ensures closed { OnOk result (list_any is_open host.entry.states ≡ false) }
+    ensures bad_setup { result ≡ Err RunError.BadSetup → ⊥ }
+    ensures gate { result ≡ Err RunError.GateShut → list_any (λ e. is_shut e.fault) disks.entry.items ≡ true }
+    ensures quiet { result ≡ Err RunError.TurnsSpent → All (λ e. e.fault ≡ None) disks.entry.items }
+    ensures open { result ≡ Err RunError.TurnsSpent → list_any is_open host.entry.states ≡ true }
 {
-    let others = [pm.fault(), host.fault()];
-    if any_fault(disks.as_slice(), others, Fault::OutOfMemory) {
+    if any_short(disks.as_slice()) || is_short(pm.fault()) || is_short(host.fault()) {
         return Err(RunError::OutOfMemory);
     }
-    if has_fault(disks.as_slice()) {
+    if any_shut(disks.as_slice()) {
         return Err(RunError::GateShut);
     }
     if host.is_open() {
@@ -113,13 +118,18 @@ fn run_seated<'a, 'g, G: Gate + Sync, R: Threads + Wait + Sync>(
     host: HostWorker<'a>,
     turns: u64,
 ) -> Result<Finished<'a>, RunError>
+    requires few { length workers.items ≤ 15 }
     requires tied { AllZip TiedTo workers.items pm.ports }
     requires up { pm.host.link ≡ host.frames.link }
     requires down { host.commands.link ≡ pm.commands.link }
     ensures disks { IfOk result (λ f. AllGoOn workers.entry.items f.disks) }
+    ensures ports { IfOk result (λ f. map (λ s. s.port) f.disks ≡ map (λ w. w.port) workers.entry.items) }
     ensures host { IfOk result (λ f. GoesOn host.entry f.host) }
     ensures plan { IfOk result (λ f. f.host.plan ≡ host.entry.plan) }
     ensures closed { IfOk result (λ f. list_any is_open f.host.states ≡ false) }
+    ensures bad_setup { result ≡ Err RunError.BadSetup → ⊥ }
+    ensures gate { result ≡ Err RunError.GateShut → G.may_refuse }
+    ensures turns { MayLeaveOpen (result ≡ Err RunError.TurnsSpent) workers.entry.items host.entry }
 {
     let stop = AtomicBool::new(false);
     let (disks, pm, host) = run_three(rt, alloc, workers, pm, host, &stop, turns)?;
@@ -136,16 +146,21 @@ pub fn run_threads<'a, G: Gate + Sync, R: Threads + Wait + Sync>(
     setup: Setup,
     gate: &G,
 ) -> Result<Finished<'a>, RunError>
-    ensures bad_setup { is_fitting (length links.old.devices) setup ≡ false → result ≡ Err RunError.BadSetup }
+    ensures bad_setup { (result ≡ Err RunError.BadSetup) ↔ (can_run links.old setup ≡ false) }
     ensures disks { IfOk result (λ f. AllZip (IsRun plan_of StandsFor MaySend) setup.units.items f.disks) }
+    ensures ports { IfOk result (λ f. map (λ s. s.port) f.disks ≡ first_ports (length links.old.devices)) }
     ensures host { IfOk result (λ f. IsHostRun
         (memory_of setup.memory (map (λ put. (put.0, put.1.items)) setup.puts.items)) f.host) }
     ensures plan { IfOk result (λ f. f.host.plan ≡ setup.plan.items) }
     ensures closed { IfOk result (λ f. list_any is_open f.host.states ≡ false) }
+    ensures gate { result ≡ Err RunError.GateShut → G.may_refuse }
+    ensures turns { result ≡ Err RunError.TurnsSpent → LeavesOpen setup.units.items
+        (memory_of setup.memory (map (λ put. (put.0, put.1.items)) setup.puts.items)) setup.plan.items }
 {
-    if !setup.fits(links.ports()) {
+    if links.given || !setup.fits(links.ports()) {
         return Err(RunError::BadSetup);
     }
+    links.given = true;
     let Setup {
         units,
         memory,
@@ -154,16 +169,19 @@ pub fn run_threads<'a, G: Gate + Sync, R: Threads + Wait + Sync>(
         pulls,
         turns,
     } = setup;
-    let Links { devices, up, down } = links;
+    let Links {
+        devices,
+        up,
+        down,
+        given: _,
+    } = links;
     let Some((sent, taken)) = up.seats() else {
-        return Err(RunError::BadSetup);
+        unreachable!()
     };
     let Some((said, told)) = down.seats() else {
-        return Err(RunError::BadSetup);
+        unreachable!()
     };
-    let Some((workers, ports)) = seated(alloc, devices.as_mut_slice(), units, gate, &pulls)? else {
-        return Err(RunError::BadSetup);
-    };
+    let (workers, ports) = seated(alloc, devices.as_mut_slice(), units, gate, &pulls)?;
     let memory = filled(alloc, memory, &puts)?;
     let pm = PmWorker::new(alloc, ports, sent, told);
     let host = HostWorker::new(alloc, taken, said, memory, plan)?;

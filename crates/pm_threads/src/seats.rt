@@ -1,9 +1,10 @@
 //! Who sits where: a worker for each device, and the multiplier's seats at its port.
 
-ghost use Rattle.std.specs.Prelude.{◌≡◌, ◌<◌, ◌++◌, ◌∷◌, [], length, IfOk, IfSome};
+ghost use Rattle.std.specs.Prelude.{◌≡◌, ◌≤◌, ◌<◌, ◌++◌, ◌∷◌, [], length, map, All, IfOk};
 ghost use Rattle.std.specs.List.{AllZip};
 ghost use Rattle.disk_thread.specs.Runs.{IsRun};
-ghost use Rattle.pm_threads.specs.Seats.{Starts};
+ghost use Rattle.pm_threads.specs.Links.{IsFree};
+ghost use Rattle.pm_threads.specs.Seats.{Starts, first_ports};
 
 use crate::links::DeviceLinks;
 use disk_model::Device;
@@ -22,7 +23,7 @@ fn pulls_of(alloc: Global, pulls: &[(u8, u32)], n: u8) -> Result<Vec<u32>, Alloc
     Ok(own)
 }
 
-/// A worker for the device at port `n`, and the multiplier's seats there, unless the seats were given before.
+/// A worker for the device at port `n`, and the multiplier's seats there.
 fn seated_at<'a, 'g, D: Device + Drop, G: Gate>(
     alloc: Global,
     links: &'a mut DeviceLinks,
@@ -30,52 +31,58 @@ fn seated_at<'a, 'g, D: Device + Drop, G: Gate>(
     unit: D,
     gate: &'g G,
     pulls: Vec<u32>,
-) -> Option<(DiskWorker<'a, 'g, D, G>, PmPort<'a>)>
-    ensures starts { IfSome result (λ s. Starts s.0 s.1) }
-    ensures run { IfSome result (λ s. IsRun D.plan_of D.stands_for D.may_send unit s.0) }
+) -> (DiskWorker<'a, 'g, D, G>, PmPort<'a>)
+    requires { IsFree links.old }
+    ensures starts { Starts result.0 result.1 }
+    ensures port { result.0.port ≡ n }
+    ensures run { IsRun D.plan_of D.stands_for D.may_send unit result.0 }
 {
     let DeviceLinks { up, down, presence } = links;
-    let (sent, frames) = up.seats()?;
-    let (commands, taken) = down.seats()?;
-    let (told, heard) = presence.seats()?;
+    let Some((sent, frames)) = up.seats() else {
+        unreachable!()
+    };
+    let Some((commands, taken)) = down.seats() else {
+        unreachable!()
+    };
+    let Some((told, heard)) = presence.seats() else {
+        unreachable!()
+    };
     let station = Station::new(alloc, n, unit, taken, sent, told);
     let port = PmPort {
         commands,
         frames,
         presence: heard,
     };
-    Some((DiskWorker::new(station, gate, alloc, pulls), port))
+    (DiskWorker::new(station, gate, alloc, pulls), port)
 }
 
-/// A worker for each device and the multiplier's seats at each port, worker n and port n on the links at place n; none
-/// where seats were given before.
+/// A worker for each device and the multiplier's seats at each port, worker n and port n on the links at place n.
 pub(crate) fn seated<'a, 'g, D: Device + Drop, G: Gate>(
     alloc: Global,
     links: &'a mut [DeviceLinks],
     mut units: Vec<D>,
     gate: &'g G,
     pulls: &[(u8, u32)],
-) -> Result<Option<(Vec<DiskWorker<'a, 'g, D, G>>, Vec<PmPort<'a>>)>, AllocError>
-    requires { length links.old ≡ length units.items }
-    ensures starts { IfOk result (λ r. IfSome r (λ s. AllZip Starts s.0.items s.1.items)) }
-    ensures run { IfOk result (λ r. IfSome r (λ s.
-        AllZip (IsRun D.plan_of D.stands_for D.may_send) units.items s.0.items)) }
+) -> Result<(Vec<DiskWorker<'a, 'g, D, G>>, Vec<PmPort<'a>>), AllocError>
+    requires units { length links.old ≡ length units.items }
+    requires few { length links.old ≤ 15 }
+    requires free { All IsFree links.old }
+    ensures starts { IfOk result (λ s. AllZip Starts s.0.items s.1.items) }
+    ensures ports { IfOk result (λ s. map (λ w. w.port) s.0.items ≡ first_ports (length units.items)) }
+    ensures run { IfOk result (λ s.
+        AllZip (IsRun D.plan_of D.stands_for D.may_send) units.items s.0.items) }
 {
     let Some((last, rest)) = links.split_last_mut() else {
-        return Ok(Some((Vec::new(alloc), Vec::new(alloc))));
+        return Ok((Vec::new(alloc), Vec::new(alloc)));
     };
     let Some(unit) = units.pop() else {
-        return Ok(None);
+        unreachable!()
     };
-    let n = (rest.len() % 256) as u8;
+    let n = rest.len() as u8;
     let own = pulls_of(alloc, pulls, n)?;
-    let Some((worker, port)) = seated_at(alloc, last, n, unit, gate, own) else {
-        return Ok(None);
-    };
-    match seated(alloc, rest, units, gate, pulls)? {
-        Some((workers, ports)) => Ok(Some(with_last(workers, ports, worker, port)?)),
-        None => Ok(None),
-    }
+    let (worker, port) = seated_at(alloc, last, n, unit, gate, own);
+    let (workers, ports) = seated(alloc, rest, units, gate, pulls)?;
+    with_last(workers, ports, worker, port)
 }
 
 /// One worker and one port more.

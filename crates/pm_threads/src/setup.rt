@@ -1,13 +1,14 @@
 //! What a run is given.
 
-ghost use Rattle.std.specs.Prelude.{◌≡◌, map, nat_lt, length, IfOk};
+ghost use Rattle.std.specs.Prelude.{◌≡◌, true, map, nat_lt, length, IfOk};
 ghost use Rattle.std.specs.List.{list_all};
+ghost use Rattle.host_memory.specs.Memory.{is_memory_size};
 ghost use Rattle.pm_threads.specs.Setups.{are_numbers, is_fitting, lies_in, memory_of};
 
 use disk_model::Unit;
 use host_memory::{HostMemory, MemoryError};
 use host_thread::Planned;
-use std::alloc::Global;
+use std::alloc::{AllocError, Global};
 
 /// The most turns of a run.
 pub const MAX_TURNS: u64 = 16_777_216;
@@ -95,14 +96,20 @@ pub(crate) fn filled(
     alloc: Global,
     len: u32,
     puts: &[(u32, Vec<u8>)],
-) -> Result<HostMemory, MemoryError>
+) -> Result<HostMemory, AllocError>
+    requires size { is_memory_size len ≡ true }
+    requires puts { list_all (λ put. lies_in len put.0 (length put.1.items)) puts.now ≡ true }
     ensures { IfOk result (λ memory.
         memory ≡ memory_of len (map (λ put. (put.0, put.1.items)) puts.now)) }
 {
-    let mut memory = HostMemory::new(alloc, len)?;
+    let mut memory = match HostMemory::new(alloc, len) {
+        Ok(memory) => memory,
+        Err(MemoryError::OutOfMemory) => return Err(AllocError),
+        Err(MemoryError::BadSize) => unreachable!(),
+    };
     for put in puts {
         if memory.put_client(put.0, put.1.as_slice()).is_err() {
-            return Err(MemoryError::BadSize);
+            unreachable!();
         }
     }
     Ok(memory)

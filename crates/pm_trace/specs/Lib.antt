@@ -1,2 +1,3 @@
+pub mod Agendas
 pub mod Statuses
 pub mod Text

@@ -1,8 +1,8 @@
 //! Reads a list of frames or a scenario from standard input and writes what they mean.
 //!
-//! `pm_trace decode` prints each frame in words, and `pm_trace run` plays a scenario on a world of
-//! devices, a port multiplier and a host. Nothing is ever written to standard error; the exit status
-//! says how a run ended.
+//! `pm_trace decode` prints each frame in words, `pm_trace run` plays a scenario on a world of devices, a
+//! port multiplier and a host, and `pm_trace threads` has each of these work in a thread of its own.
+//! Nothing is ever written to standard error; the exit status says how a run ended.
 #![tactic(auto)]
 
 mod command_line;
@@ -24,7 +24,7 @@ use std::{env, io};
 
 fn main(rt: HostRuntime) -> ExitCode {
     let status = match words(&rt) {
-        Ok(words) => serve::serve(rt.alloc(), &words, rt.reader(), io::writer(&rt)),
+        Ok(words) => serve::serve(&rt, rt.alloc(), &words, rt.reader(), io::writer(&rt)),
         Err(failure) => serve::refuse(rt.alloc(), failure, io::writer(&rt)),
     };
     ExitCode::from(status)

@@ -1,10 +1,14 @@
-//! The command `run`: a scenario, one line after the other, on a world of devices, a port multiplier
-//! and a host.
+//! Scenarios: the command `run` plays one line after the other on a world of devices, a port multiplier
+//! and a host; the command `threads` has each of these work in a thread of its own.
 
+mod agenda;
 mod opening;
 mod parse;
 mod run;
 mod text;
+mod threads;
 mod words;
 
 pub use run::play;
+pub use threads::play_threads;
+pub use words::value_within;

@@ -2,7 +2,9 @@
 
 use crate::serve::serve;
 use std::process::Abort;
+use std::sync::Wait;
 use std::test::Fail;
+use std::thread::Threads;
 
 mod by_hand;
 mod decoding;
@@ -11,11 +13,29 @@ mod going;
 mod lines;
 mod scenarios;
 mod steps;
+mod threading;
 
 /// Sees that the program, called with this word on this input, writes this and ends so.
-fn assert_run<R: Abort + AllocGlobal>(rt: &R, word: &str, input: &[u8], status: u8, output: &str) {
+fn assert_run<R: Abort + AllocGlobal + Threads + Wait + Sync>(
+    rt: &R,
+    word: &str,
+    input: &[u8],
+    status: u8,
+    output: &str,
+) {
+    assert_words(rt, &[word], input, status, output);
+}
+
+/// The same with these words.
+fn assert_words<R: Abort + AllocGlobal + Threads + Wait + Sync>(
+    rt: &R,
+    words: &[&str],
+    input: &[u8],
+    status: u8,
+    output: &str,
+) {
     let mut written = Vec::new(rt.alloc());
-    let ended = serve(rt.alloc(), &[word], input, &mut written);
+    let ended = serve(rt, rt.alloc(), words, input, &mut written);
     assert_eq!(rt; written.as_slice(), output.as_bytes());
     assert_eq!(rt; ended, status, "{output}");
 }
@@ -24,7 +44,6 @@ fn assert_run<R: Abort + AllocGlobal>(rt: &R, word: &str, input: &[u8], status: 
 fn command_lines(rt: HostRuntime) -> Result<(), Fail> {
     for line in [
         "",
-        "threads",
         "--help",
         "help",
         "decode -h",
@@ -32,16 +51,46 @@ fn command_lines(rt: HostRuntime) -> Result<(), Fail> {
         "decode --",
         "-- decode",
         "Run",
+        "run --turns 5",
+        "decode --turns=5",
+        "--turns 5 threads",
+        "threads run",
+        "threads 5",
+        "threads --help",
+        "threads --",
+        "threads -- --turns 5",
+        "threads --turns=5 --",
+        "-- threads",
+        "threads --turns",
+        "threads --turns=",
+        "threads --turns 0",
+        "threads --turns 16777217",
+        "threads --turns 18446744073709551617",
+        "threads --turns +5",
+        "threads --turns -5",
+        "threads --turns 0x5",
+        "threads --turns 5 5",
+        "threads --turns 5 --turns 5",
+        "threads --turn 5",
+        "threads -t 5",
     ] {
         let words: Vec<&str> = line.split_whitespace().collect(rt.alloc())?;
-        let mut written = Vec::new(rt.alloc());
-        let ended = serve(rt.alloc(), &words, b"39000000".as_slice(), &mut written);
-        assert_eq!(rt;
-            written.as_slice(),
-            b"command line refused\n".as_slice(),
-            "{line}"
-        );
-        assert_eq!(rt; ended, 2, "{line}");
+        let refused = "command line refused\n";
+        assert_words(&rt, &words, b"39000000".as_slice(), 2, refused);
+    }
+    Ok(())
+}
+
+#[test]
+fn turns(rt: HostRuntime) -> Result<(), Fail> {
+    for line in [
+        "threads",
+        "threads --turns 1",
+        "threads --turns=1",
+        "threads --turns 00016777216",
+    ] {
+        let words: Vec<&str> = line.split_whitespace().collect(rt.alloc())?;
+        assert_words(&rt, &words, b"", 0, "ports 1 capacity 4 memory 2\n");
     }
     Ok(())
 }

@@ -4,7 +4,6 @@ use super::setups::{Door, planned, ran, setup};
 use crate::{Links, RunError, Setup, Summary};
 use disk_thread::{Gate, GateShut};
 use hba_driver::{Outcome, Work};
-use host_thread::{Ended, State};
 use std::alloc::Global;
 use std::sync::Wait;
 use std::sync::atomic::{AtomicU64, Ordering};
@@ -36,9 +35,11 @@ fn reading(alloc: Global, count: u8) -> Result<Setup, Fail> {
 
 /// Whether all are done, and the bytes have come back.
 fn is_done(summary: &Summary) -> bool {
-    let done = State::Ended(Ended::Polled(Outcome::Done));
     let at = (BACK - 0x10_0000) as usize;
-    summary.results.iter().all(|state| *state == done)
+    summary
+        .results
+        .iter()
+        .all(|ended| *ended == Ok(Outcome::Done))
         && summary.memory.client()[at..at + 512]
             .iter()
             .all(|byte| *byte == 0x5A)
@@ -95,6 +96,15 @@ fn on_links<R: Threads + Wait + Sync, G: Gate + Sync>(
     Ok(ran(rt, alloc, &mut links, reading(alloc, count)?, gate))
 }
 
+/// Whether each port has one connection with so many FISes, all taken: 11 of port 0, 7 of each other.
+fn is_counted(summary: &Summary, count: u8) -> bool {
+    summary.counts.len() == usize::from(count)
+        && summary.counts.iter().enumerate().all(|(n, row)| {
+            let want = if n == 0 { 11 } else { 7 };
+            usize::from(row.port) == n && (row.conn, row.sent, row.taken) == (1, want, want)
+        })
+}
+
 #[test]
 fn bytes_come_back(rt: HostRuntime) -> Result<(), Fail> {
     let alloc = rt.alloc();
@@ -102,7 +112,29 @@ fn bytes_come_back(rt: HostRuntime) -> Result<(), Fail> {
     for (count, capacity) in [(1, 1), (2, 4), (15, 1), (15, 64)] {
         let summary = on_links(&rt, alloc, count, capacity, &door)??;
         assert!(rt; is_done(&summary), "at {count}, {capacity}");
+        assert!(rt; is_counted(&summary, count), "at {count}, {capacity}");
     }
+    Ok(())
+}
+
+/// Two disks, of which the second is pulled out after three of its FISes.
+fn pulled(alloc: Global) -> Result<Setup, Fail> {
+    let mut given = reading(alloc, 2)?;
+    given.pulls.push((1, 3))?;
+    Ok(given)
+}
+
+#[test]
+fn a_pull(rt: HostRuntime) -> Result<(), Fail> {
+    let alloc = rt.alloc();
+    let mut links = Links::new(alloc, 2, 4)?;
+    let summary = ran(&rt, alloc, &mut links, pulled(alloc)?, &Door { open: true })?;
+    let done = Ok(Outcome::Done);
+    // In the order of the plan: the write of device 0, the read of device 1, the read of device 0.
+    assert_eq!(rt; summary.results.len(), 3);
+    assert!(rt; summary.results[0] == done && summary.results[2] == done);
+    assert!(rt; summary.results[1] == done || summary.results[1] == Ok(Outcome::Removed));
+    assert!(rt; summary.counts.iter().all(|row| row.taken <= row.sent));
     Ok(())
 }
 
@@ -119,7 +151,24 @@ fn all_disks_enter(rt: HostRuntime) -> Result<(), Fail> {
 
 #[test]
 fn a_gate_that_is_shut(rt: HostRuntime) -> Result<(), Fail> {
-    let error = on_links(&rt, rt.alloc(), 2, 4, &Door { open: false })?.err();
+    let alloc = rt.alloc();
+    let mut links = Links::new(alloc, 2, 4)?;
+    let shut = Door { open: false };
+    let error = ran(&rt, alloc, &mut links, reading(alloc, 2)?, &shut).err();
     assert_eq!(rt; error, Some(RunError::GateShut));
+    // The seats are given, whatever came of it.
+    let again = ran(&rt, alloc, &mut links, reading(alloc, 2)?, &shut).err();
+    assert_eq!(rt; again, Some(RunError::BadSetup));
+    Ok(())
+}
+
+#[test]
+fn turns_are_spent(rt: HostRuntime) -> Result<(), Fail> {
+    let alloc = rt.alloc();
+    let mut links = Links::new(alloc, 2, 4)?;
+    let mut given = reading(alloc, 2)?;
+    given.turns = 1;
+    let error = ran(&rt, alloc, &mut links, given, &Door { open: true }).err();
+    assert_eq!(rt; error, Some(RunError::TurnsSpent));
     Ok(())
 }

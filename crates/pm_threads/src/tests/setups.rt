@@ -1,6 +1,6 @@
 //! Setups, and what becomes of them.
 
-use crate::{Links, MAX_TURNS, RunError, Setup, Summary, close, run_threads};
+use crate::{CloseError, Links, MAX_TURNS, RunError, Setup, Summary, close, run_threads};
 use disk_model::{Disk, DiskPlan, Unit};
 use disk_thread::{Gate, GateShut};
 use hba_driver::{Request, Work};
@@ -73,41 +73,106 @@ pub fn ran<R: Threads + Wait + Sync, G: Gate + Sync>(
     gate: &G,
 ) -> Result<Summary, RunError> {
     let finished = run_threads(rt, alloc, links, setup, gate)?;
-    Ok(close(rt, finished))
+    close(rt, alloc, finished).map_err(|error| match error {
+        CloseError::OutOfMemory => RunError::OutOfMemory,
+    })
 }
 
-/// A setup of one disk with one thing that is wrong.
-fn bad(alloc: Global, which: u8) -> Result<Setup, Fail> {
-    let mut given = setup(alloc, if which == 0 { 2 } else { 1 })?;
+/// What comes of it on links of one port.
+fn refusal<R: Threads + Wait + Sync>(
+    rt: &R,
+    alloc: Global,
+    links: &mut Links,
+    setup: Setup,
+) -> Option<RunError> {
+    ran(rt, alloc, links, setup, &Door { open: true }).err()
+}
+
+/// A setup of one disk with this one thing that is wrong.
+#[derive(Clone, Copy, Debug, Drop)]
+enum Wrong {
+    Units,
+    NoTurns,
+    Turns,
+    MemoryTooSmall,
+    MemoryTooLarge,
+    MemoryOdd,
+    Pull,
+    Request,
+    PutBelow,
+    PutBeyond,
+}
+
+fn make_wrong(alloc: Global, which: Wrong) -> Result<Setup, Fail> {
+    let mut given = setup(alloc, 1)?;
     match which {
-        1 => given.turns = 0,
-        2 => given.turns = MAX_TURNS + 1,
-        3 => given.memory = 0x1F_FFFE,
-        4 => given.memory = 0x20_0001,
-        5 => given.memory = 0x100_0002,
-        6 => given.pulls.push((1, 0))?,
-        7 => given
-            .plan
-            .push(planned(alloc, 1, Work::Read, 0x10_1000, false)?)?,
-        8 => given.puts.push((0xF_FFFF, vec![in alloc; 0; 1]?))?,
-        9 => given.puts.push((0x1F_FFFF, vec![in alloc; 0; 2]?))?,
-        _ => {}
+        Wrong::Units => given = setup(alloc, 2)?,
+        Wrong::NoTurns => given.turns = 0,
+        Wrong::Turns => given.turns = MAX_TURNS + 1,
+        Wrong::MemoryTooSmall => given.memory = 0x1F_FFFE,
+        Wrong::MemoryTooLarge => given.memory = 0x100_0002,
+        Wrong::MemoryOdd => given.memory = 0x20_0001,
+        Wrong::Pull => given.pulls.push((1, 0))?,
+        Wrong::Request => {
+            let request = planned(alloc, 1, Work::Read, 0x10_1000, false)?;
+            given.plan.push(request)?;
+        }
+        Wrong::PutBelow => given.puts.push((0xF_FFFF, vec![in alloc; 0; 1]?))?,
+        Wrong::PutBeyond => given.puts.push((0x1F_FFFF, vec![in alloc; 0; 2]?))?,
     }
     Ok(given)
 }
 
-#[test]
-fn bad_setups(rt: HostRuntime) -> Result<(), Fail> {
-    let alloc = rt.alloc();
-    let door = Door { open: true };
+/// Whether it is a bad setup, and leaves the links as they are.
+fn is_refused<R: Threads + Wait + Sync>(rt: &R, alloc: Global, which: Wrong) -> Result<bool, Fail> {
     let mut links = Links::new(alloc, 1, 4)?;
-    for which in 0..10 {
-        let error = ran(&rt, alloc, &mut links, bad(alloc, which)?, &door).err();
-        assert_eq!(rt; error, Some(RunError::BadSetup), "at {which}");
-    }
-    // With no request a run ends at once; the same links have no second one.
-    assert!(rt; ran(&rt, alloc, &mut links, bad(alloc, 10)?, &door).is_ok());
-    let again = ran(&rt, alloc, &mut links, bad(alloc, 10)?, &door).err();
+    let error = refusal(rt, alloc, &mut links, make_wrong(alloc, which)?);
+    Ok(error == Some(RunError::BadSetup) && !links.are_given())
+}
+
+#[test]
+fn units_not_as_many_as_ports(rt: HostRuntime) -> Result<(), Fail> {
+    assert!(rt; is_refused(&rt, rt.alloc(), Wrong::Units)?);
+    Ok(())
+}
+
+#[test]
+fn turns_out_of_range(rt: HostRuntime) -> Result<(), Fail> {
+    assert!(rt; is_refused(&rt, rt.alloc(), Wrong::NoTurns)?);
+    assert!(rt; is_refused(&rt, rt.alloc(), Wrong::Turns)?);
+    Ok(())
+}
+
+#[test]
+fn memory_of_no_size(rt: HostRuntime) -> Result<(), Fail> {
+    assert!(rt; is_refused(&rt, rt.alloc(), Wrong::MemoryTooSmall)?);
+    assert!(rt; is_refused(&rt, rt.alloc(), Wrong::MemoryTooLarge)?);
+    assert!(rt; is_refused(&rt, rt.alloc(), Wrong::MemoryOdd)?);
+    Ok(())
+}
+
+#[test]
+fn a_port_that_is_not_there(rt: HostRuntime) -> Result<(), Fail> {
+    assert!(rt; is_refused(&rt, rt.alloc(), Wrong::Pull)?);
+    assert!(rt; is_refused(&rt, rt.alloc(), Wrong::Request)?);
+    Ok(())
+}
+
+#[test]
+fn a_put_outside(rt: HostRuntime) -> Result<(), Fail> {
+    assert!(rt; is_refused(&rt, rt.alloc(), Wrong::PutBelow)?);
+    assert!(rt; is_refused(&rt, rt.alloc(), Wrong::PutBeyond)?);
+    Ok(())
+}
+
+#[test]
+fn a_second_run(rt: HostRuntime) -> Result<(), Fail> {
+    let alloc = rt.alloc();
+    let mut links = Links::new(alloc, 1, 4)?;
+    // With no request a run ends at once.
+    assert_eq!(rt; refusal(&rt, alloc, &mut links, setup(alloc, 1)?), None);
+    assert!(rt; links.are_given());
+    let again = refusal(&rt, alloc, &mut links, setup(alloc, 1)?);
     assert_eq!(rt; again, Some(RunError::BadSetup));
     Ok(())
 }

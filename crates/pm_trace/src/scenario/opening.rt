@@ -2,11 +2,13 @@
 
 ghost use Rattle.std.specs.Prelude.{◌≡◌, ◌*◌, ◌≤◌, IfOk, length, true};
 ghost use Rattle.disk_model.specs.Runs.{is_size};
+ghost use Rattle.pm_threads.specs.Setups.{lies_in};
 ghost use Rattle.pm_world.specs.Places.{is_config};
 
 use crate::scenario::parse::Setting;
 use disk_model::{Disk, DiskError, DiskPlan, Scripted, Unit};
 use fis_view::Bytes;
+use host_memory::CLIENT_START;
 use pm_world::Config;
 use std::alloc::{AllocError, Global};
 
@@ -42,8 +44,23 @@ impl Sizes {
         Config {
             ports: self.ports,
             capacity: usize::from(self.capacity),
-            memory: u32::from(self.memory) * 1_048_576,
+            memory: self.bytes(),
         }
+    }
+
+    /// The bytes of the host's memory.
+    pub fn bytes(self) -> u32
+        ensures { result ≡ 1048576 * self.memory }
+    {
+        u32::from(self.memory) * 1_048_576
+    }
+
+    /// Whether so many bytes from this address on lie in client memory.
+    pub fn has_client(self, at: u32, count: usize) -> bool
+        ensures { result ≡ lies_in (1048576 * self.memory) at count }
+    {
+        let end = self.bytes();
+        at >= CLIENT_START && at <= end && count as u64 <= u64::from(end - at)
     }
 }
 

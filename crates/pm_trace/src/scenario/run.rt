@@ -1,14 +1,13 @@
 //! A scenario as it goes on.
 
-use crate::failure::{Failure, Refusal};
+use crate::failure::Failure;
 use crate::input::is_skipped;
-use crate::scenario::opening::Opening;
+use crate::scenario::opening::{Opening, Sizes};
 use crate::scenario::parse::{Action, Setting};
-use crate::scenario::text::Reply;
+use crate::scenario::text::{Reply, write_view};
 use crate::scenario::words::Words;
-use host_memory::CLIENT_START;
 use pm_world::{Answer, Counts, Step, StepError, World, WorldError};
-use std::alloc::{AllocError, Global};
+use std::alloc::Global;
 use std::io::Write;
 use std::mem;
 
@@ -93,8 +92,7 @@ impl Scenario {
 #[derive(Drop)]
 struct Scene {
     world: World,
-    /// Fan-out ports of the world.
-    ports: u8,
+    sizes: Sizes,
     counts: Counts,
 }
 
@@ -111,7 +109,7 @@ impl Scene {
         writeln!(out, "{}", Reply::World(sizes))?;
         Ok(Scene {
             world,
-            ports: sizes.ports,
+            sizes,
             counts: Counts::new(alloc),
         })
     }
@@ -124,7 +122,7 @@ impl Scene {
         mut words: Words<'_>,
         out: &mut W,
     ) -> Result<(), Failure> {
-        match Action::read(alloc, name, &mut words)? {
+        match Action::read(alloc, name, &mut words, self.sizes)? {
             Action::Step(step) => {
                 let reply = self.step(alloc, &step)?;
                 writeln!(out, "{reply}")?;
@@ -133,34 +131,11 @@ impl Scene {
                 let reply = self.settle(alloc, rounds)?;
                 writeln!(out, "{reply}")?;
             }
-            Action::Show(at, len) => match self.shown(alloc, at, len)? {
-                Some(reply) => writeln!(out, "{reply}")?,
-                None => return Err(words.refused(Refusal::Range)),
-            },
-            Action::Counts => {
-                for count in self.counts.rows() {
-                    writeln!(out, "{}", Reply::Count(*count))?;
-                }
+            Action::See(view) => {
+                write_view(alloc, view, self.world.memory(), self.counts.rows(), out)?;
             }
         }
         Ok(())
-    }
-
-    /// So many bytes of client memory, from this address on, where they all lie in it.
-    fn shown(&self, alloc: Global, at: u32, len: u32) -> Result<Option<Reply>, AllocError> {
-        let client = self.world.memory().client();
-        let Some(start) = at.checked_sub(CLIENT_START) else {
-            return Ok(None);
-        };
-        let start = start as usize;
-        let Some(bytes) = client
-            .get(start..)
-            .and_then(|rest| rest.get(..len as usize))
-        else {
-            return Ok(None);
-        };
-        let digits = hex::encode(alloc, bytes)?;
-        Ok(Some(Reply::Shown { at, digits }))
     }
 
     /// Does one step, and gives what is printed of it.
@@ -185,7 +160,7 @@ impl Scene {
     /// multiplier and the host. Says whether one of them did something.
     fn round(&mut self, alloc: Global) -> Result<bool, Failure> {
         let mut is_moved = false;
-        for n in 0..self.ports {
+        for n in 0..self.sizes.ports {
             is_moved |= self.moves(alloc, &Step::PmPresence(n))?;
             is_moved |= self.moves(alloc, &Step::DiskTake(n))?;
             is_moved |= self.moves(alloc, &Step::DiskSend(n))?;

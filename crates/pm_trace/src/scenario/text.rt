@@ -1,18 +1,28 @@
 //! The lines that a scenario prints.
 
+use crate::failure::Failure;
 use crate::scenario::opening::Sizes;
+use crate::scenario::parse::View;
 use hba_driver::{Completion, Outcome, SubmitError, Ticket};
+use host_memory::{CLIENT_START, HostMemory};
 use pm_world::{Answer, ConnCount, StepError};
 use std::alloc::{AllocError, Global};
 use std::fmt;
+use std::io::Write;
 
 /// What a line of a scenario prints.
 #[derive(Debug, Drop)]
 pub enum Reply {
     /// The world is built.
     World(Sizes),
-    Came { port: u8, conn: u32 },
-    Gone { port: u8, conn: u32 },
+    Came {
+        port: u8,
+        conn: u32,
+    },
+    Gone {
+        port: u8,
+        conn: u32,
+    },
     Sent(FrameText),
     Took(FrameText),
     /// A step moved or dropped a frame or recorded a connection or a removal, or the driver did something.
@@ -31,10 +41,18 @@ pub enum Reply {
     RequestRefused(SubmitError),
     /// A request ended.
     Ended(Completion),
+    /// What became of a request of a run in threads. Requests count from 1.
+    Request {
+        number: usize,
+        result: Result<Outcome, SubmitError>,
+    },
     /// Bytes were written to client memory.
     Put,
     /// Bytes of client memory, from this address on.
-    Shown { at: u32, digits: String },
+    Shown {
+        at: u32,
+        digits: String,
+    },
     /// How many frames of a connection were sent and taken.
     Count(ConnCount),
 }
@@ -95,6 +113,37 @@ impl Reply {
         };
         Ok(reply)
     }
+
+    /// So many bytes of client memory, from this address on, as far as they lie in it.
+    fn shown(alloc: Global, memory: &HostMemory, at: u32, count: u32) -> Result<Reply, AllocError> {
+        let start = at.saturating_sub(CLIENT_START) as usize;
+        let rest = memory.client().get(start..).unwrap_or(&[]);
+        let bytes = rest.get(..count as usize).unwrap_or(rest);
+        let digits = hex::encode(alloc, bytes)?;
+        Ok(Reply::Shown { at, digits })
+    }
+}
+
+/// Writes what a line asks to see of this memory and these counts.
+pub fn write_view<W: Write>(
+    alloc: Global,
+    view: View,
+    memory: &HostMemory,
+    counts: &[ConnCount],
+    out: &mut W,
+) -> Result<(), Failure> {
+    match view {
+        View::Memory(at, count) => {
+            let reply = Reply::shown(alloc, memory, at, count)?;
+            writeln!(out, "{reply}")?;
+        }
+        View::Counts => {
+            for count in counts {
+                writeln!(out, "{}", Reply::Count(*count))?;
+            }
+        }
+    }
+    Ok(())
 }
 
 impl fmt::Display for Reply {
@@ -115,11 +164,22 @@ impl fmt::Display for Reply {
                 write!(f, "step refused {number} {error:?}")
             }
             Reply::Submitted(ticket) => write!(f, "submitted {}", ticket.0),
-            Reply::RequestRefused(error) => {
-                let number = *error as u8;
-                write!(f, "submit refused {number} {error:?}")
+            Reply::RequestRefused(error) => write_refused(*error, f),
+            Reply::Ended(completion) => {
+                write!(
+                    f,
+                    "ticket {} slot {} ",
+                    completion.ticket.0, completion.slot
+                )?;
+                write_outcome(completion.outcome, f)
             }
-            Reply::Ended(completion) => write_ended(completion, f),
+            Reply::Request { number, result } => {
+                write!(f, "request {number} ")?;
+                match result {
+                    Ok(outcome) => write_outcome(*outcome, f),
+                    Err(error) => write_refused(*error, f),
+                }
+            }
             Reply::Put => write!(f, "put"),
             Reply::Shown { at, digits } => write!(f, "{at:x} {digits}"),
             Reply::Count(count) => {
@@ -130,13 +190,13 @@ impl fmt::Display for Reply {
     }
 }
 
-fn write_ended<W: fmt::Write>(completion: &Completion, f: &mut fmt::Formatter<W>) -> fmt::Result {
-    write!(
-        f,
-        "ticket {} slot {} ",
-        completion.ticket.0, completion.slot
-    )?;
-    match completion.outcome {
+fn write_refused<W: fmt::Write>(error: SubmitError, f: &mut fmt::Formatter<W>) -> fmt::Result {
+    let number = error as u8;
+    write!(f, "submit refused {number} {error:?}")
+}
+
+fn write_outcome<W: fmt::Write>(outcome: Outcome, f: &mut fmt::Formatter<W>) -> fmt::Result {
+    match outcome {
         Outcome::Done => write!(f, "done"),
         Outcome::DeviceError { status, error } => write!(
             f,

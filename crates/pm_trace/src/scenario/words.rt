@@ -55,12 +55,9 @@ impl<'a> Words<'a> {
     fn value(&self, word: &[u8], base: u8, least: u64, most: u64) -> Result<u64, Failure>
         ensures within { IfOk result (λ n. (least ≤ n) × (n ≤ most)) }
     {
-        if word.is_empty() || !word.iter().all(|byte| is_digit(*byte, base)) {
-            return Err(self.refused(Refusal::Number));
-        }
-        match value_of(word, base) {
-            Some(value) if least <= value && value <= most => Ok(value),
-            _ => Err(self.refused(Refusal::Range)),
+        match value_within(word, base, least, most) {
+            Ok(value) => Ok(value),
+            Err(refusal) => Err(self.refused(refusal)),
         }
     }
 
@@ -104,9 +101,11 @@ impl<'a> Words<'a> {
         self.rest.iter().all(|byte| is_blank(*byte))
     }
 
-    /// The next word as a port's number, 0 to 255. Whether the world has such a port is not asked.
-    pub fn port(&mut self) -> Result<u8, Failure> {
-        Ok(self.number(0, 255)? as u8)
+    /// The next word as a port's number, at most this one.
+    pub fn port(&mut self, last: u8) -> Result<u8, Failure>
+        ensures within { IfOk result (λ n. n ≤ last) }
+    {
+        Ok(self.number(0, u64::from(last))? as u8)
     }
 
     /// Takes the next word, which must be this one.
@@ -147,6 +146,20 @@ impl<'a> Words<'a> {
             None => Ok(()),
             Some(_) => Err(self.refused(Refusal::Number)),
         }
+    }
+}
+
+/// What a word spells in this base, 10 or 16. One that has anything but digits, or nothing, is `number`;
+/// one outside these limits is `range`.
+pub fn value_within(word: &[u8], base: u8, least: u64, most: u64) -> Result<u64, Refusal>
+    ensures within { IfOk result (λ n. (least ≤ n) × (n ≤ most)) }
+{
+    if word.is_empty() || !word.iter().all(|byte| is_digit(*byte, base)) {
+        return Err(Refusal::Number);
+    }
+    match value_of(word, base) {
+        Some(value) if least <= value && value <= most => Ok(value),
+        _ => Err(Refusal::Range),
     }
 }
 

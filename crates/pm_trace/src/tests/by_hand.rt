@@ -2,7 +2,9 @@ use super::assert_run;
 use crate::serve::serve;
 use std::alloc::{AllocError, Global};
 use std::process::Abort;
+use std::sync::Wait;
 use std::test::Fail;
+use std::thread::Threads;
 
 /// The command was received.
 const ANSWER: &str = "inject 0 34 00 50 00 00000000000000000000000000000000";
@@ -24,7 +26,11 @@ fn data(alloc: Global) -> Result<String, AllocError> {
 
 /// What a scenario prints in which one sector is read, these lines put FISes on the device's link in place
 /// of the device, which does not see the command, and each goes up to the host.
-fn read_with(alloc: Global, frames: &[&str]) -> Result<Vec<u8>, AllocError> {
+fn read_with<R: AllocGlobal + Threads + Wait + Sync>(
+    rt: &R,
+    frames: &[&str],
+) -> Result<Vec<u8>, AllocError> {
+    let alloc = rt.alloc();
     let mut input = "came 0\nsettle 1000\nread 0 0 1 101000:300 102000:212\n".to_string(alloc)?;
     input.push_str("step tick\nstep hostpush\n")?;
     for frame in frames {
@@ -33,7 +39,7 @@ fn read_with(alloc: Global, frames: &[&str]) -> Result<Vec<u8>, AllocError> {
     }
     input.push_str("step tick\npoll\nshow 10112a 4\nshow 102000 2\nshow 1020d2 3")?;
     let mut written = Vec::new(alloc);
-    let _ = serve(alloc, &["run"], input.as_bytes(), &mut written);
+    let _ = serve(rt, alloc, &["run"], input.as_bytes(), &mut written);
     Ok(written)
 }
 
@@ -41,7 +47,7 @@ fn read_with(alloc: Global, frames: &[&str]) -> Result<Vec<u8>, AllocError> {
 fn a_read_lands_in_its_places(rt: HostRuntime) -> Result<(), Fail> {
     let alloc = rt.alloc();
     let data = data(alloc)?;
-    let whole = read_with(alloc, &[ANSWER, SETUP, data.as_str(), DONE])?;
+    let whole = read_with(&rt, &[ANSWER, SETUP, data.as_str(), DONE])?;
     let end = b"\nmoved\nticket 1 slot 0 done\n10112a 2a2b0000\n102000 2c2d\n1020d2 feff00\n";
     assert!(rt; whole.ends_with(end.as_slice()));
     let begin =
@@ -51,8 +57,11 @@ fn a_read_lands_in_its_places(rt: HostRuntime) -> Result<(), Fail> {
 }
 
 /// Sees that these FISes bring no byte of the read and do not end it; the tick clears an error.
-fn assert_nothing_came<R: Abort + AllocGlobal>(rt: &R, frames: &[&str]) -> Result<(), AllocError> {
-    let written = read_with(rt.alloc(), frames)?;
+fn assert_nothing_came<R: Abort + AllocGlobal + Threads + Wait + Sync>(
+    rt: &R,
+    frames: &[&str],
+) -> Result<(), AllocError> {
+    let written = read_with(rt, frames)?;
     let end = b"\nmoved\nnothing\n10112a 00000000\n102000 0000\n1020d2 000000\n";
     assert!(rt; written.ends_with(end.as_slice()));
     Ok(())

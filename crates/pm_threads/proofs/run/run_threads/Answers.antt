@@ -1,21 +1,23 @@
-use Rattle.std.proofs.Common.{rules, ◌≡◌, ◌≤◌, ℕ, true, List, length, Vec, Global, subst, ap, ◌∙◌, arith}
+use Rattle.std.proofs.Common.{rules, ◌≡◌, ◌≤◌, ℕ, true, List, length, Vec, Global, sym, subst, ap, ◌∙◌, arith}
 use Rattle.std.specs.Prelude.{map}
-use Rattle.std.specs.List.{AllZip}
+use Rattle.std.specs.List.{AllZip, list_all}
 use Rattle.disk_model.specs.Units.{plan_of, StandsFor, MaySend}
-use Rattle.disk_thread.specs.Runs.{IsRun}
+use Rattle.disk_model.specs.declared.unit.Unit.{Unit}
+use Rattle.disk_thread.specs.Runs.{IsRun, StationState}
+use Rattle.host_thread.specs.declared.plan.Planned.{Planned}
 use Rattle.host_thread.specs.Runs.{GoesOn, IsRun as IsHostRun}
-use Rattle.pm_threads.specs.Ends.{Ends, AllGoOn}
-use Rattle.pm_threads.specs.Seats.{Starts}
-use Rattle.pm_threads.specs.Setups.{is_fitting, memory_of}
+use Rattle.pm_threads.specs.Ends.{Ends, AllGoOn, LeavesOpen}
+use Rattle.pm_threads.specs.Seats.{Starts, first_ports}
+use Rattle.pm_threads.specs.Setups.{is_fitting, lies_in, memory_of}
 use Rattle.pm_threads.proofs.Ends.{all_unused, starts_tied, if_ok}
-use Rattle.pm_threads.proofs.Fits.{first_three, unit_for_each}
+use Rattle.pm_threads.proofs.Fits.{first_three, fits_puts, fits_units, unit_for_each}
 use Rattle.pm_threads.proofs.Zips.{zip_long}
 use Rattle.pm_threads.proofs.run.run_threads.Goals as goal
 
 pub new-pm-requires-clause-some : goal.new-pm-requires-clause-some
 new-pm-requires-clause-some g c =
-    let starts : AllZip Starts c.in-Some-2.workers.items c.in-Some-2.ports.items = search rules in
-    let runs : AllZip (IsRun plan_of StandsFor MaySend) c.args.setup.units.items c.in-Some-2.workers.items = search rules in
+    let starts : AllZip Starts c.in_ok-workers.workers.items c.in_ok-workers.ports.items = search rules in
+    let runs : AllZip (IsRun plan_of StandsFor MaySend) c.args.setup.units.items c.in_ok-workers.workers.items = search rules in
     let fits : is_fitting c.ports.result c.args.setup ≡ true = search rules in
     let few = unit_for_each c.ports.result (length c.args.setup.units.items) (first_three _ _ _ _ _ _ _ _ _ fits) in
     let one = few.0 in
@@ -25,8 +27,8 @@ new-pm-requires-clause-some g c =
 
 pub new-pm-requires-clause-at_most : goal.new-pm-requires-clause-at_most
 new-pm-requires-clause-at_most g c =
-    let starts : AllZip Starts c.in-Some-2.workers.items c.in-Some-2.ports.items = search rules in
-    let runs : AllZip (IsRun plan_of StandsFor MaySend) c.args.setup.units.items c.in-Some-2.workers.items = search rules in
+    let starts : AllZip Starts c.in_ok-workers.workers.items c.in_ok-workers.ports.items = search rules in
+    let runs : AllZip (IsRun plan_of StandsFor MaySend) c.args.setup.units.items c.in_ok-workers.workers.items = search rules in
     let fits : is_fitting c.ports.result c.args.setup ≡ true = search rules in
     let few = unit_for_each c.ports.result (length c.args.setup.units.items) (first_three _ _ _ _ _ _ _ _ _ fits) in
     let most = few.1 in
@@ -36,18 +38,18 @@ new-pm-requires-clause-at_most g c =
 
 pub new-pm-requires-clause-unused : goal.new-pm-requires-clause-unused
 new-pm-requires-clause-unused g c =
-    let starts : AllZip Starts c.in-Some-2.workers.items c.in-Some-2.ports.items = search rules in
+    let starts : AllZip Starts c.in_ok-workers.workers.items c.in_ok-workers.ports.items = search rules in
     all_unused _ _ starts
 
 pub run_seated-requires-clause-tied : goal.run_seated-requires-clause-tied
 run_seated-requires-clause-tied g c κs within =
-    let starts : AllZip Starts c.in-Some-2.workers.items c.in-Some-2.ports.items = search rules in
+    let starts : AllZip Starts c.in_ok-workers.workers.items c.in_ok-workers.ports.items = search rules in
     rw c.new-pm.ensures.ports (starts_tied _ _ starts)
 
 pub returns-clause-disks : goal.returns-clause-disks
 returns-clause-disks g c =
-    let runs : AllZip (IsRun plan_of StandsFor MaySend) c.args.setup.units.items c.in-Some-2.workers.items = search rules in
-    if_ok c.run_seated.result (λ (f : Ends). AllGoOn c.in-Some-2.workers.items f.disks)
+    let runs : AllZip (IsRun plan_of StandsFor MaySend) c.args.setup.units.items c.in_ok-workers.workers.items = search rules in
+    if_ok c.run_seated.result (λ (f : Ends). AllGoOn c.in_ok-workers.workers.items f.disks)
     (λ (f : Ends). AllZip (IsRun plan_of StandsFor MaySend) c.args.setup.units.items f.disks) c.run_seated.ensures.disks
     (λ f goes. goes c.args.setup.units.items runs)
 
@@ -61,3 +63,43 @@ returns-clause-host g c =
     let ran : IsHostRun c.in_ok-memory.memory c.in_ok-host.host = search rules in
     if_ok c.run_seated.result (λ (f : Ends). GoesOn c.in_ok-host.host f.host) (λ (f : Ends). IsHostRun start f.host) c.run_seated.ensures.host
     (λ f goes. goes start (subst (λ m. IsHostRun m c.in_ok-host.host) is ran))
+
+pub filled-requires-clause-puts : goal.filled-requires-clause-puts
+filled-requires-clause-puts g c =
+    let fits : is_fitting c.ports.result c.args.setup ≡ true = search rules in
+    let given : c.deref-2.result.now ≡ c.args.setup.puts.items = search rules in
+    subst (λ (l : List (ℕ × Vec ℕ Global)). list_all (λ put. lies_in c.args.setup.memory put.0 (length put.1.items)) l ≡ true) (sym given)
+    (fits_puts c.ports.result c.args.setup fits)
+
+pub run_seated-requires-clause-few : goal.run_seated-requires-clause-few
+run_seated-requires-clause-few g c κs within =
+    let runs : AllZip (IsRun plan_of StandsFor MaySend) c.args.setup.units.items c.in_ok-workers.workers.items = search rules in
+    let fits : is_fitting c.ports.result c.args.setup ≡ true = search rules in
+    let few = unit_for_each c.ports.result (length c.args.setup.units.items) (first_three _ _ _ _ _ _ _ _ _ fits) in
+    let most = few.1 in
+    let same = zip_long (IsRun plan_of StandsFor MaySend) _ _ runs in
+    omega (arith, most, same)
+
+pub returns-clause-ports : goal.returns-clause-ports
+returns-clause-ports g c =
+    let fits : is_fitting c.ports.result c.args.setup ≡ true = search rules in
+    let count : length c.args.setup.units.items ≡ c.ports.result = fits_units c.ports.result c.args.setup fits in
+    let there : c.ports.result ≡ length c.args.links.now.devices = search rules in
+    let at : map (λ (s : StationState Unit). s.port) c.in_ok-workers.workers.items ≡ first_ports (length c.args.setup.units.items) = c.in_ok-workers.ensures.ports in
+    if_ok c.run_seated.result
+    (λ (f : Ends). map (λ (s : StationState Unit). s.port) f.disks ≡ map (λ (s : StationState Unit). s.port) c.in_ok-workers.workers.items)
+    (λ (f : Ends). map (λ (s : StationState Unit). s.port) f.disks ≡ first_ports (length c.args.links.now.devices)) c.run_seated.ensures.ports
+    (λ f is. is ∙ at ∙ ap first_ports (count ∙ there))
+
+pub returns-clause-turns : goal.returns-clause-turns
+returns-clause-turns g c spent =
+    let start = memory_of c.args.setup.memory (map (λ (put : ℕ × Vec ℕ Global). (put.0, put.1.items)) c.args.setup.puts.items) in
+    let runs : AllZip (IsRun plan_of StandsFor MaySend) c.args.setup.units.items c.in_ok-workers.workers.items = search rules in
+    let given : c.deref-2.result.now ≡ c.args.setup.puts.items = search rules in
+    let is : c.in_ok-memory.memory ≡ start =
+    c.in_ok-memory.ensures
+    ∙ ap (λ (l : List (ℕ × Vec ℕ Global)). memory_of c.args.setup.memory (map (λ (put : ℕ × Vec ℕ Global). (put.0, put.1.items)) l)) given in
+    let ran : IsHostRun c.in_ok-memory.memory c.in_ok-host.host = search rules in
+    let plan : c.in_ok-host.host.plan ≡ c.args.setup.plan.items = search rules in
+    subst (λ (p : List Planned). LeavesOpen c.args.setup.units.items start p) plan
+    (c.run_seated.ensures.turns c.args.setup.units.items start runs (subst (λ m. IsHostRun m c.in_ok-host.host) is ran) spent)

@@ -15,7 +15,7 @@ invariant_of-self g c =
     let same : sent ++ option_to_list c.self.inside.hand ≡ sent = ap (λ o. sent ++ option_to_list o) empty ∙ append-nil sent in
     let counted : IsCounted sent c.self.inside.conn c.self.inside.number = subst (λ l. IsCounted l c.self.inside.conn c.self.inside.number) same c.self.invariant.0 in
     let past : ArePast c.self.inside.past.items c.self.inside.conn sent = subst (λ l. ArePast c.self.inside.past.items c.self.inside.conn l) same c.self.invariant.1 in
-    (counted_more sent _ _ c.in-Ok-Some.frame counted of_conn of_number, past_more _ sent _ c.in-Ok-Some.frame past of_conn)
+    (counted_more sent _ _ c.in-Ok-Some.frame counted of_conn of_number, past_more _ sent _ c.in-Ok-Some.frame past of_conn, c.self.invariant.2)
 
 pub returns-in-Ok-Some-clause-run : goal.returns-in-Ok-Some-clause-run
 returns-in-Ok-Some-clause-run g c opening r =

@@ -1,0 +1,272 @@
+-- Rows of counts, port by port and connection by connection.
+use Rattle.std.proofs.Common.{◌≡◌, ℕ, zero, suc, ◌+◌, ◌<◌, ◌≤◌, List, [], ◌∷◌, ◌++◌, length, get_or, Option, Some, None, Bool, true, false, refl, sym, ap, subst, ◌∙◌, inl, inr, append_assoc, append-nil, length-append, arith}
+use Rattle.std.specs.Prelude.{◌&&◌, ◌==◌, ◌⊎◌, if◌then◌else◌, All, map, nat_le, nat_lt}
+use Rattle.std.specs.Option.{option_or, option_to_list}
+use Rattle.std.proofs.lemmas.Bool.{cases_eq, cases_lt, lt-ltb, ne_eqb}
+use Rattle.std.proofs.lemmas.Bool.Decides.{nat_tests}
+use Rattle.std.proofs.lemmas.List.Quantifiers.{all_pairs_push}
+use Rattle.std.proofs.lemmas.List.{length-map}
+use Rattle.std.proofs.lemmas.List.Elements.{All-push, filter-append}
+use Rattle.std.proofs.lemmas.List.Folds.{find-append}
+use Rattle.disk_model.specs.declared.unit.Unit.{Unit}
+use Rattle.fis_view.specs.Frames.{Stamped}
+use Rattle.ruled_links.specs.Lists.{IsPrefixOf}
+use Rattle.multiplier.specs.Orders.{of_connection, of_port}
+use Rattle.multiplier.specs.Passing.{of_conn}
+use Rattle.multiplier.specs.State.{rising}
+use Rattle.pm_thread.specs.Passing.{risen}
+use Rattle.pm_world.specs.Counting.{AreSorted, Precedes, is_of, row_of}
+use Rattle.pm_world.specs.declared.counts.ConnCount.{ConnCount}
+use Rattle.disk_thread.specs.Runs.{AreTold, StationState, all_given, all_told, has_come}
+use Rattle.pm_threads.specs.Ends.{EachArrives, sent_at}
+use Rattle.pm_threads.specs.Summaries.{AreCounted, CountsAt, NoneAboveSent, at_place, given_at, told_at, row_for, rows_on}
+
+-- ---- one of two rows
+
+or_none : {T : Type 0} (o : Option T) → option_or o None ≡ o
+or_none None = refl
+or_none (Some x) = refl
+
+-- the second where the test says so, else what the first is
+picked : {T : Type 0} (a b now : Bool) (x y : T) → ((a ≡ false) × (b ≡ true) × (now ≡ true) × (y ≡ x)) ⊎ ((b ≡ false) × (now ≡ a))
+    → option_or (if a then Some x else None) (if b then Some y else None) ≡ (if now then Some x else None)
+picked a b now x y (inl h) = rw (h.0, h.1, h.2, h.3) refl
+picked a b now x y (inr h) = rw (h.0, h.1) (or_none (if a then Some x else None))
+
+-- ---- tests
+
+none_of_none : (m n c : ℕ) → false ≡ (m == n && (nat_le 1 c && nat_le c 0))
+none_of_none m n c = grind (arith, nat_tests)
+
+none_below : (m : ℕ) (came : Bool) → false ≡ (nat_lt m 0 && came)
+none_below m true = grind (arith, nat_tests)
+none_below m false = grind (arith, nat_tests)
+
+not_yet : (m n c k : ℕ) → c ≡ suc k → (m == n && (nat_le 1 c && nat_le c k)) ≡ false
+not_yet m n c k is = grind (arith, nat_tests, is)
+
+now_it_is : (m n c k : ℕ) → m ≡ n → suc k ≡ c → (n == m && suc k == c) ≡ true
+now_it_is m n c k same last = grind (arith, nat_tests, same, last)
+
+now_there : (m n c k : ℕ) → m ≡ n → suc k ≡ c → (m == n && (nat_le 1 c && nat_le c (suc k))) ≡ true
+now_there m n c k same last = grind (arith, nat_tests, same, last)
+
+not_it_is : (m n c k : ℕ) → (m ≡ n → ⊥) ⊎ (suc k ≡ c → ⊥) → (n == m && suc k == c) ≡ false
+not_it_is m n c k (inl apart) = rw (ne_eqb n m (λ e. apart (sym e))) refl
+not_it_is m n c k (inr apart) = rw (ne_eqb (suc k) c apart) (and_false (n == m))
+  where
+    and_false : (b : Bool) → (b && false) ≡ false
+    and_false true = refl
+    and_false false = refl
+
+as_before : (m n c k : ℕ) → (m ≡ n → ⊥) ⊎ (suc k ≡ c → ⊥) → (m == n && (nat_le 1 c && nat_le c (suc k))) ≡ (m == n && (nat_le 1 c && nat_le c k))
+as_before m n c k (inl apart) = rw (ne_eqb m n apart) refl
+as_before m n c k (inr apart) = ap (λ b. m == n && (nat_le 1 c && b)) (let e : nat_le c (suc k) ≡ nat_le c k = grind (arith, nat_tests, apart) in e)
+
+elsewhere : (m n : ℕ) (in_range : Bool) → (m ≡ n → ⊥) → (m == n && in_range) ≡ false
+elsewhere m n in_range apart = rw (ne_eqb m n apart) refl
+
+still : (m n : ℕ) (came : Bool) → (m ≡ n → ⊥) → (nat_lt m (n + 1) && came) ≡ (nat_lt m n && came)
+still m n came apart = ap (λ b. b && came) (let e : nat_lt m (n + 1) ≡ nat_lt m n = grind (arith, nat_tests, apart) in e)
+
+-- at the port of the device
+at_port : {T : Type 0} (m n : ℕ) (came in_range : Bool) (x y : T) → m ≡ n → came ≡ in_range → y ≡ x
+    → (((nat_lt m n && came) ≡ false) × ((m == n && in_range) ≡ true) × ((nat_lt m (n + 1) && came) ≡ true) × (y ≡ x))
+    ⊎ (((m == n && in_range) ≡ false) × ((nat_lt m (n + 1) && came) ≡ (nat_lt m n && came)))
+at_port m n true in_range x y same is row = inl (
+  (let e : (nat_lt m n && true) ≡ false = grind (arith, nat_tests, same) in e),
+  rw (sym is) (let e : (m == n && true) ≡ true = grind (arith, nat_tests, same) in e),
+  (let e : (nat_lt m (n + 1) && true) ≡ true = grind (arith, nat_tests, same) in e),
+  row,
+)
+at_port m n false in_range x y same is row = inr (
+  rw (sym is) (let e : (m == n && false) ≡ false = grind (arith, nat_tests) in e),
+  (let e : (nat_lt m (n + 1) && false) ≡ (nat_lt m n && false) = grind (arith, nat_tests) in e),
+)
+
+-- ---- the rows of one device
+
+-- one row more
+pub rows_more : (row : ℕ → ConnCount) (k : ℕ) (old rows : List ConnCount) (r : ConnCount) → r ≡ row (k + 1) → rows ≡ old ++ rows_on row k
+    → rows ++ r ∷ [] ≡ old ++ rows_on row (k + 1)
+rows_more row k old rows r is so =
+    let next : suc k ≡ k + 1 = omega arith in
+    let step : rows_on row (suc k) ≡ rows_on row k ++ row (suc k) ∷ [] = refl in
+    let long : rows_on row k ++ r ∷ [] ≡ rows_on row (k + 1) =
+    ap (λ x. rows_on row k ++ x ∷ []) (is ∙ ap row (sym next)) ∙ sym step ∙ ap (rows_on row) next in
+    ap (λ l. l ++ r ∷ []) so ∙ append_assoc old (rows_on row k) (r ∷ []) ∙ ap (λ l. old ++ l) long
+
+-- of this port and none above, and of this connection and none above
+abbrev pub Under : ℕ → ℕ → ConnCount → Type 0
+Under n k row = (row.port < n) ⊎ ((row.port ≡ n) × (row.conn ≤ k))
+
+module _ (row : ℕ → ConnCount) (n : ℕ) (of_port : (c : ℕ) → (row c).port ≡ n) (of_conn : (c : ℕ) → (row c).conn ≡ c) where
+  next_follows : (k : ℕ) (r : ConnCount) → Under n k r → Precedes r (row (suc k))
+  next_follows k r (inl lower) = inl (let p = of_port (suc k) in omega (arith, p, lower))
+  next_follows k r (inr same) = inr (same.0 ∙ sym (of_port (suc k)), (let q = of_conn (suc k) in let le = same.1 in omega (arith, q, le)))
+
+  still_under : (k : ℕ) (r : ConnCount) → Under n k r → Under n (suc k) r
+  still_under k r (inl lower) = inl lower
+  still_under k r (inr same) = inr (same.0, (let le = same.1 in omega (arith, le)))
+
+  is_under : (k : ℕ) → Under n (suc k) (row (suc k))
+  is_under k = inr (of_port (suc k), (let q = of_conn (suc k) in omega (arith, q)))
+
+  sorted_on : (rows : List ConnCount) → AreSorted rows → All (Under n 0) rows → (k : ℕ) → AreSorted (rows ++ rows_on row k) × All (Under n k) (rows ++ rows_on row k)
+  sorted_on rows sorted under zero = (subst AreSorted (sym (append-nil rows)) sorted, subst (All (Under n 0)) (sym (append-nil rows)) under)
+  sorted_on rows sorted under (suc k) =
+      let so = sorted_on rows sorted under k in
+      let longer = append_assoc rows (rows_on row k) (row (suc k) ∷ []) in (
+        subst AreSorted longer (all_pairs_push Precedes (rows ++ rows_on row k) (row (suc k)) so.0 (λ i d lt. next_follows k (get_or (rows ++ rows_on row k) i d) (so.1 i d lt))),
+        subst (All (Under n (suc k))) longer
+            (All-push (Under n (suc k)) (rows ++ rows_on row k) (row (suc k)) (λ i d lt. still_under k (get_or (rows ++ rows_on row k) i d) (so.1 i d lt)) (is_under k)),
+      )
+
+  -- the row of a connection is there exactly where it is one of the first k
+  found_on : (m c k : ℕ) → row_of m c (rows_on row k) ≡ (if m == n && (nat_le 1 c && nat_le c k) then Some (row c) else None)
+  found_on m c zero = ap (λ b. if b then Some (row c) else None) (none_of_none m n c)
+  found_on m c (suc k) =
+      let test : is_of m c (row (suc k)) ≡ (n == m && suc k == c) =
+      ap (λ p. p == m && (row (suc k)).conn == c) (of_port (suc k)) ∙ ap (λ q. n == m && q == c) (of_conn (suc k)) in
+      let was : Bool = m == n && (nat_le 1 c && nat_le c k) in
+      let is : Bool = m == n && (nat_le 1 c && nat_le c (suc k)) in
+      let which : ((was ≡ false) × ((n == m && suc k == c) ≡ true) × (is ≡ true) × (row (suc k) ≡ row c)) ⊎ (((n == m && suc k == c) ≡ false) × (is ≡ was)) =
+      elim (cases_eq m n) [
+        | inl same ↦ elim (cases_eq (suc k) c) [
+          | inl last ↦ inl (not_yet m n c k (sym last), now_it_is m n c k same last, now_there m n c k same last, ap row last)
+          | inr other ↦ inr (not_it_is m n c k (inr other), as_before m n c k (inr other))
+        ]
+        | inr apart ↦ inr (not_it_is m n c k (inl apart), as_before m n c k (inl apart))
+      ] in
+      find-append (is_of m c) (rows_on row k) (row (suc k) ∷ [])
+      ∙ ap (λ o. option_or o (if is_of m c (row (suc k)) then Some (row (suc k)) else None)) (found_on m c k)
+      ∙ ap (λ b. option_or (if was then Some (row c) else None) (if b then Some (row (suc k)) else None)) test
+      ∙ picked was (n == m && suc k == c) is (row c) (row (suc k)) which
+
+-- ---- the rows of the first ports
+
+-- a row for each connection of the first n ports that came
+pub record UpTo (disks : List (StationState Unit)) (taken : List Stamped) (n : ℕ) (rows : List ConnCount) : Type 0 where
+  pub sorted : AreSorted rows
+  pub under : All (Under n 0) rows
+  pub each : (m c : ℕ) → row_of m c rows ≡ (if nat_lt m n && has_come c (told_at disks m) then Some (row_for (given_at disks m) taken m c) else None)
+
+pub up_to_none : (disks : List (StationState Unit)) (taken : List Stamped) (rows : List ConnCount) → rows ≡ [] → UpTo disks taken 0 rows
+up_to_none disks taken [] e = record {
+  sorted = λ i j d less within. absurd (omega (arith, within));
+  under = λ k d less. absurd (omega (arith, less));
+  each = λ m c. ap (λ b. if b then Some (row_for (given_at disks m) taken m c) else None) (none_below m (has_come c (told_at disks m)));
+}
+up_to_none disks taken (r ∷ rows) e = absurd cc
+
+at_is : {A : Type 0} (part : StationState Unit → List A) (disks : List (StationState Unit)) (n : ℕ) (other : StationState Unit) → n < length disks
+    → at_place part disks n ≡ part (get_or disks n other)
+at_is part [] n other lt = absurd (omega (arith, lt))
+at_is part (s ∷ disks) zero other lt = refl
+at_is part (s ∷ disks) (suc n) other lt = at_is part disks n other (omega (arith, lt))
+
+at_past : {A : Type 0} (part : StationState Unit → List A) (disks : List (StationState Unit)) (n : ℕ) → length disks ≤ n → at_place part disks n ≡ []
+at_past part [] n le = refl
+at_past part (s ∷ disks) zero le = absurd (omega (arith, le))
+at_past part (s ∷ disks) (suc n) le = at_past part disks n (omega (arith, le))
+
+pub map_at : {A B : Type 0} (f : A → B) (xs : List A) (i : ℕ) (other : A) → i < length xs → get_or (map f xs) i (f other) ≡ f (get_or xs i other)
+map_at f [] i other lt = absurd (omega (arith, lt))
+map_at f (x ∷ xs) zero other lt = refl
+map_at f (x ∷ xs) (suc i) other lt = map_at f xs i other (omega (arith, lt))
+
+under_next : (n k : ℕ) (r : ConnCount) → Under n k r → Under (n + 1) 0 r
+under_next n k r (inl lower) = inl (omega (arith, lower))
+under_next n k r (inr same) = inl (let p = same.0 in omega (arith, p))
+
+-- the rows of one port more
+pub up_to_more : (disks : List (StationState Unit)) (taken : List Stamped) (n : ℕ) (s other : StationState Unit) (rows new : List ConnCount) → n < length disks
+    → get_or disks n other ≡ s → CountsAt rows n s taken new → UpTo disks taken n rows → UpTo disks taken (n + 1) new
+up_to_more disks taken n s other rows new lt is counts h =
+    let row : ℕ → ConnCount = row_for (all_given s) taken n in
+    let last : ℕ = s.standing.conn in
+    let all = sorted_on row n (λ c. refl) (λ c. refl) rows h.sorted h.under last in
+    let given : given_at disks n ≡ all_given s = at_is all_given disks n other lt ∙ ap all_given is in
+    let told : told_at disks n ≡ all_told s = at_is all_told disks n other lt ∙ ap all_told is in
+    record {
+      sorted = subst AreSorted (sym counts.added) all.0;
+      under = subst (All (Under (n + 1) 0)) (sym counts.added) (λ i d less. under_next n last (get_or (rows ++ rows_on row last) i d) (all.1 i d less));
+      each = λ m c.
+          let came : has_come c (told_at disks n) ≡ (nat_le 1 c && nat_le c last) = ap (has_come c) told ∙ counts.told.each c in
+          let was : Bool = nat_lt m n && has_come c (told_at disks m) in
+          let here : Bool = m == n && (nat_le 1 c && nat_le c last) in
+          let now : Bool = nat_lt m (n + 1) && has_come c (told_at disks m) in
+          ap (row_of m c) counts.added ∙ find-append (is_of m c) rows (rows_on row last)
+          ∙ ap (λ o. option_or o (row_of m c (rows_on row last))) (h.each m c)
+          ∙ ap (λ o. option_or (if was then Some (row_for (given_at disks m) taken m c) else None) o) (found_on row n (λ x. refl) (λ x. refl) m c last)
+          ∙ picked was here now (row_for (given_at disks m) taken m c) (row c) (elim (cases_eq m n) [
+            | inl same ↦
+                at_port m n (has_come c (told_at disks m)) (nat_le 1 c && nat_le c last) (row_for (given_at disks m) taken m c) (row c) same
+                (ap (λ j. has_come c (told_at disks j)) same ∙ came)
+                (ap (λ g. row_for g taken n c) (sym given) ∙ ap (λ j. row_for (given_at disks j) taken j c) (sym same))
+            | inr apart ↦ inr (elsewhere m n (nat_le 1 c && nat_le c last) apart, still m n (has_come c (told_at disks m)) apart)
+          ]);
+    }
+
+and_false : (b : Bool) → (b && false) ≡ false
+and_false true = refl
+and_false false = refl
+
+-- no connection came of a port that is not there
+came_of_some : (disks : List (StationState Unit)) (m c : ℕ) → (nat_lt m (length disks) && has_come c (told_at disks m)) ≡ has_come c (told_at disks m)
+came_of_some disks m c = elim (cases_lt m (length disks)) [
+  | inl lt ↦ rw (lt-ltb m (length disks) lt) refl
+  | inr le ↦ let none : told_at disks m ≡ [] = at_past all_told disks m (omega (arith, le)) in rw none (and_false (nat_lt m (length disks)))
+]
+
+-- the rows of all ports
+pub all_counted : (disks : List (StationState Unit)) (taken : List Stamped) (rows : List ConnCount) → UpTo disks taken (length disks) rows → AreCounted rows disks taken
+all_counted disks taken rows h = record {
+  sorted = h.sorted;
+  each = λ m c. h.each m c ∙ ap (λ b. if b then Some (row_for (given_at disks m) taken m c) else None) (came_of_some disks m c);
+}
+
+-- ---- no more was taken than sent
+
+sent_of_given : (disks : List (StationState Unit)) (n : ℕ) → IsPrefixOf (sent_at disks n) (given_at disks n)
+sent_of_given [] n = ([], refl)
+sent_of_given (s ∷ disks) zero = (option_to_list s.hand, refl)
+sent_of_given (s ∷ disks) (suc n) = sent_of_given disks n
+
+prefix_fewer : {T : Type 0} (xs ys : List T) → IsPrefixOf xs ys → length xs ≤ length ys
+prefix_fewer xs ys h =
+    let long : length xs + length h.0 ≡ length ys = sym (length-append xs h.0) ∙ ap length h.1 in
+    omega (arith, long)
+
+fewer_on : (c : ℕ) (xs ys : List Stamped) → IsPrefixOf xs ys → length (of_connection c xs) ≤ length (of_connection c ys)
+fewer_on c xs ys h =
+    prefix_fewer (of_connection c xs) (of_connection c ys) (of_connection c h.0, sym (filter-append _ xs h.0) ∙ ap (of_connection c) h.1)
+
+none_some : {T : Type 0} (x : T) → None ≡ Some x → ⊥
+none_some x e = cc
+
+some_is : {T : Type 0} (x y : T) → Some x ≡ Some y → x ≡ y
+some_is x y e = cc
+
+false_true : false ≡ true → ⊥
+false_true e = cc
+
+pub none_above : (disks : List (StationState Unit)) (taken : List Stamped) (rows : List ConnCount) → length disks ≤ 15 → AreCounted rows disks taken
+    → EachArrives disks taken → NoneAboveSent rows
+none_above disks taken rows few counted arrives n c r is = by (has_come c (told_at disks n)) refl
+  where
+    by : (b : Bool) → has_come c (told_at disks n) ≡ b → r.taken ≤ r.sent
+    by false e =
+        absurd (none_some r (ap (λ x. if x then Some (row_for (given_at disks n) taken n c) else None) (sym e) ∙ sym (counted.each n c) ∙ is))
+    by true e = elim (cases_lt n (length disks)) [
+      | inl lt ↦
+          let row : r ≡ row_for (given_at disks n) taken n c =
+          some_is r (row_for (given_at disks n) taken n c)
+          (sym is ∙ counted.each n c ∙ ap (λ x. if x then Some (row_for (given_at disks n) taken n c) else None) e) in
+          let met = prefix_fewer (of_conn n c taken) (risen n c (sent_at disks n)) (arrives n c (omega (arith, lt, few))) in
+          let long = length-map (of_connection c (sent_at disks n)) (rising n) in
+          let fewer = fewer_on c (sent_at disks n) (given_at disks n) (sent_of_given disks n) in
+          let all : length (of_port n c taken) ≤ length (of_connection c (given_at disks n)) = omega (arith, met, long, fewer) in
+          subst (λ (x : ConnCount). x.taken ≤ x.sent) (sym row) all
+      | inr le ↦ absurd (let none : told_at disks n ≡ [] = at_past all_told disks n (omega (arith, le)) in false_true (sym (ap (has_come c) none) ∙ e))
+    ]
