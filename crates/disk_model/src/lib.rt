@@ -26,6 +26,7 @@ mod request;
 mod scripted;
 mod unit;
 
+pub use answer::{Fault, Page};
 pub use device::Device;
 pub use disk::{Disk, DiskError};
 pub use law::{
@@ -37,6 +38,3 @@ pub use law::{
 pub use plan::{DiskPlan, Order};
 pub use scripted::Scripted;
 pub use unit::Unit;
-
-#[cfg(test)]
-mod tests;

@@ -31,6 +31,8 @@ pub mod AcceptLemmas
 pub mod StageLemmas
 pub mod OutLemmas
 pub mod TrueLemmas
+pub mod ReportLemmas
+pub mod ReportRuns
 pub mod EndingLemmas
 pub mod SteadyLemmas
 pub mod SteadyTurns

@@ -55,7 +55,7 @@ use Rattle.hba_driver.proofs.StandLemmas.{in_slots}
 
 -- ---- phases
 
-none_some : {A : Type 0} (a : A) {P : Type 0} → None ≡ Some a → P
+pub none_some : {A : Type 0} (a : A) {P : Type 0} → None ≡ Some a → P
 none_some a h = cc
 
 waits_not : (p : Phase) → waits_in p ≡ true → is_issued_in p ≡ true → ⊥
@@ -64,7 +64,7 @@ waits_not Issued h k = false≢true h
 waits_not Aside h k = false≢true h
 waits_not (Ended o) h k = false≢true k
 
-issued_is : (p : Phase) → p ≡ Issued → is_issued_in p ≡ true
+pub issued_is : (p : Phase) → p ≡ Issued → is_issued_in p ≡ true
 issued_is p h = ap is_issued_in h
 
 equal_is : (x y : ℕ) → x ≡ y → (x == y) ≡ true
@@ -73,7 +73,7 @@ equal_is x y h = grind (arith, nat_tests)
 equal_of : (x y : ℕ) → (x == y) ≡ true → x ≡ y
 equal_of x y h = grind (arith, nat_tests)
 
-wider : (n m k : ℕ) → n < m → m ≤ k → n < k
+pub wider : (n m k : ℕ) → n < m → m ≤ k → n < k
 wider n m k h l = omega (arith, h, l)
 
 or_left : (a b : Bool) → a ≡ true → (a || b) ≡ true
@@ -91,7 +91,7 @@ or_false false h = h
 -- ---- what a tick issues
 
 -- a tick that issues a ticket issues what waits in one slot under it
-record IssuesIt (v : Sight) (d : Driver) (ticket : ℕ) : Type 0 where
+pub record IssuesIt (v : Sight) (d : Driver) (ticket : ℕ) : Type 0 where
   pub slot : ℕ
   pub dev : ℕ
   pub queued : Bool
@@ -106,7 +106,7 @@ issued_entry v d ticket slot dev queued is None there h = absurd (false≢true h
 issued_entry v d ticket slot dev queued is (Some e) there h =
     record { slot = slot; dev = dev; queued = queued; is = is; entry = e; there = there; of_ticket = equal_of e.head.ticket ticket (or_false (e.head.ticket == ticket) h) }
 
-issued_act : (v : Sight) (d : Driver) (ticket : ℕ) (a : Option Act) → due v d ≡ a → list_any (λ y. y == ticket) (issued_by_act a (seen v d).entries) ≡ true → IssuesIt v d ticket
+pub issued_act : (v : Sight) (d : Driver) (ticket : ℕ) (a : Option Act) → due v d ≡ a → list_any (λ y. y == ticket) (issued_by_act a (seen v d).entries) ≡ true → IssuesIt v d ticket
 issued_act v d ticket None is h = absurd (false≢true h)
 issued_act v d ticket (Some (act.Opens k)) is h = absurd (false≢true h)
 issued_act v d ticket (Some (act.Orders order)) is h = absurd (false≢true h)
@@ -174,7 +174,7 @@ seen_waits v d s e here wait =
     ∙ else_entry (is_done v.issued s e.head) (Some (rephased (Ended Done) e)) (Some e) (not_done e.head.phase (not (has_bit v.issued s)) wait) in
     waiting_stays v.log (turn v d).logged (done_ended v.issued d.entries) s (ap (holds waits) still ∙ wait) ∙ still
 
-tick_issues : (v : Sight) (file : TaskFile) (d : Driver) (s : ℕ) (e f : Entry) → entry_at d.entries s ≡ Some e → entry_at (after_tick v file d).entries s ≡ Some f → waits_in e.head.phase ≡ true → is_issued_in f.head.phase ≡ true
+pub tick_issues : (v : Sight) (file : TaskFile) (d : Driver) (s : ℕ) (e f : Entry) → entry_at d.entries s ≡ Some e → entry_at (after_tick v file d).entries s ≡ Some f → waits_in e.head.phase ≡ true → is_issued_in f.head.phase ≡ true
     → list_any (λ y. y == e.head.ticket) (issued_in_tick v d) ≡ true
 unfolding after_tick
 tick_issues v file d s e f here there wait h = acted_issues (turn v d).act file (seen v d) s e f (seen_waits v d s e here wait) there wait h
@@ -192,7 +192,7 @@ unfolding request_fields
 calm_request slot head = calm_work slot head.work head.dev head.lba head.sectors
 
 -- the request of the ticket, after the tick that issues it
-record WentOut (h new : Host) (ticket : ℕ) : Type 0 where
+pub record WentOut (h new : Host) (ticket : ℕ) : Type 0 where
   pub slot : ℕ
   pub entry : Entry
   pub before : entry_at (seen (sight_in h) h.driver).entries slot ≡ Some entry
@@ -218,7 +218,7 @@ unfolding entries_after
 acted_entry file d slot dev queued e long below here =
     get_or-set_same d.entries slot (option_map (rephased Issued) (entry_at d.entries slot)) None (omega (arith, long, below)) ∙ ap (option_map (rephased Issued)) here
 
-went_out : (h : Host) (a : Bool) (new : Host) (ticket : ℕ) → Does h (Ticked a) new → IsOnWay h → IssuesIt (sight_in h) h.driver ticket → WentOut h new ticket
+pub went_out : (h : Host) (a : Bool) (new : Host) (ticket : ℕ) → Does h (Ticked a) new → IsOnWay h → IssuesIt (sight_in h) h.driver ticket → WentOut h new ticket
 unfolding effects_of after_tick
 went_out h a new ticket does w i =
     let v : Sight = sight_in h in
@@ -318,7 +318,7 @@ fits_ended stage port slot dev (Ended o) free is h = absurd (false≢true is)
 fits_done : (stage : Stage) (port : Port) (slot dev : ℕ) (p : Phase) → p ≡ Ended Done → Fits stage port slot dev p → stage ≡ Whole
 fits_done stage port slot dev p is h = subst (λ (x : Phase). Fits stage port slot dev x) is h
 
-ended_same : (p q : Phase) → Goes p q → has_ended_in p ≡ true → q ≡ p
+pub ended_same : (p q : Phase) → Goes p q → has_ended_in p ≡ true → q ≡ p
 ended_same Waits q h k = absurd (false≢true k)
 ended_same Issued q h k = absurd (false≢true k)
 ended_same Aside q h k = absurd (false≢true k)
@@ -336,7 +336,7 @@ whole_ended ticket slot dev h stage e f w far here on file there is of_ticket of
     ]
 
 -- a request that stays issued over a tick, which neither stops the port nor clears its device
-out_tick : (h : Host) (a : Bool) (new : Host) (slot dev : ℕ) → Does h (Ticked a) new → IsOnWay h → dev < 16 → list_any (flushes dev) (effects (sight_in h) h.driver) ≡ false
+pub out_tick : (h : Host) (a : Bool) (new : Host) (slot dev : ℕ) → Does h (Ticked a) new → IsOnWay h → dev < 16 → list_any (flushes dev) (effects (sight_in h) h.driver) ≡ false
     → (due (sight_in h) h.driver ≡ Some act.Stops → ⊥) → ((k : ℕ) → due (sight_in h) h.driver ≡ Some (act.Clears k) → dev ≢ k) → HasOut h.port slot dev → HasOut new.port slot dev
 out_tick h a new slot dev does w below other stops clears out = elim (tick_is (sight_in h) (file_shown new.port) h.driver) [
   | inl first ↦

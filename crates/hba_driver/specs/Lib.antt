@@ -15,6 +15,7 @@ pub mod Served
 pub mod Delivered
 pub mod Accepted
 pub mod Done
+pub mod Reported
 pub mod Steady
 pub mod Known
 pub mod Going

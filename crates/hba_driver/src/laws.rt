@@ -6,6 +6,7 @@ ghost use Rattle.hba_driver.specs.Done.{DoneIsTrue};
 ghost use Rattle.hba_driver.specs.Events.{EachRunTells, HostsAreSound, TurnsAreEvents};
 ghost use Rattle.hba_driver.specs.Faults.{ErrorsAreNamed};
 ghost use Rattle.hba_driver.specs.Known.{DevicesAreKnown};
+ghost use Rattle.hba_driver.specs.Reported.{DoneWasReported};
 ghost use Rattle.hba_driver.specs.Laws.{CommandsStand, DoneIsFree, EachRunKeeps, TicksKeep, TicksServe};
 ghost use Rattle.hba_driver.specs.Served.{TurnsServe};
 ghost use Rattle.hba_driver.specs.Steady.{EachIsSteady};
@@ -95,6 +96,14 @@ pub fn writes_are_accepted()
 /// nothing when it runs.
 pub fn done_is_true()
     ensures { DoneIsTrue }
+{}
+
+/// Where a request that is polled as [`Done`](crate::Outcome::Done) was reported: over every list of turns of
+/// the host from its opening there is a turn before the poll that takes a frame of its device whose report
+/// says that the command of its slot is done. As the frame was taken, what stood in the slot was issued, and
+/// was just what was submitted under the ticket. It does nothing when it runs.
+pub fn done_was_reported()
+    ensures { DoneWasReported }
 {}
 
 /// Of a device of which nothing failed since its flush the driver has requests open only while it is

@@ -22,11 +22,8 @@ mod turn;
 pub use driver::Driver;
 pub use going::{frames_are_addressed, orders_take_turns, port_goes_on};
 pub use laws::{
-    commands_stand, devices_are_known, done_is_free, done_is_true, errors_are_named,
-    hosts_stay_sound, ticks_keep, ticks_serve, turns_are_events, turns_are_steady, turns_deliver,
-    turns_keep, turns_serve, writes_are_accepted,
+    commands_stand, devices_are_known, done_is_free, done_is_true, done_was_reported,
+    errors_are_named, hosts_stay_sound, ticks_keep, ticks_serve, turns_are_events,
+    turns_are_steady, turns_deliver, turns_keep, turns_serve, writes_are_accepted,
 };
 pub use request::{Completion, Outcome, Request, SubmitError, Ticket, Work};
-
-#[cfg(test)]
-mod tests;

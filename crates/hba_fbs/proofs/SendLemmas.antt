@@ -1,24 +1,68 @@
 -- What goes out, from the clauses of the calls that make it.
 use Rattle.std.proofs.Common.{◌≡◌, ℕ, ◌+◌, ◌-◌, Bool, true, false, ◌&&◌, List, slice_index, refl, sym, ap, ◌∙◌, subst, Option, Some, None}
-use Rattle.std.specs.Prelude.{MatchOption, is_none, is_some}
+use Rattle.std.specs.Prelude.{MatchOption, OnErr, Result, Ok, Err, is_none, is_some}
 use Rattle.std.proofs.lemmas.Bool.{false≢true}
 use Rattle.std.specs.List.{concat}
 use Rattle.std.proofs.lemmas.List.FromFn.{fill_by_all}
 use Rattle.fis_view.specs.Frames.{Stamped}
 use Rattle.host_memory.specs.Memory.{Memory, client_start}
 use Rattle.host_memory.specs.Parts.{AreParts}
-use Rattle.host_memory.specs.Place.{place}
+use Rattle.host_memory.specs.Place.{Table, place}
 use Rattle.host_memory.specs.declared.table.Prd.{Prd}
 use Rattle.hba_commands.specs.declared.command.Command.{Command}
-use Rattle.slots.specs.Slots.{Issue, issue_at}
+use Rattle.slots.specs.Data.{payload}
+use Rattle.slots.specs.Slots.{Issue, context_of, issue_at}
 use Rattle.port_errors.specs.declared.cause.PortCause.{PortCause}
-use Rattle.hba_fbs.specs.Sending.{Gives, Nothing, Sends, data_due, gathered, is_sent, next_receiver, next_to_send, order_due, outgoing, view_sent}
+use Rattle.hba_fbs.specs.Sending.{Gives, Nothing, Sends, data_due, data_fis, data_with, gathered, is_sent, next_receiver, next_to_send, order_due, outgoing, view_fed, view_sent}
+use Rattle.hba_fbs.specs.Tables.{IsTableOf, areas, sound_command}
 use Rattle.hba_fbs.specs.Taking.{is_running}
 use Rattle.hba_fbs.specs.Views.{Port, last_command, view_of}
 
 -- the parts of a transfer, joined, are its bytes
 pub gathered_is : (prds : List Prd) (offset len : ℕ) (client : List ℕ) (parts : List (List ℕ)) → AreParts prds offset len client parts → concat parts ≡ gathered prds offset len client
 gathered_is prds offset len client parts h = fill_by_all (λ k. slice_index client (place prds (offset + k) - client_start)) (concat parts) len 0 h.as_long h.at_places
+
+-- the data that is due, by the table of its slot, read from these two areas of the memory
+pub data_given : (old : Port) (dev slot offset len : ℕ) (memory : Memory) (structure client : List ℕ) (table : Table) (frame : Stamped) (new : Port)
+    → payload (context_of old.slots dev) ≡ Some (slot, offset, len) → structure ≡ memory.structure → client ≡ memory.client
+    → IsTableOf (areas structure client) (sound_command (areas structure client) old.commands (view_of dev old).slots slot) table
+    → Sends old dev (data_fis dev (gathered table.prds offset len client)) (view_fed (view_of dev old)) frame new → Gives (data_due old memory dev) old memory (Some frame) new
+data_given old dev slot offset len memory structure client table frame new due s c is sends = rw due (by_command (sound_command memory old.commands (view_of dev old).slots slot) table_is)
+  where
+    IsTable : List ℕ → List ℕ → Type 0
+    IsTable x y = IsTableOf (areas x y) (sound_command (areas x y) old.commands (view_of dev old).slots slot) table
+
+    table_is : IsTable memory.structure memory.client
+    table_is = subst (λ (y : List ℕ). IsTable memory.structure y) c (subst (λ (x : List ℕ). IsTable x client) s is)
+
+    SendsBy : List Prd → List ℕ → Type 0
+    SendsBy prds y = Sends old dev (data_fis dev (gathered prds offset len y)) (view_fed (view_of dev old)) frame new
+
+    now_sends : SendsBy table.prds memory.client
+    now_sends = subst (λ (y : List ℕ). SendsBy table.prds y) c sends
+
+    by_command : (found : Option Command) → IsTableOf memory found table → Gives (data_with dev offset len found) old memory (Some frame) new
+    by_command None e = absurd e
+    by_command (Some command) e = subst (λ (t : Table). SendsBy t.prds memory.client) e now_sends
+
+pub data_sent : (old : Port) (dev slot offset len : ℕ) (memory : Memory) (structure client : List ℕ) → payload (context_of old.slots dev) ≡ Some (slot, offset, len) → structure ≡ memory.structure
+    → client ≡ memory.client → is_some (sound_command (areas structure client) old.commands (view_of dev old).slots slot) ≡ true → is_sent (data_due old memory dev) ≡ true
+data_sent old dev slot offset len memory structure client due s c there = rw due (by_command (sound_command memory old.commands (view_of dev old).slots slot) there_is)
+  where
+    IsThere : List ℕ → List ℕ → Type 0
+    IsThere x y = is_some (sound_command (areas x y) old.commands (view_of dev old).slots slot) ≡ true
+
+    there_is : IsThere memory.structure memory.client
+    there_is = subst (λ (y : List ℕ). IsThere memory.structure y) c (subst (λ (x : List ℕ). IsThere x client) s there)
+
+    by_command : (found : Option Command) → is_some found ≡ true → is_sent (data_with dev offset len found) ≡ true
+    by_command None e = absurd (false≢true e)
+    by_command (Some command) e = refl
+
+-- what holds holds where a call failed
+pub on_err : {T E P : Type 0} (r : Result T E) → P → OnErr r P
+on_err (Ok x) p = tt
+on_err (Err e) p = p
 
 -- the command of a slot that is issued
 pub order_given : (old : Port) (slot dev : ℕ) (o : Option Issue) (command : Command) (memory : Memory) (frame : Stamped) (new : Port) → issue_at old.slots slot ≡ o → MatchOption o ⊥ (λ i. i.dev ≡ dev)

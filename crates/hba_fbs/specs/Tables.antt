@@ -1,7 +1,7 @@
 -- The PRD tables of issued commands (AHCI 1.3.1, 4.2.3.3), read anew for each Data FIS, and what Data writes by them.
 use Rattle.std.specs.Prelude.{ℕ, ◌≡◌, ◌+◌, ◌==◌, ◌&&◌, Bool, false, List, length, Option, Some, None, is_none, is_some, if◌then◌else◌, MatchOption}
 use Rattle.host_memory.specs.Memory.{Memory}
-use Rattle.host_memory.specs.Place.{Scatters, total_of}
+use Rattle.host_memory.specs.Place.{Scatters, Table, total_of}
 use Rattle.host_memory.specs.Reading.{prds_at, read_fault}
 use Rattle.host_memory.specs.declared.table.Prd.{Prd}
 use Rattle.hba_commands.specs.declared.command.Command.{Command}
@@ -14,6 +14,18 @@ use Rattle.hba_fbs.specs.Views.{last_command}
 -- the PRDs of a command, as they stand now from byte 80h of its table on
 abbrev pub prds_of : Memory → Command → List Prd
 prds_of memory command = prds_at memory.structure (command.table + 128) command.count
+
+-- the memory of these two areas
+abbrev pub areas : List ℕ → List ℕ → Memory
+areas structure client = record { structure = structure; client = client }
+
+-- the table of a command, as it stands now
+abbrev pub table_of : Memory → Command → Table
+table_of memory command = record { prds = prds_of memory command; client_len = length memory.client }
+
+-- there is a command, and the table is its
+abbrev pub IsTableOf : Memory → Option Command → Table → Type 0
+IsTableOf memory command table = MatchOption command ⊥ (λ c. table ≡ table_of memory c)
 
 -- they can be read, and have so many bytes
 abbrev pub is_readable : Memory → ℕ → Command → Bool

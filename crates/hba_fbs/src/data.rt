@@ -1,12 +1,12 @@
 //! Data of devices, and the PRD tables by which it is written.
 
-ghost use Rattle.std.specs.Prelude.{◌≡◌, ◌<◌, ◌≤◌, ◌+◌, ◌%◌, None, Some, IfSome, length};
-ghost use Rattle.host_memory.specs.Place.{Scatters, total_of};
-ghost use Rattle.host_memory.specs.Reading.{read_fault};
+ghost use Rattle.std.specs.Prelude.{◌≡◌, ◌<◌, ◌≤◌, ◌%◌, None, IfSome, MatchOption, is_some, length};
+ghost use Rattle.host_memory.specs.Memory.{IsHostMemory};
+ghost use Rattle.host_memory.specs.Place.{total_of};
 ghost use Rattle.slots.specs.Slots.{KeepsFree, LeavesOthers, context_of, issue_at, own_issue, slots_of};
 ghost use Rattle.hba_fbs.specs.Hearing.{asks as asks_of, block_ended, bus_failed as bus_heard, carried as carried_heard, ended as ended_heard, ended_fault as ended_fault_of, heard_data, mask_of_slot, moved, overflowed as overflow_heard};
 ghost use Rattle.hba_fbs.specs.Status.{is_quiet as is_quiet_status};
-ghost use Rattle.hba_fbs.specs.Tables.{Delivers, are_last as are_last_of, is_readable as is_readable_of, is_sound, prds_of, sound_command as sound_command_of};
+ghost use Rattle.hba_fbs.specs.Tables.{Delivers, IsTableOf, are_last as are_last_of, areas, is_readable as is_readable_of, is_sound, sound_command as sound_command_of, table_of};
 ghost use Rattle.hba_fbs.specs.Taking.{wrote_by};
 ghost use Rattle.hba_fbs.specs.Views.{last_command};
 
@@ -20,7 +20,7 @@ use port_errors::{DeviceCause, PortCause};
 use slots::{ArriveError, SlotTable};
 
 /// Where the PRDs begin in a command table.
-pub(crate) const PRDS: u32 = 0x80;
+const PRDS: u32 = 0x80;
 
 fn asks(block: Option<Block>) -> bool
     ensures { result ≡ asks_of block }
@@ -55,61 +55,55 @@ fn overflowed(state: DeviceState) -> Heard
     }
 }
 
-// Whether the PRDs of a command can be read and have so many bytes.
+// The PRDs of a command, where they can be read and have so many bytes.
 #[tactic(auto, using(crate::proofs::DataLemmas::not_read))]
-fn is_readable(memory: &HostMemory, command: &Command, len: u32) -> bool
-    ensures { result ≡ is_readable_of memory.now len command.now }
+fn read_table<'m>(
+    structure: &'m [u8],
+    client: &[u8],
+    command: &Command,
+    len: u32,
+) -> Option<PrdTable<'m>>
+    requires memory { IsHostMemory (areas structure.now client.now) }
+    ensures readable { is_some result
+        ≡ is_readable_of (areas structure.now client.now) len command.now }
+    ensures entries { IfSome result (λ table. table
+        ≡ table_of (areas structure.now client.now) command.now) }
 {
-    let structure = memory.structure();
     if command.table > CLIENT_START - PRDS {
-        return false;
+        return None;
     }
-    let client_len = memory.client().len() as u32;
-    match PrdTable::read(structure, client_len, command.table + PRDS, command.count) {
-        Ok(table) => table.total() == len,
-        Err(_) => false,
-    }
-}
-
-// Writes bytes of a transfer, from this one on, to their places.
-#[tactic(auto, using(crate::proofs::DataLemmas::read_inside))]
-fn write_data(memory: &mut HostMemory, command: Command, offset: u32, payload: &[u8])
-    requires readable { read_fault memory.old.structure (length memory.old.client)
-        (command.table + 128) command.count ≡ None }
-    requires fits { offset + length payload.now ≤ total_of (prds_of memory.old command) }
-    ensures structure { memory.new.structure ≡ memory.old.structure }
-    ensures client { Scatters (prds_of memory.old command) offset payload.now
-        memory.old.client memory.new.client }
-{
-    let (structure, client) = memory.split();
     let client_len = client.len() as u32;
     match PrdTable::read(structure, client_len, command.table + PRDS, command.count) {
-        Ok(table) => table.scatter(client, offset, payload),
-        Err(_) => unreachable!(),
+        Ok(table) if table.total() == len => Some(table),
+        _ => None,
     }
 }
 
-/// The command of a slot of a device, where its PRDs can be read and have the slot's bytes.
-pub(crate) fn sound_command(
+/// The PRD table of a slot of a device, where it can be read and has the slot's bytes.
+pub(crate) fn sound_table<'m>(
     slots: &SlotTable,
-    memory: &HostMemory,
+    structure: &'m [u8],
+    client: &[u8],
     commands: &[Option<Command>; 32],
     dev: u8,
     slot: u8,
-) -> Option<Command>
+) -> Option<PrdTable<'m>>
     requires slot { slot < 32 }
     requires owner { own_issue (slots_of dev slots.now) slot ≡ issue_at slots.now slot }
-    ensures value { result
-        ≡ sound_command_of memory.now commands.now (slots_of dev slots.now) slot }
-    ensures command { IfSome result (λ command. last_command commands.now slot ≡ Some command) }
+    requires memory { IsHostMemory (areas structure.now client.now) }
+    ensures sound { is_some result ≡ is_some (sound_command_of (areas structure.now client.now)
+        commands.now (slots_of dev slots.now) slot) }
+    ensures table { IfSome result (λ table. IsTableOf (areas structure.now client.now)
+        (sound_command_of (areas structure.now client.now) commands.now
+        (slots_of dev slots.now) slot) table) }
+    ensures command { IfSome result (λ table. IsTableOf (areas structure.now client.now)
+        (last_command commands.now slot) table) }
+    ensures sized { IfSome result (λ table. MatchOption (issue_at slots.now slot) ⊥
+        (λ issue. total_of table.prds ≡ issue.work.len)) }
 {
     let work = slots.work(slot)?;
     let command = commands[slot as usize]?;
-    if is_readable(memory, &command, work.len) {
-        Some(command)
-    } else {
-        None
-    }
+    read_table(structure, client, &command, work.len)
 }
 
 fn mask(slot: Option<u8>) -> u32
@@ -196,14 +190,15 @@ pub(crate) fn hear_data(
     let Some(slot) = slots.receiving(dev) else {
         return faulty(state, DeviceCause::Stray);
     };
-    let Some(command) = sound_command(slots, memory, commands, dev, slot) else {
+    let (structure, client) = memory.split();
+    let Some(table) = sound_table(slots, structure, client, commands, dev, slot) else {
         return bus_failed(state);
     };
     let len = payload.len() as u32;
     let last = are_last(slots, dev, len);
     match slots.arrive(dev, len) {
         Ok((_, offset)) => {
-            write_data(memory, command, offset, payload);
+            table.scatter(client, offset, payload);
             let wrote = Wrote { slot, offset, len };
             match state.block {
                 Some(block) if last => ended(slots, dev, state, wrote, block),

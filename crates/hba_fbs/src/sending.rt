@@ -3,18 +3,16 @@
 ghost use Rattle.std.specs.Prelude.{◌≡◌, ◌<◌, ◌≤◌, ◌+◌, ◌&&◌, [], None, Some, Ok, true, false, ℕ, is_none, is_some, bit_or, MatchOption, IfOk, IfSome, IsSome, OnErr, length};
 ghost use Rattle.host_memory.specs.Memory.{Memory};
 ghost use Rattle.host_memory.specs.Place.{total_of};
-ghost use Rattle.host_memory.specs.Reading.{read_fault};
 ghost use Rattle.port_errors.specs.Errors.{cause_of};
 ghost use Rattle.slots.specs.Commands.{MayBeSent, after_sent};
 ghost use Rattle.slots.specs.Data.{payload as payload_of};
 ghost use Rattle.slots.specs.Slots.{KeepsFree, LeavesOthers, context_of, issue_at, lowest_below, mask_below, slots_of};
 ghost use Rattle.hba_fbs.specs.Registers.{AreRegisters};
 ghost use Rattle.hba_fbs.specs.Sending.{Gives, MayRest, Sends, counted, data_due, data_fis, gathered, host_stamp, is_due as is_due_of, is_ready as is_ready_state, is_sent, next_receiver as next_receiver_of, next_to_send as next_to_send_of, order_due, outgoing, resets as resets_of, state_sent, stopped_by_bus, view_fed, view_sent};
-ghost use Rattle.hba_fbs.specs.Tables.{prds_of};
 ghost use Rattle.hba_fbs.specs.Views.{LeavesOtherViews, last_command, state_at, view_of};
 
 use crate::bits::has_bit;
-use crate::data::{PRDS, sound_command};
+use crate::data::sound_table;
 use crate::port::HostPort;
 use crate::registers::Registers;
 use crate::state::{DeviceState, state_of};
@@ -124,29 +122,20 @@ fn data_head(alloc: Global, dev: u8, len: u32) -> Result<Vec<u8>, AllocError>
 fn gather(
     alloc: Global,
     dev: u8,
-    memory: &HostMemory,
-    command: &Command,
+    table: &PrdTable<'_>,
+    client: &[u8],
     offset: u32,
     len: u32,
 ) -> Result<Vec<u8>, AllocError>
-    requires readable { read_fault memory.now.structure (length memory.now.client)
-        (command.now.table + 128) command.now.count ≡ None }
-    requires fits { offset + len ≤ total_of (prds_of memory.now command.now) }
-    ensures bytes { IfOk result (λ bytes. bytes.items ≡ data_fis dev
-        (gathered (prds_of memory.now command.now) offset len memory.now.client)) }
+    requires client { table.now.client_len ≡ length client.now }
+    requires fits { offset + len ≤ total_of table.now.prds }
+    ensures bytes { IfOk result (λ bytes. bytes.items
+        ≡ data_fis dev (gathered table.now.prds offset len client.now)) }
     ensures len { IfOk result (λ bytes. length bytes.items ≡ len + 4) }
 {
     let mut bytes = data_head(alloc, dev, len)?;
-    let structure = memory.structure();
-    let client = memory.client();
-    let client_len = client.len() as u32;
-    match PrdTable::read(structure, client_len, command.table + PRDS, command.count) {
-        Ok(table) => {
-            for part in table.parts(client, offset, len) {
-                bytes.extend_from_slice(part)?;
-            }
-        }
-        Err(_) => unreachable!(),
+    for part in table.parts(client, offset, len) {
+        bytes.extend_from_slice(part)?;
     }
     Ok(bytes)
 }
@@ -287,12 +276,13 @@ impl HostPort {
         let Some((slot, offset, len)) = self.slots.next_payload(dev) else {
             unreachable!();
         };
-        let found = sound_command(&self.slots, memory, &self.commands, dev, slot);
-        let Some(command) = found else {
+        let (structure, client) = (memory.structure(), memory.client());
+        let found = sound_table(&self.slots, structure, client, &self.commands, dev, slot);
+        let Some(table) = found else {
             self.fail();
             return Ok(None);
         };
-        let bytes = gather(alloc, dev, memory, &command, offset, len)?;
+        let bytes = gather(alloc, dev, &table, client, offset, len)?;
         let frame = Frame::from_vec(bytes, stamp(dev, self.number));
         self.feed(dev);
         Ok(Some(frame))

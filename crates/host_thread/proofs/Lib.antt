@@ -1,3 +1,4 @@
 pub mod Polling
+pub mod Requests
 pub mod Steps
 pub mod Tallies

@@ -1,12 +1,11 @@
 -- What one step leaves of a run of the host's worker.
-use Rattle.std.proofs.Common.{◌≡◌, ◌<◌, ℕ, zero, suc, List, [], ◌∷◌, ◌++◌, length, map, replicate, Some, None, refl, sym, ap, ◌∙◌, subst, inl, inr, append_assoc, append-nil, arith}
+use Rattle.std.proofs.Common.{◌≡◌, ◌<◌, ℕ, List, [], ◌∷◌, ◌++◌, length, map, replicate, Some, None, refl, sym, ap, ◌∙◌, subst, append-nil, arith}
 use Rattle.std.specs.Prelude.{slice_index_or, slice_set}
 use Rattle.std.specs.List.{Contains, flat_map}
 use Rattle.std.specs.Option.{option_to_list}
-use Rattle.std.proofs.lemmas.Bool.{cases_eq}
 use Rattle.std.proofs.lemmas.Grind.{flat_map-append}
-use Rattle.std.proofs.lemmas.List.{get_or-set_other, get_or-set_same, length-set, map-append}
-use Rattle.std.proofs.lemmas.List.Elements.{All-contains_itself, Contains-append_left, Contains-append_right}
+use Rattle.std.proofs.lemmas.List.{get_or-replicate, length-replicate, map-append}
+use Rattle.std.proofs.lemmas.List.Elements.{All-contains_itself, Contains-append_right}
 use Rattle.fis_view.specs.Frames.{Stamped}
 use Rattle.host_memory.specs.Memory.{Memory}
 use Rattle.hba_fbs.specs.declared.report.TakeReport.{TakeReport}
@@ -19,7 +18,8 @@ use Rattle.host_thread.specs.declared.plan.Ended.TheVariants as ended
 use Rattle.host_thread.specs.declared.plan.Planned.{Planned}
 use Rattle.host_thread.specs.declared.plan.State.{State}
 use Rattle.host_thread.specs.declared.plan.State.TheVariants as state
-use Rattle.host_thread.specs.Runs.{HostView, IsRun, GoesOn, Same, AreTrue, IsTrue, WasRefused, starting, took_by, pushed_by}
+use Rattle.host_thread.specs.Runs.{HostView, IsNext, IsRun, GoesOn, Same, AreTrue, IsTrue, WasRefused, WasTaken, starting, took_by, pushed_by}
+use Rattle.host_thread.proofs.Requests.{IsDue, all_true_more, all_true_set, any_default, next_due, past_polled, past_waiting, waits_there}
 
 -- ---- turns, and then turns
 
@@ -29,54 +29,6 @@ does_append a b c (turn ∷ first) second does more = (does.0, does.1, does_appe
 
 one_is_there : {X : Type 0} (xs : List X) (x : X) → Contains (xs ++ x ∷ []) x
 one_is_there xs x = Contains-append_right xs (x ∷ []) x (All-contains_itself (x ∷ []) 0 x (omega arith))
-
--- ---- what is said of requests
-
-true_more : (start : Memory) (turns more : List HostTurn) (p : Planned) (s : State) → IsTrue start turns p s → IsTrue start (turns ++ more) p s
-true_more start turns more p state.Waits h = h
-true_more start turns more p (state.Submitted ticket) h = Contains-append_left turns more (Submitted p.dev p.request ticket.0) h
-true_more start turns more p (state.Ended (ended.Polled outcome)) h = record {
-  completion = h.completion;
-  taken = Contains-append_left turns more (Submitted p.dev p.request h.completion.ticket.0) h.taken;
-  polled = Contains-append_left turns more (Polled h.completion) h.polled;
-  ended_so = h.ended_so;
-}
-true_more start turns more p (state.Ended (ended.Refused refusal)) h = record {
-  before = h.before;
-  rest = h.rest ++ more;
-  are = sym (append_assoc h.before h.rest more) ∙ ap (λ l. l ++ more) h.are;
-  host = h.host;
-  does = h.does;
-  refused = h.refused;
-}
-
-pub all_true_more : (start : Memory) (turns more : List HostTurn) (plan : List Planned) (states : List State) → AreTrue start turns plan states
-    → AreTrue start (turns ++ more) plan states
-all_true_more start turns more plan states h =
-    record { each = λ i p s lt. true_more start turns more (slice_index_or plan i p) (slice_index_or states i s) (h.each i p s lt) }
-
-any_default : {X : Type 0} (xs : List X) (i : ℕ) (d e : X) → i < length xs → slice_index_or xs i d ≡ slice_index_or xs i e
-any_default [] i d e lt = absurd (omega (arith, lt))
-any_default (x ∷ xs) zero d e lt = refl
-any_default (x ∷ xs) (suc i) d e lt = any_default xs i d e (omega (arith, lt))
-
--- another state of the request at place i
-all_true_set : (start : Memory) (turns : List HostTurn) (plan : List Planned) (states : List State) (i : ℕ) (s : State)
-    → AreTrue start turns plan states → ((p : Planned) → IsTrue start turns (slice_index_or plan i p) s)
-    → AreTrue start turns plan (slice_set states i s)
-all_true_set start turns plan states i s h is = record {
-  each = λ j p d lt.
-      let long : length (slice_set states i s) ≡ length states = length-set states i s in
-      elim (cases_eq j i) [
-        | inl here ↦
-            let less : i < length states = omega (arith, lt, long, here) in
-            subst (λ (k : ℕ). IsTrue start turns (slice_index_or plan k p) (slice_index_or (slice_set states i s) k d)) (sym here)
-            (subst (λ (t : State). IsTrue start turns (slice_index_or plan i p) t) (sym (get_or-set_same states i s d less)) (is p))
-        | inr away ↦
-            subst (λ (t : State). IsTrue start turns (slice_index_or plan j p) t) (sym (get_or-set_other states i j s d away))
-            (h.each j p d (omega (arith, lt, long)))
-      ];
-}
 
 -- ---- a run goes on
 
@@ -155,29 +107,52 @@ module _ (old : HostView) where
         (subst (λ (s : List State). AreTrue start r.turns old.plan s) (sym states) r.requests);
   }
 
-  -- a request is taken, at place i
-  pub submits : (host : Host) (i : ℕ) (q : Planned) (ticket : Ticket) → i < length old.plan
+  -- a request is taken, at place i, in its turn
+  pub submits : (host : Host) (i : ℕ) (q : Planned) (ticket : Ticket) → IsDue old.plan old.states i (slice_index_or old.plan i q).wait
       → Submits old.host (slice_index_or old.plan i q).dev (slice_index_or old.plan i q).request ticket.0 host
       → GoesOn old (with_states host (slice_set old.states i (state.Submitted ticket)))
-  submits host i q ticket there does =
+  submits host i q ticket due does =
+      let there = due.there in
+      let all = due.all in
+      let less : i < length old.states = omega (arith, there, all) in
       let p : Planned = slice_index_or old.plan i q in
       let turn : HostTurn = Submitted p.dev p.request ticket.0 in
       goes_more old (with_states host (slice_set old.states i (state.Submitted ticket))) (turn ∷ []) (host, does, refl) bytes_same sent_same refl
-      (λ start turns all h. all_true_set start (turns ++ turn ∷ []) old.plan old.states i (state.Submitted ticket)
+      (λ start turns all h.
+      let taken : WasTaken (IsNext start old.plan old.states i p.wait) (turns ++ turn ∷ []) p ticket.0 =
+      record { before = turns; rest = []; are = refl; so = next_due start old.plan old.states i p.wait turns due h } in
+      all_true_set start old.plan old.states i state.Waits (state.Submitted ticket) less (λ d. waits_there old.states i d due.given less)
+      (λ wait before r past. absurd (past_waiting start before r wait past)) (turns ++ turn ∷ [])
       (keeps (turn ∷ []) start turns all h)
-      (λ d. subst (λ (o : Planned). IsTrue start (turns ++ turn ∷ []) o (state.Submitted ticket)) (any_default old.plan i q d there)
-      (one_is_there turns turn)))
+      (λ d. subst (λ (o : Planned). WasTaken (IsNext start old.plan old.states i o.wait) (turns ++ turn ∷ []) o ticket.0)
+      (any_default old.plan i q d there) taken))
 
   -- or refused
-  pub refuses : (host : Host) (i : ℕ) (q : Planned) (refusal : SubmitError) → i < length old.plan → host ≡ old.host
+  pub refuses : (host : Host) (i : ℕ) (q : Planned) (refusal : SubmitError) → IsDue old.plan old.states i (slice_index_or old.plan i q).wait
+      → host ≡ old.host
       → submit_refusal old.host.driver old.host.memory (slice_index_or old.plan i q).dev (slice_index_or old.plan i q).request ≡ Some refusal
       → GoesOn old (with_states host (slice_set old.states i (state.Ended (ended.Refused refusal))))
-  refuses host i q refusal there same refused =
+  refuses host i q refusal due same refused =
+      let there = due.there in
+      let all = due.all in
+      let less : i < length old.states = omega (arith, there, all) in
+      let p : Planned = slice_index_or old.plan i q in
       goes_more old (with_states host (slice_set old.states i (state.Ended (ended.Refused refusal)))) [] same bytes_same sent_same refl
-      (λ start turns all h. all_true_set start (turns ++ []) old.plan old.states i (state.Ended (ended.Refused refusal))
+      (λ start turns all h.
+      let was : WasRefused (IsNext start old.plan old.states i p.wait) start (turns ++ []) p refusal = record {
+        before = turns;
+        rest = [];
+        are = refl;
+        host = old.host;
+        does = all;
+        refused = refused;
+        so = next_due start old.plan old.states i p.wait turns due h;
+      } in
+      all_true_set start old.plan old.states i state.Waits (state.Ended (ended.Refused refusal)) less (λ d. waits_there old.states i d due.given less)
+      (λ wait before r past. absurd (past_waiting start before r wait past)) (turns ++ [])
       (keeps [] start turns all h)
-      (λ d. subst (λ (o : Planned). WasRefused start (turns ++ []) o refusal) (any_default old.plan i q d there)
-      (record { before = turns; rest = []; are = refl; host = old.host; does = all; refused = refused })))
+      (λ d. subst (λ (o : Planned). WasRefused (IsNext start old.plan old.states i o.wait) start (turns ++ []) o refusal)
+      (any_default old.plan i q d there) was))
 
   -- a request is polled that is none of the plan
   pub polls_other : (host : Host) (completion : Completion) → Polls old.host completion host → GoesOn old (with_host host)
@@ -189,27 +164,29 @@ module _ (old : HostView) where
       → slice_index_or old.states i state.Waits ≡ state.Submitted completion.ticket
       → GoesOn old (with_states host (slice_set old.states i (state.Ended (ended.Polled completion.outcome))))
   polls host completion i there does is =
-      goes_more old (with_states host (slice_set old.states i (state.Ended (ended.Polled completion.outcome)))) (Polled completion ∷ [])
-      (host, does, refl) bytes_same sent_same refl
+      let now : State = state.Ended (ended.Polled completion.outcome) in
+      goes_more old (with_states host (slice_set old.states i now)) (Polled completion ∷ []) (host, does, refl) bytes_same sent_same refl
       (λ start turns all h.
       let more : List HostTurn = turns ++ Polled completion ∷ [] in
       let kept : AreTrue start more old.plan old.states = keeps (Polled completion ∷ []) start turns all h in
-      all_true_set start more old.plan old.states i (state.Ended (ended.Polled completion.outcome)) kept (λ d.
+      all_true_set start old.plan old.states i (state.Submitted completion.ticket) now there
+      (λ d. any_default old.states i d state.Waits there ∙ is)
+      (λ wait before r past. past_polled start before r wait completion.ticket completion.outcome past) more kept (λ d.
       let p : Planned = slice_index_or old.plan i d in
-      let was : Contains more (Submitted p.dev p.request completion.ticket.0) =
-      subst (λ (t : State). IsTrue start more p t) is (kept.each i d state.Waits there) in
+      let was : WasTaken (IsNext start old.plan old.states i p.wait) more p completion.ticket.0 =
+      subst (λ (t : State). IsTrue (IsNext start old.plan old.states i p.wait) start more p t) is (kept.each i d state.Waits there) in
       record { completion = completion; taken = was; polled = one_is_there turns (Polled completion); ended_so = refl }))
 
 -- ---- a new worker
 
 each_waits : (start : Memory) (plan : List Planned) (count : ℕ) → AreTrue start [] plan (replicate count state.Waits)
-each_waits start plan count = record { each = λ i p s lt. waits (slice_index_or plan i p) count i s lt }
-  where
-    waits : (q : Planned) (count i : ℕ) (s : State) → i < length (replicate count state.Waits)
-        → IsTrue start [] q (slice_index_or (replicate count state.Waits) i s)
-    waits q zero i s lt = absurd (omega (arith, lt))
-    waits q (suc count) zero s lt = tt
-    waits q (suc count) (suc i) s lt = waits q count i s (omega (arith, lt))
+each_waits start plan count = record {
+  each = λ i p s lt.
+      let states : List State = replicate count state.Waits in
+      let long = length-replicate count state.Waits in
+      subst (λ (t : State). IsTrue (IsNext start plan states i (slice_index_or plan i p).wait) start [] (slice_index_or plan i p) t)
+      (sym (get_or-replicate count i state.Waits s (omega (arith, lt, long)))) tt;
+}
 
 pub begins : (start : Memory) (w : HostView) (count : ℕ) → w.host ≡ starting start → w.frames.taken ≡ [] → w.commands.sent ≡ [] → w.hand ≡ None
     → w.states ≡ replicate count state.Waits → IsRun start w

@@ -1,7 +1,7 @@
 -- What the host's thread does: there is one list of turns of the host, of which the lists of its
 -- seats are the projections, and port, driver and memory the outcome; and what it says of each
--- request of its plan is in these turns.
-use Rattle.std.specs.Prelude.{◌≡◌, ℕ, ◌<◌, Bool, true, false, List, ◌++◌, [], ◌∷◌, length, map, slice_index_or, Option, Some}
+-- request of its plan is in these turns, in the order of the plan and behind its barriers.
+use Rattle.std.specs.Prelude.{◌≡◌, ℕ, ◌<◌, ◌≤◌, ⊤, Bool, true, false, List, ◌++◌, [], ◌∷◌, length, map, slice_index_or, Option, Some}
 use Rattle.std.specs.List.{Contains, flat_map}
 use Rattle.std.specs.Option.{option_to_list}
 use Rattle.atomic_table.specs.Seated.{TableId}
@@ -80,37 +80,92 @@ abbrev pub is_open : State → Bool
 is_open (state.Ended end) = false
 is_open s = true
 
+-- it was not given to the driver yet
+abbrev pub is_waiting : State → Bool
+is_waiting state.Waits = true
+is_waiting s = false
+
+-- it was taken, and was not polled yet
+abbrev pub is_submitted : State → Bool
+is_submitted (state.Submitted ticket) = true
+is_submitted s = false
+
+-- It was taken under this ticket, after turns of which this is so.
+pub record WasTaken (IsSo : List HostTurn → Type 0) (turns : List HostTurn) (p : Planned) (ticket : ℕ) : Type 0 where
+  pub before : List HostTurn
+  pub rest : List HostTurn
+  pub are : before ++ Submitted p.dev p.request ticket ∷ rest ≡ turns
+  pub so : IsSo before
+
 -- it was taken under a ticket, and what was polled of that ticket had this outcome
-pub record WasPolled (turns : List HostTurn) (p : Planned) (outcome : Outcome) : Type 0 where
+pub record WasPolled (IsSo : List HostTurn → Type 0) (turns : List HostTurn) (p : Planned) (outcome : Outcome)
+    : Type 0 where
   pub completion : Completion
-  pub taken : Contains turns (Submitted p.dev p.request completion.ticket.0)
+  pub taken : WasTaken IsSo turns p completion.ticket.0
   pub polled : Contains turns (Polled completion)
   pub ended_so : completion.outcome ≡ outcome
 
--- there was a moment at which the driver refused it so
-pub record WasRefused (start : Memory) (turns : List HostTurn) (p : Planned) (refusal : SubmitError)
-    : Type 0 where
+-- there was a moment, after turns of which this is so, at which the driver refused it so
+pub record WasRefused (IsSo : List HostTurn → Type 0) (start : Memory) (turns : List HostTurn) (p : Planned)
+    (refusal : SubmitError) : Type 0 where
   pub before : List HostTurn
   pub rest : List HostTurn
   pub are : before ++ rest ≡ turns
   pub host : Host
   pub does : DoesAll (starting start) before host
   pub refused : submit_refusal host.driver host.memory p.dev p.request ≡ Some refusal
+  pub so : IsSo before
 
-abbrev pub IsEnd : Memory → List HostTurn → Planned → Ended → Type 0
-IsEnd start turns p (ended.Polled outcome) = WasPolled turns p outcome
-IsEnd start turns p (ended.Refused refusal) = WasRefused start turns p refusal
+abbrev pub IsEnd : (List HostTurn → Type 0) → Memory → List HostTurn → Planned → Ended → Type 0
+IsEnd IsSo start turns p (ended.Polled outcome) = WasPolled IsSo turns p outcome
+IsEnd IsSo start turns p (ended.Refused refusal) = WasRefused IsSo start turns p refusal
 
--- what the worker says of a request is so
-abbrev pub IsTrue : Memory → List HostTurn → Planned → State → Type 0
-IsTrue start turns p state.Waits = Unit {0}
-IsTrue start turns p (state.Submitted ticket) = Contains turns (Submitted p.dev p.request ticket.0)
-IsTrue start turns p (state.Ended end) = IsEnd start turns p end
+-- what the worker says of a request is so, and it was given to the driver after turns of which this is so
+abbrev pub IsTrue : (List HostTurn → Type 0) → Memory → List HostTurn → Planned → State → Type 0
+IsTrue IsSo start turns p state.Waits = ⊤
+IsTrue IsSo start turns p (state.Submitted ticket) = WasTaken IsSo turns p ticket.0
+IsTrue IsSo start turns p (state.Ended end) = IsEnd IsSo start turns p end
 
+-- ---- the order of the plan, and its barriers
+
+abbrev pub at_any_time : List HostTurn → Type 0
+at_any_time turns = ⊤
+
+-- Within these turns it was given to the driver, as is said of it in the end.
+abbrev pub HasBegun : Memory → List HostTurn → Planned → State → Type 0
+HasBegun start turns p state.Waits = ⊥
+HasBegun start turns p (state.Submitted ticket) = WasTaken at_any_time turns p ticket.0
+HasBegun start turns p (state.Ended (ended.Polled outcome)) = (ticket : ℕ) × WasTaken at_any_time turns p ticket
+HasBegun start turns p (state.Ended (ended.Refused refusal)) = WasRefused at_any_time start turns p refusal
+
+-- Within these turns it has ended, as is said of it in the end: it was polled or refused.
+abbrev pub HasEnded : Memory → List HostTurn → Planned → State → Type 0
+HasEnded start turns p (state.Ended end) = IsEnd at_any_time start turns p end
+HasEnded start turns p s = ⊥
+
+-- what a request that waits wants of each before it; one that does not
+abbrev pub IsPast : Bool → Memory → List HostTurn → Planned → State → Type 0
+IsPast true start turns p s = HasEnded start turns p s
+IsPast false start turns p s = HasBegun start turns p s
+
+-- After these turns it is the turn of the request at place i: all before it were given to the driver, and where it
+-- waits, all before it have ended.
+pub record IsNext (start : Memory) (plan : List Planned) (states : List State) (i : ℕ) (wait : Bool)
+    (turns : List HostTurn) : Type 0 where
+  pub each : (j : ℕ) (p : Planned) (s : State) → j < i
+      → IsPast wait start turns (slice_index_or plan j p) (slice_index_or states j s)
+
+-- What is said of each request is so, and each was given to the driver in its turn.
 pub record AreTrue (start : Memory) (turns : List HostTurn) (plan : List Planned)
     (states : List State) : Type 0 where
   pub each : (i : ℕ) (p : Planned) (s : State) → i < length states
-      → IsTrue start turns (slice_index_or plan i p) (slice_index_or states i s)
+      → IsTrue (IsNext start plan states i (slice_index_or plan i p).wait) start turns
+      (slice_index_or plan i p) (slice_index_or states i s)
+
+-- the requests before this place were given to the driver, and none from it on
+pub record AreGiven (next : ℕ) (states : List State) : Type 0 where
+  pub before : (i : ℕ) (s : State) → i < next → i < length states → is_waiting (slice_index_or states i s) ≡ false
+  pub later : (i : ℕ) (s : State) → next ≤ i → i < length states → is_waiting (slice_index_or states i s) ≡ true
 
 -- ---- the run
 

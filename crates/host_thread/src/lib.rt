@@ -7,7 +7,8 @@
 //! Whatever other threads do, what it took is in stamped order, and it is a run, `specs/Runs.antt`:
 //! there is one list of turns of the host, of which the lists of its seats are the projections, and
 //! of which the laws of `hba_driver` speak. What it says of each request of its plan is in these
-//! turns.
+//! turns: each was given to the driver after all before it, and one that waits after all before it
+//! had ended.
 #![tactic(auto)]
 
 mod end;

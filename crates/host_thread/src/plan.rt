@@ -2,7 +2,7 @@
 
 ghost use Rattle.std.specs.Prelude.{◌≡◌, ◌<◌, length, slice_index_or, IfSome};
 ghost use Rattle.std.specs.List.{list_any};
-ghost use Rattle.host_thread.specs.Runs.{is_open};
+ghost use Rattle.host_thread.specs.Runs.{is_open, is_submitted};
 ghost use Rattle.host_thread.specs.declared.plan.State.TheVariants as state;
 
 use hba_driver::{Outcome, Request, SubmitError, Ticket};
@@ -48,16 +48,23 @@ impl State {
             _ => true,
         }
     }
+
+    /// Whether it was taken and not polled yet.
+    fn is_submitted(&self) -> bool
+        ensures { result ≡ is_submitted self.now }
+    {
+        match self {
+            State::Submitted(_) => true,
+            _ => false,
+        }
+    }
 }
 
 /// Whether one of these was taken and not polled yet.
-pub(crate) fn any_submitted(states: &[State]) -> bool {
-    for state in states {
-        if let State::Submitted(_) = state {
-            return true;
-        }
-    }
-    false
+pub(crate) fn any_submitted(states: &[State]) -> bool
+    ensures { result ≡ list_any is_submitted states.now }
+{
+    states.iter().any(|state| state.is_submitted())
 }
 
 /// Whether one of these has not ended.

@@ -37,7 +37,7 @@ pub struct HostWorker<'a> {
 }
 
 impl<'a> Model for HostWorker<'a> {
-    ghost use Rattle.host_thread.specs.Runs.{HostView, IsSound};
+    ghost use Rattle.host_thread.specs.Runs.{AreGiven, HostView, IsSound};
     ghost use Rattle.host_thread.specs.Tally.{AreCounted};
 
     ghost Value = { HostView };
@@ -58,7 +58,7 @@ impl<'a> Model for HostWorker<'a> {
       hand = w.hand;
       plan = w.plan.items;
       states = w.states.items;
-    }) × AreCounted w.rows.items w.frames.taken };
+    }) × AreCounted w.rows.items w.frames.taken × AreGiven w.next w.states.items };
 }
 
 impl<'a> HostWorker<'a> {

@@ -28,6 +28,3 @@ pub use passing::{
     control_frames_show_removals, frames_pass_in_order, goes_up_in_stamped_order,
     is_passed_over_at_most_fifteen_times, ports_that_forward_have_connections,
 };
-
-#[cfg(test)]
-mod tests;

@@ -17,6 +17,3 @@ mod world;
 pub use counts::{ConnCount, Counts};
 pub use step::{Answer, Config, Step, StepError, WorldError};
 pub use world::World;
-
-#[cfg(test)]
-mod tests;

@@ -104,15 +104,26 @@ fn settle(rt: &HostRuntime, world: &mut World) -> io::Result<()> {
     Ok(())
 }
 
-fn main(rt: HostRuntime) -> io::Result<()> {
-    let mut world = opening(rt.alloc())?;
-    play(&rt, &mut world, &[Step::Came(0)])?;
-    settle(&rt, &mut world)?;
-    let request = [read(rt.alloc())?];
-    play(&rt, &mut world, &request)?;
-    settle(&rt, &mut world)?;
-    play(&rt, &mut world, &[Step::Poll])?;
+/// Prints the first bytes that the read brought.
+fn show_client(rt: &HostRuntime, world: &World) -> io::Result<()> {
     let first = world.memory().client().get(0x1000..0x1004).unwrap_or(&[]);
     let text = hex::encode(rt.alloc(), first)?;
     println!(rt; "client {text}")
+}
+
+/// Plugs the disk in, has a sector read, and prints what is told on the way.
+fn show_read(rt: &HostRuntime, world: &mut World) -> io::Result<()> {
+    play(rt, world, &[Step::Came(0)])?;
+    settle(rt, world)?;
+    let request = [read(rt.alloc())?];
+    play(rt, world, &request)?;
+    settle(rt, world)?;
+    play(rt, world, &[Step::Poll])?;
+    show_client(rt, world)
+}
+
+// A world is large: no function but this has one among its locals.
+fn main(rt: HostRuntime) -> io::Result<()> {
+    let mut world = opening(rt.alloc())?;
+    show_read(&rt, &mut world)
 }

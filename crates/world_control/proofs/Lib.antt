@@ -1,3 +1,4 @@
 pub mod ListLemmas
 pub mod SaidLemmas
 pub mod LineLemmas
+pub mod GoingLemmas

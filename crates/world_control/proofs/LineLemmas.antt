@@ -94,19 +94,19 @@ recorded_waits pm n (change.Gone conn) = by_test (is_none (gone_refusal (port_at
 same_waits : (old new : PmState) → new ≡ old → new.answer ≡ old.answer
 same_waits old new same = ap (λ (pm : PmState). pm.answer) same
 
-presence_waits : (n : ℕ) (place : Place) (pm : PmState) (a : Answer) (after : Place) (left : PmState) → PmPresenceRule n place pm (Ok a) after left → left.answer ≡ pm.answer
+pub presence_waits : (n : ℕ) (place : Place) (pm : PmState) (a : Answer) (after : Place) (left : PmState) → PmPresenceRule n place pm (Ok a) after left → left.answer ≡ pm.answer
 presence_waits n place pm answer.Idle after left acts = same_waits pm left acts.2
 presence_waits n place pm (answer.Presence p) after left acts = same_waits (recorded pm n acts.2.0) left acts.2.2 ∙ recorded_waits pm n acts.2.0
 presence_waits n place pm _ after left acts = absurd acts
 
-from_device_waits : (n : ℕ) (place : Place) (pm : PmState) (a : Answer) (after : Place) (left : PmState) → PmFromDeviceRule n place pm (Ok a) after left → left.answer ≡ pm.answer
+pub from_device_waits : (n : ℕ) (place : Place) (pm : PmState) (a : Answer) (after : Place) (left : PmState) → PmFromDeviceRule n place pm (Ok a) after left → left.answer ≡ pm.answer
 from_device_waits n place pm answer.Idle after left acts = same_waits pm left acts.2
 from_device_waits n place pm answer.Blocked after left acts = same_waits pm left acts.3
 from_device_waits n place pm (answer.Offered p true) after left acts = same_waits pm left acts.2.2.1
 from_device_waits n place pm (answer.Offered p false) after left acts = ap (λ (q : PmState). q.answer) acts.2.2.2
 from_device_waits n place pm _ after left acts = absurd acts
 
-down_waits : (n : ℕ) (place : Place) (pm : PmState) (a : Answer) (after : Place) (left : PmState) → PmDownRule n place pm (Ok a) after left → left.answer ≡ pm.answer
+pub down_waits : (n : ℕ) (place : Place) (pm : PmState) (a : Answer) (after : Place) (left : PmState) → PmDownRule n place pm (Ok a) after left → left.answer ≡ pm.answer
 down_waits n place pm answer.Idle after left acts = same_waits pm left acts.3
 down_waits n place pm answer.Blocked after left acts = same_waits pm left acts.2
 down_waits n place pm (answer.Down p) after left acts = ap (λ (q : PmState). q.answer) acts.2.1.1
@@ -114,7 +114,7 @@ down_waits n place pm _ after left acts = absurd acts
 
 -- ---- a FIS of the host
 
-by_conn : (old new : PmState) (frame : Stamped) (p : Passed) (o : Option ℕ) → MatchOption o (ToNobody old (Ok p) new) (λ conn. ToDevice old (pm_port frame) conn frame (Ok p) new) → new.answer ≡ old.answer
+pub by_conn : (old new : PmState) (frame : Stamped) (p : Passed) (o : Option ℕ) → MatchOption o (ToNobody old (Ok p) new) (λ conn. ToDevice old (pm_port frame) conn frame (Ok p) new) → new.answer ≡ old.answer
 by_conn old new frame passed.Dropped None acts = ap (λ (pm : PmState). pm.answer) acts
 by_conn old new frame _ None acts = absurd acts
 by_conn old new frame (passed.Down m) (Some conn) acts = ap (λ (pm : PmState). pm.answer) acts.2
@@ -147,7 +147,7 @@ host_passes stage link pm _ new after up acts line = absurd acts
 
 -- ---- a FIS for the host
 
-not_reply : (f : Stamped) → f.stamp.port ≢ control_port → is_reply f ≡ false
+pub not_reply : (f : Stamped) → f.stamp.port ≢ control_port → is_reply f ≡ false
 not_reply f other = ap (λ (b : Bool). b && is_register (seen f.bytes)) (ne_eqb f.stamp.port control_port other)
 
 awaited_reply : (stage : Stage31) (f : Stamped) → f.stamp.port ≡ control_port → IsAwaited stage f → is_reply f ≡ true
@@ -159,7 +159,7 @@ awaited_reply Resets f port is = absurd is
 awaited_reply Told f port is = absurd is
 awaited_reply Fails f port is = absurd is
 
-notice_no_reply : (f : Stamped) → IsNotice31 f.bytes → is_reply f ≡ false
+pub notice_no_reply : (f : Stamped) → IsNotice31 f.bytes → is_reply f ≡ false
 notice_no_reply f is = ap (λ o. (f.stamp.port == control_port) && is_register o) is.viewed ∙ by_test (f.stamp.port == control_port)
   where
     by_test : (b : Bool) → (b && false) ≡ false
@@ -206,12 +206,12 @@ up_rises stage down pm link _ after new stamped acts line notices = absurd acts
 -- ---- steps of the host
 
 -- what a turn leaves of the host
-record IsTurned (stage : Stage31) (old : Host) (t : HostTurn) (new : Host) : Type 0 where
+pub record IsTurned (stage : Stage31) (old : Host) (t : HostTurn) (new : Host) : Type 0 where
   pub going : IsGoing new
   pub their : AreOfTheir new.port
   pub turned : Turns31 stage old t new
 
-turned : (stage : Stage31) (old : Host) (t : HostTurn) (new : Host) → Does old t new → IsGoing old → AreOfTheir old.port → IsAt31 stage old → MayBe31 stage t → IsTurned stage old t new
+pub turned : (stage : Stage31) (old : Host) (t : HostTurn) (new : Host) → Does old t new → IsGoing old → AreOfTheir old.port → IsAt31 stage old → MayBe31 stage t → IsTurned stage old t new
 turned stage old t new does g their at may =
     let n : IsGoing new = going_turn old t new does g (control_in31 stage t may) in
     record { going = n; their = turn_their old t new does g.way.sound their; turned = turn31 old g t new n does stage at may }
@@ -240,6 +240,31 @@ tick_line down waits up stage next (inl (inr h)) line = quiet_line next down up 
 tick_line down waits up stage next (inr h) line =
     quiet_line next down up waits (ap is_quiet h.1) (line_quiet stage down up waits (ap is_quiet h.0) line)
 
+-- a frame of the control port that comes may come at its stage
+notice_may : (f : Stamped) (s : Stage31) → IsNotice31 f.bytes → MayCome31 s f.bytes
+notice_may f Signs is = inl is
+notice_may f Asks is = inl is
+notice_may f Rests is = is
+notice_may f Waits is = is
+notice_may f Resets is = is
+notice_may f Told is = is
+notice_may f Fails is = is
+
+awaited_may : (f : Stamped) (s : Stage31) → IsAwaited s f → MayCome31 s f.bytes
+awaited_may f Signs is = inr is
+awaited_may f Asks is = inr is
+awaited_may f Rests is = absurd is
+awaited_may f Waits is = absurd is
+awaited_may f Resets is = absurd is
+awaited_may f Told is = absurd is
+awaited_may f Fails is = absurd is
+
+pub may_come : (stage : Stage31) (down up : List Stamped) (waits : Option Stamped) (f : Stamped) → f.stamp.port ≡ control_port → OnLine stage down waits (f ∷ up) → AreNotices (f ∷ up) → MayCome31 stage f.bytes
+may_come stage down up waits f own line notices = elim (cases_Bool (is_reply f)) [
+  | inr plain ↦ notice_may f stage (notices.0 own plain)
+  | inl reply ↦ awaited_may f stage (line_reply stage down up waits f reply line).0
+]
+
 -- a frame is taken
 take_line : (down : List Stamped) (waits : Option Stamped) (up : List Stamped) (f : Stamped) (old new : Host) (report : TakeReport) (stage : Stage31) → Does old (Took f.bytes report) new → IsGoing old → AreOfTheir old.port → IsAt31 stage old
     → HasRisen f → OnLine stage down waits (f ∷ up) → AreNotices (f ∷ up) → IsHostNow down waits up new
@@ -249,35 +274,17 @@ take_line down waits up f old new report stage does g their at risen line notice
       (λ next is. same_line down waits up stage next (is.1 (λ own. other (sym port ∙ own))) (line_takes stage down up waits f (not_reply f other) line)) notices.1
   | inl own ↦ elim (cases_Bool (is_reply f)) [
     | inr plain ↦
-        stays_on down waits up old new (Took f.bytes report) stage (turned stage old (Took f.bytes report) new does g their at (λ h. notice_may stage (notices.0 own plain)))
+        stays_on down waits up old new (Took f.bytes report) stage (turned stage old (Took f.bytes report) new does g their at (λ h. notice_may f stage (notices.0 own plain)))
         (λ next is. same_line down waits up stage next (notice_stays stage next (notices.0 own plain) (is.0 (port ∙ own))) (line_takes stage down up waits f plain line)) notices.1
     | inl reply ↦
         let r = line_reply stage down up waits f reply line in
-        stays_on down waits up old new (Took f.bytes report) stage (turned stage old (Took f.bytes report) new does g their at (λ h. awaited_may stage r.0))
+        stays_on down waits up old new (Took f.bytes report) stage (turned stage old (Took f.bytes report) new does g their at (λ h. awaited_may f stage r.0))
         (λ next is. quiet_line next down up waits (reply_quiet stage next r.0 (is.0 (port ∙ own))) (r.1, r.2, r.3)) notices.1
   ]
 ]
   where
     port : port_of f.bytes ≡ f.stamp.port
     port = risen.pm_port does.framed
-
-    notice_may : (s : Stage31) → IsNotice31 f.bytes → MayCome31 s f.bytes
-    notice_may Signs is = inl is
-    notice_may Asks is = inl is
-    notice_may Rests is = is
-    notice_may Waits is = is
-    notice_may Resets is = is
-    notice_may Told is = is
-    notice_may Fails is = is
-
-    awaited_may : (s : Stage31) → IsAwaited s f → MayCome31 s f.bytes
-    awaited_may Signs is = inr is
-    awaited_may Asks is = inr is
-    awaited_may Rests is = absurd is
-    awaited_may Waits is = absurd is
-    awaited_may Resets is = absurd is
-    awaited_may Told is = absurd is
-    awaited_may Fails is = absurd is
 
     not_both : {P : Type 0} → IsNotice31 f.bytes → seen f.bytes ≡ Ok (view.RegD2H f.bytes) → P
     not_both is viewed = absurd (false≢true (sym (ap is_register is.viewed) ∙ ap is_register viewed))
@@ -474,7 +481,7 @@ module _ (old : Places) (now : IsNow old) where
     by_step step.Poll a rule = aside rule.1 (poll_now a new.host rule.0)
     by_step (step.Put at bytes) a rule = aside rule.1 (put_now at bytes a new.host rule.0)
 
-step_now : (old : Places) (s : Step) (a : Answer) (new : Places) → IsNow old → Rule old s (Ok a) new → IsNow new
+pub step_now : (old : Places) (s : Step) (a : Answer) (new : Places) → IsNow old → Rule old s (Ok a) new → IsNow new
 step_now old s a new now rule = by_step old now new (run_rises old (s ∷ []) (a ∷ []) new now.risen (new, rule, refl)).1 (orderly_after old s a new now.orderly rule) s a rule
 
 -- ---- a whole run
@@ -485,8 +492,8 @@ run_now old (s ∷ steps) (a ∷ answers) new now run = run_now run.0 steps answ
 run_now old [] (a ∷ answers) new now run = absurd run
 run_now old (s ∷ steps) [] new now run = absurd run
 
-none_there : (units : List Unit) (config : Config) → is_config config (length units) ≡ true → IsNow (new_world config units)
-none_there units config right = record {
+pub opening_now : (units : List Unit) (config : Config) → is_config config (length units) ≡ true → IsNow (new_world config units)
+opening_now units config right = record {
   going = going_opens 0 config.memory (sized config (length units) right);
   their = λ n s c low busy last. none_issued n s c last;
   risen = opening_risen config units;
@@ -496,7 +503,7 @@ none_there units config right = record {
 }
 
 -- an order to clear a port is issued where nothing is on its way
-clears_clean : (now : Places) (i : IsNow now) (n : ℕ) (acted : Bool) (new : Host) → Ticks now.host acted new → orders_clear n now.host ≡ true → IsClean now × (n < 15)
+pub clears_clean : (now : Places) (i : IsNow now) (n : ℕ) (acted : Bool) (new : Host) → Ticks now.host acted new → orders_clear n now.host ≡ true → IsClean now × (n < 15)
 clears_clean now i n acted new does flushed =
     let t : IsTurned i.stage now.host (Ticked acted) new = turned i.stage now.host (Ticked acted) new does i.going i.their i.is.at tt in
     let c = t.turned.is.clears n flushed in
@@ -504,5 +511,5 @@ clears_clean now i n acted new does flushed =
 
 pub one_order_at_a_time : OneOrderAtATime
 one_order_at_a_time config units right steps answers now run =
-    let n : IsNow now = run_now (new_world config units) steps answers now (none_there units config right) run in
+    let n : IsNow now = run_now (new_world config units) steps answers now (opening_now units config right) run in
     record { stage = n.stage; is = n.is; clears = clears_clean now n }

@@ -3,4 +3,4 @@
 
 mod line;
 
-pub use line::one_order_at_a_time;
+pub use line::{one_order_at_a_time, ports_go_on};

@@ -64,21 +64,20 @@ use Rattle.pm_world.proofs.Units.{units_lived_on}
 use Rattle.world_ends.specs.Brought.{IsBrought, StandsThere}
 use Rattle.world_ends.specs.Disks.{HonestDisks, disk_history, host_turns}
 use Rattle.world_ends.specs.Ended.{EndsHonestly, ReadsSectors, StandsAt, WritesSectors}
-use Rattle.world_ends.specs.Honest.{IsReportedWell, IsTakenHonestly}
 use Rattle.world_ends.specs.Wired.{AreFine, IsThere, IsWired}
-use Rattle.world_ends.proofs.BroughtLemmas.{took_brings}
+use Rattle.world_ends.proofs.BroughtLemmas.{brought_there}
 use Rattle.world_ends.proofs.FirstLemmas.{ComesRisen, FirstRun, comes_risen, first_run}
 use Rattle.world_ends.proofs.HostLemmas.{DriversServe, HostOn, host_opens}
 use Rattle.world_ends.proofs.OpeningLemmas.{Opens, Out, There, opened}
 use Rattle.world_ends.proofs.ReadLemmas.{ended_at_disk}
 use Rattle.world_ends.proofs.RunLemmas.{fine_front}
 use Rattle.world_ends.proofs.SecondLemmas.{IsTended, SecondRun, second_run}
-use Rattle.world_ends.proofs.TookLemmas.{host_takes, took_is_honest}
+use Rattle.world_ends.proofs.TookLemmas.{host_takes, took_later}
 use Rattle.world_ends.proofs.TouchedLemmas.{touched_delivers, touched_served, touched_sound}
 
 -- ## The disk's run
 
-may_run : (plan : DiskPlan) (sectors : ℕ) (before later : List Happening) → MaySendAll (DiskOf plan sectors) before later
+pub may_run : (plan : DiskPlan) (sectors : ℕ) (before later : List Happening) → MaySendAll (DiskOf plan sectors) before later
     → runs.Runs plan sectors (moment plan sectors before) later
 unfolding runs.Runs
 may_run plan sectors before [] all = tt
@@ -98,12 +97,12 @@ may_run plan sectors before (Plugged ∷ later) all = (
       (may_run plan sectors (before ++ Plugged ∷ []) later all),
 )
 
-lived_run : (unit : Unit) (events : List Happening) (o : Option Place) → StandsFor unit [] → IsSomeAnd o (λ place. LivesOn unit events place.unit)
+pub lived_run : (unit : Unit) (events : List Happening) (o : Option Place) → StandsFor unit [] → IsSomeAnd o (λ place. LivesOn unit events place.unit)
     → MaySendAll (plan_of unit) [] events
 lived_run unit events None stands lived = absurd lived
 lived_run unit events (Some place) stands lived = lived.sends [] stands
 
-from_opening : (plan : DiskPlan) (sectors : ℕ) (events : List Happening) → runs.Runs plan sectors (moment plan sectors []) events → IsDiskRun plan sectors events
+pub from_opening : (plan : DiskPlan) (sectors : ℕ) (events : List Happening) → runs.Runs plan sectors (moment plan sectors []) events → IsDiskRun plan sectors events
 unfolding disks.moment_after
 from_opening plan sectors events run = run
 
@@ -191,11 +190,10 @@ write_moves s head t is some work =
 -- ## A FIS that the host takes of the disk
 
 module _ (law : DriversServe) (n len : ℕ) (below : n < 15) (right : is_memory_size len ≡ true) (plan : DiskPlan) (sectors : ℕ) (size : IsSize plan sectors)
-    (now : Places) (happened heard : List Happening) (turns : List HostTurn)
-    (tended : IsTended law n len below right plan sectors size now happened heard turns)
-    (disk : IsDiskRun plan sectors happened) (s : Step) (port conn number : ℕ) (bytes : List ℕ) (report : TakeReport) (new : Places)
-    (rule : Rule now s (Ok (answer.Took port conn number bytes report)) new) (here : (port == n) ≡ true)
-    (well : IsReportedWell (shared_by now.host) bytes report) where
+    (c : ℕ) (before : List Happening) (now : Places) (happened heard : List Happening) (turns : List HostTurn)
+    (tended : IsTended law n len below right plan sectors size c before now happened heard turns)
+    (disk : IsDiskRun plan sectors (before ++ happened)) (s : Step) (port conn number : ℕ) (bytes : List ℕ) (report : TakeReport) (new : Places)
+    (rule : Rule now s (Ok (answer.Took port conn number bytes report)) new) (here : (port == n) ≡ true) where
   abbrev pub h : HostOn n len turns now.host (Plugged ∷ heard)
   h = tended.host
 
@@ -219,11 +217,6 @@ module _ (law : DriversServe) (n len : ℕ) (below : n < 15) (right : is_memory_
 
   delivers : TookDelivers now.host h.touches bytes report new.host
   delivers = touched_delivers len turns now.host h.touches right h.touched bytes report new.host tooks
-
-  honest : IsTakenHonestly sectors n 1 new bytes report happened (Plugged ∷ heard) h.commands (own n h.touches)
-  honest =
-      took_is_honest plan sectors n 1 now new s port conn number bytes report happened (Plugged ∷ heard) h.commands (own n h.touches) below tended.orderly
-      rule here at_port size disk tended.wired h.serves.hosted is_host well
 
   kept : IsKept n (shared_by now.host) (Plugged ∷ heard) h.commands (own n h.touches)
   kept = hosted_is_kept n (shared_by now.host) (Plugged ∷ heard) h.commands (own n h.touches) below h.serves.hosted
@@ -258,6 +251,12 @@ module _ (law : DriversServe) (n len : ℕ) (below : n < 15) (right : is_memory_
     some : 0 < e.head.sectors
     some = ((served.bounded.entries slot e is).size queued).some
 
+    honest : moved.is_queued issue.transfer.work.kind ≡ true → IsDoneHonestly sectors (h.commands slot) (filled slot (own n h.touches))
+        issue.transfer.work.len (ledger (before ++ happened)) (ledger (before ++ Plugged ∷ heard))
+    honest is_queued =
+        took_later plan sectors n c now new s port conn number bytes report before happened (Plugged ∷ heard) h.commands (own n h.touches) below tended.orderly
+        rule here at_port size disk tended.wired h.serves.hosted is_host slot issue.transfer low_slot issue.is is_queued done
+
     table : issue.transfer.table ≡ e.prds
     table = request.table
 
@@ -265,21 +264,20 @@ module _ (law : DriversServe) (n len : ℕ) (below : n < 15) (right : is_memory_
     stands_at xs memory i there =
         subst (λ (prds : List Prd). StandsAt xs prds memory i) table (record { inside = there.inside; is = there.is })
 
-    reads : e.head.work ≡ Read → ReadsSectors sectors slot e happened new.host.memory
+    reads : e.head.work ≡ Read → ReadsSectors sectors slot e (before ++ happened) new.host.memory
     reads read =
         let m : MovesAll issue.transfer e.head true = read_moves slot e.head issue.transfer read some built in
         let way : (h.commands slot).write ≡ false =
         ap (λ (c : Command). c.write) command_is ∙ ap (λ (w : asked.Work). (command_of slot (record e { head = record e.head { work = w } })).write) read in
-        let b : IsBrought sectors (h.commands slot) issue.transfer new.host.memory (ledger (Plugged ∷ heard)) =
-        took_brings plan sectors n 1 now new s port conn number bytes report happened (Plugged ∷ heard) h.commands h.touches below tended.orderly rule here
-        at_port size disk tended.wired h.serves.hosted is_host well delivers slot issue.transfer low_slot (record { is = issue.is; reads = m.way }) m.queued way
-        done in
+        let b : IsBrought sectors (h.commands slot) issue.transfer new.host.memory (ledger (before ++ Plugged ∷ heard)) =
+        brought_there sectors n now.host new.host bytes report h.touches (h.commands slot) (ledger (before ++ Plugged ∷ heard)) slot issue.transfer at_port
+        low_slot (record { is = issue.is; reads = m.way }) m.queued done delivers ((honest m.queued).reads way) in
         let its : b.read.command ≡ command_of slot e = b.command ∙ command_is in
         record {
           at = b.at;
           read = b.read;
           ended =
-              ended_at_disk plan sectors happened (Plugged ∷ heard) tended.wired.down tended.wired.up size disk tended.wired.linked kept.careful b.at b.read
+              ended_at_disk plan sectors before happened (Plugged ∷ heard) tended.wired.down tended.wired.up size disk tended.wired.linked kept.careful b.at b.read
               b.ended;
           command = record {
             tag = ap (λ (c : Command). c.tag) its;
@@ -292,14 +290,14 @@ module _ (law : DriversServe) (n len : ℕ) (below : n < 15) (right : is_memory_
               (b.stands i (subst (λ (k : ℕ). i < k) (sym m.len) less)));
         }
 
-    writes : e.head.work ≡ Write → WritesSectors slot e happened (filled slot (own n h.touches))
+    writes : e.head.work ≡ Write → WritesSectors slot e (before ++ happened) (filled slot (own n h.touches))
     writes write =
         let m : MovesAll issue.transfer e.head false = write_moves slot e.head issue.transfer write some built in
         let way : (h.commands slot).write ≡ true =
         ap (λ (c : Command). c.write) command_is ∙ ap (λ (w : asked.Work). (command_of slot (record e { head = record e.head { work = w } })).write) write in
-        let d : IsDoneHonestly sectors (h.commands slot) (filled slot (own n h.touches)) issue.transfer.work.len (ledger happened) (ledger (Plugged ∷ heard)) =
-        honest.done slot issue.transfer low_slot issue.is m.queued done in
-        let w : IsOnMedium (h.commands slot) (filled slot (own n h.touches)) issue.transfer.work.len (ledger happened) = d.writes way in
+        let d : IsDoneHonestly sectors (h.commands slot) (filled slot (own n h.touches)) issue.transfer.work.len (ledger (before ++ happened))
+        (ledger (before ++ Plugged ∷ heard)) = honest m.queued in
+        let w : IsOnMedium (h.commands slot) (filled slot (own n h.touches)) issue.transfer.work.len (ledger (before ++ happened)) = d.writes way in
         record {
           at = w.at;
           written = w.written;
@@ -310,7 +308,7 @@ module _ (law : DriversServe) (n len : ℕ) (below : n < 15) (right : is_memory_
           bytes = λ i less. (w.bytes i (subst (λ (k : ℕ). i < k) (sym m.len) less)).0;
         }
 
-    pub ends_honestly : EndsHonestly sectors slot e happened (filled slot (own n h.touches)) new.host.memory
+    pub ends_honestly : EndsHonestly sectors slot e (before ++ happened) (filled slot (own n h.touches)) new.host.memory
     ends_honestly = record { reads = reads; writes = writes }
 
 -- ## The law
@@ -325,7 +323,7 @@ plugged_in : (n conn : ℕ) (now : Places) (happened : List Happening) → IsThe
 plugged_in n conn now happened there (Out out) = absurd (same_conn (slice_get now.devices n) conn 0 there out)
 plugged_in n conn now happened there (There here wired) = (here, wired)
 
-drivers_serve : DriversServe
+pub drivers_serve : DriversServe
 drivers_serve = record { starts = opens_honestly; opens = flush_opens; calm = calm_turns_keep; takes = takes_keep; pushes = pushes_keep }
 
 pub honest_disks : HonestDisks
@@ -334,8 +332,8 @@ honest_disks config units n sectors plan fits below disk now d s port conn numbe
       touches = second.tended.host.touches;
       touched = second.tended.host.touched;
       done = λ slot e low is queued done.
-          ends_honestly drivers_serve n config.memory below right plan sectors disk.size now (disk_history config units n now d) second.more
-          (host_turns config units n now d) second.tended whole_run s port conn number bytes report new rule here well slot e low is queued done;
+          ends_honestly drivers_serve n config.memory below right plan sectors disk.size 1 [] now (disk_history config units n now d) second.more
+          (host_turns config units n now d) second.tended whole_run s port conn number bytes report new rule here slot e low is queued done;
     }
   where
     right : is_memory_size config.memory ≡ true
@@ -361,7 +359,7 @@ honest_disks config units n sectors plan fits below disk now d s port conn numbe
         plugged_in n d.conn d.mid (over (happens n) (new_world config units) d.first d.told d.mid d.made) d.there
         (opened n below config units fits d.first d.told d.mid d.made first.unheard d.alone fine.0)
 
-    start : IsTended drivers_serve n config.memory below right plan sectors disk.size d.mid
+    start : IsTended drivers_serve n config.memory below right plan sectors disk.size 1 [] d.mid
         (over (happens n) (new_world config units) d.first d.told d.mid d.made) [] (over turn_of (new_world config units) d.first d.told d.mid d.made)
     start = record {
       orderly = run_orderly (new_world config units) d.first d.told d.mid (opening_orderly config units fits) d.made;
@@ -386,9 +384,9 @@ honest_disks config units n sectors plan fits below disk now d s port conn numbe
         subst (λ (k : ℕ). IsDiskRun plan k (disk_history config units n now d)) disk.sectors_are
         (subst (λ (p : DiskPlan). IsDiskRun p disk.disk.sectors (disk_history config units n now d)) disk.plan_is own_run)
 
-    second : SecondRun drivers_serve n config.memory below right plan sectors disk.size d.mid d.second d.answers now d.run
+    second : SecondRun drivers_serve n config.memory below right plan sectors disk.size 1 [] d.mid d.second d.answers now d.run
         (over (happens n) (new_world config units) d.first d.told d.mid d.made) [] (over turn_of (new_world config units) d.first d.told d.mid d.made)
     second =
-        second_run drivers_serve n config.memory below right plan sectors disk.size d.mid d.second d.answers now d.run
+        second_run drivers_serve n config.memory below right plan sectors disk.size 1 [] d.mid d.second d.answers now d.run
         (over (happens n) (new_world config units) d.first d.told d.mid d.made) [] (over turn_of (new_world config units) d.first d.told d.mid d.made) start
         d.left d.well fine.1 whole_run

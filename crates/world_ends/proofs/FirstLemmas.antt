@@ -79,14 +79,14 @@ comes_risen old s a new risen rule =
     record { own_port = All-head IsOfItsPort a [] r.0; risen = r.1 }
 
 module _ (law : DriversServe) (n len : ℕ) (below : n < 15) (right : is_memory_size len ≡ true) where
-  record FirstOn (turns : List HostTurn) (old : Places) (s : Step) (a : Answer) (new : Places) : Type 0 where
-    host : HostOn n len (turns ++ turn_of old s a new) new.host (Plugged ∷ [])
-    given : given_for n old s a new ≡ []
+  pub record FirstOn (turns : List HostTurn) (old : Places) (s : Step) (a : Answer) (new : Places) : Type 0 where
+    pub host : HostOn n len (turns ++ turn_of old s a new) new.host (Plugged ∷ [])
+    pub given : given_for n old s a new ≡ []
 
   pub elsewhere : (port : ℕ) (bytes : List ℕ) → eqb port n ≡ false → port_of bytes ≡ port → n ≢ port_of bytes
   elsewhere port bytes other at same = true≢false (sym (eq-eqb port n (sym (same ∙ at))) ∙ other)
 
-  first_step : (turns : List HostTurn) (old : Places) (s : Step) (a : Answer) (new : Places) → HostOn n len turns old.host (Plugged ∷ [])
+  pub first_step : (turns : List HostTurn) (old : Places) (s : Step) (a : Answer) (new : Places) → HostOn n len turns old.host (Plugged ∷ [])
       → Rule old s (Ok a) new → IsOfItsPort a → is_taken_of n a ≡ false → OpensWell n old a → FirstOn turns old s a new
   first_step turns old s (answer.Took port conn number bytes report) new h rule its untaken well = record {
     host = step_keeps law n len below right turns old s new (Plugged ∷ []) h (answer.Took port conn number bytes report) rule

@@ -285,11 +285,11 @@ abbrev IsAhead : ℕ → Places → Type 0
 IsAhead n now = (place : Place) → slice_get now.devices n ≡ Some place → IsUnremoved n (suc place.conn) now
 
 -- the place at a port before a step
-record Was (n : ℕ) (old : Places) (a : Answer) (after : Place) : Type 0 where
-  place : Place
-  is : slice_get old.devices n ≡ Some place
-  conn : place.conn ≤ after.conn
-  goes : GoesBefore n (suc place.conn) a
+pub record Was (n : ℕ) (old : Places) (a : Answer) (after : Place) : Type 0 where
+  pub place : Place
+  pub is : slice_get old.devices n ≡ Some place
+  pub conn : place.conn ≤ after.conn
+  pub goes : GoesBefore n (suc place.conn) a
 
 module _ (n : ℕ) (old new : Places) (a : Answer) (q : Place) (now : slice_get new.devices n ≡ Some q) where
   was_at : (m : ℕ) (place after : Place) → slice_get old.devices m ≡ Some place → new.devices ≡ slice_set old.devices m after
@@ -330,7 +330,7 @@ module _ (n : ℕ) (old new : Places) (a : Answer) (q : Place) (now : slice_get 
       → Was n old a q
   rests s rule never devices = was_same devices (never_goes (λ (b : Answer). Rule old s (Ok b) new) never a rule n (suc q.conn))
 
-  was : (s : Step) → Rule old s (Ok a) new → Was n old a q
+  pub was : (s : Step) → Rule old s (Ok a) new → Was n old a q
   was (step.Came m) rule =
       let d : AtDevice old m (Ok a) new (CameRule m) = at_device old m a new (CameRule m) rule in
       was_at m d.place d.after d.is (ap (λ (w : Places). w.devices) d.new_is) (keeps_came m d.place a d.after d.rule.1)

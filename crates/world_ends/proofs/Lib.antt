@@ -1,4 +1,5 @@
 pub mod KeptLemmas
+pub mod PlaceLemmas
 pub mod WiredLemmas
 pub mod RunLemmas
 pub mod TookLemmas
@@ -6,9 +7,9 @@ pub mod GivenLemmas
 pub mod BroughtLemmas
 pub mod TouchedLemmas
 pub mod OpeningLemmas
-pub mod ReadLemmas
 pub mod FrameLemmas
 pub mod HostLemmas
 pub mod FirstLemmas
 pub mod SecondLemmas
+pub mod ReadLemmas
 pub mod DisksLemmas

@@ -33,8 +33,9 @@ use Rattle.world_ends.specs.Going.{IsLeftAlone, is_taken_of}
 use Rattle.world_ends.specs.Wired.{AreAmong, AreFine, GoesOn, IsAtHost, IsAtHostOver, IsSteady, IsThere, IsUnremoved, IsWired, StaysWired}
 use Rattle.world_ends.specs.Wired.{befalls, descending, for_port, injects, unplugs}
 use Rattle.world_ends.proofs.KeptLemmas.{came_unremoved, none_posted, unremoved}
-use Rattle.world_ends.proofs.RunLemmas.{KeepsPlace, came_elsewhere, fine_front, if_none, if_some, keeps_down, keeps_from_device, keeps_inject, keeps_presence, keeps_send, keeps_take, runs_stay_linked, sent_elsewhere}
-use Rattle.world_ends.proofs.WiredLemmas.{away_after, disks_stay_linked, none_both, rests_below, still_above}
+use Rattle.world_ends.proofs.PlaceLemmas.{KeepsPlace, keeps_down, keeps_from_device, keeps_inject, keeps_presence, keeps_send, keeps_take}
+use Rattle.world_ends.proofs.RunLemmas.{came_elsewhere, fine_front, if_none, if_some, runs_stay_linked, sent_elsewhere}
+use Rattle.world_ends.proofs.WiredLemmas.{away_after, disks_stay_linked, none_both, none_on, rests_on, still_above}
 
 -- ## What the host takes and gives
 
@@ -213,7 +214,7 @@ ungone n old new port conn out step.Poll rule here = absurd rule.0
 ungone n old new port conn out (step.Put at given) rule here = absurd rule.0
 
 -- who says that a unit came is the step by which it did
-came_by : (old new : Places) (port conn : ℕ) (s : Step) → Rule old s (Ok (answer.Came port conn)) new → s ≡ step.Came port
+pub came_by : (old new : Places) (port conn : ℕ) (s : Step) → Rule old s (Ok (answer.Came port conn)) new → s ≡ step.Came port
 came_by old new port conn (step.Came m) rule =
     let d : AtDevice old m (Ok (answer.Came port conn)) new (CameRule m) = at_device old m (answer.Came port conn) new (CameRule m) rule in
     let acts : CameActs m d.place (answer.Came port conn) d.after = d.rule.1 in
@@ -341,9 +342,11 @@ plugs n c old new device orderly rule out w config units fits before told made =
         above = still_above n 1 old new (step.Came n) (answer.Came n c) device orderly rule refl refl (unremoved n 1 new kept) ∙ w.above;
         alone = λ k other. (away_after n k old new (step.Came n) (answer.Came n c) device orderly rule (w.alone k other) refl).1;
         kept = kept;
+        only = subst (λ (o : Option Place). MatchOption o (Prim.Unit {0}) (λ place. place.plugged ≡ true → place.conn ≡ 1)) (sym here)
+            (λ plugged. ap (λ (p : Place). p.conn) after_is ∙ sym acts.1 ∙ one);
         below =
             subst (λ (xs : List (List ℕ)). AreAmong xs w.down)
-            (sym (rests_below n old new (rule_moves_down old (step.Came n) (answer.Came n c) new orderly rule))) w.below;
+            (sym (rests_on n 1 old new (rule_moves_down old (step.Came n) (answer.Came n c) new orderly rule))) w.below;
       };
     }
 
@@ -353,6 +356,10 @@ out_opening : (capacity : ℕ) (units : List Unit) (n : ℕ) → IsOutPlace (sli
 out_opening capacity [] n = tt
 out_opening capacity (u ∷ units) zero = (refl, refl)
 out_opening capacity (u ∷ units) (suc n) = out_opening capacity units n
+
+only_out : (o : Option Place) → IsOutPlace o → MatchOption o (Prim.Unit {0}) (λ place. place.plugged ≡ true → place.conn ≡ 1)
+only_out None out = tt
+only_out (Some place) out = λ there. absurd (true≢false (sym there ∙ out.0))
 
 wired_opening : (config : Config) (units : List Unit) (n : ℕ) → IsWired n 1 (new_world config units) (Plugged ∷ []) (Plugged ∷ [])
 wired_opening config units n =
@@ -366,7 +373,8 @@ wired_opening config units n =
       above = nothing_stands config units n 1;
       alone = λ d other. (refl, λ there. nothing_stands config units n d);
       kept = record { recorded = omega (arith, none); posted = none_posted config.capacity units n 1 };
-      below = subst (λ (xs : List (List ℕ)). AreAmong xs []) (sym low) tt;
+      only = only_out (slice_get (new_world config units).devices n) (out_opening config.capacity units n);
+      below = subst (λ (xs : List (List ℕ)). AreAmong xs []) (sym (none_on n 1 (new_world config units) low)) tt;
     }
 
 -- ## The run

@@ -15,17 +15,18 @@ use Rattle.disk_model.specs.declared.request.Command.{Command}
 use Rattle.disk_model.specs.declared.request.Request.{Request}
 use Rattle.disk_model.specs.declared.request.Request.TheVariants as asked
 use Rattle.disk_model.specs.Chunks.{put}
-use Rattle.disk_model.specs.Disks.{opening}
-use Rattle.disk_model.specs.Ends.{EndsAgree, IsCareful, IsLinked, begins, comes, gives, sends, takes, with_down, with_up}
+use Rattle.disk_model.specs.Ends.{EndsAgree, IsCareful, IsLinked, with_down, with_up}
 use Rattle.disk_model.specs.Histories.{Happening, Plugged, Received, Sent}
 use Rattle.disk_model.specs.Laws.{ActivatesRight, MovesRight}
 use Rattle.disk_model.specs.Ledger.{Accepts, IsSize, Ledger, Moving, ReadOut, Refuses, activates, answers, asks, awaits, empty, ends, has_error, ledger, ledger_after, listens}
 use Rattle.disk_model.specs.Ledger.{listens_down, listens_up, mixes, moves, refuses, restarts, sends_data, sets_up, starts_moving, takes_data}
 use Rattle.disk_model.specs.Requests.{request_of}
 use Rattle.disk_model.specs.Runs.{IsDiskRun}
-use Rattle.disk_model.proofs.EndsLemmas.{ends_agree}
-use Rattle.disk_model.proofs.LawLemmas.{last_may}
+use Rattle.disk_model.specs.Later.{TellsOfAll}
+use Rattle.disk_model.proofs.AnewLemmas.{ends_agree_anew}
+use Rattle.disk_model.proofs.LaterLemmas.{later_is_linked, later_tells_of_all}
 use Rattle.disk_model.proofs.MovesLemmas.{moves_right}
+use Rattle.world_ends.proofs.SecondLemmas.{disk_front}
 
 -- ## What a disk asks for is data of a write
 
@@ -156,23 +157,32 @@ after_one l (x ∷ h) e = after_one (listens l x) h e
 told : (h : List Happening) (e : Happening) → ledger (h ++ e ∷ []) ≡ listens (ledger h) e
 told h e = after_one empty h e
 
-first_asked : IsAsked (ledger (Plugged ∷ [])).moving
+first_asked : IsAsked (ledger []).moving
 unfolding ledger_after
 first_asked = tt
 
+asked_none : (l : Ledger) → IsAsked (listens l Plugged).moving
+asked_none l = tt
+
 module _ (plan : DiskPlan) (sectors : ℕ) (size : IsSize plan sectors) where
-  asked_linked : {disk host : List Happening} {down up : List (List ℕ)} → IsLinked disk host down up → IsDiskRun plan sectors disk → IsAsked (ledger disk).moving
-  asked_linked begins run = first_asked
-  asked_linked (gives disk host down up bytes linked) run = asked_linked linked run
-  asked_linked (comes disk host front back up bytes linked) run =
-      let a : IsAsked (ledger disk).moving = asked_linked linked (last_may plan sectors (opening sectors) disk (Received bytes) run).0 in
-      let k : KeepsReads (ledger disk) (listens_down (ledger disk) (seen bytes)) = keep_down (ledger disk) (seen bytes) a in
-      subst (λ (l : Ledger). IsAsked l.moving) (sym (told disk (Received bytes))) k.asks
-  asked_linked (sends disk host down up bytes fine linked) run =
-      let a : IsAsked (ledger disk).moving = asked_linked linked (last_may plan sectors (opening sectors) disk (Sent bytes) run).0 in
-      subst (λ (l : Ledger). IsAsked l.moving) (sym (told disk (Sent bytes)))
-      (asked_up (ledger disk) (seen bytes) (moves_right plan sectors disk bytes size run) a)
-  asked_linked (takes disk host down up bytes linked) run = asked_linked linked run
+  asked_next : (before : List Happening) (e : Happening) → IsDiskRun plan sectors (before ++ e ∷ []) → IsAsked (ledger before).moving
+      → IsAsked (ledger (before ++ e ∷ [])).moving
+  asked_next before (Received bytes) run a =
+      let k : KeepsReads (ledger before) (listens_down (ledger before) (seen bytes)) = keep_down (ledger before) (seen bytes) a in
+      subst (λ (l : Ledger). IsAsked l.moving) (sym (told before (Received bytes))) k.asks
+  asked_next before (Sent bytes) run a =
+      subst (λ (l : Ledger). IsAsked l.moving) (sym (told before (Sent bytes)))
+      (asked_up (ledger before) (seen bytes) (moves_right plan sectors before bytes size run) a)
+  asked_next before Plugged run a = subst (λ (l : Ledger). IsAsked l.moving) (sym (told before Plugged)) (asked_none (ledger before))
+
+  asked_more : (before later : List Happening) → IsDiskRun plan sectors (before ++ later) → IsAsked (ledger before).moving
+      → IsAsked (ledger (before ++ later)).moving
+  asked_more before [] run a = subst (λ (xs : List Happening). IsAsked (ledger xs).moving) (sym (append-nil before)) a
+  asked_more before (e ∷ later) run a =
+      let whole : (before ++ e ∷ []) ++ later ≡ before ++ e ∷ later = append_assoc before (e ∷ []) later in
+      let rest : IsDiskRun plan sectors ((before ++ e ∷ []) ++ later) = subst (IsDiskRun plan sectors) (sym whole) run in
+      subst (λ (xs : List Happening). IsAsked (ledger xs).moving) whole
+      (asked_more (before ++ e ∷ []) later rest (asked_next before e (disk_front plan sectors (before ++ e ∷ []) later rest) a))
 
 -- ## Reads only become more
 
@@ -242,12 +252,16 @@ front_get [] more at r is = cc is
 front_get (x ∷ xs) more zero r is = is
 front_get (x ∷ xs) more (suc at) r is = front_get xs more at r is
 
-pub ended_at_disk : (plan : DiskPlan) (sectors : ℕ) (disk host : List Happening) (down up : List (List ℕ)) → IsSize plan sectors → IsDiskRun plan sectors disk
-    → IsLinked disk host down up → IsCareful host → (at : ℕ) (r : ReadOut) → slice_get (ledger host).reads at ≡ Some r
-    → slice_get (ledger disk).reads at ≡ Some r
-ended_at_disk plan sectors disk host down up size run linked careful at r is =
-    let agree : EndsAgree sectors disk host down up = ends_agree plan sectors disk host down up size run linked careful in
-    let m : HasMore (ledger host) (with_up (ledger host) up) = all_more (ledger host) up in
-    let whole : (ledger disk).reads ≡ (ledger host).reads ++ m.more =
-    sym (reads_down (ledger disk) down (asked_linked plan sectors size linked run)) ∙ sym (ap (λ (l : Ledger). l.reads) agree.same) ∙ m.is in
-    subst (λ (xs : List ReadOut). slice_get xs at ≡ Some r) (sym whole) (front_get (ledger host).reads m.more at r is)
+pub ended_at_disk : (plan : DiskPlan) (sectors : ℕ) (before disk host : List Happening) (down up : List (List ℕ)) → IsSize plan sectors
+    → IsDiskRun plan sectors (before ++ disk) → IsLinked disk host down up → IsCareful host → (at : ℕ) (r : ReadOut)
+    → slice_get (ledger (before ++ host)).reads at ≡ Some r → slice_get (ledger (before ++ disk)).reads at ≡ Some r
+ended_at_disk plan sectors before disk host down up size run linked careful at r is =
+    let tells : TellsOfAll before host = later_tells_of_all before disk host down up linked careful in
+    let agree : EndsAgree sectors (before ++ disk) (before ++ host) down up =
+    ends_agree_anew plan sectors (before ++ Plugged ∷ []) (before ++ disk) (before ++ host) down [] up size run
+    (later_is_linked before disk host down up linked) tells.careful in
+    let m : HasMore (ledger (before ++ host)) (with_up (ledger (before ++ host)) up) = all_more (ledger (before ++ host)) up in
+    let asks : IsAsked (ledger (before ++ disk)).moving = asked_more plan sectors size [] (before ++ disk) run first_asked in
+    let whole : (ledger (before ++ disk)).reads ≡ (ledger (before ++ host)).reads ++ m.more =
+    sym (reads_down (ledger (before ++ disk)) down asks) ∙ sym (ap (λ (l : Ledger). l.reads) agree.same) ∙ m.is in
+    subst (λ (xs : List ReadOut). slice_get xs at ≡ Some r) (sym whole) (front_get (ledger (before ++ host)).reads m.more at r is)

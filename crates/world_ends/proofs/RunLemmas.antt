@@ -26,27 +26,20 @@ use Rattle.pm_world.proofs.Steps.{AtBoth, AtDevice, at_both, at_device}
 use Rattle.world_ends.specs.Wired.{AreAmong, AreFine, GoesOn, IsSteady, IsThere, IsAway, IsUnremoved, IsWired, PluggedIsLinked, RunsStayLinked}
 use Rattle.world_ends.specs.Wired.{StaysWired, befalls, descending, injects, unplugs}
 use Rattle.world_ends.proofs.KeptLemmas.{came_unremoved, unremoved}
-use Rattle.world_ends.proofs.WiredLemmas.{away_after, disks_stay_linked, rests_below}
+use Rattle.world_ends.proofs.PlaceLemmas.{KeepsPlace, keeps_down, keeps_from_device, keeps_inject, keeps_presence, keeps_send, keeps_take}
+use Rattle.world_ends.proofs.WiredLemmas.{away_after, disks_stay_linked, none_on, rests_below}
 
 -- ## The unit stays there
 
--- a place that is written over keeps that it is plugged in, and its connection
-pub record KeepsPlace (old new : Place) : Type 0 where
-  pub plugged : new.plugged ≡ old.plugged
-  pub conn : new.conn ≡ old.conn
-
-same_place : (old new : Place) → new ≡ old → KeepsPlace old new
-same_place old new is = record { plugged = ap (λ (p : Place). p.plugged) is; conn = ap (λ (p : Place). p.conn) is }
-
-abbrev IsPlugged : ℕ → Option Place → Type 0
+abbrev pub IsPlugged : ℕ → Option Place → Type 0
 IsPlugged c o = MatchOption o ⊥ (λ place. (place.plugged ≡ true) × (place.conn ≡ c))
 
 -- where there is a unit it is this
-record IsPlace (c : ℕ) (o : Option Place) (place : Place) : Type 0 where
-  plugged : place.plugged ≡ true
-  conn : place.conn ≡ c
+pub record IsPlace (c : ℕ) (o : Option Place) (place : Place) : Type 0 where
+  pub plugged : place.plugged ≡ true
+  pub conn : place.conn ≡ c
 
-place_of : (c : ℕ) (o : Option Place) (place : Place) → o ≡ Some place → IsPlugged c o → IsPlace c o place
+pub place_of : (c : ℕ) (o : Option Place) (place : Place) → o ≡ Some place → IsPlugged c o → IsPlace c o place
 place_of c None place is there = absurd there
 place_of c (Some p) place is there =
     let same : p ≡ place = cc is in
@@ -65,68 +58,6 @@ written_there n c m devices place after is keeps there = elim (cases_eq n m) [
       )
   | inr other ↦ subst (IsPlugged c) (sym (slice_get-set_other devices m n after other)) there
 ]
-
-pub keeps_send : (m : ℕ) (old : Place) (a : Answer) (new : Place) → DiskSendActs m old a new → KeepsPlace old new
-keeps_send m old answer.Idle new acts = same_place old new acts.1
-keeps_send m old answer.Blocked new acts = same_place old new acts.2
-keeps_send m old
-    (answer.Sent p conn number bytes) new acts = let is : new ≡ after_sending m old bytes new.unit = acts.5 in record {
-      plugged = ap
-          (λ (p : Place). p.plugged) is;
-      conn = ap (λ (p : Place). p.conn) is;
-    }
-keeps_send m old _ new acts = absurd acts
-
-pub keeps_inject : (m : ℕ) (given : List ℕ) (old : Place) (a : Answer) (new : Place) → InjectActs m given old a new → KeepsPlace old new
-keeps_inject m given old answer.Blocked new acts = same_place old new acts.1
-keeps_inject m given old
-    (answer.Sent p conn number bytes) new acts = let is : new ≡ after_sending m old given old.unit = acts.5 in record {
-      plugged = ap
-          (λ (p : Place). p.plugged) is;
-      conn = ap (λ (p : Place). p.conn) is;
-    }
-keeps_inject m given old _ new acts = absurd acts
-
-pub keeps_take : (m : ℕ) (old : Place) (a : Answer) (new : Place) → DiskTakeActs m old a new → KeepsPlace old new
-keeps_take m old answer.Idle new acts = same_place old new acts.1
-keeps_take m old
-    (answer.DiskTook p dropped) new acts = let is = acts.2 in record {
-      plugged = ap (λ (p : Place). p.plugged) is;
-      conn = ap
-          (λ (p : Place). p.conn) is;
-    }
-keeps_take m old _ new acts = absurd acts
-
-pub keeps_presence : (m : ℕ) (old : Place) (pm : PmState) (a : Answer) (new : Place) (after : PmState) → PmPresenceRule m old pm (Ok a) new after
-    → KeepsPlace old new
-keeps_presence m old pm answer.Idle new after rule = same_place old new rule.1
-keeps_presence m old pm
-    (answer.Presence p) new after rule = let is = rule.1 in record {
-      plugged = ap (λ (p : Place). p.plugged) is;
-      conn = ap
-          (λ (p : Place). p.conn) is;
-    }
-keeps_presence m old pm _ new after rule = absurd rule
-
-pub keeps_from_device : (m : ℕ) (old : Place) (pm : PmState) (a : Answer) (new : Place) (after : PmState) → PmFromDeviceRule m old pm (Ok a) new after
-    → KeepsPlace old new
-keeps_from_device m old pm answer.Idle new after rule = same_place old new rule.1
-keeps_from_device m old pm answer.Blocked new after rule = same_place old new rule.2
-keeps_from_device m old pm
-    (answer.Offered p dropped) new after rule = let is = rule.1 in record {
-      plugged = ap (λ (p : Place). p.plugged) is;
-      conn = ap
-          (λ (p : Place). p.conn) is;
-    }
-keeps_from_device m old pm _ new after rule = absurd rule
-
-pub keeps_down : (m : ℕ) (old : Place) (pm : PmState) (a : Answer) (new : Place) (after : PmState) → PmDownRule m old pm (Ok a) new after
-    → KeepsPlace old new
-keeps_down m old pm answer.Idle new after rule = same_place old new rule.2
-keeps_down m old pm answer.Blocked new after rule = same_place old new rule.1
-keeps_down m old pm
-    (answer.Down p) new after rule = let is = rule.2.2 in record { plugged = ap (λ (p : Place). p.plugged) is; conn = ap (λ (p : Place). p.conn) is }
-keeps_down m old pm _ new after rule = absurd rule
 
 -- a unit that is plugged in does not come
 refuses_plugged : (place : Place) (b : Bool) → place.plugged ≡ b → came_refusal place ≡ None → b ≡ false
@@ -431,7 +362,9 @@ plugged_is_linked n c old new device orderly rule empty below config units fits 
         above = (still c).1 (unremoved n c new kept);
         alone = λ k other. still k;
         kept = kept;
+        only = subst (λ (o : Option Place). MatchOption o (Prim.Unit {0}) (λ place. place.plugged ≡ true → place.conn ≡ c)) (sym here)
+            (λ there. ap (λ (p : Place). p.conn) after_is ∙ sym acts.1);
         below = subst
-            (λ (xs : List (List ℕ)). AreAmong xs []) (sym low) tt;
+            (λ (xs : List (List ℕ)). AreAmong xs []) (sym (none_on n c new low)) tt;
       },
     )

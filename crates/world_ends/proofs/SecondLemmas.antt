@@ -1,4 +1,4 @@
--- From its first FIS on the host serves a disk honestly, and both ends of its link stay linked.
+-- From the first FIS of a connection on the host serves a disk honestly, and both ends of its link stay linked.
 use Rattle.std.proofs.Common.{◌≡◌, ◌≢◌, ◌==◌, eqb, ℕ, ◌<◌, Bool, true, false, List, [], ◌∷◌, ◌++◌, append_assoc, drop, length, map, refl, sym, ap, subst, ◌∙◌}
 use Rattle.std.proofs.Common.{Ok, arith}
 use Rattle.std.specs.Prelude.{MatchBool}
@@ -12,9 +12,8 @@ use Rattle.hba_fbs.specs.declared.report.TakeReport.{TakeReport}
 use Rattle.hba_fbs.specs.Taking.{port_of}
 use Rattle.multiplier.specs.Arbiter.{control_port}
 use Rattle.disk_model.specs.declared.plan.DiskPlan.{DiskPlan}
-use Rattle.disk_model.specs.Ends.{IsRight}
 use Rattle.disk_model.specs.Histories.{Happening, Plugged, Received, Sent}
-use Rattle.disk_model.specs.Ledger.{IsSize, ledger}
+use Rattle.disk_model.specs.Ledger.{IsSize}
 use Rattle.disk_model.specs.Disks.{Moment, opening}
 use Rattle.disk_model.specs.Disks as disks
 use Rattle.disk_model.specs.Runs.{IsDiskRun}
@@ -22,12 +21,11 @@ use Rattle.disk_model.specs.Runs as runs
 use Rattle.hba_laws.specs.Client.{own}
 use Rattle.hba_driver.specs.Events.{shared_by}
 use Rattle.hba_driver.specs.HostTurns.{HostTurn, Tooks}
+use Rattle.disk_ends.specs.Anew.{IsNextRight}
 use Rattle.disk_ends.specs.Heard.{IsTakenWell}
 use Rattle.disk_ends.specs.Hosted.{IsKept}
-use Rattle.disk_ends.specs.Joined.{IsShort}
-use Rattle.disk_ends.proofs.HonestLemmas.{next_right}
 use Rattle.disk_ends.proofs.HostedLemmas.{hosted_is_kept}
-use Rattle.disk_ends.proofs.SizeLemmas.{next_short}
+use Rattle.disk_ends.proofs.LaterJoins.{next_later}
 use Rattle.pm_world.specs.Laws.{happens}
 use Rattle.pm_world.specs.Places.{IsOrderly, Places}
 use Rattle.pm_world.specs.Rules.{Rule, Run}
@@ -59,11 +57,12 @@ disk_front plan sectors xs ys run = front_runs plan sectors (opening sectors) xs
 
 -- ## The host at a step
 
-module _ (law : DriversServe) (n len : ℕ) (below : n < 15) (right : is_memory_size len ≡ true) (plan : DiskPlan) (sectors : ℕ) (size : IsSize plan sectors) where
+module _ (law : DriversServe) (n len : ℕ) (below : n < 15) (right : is_memory_size len ≡ true) (plan : DiskPlan) (sectors : ℕ) (size : IsSize plan sectors)
+    (c : ℕ) (before : List Happening) where
   device : n ≢ control_port
   device e = absurd (omega (arith, e, below))
 
-  module _ (turns : List HostTurn) (old : Places) (s : Step) (new : Places) (happened given : List Happening) (run : IsDiskRun plan sectors happened)
+  module _ (turns : List HostTurn) (old : Places) (s : Step) (new : Places) (happened given : List Happening) (run : IsDiskRun plan sectors (before ++ happened))
       (h : HostOn n len turns old.host given) where
     -- a FIS of the disk
     own_taken : (port conn number : ℕ) (bytes : List ℕ) (report : TakeReport) (plain : List ℕ) → Rule old s (Ok (answer.Took port conn number bytes report)) new
@@ -72,8 +71,7 @@ module _ (law : DriversServe) (n len : ℕ) (below : n < 15) (right : is_memory_
     own_taken port conn number bytes report plain rule at_port well marks next =
         let kept : IsKept n (shared_by old.host) given h.commands (own n h.touches) =
         hosted_is_kept n (shared_by old.host) given h.commands (own n h.touches) below h.serves.hosted in
-        let is_right : IsRight (ledger given) (seen plain) = next_right plan sectors happened given next.down next.up plain size run next.linked kept.careful in
-        let short : IsShort (seen plain) = next_short plan sectors happened given next.down next.up plain size run next.linked in
+        let comes : IsNextRight given plain = next_later plan sectors before happened given next.down next.up plain size run next.linked kept.careful in
         let tooks : Tooks old.host bytes report new.host = host_takes old new s port conn number bytes report rule in
         let taken : IsTakenWell (shared_by old.host) bytes report (shared_by new.host) =
         record {
@@ -90,7 +88,7 @@ module _ (law : DriversServe) (n len : ℕ) (below : n < 15) (right : is_memory_
         subst (λ (b : List ℕ). Rule old s (Ok (answer.Took port conn number b report)) new) marks rule in
         subst (λ (b : List ℕ). HostOn n len (turns ++ turn_of old s (answer.Took port conn number b report) new) new.host (given ++ Sent plain ∷ [])) (sym marks)
         (step_takes law n len below right turns old s new given h port conn number plain report ruled (plain_frame plain n framed)
-        (ap port_of (sym marks) ∙ at_port) its is_right short)
+        (ap port_of (sym marks) ∙ at_port) its comes.right comes.short)
 
     keeps : (a : Answer) (heard : List Happening) → heard ≡ [] → HostOn n len (turns ++ turn_of old s a new) new.host given
         → HostOn n len (turns ++ turn_of old s a new) new.host (given ++ heard)
@@ -133,8 +131,8 @@ module _ (law : DriversServe) (n len : ℕ) (below : n < 15) (right : is_memory_
   pub record IsTended (now : Places) (happened heard : List Happening) (turns : List HostTurn) : Type 0 where
     pub orderly : IsOrderly now
     pub risen : AllRisen now.multiplier now.upward.frames
-    pub there : IsThere n 1 now
-    pub wired : IsWired n 1 now happened (Plugged ∷ heard)
+    pub there : IsThere n c now
+    pub wired : IsWired n c now happened (Plugged ∷ heard)
     pub host : HostOn n len turns now.host (Plugged ∷ heard)
 
   pub record SecondRun (old : Places) (steps : List Step) (answers : List Answer) (new : Places) (run : Run old steps answers new)
@@ -146,7 +144,7 @@ module _ (law : DriversServe) (n len : ℕ) (below : n < 15) (right : is_memory_
   pub second_run : (old : Places) (steps : List Step) (answers : List Answer) (new : Places) (run : Run old steps answers new)
       (happened heard : List Happening) (turns : List HostTurn) → IsTended old happened heard turns → IsLeftAlone n steps
       → AtEach (GoesWell n) old steps answers new run → AreFine (over (happens n) old steps answers new run)
-      → IsDiskRun plan sectors (happened ++ over (happens n) old steps answers new run) → SecondRun old steps answers new run happened heard turns
+      → IsDiskRun plan sectors (before ++ (happened ++ over (happens n) old steps answers new run)) → SecondRun old steps answers new run happened heard turns
   second_run old [] [] new run happened heard turns t alone well fine disk = record {
     more = [];
     is = refl;
@@ -162,19 +160,21 @@ module _ (law : DriversServe) (n len : ℕ) (below : n < 15) (right : is_memory_
       let i = or_parts (injects n s) (list_any (injects n) steps) alone.clean in
       let p = or_parts (unplugs n s) (list_any (unplugs n) steps) alone.stays in
       let f = fine_front (happens n old s a run.0) (over (happens n) run.0 steps answers new run.2) fine in
-      let k : IsKnown n 1 old s a run.0 = known n 1 old s a run.0 t.there p.0 i.0 run.1 f.0 in
-      let c : ComesRisen a run.0 = comes_risen old s a run.0 t.risen run.1 in
-      let g : GoesOn n 1 old a run.0 happened (Plugged ∷ heard) =
-      disks_stay_linked n 1 old run.0 s a happened (Plugged ∷ heard) device t.orderly run.1 k.steady t.wired in
-      let now : IsDiskRun plan sectors happened = disk_front plan sectors happened (happens n old s a run.0 ++ over (happens n) run.0 steps answers new run.2) disk in
+      let k : IsKnown n c old s a run.0 = known n c old s a run.0 t.there p.0 i.0 run.1 f.0 in
+      let r : ComesRisen a run.0 = comes_risen old s a run.0 t.risen run.1 in
+      let g : GoesOn n c old a run.0 happened (Plugged ∷ heard) =
+      disks_stay_linked n c old run.0 s a happened (Plugged ∷ heard) device t.orderly run.1 k.steady t.wired in
+      let now : IsDiskRun plan sectors (before ++ happened) =
+      disk_front plan sectors (before ++ happened) (happens n old s a run.0 ++ over (happens n) run.0 steps answers new run.2)
+      (subst (IsDiskRun plan sectors) (sym (append_assoc before happened (happens n old s a run.0 ++ over (happens n) run.0 steps answers new run.2))) disk) in
       let host : HostOn n len (turns ++ turn_of old s a run.0) run.0.host (Plugged ∷ (heard ++ g.heard)) =
-      second_step turns old s run.0 happened (Plugged ∷ heard) now t.host a g.heard g.is g.next run.1 c.own_port well.0 in
+      second_step turns old s run.0 happened (Plugged ∷ heard) now t.host a g.heard g.is g.next run.1 r.own_port well.0 in
       let mid : IsTended run.0 (happened ++ happens n old s a run.0) (heard ++ g.heard) (turns ++ turn_of old s a run.0) =
       record {
         orderly = orderly_after old s a run.0 t.orderly run.1;
-        risen = c.risen;
-        there = there_after n 1 old a run.0 t.there s p.0 run.1;
-        wired = subst (λ (xs : List Happening). IsWired n 1 run.0 (happened ++ xs) (Plugged ∷ (heard ++ g.heard))) k.same g.wired;
+        risen = r.risen;
+        there = there_after n c old a run.0 t.there s p.0 run.1;
+        wired = subst (λ (xs : List Happening). IsWired n c run.0 (happened ++ xs) (Plugged ∷ (heard ++ g.heard))) k.same g.wired;
         host = host;
       } in
       let whole : happened ++ (happens n old s a run.0 ++ over (happens n) run.0 steps answers new run.2)
@@ -182,7 +182,7 @@ module _ (law : DriversServe) (n len : ℕ) (below : n < 15) (right : is_memory_
       sym (append_assoc happened (happens n old s a run.0) (over (happens n) run.0 steps answers new run.2)) in
       let rest : SecondRun run.0 steps answers new run.2 (happened ++ happens n old s a run.0) (heard ++ g.heard) (turns ++ turn_of old s a run.0) =
       second_run run.0 steps answers new run.2 (happened ++ happens n old s a run.0) (heard ++ g.heard) (turns ++ turn_of old s a run.0) mid
-      (record { clean = i.1; stays = p.1 }) well.1 f.1 (subst (IsDiskRun plan sectors) whole disk) in
+      (record { clean = i.1; stays = p.1 }) well.1 f.1 (subst (λ (xs : List Happening). IsDiskRun plan sectors (before ++ xs)) whole disk) in
       record {
         more = g.heard ++ rest.more;
         is = (g.heard, rest.more, refl, g.is, rest.is);

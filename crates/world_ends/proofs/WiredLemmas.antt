@@ -4,7 +4,9 @@ use Rattle.std.proofs.Common.{ap, subst, ◌∙◌, inl, inr, Option, Some, None
 use Rattle.std.specs.Prelude.{if◌then◌else◌, option_to_list, slice_get, take, MatchBool, MatchOption}
 use Rattle.std.specs.List.{flat_map}
 use Rattle.std.proofs.lemmas.Bool.{cases_Bool, cases_eq, eq-eqb, ne_eqb, true≢false}
+use Rattle.std.specs.Prelude.{filter}
 use Rattle.std.proofs.lemmas.List.{append-nil, map-append}
+use Rattle.std.proofs.lemmas.List.Elements.{filter-append}
 use Rattle.fis_view.specs.Frames.{Stamped, marked}
 use Rattle.hba_fbs.specs.declared.report.TakeReport.{TakeReport}
 use Rattle.multiplier.specs.Arbiter.{control_port}
@@ -14,7 +16,7 @@ use Rattle.multiplier.specs.State.{PmState, falling, passes_to, pm_port, port_at
 use Rattle.multiplier.specs.declared.multiplier.Passed.TheVariants as passed
 use Rattle.disk_model.specs.Ends.{IsLinked, comes, gives, sends, takes}
 use Rattle.disk_model.specs.Histories.{Happening, Plugged, Received, Sent}
-use Rattle.pm_world.specs.Downward.{falling_to, on_down_link}
+use Rattle.pm_world.specs.Downward.{falling_to, of_connection, on_down_link}
 use Rattle.pm_world.specs.Places.{IsOrderly, Places}
 use Rattle.pm_world.specs.Rules.{Rule}
 use Rattle.pm_world.specs.Traffic.{NothingLost, all_marked, is_removed, on_host_link, sent_by, taken_by, transit}
@@ -28,9 +30,10 @@ use Rattle.pm_world.proofs.Orderly.{removed_after}
 use Rattle.pm_world.proofs.Lists.{all_marked-append}
 use Rattle.pm_world.proofs.Steps.{at_both, at_device}
 use Rattle.pm_world.specs.Rules.{CameRule, DiskSendRule, DiskTakeRule, GoneRule, InjectRule, PmDownRule, PmFromDeviceRule, PmPresenceRule}
-use Rattle.world_ends.specs.Wired.{AreAmong, DisksStayLinked, GoesOn, IsAtHost, IsAway, IsNext, IsSteady, IsUnremoved, IsWired, befalls, descending}
+use Rattle.world_ends.specs.Wired.{AreAmong, DisksStayLinked, GoesOn, IsAtHost, IsAway, IsNext, IsSteady, IsOnly, IsUnremoved, IsWired, befalls, descending, descending_on}
 use Rattle.world_ends.specs.Wired.{for_port}
 use Rattle.world_ends.proofs.KeptLemmas.{steady_unremoved, unremoved}
+use Rattle.world_ends.proofs.PlaceLemmas.{only_after, takes_own}
 
 -- ## Some of a list
 
@@ -98,25 +101,25 @@ pub none_both : (xs ys : List (List ℕ)) → xs ++ ys ≡ [] → (xs ≡ []) ×
 none_both [] ys e = (refl, e)
 none_both (x ∷ xs) ys e = cc e
 
-if_true : (b : Bool) (xs : List (List ℕ)) → b ≡ true → (if b then xs else []) ≡ xs
+pub if_true : (b : Bool) (xs : List (List ℕ)) → b ≡ true → (if b then xs else []) ≡ xs
 if_true true xs e = refl
 if_true false xs e = cc e
 
-if_false : (b : Bool) (xs : List (List ℕ)) → b ≡ false → (if b then xs else []) ≡ []
+pub if_false : (b : Bool) (xs : List (List ℕ)) → b ≡ false → (if b then xs else []) ≡ []
 if_false true xs e = cc e
 if_false false xs e = refl
 
-and_false : (a b : Bool) → (a ≡ true → b ≡ false) → (a && b) ≡ false
+pub and_false : (a b : Bool) → (a ≡ true → b ≡ false) → (a && b) ≡ false
 and_false true b e = e refl
 and_false false b e = refl
 
-and_both : (a b : Bool) → a ≡ true → b ≡ true → (a && b) ≡ true
+pub and_both : (a b : Bool) → a ≡ true → b ≡ true → (a && b) ≡ true
 and_both true true e f = refl
 and_both true false e f = cc f
 and_both false b e f = cc e
 
 -- nothing is sent on another connection
-unsent_other : (n c d : ℕ) (a : Answer) → IsSteady n c a → d ≢ c → sent_by n d a ≡ []
+pub unsent_other : (n c d : ℕ) (a : Answer) → IsSteady n c a → d ≢ c → sent_by n d a ≡ []
 unsent_other n c d (answer.Sent port conn number bytes) steady other =
     if_false (port == n && conn == d) (bytes ∷ []) (and_false (port == n) (conn == d) (λ here. ne_eqb conn d (λ e. other (sym e ∙ (steady here).0))))
 unsent_other n c d _ steady other = refl
@@ -171,6 +174,45 @@ rests_below n old new r =
     ap (λ (xs : List Stamped). map (λ f. f.bytes) xs ++ flat_map (for_port n) new.downward.frames) (r.falls n)
     ∙ ap (λ (xs : List Stamped). map (λ f. f.bytes) (falling_to n old) ++ flat_map (for_port n) xs) r.link
 
+-- the bytes of what falls on connection c
+abbrev pub falls_on : ℕ → List Stamped → List (List ℕ)
+falls_on c xs = map (λ g. g.bytes) (of_connection c xs)
+
+pub rests_on : (n c : ℕ) (old new : Places) → Rests old new → descending_on n c new ≡ descending_on n c old
+rests_on n c old new r =
+    ap (λ (xs : List Stamped). falls_on c xs ++ flat_map (for_port n) new.downward.frames) (r.falls n)
+    ∙ ap (λ (xs : List Stamped). falls_on c (falling_to n old) ++ flat_map (for_port n) xs) r.link
+
+-- of nothing that descends nothing is on a connection
+no_falls : (c : ℕ) (xs : List Stamped) → map (λ g. g.bytes) xs ≡ [] → falls_on c xs ≡ []
+no_falls c [] e = refl
+no_falls c (x ∷ xs) e = cc e
+
+pub none_on : (n c : ℕ) (now : Places) → descending n now ≡ [] → descending_on n c now ≡ []
+none_on n c now e =
+    let both = none_both (map (λ g. g.bytes) (falling_to n now)) (flat_map (for_port n) now.downward.frames) e in
+    ap (λ (xs : List (List ℕ)). xs ++ flat_map (for_port n) now.downward.frames) (no_falls c (falling_to n now) both.0) ∙ both.1
+
+-- what falls on a connection, of two lists and of one frame
+falls_both : (c : ℕ) (xs ys : List Stamped) → falls_on c (xs ++ ys) ≡ falls_on c xs ++ falls_on c ys
+falls_both c xs ys =
+    ap (λ (l : List Stamped). map (λ g. g.bytes) l) (filter-append (λ (g : Stamped). g.stamp.conn == c) xs ys)
+    ∙ map-append (λ (g : Stamped). g.bytes) (of_connection c xs) (of_connection c ys)
+
+falls_first : (c : ℕ) (f : Stamped) (xs : List Stamped) → (f.stamp.conn == c) ≡ true → falls_on c (f ∷ xs) ≡ f.bytes ∷ falls_on c xs
+falls_first c f xs is = by_test (f.stamp.conn == c) is
+  where
+    by_test : (b : Bool) → b ≡ true → map (λ (g : Stamped). g.bytes) (if b then f ∷ of_connection c xs else of_connection c xs) ≡ f.bytes ∷ falls_on c xs
+    by_test true e = refl
+    by_test false e = cc e
+
+pub falls_other : (c : ℕ) (f : Stamped) (xs : List Stamped) → (f.stamp.conn == c) ≡ false → falls_on c (f ∷ xs) ≡ falls_on c xs
+falls_other c f xs is = by_test (f.stamp.conn == c) is
+  where
+    by_test : (b : Bool) → b ≡ false → map (λ (g : Stamped). g.bytes) (if b then f ∷ of_connection c xs else of_connection c xs) ≡ falls_on c xs
+    by_test true e = cc e
+    by_test false e = refl
+
 flat_more : (n : ℕ) (xs : List Stamped) (f : Stamped) → flat_map (for_port n) (xs ++ f ∷ []) ≡ flat_map (for_port n) xs ++ for_port n f
 flat_more n [] f = append-nil (for_port n f)
 flat_more n (x ∷ xs) f =
@@ -179,14 +221,15 @@ flat_more n (x ∷ xs) f =
 -- ## Where nothing happens at either end
 
 wired_same : (n c : ℕ) (old new : Places) (disk given : List Happening) → transit n c new ≡ transit n c old → ((d : ℕ) → d ≢ c → IsAway n d new)
-    → IsUnremoved n c new → descending n new ≡ descending n old → IsWired n c old disk given → IsWired n c new disk given
-wired_same n c old new disk given above alone kept below w = record {
+    → IsUnremoved n c new → IsOnly n c new → descending_on n c new ≡ descending_on n c old → IsWired n c old disk given → IsWired n c new disk given
+wired_same n c old new disk given above alone kept only below w = record {
   down = w.down;
   up = w.up;
   linked = w.linked;
   above = above ∙ w.above;
   alone = alone;
   kept = kept;
+  only = only;
   below = subst (λ (xs : List (List ℕ)). AreAmong xs w.down) (sym below) w.below;
 }
 
@@ -215,11 +258,14 @@ module _ (n c : ℕ) (old new : Places) (s : Step) (disk given : List Happening)
   there_after : (a : Answer) → Rule old s (Ok a) new → IsSteady n c a → is_removed n c new ≡ false
   there_after a rule steady = unremoved n c new (kept_after a rule steady)
 
-  nothing : (a : Answer) → Rule old s (Ok a) new → IsSteady n c a → taken_by n c a ≡ [] → sent_by n c a ≡ [] → descending n new ≡ descending n old
+  its_only : (a : Answer) → Rule old s (Ok a) new → IsSteady n c a → IsOnly n c new
+  its_only a rule steady = only_after n c old a new w.only steady s rule
+
+  nothing : (a : Answer) → Rule old s (Ok a) new → IsSteady n c a → taken_by n c a ≡ [] → sent_by n c a ≡ [] → descending_on n c new ≡ descending_on n c old
       → IsWired n c new disk given
   nothing a rule steady untaken unsent below =
       wired_same n c old new disk given (still_above n c old new s a device orderly rule untaken unsent (there_after a rule steady))
-      (alone_after a rule steady) (kept_after a rule steady) below w
+      (alone_after a rule steady) (kept_after a rule steady) (its_only a rule steady) below w
 
   -- ---- a FIS is sent
 
@@ -241,9 +287,10 @@ module _ (n c : ℕ) (old new : Places) (s : Step) (disk given : List Happening)
             ∙ sym (all_marked-append n w.up (bytes ∷ []));
         alone = alone_after (answer.Sent port conn number bytes) rule steady;
         kept = kept_after (answer.Sent port conn number bytes) rule steady;
+        only = its_only (answer.Sent port conn number bytes) rule steady;
         below =
             subst (λ (xs : List (List ℕ)). AreAmong xs w.down)
-            (sym (rests_below n old new (rule_moves_down old s (answer.Sent port conn number bytes) new orderly rule))) w.below;
+            (sym (rests_on n c old new (rule_moves_down old s (answer.Sent port conn number bytes) new orderly rule))) w.below;
       }
 
   sent_by_case : (port conn number : ℕ) (bytes : List ℕ) (b : Bool) → eqb port n ≡ b → Rule old s (Ok (answer.Sent port conn number bytes)) new
@@ -255,7 +302,7 @@ module _ (n c : ℕ) (old new : Places) (s : Step) (disk given : List Happening)
       if_false (port == n && conn == c) (bytes ∷ []) (and_false (port == n) (conn == c) (λ here. absurd (true≢false (sym here ∙ other)))) in
       subst (λ (xs : List Happening). IsWired n c new xs given) (sym (append-nil disk))
       (nothing (answer.Sent port conn number bytes) rule steady refl is
-      (rests_below n old new (rule_moves_down old s (answer.Sent port conn number bytes) new orderly rule)))
+      (rests_on n c old new (rule_moves_down old s (answer.Sent port conn number bytes) new orderly rule)))
 
   -- ---- a FIS is taken by the host
 
@@ -266,9 +313,9 @@ module _ (n c : ℕ) (old new : Places) (s : Step) (disk given : List Happening)
     wired : IsWired n c new disk_now (given ++ Sent plain ∷ [])
 
   first_of : (bytes : List ℕ) (rest : List (List ℕ)) (up : List (List ℕ)) → w.up ≡ up → bytes ∷ rest ≡ all_marked n up → transit n c new ≡ rest
-      → ((d : ℕ) → d ≢ c → IsAway n d new) → IsUnremoved n c new → descending n new ≡ descending n old → Comes bytes disk
-  first_of bytes rest [] is same left alone kept below = cc same
-  first_of bytes rest (u ∷ up) is same left alone kept below =
+      → ((d : ℕ) → d ≢ c → IsAway n d new) → IsUnremoved n c new → IsOnly n c new → descending_on n c new ≡ descending_on n c old → Comes bytes disk
+  first_of bytes rest [] is same left alone kept only below = cc same
+  first_of bytes rest (u ∷ up) is same left alone kept only below =
       let linked : IsLinked disk given w.down (u ∷ up) = subst (IsLinked disk given w.down) is w.linked in
       let first : bytes ≡ marked u n = cc same in
       let others : rest ≡ all_marked n up = cc same in
@@ -283,6 +330,7 @@ module _ (n c : ℕ) (old new : Places) (s : Step) (disk given : List Happening)
           above = left ∙ others;
           alone = alone;
           kept = kept;
+          only = only;
           below = subst (λ (xs : List (List ℕ)). AreAmong xs w.down) (sym below) w.below;
         };
       }
@@ -302,8 +350,8 @@ module _ (n c : ℕ) (old new : Places) (s : Step) (disk given : List Happening)
             ∙ one_step n c old new s (answer.Took port conn number bytes report) device orderly rule
             (there_after (answer.Took port conn number bytes report) rule tt) ∙ append-nil (transit n c old) ∙ w.above in
             first_of bytes (transit n c new) w.up refl whole refl (alone_after (answer.Took port conn number bytes report) rule tt)
-            (kept_after (answer.Took port conn number bytes report) rule tt)
-            (rests_below n old new (rule_moves_down old s (answer.Took port conn number bytes report) new orderly rule))
+            (kept_after (answer.Took port conn number bytes report) rule tt) (its_only (answer.Took port conn number bytes report) rule tt)
+            (rests_on n c old new (rule_moves_down old s (answer.Took port conn number bytes report) new orderly rule))
         | inr other ↦
             let none =
             (none_other n c conn old new s (answer.Took port conn number bytes report) device orderly rule tt other (w.alone conn other)).0 in
@@ -335,7 +383,7 @@ module _ (n c : ℕ) (old new : Places) (s : Step) (disk given : List Happening)
         next = λ plain e. absurd (none_sent plain e);
         wired = subst (IsWired n c new disk) (sym (append-nil given))
             (nothing (answer.Took port conn number bytes report) rule tt none refl
-            (rests_below n old new (rule_moves_down old s (answer.Took port conn number bytes report) new orderly rule)));
+            (rests_on n c old new (rule_moves_down old s (answer.Took port conn number bytes report) new orderly rule)));
       }
 
   -- ---- a FIS goes down
@@ -347,13 +395,13 @@ module _ (n c : ℕ) (old new : Places) (s : Step) (disk given : List Happening)
       same : transit n c new ≡ transit n c old
       same = still_above n c old new s answer.Pushed device orderly rule refl refl (there_after answer.Pushed rule tt)
 
-      whole : (b : Bool) → eqb (pm_port f) n ≡ b → descending n new ≡ descending n old ++ (if b then marked f.bytes 0 ∷ [] else [])
+      whole : (b : Bool) → eqb (pm_port f) n ≡ b → descending_on n c new ≡ descending_on n c old ++ (if b then marked f.bytes 0 ∷ [] else [])
       whole b is =
-          ap (λ (xs : List Stamped). map (λ g. g.bytes) xs ++ flat_map (for_port n) new.downward.frames) (starts.falls n)
-          ∙ ap (λ (xs : List Stamped). map (λ g. g.bytes) (falling_to n old) ++ flat_map (for_port n) xs) starts.link
-          ∙ ap (λ (xs : List (List ℕ)). map (λ g. g.bytes) (falling_to n old) ++ xs) (flat_more n old.downward.frames f)
-          ∙ sym (append_assoc (map (λ g. g.bytes) (falling_to n old)) (flat_map (for_port n) old.downward.frames) (for_port n f))
-          ∙ ap (λ (x : Bool). descending n old ++ (if x then marked f.bytes 0 ∷ [] else [])) is
+          ap (λ (xs : List Stamped). falls_on c xs ++ flat_map (for_port n) new.downward.frames) (starts.falls n)
+          ∙ ap (λ (xs : List Stamped). falls_on c (falling_to n old) ++ flat_map (for_port n) xs) starts.link
+          ∙ ap (λ (xs : List (List ℕ)). falls_on c (falling_to n old) ++ xs) (flat_more n old.downward.frames f)
+          ∙ sym (append_assoc (falls_on c (falling_to n old)) (flat_map (for_port n) old.downward.frames) (for_port n f))
+          ∙ ap (λ (x : Bool). descending_on n c old ++ (if x then marked f.bytes 0 ∷ [] else [])) is
 
       by_port : (b : Bool) → eqb (pm_port f) n ≡ b
           → IsWired n c new disk (given ++ map (λ bytes. Received bytes) (if b then marked f.bytes 0 ∷ [] else []))
@@ -364,23 +412,24 @@ module _ (n c : ℕ) (old new : Places) (s : Step) (disk given : List Happening)
         above = same ∙ w.above;
         alone = alone_after answer.Pushed rule tt;
         kept = kept_after answer.Pushed rule tt;
+        only = its_only answer.Pushed rule tt;
         below =
             subst (λ (xs : List (List ℕ)). AreAmong xs (w.down ++ marked f.bytes 0 ∷ [])) (sym (whole true is))
-            (among_more (descending n old) w.down (marked f.bytes 0) w.below);
+            (among_more (descending_on n c old) w.down (marked f.bytes 0) w.below);
       }
       by_port false is =
           subst (IsWired n c new disk) (sym (append-nil given))
-          (nothing answer.Pushed rule tt refl refl (whole false is ∙ append-nil (descending n old)))
+          (nothing answer.Pushed rule tt refl refl (whole false is ∙ append-nil (descending_on n c old)))
 
   -- some of the host's frames goes to no device
   gone_case : (a : Answer) (f : Stamped) → Rule old s (Ok a) new → IsSteady n c a → taken_by n c a ≡ [] → sent_by n c a ≡ []
-      → old.downward.frames ≡ f ∷ new.downward.frames → falling_to n new ≡ falling_to n old → IsWired n c new disk given
+      → old.downward.frames ≡ f ∷ new.downward.frames → falls_on c (falling_to n new) ≡ falls_on c (falling_to n old) → IsWired n c new disk given
   gone_case a f rule steady untaken unsent link falls =
-      let split : descending n old ≡ (map (λ g. g.bytes) (falling_to n old) ++ for_port n f) ++ flat_map (for_port n) new.downward.frames =
-      ap (λ (xs : List Stamped). map (λ g. g.bytes) (falling_to n old) ++ flat_map (for_port n) xs) link
-      ∙ sym (append_assoc (map (λ g. g.bytes) (falling_to n old)) (for_port n f) (flat_map (for_port n) new.downward.frames)) in
-      let less : AreAmong (map (λ g. g.bytes) (falling_to n old) ++ flat_map (for_port n) new.downward.frames) w.down =
-      among_but (map (λ g. g.bytes) (falling_to n old)) (for_port n f) (flat_map (for_port n) new.downward.frames) w.down
+      let split : descending_on n c old ≡ (falls_on c (falling_to n old) ++ for_port n f) ++ flat_map (for_port n) new.downward.frames =
+      ap (λ (xs : List Stamped). falls_on c (falling_to n old) ++ flat_map (for_port n) xs) link
+      ∙ sym (append_assoc (falls_on c (falling_to n old)) (for_port n f) (flat_map (for_port n) new.downward.frames)) in
+      let less : AreAmong (falls_on c (falling_to n old) ++ flat_map (for_port n) new.downward.frames) w.down =
+      among_but (falls_on c (falling_to n old)) (for_port n f) (flat_map (for_port n) new.downward.frames) w.down
       (subst (λ (xs : List (List ℕ)). AreAmong xs w.down) split w.below) in
       record {
         down = w.down;
@@ -389,27 +438,45 @@ module _ (n c : ℕ) (old new : Places) (s : Step) (disk given : List Happening)
         above = still_above n c old new s a device orderly rule untaken unsent (there_after a rule steady) ∙ w.above;
         alone = alone_after a rule steady;
         kept = kept_after a rule steady;
-        below = subst (λ (xs : List Stamped). AreAmong (map (λ g. g.bytes) xs ++ flat_map (for_port n) new.downward.frames) w.down) (sym falls) less;
+        only = its_only a rule steady;
+        below = subst (λ (xs : List (List ℕ)). AreAmong (xs ++ flat_map (for_port n) new.downward.frames) w.down) (sym falls) less;
       }
 
-  -- one comes to wait at its port
+  -- one comes to wait at its port, for the connection that is present there
+  goes_here : (f : Stamped) → pm_port f ≡ n → Rule old s (Ok (answer.Passed (passed.Down n))) new → Goes n f old new → IsWired n c new disk given
+  goes_here f port rule goes = by_conn (goes.conn == c) refl
+    where
+      mine : for_port n f ≡ marked f.bytes 0 ∷ []
+      mine = if_true (pm_port f == n) (marked f.bytes 0 ∷ []) (eq-eqb (pm_port f) n port)
+
+      one : Stamped
+      one = falling goes.conn f
+
+      now_falls : falls_on c (falling_to n new) ≡ falls_on c (falling_to n old) ++ falls_on c (falling goes.conn f ∷ [])
+      now_falls = ap (falls_on c) goes.here ∙ falls_both c (falling_to n old) (falling goes.conn f ∷ [])
+
+      by_conn : (b : Bool) → (goes.conn == c) ≡ b → IsWired n c new disk given
+      by_conn true is =
+          let before : descending_on n c old ≡ falls_on c (falling_to n old) ++ (for_port n f ++ flat_map (for_port n) new.downward.frames) =
+          ap (λ (xs : List Stamped). falls_on c (falling_to n old) ++ flat_map (for_port n) xs) goes.link in
+          let after : descending_on n c new ≡ falls_on c (falling_to n old) ++ (for_port n f ++ flat_map (for_port n) new.downward.frames) =
+          ap (λ (xs : List (List ℕ)). xs ++ flat_map (for_port n) new.downward.frames)
+          (now_falls ∙ ap (λ (xs : List (List ℕ)). falls_on c (falling_to n old) ++ xs) (falls_first c (falling goes.conn f) [] is))
+          ∙ append_assoc (falls_on c (falling_to n old)) (marked f.bytes 0 ∷ []) (flat_map (for_port n) new.downward.frames)
+          ∙ ap (λ (xs : List (List ℕ)). falls_on c (falling_to n old) ++ (xs ++ flat_map (for_port n) new.downward.frames)) (sym mine) in
+          nothing (answer.Passed (passed.Down n)) rule tt refl refl (after ∙ sym before)
+      by_conn false is =
+          gone_case (answer.Passed (passed.Down n)) f rule tt refl refl goes.link
+          (now_falls ∙ ap (λ (xs : List (List ℕ)). falls_on c (falling_to n old) ++ xs) (falls_other c (falling goes.conn f) [] is)
+          ∙ append-nil (falls_on c (falling_to n old)))
+
   goes_case : (m : ℕ) (f : Stamped) → pm_port f ≡ m → Rule old s (Ok (answer.Passed (passed.Down m))) new → Goes m f old new
       → IsWired n c new disk given
   goes_case m f port rule goes = elim (cases_eq n m) [
     | inl same ↦
-        let mine : for_port n f ≡ marked f.bytes 0 ∷ [] = if_true (pm_port f == n) (marked f.bytes 0 ∷ []) (eq-eqb (pm_port f) n (port ∙ sym same)) in
-        let here : falling_to n new ≡ falling_to n old ++ falling goes.conn f ∷ [] =
-        subst (λ (k : ℕ). falling_to k new ≡ falling_to k old ++ falling goes.conn f ∷ []) (sym same) goes.here in
-        let before : descending n old ≡ map (λ g. g.bytes) (falling_to n old) ++ (for_port n f ++ flat_map (for_port n) new.downward.frames) =
-        ap (λ (xs : List Stamped). map (λ g. g.bytes) (falling_to n old) ++ flat_map (for_port n) xs) goes.link in
-        let after : descending n new ≡ map (λ g. g.bytes) (falling_to n old) ++ (for_port n f ++ flat_map (for_port n) new.downward.frames) =
-        ap (λ (xs : List Stamped). map (λ g. g.bytes) xs ++ flat_map (for_port n) new.downward.frames) here
-        ∙ ap (λ (xs : List (List ℕ)). xs ++ flat_map (for_port n) new.downward.frames)
-        (map-append (λ (g : Stamped). g.bytes) (falling_to n old) (falling goes.conn f ∷ []))
-        ∙ append_assoc (map (λ g. g.bytes) (falling_to n old)) (marked f.bytes 0 ∷ []) (flat_map (for_port n) new.downward.frames)
-        ∙ ap (λ (xs : List (List ℕ)). map (λ g. g.bytes) (falling_to n old) ++ (xs ++ flat_map (for_port n) new.downward.frames)) (sym mine) in
-        nothing (answer.Passed (passed.Down m)) rule tt refl refl (after ∙ sym before)
-    | inr other ↦ gone_case (answer.Passed (passed.Down m)) f rule tt refl refl goes.link (goes.elsewhere n other)
+        goes_here f (port ∙ sym same) (subst (λ (k : ℕ). Rule old s (Ok (answer.Passed (passed.Down k))) new) (sym same) rule)
+        (subst (λ (k : ℕ). Goes k f old new) (sym same) goes)
+    | inr other ↦ gone_case (answer.Passed (passed.Down m)) f rule tt refl refl goes.link (ap (falls_on c) (goes.elsewhere n other))
   ]
 
   -- ---- a removal is recorded
@@ -418,13 +485,12 @@ module _ (n c : ℕ) (old new : Places) (s : Step) (disk given : List Happening)
   loses_here : Rule old s (Ok (answer.Presence n)) new → Loses n old new → IsWired n c new disk given
   loses_here rule loses =
       let a : Answer = answer.Presence n in
-      let bytes : List Stamped → List (List ℕ) = λ (xs : List Stamped). map (λ g. g.bytes) xs in
       let lost : List Stamped = option_to_list (lost_from (port_at old.multiplier n).down (port_at new.multiplier n).down) in
       let link : List (List ℕ) = flat_map (for_port n) new.downward.frames in
-      let split : descending n old ≡ (bytes (falling_to n new) ++ bytes lost) ++ link =
-      ap (λ (xs : List Stamped). map (λ g. g.bytes) xs ++ flat_map (for_port n) old.downward.frames) (sym loses.here)
-      ∙ ap (λ (xs : List Stamped). map (λ g. g.bytes) (falling_to n new ++ lost) ++ flat_map (for_port n) xs) (sym loses.link)
-      ∙ ap (λ (xs : List (List ℕ)). xs ++ link) (map-append (λ (g : Stamped). g.bytes) (falling_to n new) lost) in
+      let split : descending_on n c old ≡ (falls_on c (falling_to n new) ++ falls_on c lost) ++ link =
+      ap (λ (xs : List Stamped). falls_on c xs ++ flat_map (for_port n) old.downward.frames) (sym loses.here)
+      ∙ ap (λ (xs : List Stamped). falls_on c (falling_to n new ++ lost) ++ flat_map (for_port n) xs) (sym loses.link)
+      ∙ ap (λ (xs : List (List ℕ)). xs ++ link) (falls_both c (falling_to n new) lost) in
       record {
         down = w.down;
         up = w.up;
@@ -432,7 +498,9 @@ module _ (n c : ℕ) (old new : Places) (s : Step) (disk given : List Happening)
         above = still_above n c old new s (answer.Presence n) device orderly rule refl refl (there_after (answer.Presence n) rule tt) ∙ w.above;
         alone = alone_after (answer.Presence n) rule tt;
         kept = kept_after (answer.Presence n) rule tt;
-        below = among_but (bytes (falling_to n new)) (bytes lost) link w.down (subst (λ (xs : List (List ℕ)). AreAmong xs w.down) split w.below);
+        only = its_only (answer.Presence n) rule tt;
+        below =
+            among_but (falls_on c (falling_to n new)) (falls_on c lost) link w.down (subst (λ (xs : List (List ℕ)). AreAmong xs w.down) split w.below);
       }
 
   loses_case : (m : ℕ) → Rule old s (Ok (answer.Presence m)) new → Loses m old new → IsWired n c new disk given
@@ -441,39 +509,44 @@ module _ (n c : ℕ) (old new : Places) (s : Step) (disk given : List Happening)
         loses_here (subst (λ (k : ℕ). Rule old s (Ok (answer.Presence k)) new) (sym same) rule) (subst (λ (k : ℕ). Loses k old new) (sym same) loses)
     | inr other ↦
         nothing (answer.Presence m) rule tt refl refl
-        (ap (λ (xs : List Stamped). map (λ g. g.bytes) xs ++ flat_map (for_port n) new.downward.frames) (loses.elsewhere n other)
-        ∙ ap (λ (xs : List Stamped). map (λ g. g.bytes) (falling_to n old) ++ flat_map (for_port n) xs) loses.link)
+        (ap (λ (xs : List Stamped). falls_on c xs ++ flat_map (for_port n) new.downward.frames) (loses.elsewhere n other)
+        ∙ ap (λ (xs : List Stamped). falls_on c (falling_to n old) ++ flat_map (for_port n) xs) loses.link)
   ]
 
   -- ---- the device takes a FIS
 
   lands_here : (f : Stamped) (dropped : Bool) → Rule old s (Ok (answer.DiskTook n dropped)) new → Lands n f old new
       → IsWired n c new (disk ++ (if dropped then [] else Received f.bytes ∷ [])) given
-  lands_here f dropped rule lands = by_drop dropped rule
+  lands_here f dropped rule lands = by_conn (f.stamp.conn == c) refl
     where
-      first : descending n old ≡ f.bytes ∷ (map (λ g. g.bytes) (falling_to n new) ++ flat_map (for_port n) new.downward.frames)
-      first =
-          ap (λ (xs : List Stamped). map (λ g. g.bytes) xs ++ flat_map (for_port n) old.downward.frames) lands.here
-          ∙ ap (λ (xs : List Stamped). f.bytes ∷ (map (λ g. g.bytes) (falling_to n new) ++ flat_map (for_port n) xs)) (sym lands.link)
+      before : descending_on n c old ≡ falls_on c (f ∷ falling_to n new) ++ flat_map (for_port n) new.downward.frames
+      before =
+          ap (λ (xs : List Stamped). falls_on c xs ++ flat_map (for_port n) old.downward.frames) lands.here
+          ∙ ap (λ (xs : List Stamped). falls_on c (f ∷ falling_to n new) ++ flat_map (for_port n) xs) (sym lands.link)
 
-      split : Splits f.bytes (descending n new) w.down
-      split = among_split f.bytes (descending n new) w.down (subst (λ (xs : List (List ℕ)). AreAmong xs w.down) first w.below)
+      first : (f.stamp.conn == c) ≡ true → descending_on n c old ≡ f.bytes ∷ descending_on n c new
+      first is = before ∙ ap (λ (xs : List (List ℕ)). xs ++ flat_map (for_port n) new.downward.frames) (falls_first c f (falling_to n new) is)
 
-      by_drop : (dropped : Bool) → Rule old s (Ok (answer.DiskTook n dropped)) new
+      split : (f.stamp.conn == c) ≡ true → Splits f.bytes (descending_on n c new) w.down
+      split is = among_split f.bytes (descending_on n c new) w.down (subst (λ (xs : List (List ℕ)). AreAmong xs w.down) (first is) w.below)
+
+      own : (f.stamp.conn == c) ≡ true → (dropped : Bool) → Rule old s (Ok (answer.DiskTook n dropped)) new
           → IsWired n c new (disk ++ (if dropped then [] else Received f.bytes ∷ [])) given
-      by_drop false rule = record {
-        down = split.before ++ split.after;
+      own is false rule = record {
+        down = (split is).before ++ (split is).after;
         up = w.up;
         linked =
-            comes disk given split.before split.after w.up f.bytes (subst (λ (xs : List (List ℕ)). IsLinked disk given xs w.up) split.is w.linked);
+            comes disk given (split is).before (split is).after w.up f.bytes
+            (subst (λ (xs : List (List ℕ)). IsLinked disk given xs w.up) (split is).is w.linked);
         above =
             still_above n c old new s (answer.DiskTook n false) device orderly rule refl refl (there_after (answer.DiskTook n false) rule tt)
             ∙ w.above;
         alone = alone_after (answer.DiskTook n false) rule tt;
         kept = kept_after (answer.DiskTook n false) rule tt;
-        below = split.rest;
+        only = its_only (answer.DiskTook n false) rule tt;
+        below = (split is).rest;
       }
-      by_drop true rule = subst (λ (xs : List Happening). IsWired n c new xs given) (sym (append-nil disk)) (record {
+      own is true rule = subst (λ (xs : List Happening). IsWired n c new xs given) (sym (append-nil disk)) (record {
         down = w.down;
         up = w.up;
         linked = w.linked;
@@ -482,15 +555,29 @@ module _ (n c : ℕ) (old new : Places) (s : Step) (disk given : List Happening)
             ∙ w.above;
         alone = alone_after (answer.DiskTook n true) rule tt;
         kept = kept_after (answer.DiskTook n true) rule tt;
-        below = among_without [] f.bytes (descending n new) w.down (subst (λ (xs : List (List ℕ)). AreAmong xs w.down) first w.below);
+        only = its_only (answer.DiskTook n true) rule tt;
+        below = among_without [] f.bytes (descending_on n c new) w.down (subst (λ (xs : List (List ℕ)). AreAmong xs w.down) (first is) w.below);
       })
+
+      -- what fell for another connection is dropped
+      stale : (f.stamp.conn == c) ≡ false → (dropped : Bool) → Rule old s (Ok (answer.DiskTook n dropped)) new
+          → IsWired n c new (disk ++ (if dropped then [] else Received f.bytes ∷ [])) given
+      stale is false rule = absurd (true≢false (sym (eq-eqb f.stamp.conn c (takes_own n c old new s f lands.rest w.only rule lands.first)) ∙ is))
+      stale is true rule =
+          subst (λ (xs : List Happening). IsWired n c new xs given) (sym (append-nil disk))
+          (nothing (answer.DiskTook n true) rule tt refl refl
+          (sym (before ∙ ap (λ (xs : List (List ℕ)). xs ++ flat_map (for_port n) new.downward.frames) (falls_other c f (falling_to n new) is))))
+
+      by_conn : (b : Bool) → (f.stamp.conn == c) ≡ b → IsWired n c new (disk ++ (if dropped then [] else Received f.bytes ∷ [])) given
+      by_conn true is = own is dropped rule
+      by_conn false is = stale is dropped rule
 
   lands_elsewhere : (m : ℕ) (f : Stamped) (dropped : Bool) → n ≢ m → Rule old s (Ok (answer.DiskTook m dropped)) new → Lands m f old new
       → IsWired n c new disk given
   lands_elsewhere m f dropped other rule lands =
       nothing (answer.DiskTook m dropped) rule tt refl refl
-      (ap (λ (xs : List Stamped). map (λ g. g.bytes) xs ++ flat_map (for_port n) new.downward.frames) (lands.elsewhere n other)
-      ∙ ap (λ (xs : List Stamped). map (λ g. g.bytes) (falling_to n old) ++ flat_map (for_port n) xs) lands.link)
+      (ap (λ (xs : List Stamped). falls_on c xs ++ flat_map (for_port n) new.downward.frames) (lands.elsewhere n other)
+      ∙ ap (λ (xs : List Stamped). falls_on c (falling_to n old) ++ flat_map (for_port n) xs) lands.link)
 
 -- ## To which port a frame is passed
 
@@ -626,7 +713,7 @@ pub disks_stay_linked : DisksStayLinked
 disks_stay_linked n c old new s (answer.Came port conn) disk given device orderly rule steady w =
     nothing_on n c old new (answer.Came port conn) disk given (if_none (port == n) (Plugged ∷ []) steady) refl
     (nothing n c old new s disk given device orderly w (answer.Came port conn) rule steady refl refl
-    (rests_below n old new (rule_moves_down old s (answer.Came port conn) new orderly rule)))
+    (rests_on n c old new (rule_moves_down old s (answer.Came port conn) new orderly rule)))
 disks_stay_linked n c old new s (answer.Presence m) disk given device orderly rule steady w =
     nothing_on n c old new (answer.Presence m) disk given refl refl
     (loses_case n c old new s disk given device orderly w m rule (rule_moves_down old s (answer.Presence m) new orderly rule))
@@ -648,12 +735,12 @@ disks_stay_linked n c old new s (answer.Passed passed.Control) disk given device
     let moves = rule_moves_down old s (answer.Passed passed.Control) new orderly rule in
     let ends : Ends moves.0 old new = moves.1 in
     nothing_on n c old new (answer.Passed passed.Control) disk given refl refl
-    (gone_case n c old new s disk given device orderly w (answer.Passed passed.Control) moves.0 rule tt refl refl ends.link (ends.falls n))
+    (gone_case n c old new s disk given device orderly w (answer.Passed passed.Control) moves.0 rule tt refl refl ends.link (ap (falls_on c) (ends.falls n)))
 disks_stay_linked n c old new s (answer.Passed passed.Dropped) disk given device orderly rule steady w =
     let moves = rule_moves_down old s (answer.Passed passed.Dropped) new orderly rule in
     let ends : Ends moves.0 old new = moves.1 in
     nothing_on n c old new (answer.Passed passed.Dropped) disk given refl refl
-    (gone_case n c old new s disk given device orderly w (answer.Passed passed.Dropped) moves.0 rule tt refl refl ends.link (ends.falls n))
+    (gone_case n c old new s disk given device orderly w (answer.Passed passed.Dropped) moves.0 rule tt refl refl ends.link (ap (falls_on c) (ends.falls n)))
 disks_stay_linked n c old new s (answer.Took port conn number bytes report) disk given device orderly rule steady w =
     let k = took_by_case n c old new s disk given device orderly w port conn number bytes report (port == n) refl rule in
     at_host n c old new (answer.Took port conn number bytes report) disk given k.heard refl k.is k.next k.wired
@@ -667,4 +754,4 @@ disks_stay_linked n c old new s answer.Pushed disk given device orderly rule ste
     (pushed_case n c old new s disk given device orderly w moves.0 (pm_port moves.0 == n) refl rule moves.1)
 disks_stay_linked n c old new s a disk given device orderly rule steady w =
     nothing_on n c old new a disk given refl refl
-    (nothing n c old new s disk given device orderly w a rule steady refl refl (rests_below n old new (rule_moves_down old s a new orderly rule)))
+    (nothing n c old new s disk given device orderly w a rule steady refl refl (rests_on n c old new (rule_moves_down old s a new orderly rule)))

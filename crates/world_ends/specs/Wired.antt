@@ -12,7 +12,7 @@ use Rattle.multiplier.specs.Arbiter.{control_port}
 use Rattle.multiplier.specs.State.{pm_port, port_at}
 use Rattle.disk_model.specs.Ends.{IsLinked, reports}
 use Rattle.disk_model.specs.Histories.{Happening, Plugged, Received, Sent}
-use Rattle.pm_world.specs.Downward.{falling_to, on_down_link}
+use Rattle.pm_world.specs.Downward.{falling_to, of_connection, on_down_link}
 use Rattle.pm_world.specs.Places.{IsOrderly, Places}
 use Rattle.pm_world.specs.Laws.{happens}
 use Rattle.pm_world.specs.Rules.{Rule, Run}
@@ -43,6 +43,12 @@ for_port n frame = if pm_port frame == n then marked frame.bytes 0 ∷ [] else [
 abbrev pub descending : ℕ → Places → List (List ℕ)
 descending n now =
     map (λ f. f.bytes) (falling_to n now) ++ flat_map (for_port n) now.downward.frames
+
+-- what of it the device may take on connection c: not what fell for another one, which it drops
+abbrev pub descending_on : (n c : ℕ) → Places → List (List ℕ)
+descending_on n c now =
+    map (λ f. f.bytes) (of_connection c (falling_to n now))
+    ++ flat_map (for_port n) now.downward.frames
 
 -- ---- what happens at the ends
 
@@ -91,9 +97,14 @@ IsAway n c now =
 
 -- ---- the law
 
+-- where a unit is plugged in at port n, it is as connection c
+abbrev pub IsOnly : (n c : ℕ) → Places → Type 0
+IsOnly n c now = MatchOption (slice_get now.devices n) (Unit {0})
+    (λ place. place.plugged ≡ true → place.conn ≡ c)
+
 -- The unit at port n was plugged in as connection c, and was not unplugged since. The first list
 -- happened to it since, the second at the host's end of its link, and what is between them is on
--- its way; what the multiplier dropped never comes.
+-- its way; what the multiplier or the device dropped never comes.
 pub record IsWired (n c : ℕ) (now : Places) (disk given : List Happening) : Type 0 where
   pub down : List (List ℕ)
   pub up : List (List ℕ)
@@ -101,7 +112,8 @@ pub record IsWired (n c : ℕ) (now : Places) (disk given : List Happening) : Ty
   pub above : transit n c now ≡ all_marked n up
   pub alone : (d : ℕ) → d ≢ c → IsAway n d now
   pub kept : IsUnremoved n c now
-  pub below : AreAmong (descending n now) down
+  pub only : IsOnly n c now
+  pub below : AreAmong (descending_on n c now) down
 
 -- The unit at port n is neither unplugged nor plugged in anew, and what it sends is on connection c
 -- and reports no error.

@@ -67,7 +67,7 @@ known_if false true c = refl
 known_if false false c = refl
 
 -- a frame is put on the host's link in the step for that
-push_step : (old : Places) (s : Step) (new : Places) → Rule old s (Ok answer.Pushed) new → s ≡ step.HostPush
+pub push_step : (old : Places) (s : Step) (new : Places) → Rule old s (Ok answer.Pushed) new → s ≡ step.HostPush
 push_step old (step.Came n) new rule = absurd ((at_device old n answer.Pushed new (CameRule n) rule).rule.1)
 push_step old (step.Gone n) new rule = absurd ((at_device old n answer.Pushed new (GoneRule n) rule).rule.1)
 push_step old (step.DiskSend n) new rule = absurd ((at_device old n answer.Pushed new (DiskSendRule n) rule).rule.1)

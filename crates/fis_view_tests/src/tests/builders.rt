@@ -75,67 +75,59 @@ fn all_built(alloc: Global) -> [Result<Frame, AllocError>; 6] {
     ]
 }
 
+/// Their bytes.
+const BYTES: [&[u8]; 6] = [
+    &READ,
+    &[
+        0x34, 0x4F, 0x50, 1, 1, 2, 3, 0xA0, 4, 5, 6, 0, 7, 8, 0, 0, 0, 0, 0, 0,
+    ],
+    &[0xA1, 0xC3, 0x77, 4, 0x20, 0, 0, 0x80],
+    &[0x39, 2, 0, 0],
+    &[
+        0x41, 0xA3, 0, 0, 5, 0, 0, 0, 0, 0, 0, 1, 0, 0, 0, 0, 0, 4, 0, 0, 0, 2, 0, 0, 0, 0, 0, 0,
+    ],
+    &[
+        0x5F, 0x61, 0x58, 2, 1, 2, 3, 0xA0, 4, 5, 6, 0, 1, 0, 0, 0x50, 0, 2, 0, 0,
+    ],
+];
+
+/// Whether a frame that was made has these bytes, and the stamp.
+fn is_made(made: &Result<Frame, AllocError>, bytes: &[u8]) -> Result<bool, AllocError> {
+    match made {
+        Ok(frame) => Ok(frame.bytes() == bytes && frame.stamp() == STAMP),
+        Err(_) => Err(AllocError),
+    }
+}
+
 #[test]
 fn build_the_bytes_of_the_standard(rt: HostRuntime) -> Result<(), Fail> {
-    let alloc = rt.alloc();
-    let command = h2d(alloc, &COMMAND, STAMP)?;
-    assert_eq!(rt; command.bytes(), READ.as_slice());
-    let answer = d2h(alloc, &ANSWER, STAMP)?;
-    assert_eq!(rt;
-        answer.bytes(),
-        [
-            0x34, 0x4F, 0x50, 1, 1, 2, 3, 0xA0, 4, 5, 6, 0, 7, 8, 0, 0, 0, 0, 0, 0
-        ]
-        .as_slice()
-    );
-    let done = set_bits(alloc, &DONE, STAMP)?;
-    assert_eq!(rt;
-        done.bytes(),
-        [0xA1, 0xC3, 0x77, 4, 0x20, 0, 0, 0x80].as_slice()
-    );
-    let activate = dma_activate(alloc, &ACTIVATE, STAMP)?;
-    assert_eq!(rt; activate.bytes(), [0x39, 2, 0, 0].as_slice());
-    let setup = dma_setup(alloc, &SETUP, STAMP)?;
-    assert_eq!(rt;
-        setup.bytes(),
-        [
-            0x41, 0xA3, 0, 0, 5, 0, 0, 0, 0, 0, 0, 1, 0, 0, 0, 0, 0, 4, 0, 0, 0, 2, 0, 0, 0, 0, 0,
-            0,
-        ]
-        .as_slice()
-    );
-    let block = pio_setup(alloc, &BLOCK, STAMP)?;
-    assert_eq!(rt;
-        block.bytes(),
-        [
-            0x5F, 0x61, 0x58, 2, 1, 2, 3, 0xA0, 4, 5, 6, 0, 1, 0, 0, 0x50, 0, 2, 0, 0
-        ]
-        .as_slice()
-    );
-    assert_eq!(rt; block.stamp(), STAMP);
+    for (made, bytes) in all_built(rt.alloc()).iter().zip(BYTES.iter()) {
+        assert!(rt; is_made(made, bytes)?, "{bytes:?}");
+    }
     Ok(())
+}
+
+/// How many bytes the Data FIS has that carries these.
+fn len_of(alloc: Global, data: &[u8]) -> Result<usize, FrameError> {
+    Ok(payload(alloc, 0, data, STAMP)?.bytes().len())
 }
 
 #[test]
 fn builds_a_payload(rt: HostRuntime) -> Result<(), Fail> {
-    let alloc = rt.alloc();
-    let frame = payload(alloc, 0xF2, &[1, 2, 3, 4], STAMP)?;
+    let frame = payload(rt.alloc(), 0xF2, &[1, 2, 3, 4], STAMP)?;
     assert_eq!(rt; frame.bytes(), [0x46, 2, 0, 0, 1, 2, 3, 4].as_slice());
     assert_eq!(rt; frame.stamp(), STAMP);
-    assert_eq!(rt; payload(alloc, 0, &[0; 8192], STAMP)?.bytes().len(), 8196);
-    assert!(rt;
-        matches!(
-            payload(alloc, 0, &[0; 8196], STAMP),
-            Err(FrameError::BadLength)
-        )
-    );
-    assert!(rt;
-        matches!(
-            payload(alloc, 0, &[0; 6], STAMP),
-            Err(FrameError::BadLength)
-        )
-    );
-    assert!(rt; matches!(payload(alloc, 0, &[], STAMP), Err(FrameError::BadLength)));
+    Ok(())
+}
+
+#[test]
+fn refuses_other_payloads(rt: HostRuntime) -> Result<(), Fail> {
+    let alloc = rt.alloc();
+    assert_eq!(rt; len_of(alloc, &[0; 8192])?, 8196);
+    let bytes = [0; 8196];
+    for data in [bytes.as_slice(), &bytes[..6], &bytes[..0]] {
+        assert_eq!(rt; len_of(alloc, data).err(), Some(FrameError::BadLength));
+    }
     Ok(())
 }
 

@@ -32,9 +32,14 @@ fn block_text(alloc: Global, fis: &PioSetup<'_>) -> Result<String, AllocError> {
     format!(in alloc; "{i} {status:02x} {error:02x} {lba:012x} {device:02x} {count:04x} {ends:02x}")
 }
 
+/// The bit where it is set.
+fn flag(bit: u8, set: bool) -> u8 {
+    if set { bit } else { 0 }
+}
+
 fn setup_text(alloc: Global, fis: &DmaSetup<'_>) -> Result<String, AllocError> {
     let (port, tag, offset, count) = (fis.pm_port(), fis.buffer_id(), fis.offset(), fis.count());
-    let flags = 0x20 * u8::from(fis.d()) | 0x40 * u8::from(fis.i()) | 0x80 * u8::from(fis.a());
+    let flags = flag(0x20, fis.d()) | flag(0x40, fis.i()) | flag(0x80, fis.a());
     format!(in alloc; "{port} {:02x} {tag} {offset} {count}", flags | port)
 }
 

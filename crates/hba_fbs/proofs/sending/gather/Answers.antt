@@ -1,10 +1,7 @@
-use Rattle.std.proofs.Common.{◌≡◌, ◌+◌, ◌++◌, ℕ, List, length, ap, arith, refl, sym, ◌∙◌}
+use Rattle.std.proofs.Common.{◌++◌, ℕ, List, length, ap, arith, refl, sym, ◌∙◌}
 use Rattle.std.proofs.lemmas.List.{append_assoc, append-nil}
 use Rattle.std.specs.List.{concat}
-use Rattle.host_memory.specs.Reading.{prds_at}
-use Rattle.host_memory.specs.declared.table.Prd.{Prd}
-use Rattle.hba_fbs.specs.Sending.{data_fis, gathered}
-use Rattle.hba_fbs.specs.Tables.{prds_of}
+use Rattle.hba_fbs.specs.Sending.{data_fis}
 use Rattle.hba_fbs.proofs.SendLemmas.{gathered_is}
 use Rattle.hba_fbs.proofs.sending.gather.Goals as goal
 
@@ -13,7 +10,7 @@ loop-part-init c = rw c.in_ok-bytes.ensures refl
 
 pub loop-part-preserved : goal.loop-part-preserved
 loop-part-preserved c =
-    ap (λ (l : List ℕ). l ++ concat c.next.new.self) c.in_ok-extend_from_slice-in-Ok.ensures.items
+    ap (λ (l : List ℕ). l ++ concat c.next.new.self) c.in_ok-extend_from_slice.ensures.items
     ∙ append_assoc c.loop-part.bytes.items c.in-Some.part.now (concat c.next.new.self)
     ∙ ap (λ (parts : List (List ℕ)). c.loop-part.bytes.items ++ concat parts) (sym c.in-Some.ensures.steps)
     ∙ c.loop-part.invariant
@@ -23,10 +20,7 @@ pub returns-clause-bytes : goal.returns-clause-bytes
 returns-clause-bytes c =
     let dev = c.args.dev in
     let all = sym (append-nil c.loop-part.bytes.items) ∙ ap (λ (parts : List (List ℕ)). c.loop-part.bytes.items ++ concat parts) (sym c.in-None.ensures.steps.0) ∙ c.loop-part.invariant in
-    let whole = ap concat c.into_iter-part-iterator.ensures.into_iter_gives ∙ gathered_is _ _ _ _ _ c.parts-part-items.ensures
-    ∙ ap (λ (prds : List Prd). gathered prds c.args.offset c.args.len c.client-client.result.now)
-    (c.in-Ok.ensures.prds ∙ ap (λ (s : List ℕ). prds_at s (c.args.command.now.table + 128) c.args.command.now.count) c.structure-structure.ensures.structure)
-    ∙ ap (λ (l : List ℕ). gathered (prds_of c.args.memory.now c.args.command.now) c.args.offset c.args.len l) c.client-client.ensures.client in
+    let whole = ap concat c.into_iter-part-iterator.ensures.into_iter_gives ∙ gathered_is _ _ _ _ _ c.parts-part-items.ensures in
     all ∙ ap (data_fis dev) whole
 
 pub returns-clause-len : goal.returns-clause-len

@@ -3,8 +3,9 @@ use Rattle.std.proofs.lemmas.List.{length-replicate}
 use Rattle.multiplier.specs.Orders.{InStampedOrder}
 use Rattle.link_items.specs.Beginnings.{stamped_starts}
 use Rattle.host_thread.specs.declared.plan.State.TheVariants.{Waits}
-use Rattle.host_thread.specs.Runs.{starting}
+use Rattle.host_thread.specs.Runs.{AreGiven, starting}
 use Rattle.host_thread.specs.Tally.{AreCounted}
+use Rattle.host_thread.proofs.Requests.{none_given}
 use Rattle.host_thread.proofs.Tallies.{none_counted}
 use Rattle.host_thread.proofs.Steps.{begins}
 use Rattle.host_thread.proofs.worker.HostWorker.new.Goals as goal
@@ -18,6 +19,7 @@ invariant_of-result c =
         all = ap length states ∙ length-replicate _ _;
       },
       subst (λ l. AreCounted l c.args.frames.taken) (sym rows) (subst (AreCounted []) (sym c.requires.up) none_counted),
+      subst (AreGiven 0) (sym states) (none_given (length c.args.plan.items)),
     )
 
 pub returns-clause-run : goal.returns-clause-run

@@ -1,0 +1,5 @@
+use Rattle.hba_driver.proofs.ReportRuns.{done_was_reported}
+use Rattle.hba_driver.proofs.laws.done_was_reported.Goals as goal
+
+pub returns : goal.returns
+returns c = done_was_reported

@@ -1,0 +1,16 @@
+//! What no clause says: values from outside, that calls succeed, and what refused memory leaves.
+
+mod blocked;
+mod dropping;
+mod echo;
+mod faulting;
+mod found;
+mod going;
+mod memory;
+mod reading;
+mod refusals;
+mod rig;
+mod running;
+mod sizes;
+mod submitting;
+mod writing;

@@ -1,0 +1,506 @@
+//! Worlds of disks, what is done to them and what they tell.
+//!
+//! Clauses see a `Rig` as a number and no function of the tests has a contract, so whatever is proved of a world, a test is
+//! proved by little.
+
+use super::echo::Echo;
+use disk_model::{Disk, DiskPlan, Unit};
+use fis_view::Bytes;
+use hba_driver::{Completion, Request, SubmitError, Work};
+use host_memory::{CLIENT_START, Prd};
+use multiplier::Passed;
+use pm_world::{Answer, Config, ConnCount, Counts, Step, StepError, World, WorldError};
+use std::alloc::{AllocError, Global};
+use std::marker::Model;
+use std::process::Abort;
+use std::test::Fail;
+
+/// Bytes of the host's memory.
+pub(super) const MEMORY: u32 = 0x20_0000;
+
+/// A step, in a form that a table can hold.
+#[derive(Clone, Copy)]
+pub(super) enum Act {
+    Came(u8),
+    Gone(u8),
+    DiskSend(u8),
+    /// So many zeros are sent as the device at this port.
+    Inject(u8, usize),
+    DiskTake(u8),
+    PmPresence(u8),
+    PmFromDevice(u8),
+    PmFromHost,
+    PmUp,
+    PmDown(u8),
+    HostTake,
+    HostPush,
+    Tick,
+    /// One sector, or a Flush: the device, the sector and the address.
+    Submit(u8, Work, u64, u32),
+    Poll,
+    /// So many bytes of this value are put from this address on.
+    Put(u32, u8, usize),
+}
+
+/// What an answer tells, but for bytes: ports, connections and numbers of frames.
+#[derive(Clone, Copy, Debug, PartialEq, Eq)]
+pub(super) enum Told {
+    Idle,
+    Blocked,
+    Came(u8, u32),
+    Gone(u8, u32),
+    /// Port, connection and number.
+    Sent(u8, u32, u32),
+    /// Port, and whether the frame was dropped.
+    DiskTook(u8, bool),
+    Presence(u8),
+    /// Port, and whether the frame was dropped.
+    Offered(u8, bool),
+    Passed(Passed),
+    Up(u8),
+    Down(u8),
+    /// Port, connection and number.
+    Took(u8, u32, u32),
+    Pushed,
+    Ticked,
+    /// The ticket.
+    Submitted(u32),
+    Refused(SubmitError),
+    Polled(Completion),
+    Put,
+    /// The step is refused.
+    Stopped(StepError),
+}
+
+/// What an answer tells.
+pub(super) fn telling(answer: &Answer) -> Told {
+    match answer {
+        Answer::Idle => Told::Idle,
+        Answer::Blocked => Told::Blocked,
+        Answer::Came { port, conn } => Told::Came(*port, *conn),
+        Answer::Gone { port, conn } => Told::Gone(*port, *conn),
+        Answer::Sent {
+            port,
+            conn,
+            number,
+            ..
+        } => Told::Sent(*port, *conn, *number),
+        Answer::DiskTook { port, dropped } => Told::DiskTook(*port, *dropped),
+        Answer::Presence(port) => Told::Presence(*port),
+        Answer::Offered { port, dropped } => Told::Offered(*port, *dropped),
+        Answer::Passed(passed) => Told::Passed(*passed),
+        Answer::Up(port) => Told::Up(*port),
+        Answer::Down(port) => Told::Down(*port),
+        Answer::Took {
+            port,
+            conn,
+            number,
+            ..
+        } => Told::Took(*port, *conn, *number),
+        Answer::Pushed => Told::Pushed,
+        Answer::Ticked => Told::Ticked,
+        Answer::Submitted(ticket) => Told::Submitted(ticket.0),
+        Answer::Refused(refusal) => Told::Refused(*refusal),
+        Answer::Polled(completion) => Told::Polled(*completion),
+        Answer::Put => Told::Put,
+    }
+}
+
+/// The bytes that an answer tells, if it tells any.
+fn bytes_of(answer: Answer) -> Option<Bytes> {
+    match answer {
+        Answer::Sent { bytes, .. } => Some(bytes),
+        Answer::Took { bytes, .. } => Some(bytes),
+        _ => None,
+    }
+}
+
+/// A request for so many sectors, into or from these entries.
+pub(super) fn submit(
+    alloc: Global,
+    (dev, work, lba, sectors): (u8, Work, u64, u16),
+    entries: &[(u32, u32)],
+) -> Result<Step, AllocError> {
+    let mut prds = Vec::new(alloc);
+    for entry in entries.iter() {
+        let (address, bytes) = *entry;
+        prds.push(Prd { address, bytes })?;
+    }
+    let request = Request {
+        work,
+        lba,
+        sectors,
+        prds,
+    };
+    Ok(Step::Submit(dev, request))
+}
+
+/// A request for one sector, or a Flush.
+fn submit_one(
+    alloc: Global,
+    dev: u8,
+    work: Work,
+    lba: u64,
+    address: u32,
+) -> Result<Step, AllocError> {
+    if work == Work::Flush {
+        return submit(alloc, (dev, work, lba, 0), &[]);
+    }
+    submit(alloc, (dev, work, lba, 1), &[(address, 512)])
+}
+
+/// So many bytes of one value.
+fn bytes(alloc: Global, value: u8, count: usize) -> Result<Bytes, AllocError> {
+    Ok(Bytes::from_vec(vec![in alloc; value; count]?))
+}
+
+/// The step.
+pub(super) fn step_of(alloc: Global, act: Act) -> Result<Step, AllocError> {
+    let step = match act {
+        Act::Came(n) => Step::Came(n),
+        Act::Gone(n) => Step::Gone(n),
+        Act::DiskSend(n) => Step::DiskSend(n),
+        Act::Inject(n, count) => Step::Inject(n, bytes(alloc, 0, count)?),
+        Act::DiskTake(n) => Step::DiskTake(n),
+        Act::PmPresence(n) => Step::PmPresence(n),
+        Act::PmFromDevice(n) => Step::PmFromDevice(n),
+        Act::PmFromHost => Step::PmFromHost,
+        Act::PmUp => Step::PmUp,
+        Act::PmDown(n) => Step::PmDown(n),
+        Act::HostTake => Step::HostTake,
+        Act::HostPush => Step::HostPush,
+        Act::Tick => Step::Tick,
+        Act::Submit(dev, work, lba, address) => submit_one(alloc, dev, work, lba, address)?,
+        Act::Poll => Step::Poll,
+        Act::Put(at, value, count) => Step::Put(at, bytes(alloc, value, count)?),
+    };
+    Ok(step)
+}
+
+/// A disk of 16 sectors.
+fn disk(alloc: Global, plan: DiskPlan) -> Result<Unit, AllocError> {
+    match Disk::new(alloc, 16, plan) {
+        Ok(disk) => Ok(Unit::Disk(disk)),
+        Err(_) => Err(AllocError),
+    }
+}
+
+/// So many disks of 16 sectors.
+pub(super) fn disks(alloc: Global, count: u8) -> Result<Vec<Unit>, AllocError> {
+    let mut units = Vec::new(alloc);
+    for _ in 0..count {
+        units.push(disk(alloc, DiskPlan::plain())?)?;
+    }
+    Ok(units)
+}
+
+/// The plan of a disk of which one sector cannot be read.
+fn bad_plan(sector: u32) -> DiskPlan {
+    let mut plan = DiskPlan::plain();
+    if !plan.bad.is_full() {
+        plan.bad.push(sector);
+    }
+    plan
+}
+
+/// So many disks and one more, of which one sector cannot be read.
+fn disks_and_bad(alloc: Global, count: u8, sector: u32) -> Result<Vec<Unit>, AllocError> {
+    let mut units = disks(alloc, count)?;
+    units.push(disk(alloc, bad_plan(sector))?)?;
+    Ok(units)
+}
+
+/// A world of so many disks.
+pub(super) fn world_of(alloc: Global, config: Config, count: u8) -> Result<World, WorldError> {
+    World::new(alloc, config, disks(alloc, count)?)
+}
+
+/// So many ports, with links of this capacity.
+fn config(ports: u8, capacity: usize) -> Config {
+    Config {
+        ports,
+        capacity,
+        memory: MEMORY,
+    }
+}
+
+/// A world of two disks and a third, of which one sector cannot be read.
+fn world_with_bad(alloc: Global, sector: u32) -> Result<World, WorldError> {
+    World::new(alloc, config(3, 1), disks_and_bad(alloc, 2, sector)?)
+}
+
+/// A world of so many disks, with links of this capacity.
+fn world(alloc: Global, ports: u8, capacity: usize) -> Result<World, WorldError> {
+    world_of(alloc, config(ports, capacity), ports)
+}
+
+/// PxIS and PxFBS, which tell of faults.
+fn faults(world: &World) -> [Option<u32>; 2] {
+    let port = world.host();
+    [port.read(0x10).ok(), port.read(0x40).ok()]
+}
+
+fn give_once(world: &mut World, alloc: Global, step: &Step) -> Result<Answer, StepError> {
+    world.step(alloc, step)
+}
+
+/// A step of a world. Where memory is refused it is given again, and answers as if nothing had been.
+fn give(world: &mut World, alloc: Global, step: &Step) -> Result<Answer, StepError> {
+    match give_once(world, alloc, step) {
+        Err(StepError::OutOfMemory) => give_once(world, alloc, step),
+        given => given,
+    }
+}
+
+/// A run of a world.
+fn run(
+    world: &mut World,
+    alloc: Global,
+    steps: &[Step],
+) -> Result<Vec<Answer>, (usize, StepError)> {
+    world.run(alloc, steps)
+}
+
+/// The byte of the client area at an address.
+fn byte_at(world: &World, at: u32) -> Option<u8> {
+    let place = at.checked_sub(CLIENT_START)?;
+    world.memory().client().get(place as usize).copied()
+}
+
+/// A register of the multiplier, or of one of its ports.
+fn register_of(world: &World, port: u8, register: u16) -> Option<u32> {
+    world.multiplier().registers().read(port, register).ok()
+}
+
+/// A register of the host port.
+fn host_register(world: &World, offset: u32) -> Option<u32> {
+    world.host().read(offset).ok()
+}
+
+/// The sector of a disk.
+fn sector_of(world: &World, n: u8, lba: u32) -> Option<&[u8]> {
+    match world.unit(n)? {
+        Unit::Disk(disk) => disk.sector(lba),
+        Unit::Scripted(_) => None,
+    }
+}
+
+/// What is told in step i is what is wanted.
+pub(super) fn is_told(rt: &impl Abort, i: usize, told: Told, wanted: Told) {
+    assert_eq!(rt; told, wanted, "step {i}");
+}
+
+/// A world with the counts of its answers.
+#[derive(Drop)]
+pub(super) struct Rig {
+    alloc: Global,
+    world: World,
+    ports: u8,
+    counts: Counts,
+    /// What the last answer told of bytes.
+    bytes: Option<Bytes>,
+    /// What follows the answers, where a test wants to see frames on their way down.
+    echo: Option<Box<Echo>>,
+}
+
+impl Model for Rig {
+    ghost use Rattle.std.specs.Prelude.{ℕ};
+
+    ghost Value = { ℕ };
+
+    ghost view = { λ _. 0 };
+}
+
+impl Rig {
+    /// Of so many disks, none of which is plugged in.
+    pub(super) fn new(alloc: Global, ports: u8, capacity: usize) -> Result<Rig, WorldError> {
+        Ok(Rig::of(alloc, world(alloc, ports, capacity)?, ports))
+    }
+
+    /// Of two disks and a third, of which one sector cannot be read; all take requests.
+    pub(super) fn with_bad(alloc: Global, sector: u32) -> Result<Rig, Fail> {
+        let mut rig = Rig::of(alloc, world_with_bad(alloc, sector)?, 3);
+        if rig.come() {
+            Ok(rig)
+        } else {
+            Err("no end".into())
+        }
+    }
+
+    fn of(alloc: Global, world: World, ports: u8) -> Rig {
+        Rig {
+            alloc,
+            world,
+            ports,
+            counts: Counts::new(alloc),
+            bytes: None,
+            echo: None,
+        }
+    }
+
+    /// Of so many disks that take requests, with links of one frame.
+    pub(super) fn ready(alloc: Global, ports: u8) -> Result<Rig, Fail> {
+        let mut rig = Rig::new(alloc, ports, 1)?;
+        if rig.come() {
+            Ok(rig)
+        } else {
+            Err("no end".into())
+        }
+    }
+
+    /// Lets an echo follow.
+    pub(super) fn show(&mut self, echo: Box<Echo>) {
+        self.echo = Some(echo);
+    }
+
+    /// Whether all disks come, and all steps are done that can be.
+    pub(super) fn come(&mut self) -> bool {
+        let mut came = true;
+        for n in 0..self.ports {
+            came &= self.does(Act::Came(n)) == Told::Came(n, 1);
+        }
+        came && self.settle()
+    }
+
+    /// Does this, and tells what came of it.
+    pub(super) fn does(&mut self, act: Act) -> Told {
+        let mut made = step_of(self.alloc, act);
+        if made.is_err() {
+            made = step_of(self.alloc, act);
+        }
+        match made {
+            Ok(step) => self.gives(&step),
+            Err(_) => Told::Stopped(StepError::OutOfMemory),
+        }
+    }
+
+    /// Gives the world a step, and tells what came of it.
+    pub(super) fn gives(&mut self, step: &Step) -> Told {
+        match give(&mut self.world, self.alloc, step) {
+            Ok(answer) => self.notes(step, answer),
+            Err(e) => Told::Stopped(e),
+        }
+    }
+
+    /// Gives the world a run of steps.
+    pub(super) fn runs(&mut self, steps: &[Step]) -> Result<Vec<Answer>, (usize, StepError)> {
+        run(&mut self.world, self.alloc, steps)
+    }
+
+    /// Counts the answer and keeps its bytes. An echo that can not follow is let go.
+    fn notes(&mut self, step: &Step, answer: Answer) -> Told {
+        let told = telling(&answer);
+        if self.counts.note(&answer).is_err() {
+            let _ = self.counts.note(&answer);
+        }
+        let follows = match &mut self.echo {
+            Some(echo) => echo.follow(self.alloc, step, &answer),
+            None => true,
+        };
+        if !follows {
+            self.echo = None;
+        }
+        self.bytes = bytes_of(answer);
+        told
+    }
+
+    /// Whether one of these moves something.
+    fn moves(&mut self, acts: &[Act]) -> bool {
+        let mut moved = false;
+        for act in acts.iter() {
+            let told = self.does(*act);
+            moved |= !matches!(told, Told::Idle | Told::Blocked);
+        }
+        moved
+    }
+
+    /// Whether one of the steps of all actors moves something, each given once.
+    fn round(&mut self) -> bool {
+        let mut moved = self.moves(&[Act::Tick, Act::HostPush, Act::PmFromHost]);
+        for n in 0..self.ports {
+            moved |= self.moves(&[
+                Act::PmPresence(n),
+                Act::PmDown(n),
+                Act::DiskTake(n),
+                Act::DiskSend(n),
+                Act::PmFromDevice(n),
+            ]);
+        }
+        moved | self.moves(&[Act::PmUp, Act::HostTake])
+    }
+
+    /// Rounds until nothing moves, which is to come within 4,000.
+    pub(super) fn settle(&mut self) -> bool {
+        for _ in 0..4000 {
+            if !self.round() {
+                return true;
+            }
+        }
+        false
+    }
+
+    /// The steps are answered so, one after another.
+    pub(super) fn answers(&mut self, rt: &impl Abort, rows: &[(Act, Told)]) {
+        for (i, (act, wanted)) in rows.iter().enumerate() {
+            is_told(rt, i, self.does(*act), *wanted);
+        }
+    }
+
+    /// What the last answer told of bytes.
+    pub(super) fn bytes(&self) -> Option<&[u8]> {
+        let bytes = self.bytes.as_ref()?;
+        Some(bytes.as_slice())
+    }
+
+    pub(super) fn echo(&self) -> Option<&Echo> {
+        let echo: &Echo = self.echo.as_ref()?;
+        Some(echo)
+    }
+
+    pub(super) fn rows(&self) -> &[ConnCount] {
+        self.counts.rows()
+    }
+
+    /// How many FISes of a connection were sent, and how many of them taken.
+    pub(super) fn counted(&self, port: u8, conn: u32) -> Option<(u64, u64)> {
+        let row = self
+            .rows()
+            .iter()
+            .find(|row: &&ConnCount| row.port == port && row.conn == conn)?;
+        Some((row.sent, row.taken))
+    }
+
+    /// A register of the multiplier (port 15) or of one of its ports.
+    pub(super) fn register(&self, port: u8, register: u16) -> Option<u32> {
+        register_of(&self.world, port, register)
+    }
+
+    /// A register of the host port.
+    pub(super) fn host_register(&self, offset: u32) -> Option<u32> {
+        host_register(&self.world, offset)
+    }
+
+    /// How many frames the multiplier dropped on their way down.
+    pub(super) fn dropped(&self) -> u32 {
+        self.world.multiplier().dropped()
+    }
+
+    pub(super) fn has_unit(&self, n: u8) -> bool {
+        self.world.unit(n).is_some()
+    }
+
+    /// The byte of the client area at an address.
+    pub(super) fn byte_at(&self, at: u32) -> Option<u8> {
+        byte_at(&self.world, at)
+    }
+
+    /// PxIS and PxFBS, which tell of faults.
+    pub(super) fn faults(&self) -> [Option<u32>; 2] {
+        faults(&self.world)
+    }
+
+    /// The sector of a disk.
+    pub(super) fn sector(&self, n: u8, lba: u32) -> Option<&[u8]> {
+        sector_of(&self.world, n, lba)
+    }
+}

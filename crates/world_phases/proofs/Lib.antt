@@ -1,0 +1,5 @@
+pub mod FirmLemmas
+pub mod SentLemmas
+pub mod ShutLemmas
+pub mod CutLemmas
+pub mod FollowLemmas
