@@ -57,3 +57,5 @@ pub mod Took31Lemmas
 pub mod Turn31Lemmas
 pub mod AddressLemmas
 pub mod AsksLemmas
+pub mod ScansLemmas
+pub mod ScansTurns

@@ -49,15 +49,18 @@ use Rattle.hba_driver.proofs.SubmitLemmas.{is_taken}
 abbrev place : ℕ → ℕ
 place n = 4160 + 256 * n
 
-d2h_same : (n : ℕ) (old new : List ℕ) → length new ≡ length old → AgreeFrom (place n) 20 old new → last_d2h new n ≡ last_d2h old n
-d2h_same n old new long same =
-    let a = length-take 20 (drop (place n) new) in
-    let b = length-take 20 (drop (place n) old) in
-    let c = length-drop (place n) new in
-    let d = length-drop (place n) old in
-    ext_get_or 0 (take 20 (drop (place n) new)) (take 20 (drop (place n) old)) (omega (arith, a, b, c, d, long)) (λ i h.
+pub window_same : (at : ℕ) (old new : List ℕ) → length new ≡ length old → AgreeFrom at 20 old new → take 20 (drop at new) ≡ take 20 (drop at old)
+window_same at old new long same =
+    let a = length-take 20 (drop at new) in
+    let b = length-take 20 (drop at old) in
+    let c = length-drop at new in
+    let d = length-drop at old in
+    ext_get_or 0 (take 20 (drop at new)) (take 20 (drop at old)) (omega (arith, a, b, c, d, long)) (λ i h.
     let below : i < 20 = omega (arith, a, h) in
-    get_or-take 20 (drop (place n) new) i 0 below ∙ get_or-drop (place n) new i 0 ∙ sym (same i below) ∙ sym (get_or-drop (place n) old i 0) ∙ sym (get_or-take 20 (drop (place n) old) i 0 below))
+    get_or-take 20 (drop at new) i 0 below ∙ get_or-drop at new i 0 ∙ sym (same i below) ∙ sym (get_or-drop at old i 0) ∙ sym (get_or-take 20 (drop at old) i 0 below))
+
+pub d2h_same : (n : ℕ) (old new : List ℕ) → length new ≡ length old → AgreeFrom (place n) 20 old new → last_d2h new n ≡ last_d2h old n
+d2h_same n old new long same = window_same (place n) old new long same
 
 -- a byte of it is one of the row
 byte_of : (n i : ℕ) (s : List ℕ) → n < 16 → i < 20 → get_or (rx.row_of (area_at s 4096) n) (64 + i) 0 ≡ slice_index s (place n + i)
@@ -150,8 +153,9 @@ spares_act n (Some (act.Issues slot dev queued)) calm = spares_issuing n slot de
 
 -- ---- a FIS is posted
 
--- how long a FIS is that is posted beside the place
-abbrev IsSized : Fis → Type 0
+-- how long a FIS is that is posted at the place, or beside it
+abbrev pub IsSized : Fis → Type 0
+IsSized (view.RegD2H f) = length f ≡ 20
 IsSized (view.DmaSetup f) = length f ≡ 28
 IsSized (view.PioSetup f) = length f ≡ 20
 IsSized (view.SetBits f) = length f ≡ 8
@@ -162,7 +166,7 @@ equal_of a b h = grind (arith, nat_tests)
 
 size_as : (k : Kind) (frame : List ℕ) → may_have k (length frame) ≡ true → IsSized (view_as k frame)
 size_as H2d frame h = tt
-size_as D2h frame h = tt
+size_as D2h frame h = equal_of (length frame) 20 h
 size_as Activate frame h = tt
 size_as Setup frame h = equal_of (length frame) 28 h
 size_as Data frame h = tt
@@ -180,7 +184,7 @@ sized_by : (b : Bool) (shown fis : Fis) → (b ≡ true → IsSized shown) → (
 sized_by true shown fis size h = subst IsSized (same_fis shown fis h) (size refl)
 sized_by false shown fis size h = cc
 
-sized : (frame : List ℕ) (fis : Fis) → seen frame ≡ Ok fis → IsSized fis
+pub sized : (frame : List ℕ) (fis : Fis) → seen frame ≡ Ok fis → IsSized fis
 unfolding seen
 sized frame fis h = sized_by (may_have (kind_of frame) (length frame)) (view_as (kind_of frame) frame) fis (size_as (kind_of frame) frame) h
 
@@ -188,11 +192,11 @@ le_of : (a b : ℕ) → nat_le a b ≡ true → a ≤ b
 le_of a b h = grind (arith, nat_tests)
 
 -- it is no Register FIS of a device
-abbrev IsNoRegister : Fis → Type 0
+abbrev pub IsNoRegister : Fis → Type 0
 IsNoRegister (view.RegD2H f) = ⊥
 IsNoRegister fis = Unit {0}
 
-own_row : (row : List ℕ) (fis : Fis) → length row ≡ 256 → IsSized fis → IsNoRegister fis → AgreeFrom 64 20 row (rx.row_after row fis)
+pub own_row : (row : List ℕ) (fis : Fis) → length row ≡ 256 → IsSized fis → IsNoRegister fis → AgreeFrom 64 20 row (rx.row_after row fis)
 own_row row (view.DmaSetup f) long size other = agree_beside row 0 f 64 20 (omega (arith, long, size)) (inr (omega (arith, size)))
 own_row row (view.PioSetup f) long size other = agree_beside row 32 f 64 20 (omega (arith, long, size)) (inr (omega (arith, size)))
 own_row row (view.SetBits f) long size other = agree_beside row 88 f 64 20 (omega (arith, long, size)) (inl (omega arith))
@@ -206,13 +210,26 @@ own_row row (view.RegH2D f) long size other = agree_beside row 0 [] 64 20 (omega
 own_row row (view.DmaActivate f) long size other = agree_beside row 0 [] 64 20 (omega (arith, long)) (inr (omega arith))
 own_row row (view.Payload f) long size other = agree_beside row 0 [] 64 20 (omega (arith, long)) (inr (omega arith))
 
-row_long : (n : ℕ) (s : List ℕ) → n < 16 → length s ≡ 1048576 → length (rx.row_of (area_at s 4096) n) ≡ 256
+pub row_long : (n : ℕ) (s : List ℕ) → n < 16 → length s ≡ 1048576 → length (rx.row_of (area_at s 4096) n) ≡ 256
 row_long n s low long =
     let a = length-drop 4096 s in
     let b = length-take 4096 (drop 4096 s) in
     let c = length-drop (256 * n) (take 4096 (drop 4096 s)) in
     let d = length-take 256 (drop (256 * n) (take 4096 (drop 4096 s))) in
     omega (arith, a, b, c, d, low, long)
+
+-- where it stands in the row
+pub d2h_row : (n : ℕ) (s : List ℕ) → n < 16 → length s ≡ 1048576 → take 20 (drop 64 (rx.row_of (area_at s 4096) n)) ≡ last_d2h s n
+d2h_row n s low long =
+    let row : List ℕ = rx.row_of (area_at s 4096) n in
+    let whole = row_long n s low long in
+    let a = length-take 20 (drop 64 row) in
+    let b = length-drop 64 row in
+    let c = length-take 20 (drop (place n) s) in
+    let d = length-drop (place n) s in
+    ext_get_or 0 (take 20 (drop 64 row)) (last_d2h s n) (omega (arith, a, b, c, d, whole, long, low)) (λ i h.
+    let below : i < 20 = omega (arith, a, h) in
+    get_or-take 20 (drop 64 row) i 0 below ∙ get_or-drop 64 row i 0 ∙ byte_of n i s low below ∙ sym (get_or-drop (place n) s i 0) ∙ sym (get_or-take 20 (drop (place n) s) i 0 below))
 
 -- a FIS of another device, or no Register FIS
 posted_row : (n dev : ℕ) (fis : Fis) (old new : List ℕ) → n < 16 → length old ≡ 1048576 → IsSized fis → (dev ≢ n) ⊎ IsNoRegister fis → Posts 4096 dev fis old new → AgreeFrom (place n) 20 old new
@@ -259,7 +276,7 @@ posted_of n dev fb frame old new low area long which posts = by_seen (seen frame
 
 -- ---- each turn
 
-row_turn : (n : ℕ) (old : Host) (t : HostTurn) (new : Host) → n < 16 → Does old t new → IsSoundHost old → IsRowTurn n old t → AgreeFrom (place n) 20 old.memory.structure new.memory.structure
+pub row_turn : (n : ℕ) (old : Host) (t : HostTurn) (new : Host) → n < 16 → Does old t new → IsSoundHost old → IsRowTurn n old t → AgreeFrom (place n) 20 old.memory.structure new.memory.structure
 row_turn n old (Took frame report) new low h s which = elim (cases_Bool (ignores (port_of frame) old.port frame)) [
   | inl skip ↦ same_memory (place n) 20 old.memory new.memory (ap (λ (m : Memory). m.structure) (h.ignored skip).memory)
   | inr heard ↦
@@ -311,6 +328,23 @@ at_place old bytes at k room below =
     let back : at + k - at ≡ k = omega arith in
     get_or_append_left (take at old ++ bytes) (drop (at + length bytes) old) 0 (at + k) (omega (arith, both_long, long, room, below))
     ∙ get_or-append_right (take at old) bytes at (at + k) 0 (omega (arith, long, room)) (omega arith) ∙ ap (λ (j : ℕ). get_or bytes j 0) back
+
+pub set_long : (old bytes : List ℕ) (at : ℕ) → at + length bytes ≤ length old → length (rx.overwritten old at bytes) ≡ length old
+set_long old bytes at room =
+    let a = length-take at old in
+    let b = length-drop (at + length bytes) old in
+    let c = length-append (take at old) bytes in
+    let d : length (rx.overwritten old at bytes) ≡ length (take at old ++ bytes) + length (drop (at + length bytes) old) = length-append (take at old ++ bytes) (drop (at + length bytes) old) in
+    omega (arith, a, b, c, d, room)
+
+pub set_window : (old bytes : List ℕ) (at : ℕ) → length bytes ≡ 20 → at + length bytes ≤ length old → take 20 (drop at (rx.overwritten old at bytes)) ≡ bytes
+set_window old bytes at long room =
+    let a = set_long old bytes at room in
+    let b = length-drop at (rx.overwritten old at bytes) in
+    let c = length-take 20 (drop at (rx.overwritten old at bytes)) in
+    ext_get_or 0 (take 20 (drop at (rx.overwritten old at bytes))) bytes (omega (arith, a, b, c, long, room)) (λ i h.
+    let below : i < 20 = omega (arith, c, h) in
+    get_or-take 20 (drop at (rx.overwritten old at bytes)) i 0 below ∙ get_or-drop at (rx.overwritten old at bytes) i 0 ∙ at_place old bytes at i room (omega (arith, long, below)))
 
 -- and in the tick that flushes the device
 clear_row : (n : ℕ) (old new : Port) (before after : Memory) → n < 16 → list_all is_effect (order_effects (Clear n)) ≡ true → ActsAll (order_effects (Clear n)) old before new after → length before.structure ≡ 1048576 → slice_index after.structure (place n) ≡ 0

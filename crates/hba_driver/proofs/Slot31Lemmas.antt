@@ -128,7 +128,7 @@ module _ (v : Sight) (p : Plan) (entries : List (Option Entry)) where
   due_seen_by false None asked fields = devices_seen
   due_seen_by false (Some f) asked fields = Ordered c.order refl refl asked refl (ap is_some fields)
 
-  turn_seen : IsSeen v p (turn_of v p entries).act (turn_of v p entries).plan
+  pub turn_seen : IsSeen v p (turn_of v p entries).act (turn_of v p entries).plan
   unfolding turn_of
   turn_seen =
       either Seen (is_some (early_due v p)) _ _ (Early (early_other v p) refl)
@@ -153,7 +153,7 @@ acted_same (Some (act.Orders order)) file d other may = absurd other
 acted_same (Some (act.Steps dev stage)) file d other may = refl
 acted_same (Some (act.Issues slot dev queued)) file d other may = refl
 
-acted_order : (o : Order) (file : TaskFile) (d : Driver) → control_in (acted (Some (act.Orders o)) file d).plan ≡ record (control_in d.plan) { asked = true }
+pub acted_order : (o : Order) (file : TaskFile) (d : Driver) → control_in (acted (Some (act.Orders o)) file d).plan ≡ record (control_in d.plan) { asked = true }
 unfolding plan_after
 acted_order (Clear port) file d = refl
 acted_order o file d = refl

@@ -1,6 +1,6 @@
 -- Each tick leads slot 31 from a stage to a stage.
-use Rattle.std.proofs.Common.{◌≡◌, ◌≢◌, ℕ, ◌+◌, ◌<◌, ◌≤◌, Bool, true, false, nat_lt, [], refl, sym, ◌∙◌, ap, subst, inl, inr, arith, Option, Some, None}
-use Rattle.std.specs.Prelude.{◌==◌, if◌then◌else◌, is_some}
+use Rattle.std.proofs.Common.{◌≡◌, ◌≢◌, ℕ, ◌+◌, ◌<◌, ◌≤◌, ◌⊎◌, Bool, true, false, nat_lt, [], refl, sym, ◌∙◌, ap, subst, inl, inr, arith, Option, Some, None}
+use Rattle.std.specs.Prelude.{◌==◌, if◌then◌else◌, is_none, is_some}
 use Rattle.std.proofs.lemmas.Bool.{cases_Bool, cases_eq, false≢true, le-ltb, lt-ltb, true≢false}
 use Rattle.fis_view.specs.declared.build.H2dFields.{H2dFields}
 use Rattle.host_memory.specs.Memory.{Memory}
@@ -522,4 +522,32 @@ module _ (h : Host) (g : IsGoing h) (stage : Stage31) (at : IsAt31 stage h) wher
     tick31 new a does = elim (cases_Bool (has_failed stage)) [
       | inl failed ↦ tick_failed new a does (fails_is stage failed)
       | inr well ↦ tick_by well new a does (subst (λ (d : Driver). Ticks31 v p d.plan (due v h.driver)) (sym does.driver) (ticks31 v (file_shown new.port) h.driver (allowed well)))
+    ]
+
+    -- ---- what it leaves of the control port
+
+    -- an order that is issued stands in slot 31
+    pub order_stands : (new : Host) (a : Bool) → Does h (Ticked a) new → (o : Order) → due v h.driver ≡ Some (act.Orders o) → (control_seen v p).order ≡ o → is_some (order_fields o) ≡ true → is_none (own_issue (control_of new).view.slots 31) ≡ false
+    unfolding effects_of
+    order_stands new a does o due_is order some =
+        let fields = the (order_fields o) some in
+        let acts : ActsAll (order_effects o) h.port h.memory new.port new.memory = subst (λ (x : Option Act). ActsAll (effects_due x) h.port h.memory new.port new.memory) due_is does.does in
+        let free : (seen v h.driver).plan.asked ≡ false = subst (λ (x : Option Act). Due v (seen v h.driver).plan (seen v h.driver).entries x) due_is (due_seen v h.driver) in
+        let i : Issues31 fields.0 h.port h.memory new.port new.memory = order31 o fields.0 h.port new.port h.memory new.memory fields.1 (subst IsLow order seen_low) up g.way.unarmed (free31 free) runs acts in
+        ap is_none i.issued
+
+    -- an act that is no order leaves its part, or slot 31 begins anew
+    pub other_stays : (new : Host) (a : Bool) → Does h (Ticked a) new → IsOther (due v h.driver) → (control_of new ≡ control_of h) ⊎ (new.driver.plan.order ≡ ResetOn)
+    unfolding effects_of after_tick plan_after
+    other_stays new a does other = elim (cases_Bool (has_failed stage)) [
+      | inl failed ↦
+          let f = failed_due (fails_is stage failed) in
+          let acts : ActsAll (clearing f.0) h.port h.memory new.port new.memory = subst (λ (x : Option Act). ActsAll (effects_due x) h.port h.memory new.port new.memory) f.1 does.does in
+          let after : new.driver.plan ≡ cleared_plan f.0 (file_shown new.port) p =
+          ap (λ (d : Driver). d.plan) does.driver ∙ ap (λ (x : Option Act). (acted x (file_shown new.port) (seen v h.driver)).plan) f.1 ∙ ap (λ (q : Plan). cleared_plan f.0 (file_shown new.port) q) f.2 in
+          elim (cases_eq f.0 15) [
+            | inl own ↦ inr (ap (λ (q : Plan). q.order) (after ∙ ap (λ (n : ℕ). cleared_plan n (file_shown new.port) p) own))
+            | inr far ↦ inl (clearing_leaves f.0 h.port new.port h.memory new.memory far (cleared_due f.0 f.1) runs acts).same
+          ]
+      | inr well ↦ inl (other_leaves well (due v h.driver) refl other (due_seen v h.driver) new does.does).same
     ]

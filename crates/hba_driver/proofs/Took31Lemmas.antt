@@ -74,7 +74,7 @@ not_started : (a b : Bool) → a ≡ false → (a && b) ≡ false
 not_started false b h = refl
 not_started true b h = absurd (true≢false h)
 
-closed_same : (old new : Host) (frame : List ℕ) (report : TakeReport) → Does old (Took frame report) new → IsGoing old → old.driver.plan.opened < 7 → control_of new ≡ control_of old
+pub closed_same : (old new : Host) (frame : List ℕ) (report : TakeReport) → Does old (Took frame report) new → IsGoing old → old.driver.plan.opened < 7 → control_of new ≡ control_of old
 closed_same old new frame report does g less =
     let off : is_running old.port ≡ false = not_started old.port.registers.started (is_none old.port.errors.port) (g.way.sound.registers.stopped (omega (arith, less))) in
     let skip : ignores (port_of frame) old.port frame ≡ true = ignored_closed (is_running old.port) (view_of (port_of frame) old.port) (seen frame) off in
@@ -85,7 +85,7 @@ module _ (old : Host) (g : IsGoing old) (new : Host) (n : IsGoing new) (frame : 
   opened_same : 7 ≤ old.driver.plan.opened → 7 ≤ new.driver.plan.opened
   opened_same least = subst (λ (d : Driver). 7 ≤ d.plan.opened) (sym does.driver) least
 
-  took_part : 7 ≤ old.driver.plan.opened → control_of new ≡ part_after_all 15 (control_of old) ((if port_of frame == 15 then Came frame ∷ [] else []) ++ [])
+  pub took_part : 7 ≤ old.driver.plan.opened → control_of new ≡ part_after_all 15 (control_of old) ((if port_of frame == 15 then Came frame ∷ [] else []) ++ [])
   took_part least =
       part_event old.port new.port old.memory new.memory (event.Took frame report) (going_runs old g least) (going_runs new n (opened_same least))
       (record { ignored = does.ignored; heard = does.heard }) ((stops_none old g).takes frame of)
@@ -100,7 +100,7 @@ module _ (old : Host) (g : IsGoing old) (new : Host) (n : IsGoing new) (frame : 
   ]
 
   -- the control port's own
-  took_own : 7 ≤ old.driver.plan.opened → port_of frame ≡ 15 → control_of new ≡ part_after 15 (control_of old) (Came frame)
+  pub took_own : 7 ≤ old.driver.plan.opened → port_of frame ≡ 15 → control_of new ≡ part_after 15 (control_of old) (Came frame)
   took_own least own =
       took_part least ∙ ap (λ (b : Bool). part_after_all 15 (control_of old) ((if b then Came frame ∷ [] else []) ++ [])) (own_is (port_of frame) own)
     where
@@ -121,7 +121,7 @@ no_bit k = ap (λ (n : ℕ). n == 1) (bit_at-zero k)
 none_short : (own : DeviceSlots) → (completed 0 own).short ≡ 0
 none_short own = all_none (is_short 0 own) (λ k. ap (λ (b : Bool). b && holds is_short_issue (own_issue own k)) (no_bit k)) 32
 
-none_done : (own : DeviceSlots) → own_issue (after_complete 0 own) 31 ≡ own_issue own 31
+pub none_done : (own : DeviceSlots) → own_issue (after_complete 0 own) 31 ≡ own_issue own 31
 none_done own = ap (λ (f : ℕ → Option Issue). f 31) (own_freed (is_done 0 own) own) ∙ ap (λ (b : Bool). if b && holds is_done_issue (own_issue own 31) then None else own_issue own 31) (no_bit 31)
 
 context_none : (F : ℕ → Bool) (c : Option Context) → c ≡ None → context_unless F c ≡ None
@@ -171,13 +171,13 @@ command_stays : (part : DevicePart) (w : DeviceView) → own_issue w.slots 31 �
 command_stays part w same there = ap (λ (o : Option Issue). if is_some o then part.commands 31 else None) same ∙ ap (λ (b : Bool). if b then part.commands 31 else None) there
 
 -- a frame that is not ignored
-heard_part : (part : DevicePart) (frame : List ℕ) (fis : Fis) → seen frame ≡ Ok fis → admitted 15 (Ok fis) ≡ Some fis → is_ignored true part.view (Ok fis) ≡ false → part_after 15 part (Came frame) ≡ after_fis 15 part (Some fis)
+pub heard_part : (part : DevicePart) (frame : List ℕ) (fis : Fis) → seen frame ≡ Ok fis → admitted 15 (Ok fis) ≡ Some fis → is_ignored true part.view (Ok fis) ≡ false → part_after 15 part (Came frame) ≡ after_fis 15 part (Some fis)
 heard_part part frame fis viewed may hears =
     ap (λ o. if is_ignored true part.view o then part else after_fis 15 part (admitted 15 o)) viewed
     ∙ ap (λ (b : Bool). if b then part else after_fis 15 part (admitted 15 (Ok fis))) hears
     ∙ ap (after_fis 15 part) may
 
-skipped_part : (part : DevicePart) (frame : List ℕ) (fis : Fis) → seen frame ≡ Ok fis → is_ignored true part.view (Ok fis) ≡ true → part_after 15 part (Came frame) ≡ part
+pub skipped_part : (part : DevicePart) (frame : List ℕ) (fis : Fis) → seen frame ≡ Ok fis → is_ignored true part.view (Ok fis) ≡ true → part_after 15 part (Came frame) ≡ part
 skipped_part part frame fis viewed skips =
     ap (λ o. if is_ignored true part.view o then part else after_fis 15 part (admitted 15 o)) viewed
     ∙ ap (λ (b : Bool). if b then part else after_fis 15 part (admitted 15 (Ok fis))) skips
@@ -185,7 +185,7 @@ skipped_part part frame fis viewed skips =
 ignores_by : (v : DeviceView) (o : Result Fis FisFault) (b : Bool) → is_some v.fault ≡ false → v.state.resetting ≡ b → is_ignored true v o ≡ (b && not (signs o))
 ignores_by v o b none resetting = ap (λ (f : Bool). (not true || f) || (v.state.resetting && not (signs o))) none ∙ ap (λ (r : Bool). r && not (signs o)) resetting
 
-notice_view : (v : DeviceView) (frame : List ℕ) → IsNotice31 frame → heard_view 15 v true (Some (view.SetBits frame)) ≡ view_after_hearing v (named (completed 0 v.slots) (with_bits v.state (field Bits Status frame) (field Bits Error frame)) 0)
+pub notice_view : (v : DeviceView) (frame : List ℕ) → IsNotice31 frame → heard_view 15 v true (Some (view.SetBits frame)) ≡ view_after_hearing v (named (completed 0 v.slots) (with_bits v.state (field Bits Status frame) (field Bits Error frame)) 0)
 unfolding heard_fis
 notice_view v frame is = ap (view_after_hearing v) (heard_notice v.slots v.state (field Bits Status frame) (field Bits Error frame) (field Bits SActive frame) is.right is.names)
 

@@ -63,7 +63,7 @@ not_running false b h = refl
 not_running true b h = absurd (true≢false h)
 
 -- a port that is not open gives none
-closed_gives : (old : Host) → IsGoing old → old.driver.plan.opened < 7 → outgoing old.port old.memory ≡ Nothing
+pub closed_gives : (old : Host) → IsGoing old → old.driver.plan.opened < 7 → outgoing old.port old.memory ≡ Nothing
 closed_gives old g less =
     ap (λ (b : Bool). if not b then Nothing else match_some (next_receiver old.port) (match_some (next_to_send old.port) Nothing (order_due old.port)) (data_due old.port old.memory))
     (not_running old.port.registers.started (is_none old.port.errors.port) (g.way.sound.registers.stopped (omega (arith, less))))

@@ -20,4 +20,5 @@ pub mod Steady
 pub mod Known
 pub mod Going
 pub mod Slot31
+pub mod Scans
 pub mod Addressed

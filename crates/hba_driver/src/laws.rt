@@ -8,6 +8,7 @@ ghost use Rattle.hba_driver.specs.Faults.{ErrorsAreNamed};
 ghost use Rattle.hba_driver.specs.Known.{DevicesAreKnown};
 ghost use Rattle.hba_driver.specs.Reported.{DoneWasReported};
 ghost use Rattle.hba_driver.specs.Laws.{CommandsStand, DoneIsFree, EachRunKeeps, TicksKeep, TicksServe};
+ghost use Rattle.hba_driver.specs.Scans.{ScansClear};
 ghost use Rattle.hba_driver.specs.Served.{TurnsServe};
 ghost use Rattle.hba_driver.specs.Steady.{EachIsSteady};
 
@@ -119,4 +120,12 @@ pub fn turns_are_steady()
 /// accepted since it was flushed last. It does nothing when it runs.
 pub fn devices_are_known()
     ensures { DevicesAreKnown }
+{}
+
+/// The driver orders that a port of the multiplier be cleared only where it was named: over every list of
+/// turns of the host from its opening, the last answer of the multiplier to a read of GSCR[32] has the
+/// port's bit set, and no tick since that answer came has ordered that the port be cleared. It does nothing
+/// when it runs.
+pub fn scans_clear()
+    ensures { ScansClear }
 {}

@@ -1,0 +1,5 @@
+use Rattle.hba_driver.proofs.ScansTurns.{scans_clear}
+use Rattle.hba_driver.proofs.laws.scans_clear.Goals as goal
+
+pub returns : goal.returns
+returns c = scans_clear
