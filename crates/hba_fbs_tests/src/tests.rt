@@ -3,6 +3,7 @@
 mod clearing;
 mod rig;
 mod sending;
+mod steps;
 mod taking;
 mod vectors;
 

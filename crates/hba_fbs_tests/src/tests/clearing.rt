@@ -1,18 +1,15 @@
 //! PxFBS.DEC, which clears the device that PxFBS shows, with values from outside.
 
 use super::rig::Rig;
-use super::taking::{answer, carry, data, issue, prd, setup};
+use super::steps::Sent::{Answer, Eight, Four, Sector};
+use super::steps::Step::{Carries, Holds, Issues, Refuses, Shows, Takes, Tells, Writes};
+use super::steps::{done, fault, ignored, reads, stopping, told, without_bytes};
+use super::taking::setup;
 use hba_fbs::WriteError;
 use port_errors::DeviceCause;
+use rx_area::Posted;
 use std::process::Abort;
 use std::test::Fail;
-
-/// A Data FIS without bytes, which makes its device faulty.
-fn short(rt: &impl Abort, rig: &mut Rig, dev: u8) -> Result<(), Fail> {
-    let report = rig.take(&[0x46, dev, 0, 0])?;
-    assert_eq!(rt; report.fault, Some(DeviceCause::BadFis));
-    Ok(())
-}
 
 /// A Set Device Bits FIS that tells of an error, Error 40h.
 fn error(dev: u8) -> [u8; 8] {
@@ -28,8 +25,8 @@ fn place(dev: u8) -> u32 {
 /// it. PxFBS.DEV is 4.
 fn three_reading(rt: &impl Abort, rig: &mut Rig) -> Result<(), Fail> {
     for dev in [0, 2, 4] {
-        issue(rt, rig, dev, dev, 0x60, &[prd(place(dev), 1024)])?;
-        rig.take_all(&[&answer(dev), &setup(dev, true, dev, 0, 1024)])?;
+        reads(rt, rig, dev, dev, place(dev))?;
+        rig.take_all(&[&setup(dev, true, dev, 0, 1024)])?;
     }
     Ok(())
 }
@@ -38,18 +35,27 @@ fn three_reading(rt: &impl Abort, rig: &mut Rig) -> Result<(), Fail> {
 #[test]
 fn clears_in_order(rt: HostRuntime) -> Result<(), Fail> {
     let mut rig = Rig::started(rt.alloc())?;
-    short(&rt, &mut rig, 5)?;
-    short(&rt, &mut rig, 1)?;
-    assert_eq!(rt; rig.read(0x40), Some(0x0005_F005));
-    for (faulty, fbs) in [
-        ([false, true], 0x0001_F005),
-        ([false, false], 0x0000_F001),
-        ([false, false], 0x0000_F001),
-    ] {
-        assert_eq!(rt; rig.first_wrong(&[(0x40, 3, Ok(()), 0x40, fbs)]), None);
-        let ignored = [rig.take(&answer(5))?.ignored, rig.take(&answer(1))?.ignored];
-        assert_eq!(rt; ignored, faulty);
-    }
+    let wrong = rig.first_failing(
+        &rt,
+        &[
+            Tells(Four([0x46, 5, 0, 0]), without_bytes(5)),
+            Tells(Four([0x46, 1, 0, 0]), without_bytes(1)),
+            Shows(0x40, 0x0005_F005),
+            Writes(0x40, 3),
+            Shows(0x40, 0x0001_F005),
+            Tells(Answer(5), told(5, Posted::D2h)),
+            Tells(Answer(1), ignored(1)),
+            Writes(0x40, 3),
+            Shows(0x40, 0x0000_F001),
+            Tells(Answer(5), told(5, Posted::D2h)),
+            Tells(Answer(1), told(1, Posted::D2h)),
+            Writes(0x40, 3),
+            Shows(0x40, 0x0000_F001),
+            Tells(Answer(5), told(5, Posted::D2h)),
+            Tells(Answer(1), told(1, Posted::D2h)),
+        ],
+    )?;
+    assert_eq!(rt; wrong, None);
     Ok(())
 }
 
@@ -59,26 +65,31 @@ fn clears_in_order(rt: HostRuntime) -> Result<(), Fail> {
 fn old_data_is_stray(rt: HostRuntime) -> Result<(), Fail> {
     let mut rig = Rig::started(rt.alloc())?;
     three_reading(&rt, &mut rig)?;
-    let report = rig.take(&error(2))?;
-    assert_eq!(rt; report.fault, Some(DeviceCause::TaskFile));
-    assert_eq!(rt; rig.read(0x40), Some(0x0002_F405));
-    assert!(rt; rig.take(&data(2, 0x22))?.ignored);
-    let rows = [
-        (0x40, 0x0703, Ok(()), 0x40, 0x0000_F701),
-        (0x40, 0x0701, Ok(()), 0x34, 0x11),
-        (0x40, 0x0201, Ok(()), 0x20, 0x4041),
-    ];
-    assert_eq!(rt; rig.first_wrong(&rows), None);
-    let report = rig.take(&data(2, 0x22))?;
-    assert_eq!(rt;
-        (report.fault, report.wrote, report.ignored),
-        (Some(DeviceCause::Stray), None, false)
-    );
-    assert!(rt; rig.are(0x3000, 1024, 0));
-    assert_eq!(rt; rig.read(0x40), Some(0x0002_F205));
-    assert_eq!(rt; rig.write(0x40, 0x0203), Ok(()));
-    let report = rig.take(&[0xA1, 2, 0x50, 0, 4, 0, 0, 0])?;
-    assert_eq!(rt; (report.done, report.fault), (0, None));
+    let wrong = rig.first_failing(
+        &rt,
+        &[
+            Tells(
+                Eight(error(2)),
+                fault(2, Posted::Bits, DeviceCause::TaskFile),
+            ),
+            Shows(0x40, 0x0002_F405),
+            Tells(Sector(2, 0x22), ignored(2)),
+            Writes(0x40, 0x0703),
+            Shows(0x40, 0x0000_F701),
+            Shows(0x34, 0x11),
+            Writes(0x40, 0x0201),
+            Shows(0x20, 0x4041),
+            Tells(
+                Sector(2, 0x22),
+                fault(2, Posted::Nothing, DeviceCause::Stray),
+            ),
+            Holds(0x3000, 1024, 0),
+            Shows(0x40, 0x0002_F205),
+            Writes(0x40, 0x0203),
+            Tells(Eight([0xA1, 2, 0x50, 0, 4, 0, 0, 0]), told(2, Posted::Bits)),
+        ],
+    )?;
+    assert_eq!(rt; wrong, None);
     Ok(())
 }
 
@@ -87,30 +98,34 @@ fn old_data_is_stray(rt: HostRuntime) -> Result<(), Fail> {
 fn others_go_on(rt: HostRuntime) -> Result<(), Fail> {
     let mut rig = Rig::started(rt.alloc())?;
     three_reading(&rt, &mut rig)?;
-    rig.take_all(&[&data(0, 0x10), &error(2)])?;
-    let rows = [(0x40, 0x0403, Ok(()), 0x34, 0x11)];
-    assert_eq!(rt; rig.first_wrong(&rows), None);
-    for (dev, byte, wrote) in [
-        (4, 0x40, (4, 0, 512)),
-        (0, 0x11, (0, 512, 512)),
-        (4, 0x41, (4, 512, 512)),
-    ] {
-        assert_eq!(rt; carry(&mut rig, dev, byte)?, Some(wrote));
-    }
-    for (dev, done) in [(0, 1), (4, 0x10)] {
-        let report = rig.take(&[0xA1, dev, 0x50, 0, 0x15, 0, 0, 0])?;
-        assert_eq!(rt; (report.done, report.fault), (done, None));
-    }
-    for (at, byte) in [
-        (0x1000, 0x10),
-        (0x1200, 0x11),
-        (0x5000, 0x40),
-        (0x5200, 0x41),
-    ] {
-        assert!(rt; rig.are(at, 512, byte));
-    }
-    let shown = [(0x34, 0), (0x38, 0), (0x40, 0x0000_F401)];
-    assert_eq!(rt; rig.first_other(&shown), None);
+    let wrong = rig.first_failing(
+        &rt,
+        &[
+            Carries(0, 0x10, (0, 0, 512)),
+            Takes(Eight(error(2))),
+            Writes(0x40, 0x0403),
+            Shows(0x34, 0x11),
+            Carries(4, 0x40, (4, 0, 512)),
+            Carries(0, 0x11, (0, 512, 512)),
+            Carries(4, 0x41, (4, 512, 512)),
+            Tells(
+                Eight([0xA1, 0, 0x50, 0, 0x15, 0, 0, 0]),
+                done(0, Posted::Bits, 1),
+            ),
+            Tells(
+                Eight([0xA1, 4, 0x50, 0, 0x15, 0, 0, 0]),
+                done(4, Posted::Bits, 0x10),
+            ),
+            Holds(0x1000, 512, 0x10),
+            Holds(0x1200, 512, 0x11),
+            Holds(0x5000, 512, 0x40),
+            Holds(0x5200, 512, 0x41),
+            Shows(0x34, 0),
+            Shows(0x38, 0),
+            Shows(0x40, 0x0000_F401),
+        ],
+    )?;
+    assert_eq!(rt; wrong, None);
     Ok(())
 }
 
@@ -119,23 +134,27 @@ fn others_go_on(rt: HostRuntime) -> Result<(), Fail> {
 #[test]
 fn clears_what_went_out(rt: HostRuntime) -> Result<(), Fail> {
     let mut rig = Rig::started(rt.alloc())?;
-    issue(&rt, &mut rig, 2, 3, 0x60, &[prd(place(2), 1024)])?;
-    let rows = [
-        (0x40, 0x0203, Ok(()), 0x38, 8),
-        (0x40, 0x0203, Ok(()), 0x20, 0xD0),
-        (0x40, 0x0203, Ok(()), 0x40, 0x0000_F201),
-    ];
-    assert_eq!(rt; rig.first_wrong(&rows), None);
-    short(&rt, &mut rig, 2)?;
-    let rows = [
-        (0x40, 0x0202, Err(WriteError::Running), 0x38, 8),
-        (0x40, 0x0201, Ok(()), 0x40, 0x0002_F205),
-        (0x40, 0x0201, Ok(()), 0x38, 8),
-        (0x40, 0x0203, Ok(()), 0x38, 0),
-        (0x40, 0x0201, Ok(()), 0x20, 0x50),
-        (0x40, 0x0201, Ok(()), 0x40, 0x0000_F201),
-    ];
-    assert_eq!(rt; rig.first_wrong(&rows), None);
+    let wrong = rig.first_failing(
+        &rt,
+        &[
+            Issues(2, 3, 0x60, 0x10_3000),
+            Writes(0x40, 0x0203),
+            Shows(0x38, 8),
+            Shows(0x20, 0xD0),
+            Shows(0x40, 0x0000_F201),
+            Tells(Four([0x46, 2, 0, 0]), without_bytes(2)),
+            Refuses(0x40, 0x0202, WriteError::Running),
+            Shows(0x38, 8),
+            Writes(0x40, 0x0201),
+            Shows(0x40, 0x0002_F205),
+            Shows(0x38, 8),
+            Writes(0x40, 0x0203),
+            Shows(0x38, 0),
+            Shows(0x20, 0x50),
+            Shows(0x40, 0x0000_F201),
+        ],
+    )?;
+    assert_eq!(rt; wrong, None);
     Ok(())
 }
 
@@ -143,14 +162,17 @@ fn clears_what_went_out(rt: HostRuntime) -> Result<(), Fail> {
 #[test]
 fn clears_where_shown(rt: HostRuntime) -> Result<(), Fail> {
     let mut rig = Rig::started(rt.alloc())?;
-    issue(&rt, &mut rig, 2, 3, 0x60, &[prd(place(2), 1024)])?;
-    short(&rt, &mut rig, 2)?;
-    let report = rig.take(&[0x39, 0x0F, 0, 0])?;
-    assert!(rt; report.stopped.is_some());
-    let rows = [
-        (0x40, 0x0203, Ok(()), 0x38, 8),
-        (0x40, 0x0203, Ok(()), 0x40, 0x0000_F201),
-    ];
-    assert_eq!(rt; rig.first_wrong(&rows), None);
+    let wrong = rig.first_failing(
+        &rt,
+        &[
+            Issues(2, 3, 0x60, 0x10_3000),
+            Tells(Four([0x46, 2, 0, 0]), without_bytes(2)),
+            Tells(Four([0x39, 0x0F, 0, 0]), stopping()),
+            Writes(0x40, 0x0203),
+            Shows(0x38, 8),
+            Shows(0x40, 0x0000_F201),
+        ],
+    )?;
+    assert_eq!(rt; wrong, None);
     Ok(())
 }

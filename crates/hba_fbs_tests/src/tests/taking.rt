@@ -2,6 +2,11 @@
 
 use super::rig::Rig;
 use super::sending::command;
+use super::steps::Sent::{Answer, Counting, Eight, Four, Sector, Setup, Twenty, Unknown};
+use super::steps::Step::{
+    Carries, Holds, IsResetting, Posts, Reads, Resets, Shows, Takes, Tells, Writes,
+};
+use super::steps::{done, fault, ignored, reads, stopping, told, without_bytes, wrote};
 use fis_view::{FrameError, H2dFields};
 use hba_fbs::TakeReport;
 use host_memory::Prd;
@@ -86,7 +91,7 @@ pub(super) fn prd(address: u32, bytes: u32) -> Prd {
 }
 
 /// The bytes 0, 1, .. 255, 0, .. as Data of device 3.
-fn counting() -> [u8; 516] {
+pub(super) fn counting() -> [u8; 516] {
     let mut bytes = data(3, 0);
     for i in 0..512_usize {
         bytes[4 + i] = (i % 256) as u8;
@@ -100,97 +105,71 @@ fn read_is_done_once(rt: HostRuntime) -> Result<(), Fail> {
     let mut rig = Rig::started(rt.alloc())?;
     let prds = [prd(0x10_1000, 300), prd(0x10_2000, 212)];
     issue(&rt, &mut rig, 3, 5, 0x60, &prds)?;
-    assert_eq!(rt; rig.read(0x38), Some(0x20));
-    let _ = rig.take(&answer(3))?;
-    assert_eq!(rt; rig.read(0x38), Some(0));
-    let report = rig.take(&setup(3, true, 5, 0, 512))?;
-    assert_eq!(rt; (report.posted, report.fault), (Posted::Setup, None));
-    assert_eq!(rt;
-        (rig.structure_at(0x1300), rig.structure_at(0x1301)),
-        (Some(0x41), Some(0x23))
-    );
-    let report = rig.take(&counting())?;
-    assert_eq!(rt;
-        (report.posted, report.wrote),
-        (Posted::Nothing, Some((5, 0, 512)))
-    );
-    for (at, byte) in [
-        (0x112B, 0x2B),
-        (0x112C, 0),
-        (0x2000, 0x2C),
-        (0x20D3, 0xFF),
-        (0x20D4, 0),
-    ] {
-        assert_eq!(rt; rig.client_at(at), Some(byte), "{at}");
-    }
-    assert_eq!(rt; rig.read(0x34), Some(0x20));
     let bits = [0xA1, 0x43, 0x50, 0, 0x20, 0, 0, 0];
-    assert_eq!(rt; rig.take(&bits)?.done, 0x20);
-    assert_eq!(rt; rig.first_other(&[(0x34, 0), (0x10, 8)]), None);
-    let again = rig.take(&bits)?;
-    assert_eq!(rt;
-        (again.done, again.fault, again.posted),
-        (0, None, Posted::Bits)
-    );
+    let wrong = rig.first_failing(
+        &rt,
+        &[
+            Shows(0x38, 0x20),
+            Takes(Answer(3)),
+            Shows(0x38, 0),
+            Tells(Setup(3, true, 5, 0, 512), told(3, Posted::Setup)),
+            Posts(0x1300, 0x41),
+            Posts(0x1301, 0x23),
+            Tells(Counting, wrote(3, (5, 0, 512))),
+            Holds(0x112B, 1, 0x2B),
+            Holds(0x112C, 1, 0),
+            Holds(0x2000, 1, 0x2C),
+            Holds(0x20D3, 1, 0xFF),
+            Holds(0x20D4, 1, 0),
+            Shows(0x34, 0x20),
+            Tells(Eight(bits), done(3, Posted::Bits, 0x20)),
+            Shows(0x34, 0),
+            Shows(0x10, 8),
+            Tells(Eight(bits), told(3, Posted::Bits)),
+        ],
+    )?;
+    assert_eq!(rt; wrong, None);
     Ok(())
-}
-
-/// These reads of two sectors each go out and are answered.
-fn ask(rt: &impl Abort, rig: &mut Rig, reads: &[(u8, u8, u32)]) -> Result<(), Fail> {
-    for (dev, slot, address) in reads.iter() {
-        issue(rt, rig, *dev, *slot, 0x60, &[prd(*address, 1024)])?;
-        rig.take_all(&[&answer(*dev)])?;
-    }
-    Ok(())
-}
-
-/// A sector of Data of a device, all of whose bytes are this one: which slot's bytes it writes.
-pub(super) fn carry(
-    rig: &mut Rig,
-    dev: u8,
-    byte: u8,
-) -> Result<Option<(u8, u32, u32)>, FrameError> {
-    Ok(rig.take(&data(dev, byte))?.wrote)
 }
 
 /// Two reads of two sectors whose Data FISes cross; another comes with its second sector first.
 #[test]
 fn reads_cross(rt: HostRuntime) -> Result<(), Fail> {
     let mut rig = Rig::started(rt.alloc())?;
-    ask(
+    let wrong = rig.first_failing(
         &rt,
-        &mut rig,
-        &[(0, 0, 0x10_1000), (4, 1, 0x10_2000), (9, 2, 0x10_3000)],
+        &[
+            Reads(0, 0, 0x10_1000),
+            Reads(4, 1, 0x10_2000),
+            Reads(9, 2, 0x10_3000),
+            Takes(Setup(0, true, 0, 0, 1024)),
+            Takes(Setup(4, true, 1, 0, 1024)),
+            Carries(0, 0x11, (0, 0, 512)),
+            Carries(4, 0x44, (1, 0, 512)),
+            Carries(0, 0x12, (0, 512, 512)),
+            Carries(4, 0x45, (1, 512, 512)),
+            Takes(Setup(9, true, 2, 512, 512)),
+            Carries(9, 0x99, (2, 512, 512)),
+            Takes(Setup(9, true, 2, 0, 512)),
+            Carries(9, 0x90, (2, 0, 512)),
+            Holds(0x1000, 512, 0x11),
+            Holds(0x1200, 512, 0x12),
+            Holds(0x2000, 512, 0x44),
+            Holds(0x2200, 512, 0x45),
+            Holds(0x3000, 512, 0x90),
+            Holds(0x3200, 512, 0x99),
+            Tells(
+                Setup(9, true, 2, 512, 512),
+                fault(9, Posted::Setup, DeviceCause::Twice),
+            ),
+            Tells(
+                Eight([0xA1, 4, 0x50, 0, 7, 0, 0, 0]),
+                done(4, Posted::Bits, 2),
+            ),
+            Shows(0x34, 5),
+        ],
     )?;
-    rig.take_all(&[&setup(0, true, 0, 0, 1024), &setup(4, true, 1, 0, 1024)])?;
-    for (dev, byte, wrote) in [
-        (0, 0x11, (0, 0, 512)),
-        (4, 0x44, (1, 0, 512)),
-        (0, 0x12, (0, 512, 512)),
-        (4, 0x45, (1, 512, 512)),
-    ] {
-        assert_eq!(rt; carry(&mut rig, dev, byte)?, Some(wrote));
-    }
-    rig.take_all(&[
-        &setup(9, true, 2, 512, 512),
-        &data(9, 0x99),
-        &setup(9, true, 2, 0, 512),
-        &data(9, 0x90),
-    ])?;
-    for (at, byte) in [
-        (0x1000, 0x11),
-        (0x1200, 0x12),
-        (0x2000, 0x44),
-        (0x2200, 0x45),
-        (0x3000, 0x90),
-        (0x3200, 0x99),
-    ] {
-        assert!(rt; rig.are(at, 512, byte));
-    }
-    let twice = rig.take(&setup(9, true, 2, 512, 512))?;
-    assert_eq!(rt; twice.fault, Some(DeviceCause::Twice));
-    assert_eq!(rt; rig.take(&[0xA1, 4, 0x50, 0, 7, 0, 0, 0])?.done, 2);
-    assert_eq!(rt; rig.read(0x34), Some(5));
+    assert_eq!(rt; wrong, None);
     Ok(())
 }
 
@@ -205,7 +184,7 @@ fn fails(
     interrupts: u32,
 ) -> Result<(), Fail> {
     rig.start();
-    ask(rt, rig, &[(2, 0, 0x10_1000)])?;
+    reads(rt, rig, 2, 0, 0x10_1000)?;
     rig.take_all(before)?;
     let report = rig.take(fis)?;
     assert_eq!(rt;
@@ -284,7 +263,7 @@ fn lengths_are_faults(rt: HostRuntime) -> Result<(), Fail> {
 }
 
 /// The bytes of a FIS of an unknown type.
-fn unknown(dev: u8) -> [u8; 64] {
+pub(super) fn unknown(dev: u8) -> [u8; 64] {
     let mut fis = [0; 64];
     fis[0] = 0xC7;
     fis[1] = dev;
@@ -296,30 +275,30 @@ fn unknown(dev: u8) -> [u8; 64] {
 #[test]
 fn faults_are_reported(rt: HostRuntime) -> Result<(), Fail> {
     let mut rig = Rig::started(rt.alloc())?;
-    for dev in [5, 1] {
-        let report = rig.take(&[0x46, dev, 0, 0])?;
-        assert_eq!(rt;
-            (report.dev, report.fault),
-            (dev, Some(DeviceCause::BadFis))
-        );
-        assert_eq!(rt; rig.read(0x40), Some(0x0005_F005));
-        assert!(rt; rig.take(&answer(dev))?.ignored);
-    }
-    let report = rig.take(&unknown(3))?;
-    assert_eq!(rt; (report.posted, report.fault), (Posted::Unknown, None));
-    let shown = [(0x30, 0x0200_0000), (0x10, 0x0800_0010)];
-    assert_eq!(rt; rig.first_other(&shown), None);
-    let report = rig.take(&[0xA1, 0xCF, 0x50, 0, 0, 0, 0, 0])?;
-    assert_eq!(rt; report.posted, Posted::Bits);
-    assert_eq!(rt; rig.read(0x3C), Some(0x8000));
-    let report = rig.take(&[0x39, 0x0F, 0, 0])?;
-    assert_eq!(rt;
-        (report.fault, report.stopped),
-        (None, Some(PortCause::BadControl))
-    );
-    let shown = [(0x40, 0xF001), (0x10, 0x2800_0018)];
-    assert_eq!(rt; rig.first_other(&shown), None);
-    assert!(rt; rig.take(&answer(3))?.ignored);
+    let wrong = rig.first_failing(
+        &rt,
+        &[
+            Tells(Four([0x46, 5, 0, 0]), without_bytes(5)),
+            Shows(0x40, 0x0005_F005),
+            Tells(Answer(5), ignored(5)),
+            Tells(Four([0x46, 1, 0, 0]), without_bytes(1)),
+            Shows(0x40, 0x0005_F005),
+            Tells(Answer(1), ignored(1)),
+            Tells(Unknown(3), told(3, Posted::Unknown)),
+            Shows(0x30, 0x0200_0000),
+            Shows(0x10, 0x0800_0010),
+            Tells(
+                Eight([0xA1, 0xCF, 0x50, 0, 0, 0, 0, 0]),
+                told(15, Posted::Bits),
+            ),
+            Shows(0x3C, 0x8000),
+            Tells(Four([0x39, 0x0F, 0, 0]), stopping()),
+            Shows(0x40, 0xF001),
+            Shows(0x10, 0x2800_0018),
+            Tells(Answer(3), ignored(3)),
+        ],
+    )?;
+    assert_eq!(rt; wrong, None);
     Ok(())
 }
 
@@ -341,18 +320,24 @@ pub(super) fn reset(rt: &impl Abort, rig: &mut Rig, dev: u8) -> Result<(), Fail>
 #[test]
 fn signature_ends_reset(rt: HostRuntime) -> Result<(), Fail> {
     let mut rig = Rig::started(rt.alloc())?;
-    rig.take_all(&[&PM_SIGNATURE])?;
-    assert_eq!(rt; rig.read(0x24), Some(0xFFFF_FFFF));
-    reset(&rt, &mut rig, 15)?;
-    let _ = rig.write(0x10, 1);
-    assert!(rt; rig.take(&answer(0x4F))?.ignored);
-    assert!(rt; rig.resetting(&rt, 15));
-    let report = rig.take(&PM_SIGNATURE)?;
-    assert_eq!(rt; (report.posted, report.done), (Posted::D2h, 0));
-    assert!(rt; !rig.resetting(&rt, 15));
-    let _ = rig.write(0x40, 0xF01);
-    let shown = [(0x24, 0x9669_0101), (0x10, 1), (0x20, 0x0150)];
-    assert_eq!(rt; rig.first_other(&shown), None);
+    let wrong = rig.first_failing(
+        &rt,
+        &[
+            Takes(Twenty(PM_SIGNATURE)),
+            Shows(0x24, 0xFFFF_FFFF),
+            Resets(15),
+            Writes(0x10, 1),
+            Tells(Answer(0x4F), ignored(15)),
+            IsResetting(15, true),
+            Tells(Twenty(PM_SIGNATURE), told(15, Posted::D2h)),
+            IsResetting(15, false),
+            Writes(0x40, 0xF01),
+            Shows(0x24, 0x9669_0101),
+            Shows(0x10, 1),
+            Shows(0x20, 0x0150),
+        ],
+    )?;
+    assert_eq!(rt; wrong, None);
     Ok(())
 }
 
