@@ -1,15 +1,16 @@
 -- One deed more of a device.
-use Rattle.std.proofs.Common.{◌≡◌, ℕ, ◌+◌, true, false, List, [], ◌∷◌, ◌++◌, append_assoc, append-nil, refl, sym, ap, ◌∙◌, subst}
-use Rattle.std.specs.Prelude.{◌==◌, if◌then◌else◌, Option, Some, None}
-use Rattle.std.specs.List.{flat_map}
+use Rattle.std.proofs.Common.{◌≡◌, ℕ, ◌+◌, ◌<◌, ◌≤◌, true, false, List, [], ◌∷◌, ◌++◌, length, get_or, append_assoc, append-nil, length-append, refl, sym, ap, ◌∙◌, subst}
+use Rattle.std.specs.Prelude.{◌==◌, if◌then◌else◌, All, Option, Some, None}
+use Rattle.std.specs.List.{flat_map, remove}
 use Rattle.std.specs.Option.{option_to_list}
 use Rattle.std.proofs.lemmas.Grind.{flat_map-append}
 use Rattle.std.proofs.lemmas.List.Concat.{flat_map-cons}
 use Rattle.fis_view.specs.Frames.{Stamped}
 use Rattle.disk_model.specs.Histories.{Happening, Received, Plugged, Plan, GoesOn, SendsNext}
 use Rattle.link_items.specs.declared.items.Presence.TheVariants.{Came, Gone}
-use Rattle.disk_thread.specs.Deeds.{Deed, plugged_in, pulled_out, took, gave, Standing, never_plugged, after_deed, hears, happens, MayBeDone, taken_by, given_by, told_by, after_deeds, history_of, MayAllBeDone}
-use Rattle.disk_thread.specs.Runs.{StationState, all_given, all_told, IsRun}
+use Rattle.disk_thread.specs.Deeds.{Deed, plugged_in, pulled_out, took, gave, Standing, never_plugged, after_deed, hears, happens, MayBeDone, taken_by, given_by, told_by, pulled_by, after_deeds, history_of, MayAllBeDone, pulls_after, pulls_in}
+use Rattle.disk_thread.specs.Runs.{StationState, all_given, all_told, IsRun, KeepsPulls}
+use Rattle.disk_thread.proofs.PullLemmas.{keeps_give, keeps_none, keeps_pull, keeps_still, pulls_more}
 
 -- ---- a list that is one longer
 
@@ -63,8 +64,8 @@ unheard s f in_place of_conn = rw (in_place, of_conn) refl
 module _ {D : Type 0} (plan_of : D → Plan) (StandsFor : D → List Happening → Type 0) (MaySend : Plan → List Happening → List ℕ → Type 0) where
   -- a device with which nothing was done
   pub run_none : (now : StationState D) → now.standing ≡ never_plugged → now.commands.taken ≡ [] → now.frames.sent ≡ [] → now.hand ≡ None
-      → now.presence.sent ≡ [] → now.note ≡ None → IsRun plan_of StandsFor MaySend now.unit now
-  unfolding after_deeds history_of MayAllBeDone
+      → now.presence.sent ≡ [] → now.note ≡ None → IsRun plan_of StandsFor MaySend now.left now.unit now
+  unfolding after_deeds history_of MayAllBeDone pulls_after
   run_none now standing taken sent hand posted note = record {
     deeds = [];
     plan = refl;
@@ -74,17 +75,20 @@ module _ {D : Type 0} (plan_of : D → Plan) (StandsFor : D → List Happening �
     taken = taken;
     given = ap (λ l. l ++ option_to_list now.hand) sent ∙ ap option_to_list hand;
     told = ap (λ l. l ++ option_to_list now.note) posted ∙ ap option_to_list note;
+    pulls = keeps_none now.left (length (all_given now)) (ap (λ l. length (l ++ option_to_list now.hand)) sent ∙ ap (λ o. length (option_to_list o)) hand);
   }
 
-  module _ (opening : D) (old new : StationState D) where
+  module _ (due : List ℕ) (opening : D) (old new : StationState D) where
     -- a deed was done
     run_more : (d : Deed) → plan_of new.unit ≡ plan_of old.unit
         → ((h : List Happening) → StandsFor old.unit h → StandsFor new.unit (h ++ happens old.standing d))
         → ((h : List Happening) → StandsFor old.unit h → MayBeDone (MaySend (plan_of old.unit) h) old.port old.standing d)
         → new.port ≡ old.port → new.standing ≡ after_deed old.standing d
         → new.commands.taken ≡ old.commands.taken ++ taken_by d → all_given new ≡ all_given old ++ given_by d → all_told new ≡ all_told old ++ told_by d
-        → IsRun plan_of StandsFor MaySend opening old → IsRun plan_of StandsFor MaySend opening new
-    run_more d plan stands may port standing taken given told r =
+        → ((made : List ℕ) → KeepsPulls due made old.left (length (all_given old))
+        → KeepsPulls due (made ++ pulled_by (length (all_given old)) d) new.left (length (all_given new)))
+        → IsRun plan_of StandsFor MaySend due opening old → IsRun plan_of StandsFor MaySend due opening new
+    run_more d plan stands may port standing taken given told keeps r =
         let all : List Happening = history_of never_plugged r.deeds in
         let history : all ++ happens old.standing d ≡ history_of never_plugged (r.deeds ++ d ∷ []) =
         ap (λ s. all ++ happens s d) r.standing ∙ sym (history_more never_plugged r.deeds d) in
@@ -102,63 +106,78 @@ module _ {D : Type 0} (plan_of : D → Plan) (StandsFor : D → List Happening �
           taken = taken ∙ ap (λ l. l ++ taken_by d) r.taken ∙ sym (moved_more taken_by r.deeds d);
           given = given ∙ ap (λ l. l ++ given_by d) r.given ∙ sym (moved_more given_by r.deeds d);
           told = told ∙ ap (λ l. l ++ told_by d) r.told ∙ sym (moved_more told_by r.deeds d);
+          pulls = subst (λ l. KeepsPulls due l new.left (length (all_given new)))
+              (ap (λ l. pulls_in r.deeds ++ pulled_by (length l) d) r.given ∙ sym (pulls_more r.deeds d)) (keeps (pulls_in r.deeds) r.pulls);
         }
+
+    -- a deed that is no pull, and gives nothing
+    stays : new.left ≡ old.left → all_given new ≡ all_given old → (made : List ℕ) → KeepsPulls due made old.left (length (all_given old))
+        → KeepsPulls due (made ++ []) new.left (length (all_given new))
+    stays left given made h = keeps_still due made old.left new.left (length (all_given old)) (length (all_given new)) left (ap length given) h
 
     -- the device was plugged in
     pub run_plugged : GoesOn plan_of StandsFor old.unit Plugged new.unit → old.standing.plugged ≡ false
         → new.port ≡ old.port → new.standing ≡ record { conn = old.standing.conn + 1; plugged = true }
         → new.commands.taken ≡ old.commands.taken → all_given new ≡ all_given old
-        → new.presence.sent ≡ old.presence.sent → old.note ≡ None → new.note ≡ Some (Came (old.standing.conn + 1))
-        → IsRun plan_of StandsFor MaySend opening old → IsRun plan_of StandsFor MaySend opening new
-    run_plugged ok out port standing taken given posted empty note =
+        → new.presence.sent ≡ old.presence.sent → old.note ≡ None → new.note ≡ Some (Came (old.standing.conn + 1)) → new.left ≡ old.left
+        → IsRun plan_of StandsFor MaySend due opening old → IsRun plan_of StandsFor MaySend due opening new
+    run_plugged ok out port standing taken given posted empty note left =
         run_more (plugged_in (old.standing.conn + 1)) ok.plan ok.goes_on (λ h s. (out, refl)) port standing
         (nothing_more old.commands.taken new.commands.taken taken) (nothing_more (all_given old) (all_given new) given)
-        (ap (λ l. l ++ option_to_list new.note) posted ∙ place_filled old.presence.sent old.note new.note (Came (old.standing.conn + 1)) empty note)
+        (ap (λ l. l ++ option_to_list new.note) posted ∙ place_filled old.presence.sent old.note new.note (Came (old.standing.conn + 1)) empty note) (stays left given)
 
     -- the device was pulled out
     pub run_pulled : new.unit ≡ old.unit → old.standing.plugged ≡ true
         → new.port ≡ old.port → new.standing ≡ record { conn = old.standing.conn; plugged = false }
         → new.commands.taken ≡ old.commands.taken → all_given new ≡ all_given old
         → new.presence.sent ≡ old.presence.sent → old.note ≡ None → new.note ≡ Some (Gone old.standing.conn)
-        → IsRun plan_of StandsFor MaySend opening old → IsRun plan_of StandsFor MaySend opening new
-    run_pulled unit in_place port standing taken given posted empty note =
+        → (i other : ℕ) → i < length old.left → get_or old.left i other ≤ length (all_given old) → new.left ≡ remove old.left i
+        → IsRun plan_of StandsFor MaySend due opening old → IsRun plan_of StandsFor MaySend due opening new
+    run_pulled unit in_place port standing taken given posted empty note i other lt late left =
         run_more (pulled_out old.standing.conn) (ap plan_of unit)
         (λ h s. subst (λ u. StandsFor u (h ++ [])) (sym unit) (subst (StandsFor old.unit) (sym (append-nil h)) s))
         (λ h s. (in_place, refl)) port standing
         (nothing_more old.commands.taken new.commands.taken taken) (nothing_more (all_given old) (all_given new) given)
         (ap (λ l. l ++ option_to_list new.note) posted ∙ place_filled old.presence.sent old.note new.note (Gone old.standing.conn) empty note)
+        (λ made h. subst (λ l. KeepsPulls due (made ++ length (all_given old) ∷ []) l (length (all_given new))) (sym left)
+        (keeps_pull due made old.left (length (all_given old)) (length (all_given new)) i other lt late (ap length given) h))
 
     -- a FIS of the host was taken, and the device heard it
     pub run_heard : (f : Stamped) → GoesOn plan_of StandsFor old.unit (Received f.bytes) new.unit → old.standing.plugged ≡ true → (f.stamp.conn == old.standing.conn) ≡ true
         → new.port ≡ old.port → new.standing ≡ old.standing → new.commands.taken ≡ old.commands.taken ++ f ∷ []
-        → all_given new ≡ all_given old → all_told new ≡ all_told old
-        → IsRun plan_of StandsFor MaySend opening old → IsRun plan_of StandsFor MaySend opening new
-    run_heard f ok in_place of_conn port standing taken given told =
+        → all_given new ≡ all_given old → all_told new ≡ all_told old → new.left ≡ old.left
+        → IsRun plan_of StandsFor MaySend due opening old → IsRun plan_of StandsFor MaySend due opening new
+    run_heard f ok in_place of_conn port standing taken given told left =
         let test : hears old.standing f ≡ true = heard old.standing f in_place of_conn in
         run_more (took f) ok.plan
         (λ h s. subst (λ b. StandsFor new.unit (h ++ (if b then Received f.bytes ∷ [] else []))) (sym test) (ok.goes_on h s))
         (λ h s. tt) port standing taken (nothing_more (all_given old) (all_given new) given) (nothing_more (all_told old) (all_told new) told)
+        (stays left given)
 
     -- a FIS of the host was taken, and let go
     pub run_unheard : (f : Stamped) → new.unit ≡ old.unit → old.standing.plugged ≡ true → (f.stamp.conn == old.standing.conn) ≡ false
         → new.port ≡ old.port → new.standing ≡ old.standing → new.commands.taken ≡ old.commands.taken ++ f ∷ []
-        → all_given new ≡ all_given old → all_told new ≡ all_told old
-        → IsRun plan_of StandsFor MaySend opening old → IsRun plan_of StandsFor MaySend opening new
-    run_unheard f unit in_place of_conn port standing taken given told =
+        → all_given new ≡ all_given old → all_told new ≡ all_told old → new.left ≡ old.left
+        → IsRun plan_of StandsFor MaySend due opening old → IsRun plan_of StandsFor MaySend due opening new
+    run_unheard f unit in_place of_conn port standing taken given told left =
         let test : hears old.standing f ≡ false = unheard old.standing f in_place of_conn in
         run_more (took f) (ap plan_of unit)
         (λ h s. subst (λ b. StandsFor new.unit (h ++ (if b then Received f.bytes ∷ [] else []))) (sym test)
         (subst (λ u. StandsFor u (h ++ [])) (sym unit) (subst (StandsFor old.unit) (sym (append-nil h)) s)))
         (λ h s. tt) port standing taken (nothing_more (all_given old) (all_given new) given) (nothing_more (all_told old) (all_told new) told)
+        (stays left given)
 
     -- the device gave a FIS
     pub run_gave : (f : Stamped) → SendsNext plan_of StandsFor MaySend old.unit f.bytes new.unit → old.standing.plugged ≡ true
         → f.stamp.port ≡ old.port → f.stamp.conn ≡ old.standing.conn
         → new.port ≡ old.port → new.standing ≡ old.standing → new.commands.taken ≡ old.commands.taken
         → new.frames.sent ≡ old.frames.sent → old.hand ≡ None → new.hand ≡ Some f → all_told new ≡ all_told old
-        → IsRun plan_of StandsFor MaySend opening old → IsRun plan_of StandsFor MaySend opening new
-    run_gave f ok in_place of_port of_conn port standing taken sent empty hand told =
+        → new.left ≡ old.left → All (λ count. length (all_given old) < count) old.left
+        → IsRun plan_of StandsFor MaySend due opening old → IsRun plan_of StandsFor MaySend due opening new
+    run_gave f ok in_place of_port of_conn port standing taken sent empty hand told left none =
+        let given : all_given new ≡ all_given old ++ f ∷ [] =
+        ap (λ l. l ++ option_to_list new.hand) sent ∙ place_filled old.frames.sent old.hand new.hand f empty hand in
         run_more (gave f) ok.plan ok.goes_on (λ h s. (in_place, of_port, of_conn, ok.allowed h s)) port standing
-        (nothing_more old.commands.taken new.commands.taken taken)
-        (ap (λ l. l ++ option_to_list new.hand) sent ∙ place_filled old.frames.sent old.hand new.hand f empty hand)
-        (nothing_more (all_told old) (all_told new) told)
+        (nothing_more old.commands.taken new.commands.taken taken) given (nothing_more (all_told old) (all_told new) told)
+        (λ made h. subst (λ l. KeepsPulls due (made ++ []) l (length (all_given new))) (sym left)
+        (keeps_give due made old.left (length (all_given old)) (length (all_given new)) none (ap length given ∙ length-append (all_given old) (f ∷ [])) h))

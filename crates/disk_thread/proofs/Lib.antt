@@ -1,3 +1,4 @@
 pub mod CountLemmas
 pub mod DeedLemmas
+pub mod PullLemmas
 pub mod ToldLemmas

@@ -1,6 +1,6 @@
 -- What the thread of a device does, deed by deed. The FISes and their stamps are those of the device's links; what happens to
 -- the device itself is its history, with its own words.
-use Rattle.std.specs.Prelude.{ℕ, ◌≡◌, ◌+◌, ◌==◌, ◌&&◌, Bool, true, false, if◌then◌else◌, List, [], ◌∷◌, ◌++◌, ⊤}
+use Rattle.std.specs.Prelude.{ℕ, ◌≡◌, ◌+◌, ◌==◌, ◌&&◌, Bool, true, false, if◌then◌else◌, List, [], ◌∷◌, ◌++◌, length, ⊤}
 use Rattle.fis_view.specs.Frames.{Stamped}
 use Rattle.disk_model.specs.Histories.{Happening, Received, Sent, Plugged}
 use Rattle.link_items.specs.declared.items.Presence.{Presence}
@@ -66,6 +66,13 @@ told_by (plugged_in c) = Came c ∷ []
 told_by (pulled_out c) = Gone c ∷ []
 told_by _ = []
 
+-- ---- after how many FISes of the device it was pulled out
+
+-- the deed, where it is a pull after so many
+abbrev pub pulled_by : ℕ → Deed → List ℕ
+pulled_by given (pulled_out c) = given ∷ []
+pulled_by given _ = []
+
 -- ---- many deeds, in one order
 
 unfoldable pub after_deeds : Standing → List Deed → Standing
@@ -81,3 +88,12 @@ unfoldable pub MayAllBeDone : (List Happening → List ℕ → Type 0) → ℕ �
 MayAllBeDone MaySend n s history [] = ⊤
 MayAllBeDone MaySend n s history (d ∷ ds) =
     MayBeDone (MaySend history) n s d × MayAllBeDone MaySend n (after_deed s d) (history ++ happens s d) ds
+
+-- each pull of these deeds, where so many FISes were given before them
+unfoldable pub pulls_after : ℕ → List Deed → List ℕ
+pulls_after given [] = []
+pulls_after given (d ∷ ds) = pulled_by given d ++ pulls_after (given + length (given_by d)) ds
+
+-- each pull of all deeds, in their order
+abbrev pub pulls_in : List Deed → List ℕ
+pulls_in ds = pulls_after 0 ds

@@ -3,7 +3,8 @@
 //! [`Station`] is a device with the seats of its three links and a place before each: it is plugged in, takes FISes of the
 //! host, gives its own, and is pulled out. A [`DiskWorker`] does this turn by turn, and each FIS that it took passes a
 //! [`Gate`] before the device sees it. Whatever device's run the station was, `specs/Runs.antt`, it goes on to be: there
-//! is one order of all that was taken, given and told, in which each FIS given is one that the device might send then.
+//! is one order of all that was taken, given and told, in which each FIS given is one that the device might send then,
+//! and in which the device is pulled out after just as many of its FISes as was due.
 #![tactic(auto)]
 
 mod gate;

@@ -1,6 +1,6 @@
 //! A device at its port.
 
-ghost use Rattle.std.specs.Prelude.{◌≡◌, [], length, Err, IfErr, OnOk};
+ghost use Rattle.std.specs.Prelude.{◌≡◌, ◌<◌, ◌≤◌, [], length, slice_index_or, All, Err, IfErr, IfNone, IfSome, OnOk};
 ghost use Rattle.multiplier.specs.Orders.{of_connection};
 ghost use Rattle.runner.specs.declared.worker.Fault.TheVariants as fault;
 ghost use Rattle.disk_thread.specs.Runs.{AreTold, GoesOnRunning, IsAtSamePort, IsRun, all_given, all_told};
@@ -30,11 +30,23 @@ pub struct Station<'a, D: Device + Drop> {
     note: Option<Presence>,
     /// How many FISes the device gave on each connection before this one, from 0 on.
     past: Vec<u32>,
+    /// How many it gave on all connections.
     given: u64,
+    /// After how many each pull is due that was not made.
+    pulls: Vec<u32>,
+}
+
+/// The place of a pull that is due once so many FISes were given.
+fn due(pulls: &[u32], given: u64) -> Option<usize>
+    ensures there { IfSome result (λ i. i < length pulls.now) }
+    ensures due { IfSome result (λ i. slice_index_or pulls.now i 0 ≤ given) }
+    ensures none { IfNone result (All (λ after. given < after) pulls.now) }
+{
+    pulls.iter().position(|after| u64::from(*after) <= given)
 }
 
 impl<'a, D: Device + Drop> Model for Station<'a, D> {
-    ghost use Rattle.std.specs.Prelude.{◌++◌};
+    ghost use Rattle.std.specs.Prelude.{◌≡◌, ◌++◌, length};
     ghost use Rattle.std.specs.Option.{option_to_list};
     ghost use Rattle.disk_thread.specs.Runs.{ArePast, AreTold, IsCounted, StationState};
 
@@ -50,15 +62,18 @@ impl<'a, D: Device + Drop> Model for Station<'a, D> {
       presence = s.presence;
       hand = s.hand;
       note = s.note;
+      left = s.pulls.items;
     } };
 
     ghost invariant = { λ s. IsCounted (s.frames.sent ++ option_to_list s.hand) s.conn s.number
         × ArePast s.past.items s.conn (s.frames.sent ++ option_to_list s.hand)
-        × AreTold (s.presence.sent ++ option_to_list s.note) s.conn };
+        × AreTold (s.presence.sent ++ option_to_list s.note) s.conn
+        × (s.given ≡ length (s.frames.sent ++ option_to_list s.hand)) };
 }
 
 impl<'a, D: Device + Drop> Station<'a, D> {
-    /// A device that was not plugged in yet, with seats that were not used. It has run no deed.
+    /// A device that was not plugged in yet, with seats that were not used. It has run no deed. It is to be pulled out, and
+    /// plugged in again, after as many of its FISes as each of the pulls says.
     pub fn new(
         alloc: Global,
         port: u8,
@@ -66,11 +81,12 @@ impl<'a, D: Device + Drop> Station<'a, D> {
         commands: Rx<'a, Down>,
         frames: Tx<'a, FromDevice>,
         presence: Tx<'a, Presence>,
+        pulls: Vec<u32>,
     ) -> Self
         requires commands { commands.taken ≡ [] }
         requires frames { frames.sent ≡ [] }
         requires presence { presence.sent ≡ [] }
-        ensures run { IsRun D.plan_of D.stands_for D.may_send unit result }
+        ensures run { IsRun D.plan_of D.stands_for D.may_send pulls.items unit result }
         ensures port { result.port ≡ port }
         ensures commands { result.commands ≡ commands.entry }
         ensures frames { result.frames ≡ frames.entry }
@@ -89,6 +105,7 @@ impl<'a, D: Device + Drop> Station<'a, D> {
             note: None,
             past: Vec::new(alloc),
             given: 0,
+            pulls,
         }
     }
 
@@ -114,19 +131,18 @@ impl<'a, D: Device + Drop> Station<'a, D> {
         u64::from(self.past[conn as usize])
     }
 
-    /// How many FISes the device gave, up to the largest number.
-    pub(crate) fn given(&self) -> u64 {
-        self.given
-    }
-
-    /// Pulls the device out, if it is plugged in and that was told. It may come again under a later connection.
+    /// Pulls the device out, if a pull is due, it is plugged in and that was told. It may come again under a later connection.
     pub(crate) fn pull(&mut self) -> bool
         ensures run { GoesOnRunning D.plan_of D.stands_for D.may_send self.old self.new }
         ensures port { IsAtSamePort self.old self.new }
     {
-        if !self.plugged || self.note.is_some() || self.conn == u32::MAX {
+        if !self.plugged || self.note.is_some() {
             return false;
         }
+        let Some(i) = due(self.pulls.as_slice(), self.given) else {
+            return false;
+        };
+        self.pulls.remove(i);
         self.plugged = false;
         self.note = Some(Presence::Gone(self.conn));
         true
@@ -198,13 +214,16 @@ impl<'a, D: Device + Drop> Station<'a, D> {
         Ok(true)
     }
 
-    /// Lets the device give its next FIS, if it is plugged in, that was told, and the one before has left.
+    /// Lets the device give its next FIS, if it is plugged in, that was told, no pull is due, and the one before has left.
     pub(crate) fn give(&mut self, alloc: Global) -> Result<bool, Fault>
         ensures run { OnOk result (GoesOnRunning D.plan_of D.stands_for D.may_send self.old self.new) }
         ensures port { IsAtSamePort self.old self.new }
         ensures fault { IfErr result (λ f. f ≡ fault.OutOfMemory) }
     {
         if self.hand.is_some() || !self.plugged || self.note.is_some() || self.number == u32::MAX {
+            return Ok(false);
+        }
+        if self.given == u64::MAX || due(self.pulls.as_slice(), self.given).is_some() {
             return Ok(false);
         }
         let stamp = Stamp {
@@ -217,7 +236,7 @@ impl<'a, D: Device + Drop> Station<'a, D> {
             Ok(Some(frame)) => {
                 self.hand = Some(frame);
                 self.number += 1;
-                self.given = self.given.saturating_add(1);
+                self.given += 1;
                 Ok(true)
             }
             Ok(None) => Ok(false),

@@ -95,8 +95,8 @@ fn worked(
     let (posted, mut presence) = wires.told.seats()?;
     let _ = commands.send(rt, Down(frame));
     let stop = AtomicBool::new(false);
-    let station = Station::new(alloc, 3, disk, taken, given, posted);
-    let end = DiskWorker::new(station, door, alloc, pulls).work(rt, &stop, 100);
+    let station = Station::new(alloc, 3, disk, taken, given, posted, pulls);
+    let end = DiskWorker::new(station, door, alloc).work(rt, &stop, 100);
     let (count, conn, number) = last(rt, &mut frames);
     Some((count, conn, number, changes(rt, &mut presence), end.fault))
 }
@@ -120,10 +120,11 @@ fn at_work(
 #[test]
 fn a_disk_at_work(rt: HostRuntime) -> Result<(), Fail> {
     let alloc = rt.alloc();
-    // The signature, and the answer to IDENTIFY; the signature alone; the signature of each connection.
+    // The signature, and the answer to IDENTIFY; the signature alone; that of the second connection; that of each.
     for (pull, conn, want) in [
         (9, 1, (3, 1, 2, 1, None)),
         (9, 2, (1, 1, 0, 1, None)),
+        (0, 9, (1, 2, 0, 3, None)),
         (1, 9, (2, 2, 0, 3, None)),
         (3, 1, (4, 2, 0, 3, None)),
     ] {

@@ -1,6 +1,6 @@
 //! A device's thread.
 
-ghost use Rattle.std.specs.Prelude.{◌≡◌, ◌<◌, length, Err, IfSome, OnOk};
+ghost use Rattle.std.specs.Prelude.{◌≡◌, Err, OnOk};
 ghost use Rattle.runner.specs.declared.worker.Fault.TheVariants as fault;
 ghost use Rattle.disk_thread.specs.Runs.{GoesOnRunning, IsAtSamePort};
 
@@ -14,13 +14,12 @@ use std::sync::Wait;
 use std::sync::atomic::{AtomicBool, Ordering};
 use std::thread;
 
-/// A device at its port, the gate of its FISes, and after how many of its FISes each pull is due.
+/// A device at its port, and the gate of its FISes.
 #[derive(Drop)]
 pub struct DiskWorker<'a, 'g, D: Device + Drop, G: Gate> {
     station: Station<'a, D>,
     gate: &'g G,
     alloc: Global,
-    pulls: Vec<u32>,
 }
 
 impl<'a, 'g, D: Device + Drop, G: Gate> Model for DiskWorker<'a, 'g, D, G> {
@@ -38,39 +37,16 @@ pub struct DiskEnd<'a, D: Device + Drop> {
     pub fault: Option<Fault>,
 }
 
-/// The place of a pull that is due after so many FISes.
-fn due(pulls: &[u32], given: u64) -> Option<usize>
-    ensures { IfSome result (λ i. i < length pulls.now) }
-{
-    pulls.iter().position(|after| u64::from(*after) <= given)
-}
-
 impl<'a, 'g, D: Device + Drop, G: Gate> DiskWorker<'a, 'g, D, G> {
-    /// A worker for this device. It is pulled out, and plugged in again, after as many FISes as each of the pulls says.
-    pub fn new(station: Station<'a, D>, gate: &'g G, alloc: Global, pulls: Vec<u32>) -> Self
+    /// A worker for this device.
+    pub fn new(station: Station<'a, D>, gate: &'g G, alloc: Global) -> Self
         ensures { result ≡ station.entry }
     {
         DiskWorker {
             station,
             gate,
             alloc,
-            pulls,
         }
-    }
-
-    /// Pulls the device out if a pull is due.
-    fn pull(&mut self) -> bool
-        ensures run { GoesOnRunning D.plan_of D.stands_for D.may_send self.old self.new }
-        ensures port { IsAtSamePort self.old self.new }
-    {
-        let Some(i) = due(self.pulls.as_slice(), self.station.given()) else {
-            return false;
-        };
-        if !self.station.pull() {
-            return false;
-        }
-        self.pulls.swap_remove(i);
-        true
     }
 
     /// Tries each step once, and says whether anything moved.
@@ -79,7 +55,7 @@ impl<'a, 'g, D: Device + Drop, G: Gate> DiskWorker<'a, 'g, D, G> {
         ensures port { IsAtSamePort self.old self.new }
         ensures gate { result ≡ Err fault.GateShut → G.may_refuse }
     {
-        let pulled = self.pull();
+        let pulled = self.station.pull();
         let plugged = self.station.plug(self.alloc)?;
         let told = self.station.tell(rt);
         let took = self.station.take(rt, self.alloc, self.gate)?;
@@ -120,7 +96,6 @@ impl<'a, 'g, D: Device + Drop + Send, G: Gate + Sync> Worker for DiskWorker<'a, 
             station,
             gate: _,
             alloc: _,
-            pulls: _,
         } = self;
         DiskEnd { station, fault }
     }

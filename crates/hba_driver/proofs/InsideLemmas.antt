@@ -6,16 +6,20 @@ use Rattle.std.specs.Option.{option_map}
 use Rattle.std.proofs.lemmas.Bool.{cases_lt, eqb-true, or_parts}
 use Rattle.std.proofs.lemmas.Bool.Decides.{nat_tests}
 use Rattle.std.proofs.lemmas.List.{get_or-replicate, get_or_past, length-replicate}
+use Rattle.host_memory.specs.Memory.{Memory}
 use Rattle.host_memory.specs.Place.{AreInside, LiesInClient}
 use Rattle.host_memory.specs.declared.table.Prd.{Prd}
 use Rattle.slots.specs.Slots.{Issue, issue_at, own_issue, owned_by, slots_of}
 use Rattle.slots.proofs.TableLemmas.{own_at}
+use Rattle.hba_fbs.specs.Views.{Port}
 use Rattle.hba_laws.specs.Agreement.{AreHistoriesOf, work_of_issue, work_of_transfer}
 use Rattle.hba_laws.specs.Client.{Touches, own}
 use Rattle.hba_laws.specs.History.{Transfer, issued}
 use Rattle.hba_laws.specs.Hosts as event
 use Rattle.hba_laws.proofs.SoundLemmas.{sizes_stay}
 use Rattle.hba_laws.proofs.ViewLemmas.{own_in}
+use Rattle.hba_driver.specs.declared.effect.Effect.{Effect}
+use Rattle.hba_driver.specs.declared.effect.Effect.TheVariants as effect
 use Rattle.hba_driver.specs.declared.path.Stage.{Stage}
 use Rattle.hba_driver.specs.declared.path.Stage.TheVariants.{Identify, ReadLog, AssertReset, ReleaseReset, AwaitReset}
 use Rattle.hba_driver.specs.declared.path.TaskFile.{TaskFile}
@@ -23,14 +27,14 @@ use Rattle.hba_driver.specs.declared.request.Completion.{Completion}
 use Rattle.hba_driver.specs.declared.request.Request.{Request}
 use Rattle.hba_driver.specs.declared.sight.Sight.{Sight}
 use Rattle.hba_driver.specs.Drivers.{Driver, Entry, entry_at}
-use Rattle.hba_driver.specs.Effects.{prds_with}
+use Rattle.hba_driver.specs.Effects.{Acts, ActsAll, prds_with}
 use Rattle.hba_driver.specs.Events.{IsSoundHost, events_over, shared_by}
 use Rattle.hba_driver.specs.HostTurns.{Does, DoesAll, Host, HostTurn, Took, Pushed, Ticked, Submitted, Polled, Put, sight_in}
 use Rattle.hba_driver.specs.Paths.{reads_page}
 use Rattle.hba_driver.specs.Requests.{is_bad_prd}
 use Rattle.hba_driver.specs.Sights.{file_shown}
 use Rattle.hba_driver.specs.Submits.{after_poll, after_submit, completion_of, end_of, new_entry, next_slot, submit_refusal}
-use Rattle.hba_driver.specs.Ticks.{after_tick}
+use Rattle.hba_driver.specs.Ticks.{after_tick, effects}
 use Rattle.hba_driver.proofs.HistoryLemmas.{back_of, freed, poll_facts, some_same}
 use Rattle.hba_driver.proofs.IssuingLemmas.{From}
 use Rattle.hba_driver.proofs.LifeLemmas.{keeps_tick}
@@ -90,6 +94,21 @@ pub as_long : (old : Host) (turns : List HostTurn) (new : Host) → DoesAll old 
 as_long old turns new run sound =
     let e = turns_are_events old new turns run sound in
     (sizes_stay (shared_by old) (shared_by new) (events_over old new turns run) e.runs e.sound.hosts).1
+
+-- a tick leaves client memory
+act_client : (e : Effect) (old : Port) (before : Memory) (new : Port) (after : Memory) → Acts e old before new after → after.client ≡ before.client
+act_client (effect.Writes offset value) old before new after acts = ap (λ (m : Memory). m.client) acts.1
+act_client (effect.Flushes dev) old before new after acts = ap (λ (m : Memory). m.client) acts.1
+act_client (effect.Empties dev) old before new after acts = ap (λ (m : Memory). m.client) acts.1
+act_client (effect.Commands slot fields buffer) old before new after acts = acts.1.client
+
+acts_client : (es : List Effect) (old : Port) (before : Memory) (new : Port) (after : Memory) → ActsAll es old before new after → after.client ≡ before.client
+unfolding ActsAll
+acts_client [] old before new after acts = ap (λ (m : Memory). m.client) acts.1
+acts_client (e ∷ es) old before new after acts = acts_client es acts.0 acts.1 new after acts.4 ∙ act_client e old before acts.0 acts.1 acts.2
+
+pub tick_client : (old : Host) (acted : Bool) (new : Host) → Does old (Ticked acted) new → new.memory.client ≡ old.memory.client
+tick_client old acted new does = acts_client (effects (sight_in old) old.driver) old.port old.memory new.port new.memory does.does
 
 good_over : (turns : List HostTurn) (old new : Host) → DoesAll old turns new → IsSoundHost old → HaveGoodPrds (end_of old.memory) old.driver → HaveGoodPrds (end_of new.memory) new.driver
 good_over [] old new run sound good = subst (λ (h : Host). HaveGoodPrds (end_of h.memory) h.driver) (sym run) good

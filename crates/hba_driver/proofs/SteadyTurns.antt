@@ -3,7 +3,7 @@ use Rattle.std.proofs.Common.{◌≡◌, ◌≢◌, ℕ, ◌+◌, ◌<◌, ◌�
 use Rattle.std.specs.Prelude.{if◌then◌else◌, ◌==◌, not, slice_index_or}
 use Rattle.std.specs.List.{list_any, range_with_len}
 use Rattle.std.specs.Option.{option_or}
-use Rattle.std.proofs.lemmas.Bool.{cases_lt, false≢true, true≢false}
+use Rattle.std.proofs.lemmas.Bool.{cases_eq, cases_lt, false≢true, or_parts, true≢false}
 use Rattle.std.proofs.lemmas.Bool.Decides.{nat_tests}
 use Rattle.std.proofs.lemmas.List.{get_or-replicate, get_or_past, length-replicate}
 use Rattle.std.proofs.lemmas.List.FromFn.{get_or-map-range_with_len, length-map-range_with_len}
@@ -12,6 +12,7 @@ use Rattle.host_memory.specs.Memory.{Memory}
 use Rattle.slots.specs.Slots.{match_some}
 use Rattle.hba_fbs.specs.Views.{Port}
 use Rattle.hba_laws.proofs.StandLemmas.{some_inj}
+use Rattle.hba_driver.specs.declared.order.Order.{Order}
 use Rattle.hba_driver.specs.declared.order.Order.TheVariants.{Clear}
 use Rattle.hba_driver.specs.declared.path.Path.{Path}
 use Rattle.hba_driver.specs.declared.path.Stage.{Stage}
@@ -28,19 +29,20 @@ use Rattle.hba_driver.specs.declared.slot.Phase.{Phase}
 use Rattle.hba_driver.specs.declared.slot.Phase.TheVariants.{Waits, Issued, Aside, Ended}
 use Rattle.hba_driver.specs.declared.turn.Act.{Act}
 use Rattle.hba_driver.specs.declared.turn.Act.TheVariants as act
-use Rattle.hba_driver.specs.Drivers.{Driver, Entry, device_at, entry_at, has_ended, has_ended_in, holds, is_issued, is_issued_in, new_driver}
+use Rattle.hba_driver.specs.Drivers.{Driver, Entry, device_at, entry_at, has_ended, has_ended_in, holds, is_aside_in, is_issued, is_issued_in, new_driver, waits, waits_in}
 use Rattle.hba_driver.specs.Effects.{effects_of, order_effects}
 use Rattle.hba_driver.specs.Orders.{identify_fields, is_flush, order_fields}
 use Rattle.hba_driver.specs.Paths.{stage_fields}
+use Rattle.hba_driver.specs.Going.{GoesOn as PortGoesOn}
 use Rattle.hba_driver.specs.HostTurns.{Does, Host, HostTurn, Took, Pushed, Ticked, Submitted, Polled, Put, sight_in}
-use Rattle.hba_driver.specs.Laws.{Goes, Keeps, flushes}
+use Rattle.hba_driver.specs.Laws.{Goes, GoesOn, Keeps, Kept, flushes}
 use Rattle.hba_driver.specs.Requests.{blocks, device_refusal}
 use Rattle.hba_driver.specs.Sights.{file_shown, is_ata, last_d2h, sight_of}
-use Rattle.hba_driver.specs.Steady.{AreSteady, HasSignature, IsAskedOf, IsCalmTick, IsFine, IsFlushTick, IsOpenAt, IsSteady, IsSteadyPlan, IsSteadyTurn}
+use Rattle.hba_driver.specs.Steady.{AreSteady, HasSignature, IsAskedOf, IsCalmAct, IsCalmTick, IsClearTick, IsFine, IsFlushTick, IsOpenAt, IsSteady, IsSteadyPlan, IsSteadyTurn, slot_in, slot_of}
 use Rattle.hba_driver.specs.Submits.{after_submit, is_blocked, new_entry, next_slot, queue_refusal, submit_refusal}
 use Rattle.hba_driver.specs.Ticks.{acted, after_tick, done_ended, due, effects, effects_due, plan_after, seen, turn, unless}
 use Rattle.hba_driver.proofs.HistoryLemmas.{PollFacts, back_of, freed, poll_facts}
-use Rattle.hba_driver.proofs.LifeLemmas.{keeps_tick}
+use Rattle.hba_driver.proofs.LifeLemmas.{keeps_seen, keeps_tick, waits_if_may}
 use Rattle.hba_driver.proofs.RequestLemmas.{set_cases}
 use Rattle.hba_driver.proofs.ServeLemmas.{ticks_serve}
 use Rattle.hba_driver.proofs.SteadyLemmas.{PlanKeeps, act_keeps, keeps_then, of_turn, turn_keeps, unless_here}
@@ -357,3 +359,104 @@ starting_ready d is r = cc
 -- and while none of its requests is open
 pub steps_alone : (n : ℕ) (d : Driver) (p : Path) (s : ℕ) (e : Entry) → IsSteady n d → d.plan.path ≡ Some p → p.dev ≡ n → IsOpenAt n s d.entries e → ⊥
 steps_alone n d p s e h here to there = starting_ready (device_at d.plan n) (h.plan.path p here to).1.1 (h.requests.ready s e there)
+
+-- ---- where the port goes on
+
+-- an order flushes the device, or not
+flush_or_other : (n : ℕ) (o : Order) → (o ≢ Clear n) ⊎ (o ≡ Clear n)
+flush_or_other n (Clear port) = elim (cases_eq port n) [
+  | inl same ↦ inr (ap Clear same)
+  | inr other ↦ inl (λ e. other (let same : port ≡ n = cc in same))
+]
+flush_or_other n o = inl (λ e. cc)
+
+-- a tick that clears no fault of a device is calm for it, or flushes it
+pub calm_or_flush : (n : ℕ) (h : Host) → PortGoesOn h → (IsClearTick n h → ⊥) → IsCalmTick n h ⊎ IsFlushTick n h
+calm_or_flush n h goes unclear = by_act (due (sight_in h) h.driver) refl
+  where
+    by_act : (o : Option Act) → due (sight_in h) h.driver ≡ o → IsCalmAct n o ⊎ (o ≡ Some (act.Orders (Clear n)))
+    by_act None is = inl tt
+    by_act (Some act.Stops) is = absurd (goes.ticks act.Stops is)
+    by_act (Some (act.Clears dev)) is = inl (λ same. unclear (is ∙ ap (λ (k : ℕ). Some (act.Clears k)) (sym same)))
+    by_act (Some (act.Orders o)) is = elim (flush_or_other n o) [
+      | inl other ↦ inl other
+      | inr same ↦ inr (ap (λ (x : Order). Some (act.Orders x)) same)
+    ]
+    by_act (Some (act.Opens k)) is = inl tt
+    by_act (Some (act.Restarts k)) is = inl tt
+    by_act (Some (act.Steps dev stage)) is = inl tt
+    by_act (Some (act.Issues slot dev queued)) is = inl tt
+
+-- ---- a request that began
+
+still_begun : (p q : Phase) → waits_in p ≡ false → Goes p q → waits_in q ≡ false
+still_begun Waits q begun goes = absurd (true≢false begun)
+still_begun Issued q begun goes = goes
+still_begun Aside q begun goes = (or_parts (waits_in q) (is_issued_in q) goes).0
+still_begun (Ended o) q begun goes = ap waits_in goes
+
+-- it does not wait again
+pub begun_later : (e f : Entry) → waits_in e.head.phase ≡ false → GoesOn e f → waits_in f.head.phase ≡ false
+begun_later e f begun on = still_begun e.head.phase f.head.phase begun on.goes
+
+not_withdrawn : (p : Phase) → is_issued_in p ≡ true → (is_aside_in p || has_ended_in p) ≡ true → ⊥
+not_withdrawn Waits is other = false≢true is
+not_withdrawn Issued is other = false≢true other
+not_withdrawn Aside is other = false≢true is
+not_withdrawn (Ended o) is other = false≢true is
+
+kept_of : (o p : Option Entry) (e : Entry) → o ≡ Some e → Keeps o p → Kept e p
+kept_of None p e h keeps = cc
+kept_of (Some x) p e h keeps = subst (λ (y : Entry). Kept y p) (some_inj x e h) keeps
+
+-- a tick that leaves it issued is calm for its device, and issues nothing in its slot
+module _ (old : Host) (acted_so : Bool) (new : Host) (does : Does old (Ticked acted_so) new) (s : ℕ) (e f : Entry) (low : s < 30) (here : entry_at old.driver.entries s ≡ Some e)
+    (there : entry_at new.driver.entries s ≡ Some f) (on : GoesOn e f) (begun : waits_in e.head.phase ≡ false) (is : is_issued f.head ≡ true) where
+  f_after : entry_at (after_tick (sight_in old) (file_shown new.port) old.driver).entries s ≡ Some f
+  f_after = ap (λ (d : Driver). entry_at d.entries s) (sym does.driver) ∙ there
+
+  dev_is : f.head.dev ≡ e.head.dev
+  dev_is = ap (λ (x : Entry). x.head.dev) on.same
+
+  never_flushed : IsFlushTick e.head.dev old → ⊥
+  never_flushed flush =
+      let steady = flush_steady e.head.dev old acted_so new does flush in
+      steady.1 (inl (steady.0.requests.ready s f (record { stands = there; of_dev = dev_is; unended = issued_unended f is })))
+
+  pub begun_calm : IsCalmTick e.head.dev old
+  begun_calm = by_act (due (sight_in old) old.driver) refl
+    where
+      by_act : (o : Option Act) → due (sight_in old) old.driver ≡ o → IsCalmAct e.head.dev o
+      by_act None due_is = tt
+      by_act (Some act.Stops) due_is =
+          absurd (true≢false (sym (ticks_serve.stops (sight_in old) (file_shown new.port) old.driver s f due_is f_after) ∙ issued_unended f is))
+      by_act (Some (act.Clears dev)) due_is = λ same.
+          not_withdrawn f.head.phase is (ticks_serve.withdraws (sight_in old) (file_shown new.port) old.driver dev s f due_is f_after (dev_is ∙ same))
+      by_act (Some (act.Orders o)) due_is = λ same. never_flushed (due_is ∙ ap (λ (x : Order). Some (act.Orders x)) same)
+      by_act (Some (act.Opens k)) due_is = tt
+      by_act (Some (act.Restarts k)) due_is = tt
+      by_act (Some (act.Steps dev stage)) due_is = tt
+      by_act (Some (act.Issues slot dev queued)) due_is = tt
+
+  seen_begun : holds waits (entry_at (seen (sight_in old) old.driver).entries s) ≡ true → ⊥
+  seen_begun waits_so =
+      let k : Kept e (entry_at (seen (sight_in old) old.driver).entries s) =
+      kept_of (entry_at old.driver.entries s) (entry_at (seen (sight_in old) old.driver).entries s) e here (keeps_seen (sight_in old) old.driver s) in
+      let it : waits k.entry.head ≡ true = sym (ap (holds waits) k.is) ∙ waits_so in
+      true≢false (sym it ∙ begun_later e k.entry begun k.on)
+
+  pub begun_slot : s ≢ slot_in old
+  begun_slot = by_act (due (sight_in old) old.driver) refl
+    where
+      by_act : (o : Option Act) → due (sight_in old) old.driver ≡ o → s ≡ slot_of o → ⊥
+      by_act None due_is at = omega (arith, at, low)
+      by_act (Some act.Stops) due_is at = omega (arith, at, low)
+      by_act (Some (act.Clears dev)) due_is at = omega (arith, at, low)
+      by_act (Some (act.Orders o)) due_is at = omega (arith, at, low)
+      by_act (Some (act.Opens k)) due_is at = omega (arith, at, low)
+      by_act (Some (act.Restarts k)) due_is at = omega (arith, at, low)
+      by_act (Some (act.Steps dev stage)) due_is at = omega (arith, at, low)
+      by_act (Some (act.Issues slot dev queued)) due_is at =
+          let its : holds waits (entry_at (seen (sight_in old) old.driver).entries slot) ≡ true =
+          waits_if_may (turn (sight_in old) old.driver).plan (entry_at (seen (sight_in old) old.driver).entries slot) (ticks_serve.ready (sight_in old) old.driver slot dev queued due_is) in
+          seen_begun (subst (λ (k : ℕ). holds waits (entry_at (seen (sight_in old) old.driver).entries k) ≡ true) (sym at) its)

@@ -24,7 +24,7 @@ use Rattle.hba_driver.specs.HostTurns.{Does, Host, Ticked, sight_in}
 use Rattle.hba_driver.specs.Orders.{next_order, order_fields, scan_from}
 use Rattle.hba_driver.specs.Paths.{reads_page, stage_fields}
 use Rattle.hba_driver.specs.Sights.{file_shown, sight_of}
-use Rattle.hba_driver.specs.Slot31.{Asks, IsAt31, IsIn, IsLow, IsUnsent, Fails, Resets, Rests, Signs, Stage31, StaysOn, TicksOn, Told, Waits, control_of, has_failed, is_idle, is_off, is_resetting}
+use Rattle.hba_driver.specs.Slot31.{Asks, IsAt31, IsIn, IsLow, IsUnsent, Fails, Resets, Rests, Signs, Stage31, StaysOn, TicksOn, Told, Waits, control_of, has_failed, is_idle, is_off, is_pending, is_resetting}
 use Rattle.hba_driver.specs.Ticks.{acted, after_tick, cleared_plan, done_ended, due, effects_due, from_reset, plan_after, recovering, seen, turn}
 use Rattle.hba_driver.specs.declared.turn.Turn.{Turn}
 use Rattle.std.specs.Option.{option_map, option_or}
@@ -245,6 +245,8 @@ module _ (h : Host) (g : IsGoing h) (stage : Stage31) (at : IsAt31 stage h) wher
       pub stays : StaysOn stage next
       pub resets : flags31 next ≡ flags31 stage
       pub is : IsIn next (control_seen v p).order (control_seen v p).asked (control_of h)
+      pub waits : next ≡ Waits → stage ≡ Waits
+      pub stands : is_pending stage ≡ true → (control_seen v p).order ≡ p.order
 
     seen_same : control_seen v p ≡ p → Seen31
     seen_same same = record {
@@ -252,39 +254,44 @@ module _ (h : Host) (g : IsGoing h) (stage : Stage31) (at : IsAt31 stage h) wher
       stays = inl refl;
       resets = refl;
       is = in_same stage p.order (control_seen v p).order p.asked (control_seen v p).asked (control_of h) (control_of h) (ap (λ (q : Plan). q.order) same) (ap (λ (q : Plan). q.asked) same) refl at.is;
+      waits = λ w. w;
+      stands = λ held. ap (λ (q : Plan). q.order) same;
     }
 
-    seen_as : (q : Plan) (next : Stage31) → control_seen v p ≡ q → StaysOn stage next → flags31 next ≡ flags31 stage → IsIn next q.order q.asked (control_of h) → Seen31
-    seen_as q next same stays resets is = record {
+    -- where nothing is issued that was not answered
+    seen_as : (q : Plan) (next : Stage31) → control_seen v p ≡ q → StaysOn stage next → flags31 next ≡ flags31 stage → IsIn next q.order q.asked (control_of h) → (next ≡ Waits → ⊥) → is_pending stage ≡ false → Seen31
+    seen_as q next same stays resets is other free = record {
       next = next;
       stays = stays;
       resets = resets;
       is = subst (λ (x : Plan). IsIn next x.order x.asked (control_of h)) (sym same) is;
+      waits = λ w. absurd (other w);
+      stands = λ held. absurd (false≢true (sym free ∙ held));
     }
 
     by_stage : has_failed stage ≡ false → (s : Stage31) → stage ≡ s → IsIn s p.order p.asked (control_of h) → Seen31
     by_stage well Rests same is =
-        seen_as (record p { order = met_order v p.order }) Rests (seen_unasked v p is.0) (inl (sym same)) (ap flags31 (sym same)) (is.0, met_off v p.order is.1)
+        seen_as (record p { order = met_order v p.order }) Rests (seen_unasked v p is.0) (inl (sym same)) (ap flags31 (sym same)) (is.0, met_off v p.order is.1) (λ w. absurd (cc)) (ap is_pending same)
     by_stage well Waits same is = seen_same (seen_out v p is.0 (bit31 _ is.2.issued))
     by_stage well Resets same (inl is) = elim (cases_Bool (has_bit v.issued 31)) [
       | inl on ↦ seen_same (seen_out v p is.1 on)
-      | inr off ↦ seen_as _ Resets (seen_free v p is.1 off) (inl (sym same)) (ap flags31 (sym same)) (inr (next_on _ _ p.order is.0, inl refl))
+      | inr off ↦ seen_as _ Resets (seen_free v p is.1 off) (inl (sym same)) (ap flags31 (sym same)) (inr (next_on _ _ p.order is.0, inl refl)) (λ w. absurd (cc)) (ap is_pending same)
     ]
     by_stage well Resets same (inr (order, inl free)) =
-        seen_as (record p { order = met_order v p.order }) Resets (seen_unasked v p free) (inl (sym same)) (ap flags31 (sym same)) (inr (met_reset p.order order, inl free))
+        seen_as (record p { order = met_order v p.order }) Resets (seen_unasked v p free) (inl (sym same)) (ap flags31 (sym same)) (inr (met_reset p.order order, inl free)) (λ w. absurd (cc)) (ap is_pending same)
     by_stage well Resets same (inr (order, inr is)) = seen_same (seen_out v p is.0 (bit31 _ is.1.issued))
     by_stage well Signs same (free, inl is) = elim (cases_Bool (has_bit v.issued 31)) [
       | inl on ↦ seen_same (seen_out v p is.1 on)
       | inr off ↦
-          seen_as _ Signs (seen_free v p is.1 off) (inl (sym same)) (ap flags31 (sym same)) (free, inr (next_reset (resets_seen ∙ ap is_resetting same) _ _ p.order is.0, refl))
+          seen_as _ Signs (seen_free v p is.1 off) (inl (sym same)) (ap flags31 (sym same)) (free, inr (next_reset (resets_seen ∙ ap is_resetting same) _ _ p.order is.0, refl)) (λ w. absurd (cc)) (ap is_pending same)
     ]
     by_stage well Signs same (free, inr is) =
-        seen_as (record p { order = met_order v p.order }) Signs (seen_unasked v p is.1) (inl (sym same)) (ap flags31 (sym same)) (free, inr (met_await (resets_seen ∙ ap is_resetting same) p.order is.0, is.1))
+        seen_as (record p { order = met_order v p.order }) Signs (seen_unasked v p is.1) (inl (sym same)) (ap flags31 (sym same)) (free, inr (met_await (resets_seen ∙ ap is_resetting same) p.order is.0, is.1)) (λ w. absurd (cc)) (ap is_pending same)
     by_stage well Asks same is = seen_same (seen_out v p is.0 (bit31 _ is.2.issued))
     by_stage well Told same is = elim (cases_Bool (has_bit v.issued 31)) [
       | inl on ↦ seen_same (seen_out v p is.0 on)
       | inr off ↦
-          seen_as _ Rests (seen_free v p is.0 off) (inr (ap is_idle same, refl)) (ap flags31 (sym same)) (refl, met_off v _ (next_off _ _ p.order is.1))
+          seen_as _ Rests (seen_free v p is.0 off) (inr (ap is_idle same, refl)) (ap flags31 (sym same)) (refl, met_off v _ (next_off _ _ p.order is.1)) (λ w. absurd (cc)) (ap is_pending same)
     ]
     by_stage well Fails same is = absurd (false≢true (sym well ∙ ap has_failed same))
 
@@ -299,6 +306,8 @@ module _ (h : Host) (g : IsGoing h) (stage : Stage31) (at : IsAt31 stage h) wher
       pub stays : TicksOn stage next
       pub now : IsAt31 next new
       pub clears : (n : ℕ) → due v h.driver ≡ Some (act.Orders (Clear n)) → (next ≡ Waits) × (new.driver.plan.order ≡ Clear n) × (is_idle stage ≡ true)
+      pub stands : is_pending stage ≡ true → new.driver.plan.order ≡ p.order
+      pub flushed : (n : ℕ) → next ≡ Waits → is_idle stage ≡ true → new.driver.plan.order ≡ Clear n → due v h.driver ≡ Some (act.Orders (Clear n))
 
     opened_then : (new : Host) (a : Bool) → Does h (Ticked a) new → h.driver.plan.opened ≡ new.driver.plan.opened
     opened_then new a does = elim (tick_is v (file_shown new.port) h.driver) [
@@ -311,8 +320,8 @@ module _ (h : Host) (g : IsGoing h) (stage : Stage31) (at : IsAt31 stage h) wher
 
     -- no order is issued
     tick_other : has_failed stage ≡ false → (new : Host) (a : Bool) → Does h (Ticked a) new → IsOther (due v h.driver) → (next : Stage31) (o : Order) (b : Bool) → StaysOn stage next → flags31 next ≡ flags31 stage → IsIn next o b (control_of h)
-        → IsLow o → new.driver.plan.order ≡ o → new.driver.plan.asked ≡ b → Ticked31 new
-    tick_other well new a does other next o b stays resets is low order asked =
+        → IsLow o → new.driver.plan.order ≡ o → new.driver.plan.asked ≡ b → (next ≡ Waits → stage ≡ Waits) → (is_pending stage ≡ true → o ≡ p.order) → Ticked31 new
+    tick_other well new a does other next o b stays resets is low order asked waits stands =
         let part : control_of new ≡ control_of h = (other_leaves well (due v h.driver) refl other (due_seen v h.driver) new does.does).same in
         record {
           next = next;
@@ -326,14 +335,16 @@ module _ (h : Host) (g : IsGoing h) (stage : Stage31) (at : IsAt31 stage h) wher
             closed = λ less. absurd (omega (arith, least, less, opened_then new a does));
           };
           clears = λ n due_is. absurd (not_ordered n (due v h.driver) other due_is);
+          stands = λ held. order ∙ stands held;
+          flushed = λ n w idle clear. absurd (false≢true (sym (ap is_idle (waits w)) ∙ idle));
         }
 
     -- one is
     tick_ordered : (new : Host) (a : Bool) → Does h (Ticked a) new → (o : Order) → due v h.driver ≡ Some (act.Orders o) → (seen v h.driver).plan.asked ≡ false → (fields : H2dFields) → order_fields o ≡ Some fields → IsLow o
         → new.driver.plan.order ≡ o → new.driver.plan.asked ≡ true → (next : Stage31) → StaysOn stage next → flags31 next ≡ flags31 stage → ((part : DevicePart) → IsUnsent o part → IsIn next o true part)
-        → ((n : ℕ) → o ≡ Clear n → (next ≡ Waits) × (is_idle stage ≡ true)) → Ticked31 new
+        → ((n : ℕ) → o ≡ Clear n → (next ≡ Waits) × (is_idle stage ≡ true)) → is_pending stage ≡ false → Ticked31 new
     unfolding effects_of
-    tick_ordered new a does o due_is free fields are low order asked next stays resets is clears =
+    tick_ordered new a does o due_is free fields are low order asked next stays resets is clears none =
         let acts : ActsAll (order_effects o) h.port h.memory new.port new.memory = subst (λ (x : Option Act). ActsAll (effects_due x) h.port h.memory new.port new.memory) due_is does.does in
         let i : Issues31 fields h.port h.memory new.port new.memory = order31 o fields h.port new.port h.memory new.memory are low up g.way.unarmed (free31 free) runs acts in
         let unsent : IsUnsent o (control_of new) = record { fields = fields; are = are; issued = i.issued; command = i.command; there = i.there; work = i.work; built = i.built } in
@@ -352,6 +363,8 @@ module _ (h : Host) (g : IsGoing h) (stage : Stage31) (at : IsAt31 stage h) wher
               let same : o ≡ Clear n = cc in
               let both = clears n same in
               (both.0, order ∙ same, both.1);
+          stands = λ held. absurd (false≢true (sym none ∙ held));
+          flushed = λ n w idle clear. due_is ∙ ap (λ (x : Order). Some (act.Orders x)) (sym order ∙ clear);
         }
 
     -- which stage follows where an order is issued that was seen to be due
@@ -361,6 +374,7 @@ module _ (h : Host) (g : IsGoing h) (stage : Stage31) (at : IsAt31 stage h) wher
       pub resets : flags31 next ≡ flags31 stage
       pub is : (part : DevicePart) → IsUnsent o part → IsIn next o true part
       pub clears : (n : ℕ) → o ≡ Clear n → (next ≡ Waits) × (is_idle stage ≡ true)
+      pub free : is_pending stage ≡ false
 
     off_then : (o : Order) → o ≡ ResetOff → stage ≡ Resets → Then31 o
     off_then o is same = record {
@@ -369,7 +383,13 @@ module _ (h : Host) (g : IsGoing h) (stage : Stage31) (at : IsAt31 stage h) wher
       resets = ap flags31 (sym same);
       is = λ part unsent. inr (is, inr (refl, unsent));
       clears = λ n clear. let bad : ResetOff ≡ Clear n = sym is ∙ clear in cc;
+      free = ap is_pending same;
     }
+
+    idle_free : (s : Stage31) → is_idle s ≡ true → is_pending s ≡ false
+    idle_free Rests e = refl
+    idle_free Told e = refl
+    idle_free s e = absurd (false≢true e)
 
     wait_then : (o : Order) → is_off o ≡ false → is_idle stage ≡ true → flags31 stage ≡ (false, false) → Then31 o
     wait_then o is idle quiet = record {
@@ -378,6 +398,7 @@ module _ (h : Host) (g : IsGoing h) (stage : Stage31) (at : IsAt31 stage h) wher
       resets = sym quiet;
       is = λ part unsent. (refl, is, unsent);
       clears = λ n clear. (refl, idle);
+      free = idle_free stage idle;
     }
 
     -- an order that is seen unasked
@@ -420,14 +441,14 @@ module _ (h : Host) (g : IsGoing h) (stage : Stage31) (at : IsAt31 stage h) wher
 
     tick_by : has_failed stage ≡ false → (new : Host) (a : Bool) → Does h (Ticked a) new → Ticks31 v p new.driver.plan (due v h.driver) → Ticked31 new
     tick_by well new a does (Stays other same) =
-        tick_other well new a does other stage p.order p.asked (inl refl) refl at.is at.low (ap (λ (c : Control). c.order) same) (ap (λ (c : Control). c.asked) same)
+        tick_other well new a does other stage p.order p.asked (inl refl) refl at.is at.low (ap (λ (c : Control). c.order) same) (ap (λ (c : Control). c.asked) same) (λ w. w) (λ held. refl)
     tick_by well new a does (Looks other same) =
         let s : Seen31 = seen31 well in
-        tick_other well new a does other s.next (control_seen v p).order (control_seen v p).asked s.stays s.resets s.is seen_low (ap (λ (c : Control). c.order) same) (ap (λ (c : Control). c.asked) same)
+        tick_other well new a does other s.next (control_seen v p).order (control_seen v p).asked s.stays s.resets s.is seen_low (ap (λ (c : Control). c.order) same) (ap (λ (c : Control). c.asked) same) s.waits s.stands
     tick_by well new a does (Orders o due_is free order fields same) =
         let t : Then31 o = then31 well (seen31 well) o free order fields in
         let f = the (order_fields o) fields in
-        tick_ordered new a does o due_is (free_seen o due_is (due_seen v h.driver)) f.0 f.1 (subst IsLow order seen_low) (ap (λ (c : Control). c.order) same ∙ order) (ap (λ (c : Control). c.asked) same) t.next t.stays t.resets t.is t.clears
+        tick_ordered new a does o due_is (free_seen o due_is (due_seen v h.driver)) f.0 f.1 (subst IsLow order seen_low) (ap (λ (c : Control). c.order) same ∙ order) (ap (λ (c : Control). c.asked) same) t.next t.stays t.resets t.is t.clears t.free
       where
         free_seen : (x : Order) → due v h.driver ≡ Some (act.Orders x) → Due v (seen v h.driver).plan (seen v h.driver).entries (due v h.driver) → (seen v h.driver).plan.asked ≡ false
         free_seen x is known = subst (λ (y : Option Act). Due v (seen v h.driver).plan (seen v h.driver).entries y) is known
@@ -468,6 +489,8 @@ module _ (h : Host) (g : IsGoing h) (stage : Stage31) (at : IsAt31 stage h) wher
                   closed = λ less. refl;
                 };
             clears = λ n order. let bad : Some (act.Clears dev) ≡ Some (act.Orders (Clear n)) = sym is ∙ order in cc;
+            stands = λ held. absurd (false≢true (sym (ap is_pending fails) ∙ held));
+            flushed = λ n w idle clear. absurd (false≢true (sym (ap is_idle fails) ∙ idle));
           }
           | inr other ↦ record {
             next = Fails;
@@ -485,6 +508,8 @@ module _ (h : Host) (g : IsGoing h) (stage : Stage31) (at : IsAt31 stage h) wher
                   closed = λ less. absurd (omega (arith, least, less, opened_then new a does));
                 };
             clears = λ n order. let bad : Some (act.Clears dev) ≡ Some (act.Orders (Clear n)) = sym is ∙ order in cc;
+            stands = λ held. absurd (false≢true (sym (ap is_pending fails) ∙ held));
+            flushed = λ n w idle clear. absurd (false≢true (sym (ap is_idle fails) ∙ idle));
           }
         ]
       where

@@ -257,6 +257,7 @@ pub record Took31 (stage : Stage31) (frame : List ℕ) (new : Host) : Type 0 whe
   pub next : Stage31
   pub follows : ((next ≡ stage) × IsNotice31 frame) ⊎ ((is_quiet next ≡ true) × (((stage ≡ Asks) × IsAnswer31 frame) ⊎ ((stage ≡ Signs) × IsSignature31 frame)))
   pub at : IsAt31 next new
+  pub waits : next ≡ Waits → stage ≡ Waits
 
 module _ (old : Host) (g : IsGoing old) (new : Host) (n : IsGoing new) (frame : List ℕ) (report : TakeReport) (does : Does old (Took frame report) new) (of : IsOfControl frame) (own : port_of frame ≡ 15) (stage : Stage31) (at : IsAt31 stage old) where
   -- the part that a view with another state, without fault and setup, makes
@@ -327,11 +328,13 @@ module _ (old : Host) (g : IsGoing old) (new : Host) (n : IsGoing new) (frame : 
         next = Told;
         follows = inr (refl, inr (waits, is));
         at = made31 Told w (view.RegD2H frame) part none context quiet (asked.1, on_off old.driver.plan.order asked.0, inl (ap (λ (s : DeviceSlots). own_issue s 31) slots ∙ free)) (shut least Told);
+        waits = λ w. cc;
       }
       by_order (free, inr awaits) w part none context quiet slots = record {
         next = Rests;
         follows = inr (refl, inr (waits, is));
         at = made31 Rests w (view.RegD2H frame) part none context quiet (awaits.1, off_await old.driver.plan.order awaits.0) (shut least Rests);
+        waits = λ w. cc;
       }
 
   -- the answer to a command, with an error or without one
@@ -379,6 +382,7 @@ module _ (old : Host) (g : IsGoing old) (new : Host) (n : IsGoing new) (frame : 
               (as_heard (answered a file) (heard_right (control_of old).view.slots (control_of old).view.state (field D2h Status frame) (field D2h Error frame) right is.done))
               (ap is_some (plain_fault a plain)) (plain_context a (control_of old).view.slots plain at.context) off
               (asks.0, asks.1, free_or_sent w asks.2 (plain_issue a (control_of old).view.slots plain)) (shut least Told);
+          waits = λ w. cc;
         }
 
     failed : is_error (field D2h Status frame) ≡ true → Took31 stage frame new
@@ -389,6 +393,7 @@ module _ (old : Host) (g : IsGoing old) (new : Host) (n : IsGoing new) (frame : 
           (as_heard (faulty file cause.TaskFile)
           (ap (λ (b : Bool). if b then faulty file cause.TaskFile else if is_busy (field D2h Status frame) then quietly file happening.Nothing else answered (answer_of (control_of old).view.slots) file) wrong))
           refl at.context off tt (shut least Fails);
+      waits = λ w. cc;
     }
 
     answered_by : Took31 stage frame new
@@ -399,7 +404,7 @@ module _ (old : Host) (g : IsGoing old) (new : Host) (n : IsGoing new) (frame : 
   took31 may = by_stage stage refl may
     where
       note : IsNotice31 frame → Took31 stage frame new
-      note is = record { next = stage; follows = inl (refl, is); at = took_notice is }
+      note is = record { next = stage; follows = inl (refl, is); at = took_notice is; waits = λ w. w }
 
       opens : stage ≢ Rests → 7 ≤ old.driver.plan.opened
       opens busy = elim (cases_lt old.driver.plan.opened 7) [ inl less ↦ absurd (busy (at.closed less)) | inr least ↦ least ]

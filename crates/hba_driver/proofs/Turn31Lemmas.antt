@@ -1,7 +1,8 @@
 -- Each turn of a host leads slot 31 from a stage to a stage.
-use Rattle.std.proofs.Common.{◌≡◌, ℕ, zero, suc, ◌+◌, ◌<◌, ◌≤◌, Bool, true, false, ◌&&◌, List, [], ◌∷◌, ◌++◌, refl, sym, ◌∙◌, ap, subst, inl, inr, arith, Option, Some, None}
-use Rattle.std.specs.Prelude.{if◌then◌else◌, not, is_none, is_some}
-use Rattle.std.proofs.lemmas.Bool.{cases_eq, cases_lt, false≢true, lt-ltb, ne_eqb, true≢false}
+use Rattle.std.proofs.Common.{◌≡◌, ℕ, zero, suc, ◌+◌, ◌<◌, ◌≤◌, ◌==◌, Bool, true, false, ◌&&◌, List, [], ◌∷◌, ◌++◌, refl, sym, ◌∙◌, ap, subst, inl, inr, arith, Option, Some, None}
+use Rattle.std.specs.Prelude.{if◌then◌else◌, not, is_none, is_some, ◌||◌}
+use Rattle.std.specs.List.{list_any}
+use Rattle.std.proofs.lemmas.Bool.{cases_eq, cases_lt, eq-eqb, false≢true, lt-ltb, ne_eqb, true≢false}
 use Rattle.fis_view.specs.Frames.{Stamped}
 use Rattle.host_memory.specs.Memory.{Memory}
 use Rattle.slots.specs.Slots.{match_some, own_issue, slots_of}
@@ -20,15 +21,17 @@ use Rattle.hba_driver.specs.declared.effect.Effect.{Effect}
 use Rattle.hba_driver.specs.declared.effect.Effect.TheVariants as effect
 use Rattle.hba_driver.specs.declared.order.Order.TheVariants.{Clear}
 use Rattle.hba_driver.specs.declared.plan.Plan.{Plan}
+use Rattle.hba_driver.specs.declared.turn.Act.{Act}
 use Rattle.hba_driver.specs.declared.turn.Act.TheVariants as act
 use Rattle.hba_driver.specs.Drivers.{Driver}
-use Rattle.hba_driver.specs.Effects.{Acts, ActsAll, opening_write}
+use Rattle.hba_driver.specs.Effects.{Acts, ActsAll, effects_of, opening_write, order_command, order_effects}
 use Rattle.hba_driver.specs.Events.{opening_host, shared_by}
 use Rattle.hba_driver.specs.Going.{IsOfControl, IsReport}
 use Rattle.hba_driver.specs.HostTurns.{Does, DoesAll, Host, HostTurn, Polled, Pushed, Put, Submitted, Ticked, Took, sight_in}
 use Rattle.hba_driver.specs.Sights.{file_shown}
-use Rattle.hba_driver.specs.Slot31.{Asks, Comes31, Fails, IsAt31, IsIn, IsLow, MayBe31, MayCome31, OrdersTakeTurns, Resets, Rests, Signs, Stage31, Told, Turns31, Waits, control_of, has_failed, is_off, is_resetting, orders_clear}
-use Rattle.hba_driver.specs.Ticks.{done_ended, due}
+use Rattle.hba_driver.specs.Slot31.{Asks, Comes31, Fails, IsAt31, IsIn, IsLow, MayBe31, MayCome31, OrdersTakeTurns, Resets, Rests, Signs, Stage31, Told, Turns31, Waits, control_of, has_failed, is_off, is_pending, is_resetting, orders_clear}
+use Rattle.hba_driver.specs.Laws.{flushes}
+use Rattle.hba_driver.specs.Ticks.{done_ended, due, effects_due}
 use Rattle.hba_driver.proofs.ControlLemmas.{part_event}
 use Rattle.hba_driver.proofs.DrivenLemmas.{Opening, tick_is, tried_at}
 use Rattle.hba_driver.proofs.DueLemmas.{Runs, runs_turn}
@@ -82,15 +85,16 @@ module _ (old : Host) (g : IsGoing old) (frame : Option Stamped) (new : Host) (n
   ]
 
 push_turn : (old : Host) → IsGoing old → (frame : Option Stamped) (new : Host) → IsGoing new → Does old (Pushed frame) new → (stage : Stage31) → IsAt31 stage old → Turns31 stage old (Pushed frame) new
-push_turn old g None new n does stage at = record { next = stage; at = push_other old g None new n does stage at refl; is = refl }
+push_turn old g None new n does stage at = record { next = stage; at = push_other old g None new n does stage at refl; is = refl; stands = tt }
 push_turn old g (Some f) new n does stage at = elim (cases_eq f.stamp.port 15) [
   | inl own ↦
       let p : Pushed31 stage old f new = push31 old g stage at f new does own in
-      record { next = p.next; at = p.at; is = (λ same. record { unsent = p.unsent; bytes = p.bytes; follows = p.follows }, λ other. absurd (other own)) }
+      record { next = p.next; at = p.at; is = (λ same. record { unsent = p.unsent; bytes = p.bytes; follows = p.follows }, λ other. absurd (other own)); stands = tt }
   | inr other ↦ record {
     next = stage;
     at = push_other old g (Some f) new n does stage at (ap (λ (b : Bool). if b then Went ∷ [] else []) (ne_eqb f.stamp.port 15 other));
     is = (λ own. absurd (other own), λ not_own. refl);
+    stands = tt;
   }
 ]
 
@@ -113,8 +117,8 @@ took_turn : (old : Host) → IsGoing old → (frame : List ℕ) (report : TakeRe
 took_turn old g frame report new n does of stage at may = elim (cases_eq (port_of frame) 15) [
   | inl own ↦
       let t : Took31 stage frame new = took31 old g new n frame report does of own stage at (may own) in
-      record { next = t.next; at = t.at; is = (λ same. t.follows, λ other. absurd (other own)) }
-  | inr other ↦ record { next = stage; at = took_other old g new n frame report does of stage other at; is = (λ own. absurd (other own), λ not_own. refl) }
+      record { next = t.next; at = t.at; is = (λ same. t.follows, λ other. absurd (other own)); stands = t.waits }
+  | inr other ↦ record { next = stage; at = took_other old g new n frame report does of stage other at; is = (λ own. absurd (other own), λ not_own. refl); stands = λ w. w }
 ]
 
 -- ---- a tick
@@ -153,6 +157,15 @@ module _ (old : Host) (g : IsGoing old) (stage : Stage31) (at : IsAt31 stage old
   clears_due : (n : ℕ) → orders_clear n old ≡ true → due (sight_in old) old.driver ≡ Some (act.Orders (Clear n))
   clears_due n flushed = act_clears n (due (sight_in old) old.driver) flushed
 
+  first_any : (b c : Bool) → b ≡ true → (b || c) ≡ true
+  first_any true c e = refl
+  first_any false c e = absurd (false≢true e)
+
+  -- and where its port is cleared a device is flushed
+  flushed_by : (n : ℕ) → due (sight_in old) old.driver ≡ Some (act.Orders (Clear n)) → orders_clear n old ≡ true
+  unfolding effects_of order_effects
+  flushed_by n is = ap (λ (a : Option Act). list_any (flushes n) (effects_due a)) is ∙ first_any (n == n) (list_any (flushes n) (effect.Empties n ∷ order_command (Clear n))) (eq-eqb n n refl)
+
   never_closed : old.driver.plan.opened < 7 → (n : ℕ) → orders_clear n old ≡ true → ⊥
   never_closed less n flushed =
       let runs = subst (Runs old.driver.plan) (clears_due n flushed) (runs_turn (sight_in old) old.driver.plan (done_ended (sight_in old).issued old.driver.entries)) in
@@ -177,6 +190,7 @@ module _ (old : Host) (g : IsGoing old) (stage : Stage31) (at : IsAt31 stage old
           closed = λ l. refl;
         };
         is = record { stays = inl (inl (sym rests)); clears = λ n flushed. absurd (never_closed less n flushed) };
+        stands = (λ held. absurd (false≢true (sym (ap is_pending rests) ∙ held)), λ n waits idle clear. cc);
       }
 
   tick_turn : Turns31 stage old (Ticked acted) new
@@ -193,6 +207,7 @@ module _ (old : Host) (g : IsGoing old) (stage : Stage31) (at : IsAt31 stage old
                 let c = t.clears n (clears_due n flushed) in
                 (c.0, c.1, subst IsLow c.1 t.now.low, c.2);
           };
+          stands = (t.stands, λ n waits idle clear. flushed_by n (t.flushed n waits idle clear));
         }
   ]
 
@@ -211,10 +226,10 @@ pub turn31 : (old : Host) → IsGoing old → (t : HostTurn) (new : Host) → Is
 turn31 old g (Took frame report) new n does stage at may = took_turn old g frame report new n does (control_in31 stage (Took frame report) may) stage at may
 turn31 old g (Pushed frame) new n does stage at may = push_turn old g frame new n does stage at
 turn31 old g (Ticked a) new n does stage at may = tick_turn old g stage at a new does
-turn31 old g (Submitted dev request ticket) new n does stage at may = record { next = stage; at = same_port31 stage old new does.port (ap (λ (d : Driver). d.plan) does.taken.driver) at; is = refl }
+turn31 old g (Submitted dev request ticket) new n does stage at may = record { next = stage; at = same_port31 stage old new does.port (ap (λ (d : Driver). d.plan) does.taken.driver) at; is = refl; stands = tt }
 turn31 old g (Polled c) new n does stage at may =
-    record { next = stage; at = same_port31 stage old new does.port (ap (λ (d : Driver). d.plan) does.driver ∙ poll_plan old.driver) at; is = refl }
-turn31 old g (Put place bytes) new n does stage at may = record { next = stage; at = same_port31 stage old new does.port (ap (λ (d : Driver). d.plan) does.driver) at; is = refl }
+    record { next = stage; at = same_port31 stage old new does.port (ap (λ (d : Driver). d.plan) does.driver ∙ poll_plan old.driver) at; is = refl; stands = tt }
+turn31 old g (Put place bytes) new n does stage at may = record { next = stage; at = same_port31 stage old new does.port (ap (λ (d : Driver). d.plan) does.driver) at; is = refl; stands = tt }
 
 pub opens31 : (given len : ℕ) → IsAt31 Rests (opening_host given len)
 opens31 given len = record { fault = refl; context = refl; resetting = refl; is = (refl, refl); low = tt; closed = λ less. refl }

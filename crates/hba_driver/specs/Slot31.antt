@@ -211,6 +211,23 @@ abbrev pub MayBe31 : Stage31 → HostTurn → Type 0
 MayBe31 stage (Took frame report) = port_of frame ≡ control_port → MayCome31 stage frame
 MayBe31 stage turn = Unit {0}
 
+-- the command of the order is issued, and not answered
+abbrev pub is_pending : Stage31 → Bool
+is_pending Waits = true
+is_pending Asks = true
+is_pending stage = false
+
+-- An order whose command is issued stands until the answer came. Only a tick makes a command wait, and
+-- it flushes the device of a port that the command clears.
+abbrev pub Stands31 : (stage : Stage31) (old : Host) (turn : HostTurn) (new : Host) (next : Stage31)
+    → Type 0
+Stands31 stage old (Took frame report) new next = next ≡ Waits → stage ≡ Waits
+Stands31 stage old (Ticked acted) new next =
+    (is_pending stage ≡ true → new.driver.plan.order ≡ old.driver.plan.order)
+    × ((n : ℕ) → next ≡ Waits → is_idle stage ≡ true → new.driver.plan.order ≡ Clear n
+    → orders_clear n old ≡ true)
+Stands31 stage old turn new next = Unit {0}
+
 -- ---- the law
 
 -- the host comes to this stage, and to what it knows on its way, over turns in which the control port sends what may come
@@ -218,6 +235,7 @@ pub record Turns31 (stage : Stage31) (old : Host) (turn : HostTurn) (new : Host)
   pub next : Stage31
   pub at : IsAt31 next new
   pub is : IsNext31 stage old turn new next
+  pub stands : Stands31 stage old turn new next
 
 abbrev pub Comes31 : (stage : Stage31) → (old : Host) → (turns : List HostTurn) → (new : Host) → DoesAll old turns new → Type 0
 Comes31 stage old [] new run = Unit {0}

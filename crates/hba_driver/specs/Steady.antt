@@ -93,6 +93,10 @@ IsCalmTick n old = IsCalmAct n (due (sight_in old) old.driver)
 abbrev pub IsFlushTick : ℕ → Host → Type 0
 IsFlushTick n old = due (sight_in old) old.driver ≡ Some (act.Orders (Clear n))
 
+-- the tick clears a fault of the device
+abbrev pub IsClearTick : ℕ → Host → Type 0
+IsClearTick n old = due (sight_in old) old.driver ≡ Some (act.Clears n)
+
 -- a turn is none of the driver's, or calm for the device
 abbrev pub IsSteadyTurn : ℕ → Host → HostTurn → Type 0
 IsSteadyTurn n old (Ticked acted) = IsCalmTick n old

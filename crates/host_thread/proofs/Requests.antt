@@ -1,12 +1,12 @@
 -- What is said of requests, and whose turn it is.
 use Rattle.std.proofs.Common.{◌≡◌, ◌<◌, ◌≤◌, ◌+◌, ℕ, zero, suc, Bool, true, false, List, [], ◌∷◌, ◌++◌, length, replicate, refl, sym, ap, ◌∙◌, subst, ◌⊎◌, inl, inr, append_assoc, arith}
-use Rattle.std.specs.Prelude.{◌||◌, slice_index_or, slice_set}
+use Rattle.std.specs.Prelude.{◌==◌, ◌||◌, slice_index_or, slice_set}
 use Rattle.std.specs.List.{list_any}
 use Rattle.std.proofs.lemmas.Bool.{cases_eq, cases_lt}
 use Rattle.std.proofs.lemmas.List.{get_or-replicate, get_or-set_other, get_or-set_same, length-replicate, length-set}
 use Rattle.std.proofs.lemmas.List.Elements.{Contains-append_left}
 use Rattle.host_memory.specs.Memory.{Memory}
-use Rattle.hba_driver.specs.HostTurns.{HostTurn, Submitted, Polled}
+use Rattle.hba_driver.specs.HostTurns.{HostTurn, Submitted, Polled, given_in, polled_in}
 use Rattle.hba_driver.specs.declared.request.Outcome.{Outcome}
 use Rattle.hba_driver.specs.declared.request.SubmitError.{SubmitError}
 use Rattle.hba_driver.specs.declared.request.Ticket.{Ticket}
@@ -14,7 +14,8 @@ use Rattle.host_thread.specs.declared.plan.Ended.TheVariants as ended
 use Rattle.host_thread.specs.declared.plan.Planned.{Planned}
 use Rattle.host_thread.specs.declared.plan.State.{State}
 use Rattle.host_thread.specs.declared.plan.State.TheVariants as state
-use Rattle.host_thread.specs.Runs.{AreGiven, AreTrue, HasBegun, HasEnded, IsNext, IsPast, IsTrue, WasRefused, WasTaken, is_submitted, is_waiting}
+use Rattle.host_thread.specs.Runs.{AreGiven, AreTrue, HasBegun, HasEnded, IsNext, IsPast, IsTrue, WasRefused, WasTaken, is_submitted, is_waiting, taken_before, was_taken}
+use Rattle.host_thread.proofs.Takings.{given_none, polled_none, taken_all, taken_low, taken_same}
 
 -- ---- lists
 
@@ -53,6 +54,7 @@ module _ {A B : List HostTurn → Type 0} (f : (turns : List HostTurn) → A tur
     host = h.host;
     does = h.does;
     refused = h.refused;
+    final = h.final;
     so = f h.before h.so;
   }
 
@@ -92,16 +94,30 @@ module _ (A : List HostTurn → Type 0) (turns more : List HostTurn) (p : Planne
     host = h.host;
     does = h.does;
     refused = h.refused;
+    final = h.final;
     so = h.so;
   }
 
-pub all_true_more : (start : Memory) (turns more : List HostTurn) (plan : List Planned) (states : List State) → AreTrue start turns plan states
-    → AreTrue start (turns ++ more) plan states
-all_true_more start turns more plan states h =
+-- what AreTrue says of each
+abbrev pub EachIsTrue : Memory → List HostTurn → List Planned → List State → Type 0
+EachIsTrue start turns plan states = (i : ℕ) (p : Planned) (s : State) → i < length states
+    → IsTrue (IsNext start plan states i (slice_index_or plan i p).wait) start turns (slice_index_or plan i p) (slice_index_or states i s)
+
+pub each_true_more : (start : Memory) (turns more : List HostTurn) (plan : List Planned) (states : List State) → EachIsTrue start turns plan states
+    → EachIsTrue start (turns ++ more) plan states
+each_true_more start turns more plan states h =
+    λ i p s lt.
+    true_more (IsNext start plan states i (slice_index_or plan i p).wait) turns more (slice_index_or plan i p) start (slice_index_or states i s)
+    (h i p s lt)
+
+-- turns that give no ticket and poll none
+pub all_true_more : (start : Memory) (turns more : List HostTurn) (plan : List Planned) (states : List State) → given_in more ≡ [] → polled_in more ≡ []
+    → AreTrue start turns plan states → AreTrue start (turns ++ more) plan states
+all_true_more start turns more plan states given polled h =
     record {
-      each = λ i p s lt.
-          true_more (IsNext start plan states i (slice_index_or plan i p).wait) turns more (slice_index_or plan i p) start (slice_index_or states i s)
-          (h.each i p s lt);
+      each = each_true_more start turns more plan states h.each;
+      few = ap length (given_none turns more given) ∙ h.few;
+      unpolled = λ i s ticket lt is. ap (λ l. list_any (λ y. y == ticket.0) l) (polled_none turns more polled) ∙ h.unpolled i s ticket lt is;
     }
 
 -- ---- what lies before the next request
@@ -137,46 +153,56 @@ module _ (start : Memory) (turns : List HostTurn) (p : Planned) where
 
 -- ---- another state of the request at place i
 
+-- what was past of it still is, and it was taken as it was before
+pub record Stays (start : Memory) (p : Planned) (old new : State) (wait : Bool) (turns : List HostTurn) : Type 0 where
+  pub past : IsPast wait start turns p new
+  pub taken : was_taken new ≡ was_taken old
+
 module _ (start : Memory) (plan : List Planned) (states : List State) (i : ℕ) (old new : State) (there : i < length states)
     (is : (d : State) → slice_index_or states i d ≡ old)
-    (stays : (wait : Bool) (turns : List HostTurn) (p : Planned) → IsPast wait start turns p old → IsPast wait start turns p new) where
-  next_set : (k : ℕ) (wait : Bool) (turns : List HostTurn) → IsNext start plan states k wait turns
+    (stays : (wait : Bool) (turns : List HostTurn) (p : Planned) → IsPast wait start turns p old → Stays start p old new wait turns) where
+  next_set : (k : ℕ) (wait : Bool) (p : Planned) (turns : List HostTurn) → IsNext start plan states k wait turns
       → IsNext start plan (slice_set states i new) k wait turns
-  next_set k wait turns h = record {
-    each = λ j p d lt. elim (cases_eq j i) [
+  next_set k wait p turns h = record {
+    each = λ j q d lt. elim (cases_eq j i) [
       | inl here ↦
-          let was : IsPast wait start turns (slice_index_or plan j p) old =
-          subst (λ (s : State). IsPast wait start turns (slice_index_or plan j p) s) (ap (λ x. slice_index_or states x d) here ∙ is d) (h.each j p d lt) in
+          let was : IsPast wait start turns (slice_index_or plan j q) old =
+          subst (λ (s : State). IsPast wait start turns (slice_index_or plan j q) s) (ap (λ x. slice_index_or states x d) here ∙ is d) (h.each j q d lt) in
           let now : slice_index_or (slice_set states i new) j d ≡ new =
           ap (λ x. slice_index_or (slice_set states i new) x d) here ∙ get_or-set_same states i new d there in
-          subst (λ (s : State). IsPast wait start turns (slice_index_or plan j p) s) (sym now)
-          (stays wait turns (slice_index_or plan j p) was)
+          subst (λ (s : State). IsPast wait start turns (slice_index_or plan j q) s) (sym now)
+          (stays wait turns (slice_index_or plan j q) was).past
       | inr away ↦
-          subst (λ (s : State). IsPast wait start turns (slice_index_or plan j p) s) (sym (get_or-set_other states i j new d away)) (h.each j p d lt)
+          subst (λ (s : State). IsPast wait start turns (slice_index_or plan j q) s) (sym (get_or-set_other states i j new d away)) (h.each j q d lt)
     ];
+    few = h.few ∙ sym (elim (cases_lt i k) [
+      | inl after ↦
+          let was : IsPast wait start turns (slice_index_or plan i p) old =
+          subst (λ (s : State). IsPast wait start turns (slice_index_or plan i p) s) (is state.Waits) (h.each i p state.Waits after) in
+          taken_same k i states new state.Waits ((stays wait turns (slice_index_or plan i p) was).taken ∙ ap was_taken (sym (is state.Waits)))
+      | inr before ↦ taken_low k i states new before
+    ]);
   }
 
-  pub all_true_set : (turns : List HostTurn) → AreTrue start turns plan states
+  pub each_true_set : (turns : List HostTurn) → EachIsTrue start turns plan states
       → ((p : Planned) → IsTrue (IsNext start plan states i (slice_index_or plan i p).wait) start turns (slice_index_or plan i p) new)
-      → AreTrue start turns plan (slice_set states i new)
-  all_true_set turns h now = record {
-    each = λ j p d lt.
-        let long : length (slice_set states i new) ≡ length states = length-set states i new in
-        let wait : Bool = (slice_index_or plan j p).wait in
-        elim (cases_eq j i) [
-          | inl here ↦
-              let said : slice_index_or (slice_set states i new) j d ≡ new =
-              ap (λ x. slice_index_or (slice_set states i new) x d) here ∙ get_or-set_same states i new d there in
-              let so : IsTrue (IsNext start plan states j wait) start turns (slice_index_or plan j p) new =
-              subst (λ (k : ℕ). IsTrue (IsNext start plan states k (slice_index_or plan k p).wait) start turns (slice_index_or plan k p) new) (sym here) (now p) in
-              subst (λ (s : State). IsTrue (IsNext start plan (slice_set states i new) j wait) start turns (slice_index_or plan j p) s) (sym said)
-              (true_so (next_set j wait) start turns (slice_index_or plan j p) new so)
-          | inr away ↦
-              subst (λ (s : State). IsTrue (IsNext start plan (slice_set states i new) j wait) start turns (slice_index_or plan j p) s)
-              (sym (get_or-set_other states i j new d away))
-              (true_so (next_set j wait) start turns (slice_index_or plan j p) (slice_index_or states j d) (h.each j p d (omega (arith, lt, long))))
-        ];
-  }
+      → EachIsTrue start turns plan (slice_set states i new)
+  each_true_set turns h now = λ j p d lt.
+      let long : length (slice_set states i new) ≡ length states = length-set states i new in
+      let wait : Bool = (slice_index_or plan j p).wait in
+      elim (cases_eq j i) [
+        | inl here ↦
+            let said : slice_index_or (slice_set states i new) j d ≡ new =
+            ap (λ x. slice_index_or (slice_set states i new) x d) here ∙ get_or-set_same states i new d there in
+            let so : IsTrue (IsNext start plan states j wait) start turns (slice_index_or plan j p) new =
+            subst (λ (k : ℕ). IsTrue (IsNext start plan states k (slice_index_or plan k p).wait) start turns (slice_index_or plan k p) new) (sym here) (now p) in
+            subst (λ (s : State). IsTrue (IsNext start plan (slice_set states i new) j wait) start turns (slice_index_or plan j p) s) (sym said)
+            (true_so (next_set j wait p) start turns (slice_index_or plan j p) new so)
+        | inr away ↦
+            subst (λ (s : State). IsTrue (IsNext start plan (slice_set states i new) j wait) start turns (slice_index_or plan j p) s)
+            (sym (get_or-set_other states i j new d away))
+            (true_so (next_set j wait p) start turns (slice_index_or plan j p) (slice_index_or states j d) (h j p d (omega (arith, lt, long))))
+      ]
 
 -- ---- whose turn it is
 
@@ -187,6 +213,14 @@ pub record IsDue (plan : List Planned) (states : List State) (i : ℕ) (wait : B
   pub given : AreGiven i states
   pub none_open : wait ≡ true → list_any is_submitted states ≡ false
 
+-- all that were taken lie before it
+pub due_few : (plan : List Planned) (states : List State) (i : ℕ) (wait : Bool) → IsDue plan states i wait
+    → taken_before (length states) states ≡ taken_before i states
+due_few plan states i wait due =
+    let there = due.there in
+    let all = due.all in
+    taken_all states i due.given (omega (arith, there, all))
+
 pub next_due : (start : Memory) (plan : List Planned) (states : List State) (i : ℕ) (wait : Bool) (turns : List HostTurn)
     → IsDue plan states i wait → AreTrue start turns plan states → IsNext start plan states i wait turns
 next_due start plan states i wait turns due h = record {
@@ -196,6 +230,7 @@ next_due start plan states i wait turns due h = record {
       let less : j < length states = omega (arith, lt, there, all) in
       is_past start turns (slice_index_or plan j p) (IsNext start plan states j (slice_index_or plan j p).wait) wait (slice_index_or states j s) (due.given.before j s lt less)
       (λ w. none_at is_submitted states j s (due.none_open w) less) (h.each j p s less);
+  few = h.few ∙ due_few plan states i wait due;
 }
 
 is_waits : (s : State) → is_waiting s ≡ true → s ≡ state.Waits

@@ -1,34 +1,33 @@
 -- What one step leaves of a run of the host's worker.
-use Rattle.std.proofs.Common.{◌≡◌, ◌<◌, ℕ, List, [], ◌∷◌, ◌++◌, length, map, replicate, Some, None, refl, sym, ap, ◌∙◌, subst, append-nil, arith}
+use Rattle.std.proofs.Common.{◌≡◌, ◌<◌, ℕ, false, List, [], ◌∷◌, ◌++◌, length, map, replicate, Some, None, refl, sym, ap, ◌∙◌, subst, append-nil, arith}
 use Rattle.std.specs.Prelude.{slice_index_or, slice_set}
-use Rattle.std.specs.List.{Contains, flat_map}
+use Rattle.std.specs.List.{flat_map}
 use Rattle.std.specs.Option.{option_to_list}
 use Rattle.std.proofs.lemmas.Grind.{flat_map-append}
 use Rattle.std.proofs.lemmas.List.{get_or-replicate, length-replicate, map-append}
-use Rattle.std.proofs.lemmas.List.Elements.{All-contains_itself, Contains-append_right}
 use Rattle.fis_view.specs.Frames.{Stamped}
 use Rattle.host_memory.specs.Memory.{Memory}
 use Rattle.hba_fbs.specs.declared.report.TakeReport.{TakeReport}
 use Rattle.hba_driver.specs.declared.request.Completion.{Completion}
 use Rattle.hba_driver.specs.declared.request.SubmitError.{SubmitError}
 use Rattle.hba_driver.specs.declared.request.Ticket.{Ticket}
-use Rattle.hba_driver.specs.HostTurns.{DoesAll, Host, HostTurn, Took, Pushed, Ticked, Submitted, Polled, Polls, Pushes, Submits, Ticks, Tooks}
+use Rattle.hba_driver.specs.HostTurns.{DoesAll, Host, HostTurn, Took, Pushed, Ticked, Submitted, Polled, Polls, Pushes, Submits, Ticks, Tooks, given_in, polled_in}
 use Rattle.hba_driver.specs.Submits.{submit_refusal}
 use Rattle.host_thread.specs.declared.plan.Ended.TheVariants as ended
 use Rattle.host_thread.specs.declared.plan.Planned.{Planned}
 use Rattle.host_thread.specs.declared.plan.State.{State}
 use Rattle.host_thread.specs.declared.plan.State.TheVariants as state
-use Rattle.host_thread.specs.Runs.{HostView, IsNext, IsRun, GoesOn, Same, AreTrue, IsTrue, WasRefused, WasTaken, starting, took_by, pushed_by}
-use Rattle.host_thread.proofs.Requests.{IsDue, all_true_more, all_true_set, any_default, next_due, past_polled, past_waiting, waits_there}
+use Rattle.host_thread.specs.Runs.{HostView, IsNext, IsRun, GoesOn, Same, AreTrue, IsTrue, WasRefused, WasTaken, is_for_now, starting, took_by, pushed_by}
+use Rattle.host_thread.proofs.Ends.{polled_beside, polled_in_place, refused_in, taken_in}
+use Rattle.host_thread.proofs.Requests.{IsDue, all_true_more, any_default, due_few, next_due, none_given}
+use Rattle.host_thread.proofs.Takings.{taken_all}
+use Rattle.host_thread.proofs.Tickets.{not_polled}
 
 -- ---- turns, and then turns
 
 pub does_append : (a b c : Host) (first second : List HostTurn) → DoesAll a first b → DoesAll b second c → DoesAll a (first ++ second) c
 does_append a b c [] second does more = subst (λ (h : Host). DoesAll h second c) does more
 does_append a b c (turn ∷ first) second does more = (does.0, does.1, does_append does.0 b c first second does.2 more)
-
-one_is_there : {X : Type 0} (xs : List X) (x : X) → Contains (xs ++ x ∷ []) x
-one_is_there xs x = Contains-append_right xs (x ∷ []) x (All-contains_itself (x ∷ []) 0 x (omega arith))
 
 -- ---- a run goes on
 
@@ -55,9 +54,9 @@ module _ (old : HostView) where
   sent_same : old.commands.sent ++ option_to_list old.hand ≡ (old.commands.sent ++ option_to_list old.hand) ++ []
   sent_same = sym (append-nil (old.commands.sent ++ option_to_list old.hand))
 
-  keeps : (more : List HostTurn) (start : Memory) (turns : List HostTurn) → DoesAll (starting start) turns old.host
-      → AreTrue start turns old.plan old.states → AreTrue start (turns ++ more) old.plan old.states
-  keeps more start turns does h = all_true_more start turns more old.plan old.states h
+  keeps : (more : List HostTurn) → given_in more ≡ [] → polled_in more ≡ [] → (start : Memory) (turns : List HostTurn)
+      → DoesAll (starting start) turns old.host → AreTrue start turns old.plan old.states → AreTrue start (turns ++ more) old.plan old.states
+  keeps more given polled start turns does h = all_true_more start turns more old.plan old.states given polled h
 
   -- the worker with another host
   abbrev pub with_host : Host → HostView
@@ -74,14 +73,14 @@ module _ (old : HostView) where
       (ap (map (λ f. f.bytes)) taken ∙ map-append (λ (f : Stamped). f.bytes) old.frames.taken (frame ∷ []))
       (ap (λ s. s.sent ++ option_to_list new.hand) commands ∙ ap (λ h. old.commands.sent ++ option_to_list h) hand ∙ sent_same) plan
       (λ start turns all h. subst (λ (s : List State). AreTrue start (turns ++ Took frame.bytes report ∷ []) old.plan s) (sym states)
-      (keeps (Took frame.bytes report ∷ []) start turns all h))
+      (keeps (Took frame.bytes report ∷ []) refl refl start turns all h))
 
   pub ticks : (acted : _) (host : Host) → Ticks old.host acted host → GoesOn old (with_host host)
   ticks acted host does = goes_more old (with_host host) (Ticked acted ∷ []) (host, does, refl) bytes_same sent_same refl
-      (keeps (Ticked acted ∷ []))
+      (keeps (Ticked acted ∷ []) refl refl)
 
   pub asks_none : (host : Host) → Pushes old.host None host → GoesOn old (with_host host)
-  asks_none host does = goes_more old (with_host host) (Pushed None ∷ []) (host, does, refl) bytes_same sent_same refl (keeps (Pushed None ∷ []))
+  asks_none host does = goes_more old (with_host host) (Pushed None ∷ []) (host, does, refl) bytes_same sent_same refl (keeps (Pushed None ∷ []) refl refl)
 
   pub asks_some : (new : HostView) (frame : Stamped) → Pushes old.host (Some frame) new.host → old.hand ≡ None → new.hand ≡ Some frame
       → new.frames ≡ old.frames → new.commands ≡ old.commands → new.plan ≡ old.plan → new.states ≡ old.states → GoesOn old new
@@ -92,7 +91,7 @@ module _ (old : HostView) where
       ∙ ap (λ l. l ++ frame ∷ []) (sym (append-nil old.commands.sent))
       ∙ ap (λ h. (old.commands.sent ++ option_to_list h) ++ frame ∷ []) (sym empty)) plan
       (λ start turns all h. subst (λ (s : List State). AreTrue start (turns ++ Pushed (Some frame) ∷ []) old.plan s) (sym states)
-      (keeps (Pushed (Some frame) ∷ []) start turns all h))
+      (keeps (Pushed (Some frame) ∷ []) refl refl start turns all h))
 
   -- nothing is done, but a FIS moves from the hand onto its link
   pub still : (new : HostView) → new.host ≡ old.host → new.frames ≡ old.frames
@@ -118,12 +117,11 @@ module _ (old : HostView) where
       let p : Planned = slice_index_or old.plan i q in
       let turn : HostTurn = Submitted p.dev p.request ticket.0 in
       goes_more old (with_states host (slice_set old.states i (state.Submitted ticket))) (turn ∷ []) (host, does, refl) bytes_same sent_same refl
-      (λ start turns all h.
+      (λ start turns made h.
       let taken : WasTaken (IsNext start old.plan old.states i p.wait) (turns ++ turn ∷ []) p ticket.0 =
       record { before = turns; rest = []; are = refl; so = next_due start old.plan old.states i p.wait turns due h } in
-      all_true_set start old.plan old.states i state.Waits (state.Submitted ticket) less (λ d. waits_there old.states i d due.given less)
-      (λ wait before r past. absurd (past_waiting start before r wait past)) (turns ++ turn ∷ [])
-      (keeps (turn ∷ []) start turns all h)
+      taken_in start old.plan old.states i less ticket due.given turns (turn ∷ []) (refl, refl) (due_few old.plan old.states i p.wait due) h
+      (not_polled start turns old.host made ticket.0 (omega (arith, does.taken.next)))
       (λ d. subst (λ (o : Planned). WasTaken (IsNext start old.plan old.states i o.wait) (turns ++ turn ∷ []) o ticket.0)
       (any_default old.plan i q d there) taken))
 
@@ -131,62 +129,65 @@ module _ (old : HostView) where
   pub refuses : (host : Host) (i : ℕ) (q : Planned) (refusal : SubmitError) → IsDue old.plan old.states i (slice_index_or old.plan i q).wait
       → host ≡ old.host
       → submit_refusal old.host.driver old.host.memory (slice_index_or old.plan i q).dev (slice_index_or old.plan i q).request ≡ Some refusal
+      → is_for_now refusal ≡ false
       → GoesOn old (with_states host (slice_set old.states i (state.Ended (ended.Refused refusal))))
-  refuses host i q refusal due same refused =
+  refuses host i q refusal due same refused final =
       let there = due.there in
       let all = due.all in
       let less : i < length old.states = omega (arith, there, all) in
       let p : Planned = slice_index_or old.plan i q in
       goes_more old (with_states host (slice_set old.states i (state.Ended (ended.Refused refusal)))) [] same bytes_same sent_same refl
-      (λ start turns all h.
+      (λ start turns made h.
       let was : WasRefused (IsNext start old.plan old.states i p.wait) start (turns ++ []) p refusal = record {
         before = turns;
         rest = [];
         are = refl;
         host = old.host;
-        does = all;
+        does = made;
         refused = refused;
+        final = final;
         so = next_due start old.plan old.states i p.wait turns due h;
       } in
-      all_true_set start old.plan old.states i state.Waits (state.Ended (ended.Refused refusal)) less (λ d. waits_there old.states i d due.given less)
-      (λ wait before r past. absurd (past_waiting start before r wait past)) (turns ++ [])
-      (keeps [] start turns all h)
+      refused_in start old.plan old.states i less refusal due.given turns h
       (λ d. subst (λ (o : Planned). WasRefused (IsNext start old.plan old.states i o.wait) start (turns ++ []) o refusal)
       (any_default old.plan i q d there) was))
 
   -- a request is polled that is none of the plan
-  pub polls_other : (host : Host) (completion : Completion) → Polls old.host completion host → GoesOn old (with_host host)
-  polls_other host completion does = goes_more old (with_host host) (Polled completion ∷ []) (host, does, refl) bytes_same sent_same refl
-      (keeps (Polled completion ∷ []))
+  pub polls_other : (host : Host) (completion : Completion) → Polls old.host completion host
+      → ((j : ℕ) (s : State) → j < length old.states → slice_index_or old.states j s ≡ state.Submitted completion.ticket → ⊥)
+      → GoesOn old (with_host host)
+  polls_other host completion does none =
+      goes_more old (with_host host) (Polled completion ∷ []) (host, does, refl) bytes_same sent_same refl
+      (λ start turns made h. polled_beside start old.plan old.states completion none turns h)
 
   -- one that was taken, at place i
   pub polls : (host : Host) (completion : Completion) (i : ℕ) → i < length old.states → Polls old.host completion host
       → slice_index_or old.states i state.Waits ≡ state.Submitted completion.ticket
+      → length old.states ≡ length old.plan
       → GoesOn old (with_states host (slice_set old.states i (state.Ended (ended.Polled completion.outcome))))
-  polls host completion i there does is =
+  polls host completion i there does is all =
       let now : State = state.Ended (ended.Polled completion.outcome) in
       goes_more old (with_states host (slice_set old.states i now)) (Polled completion ∷ []) (host, does, refl) bytes_same sent_same refl
-      (λ start turns all h.
-      let more : List HostTurn = turns ++ Polled completion ∷ [] in
-      let kept : AreTrue start more old.plan old.states = keeps (Polled completion ∷ []) start turns all h in
-      all_true_set start old.plan old.states i (state.Submitted completion.ticket) now there
-      (λ d. any_default old.states i d state.Waits there ∙ is)
-      (λ wait before r past. past_polled start before r wait completion.ticket completion.outcome past) more kept (λ d.
-      let p : Planned = slice_index_or old.plan i d in
-      let was : WasTaken (IsNext start old.plan old.states i p.wait) more p completion.ticket.0 =
-      subst (λ (t : State). IsTrue (IsNext start old.plan old.states i p.wait) start more p t) is (kept.each i d state.Waits there) in
-      record { completion = completion; taken = was; polled = one_is_there turns (Polled completion); ended_so = refl }))
+      (λ start turns made h. polled_in_place start old.plan old.states i there completion is all turns old.host made h)
 
 -- ---- a new worker
 
 each_waits : (start : Memory) (plan : List Planned) (count : ℕ) → AreTrue start [] plan (replicate count state.Waits)
 each_waits start plan count = record {
   each = λ i p s lt.
-      let states : List State = replicate count state.Waits in
-      let long = length-replicate count state.Waits in
       subst (λ (t : State). IsTrue (IsNext start plan states i (slice_index_or plan i p).wait) start [] (slice_index_or plan i p) t)
-      (sym (get_or-replicate count i state.Waits s (omega (arith, lt, long)))) tt;
+      (sym (waits i s lt)) tt;
+  few = sym (taken_all states 0 (none_given count) (omega arith));
+  unpolled = λ i s ticket lt is. let bad : state.Waits ≡ state.Submitted ticket = sym (waits i s lt) ∙ is in cc;
 }
+  where
+    states : List State
+    states = replicate count state.Waits
+
+    waits : (i : ℕ) (s : State) → i < length states → slice_index_or states i s ≡ state.Waits
+    waits i s lt =
+        let long = length-replicate count state.Waits in
+        get_or-replicate count i state.Waits s (omega (arith, lt, long))
 
 pub begins : (start : Memory) (w : HostView) (count : ℕ) → w.host ≡ starting start → w.frames.taken ≡ [] → w.commands.sent ≡ [] → w.hand ≡ None
     → w.states ≡ replicate count state.Waits → IsRun start w

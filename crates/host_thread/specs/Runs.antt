@@ -1,8 +1,8 @@
 -- What the host's thread does: there is one list of turns of the host, of which the lists of its
 -- seats are the projections, and port, driver and memory the outcome; and what it says of each
 -- request of its plan is in these turns, in the order of the plan and behind its barriers.
-use Rattle.std.specs.Prelude.{◌≡◌, ℕ, ◌<◌, ◌≤◌, ⊤, Bool, true, false, List, ◌++◌, [], ◌∷◌, length, map, slice_index_or, Option, Some}
-use Rattle.std.specs.List.{Contains, flat_map}
+use Rattle.std.specs.Prelude.{◌≡◌, ℕ, ◌<◌, ◌≤◌, ◌==◌, ⊤, Bool, true, false, List, ◌++◌, [], ◌∷◌, filter, length, map, slice_index_or, take, Option, Some}
+use Rattle.std.specs.List.{Contains, flat_map, list_any}
 use Rattle.std.specs.Option.{option_to_list}
 use Rattle.atomic_table.specs.Seated.{TableId}
 use Rattle.fis_view.specs.Frames.{Stamped}
@@ -13,8 +13,10 @@ use Rattle.multiplier.specs.Orders.{InStampedOrder}
 use Rattle.hba_driver.specs.declared.request.Completion.{Completion}
 use Rattle.hba_driver.specs.declared.request.Outcome.{Outcome}
 use Rattle.hba_driver.specs.declared.request.SubmitError.{SubmitError}
+use Rattle.hba_driver.specs.declared.request.SubmitError.TheVariants as refusal
+use Rattle.hba_driver.specs.declared.request.Ticket.{Ticket}
 use Rattle.hba_driver.specs.Drivers.{new_driver}
-use Rattle.hba_driver.specs.HostTurns.{DoesAll, Host, HostTurn, Took, Pushed, Submitted, Polled}
+use Rattle.hba_driver.specs.HostTurns.{DoesAll, Host, HostTurn, Took, Pushed, Submitted, Polled, given_in, polled_in}
 use Rattle.hba_driver.specs.Submits.{submit_refusal}
 use Rattle.host_thread.specs.declared.plan.Ended.{Ended}
 use Rattle.host_thread.specs.declared.plan.Ended.TheVariants as ended
@@ -90,6 +92,24 @@ abbrev pub is_submitted : State → Bool
 is_submitted (state.Submitted ticket) = true
 is_submitted s = false
 
+-- it was taken, and polled since or not
+abbrev pub was_taken : State → Bool
+was_taken (state.Submitted ticket) = true
+was_taken (state.Ended (ended.Polled outcome)) = true
+was_taken s = false
+
+-- how many of the requests before place i were taken
+abbrev pub taken_before : ℕ → List State → ℕ
+taken_before i states = length (filter was_taken (take i states))
+
+-- a refusal that may pass: the device comes and recovers, its queue goes on, and slots get free
+abbrev pub is_for_now : SubmitError → Bool
+is_for_now refusal.NoDevice = true
+is_for_now refusal.Recovering = true
+is_for_now refusal.QueueBusy = true
+is_for_now refusal.NoSlot = true
+is_for_now r = false
+
 -- It was taken under this ticket, after turns of which this is so.
 pub record WasTaken (IsSo : List HostTurn → Type 0) (turns : List HostTurn) (p : Planned) (ticket : ℕ) : Type 0 where
   pub before : List HostTurn
@@ -105,7 +125,7 @@ pub record WasPolled (IsSo : List HostTurn → Type 0) (turns : List HostTurn) (
   pub polled : Contains turns (Polled completion)
   pub ended_so : completion.outcome ≡ outcome
 
--- there was a moment, after turns of which this is so, at which the driver refused it so
+-- there was a moment, after turns of which this is so, at which the driver refused it so, and not for now
 pub record WasRefused (IsSo : List HostTurn → Type 0) (start : Memory) (turns : List HostTurn) (p : Planned)
     (refusal : SubmitError) : Type 0 where
   pub before : List HostTurn
@@ -114,6 +134,7 @@ pub record WasRefused (IsSo : List HostTurn → Type 0) (start : Memory) (turns 
   pub host : Host
   pub does : DoesAll (starting start) before host
   pub refused : submit_refusal host.driver host.memory p.dev p.request ≡ Some refusal
+  pub final : is_for_now refusal ≡ false
   pub so : IsSo before
 
 abbrev pub IsEnd : (List HostTurn → Type 0) → Memory → List HostTurn → Planned → Ended → Type 0
@@ -149,18 +170,23 @@ IsPast true start turns p s = HasEnded start turns p s
 IsPast false start turns p s = HasBegun start turns p s
 
 -- After these turns it is the turn of the request at place i: all before it were given to the driver, and where it
--- waits, all before it have ended.
+-- waits, all before it have ended; and those of them that were taken were taken once each, and nothing else was.
 pub record IsNext (start : Memory) (plan : List Planned) (states : List State) (i : ℕ) (wait : Bool)
     (turns : List HostTurn) : Type 0 where
   pub each : (j : ℕ) (p : Planned) (s : State) → j < i
       → IsPast wait start turns (slice_index_or plan j p) (slice_index_or states j s)
+  pub few : length (given_in turns) ≡ taken_before i states
 
--- What is said of each request is so, and each was given to the driver in its turn.
+-- What is said of each request is so, and each was given to the driver in its turn. Nothing else was taken but those of
+-- which it is said, once each; and of one that is said to be open nothing was polled.
 pub record AreTrue (start : Memory) (turns : List HostTurn) (plan : List Planned)
     (states : List State) : Type 0 where
   pub each : (i : ℕ) (p : Planned) (s : State) → i < length states
       → IsTrue (IsNext start plan states i (slice_index_or plan i p).wait) start turns
       (slice_index_or plan i p) (slice_index_or states i s)
+  pub few : length (given_in turns) ≡ taken_before (length states) states
+  pub unpolled : (i : ℕ) (s : State) (ticket : Ticket) → i < length states → slice_index_or states i s ≡ state.Submitted ticket
+      → list_any (λ y. y == ticket.0) (polled_in turns) ≡ false
 
 -- the requests before this place were given to the driver, and none from it on
 pub record AreGiven (next : ℕ) (states : List State) : Type 0 where

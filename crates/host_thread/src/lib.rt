@@ -8,7 +8,8 @@
 //! there is one list of turns of the host, of which the lists of its seats are the projections, and
 //! of which the laws of `hba_driver` speak. What it says of each request of its plan is in these
 //! turns: each was given to the driver after all before it, and one that waits after all before it
-//! had ended.
+//! had ended. Nothing else was given, and each that was taken was taken once; of one that is open
+//! nothing was polled; and none ends by a refusal that may pass.
 #![tactic(auto)]
 
 mod end;

@@ -1,8 +1,9 @@
 //! A plan of requests, and what becomes of them.
 
-ghost use Rattle.std.specs.Prelude.{◌≡◌, ◌<◌, length, slice_index_or, IfSome};
+ghost use Rattle.std.specs.Prelude.{◌≡◌, ◌<◌, ℕ, length, slice_index_or, IfNone, IfSome};
 ghost use Rattle.std.specs.List.{list_any};
-ghost use Rattle.host_thread.specs.Runs.{is_open, is_submitted};
+ghost use Rattle.host_thread.specs.Runs.{is_for_now, is_open, is_submitted};
+ghost use Rattle.host_thread.specs.declared.plan.State.{State};
 ghost use Rattle.host_thread.specs.declared.plan.State.TheVariants as state;
 
 use hba_driver::{Outcome, Request, SubmitError, Ticket};
@@ -79,6 +80,8 @@ pub(crate) fn place_of(states: &[State], ticket: Ticket) -> Option<usize>
     ensures there { IfSome result (λ i. i < length states.now) }
     ensures submitted { IfSome result (λ i.
         slice_index_or states.now i state.Waits ≡ state.Submitted ticket) }
+    ensures none { IfNone result ((i : ℕ) (s : State) → i < length states.now
+        → slice_index_or states.now i s ≡ state.Submitted ticket → ⊥) }
 {
     for i in 0..states.len() {
         if let State::Submitted(other) = states[i] {
@@ -91,7 +94,9 @@ pub(crate) fn place_of(states: &[State], ticket: Ticket) -> Option<usize>
 }
 
 /// Whether a request that was refused so is tried again.
-pub(crate) fn is_tried_again(refusal: SubmitError) -> bool {
+pub(crate) fn is_tried_again(refusal: SubmitError) -> bool
+    ensures { result ≡ is_for_now refusal }
+{
     matches!(
         refusal,
         SubmitError::NoDevice

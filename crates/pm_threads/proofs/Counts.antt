@@ -17,7 +17,7 @@ use Rattle.multiplier.specs.State.{rising}
 use Rattle.pm_thread.specs.Passing.{risen}
 use Rattle.pm_world.specs.Counting.{AreSorted, Precedes, is_of, row_of}
 use Rattle.pm_world.specs.declared.counts.ConnCount.{ConnCount}
-use Rattle.disk_thread.specs.Runs.{AreTold, StationState, all_given, all_told, has_come}
+use Rattle.disk_thread.specs.Runs.{StationState, all_given, all_told, has_come}
 use Rattle.pm_threads.specs.Ends.{EachArrives, sent_at}
 use Rattle.pm_threads.specs.Summaries.{AreCounted, CountsAt, NoneAboveSent, at_place, given_at, told_at, row_for, rows_on}
 

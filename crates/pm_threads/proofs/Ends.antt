@@ -1,19 +1,17 @@
 -- What is known of the ends of a run.
-use Rattle.std.proofs.Common.{◌≡◌, ℕ, zero, suc, ◌+◌, ◌<◌, ◌≤◌, Bool, true, false, List, [], ◌∷◌, ◌++◌, length, append_assoc, append-nil, refl, sym, ap, ◌∙◌, subst, None, Some, Option, drop, length-append, arith}
-use Rattle.std.specs.Prelude.{◌||◌, if◌then◌else◌, map, All, IfOk, OnOk, Result, Ok, Err}
+use Rattle.std.proofs.Common.{◌≡◌, ℕ, zero, suc, ◌<◌, Bool, true, false, List, [], ◌∷◌, ◌++◌, append_assoc, refl, sym, ap, ◌∙◌, None, Some, Option, drop, arith}
+use Rattle.std.specs.Prelude.{◌||◌, map, All, IfOk, OnOk, Result, Ok, Err}
 use Rattle.std.specs.List.{AllZip, list_any}
-use Rattle.std.specs.Option.{ForSome, option_to_list}
-use Rattle.std.proofs.lemmas.List.{length-map, map-append}
+use Rattle.std.proofs.lemmas.List.{map-append}
 use Rattle.std.proofs.lemmas.List.Elements.{All-cons, filter-append}
 use Rattle.fis_view.specs.Frames.{Stamped}
-use Rattle.disk_model.specs.Histories.{Happening, Plan}
 use Rattle.disk_model.specs.declared.unit.Unit.{Unit}
 use Rattle.ruled_links.specs.Links.{IsLink}
 use Rattle.ruled_links.specs.Lists.{IsPrefixOf}
 use Rattle.multiplier.specs.Orders.{of_connection}
 use Rattle.multiplier.specs.State.{rising}
 use Rattle.multiplier.specs.Passing.{of_conn}
-use Rattle.disk_thread.specs.Runs.{StationState, IsRun, GoesOnRunning, IsAtSamePort}
+use Rattle.disk_thread.specs.Runs.{StationState, IsAtSamePort}
 use Rattle.pm_thread.specs.Runs.{PortSeats, ends_of, IsUnused, frames_at}
 use Rattle.pm_thread.specs.Passing.{risen}
 use Rattle.pm_threads.specs.Seats.{TiedTo, Starts, Handed}

@@ -3,6 +3,7 @@ pub mod Ends
 pub mod Fits
 pub mod Frees
 pub mod Results
+pub mod Pulls
 pub mod Puts
 pub mod Replicas
 pub mod Zips

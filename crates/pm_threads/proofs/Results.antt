@@ -1,12 +1,10 @@
 -- How the first requests ended, one more.
-use Rattle.std.proofs.Common.{◌≡◌, ℕ, ◌+◌, ◌<◌, suc, List, [], ◌∷◌, ◌++◌, length, get_or, take, Some, true, false, refl, sym, ap, ◌∙◌, arith}
+use Rattle.std.proofs.Common.{◌≡◌, ℕ, ◌+◌, ◌<◌, suc, List, [], ◌∷◌, ◌++◌, length, get_or, take, Some, sym, ap, ◌∙◌, arith}
 use Rattle.std.specs.Prelude.{map, Result}
-use Rattle.std.specs.List.{list_any}
 use Rattle.std.proofs.lemmas.List.{map-append}
 use Rattle.std.proofs.Math.Seq.{take-suc}
 use Rattle.hba_driver.specs.declared.request.Outcome.{Outcome}
 use Rattle.hba_driver.specs.declared.request.SubmitError.{SubmitError}
-use Rattle.host_thread.specs.Runs.{is_open}
 use Rattle.host_thread.specs.declared.plan.State.{State}
 use Rattle.pm_threads.specs.Summaries.{AreOutcomes, outcome_of}
 

@@ -5,6 +5,7 @@ use Rattle.fis_view.specs.Frames.{Stamped}
 use Rattle.disk_model.specs.declared.unit.Unit.{Unit}
 use Rattle.ruled_links.specs.Lists.{IsPrefixOf}
 use Rattle.multiplier.specs.Passing.{of_conn}
+use Rattle.disk_model.specs.Histories.{Happening, Plan}
 use Rattle.disk_model.specs.Units.{plan_of, StandsFor, MaySend}
 use Rattle.disk_thread.specs.Runs.{StationState, IsRun}
 use Rattle.pm_thread.specs.Runs.{PmView}
@@ -15,6 +16,7 @@ use Rattle.host_thread.specs.declared.plan.Planned.{Planned}
 use Rattle.runner.specs.declared.worker.Fault.{Fault}
 use Rattle.runner.specs.declared.worker.Fault.TheVariants as fault
 use Rattle.pm_threads.specs.Seats.{TiedTo}
+use Rattle.pm_threads.specs.Setups.{pulls_at}
 
 -- the ends of all workers, that of the device at port n at place n
 pub record Ends : Type 0 where
@@ -39,10 +41,18 @@ sent_at (s ∷ disks) (suc n) = sent_at disks n
 abbrev pub EachArrives : List (StationState Unit) → List Stamped → Type 0
 EachArrives disks taken = (n c : ℕ) → n < 15 → IsPrefixOf (of_conn n c taken) (risen n c (sent_at disks n))
 
--- whatever units' runs the stations were, they are
+-- the station is a run of this unit, of which those of these pulls are due that are at its port
+abbrev pub RunsWith : {D : Type 0} → (D → Plan) → (D → List Happening → Type 0) → (Plan → List Happening → List ℕ → Type 0)
+    → List (ℕ × ℕ) → D → StationState D → Type 0
+RunsWith plan_of StandsFor MaySend pulls unit s = IsRun plan_of StandsFor MaySend (pulls_at s.port pulls) unit s
+
+abbrev pub RanWith : List (ℕ × ℕ) → Unit → StationState Unit → Type 0
+RanWith pulls unit s = RunsWith plan_of StandsFor MaySend pulls unit s
+
+-- whatever units' runs the stations were, with whatever pulls, they are
 abbrev pub AllGoOn : List (StationState Unit) → List (StationState Unit) → Type 0
 AllGoOn old new =
-    (units : List Unit) → AllZip (IsRun plan_of StandsFor MaySend) units old → AllZip (IsRun plan_of StandsFor MaySend) units new
+    (pulls : List (ℕ × ℕ)) (units : List Unit) → AllZip (RanWith pulls) units old → AllZip (RanWith pulls) units new
 
 -- ---- runs of which nothing is left
 
@@ -55,18 +65,18 @@ abbrev pub is_shut : Option Fault → Bool
 is_shut (Some fault.GateShut) = true
 is_shut f = false
 
--- The workers of these units, and of a host with this plan beside this memory, ran until a request was open and none had
--- a fault.
-pub record LeavesOpen (units : List Unit) (start : Memory) (plan : List Planned) : Type 0 where
+-- The workers of these units with these pulls, and of a host with this plan beside this memory, ran until a request was open
+-- and none had a fault.
+pub record LeavesOpen (units : List Unit) (pulls : List (ℕ × ℕ)) (start : Memory) (plan : List Planned) : Type 0 where
   pub disks : List (StationState Unit)
-  pub ran : AllZip (IsRun plan_of StandsFor MaySend) units disks
+  pub ran : AllZip (RanWith pulls) units disks
   pub host : HostView
   pub hosted : IsHostRun start host
   pub plan_is : host.plan ≡ plan
   pub open_is : list_any is_open host.states ≡ true
 
--- where that is so, whatever units' runs the workers were and whatever memory the host's stood beside
+-- where that is so, whatever units' runs the workers were, with whatever pulls, and whatever memory the host's stood beside
 abbrev pub MayLeaveOpen : Type 0 → List (StationState Unit) → HostView → Type 0
 MayLeaveOpen IsSo workers host =
-    (units : List Unit) (start : Memory) → AllZip (IsRun plan_of StandsFor MaySend) units workers → IsHostRun start host → IsSo
-    → LeavesOpen units start host.plan
+    (units : List Unit) (pulls : List (ℕ × ℕ)) (start : Memory) → AllZip (RanWith pulls) units workers → IsHostRun start host → IsSo
+    → LeavesOpen units pulls start host.plan

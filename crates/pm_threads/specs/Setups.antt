@@ -1,5 +1,5 @@
 -- What a run is given.
-use Rattle.std.specs.Prelude.{◌≡◌, ℕ, ◌-◌, nat_le, nat_lt, ◌==◌, ◌&&◌, not, Bool, List, [], ◌∷◌, length}
+use Rattle.std.specs.Prelude.{ℕ, ◌-◌, nat_le, nat_lt, ◌==◌, ◌&&◌, not, Bool, List, [], ◌∷◌, filter, length, map}
 use Rattle.std.specs.List.{list_all}
 use Rattle.host_memory.specs.Memory.{Memory, client_start, is_memory_size, overwritten, zeroed}
 use Rattle.pm_threads.specs.Links.{LinksState}
@@ -26,6 +26,10 @@ is_fitting ports s =
 -- Whether there may be a run: the setup fits, and no run has taken the seats of these links.
 abbrev pub can_run : LinksState → Setup → Bool
 can_run l s = not l.given && is_fitting (length l.devices) s
+
+-- after how many FISes of the device at port n each of its pulls is due
+abbrev pub pulls_at : ℕ → List (ℕ × ℕ) → List ℕ
+pulls_at n pulls = map (λ pull. pull.1) (filter (λ pull. pull.0 == n) pulls)
 
 -- a memory with these bytes put at their addresses, one after another
 abbrev pub put_all : Memory → List (ℕ × List ℕ) → Memory

@@ -22,6 +22,3 @@ pub use host_thread::Planned;
 pub use links::{Links, LinksError};
 pub use run::{RunError, run_threads};
 pub use setup::{MAX_TURNS, Setup};
-
-#[cfg(test)]
-mod tests;

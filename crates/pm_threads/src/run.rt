@@ -2,10 +2,8 @@
 
 ghost use Rattle.std.specs.Prelude.{◌≡◌, ◌≤◌, ◌↔◌, true, false, length, map, None, Err, All, IfOk, OnOk};
 ghost use Rattle.std.specs.List.{AllZip, list_any};
-ghost use Rattle.disk_model.specs.Units.{plan_of, StandsFor, MaySend};
-ghost use Rattle.disk_thread.specs.Runs.{IsRun};
 ghost use Rattle.host_thread.specs.Runs.{GoesOn, IsRun as IsHostRun, is_open};
-ghost use Rattle.pm_threads.specs.Ends.{AllGoOn, AreOfOneRun, LeavesOpen, MayLeaveOpen, is_short, is_shut};
+ghost use Rattle.pm_threads.specs.Ends.{AllGoOn, AreOfOneRun, LeavesOpen, MayLeaveOpen, RanWith, is_short, is_shut};
 ghost use Rattle.pm_threads.specs.Seats.{TiedTo, first_ports};
 ghost use Rattle.pm_threads.specs.Setups.{can_run, memory_of};
 
@@ -137,8 +135,8 @@ fn run_seated<'a, 'g, G: Gate + Sync, R: Threads + Wait + Sync>(
 }
 
 /// Runs each device, the multiplier and the host in threads of their own, until all requests have ended or all turns are
-/// spent. The end of each device is a run of the unit that was given for its port, and that of the host one beside the
-/// memory with the puts.
+/// spent. The end of each device is a run of the unit that was given for its port, which was pulled out just when that was
+/// due, and that of the host one beside the memory with the puts.
 pub fn run_threads<'a, G: Gate + Sync, R: Threads + Wait + Sync>(
     rt: &R,
     alloc: Global,
@@ -147,14 +145,15 @@ pub fn run_threads<'a, G: Gate + Sync, R: Threads + Wait + Sync>(
     gate: &G,
 ) -> Result<Finished<'a>, RunError>
     ensures bad_setup { (result ≡ Err RunError.BadSetup) ↔ (can_run links.old setup ≡ false) }
-    ensures disks { IfOk result (λ f. AllZip (IsRun plan_of StandsFor MaySend) setup.units.items f.disks) }
+    ensures disks { IfOk result (λ f.
+        AllZip (RanWith setup.pulls.items) setup.units.items f.disks) }
     ensures ports { IfOk result (λ f. map (λ s. s.port) f.disks ≡ first_ports (length links.old.devices)) }
     ensures host { IfOk result (λ f. IsHostRun
         (memory_of setup.memory (map (λ put. (put.0, put.1.items)) setup.puts.items)) f.host) }
     ensures plan { IfOk result (λ f. f.host.plan ≡ setup.plan.items) }
     ensures closed { IfOk result (λ f. list_any is_open f.host.states ≡ false) }
     ensures gate { result ≡ Err RunError.GateShut → G.may_refuse }
-    ensures turns { result ≡ Err RunError.TurnsSpent → LeavesOpen setup.units.items
+    ensures turns { result ≡ Err RunError.TurnsSpent → LeavesOpen setup.units.items setup.pulls.items
         (memory_of setup.memory (map (λ put. (put.0, put.1.items)) setup.puts.items)) setup.plan.items }
 {
     if links.given || !setup.fits(links.ports()) {

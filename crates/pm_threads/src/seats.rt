@@ -3,8 +3,10 @@
 ghost use Rattle.std.specs.Prelude.{◌≡◌, ◌≤◌, ◌<◌, ◌++◌, ◌∷◌, [], length, map, All, IfOk};
 ghost use Rattle.std.specs.List.{AllZip};
 ghost use Rattle.disk_thread.specs.Runs.{IsRun};
+ghost use Rattle.pm_threads.specs.Ends.{RunsWith};
 ghost use Rattle.pm_threads.specs.Links.{IsFree};
 ghost use Rattle.pm_threads.specs.Seats.{Starts, first_ports};
+ghost use Rattle.pm_threads.specs.Setups.{pulls_at};
 
 use crate::links::DeviceLinks;
 use disk_model::Device;
@@ -13,11 +15,14 @@ use pm_thread::PmPort;
 use std::alloc::{AllocError, Global};
 
 /// After how many of its FISes the device at port `n` is pulled out.
-fn pulls_of(alloc: Global, pulls: &[(u8, u32)], n: u8) -> Result<Vec<u32>, AllocError> {
+#[tactic(auto, using(crate::proofs::Pulls::pulls_more))]
+fn pulls_of(alloc: Global, pulls: &[(u8, u32)], n: u8) -> Result<Vec<u32>, AllocError>
+    ensures { IfOk result (λ own. own.items ≡ pulls_at n pulls.now) }
+{
     let mut own = Vec::new(alloc);
-    for (port, after) in pulls {
-        if *port == n {
-            own.push(*after)?;
+    for pull in pulls {
+        if pull.0 == n {
+            own.push(pull.1)?;
         }
     }
     Ok(own)
@@ -35,7 +40,7 @@ fn seated_at<'a, 'g, D: Device + Drop, G: Gate>(
     requires { IsFree links.old }
     ensures starts { Starts result.0 result.1 }
     ensures port { result.0.port ≡ n }
-    ensures run { IsRun D.plan_of D.stands_for D.may_send unit result.0 }
+    ensures run { IsRun D.plan_of D.stands_for D.may_send pulls.items unit result.0 }
 {
     let DeviceLinks { up, down, presence } = links;
     let Some((sent, frames)) = up.seats() else {
@@ -47,13 +52,13 @@ fn seated_at<'a, 'g, D: Device + Drop, G: Gate>(
     let Some((told, heard)) = presence.seats() else {
         unreachable!()
     };
-    let station = Station::new(alloc, n, unit, taken, sent, told);
+    let station = Station::new(alloc, n, unit, taken, sent, told, pulls);
     let port = PmPort {
         commands,
         frames,
         presence: heard,
     };
-    (DiskWorker::new(station, gate, alloc, pulls), port)
+    (DiskWorker::new(station, gate, alloc), port)
 }
 
 /// A worker for each device and the multiplier's seats at each port, worker n and port n on the links at place n.
@@ -69,8 +74,8 @@ pub(crate) fn seated<'a, 'g, D: Device + Drop, G: Gate>(
     requires free { All IsFree links.old }
     ensures starts { IfOk result (λ s. AllZip Starts s.0.items s.1.items) }
     ensures ports { IfOk result (λ s. map (λ w. w.port) s.0.items ≡ first_ports (length units.items)) }
-    ensures run { IfOk result (λ s.
-        AllZip (IsRun D.plan_of D.stands_for D.may_send) units.items s.0.items) }
+    ensures run { IfOk result (λ s. AllZip
+        (RunsWith D.plan_of D.stands_for D.may_send pulls.now) units.items s.0.items) }
 {
     let Some((last, rest)) = links.split_last_mut() else {
         return Ok((Vec::new(alloc), Vec::new(alloc)));

@@ -5,27 +5,16 @@
 //! Nothing is ever written to standard error; the exit status says how a run ended.
 #![tactic(auto)]
 
-mod command_line;
-mod decode;
-mod failure;
-mod fis_text;
-mod hex_text;
-mod input;
-mod scenario;
-mod serve;
-#[cfg(test)]
-mod tests;
-
-use failure::Failure;
 use std::alloc::Global;
 use std::process::ExitCode;
 use std::rt::Env;
 use std::{env, io};
+use trace::{Failure, refuse, serve};
 
 fn main(rt: HostRuntime) -> ExitCode {
     let status = match words(&rt) {
-        Ok(words) => serve::serve(&rt, rt.alloc(), &words, rt.reader(), io::writer(&rt)),
-        Err(failure) => serve::refuse(rt.alloc(), failure, io::writer(&rt)),
+        Ok(words) => serve(&rt, rt.alloc(), &words, rt.reader(), io::writer(&rt)),
+        Err(failure) => refuse(rt.alloc(), failure, io::writer(&rt)),
     };
     ExitCode::from(status)
 }

@@ -9,7 +9,7 @@ use Rattle.disk_model.specs.Units.{plan_of, StandsFor}
 use Rattle.disk_model.specs.declared.unit.Unit.{Unit as Device}
 use Rattle.multiplier.specs.State.{PmState}
 use Rattle.pm_world.specs.Downward.{on_down_link}
-use Rattle.pm_world.specs.Laws.{happens, MaySendAll, LivesOn, UnitsLiveOn, UnitsLivedOn}
+use Rattle.pm_world.specs.Units.{happens, MaySendAll, LivesOn, UnitsLiveOn, UnitsLivedOn}
 use Rattle.pm_world.specs.Places.{Places, Place, opening, new_world}
 use Rattle.pm_world.specs.Rules.{Outcome, CameActs, GoneActs, DiskSendActs, InjectActs, DiskTakeActs, CameRule, GoneRule, DiskSendRule, InjectRule, DiskTakeRule, PmPresenceRule, PmFromDeviceRule, PmDownRule, OnDevice, OnDeviceAndMultiplier, Rule, Run}
 use Rattle.pm_world.specs.Runs.{over}

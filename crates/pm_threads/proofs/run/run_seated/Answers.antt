@@ -1,4 +1,4 @@
-use Rattle.std.proofs.Common.{rules, ◌≡◌, None, Some, sym, ap, ◌∙◌, subst, arith}
+use Rattle.std.proofs.Common.{rules, ◌≡◌, ℕ, List, None, Some, sym, ap, ◌∙◌, subst, arith}
 use Rattle.std.proofs.lemmas.List.{length-map}
 use Rattle.runner.specs.declared.worker.Fault.TheVariants as fault
 use Rattle.pm_threads.proofs.Zips.{zip_long}
@@ -10,7 +10,8 @@ use Rattle.disk_thread.specs.Runs.{StationState, IsRun, GoesOnRunning, IsAtSameP
 use Rattle.disk_thread.specs.declared.worker.DiskEnd.{DiskEnd}
 use Rattle.pm_thread.specs.Runs.{SameLinks, LinkEnd}
 use Rattle.host_thread.specs.Runs.{GoesOn, Same, LinkEnd as HostLinkEnd}
-use Rattle.pm_threads.specs.Ends.{Ends, AllGoOn}
+use Rattle.pm_threads.specs.Ends.{Ends, AllGoOn, RanWith}
+use Rattle.pm_threads.specs.Setups.{pulls_at}
 use Rattle.pm_threads.proofs.Ends.{all_at_ports, all_tied, all_ran, if_ok, on_ok, one_refused}
 use Rattle.pm_threads.proofs.run.run_seated.Goals as goal
 
@@ -18,6 +19,10 @@ module _ (MayRefuse : Type 0) where
   abbrev pub Ended : StationState Unit → DiskEnd Unit → Type 0
   Ended w e =
       IsAtSamePort w e.station × (e.fault ≡ None → GoesOnRunning plan_of StandsFor MaySend w e.station) × (e.fault ≡ Some fault.GateShut → MayRefuse)
+
+  still_ran : (pulls : List (ℕ × ℕ)) (u : Unit) (w : StationState Unit) (e : DiskEnd Unit) → Ended w e → e.fault ≡ None → RanWith pulls u w → RanWith pulls u e.station
+  still_ran pulls u w e r quiet was =
+      subst (λ n. IsRun plan_of StandsFor MaySend (pulls_at n pulls) u e.station) (sym r.0.port) (r.1 quiet (pulls_at w.port pulls) u was)
 
 pub finished-requires : goal.finished-requires
 finished-requires g c =
@@ -38,8 +43,8 @@ returns-clause-disks g c =
     on_ok c.finished.result (All (λ (e : DiskEnd Unit). e.fault ≡ None) c.in_ok-disks.disks.items)
     (λ (f : Ends). f.disks ≡ map (λ (e : DiskEnd Unit). e.station) c.in_ok-disks.disks.items)
     (λ (f : Ends). AllGoOn c.args.workers.items f.disks) c.finished.ensures.disks c.finished.ensures.no_fault
-    (λ f is none units ran. subst (AllZip (IsRun plan_of StandsFor MaySend) units) (sym is)
-    (all_ran (λ (e : DiskEnd Unit). e.station) (Ended g.G.Gate.may_refuse) (λ (e : DiskEnd Unit). e.fault) (IsRun plan_of StandsFor MaySend) (λ u w e r quiet was. r.1 quiet u was)
+    (λ f is none pulls units ran. subst (AllZip (RanWith pulls) units) (sym is)
+    (all_ran (λ (e : DiskEnd Unit). e.station) (Ended g.G.Gate.may_refuse) (λ (e : DiskEnd Unit). e.fault) (RanWith pulls) (still_ran g.G.Gate.may_refuse pulls)
     units _ _ ran ended none))
 
 pub returns-clause-ports : goal.returns-clause-ports
@@ -57,14 +62,14 @@ returns-clause-gate g c shut =
     c.args.workers.items c.in_ok-disks.disks.items ended (c.finished.ensures.gate shut)
 
 pub returns-clause-turns : goal.returns-clause-turns
-returns-clause-turns g c units start ran hosted spent =
+returns-clause-turns g c units pulls start ran hosted spent =
     let ended : AllZip (Ended g.G.Gate.may_refuse) c.args.workers.items c.in_ok-disks.disks.items = search rules in
     let goes : GoesOn c.args.host c.in_ok-disks.host = search rules in
     let same : Same c.args.host c.in_ok-disks.host = search rules in
     record {
       disks = map (λ (e : DiskEnd Unit). e.station) c.in_ok-disks.disks.items;
-      ran = all_ran (λ (e : DiskEnd Unit). e.station) (Ended g.G.Gate.may_refuse) (λ (e : DiskEnd Unit). e.fault) (IsRun plan_of StandsFor MaySend)
-          (λ u w e r quiet was. r.1 quiet u was) units _ _ ran ended (c.finished.ensures.quiet spent);
+      ran = all_ran (λ (e : DiskEnd Unit). e.station) (Ended g.G.Gate.may_refuse) (λ (e : DiskEnd Unit). e.fault) (RanWith pulls)
+          (still_ran g.G.Gate.may_refuse pulls) units _ _ ran ended (c.finished.ensures.quiet spent);
       host = c.in_ok-disks.host;
       hosted = goes start hosted;
       plan_is = same.plan;

@@ -1,12 +1,11 @@
-use Rattle.std.proofs.Common.{rules, ◌≡◌, ◌≤◌, ℕ, true, List, length, Vec, Global, sym, subst, ap, ◌∙◌, arith}
+use Rattle.std.proofs.Common.{rules, ◌≡◌, ℕ, true, List, length, Vec, Global, sym, subst, ap, ◌∙◌, arith}
 use Rattle.std.specs.Prelude.{map}
 use Rattle.std.specs.List.{AllZip, list_all}
-use Rattle.disk_model.specs.Units.{plan_of, StandsFor, MaySend}
 use Rattle.disk_model.specs.declared.unit.Unit.{Unit}
-use Rattle.disk_thread.specs.Runs.{IsRun, StationState}
+use Rattle.disk_thread.specs.Runs.{StationState}
 use Rattle.host_thread.specs.declared.plan.Planned.{Planned}
 use Rattle.host_thread.specs.Runs.{GoesOn, IsRun as IsHostRun}
-use Rattle.pm_threads.specs.Ends.{Ends, AllGoOn, LeavesOpen}
+use Rattle.pm_threads.specs.Ends.{Ends, AllGoOn, LeavesOpen, RanWith}
 use Rattle.pm_threads.specs.Seats.{Starts, first_ports}
 use Rattle.pm_threads.specs.Setups.{is_fitting, lies_in, memory_of}
 use Rattle.pm_threads.proofs.Ends.{all_unused, starts_tied, if_ok}
@@ -17,23 +16,27 @@ use Rattle.pm_threads.proofs.run.run_threads.Goals as goal
 pub new-pm-requires-clause-some : goal.new-pm-requires-clause-some
 new-pm-requires-clause-some g c =
     let starts : AllZip Starts c.in_ok-workers.workers.items c.in_ok-workers.ports.items = search rules in
-    let runs : AllZip (IsRun plan_of StandsFor MaySend) c.args.setup.units.items c.in_ok-workers.workers.items = search rules in
+    let due : c.deref.result.now ≡ c.args.setup.pulls.items = search rules in
+    let runs : AllZip (RanWith c.args.setup.pulls.items) c.args.setup.units.items c.in_ok-workers.workers.items =
+    subst (λ (l : List (ℕ × ℕ)). AllZip (RanWith l) c.args.setup.units.items c.in_ok-workers.workers.items) due c.in_ok-workers.ensures.run in
     let fits : is_fitting c.ports.result c.args.setup ≡ true = search rules in
     let few = unit_for_each c.ports.result (length c.args.setup.units.items) (first_three _ _ _ _ _ _ _ _ _ fits) in
     let one = few.0 in
     let long = zip_long Starts _ _ starts in
-    let same = zip_long (IsRun plan_of StandsFor MaySend) _ _ runs in
+    let same = zip_long (RanWith c.args.setup.pulls.items) _ _ runs in
     omega (arith, one, long, same)
 
 pub new-pm-requires-clause-at_most : goal.new-pm-requires-clause-at_most
 new-pm-requires-clause-at_most g c =
     let starts : AllZip Starts c.in_ok-workers.workers.items c.in_ok-workers.ports.items = search rules in
-    let runs : AllZip (IsRun plan_of StandsFor MaySend) c.args.setup.units.items c.in_ok-workers.workers.items = search rules in
+    let due : c.deref.result.now ≡ c.args.setup.pulls.items = search rules in
+    let runs : AllZip (RanWith c.args.setup.pulls.items) c.args.setup.units.items c.in_ok-workers.workers.items =
+    subst (λ (l : List (ℕ × ℕ)). AllZip (RanWith l) c.args.setup.units.items c.in_ok-workers.workers.items) due c.in_ok-workers.ensures.run in
     let fits : is_fitting c.ports.result c.args.setup ≡ true = search rules in
     let few = unit_for_each c.ports.result (length c.args.setup.units.items) (first_three _ _ _ _ _ _ _ _ _ fits) in
     let most = few.1 in
     let long = zip_long Starts _ _ starts in
-    let same = zip_long (IsRun plan_of StandsFor MaySend) _ _ runs in
+    let same = zip_long (RanWith c.args.setup.pulls.items) _ _ runs in
     omega (arith, most, long, same)
 
 pub new-pm-requires-clause-unused : goal.new-pm-requires-clause-unused
@@ -48,10 +51,12 @@ run_seated-requires-clause-tied g c κs within =
 
 pub returns-clause-disks : goal.returns-clause-disks
 returns-clause-disks g c =
-    let runs : AllZip (IsRun plan_of StandsFor MaySend) c.args.setup.units.items c.in_ok-workers.workers.items = search rules in
+    let due : c.deref.result.now ≡ c.args.setup.pulls.items = search rules in
+    let runs : AllZip (RanWith c.args.setup.pulls.items) c.args.setup.units.items c.in_ok-workers.workers.items =
+    subst (λ (l : List (ℕ × ℕ)). AllZip (RanWith l) c.args.setup.units.items c.in_ok-workers.workers.items) due c.in_ok-workers.ensures.run in
     if_ok c.run_seated.result (λ (f : Ends). AllGoOn c.in_ok-workers.workers.items f.disks)
-    (λ (f : Ends). AllZip (IsRun plan_of StandsFor MaySend) c.args.setup.units.items f.disks) c.run_seated.ensures.disks
-    (λ f goes. goes c.args.setup.units.items runs)
+    (λ (f : Ends). AllZip (RanWith c.args.setup.pulls.items) c.args.setup.units.items f.disks) c.run_seated.ensures.disks
+    (λ f goes. goes c.args.setup.pulls.items c.args.setup.units.items runs)
 
 pub returns-clause-host : goal.returns-clause-host
 returns-clause-host g c =
@@ -73,11 +78,13 @@ filled-requires-clause-puts g c =
 
 pub run_seated-requires-clause-few : goal.run_seated-requires-clause-few
 run_seated-requires-clause-few g c κs within =
-    let runs : AllZip (IsRun plan_of StandsFor MaySend) c.args.setup.units.items c.in_ok-workers.workers.items = search rules in
+    let due : c.deref.result.now ≡ c.args.setup.pulls.items = search rules in
+    let runs : AllZip (RanWith c.args.setup.pulls.items) c.args.setup.units.items c.in_ok-workers.workers.items =
+    subst (λ (l : List (ℕ × ℕ)). AllZip (RanWith l) c.args.setup.units.items c.in_ok-workers.workers.items) due c.in_ok-workers.ensures.run in
     let fits : is_fitting c.ports.result c.args.setup ≡ true = search rules in
     let few = unit_for_each c.ports.result (length c.args.setup.units.items) (first_three _ _ _ _ _ _ _ _ _ fits) in
     let most = few.1 in
-    let same = zip_long (IsRun plan_of StandsFor MaySend) _ _ runs in
+    let same = zip_long (RanWith c.args.setup.pulls.items) _ _ runs in
     omega (arith, most, same)
 
 pub returns-clause-ports : goal.returns-clause-ports
@@ -94,12 +101,14 @@ returns-clause-ports g c =
 pub returns-clause-turns : goal.returns-clause-turns
 returns-clause-turns g c spent =
     let start = memory_of c.args.setup.memory (map (λ (put : ℕ × Vec ℕ Global). (put.0, put.1.items)) c.args.setup.puts.items) in
-    let runs : AllZip (IsRun plan_of StandsFor MaySend) c.args.setup.units.items c.in_ok-workers.workers.items = search rules in
+    let due : c.deref.result.now ≡ c.args.setup.pulls.items = search rules in
+    let runs : AllZip (RanWith c.args.setup.pulls.items) c.args.setup.units.items c.in_ok-workers.workers.items =
+    subst (λ (l : List (ℕ × ℕ)). AllZip (RanWith l) c.args.setup.units.items c.in_ok-workers.workers.items) due c.in_ok-workers.ensures.run in
     let given : c.deref-2.result.now ≡ c.args.setup.puts.items = search rules in
     let is : c.in_ok-memory.memory ≡ start =
     c.in_ok-memory.ensures
     ∙ ap (λ (l : List (ℕ × Vec ℕ Global)). memory_of c.args.setup.memory (map (λ (put : ℕ × Vec ℕ Global). (put.0, put.1.items)) l)) given in
     let ran : IsHostRun c.in_ok-memory.memory c.in_ok-host.host = search rules in
     let plan : c.in_ok-host.host.plan ≡ c.args.setup.plan.items = search rules in
-    subst (λ (p : List Planned). LeavesOpen c.args.setup.units.items start p) plan
-    (c.run_seated.ensures.turns c.args.setup.units.items start runs (subst (λ m. IsHostRun m c.in_ok-host.host) is ran) spent)
+    subst (λ (p : List Planned). LeavesOpen c.args.setup.units.items c.args.setup.pulls.items start p) plan
+    (c.run_seated.ensures.turns c.args.setup.units.items c.args.setup.pulls.items start runs (subst (λ m. IsHostRun m c.in_ok-host.host) is ran) spent)

@@ -1,9 +1,11 @@
-use Rattle.std.proofs.Common.{rules, ◌≡◌, ◌≤◌, ◌+◌, ◌++◌, ◌∷◌, [], length, length-append, sym, ap, ◌∙◌, subst, arith}
+use Rattle.std.proofs.Common.{rules, ◌≡◌, ℕ, ◌+◌, List, ◌++◌, ◌∷◌, [], length, length-append, sym, ap, ◌∙◌, subst, arith}
 use Rattle.std.specs.Prelude.{All, map}
 use Rattle.std.specs.List.{AllZip}
 use Rattle.disk_thread.specs.Runs.{IsRun}
+use Rattle.pm_threads.specs.Ends.{RunsWith}
 use Rattle.pm_threads.specs.Links.{IsFree}
 use Rattle.pm_threads.specs.Seats.{first_ports}
+use Rattle.pm_threads.specs.Setups.{pulls_at}
 use Rattle.pm_threads.proofs.Ends.{if_ok}
 use Rattle.pm_threads.proofs.Zips.{all_front, ports_push, zip_push}
 use Rattle.pm_threads.proofs.seats.+seated.Goals as goal
@@ -35,9 +37,15 @@ seated-requires g t c κs within =
 pub returns-clause-run : goal.returns-clause-run
 returns-clause-run g t c =
     let d = g.D.Device in
-    let Run = IsRun d.plan_of d.stands_for d.may_send in
-    let runs : AllZip Run c.pop.new.self.items c.in_ok-workers.workers.items = search rules in
-    let mine : Run c.in-Some-pop.unit c.seated_at-worker.result.0 = search rules in
+    let pulls : List (ℕ × ℕ) = c.args.pulls.now in
+    let Run = RunsWith d.plan_of d.stands_for d.may_send pulls in
+    let runs : AllZip (RunsWith d.plan_of d.stands_for d.may_send pulls) c.pop.new.self.items c.in_ok-workers.workers.items = search rules in
+    let at : c.seated_at-worker.result.0.port ≡ length c.in-Some.rest.now = search rules in
+    let due : c.in_ok-own.own.items ≡ pulls_at (length c.in-Some.rest.now) c.args.pulls.now = search rules in
+    let ran : IsRun d.plan_of d.stands_for d.may_send c.in_ok-own.own.items c.in-Some-pop.unit c.seated_at-worker.result.0 = search rules in
+    let mine : RunsWith d.plan_of d.stands_for d.may_send pulls c.in-Some-pop.unit c.seated_at-worker.result.0 =
+    subst (λ l. IsRun d.plan_of d.stands_for d.may_send l c.in-Some-pop.unit c.seated_at-worker.result.0)
+    (due ∙ ap (λ n. pulls_at n pulls) (sym at)) ran in
     let units : c.args.units.items ≡ c.pop.new.self.items ++ c.in-Some-pop.unit ∷ [] = search rules in
     if_ok c.with_last.result (λ s. s.0.items ≡ c.in_ok-workers.workers.items ++ c.seated_at-worker.result.0 ∷ [])
     (λ s. AllZip Run c.args.units.items s.0.items) c.with_last.ensures.workers

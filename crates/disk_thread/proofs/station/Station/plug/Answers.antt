@@ -16,13 +16,14 @@ invariant_of-self-2 g c =
       counted_comes _ _ _ c.self.invariant.0,
       rw is (past_comes _ _ _ _ c.self.invariant.0 c.self.invariant.1),
       told_came sent c.self.inside.conn (subst (λ l. AreTold l c.self.inside.conn) same c.self.invariant.2),
+      c.self.invariant.3,
     )
 
 pub returns-clause-run : goal.returns-clause-run
-returns-clause-run g c opening r =
+returns-clause-run g c due opening r =
     let d = g.D.Device in
     let ok : GoesOn d.plan_of d.stands_for c.self.inside.unit Plugged c.plugged.new.self = search rules in
     let out : c.self.inside.plugged ≡ false = search rules in
     let empty : c.self.inside.note ≡ None = search rules in
-    run_plugged d.plan_of d.stands_for d.may_send opening _ _ ok out refl refl refl refl refl empty refl
-    (subst (IsRun d.plan_of d.stands_for d.may_send opening) (sym c.self.view_is) r)
+    run_plugged d.plan_of d.stands_for d.may_send due opening _ _ ok out refl refl refl refl refl empty refl refl
+    (subst (IsRun d.plan_of d.stands_for d.may_send due opening) (sym c.self.view_is) r)

@@ -1,6 +1,4 @@
-use Rattle.std.proofs.Common.{rules, ◌≡◌, Some, None}
-use Rattle.runner.specs.declared.worker.Fault.TheVariants as fault
-use Rattle.disk_thread.specs.Runs.{GoesOnRunning, IsAtSamePort}
+use Rattle.std.proofs.Common.{rules}
 use Rattle.disk_thread.proofs.worker.DiskWorkerWorker.work.Goals as goal
 use Rattle.disk_thread.proofs.worker.DiskWorkerWorker.work.Goals.{else-loop-test, then-loop-test+then-load, then-loop-test+else-load+in-Err}
 

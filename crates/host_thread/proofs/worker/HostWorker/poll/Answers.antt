@@ -1,7 +1,8 @@
-use Rattle.std.proofs.Common.{rules, ◌≡◌, ◌<◌, length, subst}
+use Rattle.std.proofs.Common.{rules, ◌≡◌, ◌<◌, ℕ, length, subst}
 use Rattle.std.specs.Prelude.{slice_index_or, slice_set}
 use Rattle.hba_driver.specs.HostTurns.{Polls}
 use Rattle.host_thread.specs.declared.plan.Ended.TheVariants as ended
+use Rattle.host_thread.specs.declared.plan.State.{State}
 use Rattle.host_thread.specs.declared.plan.State.TheVariants as state
 use Rattle.host_thread.specs.Runs.{HostView, GoesOn}
 use Rattle.host_thread.proofs.Steps.{with_host, with_states, polls, polls_other}
@@ -21,9 +22,10 @@ returns-in-Some-place_of-clause-run c =
     let does : Polls w.host c.in-Some.completion c.poll.new.self = search rules in
     let there : i < length w.states = search rules in
     let is : slice_index_or w.states i state.Waits ≡ state.Submitted c.in-Some.completion.ticket = search rules in
+    let all : length w.states ≡ length w.plan = search rules in
     subst (λ (o : HostView). GoesOn o (with_states w c.poll.new.self
     (slice_set w.states i (state.Ended (ended.Polled c.in-Some.completion.outcome))))) c.self.view_is
-    (polls w c.poll.new.self c.in-Some.completion i there does is)
+    (polls w c.poll.new.self c.in-Some.completion i there does is all)
 
 pub returns-in_default-place_of-clause-run : goal.returns-in_default-place_of-clause-run
 returns-in_default-place_of-clause-run c =
@@ -36,4 +38,6 @@ returns-in_default-place_of-clause-run c =
       states = c.self.inside.states.items;
     } in
     let does : Polls w.host c.in-Some.completion c.poll.new.self = search rules in
-    subst (λ (o : HostView). GoesOn o (with_host w c.poll.new.self)) c.self.view_is (polls_other w c.poll.new.self c.in-Some.completion does)
+    let none : (j : ℕ) (s : State) → j < length w.states → slice_index_or w.states j s ≡ state.Submitted c.in-Some.completion.ticket → ⊥ =
+    search rules in
+    subst (λ (o : HostView). GoesOn o (with_host w c.poll.new.self)) c.self.view_is (polls_other w c.poll.new.self c.in-Some.completion does none)

@@ -6,7 +6,7 @@ use Rattle.hba_driver.specs.Submits.{submit_refusal}
 use Rattle.host_thread.specs.declared.plan.Ended.TheVariants as ended
 use Rattle.host_thread.specs.declared.plan.Planned.{Planned}
 use Rattle.host_thread.specs.declared.plan.State.TheVariants as state
-use Rattle.host_thread.specs.Runs.{AreGiven, HostView, GoesOn, is_submitted}
+use Rattle.host_thread.specs.Runs.{AreGiven, HostView, GoesOn, is_for_now, is_submitted}
 use Rattle.host_thread.proofs.Requests.{IsDue}
 use Rattle.host_thread.proofs.Steps.{with_states, submits, refuses}
 use Rattle.host_thread.proofs.worker.HostWorker.submit.Goals as goal
@@ -57,9 +57,10 @@ returns-clause-run c =
     (record { there = there; all = all; given = given; none_open = none }) in
     let same : c.submit.new.self ≡ w.host = search rules in
     let refused : submit_refusal w.host.driver w.host.memory q.dev q.request ≡ Some c.in-Err.refusal = search rules in
+    let final : is_for_now c.in-Err.refusal ≡ false = search rules in
     let at : submit_refusal w.host.driver w.host.memory (slice_index_or w.plan i q).dev
     (slice_index_or w.plan i q).request ≡ Some c.in-Err.refusal =
     subst (λ (p : Planned). submit_refusal w.host.driver w.host.memory p.dev p.request ≡ Some c.in-Err.refusal) c.index-planned.ensures refused in
     subst (λ (o : HostView). GoesOn o (with_states w c.submit.new.self
     (slice_set w.states i (state.Ended (ended.Refused c.in-Err.refusal))))) c.self.view_is
-    (refuses w c.submit.new.self i q c.in-Err.refusal due same at)
+    (refuses w c.submit.new.self i q c.in-Err.refusal due same at final)

@@ -1,0 +1,271 @@
+-- From the plugging of a unit on, while nothing of its connection passes its port: what it sends waits there, and it takes nothing.
+use Rattle.std.proofs.Common.{◌≡◌, ◌≢◌, ◌==◌, ◌&&◌, ℕ, ◌+◌, ◌<◌, Bool, true, false, List, [], ◌∷◌, ◌++◌, append_assoc, map, refl, sym, ap, subst, ◌∙◌, inl, inr}
+use Rattle.std.proofs.Common.{Option, Some, None, Ok, arith}
+use Rattle.std.specs.Prelude.{if◌then◌else◌, slice_get, take, MatchOption}
+use Rattle.std.specs.List.{list_any}
+use Rattle.std.proofs.lemmas.Bool.{cases_eq, eq-eqb, eqb-true, ne_eqb, or_parts, true≢false}
+use Rattle.std.proofs.lemmas.Option.{same_Some}
+use Rattle.std.proofs.lemmas.List.{append-nil}
+use Rattle.fis_view.specs.Frames.{Stamped}
+use Rattle.hba_fbs.specs.declared.report.TakeReport.{TakeReport}
+use Rattle.disk_model.specs.Ends.{IsLinked, sends}
+use Rattle.disk_model.specs.Histories.{Happening, Plugged, Received, Sent}
+use Rattle.pm_registers.specs.RegisterMap.{forwards}
+use Rattle.multiplier.specs.Arbiter.{control_port}
+use Rattle.multiplier.specs.State.{falling, port_at}
+use Rattle.pm_world.specs.Cleared.{is_cleared}
+use Rattle.pm_world.specs.Downward.{falling_to, on_down_link}
+use Rattle.pm_world.specs.Units.{happens}
+use Rattle.pm_world.specs.Places.{IsOrderly, Place, Places}
+use Rattle.pm_world.specs.Rules.{Rule, Run}
+use Rattle.pm_world.specs.Runs.{over}
+use Rattle.pm_world.specs.Traffic.{all_marked, is_removed, sent_by, taken_by, transit}
+use Rattle.pm_world.specs.declared.step.Step.{Step}
+use Rattle.pm_world.specs.declared.step.Answer.{Answer}
+use Rattle.pm_world.specs.declared.step.Answer.TheVariants as answer
+use Rattle.pm_world.proofs.Cleared as cleared
+use Rattle.pm_world.proofs.Cleared.{PortGoes, forwards_none, rule_goes}
+use Rattle.pm_world.proofs.FallMoves.{Lands, rule_moves_down}
+use Rattle.pm_world.proofs.Lists.{all_marked-append}
+use Rattle.pm_world.proofs.Moves.{rule_moves}
+use Rattle.pm_world.proofs.Orderly.{orderly_after}
+use Rattle.pm_world.proofs.Risen.{AllRisen}
+use Rattle.pm_world.proofs.DownLemmas.{DownChange, Gone, Put, Quiet, down_change, falls_keep}
+use Rattle.pm_world.proofs.EachLemmas.{Each, each_more}
+use Rattle.pm_world.proofs.KeepingLemmas.{IsTrue, passes_open, true_after}
+use Rattle.pm_world.proofs.UpLemmas.{Left, Rose, Same, UpChange, up_change}
+use Rattle.pm_world.specs.Going.{AtEach, IsLeftAlone}
+use Rattle.pm_world.specs.Wired.{AreFine, IsOnly, IsSteady, IsThere, IsUnremoved, befalls, injects, unplugs}
+use Rattle.pm_world.proofs.FirstLemmas.{comes_risen}
+use Rattle.pm_world.proofs.KeptLemmas.{steady_unremoved, unremoved}
+use Rattle.pm_world.proofs.PlaceLemmas.{takes_own}
+use Rattle.pm_world.proofs.RunLemmas.{IsKnown, IsPlugged, fine_front, if_none, if_some, known, there_after}
+use Rattle.pm_world.proofs.WiredLemmas.{and_both, and_false, if_false, if_true, one_step, still_above}
+use Rattle.pm_world.specs.Later.{IsKeptShut}
+
+-- ## What is kept
+
+-- a FIS on the link to the host is none of connection c of port n
+abbrev pub IsNoneOf : (n c : ℕ) → Stamped → Type 0
+IsNoneOf n c f = f.stamp.port ≡ n → f.stamp.conn ≢ c
+
+-- a FIS on its way to the device is not for connection c
+abbrev pub IsForOther : ℕ → Stamped → Type 0
+IsForOther c f = f.stamp.conn ≢ c
+
+-- The unit is there as connection c, and nothing of that passed its port; what it sent is still on its way there.
+pub record IsShut (n c : ℕ) (now : Places) (happened : List Happening) : Type 0 where
+  pub orderly : IsOrderly now
+  pub risen : AllRisen now.multiplier now.upward.frames
+  pub true_is : IsTrue n now.multiplier
+  pub up : Each (IsNoneOf n c) now.upward.frames
+  pub falls : Each (IsForOther c) (falling_to n now)
+  pub there : IsThere n c now
+  pub kept : IsUnremoved n c now
+  pub rising : List (List ℕ)
+  pub above : transit n c now ≡ all_marked n rising
+  pub linked : IsLinked happened (Plugged ∷ []) [] rising
+
+-- where the connection is recorded, the port waits for the host
+abbrev pub WaitsFor : (n c : ℕ) → Places → Type 0
+WaitsFor n c now = (port_at now.multiplier n).present ≡ Some c → cleared.Waits n now.multiplier.registers
+
+pub only_there : (n c : ℕ) (now : Places) → IsThere n c now → IsOnly n c now
+only_there n c now there = by_place (slice_get now.devices n) there
+  where
+    by_place : (o : Option Place) → IsPlugged c o → MatchOption o (Prim.Unit {0}) (λ place. place.plugged ≡ true → place.conn ≡ c)
+    by_place None there = absurd there
+    by_place (Some place) there = λ plugged. there.1
+
+-- ## A step
+
+module _ (n c : ℕ) (below : n < 15) (old : Places) (s : Step) (a : Answer) (new : Places) (rule : Rule old s (Ok a) new) (happened : List Happening)
+    (h : IsShut n c old happened) (waits : WaitsFor n c old) (clean : injects n s ≡ false) (stays : unplugs n s ≡ false)
+    (fine : AreFine (happens n old s a new)) where
+  device : n ≢ control_port
+  device e = absurd (omega (arith, e, below))
+
+  its : IsKnown n c old s a new
+  its = known n c old s a new h.there stays clean rule fine
+
+  kept_now : IsUnremoved n c new
+  kept_now = steady_unremoved n c old new s a h.orderly rule its.steady h.kept
+
+  there_still : is_removed n c new ≡ false
+  there_still = unremoved n c new kept_now
+
+  -- nothing of it passes
+  never : forwards old.multiplier.registers n ≡ true → (port_at old.multiplier n).present ≡ Some c → ⊥
+  never opens there =
+      true≢false (sym opens ∙ forwards_none n old.multiplier.registers (record { shows = h.true_is.shows; told = waits there }))
+
+  up_now : Each (IsNoneOf n c) new.upward.frames
+  up_now = by_up (up_change n old new below h.orderly s a rule)
+    where
+      by_up : UpChange n old s a new → Each (IsNoneOf n c) new.upward.frames
+      by_up (Same link none) = subst (Each (IsNoneOf n c)) (sym link) h.up
+      by_up (Rose f link none passes other idle) =
+          subst (Each (IsNoneOf n c)) (sym link)
+          (each_more (IsNoneOf n c) old.upward.frames f h.up
+          (λ here same. never (passes here).opens ((passes here).there ∙ ap (λ (k : ℕ). Some k) same)))
+      by_up (Left f link told idle) = (subst (Each (IsNoneOf n c)) link h.up).1
+
+  falls_now : Each (IsForOther c) (falling_to n new)
+  falls_now = by_down (down_change n old s new h.orderly a rule)
+    where
+      by_down : DownChange n old s a new → Each (IsForOther c) (falling_to n new)
+      by_down (Quiet link none uncleared on) = falls_keep (IsForOther c) n old new on h.falls
+      by_down (Put f link one uncleared falls idle none) = subst (Each (IsForOther c)) (sym falls) h.falls
+      by_down (Gone f link none clears (inl same) idle _) = subst (Each (IsForOther c)) (sym same) h.falls
+      by_down (Gone f link none clears (inr fallen) idle _) =
+          let opens = passes_open n old.multiplier fallen.conn fallen.passes in
+          subst (Each (IsForOther c)) (sym fallen.here)
+          (each_more (IsForOther c) (falling_to n old) (falling fallen.conn f) h.falls
+          (λ same. never opens.0 (opens.1 ∙ ap (λ (k : ℕ). Some k) same)))
+
+  -- what is on its way
+  record Waited : Type 0 where
+    rising : List (List ℕ)
+    above : transit n c new ≡ all_marked n rising
+    linked : IsLinked (happened ++ befalls n old a) (Plugged ∷ []) [] rising
+
+  waited_nothing : befalls n old a ≡ [] → taken_by n c a ≡ [] → sent_by n c a ≡ [] → Waited
+  waited_nothing none untaken unsent = record {
+    rising = h.rising;
+    above = still_above n c old new s a device h.orderly rule untaken unsent there_still ∙ h.above;
+    linked =
+        subst (λ (xs : List Happening). IsLinked xs (Plugged ∷ []) [] h.rising)
+        (sym (ap (λ (xs : List Happening). happened ++ xs) none ∙ append-nil happened)) h.linked;
+  }
+
+  sent_case : (port conn number : ℕ) (bytes : List ℕ) → a ≡ answer.Sent port conn number bytes → Waited
+  sent_case port conn number bytes is = by_test (port == n) refl
+    where
+      told : befalls n old a ≡ (if port == n then Sent bytes ∷ [] else [])
+      told = ap (befalls n old) is
+
+      steady : IsSteady n c (answer.Sent port conn number bytes)
+      steady = subst (IsSteady n c) is its.steady
+
+      by_test : (b : Bool) → (port == n) ≡ b → Waited
+      by_test true here =
+          let mine = steady here in
+          let sent_is : sent_by n c a ≡ bytes ∷ [] =
+          ap (sent_by n c) is ∙ if_true (port == n && conn == c) (bytes ∷ []) (and_both (port == n) (conn == c) here (eq-eqb conn c mine.0)) in
+          record {
+            rising = h.rising ++ bytes ∷ [];
+            above =
+                ap (λ (xs : List (List ℕ)). xs ++ transit n c new) (sym (ap (taken_by n c) is))
+                ∙ one_step n c old new s a device h.orderly rule there_still
+                ∙ ap (λ (xs : List (List ℕ)). transit n c old ++ all_marked n xs) sent_is
+                ∙ ap (λ (xs : List (List ℕ)). xs ++ all_marked n (bytes ∷ [])) h.above
+                ∙ sym (all_marked-append n h.rising (bytes ∷ []));
+            linked =
+                subst (λ (xs : List Happening). IsLinked (happened ++ xs) (Plugged ∷ []) [] (h.rising ++ bytes ∷ []))
+                (sym (told ∙ if_some (port == n) (Sent bytes ∷ []) here))
+                (sends happened (Plugged ∷ []) [] h.rising bytes mine.1 h.linked);
+          }
+      by_test false other =
+          waited_nothing (told ∙ if_none (port == n) (Sent bytes ∷ []) other) (ap (taken_by n c) is)
+          (ap (sent_by n c) is ∙ if_false (port == n && conn == c) (bytes ∷ []) (and_false (port == n) (conn == c) (λ here. absurd (true≢false (sym here ∙ other)))))
+
+  came_case : (port conn : ℕ) → a ≡ answer.Came port conn → Waited
+  came_case port conn is =
+      let other : (port == n) ≡ false = subst (IsSteady n c) is its.steady in
+      waited_nothing (ap (befalls n old) is ∙ if_none (port == n) (Plugged ∷ []) other) (ap (taken_by n c) is) (ap (sent_by n c) is)
+
+  -- the host takes none of it
+  took_case : (port conn number : ℕ) (bytes : List ℕ) (report : TakeReport) → a ≡ answer.Took port conn number bytes report → Waited
+  took_case port conn number bytes report is =
+      waited_nothing (ap (befalls n old) is) (ap (taken_by n c) is ∙ if_false (port == n && conn == c) (bytes ∷ []) (and_false (port == n) (conn == c) none))
+      (ap (sent_by n c) is)
+    where
+      none : (port == n) ≡ true → (conn == c) ≡ false
+      none here =
+          let m = rule_moves old s (answer.Took port conn number bytes report) new h.orderly (subst (λ (b : Answer). Rule old s (Ok b) new) is rule) in
+          let first = (subst (Each (IsNoneOf n c)) m.2.upward h.up).0 in
+          ne_eqb conn c (λ same. first (m.1.port_is ∙ eqb-true port n here) (m.1.conn_is ∙ same))
+
+  -- and the unit takes nothing
+  disk_case : (port : ℕ) → a ≡ answer.DiskTook port false → Waited
+  disk_case port is = by_test (port == n) refl
+    where
+      told : befalls n old a ≡ (if port == n then map (λ frame. Received frame.bytes) (take 1 (on_down_link (slice_get old.devices n))) else [])
+      told = ap (befalls n old) is
+
+      by_test : (b : Bool) → (port == n) ≡ b → Waited
+      by_test false other = waited_nothing (told ∙ if_none (port == n) _ other) (ap (taken_by n c) is) (ap (sent_by n c) is)
+      by_test true here =
+          let ruled : Rule old s (Ok (answer.DiskTook n false)) new =
+          subst (λ (k : ℕ). Rule old s (Ok (answer.DiskTook k false)) new) (eqb-true port n here) (subst (λ (b : Answer). Rule old s (Ok b) new) is rule) in
+          let moves = rule_moves_down old s (answer.DiskTook n false) new h.orderly ruled in
+          let lands : Lands n moves.0 old new = moves.1 in
+          let own : moves.0.stamp.conn ≡ c = takes_own n c old new s moves.0 lands.rest (only_there n c old h.there) ruled lands.first in
+          absurd ((subst (Each (IsForOther c)) lands.here h.falls).0 own)
+
+  waited : (b : Answer) → a ≡ b → Waited
+  waited (answer.Sent port conn number bytes) is = sent_case port conn number bytes is
+  waited (answer.Came port conn) is = came_case port conn is
+  waited (answer.Took port conn number bytes report) is = took_case port conn number bytes report is
+  waited (answer.DiskTook port false) is = disk_case port is
+  waited (answer.DiskTook port true) is = waited_nothing (ap (befalls n old) is) (ap (taken_by n c) is) (ap (sent_by n c) is)
+  waited b is = waited_nothing (ap (befalls n old) is) (ap (taken_by n c) is) (ap (sent_by n c) is)
+
+  pub shut_after : IsShut n c new (happened ++ happens n old s a new)
+  shut_after =
+      let w : Waited = waited a refl in
+      record {
+        orderly = orderly_after old s a new h.orderly rule;
+        risen = (comes_risen old s a new h.risen rule).risen;
+        true_is = true_after n old s a new rule h.true_is;
+        up = up_now;
+        falls = falls_now;
+        there = there_after n c old a new h.there s stays rule;
+        kept = kept_now;
+        rising = w.rising;
+        above = w.above;
+        linked = subst (λ (xs : List Happening). IsLinked (happened ++ xs) (Plugged ∷ []) [] w.rising) its.same w.linked;
+      }
+
+-- ## The port goes on waiting
+
+pub waits_after : (n c : ℕ) → n < 15 → (old : Places) (s : Step) (a : Answer) (new : Places) → Rule old s (Ok a) new → IsTrue n old.multiplier
+    → IsKeptShut n c old a → WaitsFor n c old → WaitsFor n c new
+waits_after n c below old s a new rule is none waits now = by_was (port_at old.multiplier n).present refl
+  where
+    goes : PortGoes n (is_cleared n old a) old.multiplier new.multiplier
+    goes = rule_goes n old s a new rule
+
+    by_was : (o : Option ℕ) → (port_at old.multiplier n).present ≡ o → cleared.Waits n new.multiplier.registers
+    by_was None was = goes.comes c (λ e. let wrong : None ≡ Some c = sym was ∙ e in absurd (cc)) now is.room below
+    by_was (Some d) was = elim (cases_eq d c) [
+      | inl same ↦
+          let there : (port_at old.multiplier n).present ≡ Some c = was ∙ ap (λ (k : ℕ). Some k) same in
+          goes.waits (none there) (waits there)
+      | inr other ↦ goes.comes c (λ e. other (same_Some d c (sym was ∙ e))) now is.room below
+    ]
+
+-- ## A run in which the port is not cleared for it
+
+pub record StaysShut (n c : ℕ) (new : Places) (happened : List Happening) : Type 0 where
+  pub shut : IsShut n c new happened
+  pub waits : WaitsFor n c new
+
+pub run_shut : (n c : ℕ) → n < 15 → (old : Places) (steps : List Step) (answers : List Answer) (new : Places) (run : Run old steps answers new)
+    (happened : List Happening) → IsShut n c old happened → WaitsFor n c old → IsLeftAlone n steps
+    → AtEach (IsKeptShut n c) old steps answers new run → AreFine (over (happens n) old steps answers new run)
+    → StaysShut n c new (happened ++ over (happens n) old steps answers new run)
+run_shut n c below old [] [] new run happened h waits alone none fine =
+    subst (λ (w : Places). StaysShut n c w (happened ++ [])) (sym run)
+    (subst (λ (xs : List Happening). StaysShut n c old xs) (sym (append-nil happened)) (record { shut = h; waits = waits }))
+run_shut n c below old [] (a ∷ answers) new run happened h waits alone none fine = absurd run
+run_shut n c below old (s ∷ steps) [] new run happened h waits alone none fine = absurd run
+run_shut n c below old (s ∷ steps) (a ∷ answers) new run happened h waits alone none fine =
+    let i = or_parts (injects n s) (list_any (injects n) steps) alone.clean in
+    let p = or_parts (unplugs n s) (list_any (unplugs n) steps) alone.stays in
+    let f = fine_front (happens n old s a run.0) (over (happens n) run.0 steps answers new run.2) fine in
+    subst (λ (xs : List Happening). StaysShut n c new xs)
+    (append_assoc happened (happens n old s a run.0) (over (happens n) run.0 steps answers new run.2))
+    (run_shut n c below run.0 steps answers new run.2 (happened ++ happens n old s a run.0)
+    (shut_after n c below old s a run.0 run.1 happened h waits i.0 p.0 f.0) (waits_after n c below old s a run.0 run.1 h.true_is none.0 waits)
+    (record { clean = i.1; stays = p.1 }) none.1 f.1)

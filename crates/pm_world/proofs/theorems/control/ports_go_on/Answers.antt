@@ -1,0 +1,5 @@
+use Rattle.pm_world.proofs.GoingLemmas.{ports_go_on}
+use Rattle.pm_world.proofs.theorems.control.ports_go_on.Goals as goal
+
+pub returns : goal.returns
+returns c = ports_go_on

@@ -1,0 +1,5 @@
+use Rattle.pm_world.proofs.FollowLemmas as follow
+use Rattle.pm_world.proofs.theorems.phases.connections_follow.Goals as goal
+
+pub returns : goal.returns
+returns c = follow.connections_follow

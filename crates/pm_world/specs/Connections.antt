@@ -1,0 +1,37 @@
+-- The connections of a port come one after another: each is removed before the next is present, and
+-- nothing is on its way of one that is still to come (Serial ATA 3.x, 16.3, port multiplier: presence
+-- of a device on a port).
+--
+-- Cited: runs and places of a world (specs/Rules.antt, Places.antt), what is on its way of
+-- a connection, and when its removal is recorded (specs/Traffic.antt there).
+use Rattle.std.specs.Prelude.{ℕ, ◌≡◌, ◌<◌, ◌⊎◌, true, false, List, [], length, Some, slice_get}
+use Rattle.disk_model.specs.declared.unit.Unit.{Unit}
+use Rattle.multiplier.specs.State.{port_at}
+use Rattle.pm_world.specs.Places.{Place, Places, is_config, new_world}
+use Rattle.pm_world.specs.Rules.{Run}
+use Rattle.pm_world.specs.Traffic.{is_removed, transit}
+use Rattle.pm_world.specs.declared.step.Config.{Config}
+use Rattle.pm_world.specs.declared.step.Step.{Step}
+use Rattle.pm_world.specs.declared.step.Answer.{Answer}
+
+-- the connection of the unit at port n comes before this one
+pub record IsAhead (n d : ℕ) (now : Places) : Type 0 where
+  pub place : Place
+  pub is : slice_get now.devices n ≡ Some place
+  pub less : place.conn < d
+
+-- no unit was plugged in as this connection up to now: there is no such, or it is still to come
+abbrev pub IsUnused : (n d : ℕ) → Places → Type 0
+IsUnused n d now = (d ≡ 0) ⊎ IsAhead n d now
+
+-- Over every run from a new world: each connection before the one that is present is removed, and
+-- nothing is on its way up of one that was not used.
+pub record ConnectionsFollow : Type 0 where
+  pub removed : (config : Config) (units : List Unit) → is_config config (length units) ≡ true
+      → (steps : List Step) (answers : List Answer) (now : Places)
+      → Run (new_world config units) steps answers now → (n c d : ℕ) → n < 15
+      → (port_at now.multiplier n).present ≡ Some c → 0 < d → d < c → is_removed n d now ≡ true
+  pub none_early : (config : Config) (units : List Unit) → is_config config (length units) ≡ true
+      → (steps : List Step) (answers : List Answer) (now : Places)
+      → Run (new_world config units) steps answers now → (n d : ℕ) → n < 15
+      → IsUnused n d now → is_removed n d now ≡ false → transit n d now ≡ []

@@ -1,0 +1,24 @@
+//! Laws of what passes the port of a device that was exchanged. The functions do nothing when they
+//! run.
+
+ghost use Rattle.pm_world.specs.Keeping.{PortsKeep};
+ghost use Rattle.pm_world.specs.Stale.{NoneIsStale, OrderedIsNotStale};
+
+/// Between two FISes of the host that clear bit X of a port, all that passes this port, up and
+/// down, is of one connection.
+pub fn ports_keep_to_one()
+    ensures { PortsKeep }
+{}
+
+/// Where the host sends one FIS for each order to clear a port, and commands of requests only where
+/// IDENTIFY data were accepted since, a device takes each such command on the connection on which
+/// the last IDENTIFY data accepted for its port were sent.
+pub fn ordered_is_not_stale()
+    ensures { OrderedIsNotStale }
+{}
+
+/// In every run from a new world a device takes each command of a request on the connection on which
+/// the last IDENTIFY data accepted for its port were sent.
+pub fn none_is_stale()
+    ensures { NoneIsStale }
+{}

@@ -1,0 +1,20 @@
+//! Laws of the connections of a port in a world. The functions do nothing when they run.
+
+ghost use Rattle.pm_world.specs.Connections.{ConnectionsFollow};
+ghost use Rattle.pm_world.specs.Later.{LaterDisksAreHonest, PortsRest};
+
+/// Over every run from a new world: each connection of a port before the one that is present is
+/// removed, and nothing is on its way up of a connection that was not used yet.
+pub fn connections_follow()
+    ensures { ConnectionsFollow }
+{}
+
+/// After a disk was plugged in again and the host flushed it, as long as nothing goes wrong with it:
+/// each queued request that is reported as done ended honestly, by all that the disk did since the
+/// world was made. A read has the sectors of the medium in client memory, as they were when the disk
+/// started it; a write is on the medium. As the host flushes a disk no FIS of its port is on the
+/// host's link, and the port passes none until it is cleared.
+pub fn later_disks_are_honest()
+    ensures honest { LaterDisksAreHonest }
+    ensures rests { PortsRest }
+{}

@@ -1,0 +1,82 @@
+//! Why a run of the program ends before its work is done.
+
+ghost use Rattle.std.specs.Prelude.{◌≡◌};
+
+use std::alloc::AllocError;
+use std::io;
+use thiserror::Error;
+
+/// Why a run ends before its work is done.
+#[derive(Clone, Copy, Debug, PartialEq, Eq, Error)]
+pub enum Failure {
+    /// A line of the input is refused. Lines count from 1.
+    #[error("line {line}: {refusal}")]
+    Line { line: usize, refusal: Refusal },
+    /// The words of the command line are none that the program knows.
+    #[error("command line refused")]
+    CommandLine,
+    /// The allocator refused memory.
+    #[error("out of memory")]
+    OutOfMemory,
+    /// Standard input could not be read, or standard output not be written.
+    #[error("a read or a write failed")]
+    ReadOrWrite,
+}
+
+/// Why a line of the input is refused.
+#[derive(Clone, Copy, Debug, PartialEq, Eq, Error)]
+pub enum Refusal {
+    /// The line is too long, or holds a byte past the limit of the input.
+    #[error("size")]
+    Size,
+    /// The line's first word, or the name of a step, is none that is known.
+    #[error("command")]
+    Command,
+    /// The line speaks of the world's making, and comes too late.
+    #[error("order")]
+    Order,
+    /// A word is missing, is one too many, or cannot be read.
+    #[error("number")]
+    Number,
+    /// An odd number of digits, or a character that is no digit.
+    #[error("hex")]
+    Hex,
+    /// A number is outside its limits.
+    #[error("range")]
+    Range,
+}
+
+impl Failure {
+    ghost use Rattle.trace.specs.Statuses.{status_of};
+
+    /// The exit status of a run that ends so.
+    pub fn status(self) -> u8
+        ensures { result ≡ status_of self }
+    {
+        match self {
+            Failure::Line { .. } => 1,
+            Failure::CommandLine => 2,
+            Failure::OutOfMemory => 3,
+            Failure::ReadOrWrite => 4,
+        }
+    }
+}
+
+impl From<AllocError> for Failure {
+    ghost use Rattle.trace.specs.declared.failure.Failure.TheVariants.{OutOfMemory};
+
+    ghost from_gives = { λ _ e. e ≡ OutOfMemory };
+
+    fn from(_: AllocError) -> Failure {
+        Failure::OutOfMemory
+    }
+}
+
+impl From<io::Error> for Failure {
+    fn from(error: io::Error) -> Failure {
+        match error.kind() {
+            io::ErrorKind::OutOfMemory => Failure::OutOfMemory,
+            _ => Failure::ReadOrWrite,
+        }
+    }
+}

@@ -1,0 +1,19 @@
+//! What a list of frames or a scenario means, line by line, from a reader to a writer.
+//!
+//! [`serve`] does what the words of a command line ask for: `decode` prints each frame in words, `run` plays a scenario
+//! on a world of devices, a port multiplier and a host, and `threads` has each of these work in a thread of its own. Its
+//! result is the exit status, which says how a run ended; [`refuse`] gives that of a run that cannot begin.
+#![tactic(auto)]
+
+mod command_line;
+mod decode;
+mod failure;
+mod fis_text;
+mod hex_text;
+mod input;
+mod program;
+mod scenario;
+
+pub use failure::{Failure, Refusal};
+pub use input::{LONGEST_INPUT, LONGEST_LINE};
+pub use program::{refuse, serve};

@@ -1,4 +1,0 @@
-pub mod ListLemmas
-pub mod SaidLemmas
-pub mod LineLemmas
-pub mod GoingLemmas

@@ -1,8 +1,0 @@
-pub mod Wired
-pub mod Honest
-pub mod Given
-pub mod Brought
-pub mod Touched
-pub mod Going
-pub mod Ended
-pub mod Disks

@@ -1,5 +1,0 @@
-pub mod FirmLemmas
-pub mod SentLemmas
-pub mod ShutLemmas
-pub mod CutLemmas
-pub mod FollowLemmas
