@@ -4,5 +4,6 @@ mod recovering;
 mod rig;
 mod rows;
 mod starting;
+mod steps;
 mod submitting;
 mod vectors;

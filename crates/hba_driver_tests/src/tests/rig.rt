@@ -1,16 +1,29 @@
 //! A host port with its driver, and a multiplier with devices behind it, in a loop.
 
-ghost use Rattle.std.specs.Prelude.{IsTrue, ◌<◌};
+ghost use Rattle.std.specs.Prelude.{IsTrue, ◌<◌, ◌≤◌};
 
 use disk_model::{Device, Disk, DiskPlan};
 use fis_view::{Frame, FrameError, Stamp};
 use hba_driver::{Completion, Driver, Outcome, Request, SubmitError, Ticket, Work};
 use hba_fbs::HostPort;
-use host_memory::{HostMemory, Prd};
+use host_memory::{HostMemory, MemoryError, Prd};
 use multiplier::Multiplier;
 use std::alloc::{AllocError, Global};
-use std::process::Abort;
 use std::test::Fail;
+
+/// What a submit gives: a ticket, or why not.
+pub(super) type Given = Result<u32, SubmitError>;
+
+/// What stands at a port.
+#[derive(Clone, Copy)]
+pub(super) enum Unit {
+    /// A device whose frames the test makes.
+    Made,
+    /// A disk of 256 sectors.
+    Disk,
+    /// The same with this bad sector.
+    BadDisk(u32),
+}
 
 /// Host port and driver, multiplier and devices.
 #[derive(Drop)]
@@ -19,10 +32,8 @@ pub(super) struct Rig {
     pub(super) port: HostPort,
     pub(super) memory: HostMemory,
     multiplier: Multiplier,
-    /// By port; None where a test makes the frames.
+    /// By port; None where a test makes the frames, or where there is no unit.
     disks: Vec<Option<Disk>>,
-    /// The port whose device stands still.
-    pub(super) still: Option<u8>,
     /// The first bytes of each frame that the port gave.
     pub(super) sent: Vec<[u8; 20]>,
     /// The first bytes of each frame that it took.
@@ -30,15 +41,23 @@ pub(super) struct Rig {
 }
 
 /// The first bytes of a frame, and then zeros.
-fn beginning(bytes: &[u8]) -> [u8; 20] {
+pub(super) fn beginning(bytes: &[u8]) -> [u8; 20] {
     let mut first = [0; 20];
     let count = bytes.len().min(20);
     first[..count].copy_from_slice(&bytes[..count]);
     first
 }
 
+/// Whether the last frame begins so.
+fn last_begins(frames: &[[u8; 20]], first: &[u8]) -> bool {
+    match frames.last() {
+        Some(fis) => fis.starts_with(first),
+        None => false,
+    }
+}
+
 /// A frame of a device.
-pub(super) fn frame(alloc: Global, bytes: &[u8]) -> Result<Frame, FrameError> {
+fn frame(alloc: Global, bytes: &[u8]) -> Result<Frame, FrameError> {
     let stamp = Stamp {
         port: 0,
         conn: 1,
@@ -97,24 +116,33 @@ fn serve(alloc: Global, pm: &mut Multiplier, n: u8, disk: &mut Disk) -> Result<b
     }
 }
 
-/// A disk of 256 sectors.
-pub(super) fn disk(alloc: Global) -> Result<Disk, Fail> {
-    plugged(alloc, DiskPlan::plain())
-}
-
-/// The same with one bad sector.
-pub(super) fn bad_disk(alloc: Global, sector: u32) -> Result<Disk, Fail> {
+/// The disk that a unit is, if it is one.
+fn disk_of(alloc: Global, unit: Unit) -> Result<Option<Disk>, Fail> {
     let mut plan = DiskPlan::plain();
-    if !plan.bad.is_full() {
-        plan.bad.push(sector);
+    match unit {
+        Unit::Made => return Ok(None),
+        Unit::Disk => {}
+        Unit::BadDisk(sector) => {
+            if !plan.bad.is_full() {
+                plan.bad.push(sector);
+            }
+        }
     }
-    plugged(alloc, plan)
-}
-
-fn plugged(alloc: Global, plan: DiskPlan) -> Result<Disk, Fail> {
     let mut disk = Disk::new(alloc, 256, plan)?;
     disk.plugged(alloc)?;
-    Ok(disk)
+    Ok(Some(disk))
+}
+
+/// A page of 512 bytes as Data, of which these are set.
+pub(super) fn page(set: &[(usize, u8)]) -> [u8; 516] {
+    let mut page = [0; 516];
+    page[0] = 0x46;
+    for (at, byte) in set.iter() {
+        if *at < 512 {
+            page[4 + *at] = *byte;
+        }
+    }
+    page
 }
 
 pub(super) fn request(
@@ -138,65 +166,52 @@ pub(super) fn request(
 }
 
 impl Rig {
-    /// With so many ports, and no device.
-    pub(super) fn new(
-        rt: &impl Abort,
-        alloc: Global,
-        driver: Driver,
-        ports: u8,
-    ) -> Result<Rig, Fail> {
-        assert!(rt; 1 <= ports && ports <= 15);
+    /// With so many ports, and no unit.
+    pub(super) fn new(alloc: Global, driver: Driver, ports: u8) -> Result<Rig, MemoryError>
+        requires some { 1 ≤ ports }
+        requires at_most { ports ≤ 15 }
+    {
         Ok(Rig {
             driver,
             port: HostPort::new(),
             memory: HostMemory::new(alloc, 0x20_0000)?,
             multiplier: Multiplier::new(ports),
             disks: Vec::new(alloc),
-            still: None,
             sent: Vec::new(alloc),
             taken: Vec::new(alloc),
         })
     }
 
-    /// With a disk at each of so many ports, which are ready.
-    pub(super) fn with_disks(
-        rt: &impl Abort,
-        alloc: Global,
-        driver: Driver,
-        ports: u8,
-    ) -> Result<Rig, Fail> {
-        let mut rig = Rig::new(rt, alloc, driver, ports)?;
-        rig.plug_disks(alloc, ports)?;
-        rig.settle(alloc)?;
-        Ok(rig)
-    }
-
-    fn plug_disks(&mut self, alloc: Global, ports: u8) -> Result<(), Fail> {
-        for n in 0..ports {
-            self.plug(n, Some(disk(alloc)?))?;
+    /// Each of so many ports, from port 0 on, gets a disk, and all is done that follows.
+    pub(super) fn plug_disks(&mut self, alloc: Global, disks: u8) -> Result<bool, Fail> {
+        for n in 0..disks {
+            if !self.plug(alloc, n, Unit::Disk)? {
+                return Ok(false);
+            }
         }
-        Ok(())
+        self.settle(alloc)
     }
 
-    /// Port `n`, the lowest one without, gets a device.
-    pub(super) fn plug(&mut self, n: u8, device: Option<Disk>) -> Result<(), Fail> {
-        if has_port(&self.multiplier, n) {
-            self.multiplier.came(n, 1)?;
+    /// Port `n`, above those that have a unit, gets one.
+    pub(super) fn plug(&mut self, alloc: Global, n: u8, unit: Unit) -> Result<bool, Fail> {
+        for _ in self.disks.len()..usize::from(n) {
+            self.disks.push(None)?;
         }
-        self.disks.push(device)?;
-        Ok(())
-    }
-
-    /// The lowest port without a device stays so.
-    pub(super) fn plug_none(&mut self) -> Result<(), Fail> {
-        self.disks.push(None)?;
-        Ok(())
+        self.disks.push(disk_of(alloc, unit)?)?;
+        Ok(has_port(&self.multiplier, n) && self.multiplier.came(n, 1).is_ok())
     }
 
     /// The device at port `n` sends a frame. Says whether it is held.
     pub(super) fn send(&mut self, alloc: Global, n: u8, bytes: &[u8]) -> Result<bool, FrameError> {
         let frame = frame(alloc, bytes)?;
         Ok(offer(&mut self.multiplier, n, frame))
+    }
+
+    /// The port takes a frame.
+    pub(super) fn hear(&mut self, alloc: Global, bytes: &[u8]) -> Result<(), FrameError> {
+        let frame = frame(alloc, bytes)?;
+        let _ = self.port.take(&frame, &mut self.memory);
+        Ok(())
     }
 
     pub(super) fn tick(&mut self) -> bool {
@@ -227,9 +242,6 @@ impl Rig {
 
     /// The device at port `n` takes a frame and sends one.
     fn serve(&mut self, alloc: Global, n: u8) -> Result<bool, AllocError> {
-        if self.still == Some(n) {
-            return Ok(false);
-        }
         match self.disks.get_mut(n as usize) {
             Some(Some(disk)) => serve(alloc, &mut self.multiplier, n, disk),
             Some(None) => Ok(next_down(&mut self.multiplier, n).is_some()),
@@ -237,49 +249,68 @@ impl Rig {
         }
     }
 
-    /// Each does what it can, once. Says whether something was done.
-    pub(super) fn round(&mut self, alloc: Global) -> Result<bool, Fail> {
+    /// Each does what it can, once, but for the device of this port. Says whether something was done.
+    fn round(&mut self, alloc: Global, still: Option<u8>) -> Result<bool, Fail> {
         let mut moved = self.tick();
         moved |= self.push(alloc)?;
         for n in 0..15_u8 {
-            moved |= self.serve(alloc, n)?;
+            if still != Some(n) {
+                moved |= self.serve(alloc, n)?;
+            }
         }
         moved |= self.take(alloc)?;
         Ok(moved)
     }
 
-    /// Rounds until nothing is done, which is to come within 4,000.
-    pub(super) fn settle(&mut self, alloc: Global) -> Result<(), Fail> {
+    /// Rounds until nothing is done. Says whether that came within 4,000.
+    pub(super) fn settle(&mut self, alloc: Global) -> Result<bool, Fail> {
         for _ in 0..4000 {
-            if !self.round(alloc)? {
-                return Ok(());
+            if !self.round(alloc, None)? {
+                return Ok(true);
             }
         }
-        Err("no end".into())
+        Ok(false)
     }
 
-    /// A request is submitted: its ticket, or why not.
+    /// Rounds without the device of a port, until the port takes a frame that begins so. Says whether that came within
+    /// 1,000.
+    pub(super) fn until_taken(
+        &mut self,
+        alloc: Global,
+        still: Option<u8>,
+        first: &[u8],
+    ) -> Result<bool, Fail> {
+        for _ in 0..1000 {
+            self.round(alloc, still)?;
+            if last_begins(&self.taken, first) {
+                return Ok(true);
+            }
+        }
+        Ok(false)
+    }
+
+    /// A request is submitted.
     pub(super) fn submit(
         &mut self,
         alloc: Global,
         dev: u8,
         work: Work,
         lba: u64,
+        sectors: u16,
         entries: &[(u32, u32)],
-    ) -> Result<Result<u32, SubmitError>, AllocError> {
-        let sectors = if work == Work::Flush { 0 } else { 1 };
+    ) -> Result<Given, AllocError> {
         let request = request(alloc, work, lba, sectors, entries)?;
         Ok(self.give(dev, &request))
     }
 
-    pub(super) fn give(&mut self, dev: u8, request: &Request) -> Result<u32, SubmitError> {
+    pub(super) fn give(&mut self, dev: u8, request: &Request) -> Given {
         match self.driver.submit(&mut self.memory, dev, request) {
             Ok(ticket) => Ok(ticket.0),
             Err(refusal) => Err(refusal),
         }
     }
 
-    /// The next poll gives this request, which ended so.
+    /// Whether the next poll gives this request, which ended so.
     pub(super) fn polls(&mut self, ticket: u32, slot: u8, outcome: Outcome) -> bool {
         let completion = Completion {
             ticket: Ticket(ticket),
@@ -287,5 +318,63 @@ impl Rig {
             outcome,
         };
         self.driver.poll() == Some(completion)
+    }
+
+    /// What the register of the port at an offset shows.
+    pub(super) fn shown(&self, offset: u32) -> u32 {
+        self.port.read(offset).unwrap_or(0xFFFF_FFFF)
+    }
+
+    /// PxCLB, PxCLBU, PxFB, PxFBU, PxFBS, PxCMD and PxCI.
+    pub(super) fn opening(&self) -> [u32; 7] {
+        [
+            self.shown(0),
+            self.shown(4),
+            self.shown(8),
+            self.shown(12),
+            self.shown(0x40),
+            self.shown(0x18),
+            self.shown(0x38),
+        ]
+    }
+
+    /// PxFBS, PxSACT, PxCI and PxSNTF.
+    pub(super) fn issues(&self) -> [u32; 4] {
+        [
+            self.shown(0x40),
+            self.shown(0x34),
+            self.shown(0x38),
+            self.shown(0x3C),
+        ]
+    }
+
+    /// TFES and HBFS of PxIS, and SDE and DWE of PxFBS.
+    pub(super) fn faults(&self) -> [u32; 2] {
+        [self.shown(0x10) & 0x6000_0000, self.shown(0x40) & 0xF_0006]
+    }
+
+    /// Whether these bytes stand at an address of the client area.
+    pub(super) fn holds(&self, at: u32, bytes: [u8; 4]) -> bool {
+        let client = self.memory.client();
+        let start = at.wrapping_sub(0x10_0000) as usize;
+        start <= client.len() && client[start..].starts_with(&bytes)
+    }
+
+    /// Whether these frames were sent since this was asked last.
+    pub(super) fn has_sent(&mut self, frames: &[[u8; 20]]) -> bool {
+        let are = self.sent.as_slice() == frames;
+        self.sent.clear();
+        are
+    }
+
+    /// How many commands were sent since then with these bytes: of PM Port and C, of Command, and of Device Control.
+    pub(super) fn count_sent(&self, bytes: [u8; 3]) -> u32 {
+        let mut count = 0_u32;
+        for fis in self.sent.iter() {
+            if [fis[1], fis[2], fis[15]] == bytes {
+                count = count.saturating_add(1);
+            }
+        }
+        count
     }
 }

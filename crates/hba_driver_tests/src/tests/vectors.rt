@@ -6,20 +6,7 @@ use super::rows::{ROWS, Row};
 use hba_driver::{Driver, Outcome, Work};
 use host_memory::HostMemory;
 use std::alloc::{AllocError, Global};
-use std::process::Abort;
 use std::test::Fail;
-
-/// So many bytes of the structure area from an address on, in hexadecimal.
-fn hex_of(
-    rt: &impl Abort,
-    alloc: Global,
-    memory: &HostMemory,
-    at: usize,
-    count: usize,
-) -> Result<String, AllocError> {
-    assert!(rt; at <= 0x8_0000 && count <= 0x1000);
-    hex::encode(alloc, &memory.structure()[at..at + count])
-}
 
 /// How many bytes the entries have.
 fn length_of(entries: &[(u32, u32)]) -> u32 {
@@ -31,7 +18,7 @@ fn length_of(entries: &[(u32, u32)]) -> u32 {
 }
 
 /// A row is submitted, its last entry cut to whole sectors.
-fn submit(rt: &impl Abort, alloc: Global, rig: &mut Rig, row: &Row) -> Result<(), Fail> {
+fn submits(alloc: Global, rig: &mut Rig, row: &Row) -> Result<bool, AllocError> {
     let length = length_of(row.entries);
     let work = if row.write { Work::Write } else { Work::Read };
     let sectors = (length / 512 % 0x1_0000) as u16;
@@ -39,49 +26,53 @@ fn submit(rt: &impl Abort, alloc: Global, rig: &mut Rig, row: &Row) -> Result<()
     if let Some(last) = request.prds.last_mut() {
         last.bytes = last.bytes.saturating_sub(length % 512);
     }
-    assert!(rt; rig.give(row.dev, &request).is_ok(), "{}", row.slot);
-    Ok(())
+    Ok(rig.give(row.dev, &request).is_ok())
 }
 
-/// The lower slots hold writes of a sector.
-fn fill(rt: &impl Abort, alloc: Global, rig: &mut Rig, row: &Row) -> Result<(), Fail> {
-    for slot in 0..row.slot {
-        let entries = [(0x16_0000, 512)];
-        let given = rig.submit(alloc, row.dev, Work::Write, 0, &entries)?;
-        assert!(rt; given.is_ok(), "{slot}");
+/// The lower slots hold writes of a sector, and then the row is submitted.
+fn fills(alloc: Global, rig: &mut Rig, row: &Row) -> Result<bool, AllocError> {
+    let entries = [(0x16_0000, 512)];
+    for _ in 0..row.slot {
+        let given = rig.submit(alloc, row.dev, Work::Write, 0, 1, &entries)?;
+        if given.is_err() {
+            return Ok(false);
+        }
     }
-    Ok(())
+    submits(alloc, rig, row)
+}
+
+/// The header stands as Linux writes it, but for the table's address.
+fn has_header(memory: &HostMemory, row: &Row, table: u32) -> bool {
+    let mut header = [0; 16];
+    header[..4].copy_from_slice(&row.header.to_le_bytes());
+    header[8..12].copy_from_slice(&table.to_le_bytes());
+    let at = 32 * usize::from(row.slot);
+    memory.structure()[at..].starts_with(&header)
 }
 
 /// Header and table stand as Linux writes them, but for the table's address, and the last dword of the table, which counts
 /// the bytes of the last entry.
-fn stands(rt: &impl Abort, alloc: Global, memory: &HostMemory, row: &Row) -> Result<(), Fail> {
-    let slot = usize::from(row.slot);
-    let table = 0x2000 + 0x1000 * slot;
-    let mut header = [0; 16];
-    header[..4].copy_from_slice(&row.header.to_le_bytes());
-    header[8..12].copy_from_slice(&(table as u32).to_le_bytes());
-    let header = hex::encode(alloc, &header)?;
-    let written = hex_of(rt, alloc, memory, 32 * slot, 16)?;
-    assert_eq!(rt; written.as_str(), header.as_str(), "{slot}");
-    assert!(rt; 1 <= row.entries.len() && row.entries.len() <= 248);
-    let written = hex_of(rt, alloc, memory, table + 0x80, 16 * row.entries.len() - 4)?;
-    assert!(rt; row.table.starts_with(written.as_str()), "{slot}");
-    assert_eq!(rt; row.table.len(), 32 * row.entries.len(), "{slot}");
-    Ok(())
+fn stands(alloc: Global, memory: &HostMemory, row: &Row) -> Result<bool, AllocError> {
+    let table = 0x2000 + 0x1000 * u32::from(row.slot % 30);
+    let from = table as usize + 0x80;
+    let bytes = (16 * row.entries.len().min(248)).saturating_sub(4);
+    let written = hex::encode(alloc, &memory.structure()[from..from + bytes])?;
+    Ok(
+        has_header(memory, row, table)
+            && row.table.starts_with(written.as_str())
+            && row.table.len() == written.len() + 8,
+    )
 }
 
 /// The last of the waiting requests is issued after the others.
-fn issues(rt: &impl Abort, rig: &mut Rig, row: &Row) {
-    for slot in 0..row.slot {
-        assert!(rt; rig.tick(), "{slot}");
+fn issues(rig: &mut Rig, row: &Row) -> bool {
+    for _ in 0..row.slot {
+        if !rig.tick() {
+            return false;
+        }
     }
-    let before = rig.port.read(0x34);
-    assert!(rt; rig.tick());
-    assert_eq!(rt; rig.port.read(0x40), Ok(row.switching));
-    assert_eq!(rt; rig.port.read(0x34), before.map(|armed| armed | row.armed));
-    assert_eq!(rt; rig.port.read(0x38), rig.port.read(0x34));
-    assert!(rt; !rig.tick());
+    let armed = rig.shown(0x34) | row.armed;
+    rig.tick() && rig.issues() == [row.switching, armed, armed, 0] && !rig.tick()
 }
 
 /// The requests in so many slots are done, the lowest first.
@@ -96,22 +87,26 @@ fn all_done(rig: &mut Rig, slots: u8) -> bool {
 }
 
 /// A row from its submit to its end.
-fn goes(rt: &impl Abort, alloc: Global, rig: &mut Rig, row: &Row) -> Result<(), Fail> {
-    fill(rt, alloc, rig, row)?;
-    submit(rt, alloc, rig, row)?;
-    stands(rt, alloc, &rig.memory, row)?;
-    issues(rt, rig, row);
-    rig.settle(alloc)?;
-    assert!(rt; all_done(rig, row.slot.saturating_add(1)), "{}", row.slot);
-    Ok(())
+fn goes(alloc: Global, rig: &mut Rig, row: &Row) -> Result<bool, Fail> {
+    let is_issued = fills(alloc, rig, row)? && stands(alloc, &rig.memory, row)? && issues(rig, row);
+    Ok(is_issued && rig.settle(alloc)? && all_done(rig, row.slot.saturating_add(1)))
+}
+
+/// The number of the first row that does not go so, with a disk at each port.
+fn first_wrong_row(alloc: Global) -> Result<Option<usize>, Fail> {
+    let mut rig = Rig::new(alloc, Driver::new(), 15)?;
+    let is_up = rig.plug_disks(alloc, 15)?;
+    for (number, row) in ROWS.iter().enumerate() {
+        if !is_up || !goes(alloc, &mut rig, row)? {
+            return Ok(Some(number));
+        }
+    }
+    Ok(None)
 }
 
 #[test]
 fn commands_are_as_linux_writes_them(rt: HostRuntime) -> Result<(), Fail> {
-    let alloc = rt.alloc();
-    let mut rig = Rig::with_disks(&rt, alloc, Driver::new(), 15)?;
-    for row in &ROWS {
-        goes(&rt, alloc, &mut rig, row)?;
-    }
+    let wrong = first_wrong_row(rt.alloc())?;
+    assert_eq!(rt; wrong, None);
     Ok(())
 }
