@@ -17,7 +17,7 @@ use std::test::Fail;
 use taking::{answer, data, issue, pio_setup, prd, setup};
 
 /// The offsets of the registers, their opening values, and the bits that a write stores in a port that opened.
-const TABLE: [(Register, u32, u32, u32); 14] = [
+static TABLE: [(Register, u32, u32, u32); 14] = [
     (Register::Clb, 0x00, 0, 0xFFFF_FC00),
     (Register::Clbu, 0x04, 0, 0xFFFF_FFFF),
     (Register::Fb, 0x08, 0, 0xFFFF_F000),

@@ -14,7 +14,7 @@ const TFES: u32 = 0x4000_0000;
 type Row = ([u8; 20], u32, u32);
 
 /// Register Device to Host FISes.
-const REGISTERS: [Row; 18] = [
+static REGISTERS: [Row; 18] = [
     (
         [
             0x34, 0x40, 0x51, 4, 0x5A, 0xEB, 0x88, 0x2E, 0xC9, 0xF6, 0x53, 0, 0x3B, 0xC9, 0, 0, 0,
@@ -161,7 +161,7 @@ const REGISTERS: [Row; 18] = [
 ];
 
 /// PIO Setup FISes.
-const BLOCKS: [Row; 16] = [
+static BLOCKS: [Row; 16] = [
     (
         [
             0x5F, 0x40, 0x58, 0, 0x6A, 0xA3, 0x30, 0x9B, 0x5F, 0xB2, 0xA9, 0, 0xD8, 0xF5, 0, 0x58,
@@ -293,7 +293,7 @@ const BLOCKS: [Row; 16] = [
 ];
 
 /// Set Device Bits FISes, PxTFD before and after, and the bits of PxIS that the emulator sets.
-const BITS: [([u8; 8], u8, u32, u32); 19] = [
+static BITS: [([u8; 8], u8, u32, u32); 19] = [
     ([0xA1, 0x40, 0x41, 0x40, 0, 0, 0, 0], 0x80, 0x40C1, TFES),
     (
         [0xA1, 0x40, 0x50, 0, 0xB6, 0xC5, 0xA0, 0xA6],
@@ -371,7 +371,7 @@ const BITS: [([u8; 8], u8, u32, u32); 19] = [
 ];
 
 /// Slot, PM Port, whether it is a write, PxFBS as it reads at the write of PxCI, and the bit that is written to PxSACT.
-const ISSUES: [(u8, u8, bool, u32, u32); 20] = [
+static ISSUES: [(u8, u8, bool, u32, u32); 20] = [
     (27, 13, true, 0xFD01, 0x0800_0000),
     (0, 3, false, 0xF301, 0x0000_0001),
     (15, 11, true, 0xFB01, 0x0000_8000),
