@@ -59,7 +59,7 @@ not_false : (b : Bool) → not b ≡ false → b ≡ true
 not_false true e = refl
 not_false false e = absurd (cc)
 
-x_unshared : (value : ℕ) → shares value bit_x ≡ false → bit_at value 26 ≡ 0
+pub x_unshared : (value : ℕ) → shares value bit_x ≡ false → bit_at value 26 ≡ 0
 x_unshared value e =
     let none : bit_and value bit_x ≡ 0 = eqb-true (bit_and value bit_x) 0 (not_false (bit_and value bit_x == 0) e) in
     let both : bit_at (bit_and value bit_x) 26 ≡ min (bit_at value 26) (bit_at bit_x 26) = bit_at_and value bit_x 26 in
@@ -142,7 +142,7 @@ written_told p register value none told = by_test (register == 1) refl
 -- ---- the registers of the multiplier
 
 -- what is true of a port is true of it after a write to a port
-set_keeps : (Is : PortRegisters → Type 0) (bank : List PortRegisters) (k : ℕ) (q d : PortRegisters) (n : ℕ) → (n ≡ k → Is (get_or bank k d) → Is q) → Is (get_or bank n d) → Is (get_or (set bank k q) n d)
+pub set_keeps : (Is : PortRegisters → Type 0) (bank : List PortRegisters) (k : ℕ) (q d : PortRegisters) (n : ℕ) → (n ≡ k → Is (get_or bank k d) → Is q) → Is (get_or bank n d) → Is (get_or (set bank k q) n d)
 set_keeps Is [] k q d n here is = is
 set_keeps Is (p ∷ bank) zero q d zero here is = here refl is
 set_keeps Is (p ∷ bank) zero q d (suc n) here is = is
@@ -162,7 +162,7 @@ abbrev pub Waits : ℕ → RegisterMap → Type 0
 Waits n m = Told (map.port_at m n)
 
 -- what a write of a port keeps, a write of the map does
-write_keeps : (Is : PortRegisters → Type 0) (m : RegisterMap) (n port register value : ℕ) → (port ≡ n → Is (map.port_at m port) → Is (port_written (map.port_at m port) register value)) → Is (map.port_at m n)
+pub write_keeps : (Is : PortRegisters → Type 0) (m : RegisterMap) (n port register value : ℕ) → (port ≡ n → Is (map.port_at m port) → Is (port_written (map.port_at m port) register value)) → Is (map.port_at m n)
     → Is (map.port_at (after_write m port register value) n)
 write_keeps Is m n port register value keeps is =
     either (λ (x : RegisterMap). Is (map.port_at x n)) (is_some (register_at m port register)) (settled (summary m) (written m port register value)) m

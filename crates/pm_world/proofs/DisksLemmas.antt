@@ -51,10 +51,11 @@ use Rattle.driver_ends.proofs.PushLemmas.{pushes_keep}
 use Rattle.driver_ends.proofs.TakeLemmas.{takes_keep}
 use Rattle.driver_ends.proofs.TurnLemmas.{calm_turns_keep, flush_opens, opens_honestly}
 use Rattle.pm_world.specs.Units.{LivesOn, MaySendAll, happens}
-use Rattle.pm_world.specs.Places.{Place, Places, new_world}
+use Rattle.pm_world.specs.Places.{Place, Places, is_config, new_world}
 use Rattle.pm_world.specs.Rules.{Rule}
 use Rattle.pm_world.specs.Runs.{over}
 use Rattle.pm_world.specs.Turns.{turn_of}
+use Rattle.pm_world.specs.declared.step.Config.{Config}
 use Rattle.pm_world.specs.declared.step.Step.{Step}
 use Rattle.pm_world.specs.declared.step.Answer.TheVariants as answer
 use Rattle.pm_world.proofs.Delivery.{sized}
@@ -62,19 +63,24 @@ use Rattle.pm_world.proofs.Orderly.{opening_orderly, run_orderly}
 use Rattle.pm_world.proofs.Risen.{opening_risen}
 use Rattle.pm_world.proofs.Units.{units_lived_on}
 use Rattle.pm_world.specs.Brought.{IsBrought, StandsThere}
-use Rattle.pm_world.specs.Disks.{HonestDisks, disk_history, host_turns}
+use Rattle.pm_world.specs.Disks.{DiskRun, HonestDisks, IsNewDisk, TookHonestly}
 use Rattle.pm_world.specs.Ended.{EndsHonestly, ReadsSectors, StandsAt, WritesSectors}
+use Rattle.pm_world.specs.Touched.{AreTouched}
 use Rattle.pm_world.specs.Wired.{AreFine, IsThere, IsWired}
 use Rattle.pm_world.proofs.BroughtLemmas.{brought_there}
-use Rattle.pm_world.proofs.FineLemmas.{goes_well, opens_well}
+use Rattle.pm_world.proofs.FineLemmas.{OpensUnfaulted, goes_well, opens_well}
 use Rattle.pm_world.proofs.FirstLemmas.{ComesRisen, FirstRun, comes_risen, first_run}
 use Rattle.pm_world.proofs.HostLemmas.{DriversServe, HostOn, host_opens}
+use Rattle.pm_world.proofs.LiveLemmas.{live_there}
+use Rattle.pm_world.proofs.FirmLemmas.{opening_firm, run_firm}
 use Rattle.pm_world.proofs.OpeningLemmas.{Opens, Out, There, opened}
 use Rattle.pm_world.proofs.ReadLemmas.{ended_at_disk}
 use Rattle.pm_world.proofs.RunLemmas.{fine_front}
 use Rattle.pm_world.proofs.SecondLemmas.{IsTended, SecondRun, second_run}
+use Rattle.pm_world.proofs.SplitLemmas.{IsSplit, split_run}
 use Rattle.pm_world.proofs.TookLemmas.{host_takes, took_later}
 use Rattle.pm_world.proofs.TouchedLemmas.{touched_delivers, touched_served, touched_sound}
+use Rattle.pm_world.proofs.UnfaultedLemmas.{opens_unfaulted}
 
 -- ## The disk's run
 
@@ -324,71 +330,95 @@ plugged_in : (n conn : ℕ) (now : Places) (happened : List Happening) → IsThe
 plugged_in n conn now happened there (Out out) = absurd (same_conn (slice_get now.devices n) conn 0 there out)
 plugged_in n conn now happened there (There here wired) = (here, wired)
 
+is_some_place : (unit : Unit) (events : List Happening) (o : Option Place) → IsSomeAnd o (λ place. LivesOn unit events place.unit)
+    → IsSomeAnd o (λ place. Prim.Unit {0})
+is_some_place unit events None lived = lived
+is_some_place unit events (Some place) lived = tt
+
 pub drivers_serve : DriversServe
 drivers_serve = record { starts = opens_honestly; opens = flush_opens; calm = calm_turns_keep; takes = takes_keep; pushes = pushes_keep }
 
+module _ (config : Config) (units : List Unit) (n sectors : ℕ) (plan : DiskPlan) (fits : is_config config (length units) ≡ true) (below : n < 15)
+    (disk : IsNewDisk units n plan sectors) (now : Places) (d : DiskRun config units n now)
+    (r : IsSplit config units fits n below (new_world config units) d.steps d.answers now d.run) where
+  right : is_memory_size config.memory ≡ true
+  right = sized config (length units) fits
+
+  abbrev first_told : List Happening
+  first_told = over (happens n) (new_world config units) r.first r.told r.mid r.made
+
+  abbrev second_told : List Happening
+  second_told = over (happens n) r.mid r.second r.said now r.on
+
+  abbrev first_turns : List HostTurn
+  first_turns = over turn_of (new_world config units) r.first r.told r.mid r.made
+
+  abbrev second_turns : List HostTurn
+  second_turns = over turn_of r.mid r.second r.said now r.on
+
+  fine : AreFine first_told × AreFine second_told
+  fine = fine_front first_told second_told (subst AreFine r.happens_are d.fine)
+
+  unfaulted : OpensUnfaulted config units fits n below (new_world config units) r.first r.told r.mid r.made
+  unfaulted =
+      opens_well config units fits n below [] [] (new_world config units) refl (opens_unfaulted n config.memory) r.first r.told r.mid r.made r.untaken
+
+  first : FirstRun drivers_serve n config.memory below right [] (new_world config units) r.first r.told r.mid r.made
+  first =
+      first_run drivers_serve n config.memory below right [] (new_world config units) r.first r.told r.mid r.made (opening_risen config units)
+      (host_opens drivers_serve n config.memory below right) r.untaken unfaulted.well
+
+  there : IsThere n 1 r.mid
+  there =
+      live_there n 1 r.mid (run_firm n below (new_world config units) r.first r.told r.mid r.made (opening_firm config units fits n)) r.live
+      (is_some_place (Disk disk.disk) (first_told ++ []) (slice_get r.mid.devices n)
+      (units_lived_on r.mid [] [] r.mid refl config units fits r.first r.told r.made n (Disk disk.disk) disk.there))
+
+  ends : IsThere n 1 r.mid × IsWired n 1 r.mid first_told (Plugged ∷ [])
+  ends = plugged_in n 1 r.mid first_told there (opened n below config units fits r.first r.told r.mid r.made first.unheard r.alone fine.0)
+
+  start : IsTended drivers_serve n config.memory below right plan sectors disk.size 1 [] r.mid first_told [] first_turns
+  start = record {
+    orderly = run_orderly (new_world config units) r.first r.told r.mid (opening_orderly config units fits) r.made;
+    risen = first.risen;
+    there = ends.0;
+    wired = ends.1;
+    host = first.host;
+  }
+
+  sends : MaySendAll (plan_of (Disk disk.disk)) [] (first_told ++ second_told)
+  sends =
+      lived_run (Disk disk.disk) (first_told ++ second_told) (slice_get now.devices n) disk.fresh
+      (units_lived_on r.mid r.second r.said now r.on config units fits r.first r.told r.made n (Disk disk.disk) disk.there)
+
+  own_run : IsDiskRun disk.disk.plan disk.disk.sectors (first_told ++ second_told)
+  own_run =
+      from_opening disk.disk.plan disk.disk.sectors (first_told ++ second_told)
+      (may_run disk.disk.plan disk.disk.sectors [] (first_told ++ second_told) sends)
+
+  whole_run : IsDiskRun plan sectors (first_told ++ second_told)
+  whole_run =
+      subst (λ (k : ℕ). IsDiskRun plan k (first_told ++ second_told)) disk.sectors_are
+      (subst (λ (p : DiskPlan). IsDiskRun p disk.disk.sectors (first_told ++ second_told)) disk.plan_is own_run)
+
+  second : SecondRun drivers_serve n config.memory below right plan sectors disk.size 1 [] r.mid r.second r.said now r.on first_told [] first_turns
+  second =
+      second_run drivers_serve n config.memory below right plan sectors disk.size 1 [] r.mid r.second r.said now r.on first_told [] first_turns start r.left
+      (goes_well config units fits n below r.first r.told r.mid r.made unfaulted.last r.second r.said now r.on r.well) fine.1 whole_run
+
+  took_honestly : (s : Step) (port conn number : ℕ) (bytes : List ℕ) (report : TakeReport) (new : Places)
+      → Rule now s (Ok (answer.Took port conn number bytes report)) new → (port == n) ≡ true → TookHonestly config units n sectors now d report new
+  took_honestly s port conn number bytes report new rule here = record {
+    touches = second.tended.host.touches;
+    touched = subst (λ (ts : List HostTurn). AreTouched config.memory ts now.host second.tended.host.touches) (sym r.turns_are) second.tended.host.touched;
+    done = λ slot e low is queued done.
+        subst (λ (xs : List Happening). EndsHonestly sectors slot e xs (filled slot (own n second.tended.host.touches)) new.host.memory) (sym r.happens_are)
+        (ends_honestly drivers_serve n config.memory below right plan sectors disk.size 1 [] now (first_told ++ second_told) second.more
+        (first_turns ++ second_turns) second.tended whole_run s port conn number bytes report new rule here slot e low is queued done);
+  }
+
 pub honest_disks : HonestDisks
 honest_disks config units n sectors plan fits below disk now d s port conn number bytes report new rule here =
-    record {
-      touches = second.tended.host.touches;
-      touched = second.tended.host.touched;
-      done = λ slot e low is queued done.
-          ends_honestly drivers_serve n config.memory below right plan sectors disk.size 1 [] now (disk_history config units n now d) second.more
-          (host_turns config units n now d) second.tended whole_run s port conn number bytes report new rule here slot e low is queued done;
-    }
-  where
-    right : is_memory_size config.memory ≡ true
-    right = sized config (length units) fits
-
-    first_told : List Happening
-    first_told = over (happens n) (new_world config units) d.first d.told d.mid d.made
-
-    second_told : List Happening
-    second_told = over (happens n) d.mid d.second d.answers now d.run
-
-    fine : AreFine (over (happens n) (new_world config units) d.first d.told d.mid d.made) × AreFine (over (happens n) d.mid d.second d.answers now d.run)
-    fine =
-        fine_front (over (happens n) (new_world config units) d.first d.told d.mid d.made) (over (happens n) d.mid d.second d.answers now d.run) d.fine
-
-    first : FirstRun drivers_serve n config.memory below right [] (new_world config units) d.first d.told d.mid d.made
-    first =
-        first_run drivers_serve n config.memory below right [] (new_world config units) d.first d.told d.mid d.made (opening_risen config units)
-        (host_opens drivers_serve n config.memory below right) d.untaken
-        (opens_well config units fits n [] [] (new_world config units) refl d.first d.told d.mid d.made d.opened)
-
-    ends : IsThere n 1 d.mid × IsWired n 1 d.mid (over (happens n) (new_world config units) d.first d.told d.mid d.made) (Plugged ∷ [])
-    ends =
-        plugged_in n d.conn d.mid (over (happens n) (new_world config units) d.first d.told d.mid d.made) d.there
-        (opened n below config units fits d.first d.told d.mid d.made first.unheard d.alone fine.0)
-
-    start : IsTended drivers_serve n config.memory below right plan sectors disk.size 1 [] d.mid
-        (over (happens n) (new_world config units) d.first d.told d.mid d.made) [] (over turn_of (new_world config units) d.first d.told d.mid d.made)
-    start = record {
-      orderly = run_orderly (new_world config units) d.first d.told d.mid (opening_orderly config units fits) d.made;
-      risen = first.risen;
-      there = ends.0;
-      wired = ends.1;
-      host = first.host;
-    }
-
-    sends : MaySendAll (plan_of (Disk disk.disk)) [] (disk_history config units n now d)
-    sends =
-        lived_run (Disk disk.disk) (disk_history config units n now d) (slice_get now.devices n) disk.fresh
-        (units_lived_on d.mid d.second d.answers now d.run config units fits d.first d.told d.made n (Disk disk.disk) disk.there)
-
-    own_run : IsDiskRun disk.disk.plan disk.disk.sectors (disk_history config units n now d)
-    own_run =
-        from_opening disk.disk.plan disk.disk.sectors (disk_history config units n now d)
-        (may_run disk.disk.plan disk.disk.sectors [] (disk_history config units n now d) sends)
-
-    whole_run : IsDiskRun plan sectors (disk_history config units n now d)
-    whole_run =
-        subst (λ (k : ℕ). IsDiskRun plan k (disk_history config units n now d)) disk.sectors_are
-        (subst (λ (p : DiskPlan). IsDiskRun p disk.disk.sectors (disk_history config units n now d)) disk.plan_is own_run)
-
-    second : SecondRun drivers_serve n config.memory below right plan sectors disk.size 1 [] d.mid d.second d.answers now d.run
-        (over (happens n) (new_world config units) d.first d.told d.mid d.made) [] (over turn_of (new_world config units) d.first d.told d.mid d.made)
-    second =
-        second_run drivers_serve n config.memory below right plan sectors disk.size 1 [] d.mid d.second d.answers now d.run
-        (over (happens n) (new_world config units) d.first d.told d.mid d.made) [] (over turn_of (new_world config units) d.first d.told d.mid d.made) start
-        d.left (goes_well config units fits n d.first d.told d.mid d.made d.second d.answers now d.run d.well) fine.1 whole_run
+    took_honestly config units n sectors plan fits below disk now d
+    (split_run config units fits n below d.steps d.answers now d.run d.left d.well s (answer.Took port conn number bytes report) new rule here) s port conn
+    number bytes report new rule here

@@ -1,83 +1,38 @@
--- Up to the flush of a disk: what was touched at the host, and that its port is shut from its plugging on.
-use Rattle.std.proofs.Common.{◌≡◌, ◌≢◌, ◌==◌, ◌&&◌, ℕ, ◌+◌, ◌<◌, ◌≤◌, Bool, true, false, List, [], ◌∷◌, ◌++◌, length, refl, sym, ap, subst, ◌∙◌, inr}
-use Rattle.std.proofs.Common.{Option, Some, None, Ok, arith}
-use Rattle.std.specs.Prelude.{if◌then◌else◌, slice_get, IsSomeAnd, MatchOption}
+-- The plugging of a unit: its port is shut from there on.
+use Rattle.std.proofs.Common.{◌≡◌, ◌≢◌, ◌==◌, ◌&&◌, ℕ, ◌+◌, ◌<◌, ◌≤◌, Bool, true, false, List, [], ◌∷◌, length, refl, sym, ap, subst, ◌∙◌, inr}
+use Rattle.std.proofs.Common.{Option, Some, Ok, arith}
+use Rattle.std.specs.Prelude.{if◌then◌else◌, slice_get}
 use Rattle.std.proofs.lemmas.Bool.{eq-eqb, true≢false}
 use Rattle.fis_view.specs.Frames.{Stamped}
-use Rattle.host_memory.specs.Memory.{is_memory_size}
 use Rattle.pm_ports.specs.Port.{is_gone}
 use Rattle.multiplier.specs.Arbiter.{control_port}
 use Rattle.multiplier.specs.State.{PmState, port_at}
-use Rattle.disk_model.specs.declared.plan.DiskPlan.{DiskPlan}
 use Rattle.disk_model.specs.declared.unit.Unit.{Unit}
-use Rattle.disk_model.specs.Disks.{Moment}
-use Rattle.disk_model.specs.Disks as disks
 use Rattle.disk_model.specs.Ends.{begins}
-use Rattle.disk_model.specs.Histories.{Happening, Plan, Plugged}
-use Rattle.disk_model.specs.Runs as runs
-use Rattle.disk_model.specs.Units.{StandsFor, plan_of}
-use Rattle.hba_driver.specs.Events.{opening_host}
+use Rattle.disk_model.specs.Histories.{Plugged}
 use Rattle.pm_world.specs.Downward.{falling_to}
-use Rattle.pm_world.specs.Units.{LivesOn, MaySendAll}
 use Rattle.pm_world.specs.Places.{Place, Places, is_config, new_world}
 use Rattle.pm_world.specs.Rules.{CameActs, CameRule, Rule, Run}
-use Rattle.pm_world.specs.Runs.{over}
 use Rattle.pm_world.specs.Traffic.{all_marked, is_removed, of_conn, stamped, transit, waiting}
-use Rattle.pm_world.specs.Turns.{turn_of}
 use Rattle.pm_world.specs.declared.step.Config.{Config}
 use Rattle.pm_world.specs.declared.step.Step.{Step}
 use Rattle.pm_world.specs.declared.step.Step.TheVariants as step
 use Rattle.pm_world.specs.declared.step.Answer.{Answer}
 use Rattle.pm_world.specs.declared.step.Answer.TheVariants as answer
-use Rattle.pm_world.proofs.Delivery.{sized}
-use Rattle.pm_world.proofs.HostFold.{run_does}
 use Rattle.pm_world.proofs.Lists.{slice_get-set_same, stamped-append, stamped-one}
 use Rattle.pm_world.proofs.Recorded.{IsLed, led_last}
 use Rattle.pm_world.proofs.Risen.{opening_risen, run_rises}
 use Rattle.pm_world.proofs.Steps.{AtDevice, at_device}
 use Rattle.pm_world.proofs.EachLemmas.{Each, each_map}
-use Rattle.pm_world.specs.Touched.{opens}
 use Rattle.pm_world.specs.Wired.{IsThere, IsUnremoved}
 use Rattle.pm_world.proofs.FirstLemmas.{comes_risen}
 use Rattle.pm_world.proofs.KeptLemmas.{came_unremoved, unremoved}
 use Rattle.pm_world.proofs.RunLemmas.{IsPlugged}
-use Rattle.pm_world.proofs.TouchedLemmas.{GoesTouched, touched_over}
 use Rattle.pm_world.proofs.WiredLemmas.{and_both, none_both, still_above}
 use Rattle.pm_world.specs.Connections.{IsUnused}
 use Rattle.pm_world.proofs.FirmLemmas.{HasCome, IsFirm, firm_after, opening_firm, run_firm, seen_at}
 use Rattle.pm_world.proofs.SentLemmas.{none_on_way}
 use Rattle.pm_world.proofs.ShutLemmas.{IsForOther, IsNoneOf, IsShut, WaitsFor}
-
--- ## The host
-
--- what was touched at the host over two runs, the first from a new world
-pub touched_twice : (config : Config) (units : List Unit) → is_config config (length units) ≡ true → (first : List Step) (told : List Answer) (mid : Places)
-    (made : Run (new_world config units) first told mid) (second : List Step) (said : List Answer) (now : Places) (run : Run mid second said now)
-    → GoesTouched config.memory (over turn_of (new_world config units) first told mid made ++ over turn_of mid second said now run) now.host
-touched_twice config units fits first told mid made second said now run =
-    let right : is_memory_size config.memory ≡ true = sized config (length units) fits in
-    let one : GoesTouched config.memory (over turn_of (new_world config units) first told mid made) mid.host =
-    touched_over config.memory right [] (over turn_of (new_world config units) first told mid made) (opening_host 0 config.memory) mid.host [] opens
-    (run_does (new_world config units) first told mid made) in
-    touched_over config.memory right (over turn_of (new_world config units) first told mid made) (over turn_of mid second said now run) mid.host now.host
-    one.touches one.touched (run_does mid second said now run)
-
--- ## The disk
-
--- a unit that lived on through two lists of events might send what it sent in both
-pub lived_twice : (unit : Unit) (xs ys : List Happening) (o p : Option Place) → StandsFor unit [] → IsSomeAnd o (λ place. LivesOn unit xs place.unit)
-    → MatchOption o (p ≡ None) (λ was. IsSomeAnd p (λ now. LivesOn was.unit ys now.unit))
-    → MaySendAll (plan_of unit) [] xs × MaySendAll (plan_of unit) xs ys
-lived_twice unit xs ys None p stands one two = absurd one
-lived_twice unit xs ys (Some was) None stands one two = absurd two
-lived_twice unit xs ys (Some was) (Some now) stands one two =
-    (one.sends [] stands, subst (λ (p : Plan). MaySendAll p xs ys) one.plan (two.sends xs (one.stands_for [] stands)))
-
-pub runs_both : (plan : DiskPlan) (sectors : ℕ) (m : Moment) (xs ys : List Happening) → runs.Runs plan sectors m xs
-    → runs.Runs plan sectors (disks.moment_after plan sectors m xs) ys → runs.Runs plan sectors m (xs ++ ys)
-unfolding runs.Runs disks.moment_after
-runs_both plan sectors m [] ys one two = two
-runs_both plan sectors m (x ∷ xs) ys one two = (one.0, runs_both plan sectors (disks.after plan sectors m x) xs ys one.1 two)
 
 -- ## The plugging
 

@@ -32,7 +32,8 @@ use Rattle.pm_world.specs.declared.step.Step.{Step}
 use Rattle.pm_world.specs.declared.step.Answer.{Answer}
 use Rattle.pm_world.specs.declared.step.Answer.TheVariants as answer
 use Rattle.pm_world.proofs.Risen.{AllRisen, run_rises}
-use Rattle.pm_world.specs.Going.{AtEach, OpensWell, is_taken_of}
+use Rattle.pm_world.specs.Going.{AtEach}
+use Rattle.pm_world.proofs.Goings.{OpensWell, is_taken_of}
 use Rattle.pm_world.specs.Wired.{for_port}
 use Rattle.pm_world.proofs.HostLemmas.{DriversServe, HasPushed, HostOn, step_flushes, step_keeps, step_pushes}
 use Rattle.pm_world.proofs.OpeningLemmas.{IsUnheard, given_for}

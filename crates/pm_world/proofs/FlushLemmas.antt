@@ -13,7 +13,7 @@ use Rattle.pm_control.specs.Requests.{request_in}
 use Rattle.pm_registers.specs.Bits.{shares}
 use Rattle.pm_registers.specs.Port.{bit_x}
 use Rattle.multiplier.specs.Arbiter.{control_port}
-use Rattle.multiplier.specs.State.{pm_port}
+use Rattle.multiplier.specs.State.{pm_port, port_at}
 use Rattle.disk_model.specs.declared.unit.Unit.{Unit}
 use Rattle.disk_model.specs.Histories.{Plugged}
 use Rattle.hba_laws.specs.Client.{Touches}
@@ -50,7 +50,8 @@ use Rattle.pm_world.proofs.TouchedLemmas.{touched_served, touched_sound}
 use Rattle.pm_world.proofs.WiredLemmas.{and_false, if_false}
 use Rattle.pm_world.specs.Connections.{IsAhead, IsUnused}
 use Rattle.pm_world.specs.Later.{IsAtRest, PortsRest, RestsAtFlush}
-use Rattle.pm_world.proofs.CutLemmas.{IsCut}
+use Rattle.pm_world.proofs.CutLemmas.{IsCut, IsHeld}
+use Rattle.pm_world.proofs.FirmLemmas.{opening_firm, removed_before, run_firm}
 use Rattle.pm_world.proofs.SentLemmas.{none_on_way}
 
 -- ## The orders
@@ -95,7 +96,7 @@ none_stamped n d (f ∷ frames) none =
     ∙ none_stamped n d frames none.1
 
 -- a bit that is shared is set
-x_set : (error : ℕ) → shares error bit_x ≡ true → HasX error
+pub x_set : (error : ℕ) → shares error bit_x ≡ true → HasX error
 x_set error e = elim (cases_eq (bit_at error 26) 0) [
   | inl unset ↦
       let none : bit_and error bit_x ≡ 0 = and_pow error 26 ∙ ap (λ (b : ℕ). b * 2 ^ 26) unset in
@@ -115,15 +116,14 @@ to_come n c d now there less = by_place (slice_get now.devices n) refl there
         let conn : place.conn ≡ c = there.1 in
         record { place = place; is = is; less = omega (arith, conn, less) }
 
--- the port as the unit is flushed
-pub cut_at_flush : (n c : ℕ) → n < 15 → (config : Config) (units : List Unit) → is_config config (length units) ≡ true → (first : List Step) (told : List Answer)
+-- the port as its unit is flushed
+pub held_at_flush : (n : ℕ) → n < 15 → (config : Config) (units : List Unit) → is_config config (length units) ≡ true → (first : List Step) (told : List Answer)
     (mid : Places) → Run (new_world config units) first told mid → (new : Places) → Rule mid step.Tick (Ok answer.Ticked) new → IsFlushTick n mid.host
-    → IsAtRest n mid → IsThere n c mid → ((d : ℕ) → 0 < d → d < c → is_removed n d mid ≡ true) → IsCut n c new
-cut_at_flush n c below config units fits first told mid made new rule flush rest there removed =
-    subst (IsCut n c) (sym rule.1) (record {
-      away = away;
+    → IsAtRest n mid → IsHeld n new
+held_at_flush n below config units fits first told mid made new rule flush rest =
+    subst (IsHeld n) (sym rule.1) (record {
+      away = none_of (is_from n) mid.upward.frames rest.away;
       told = λ opens present. x_set _ (rest.waits opens present);
-      alone = alone;
       line = record {
         stale = mid.downward.frames;
         fresh = [];
@@ -132,24 +132,31 @@ cut_at_flush n c below config units fits first told mid made new rule flush rest
         others = tt;
       };
     })
+
+-- and where the unit's connection is recorded, nothing of another one is on its way
+pub cut_there : (n c : ℕ) → n < 15 → (config : Config) (units : List Unit) → is_config config (length units) ≡ true → (first : List Step) (told : List Answer)
+    (now : Places) → Run (new_world config units) first told now → IsHeld n now → IsThere n c now → (port_at now.multiplier n).present ≡ Some c → IsCut n c now
+cut_there n c below config units fits first told now made held there here = record { held = held; alone = alone }
   where
-    away : Nothing (is_from n) mid.upward.frames
-    away = none_of (is_from n) mid.upward.frames rest.away
+    away : Nothing (is_from n) now.upward.frames
+    away = held.away
 
-    none_of_it : (d : ℕ) → IsUnused n d mid → IsAway n d mid
-    none_of_it d unused = (none_stamped n d mid.upward.frames away, none_on_way n d below config units fits first told mid made unused)
+    none_of_it : (d : ℕ) → IsUnused n d now → IsAway n d now
+    none_of_it d unused = (none_stamped n d now.upward.frames away, none_on_way n d below config units fits first told now made unused)
 
-    alone : (d : ℕ) → d ≢ c → IsAway n d mid
+    alone : (d : ℕ) → d ≢ c → IsAway n d now
     alone d other = elim (cases_lt c d) [
-      | inl later ↦ none_of_it d (inr (to_come n c d mid there later))
+      | inl later ↦ none_of_it d (inr (to_come n c d now there later))
       | inr most ↦ by_zero d other most
     ]
       where
-        by_zero : (d : ℕ) → d ≢ c → d ≤ c → IsAway n d mid
+        by_zero : (d : ℕ) → d ≢ c → d ≤ c → IsAway n d now
         by_zero zero other most = none_of_it 0 (inl refl)
         by_zero (suc k) other most =
-            let gone : is_removed n (suc k) mid ≡ true = removed (suc k) (omega arith) (omega (arith, other, most)) in
-            (none_stamped n (suc k) mid.upward.frames away, λ still. absurd (true≢false (sym gone ∙ still)))
+            let gone : is_removed n (suc k) now ≡ true =
+            removed_before n c (suc k) now (run_firm n below (new_world config units) first told now made (opening_firm config units fits n)) here (omega arith)
+            (omega (arith, other, most)) in
+            (none_stamped n (suc k) now.upward.frames away, λ still. absurd (true≢false (sym gone ∙ still)))
 
 -- ## The host
 

@@ -47,7 +47,7 @@ keeps_one n c d pm is keeps opens there = elim (cases_eq d c) [
 ]
 
 -- a connection is present, or it is not
-is_there : (o : Option ℕ) (d : ℕ) → (o ≡ Some d) ⊎ (o ≢ Some d)
+pub is_there : (o : Option ℕ) (d : ℕ) → (o ≡ Some d) ⊎ (o ≢ Some d)
 is_there None d = inr (λ e. absurd (cc))
 is_there (Some c) d = elim (cases_eq c d) [
   | inl same ↦ inl (ap (λ (k : ℕ). Some k) same)

@@ -225,7 +225,7 @@ module _ (n k : ℕ) (old new : Places) (a : Answer) (u : IsUnremoved n k old) (
   quiet : new.devices ≡ old.devices → new.multiplier ≡ old.multiplier → IsUnremoved n k new
   quiet devices same = aside devices (ap (λ (pm : PmState). known (port_at pm n)) same)
 
-  unremoved_after : (s : Step) → IsOrderly old → Rule old s (Ok a) new → IsUnremoved n k new
+  pub unremoved_after : (s : Step) → IsOrderly old → Rule old s (Ok a) new → IsUnremoved n k new
   unremoved_after (step.Came m) orderly rule =
       let d : AtDevice old m (Ok a) new (CameRule m) = at_device old m a new (CameRule m) rule in
       at_place m d.place d.after old.multiplier d.is d.new_is u.recorded (keeps_came m d.place a d.after d.rule.1)

@@ -1,4 +1,5 @@
 pub mod Lists
+pub mod Goings
 pub mod Steps
 pub mod Orderly
 pub mod Moves
@@ -38,12 +39,9 @@ pub mod HostLemmas
 pub mod FirstLemmas
 pub mod SecondLemmas
 pub mod ReadLemmas
-pub mod FineLemmas
-pub mod DisksLemmas
 pub mod CalmLemmas
 pub mod ClientLemmas
 pub mod ReportedLemmas
-pub mod PolledLemmas
 pub mod EachLemmas
 pub mod KeepingLemmas
 pub mod UpLemmas
@@ -62,7 +60,15 @@ pub mod CutLemmas
 pub mod FollowLemmas
 pub mod EarlyLemmas
 pub mod FlushLemmas
+pub mod LiveLemmas
+pub mod UnfaultedLemmas
+pub mod FineLemmas
+pub mod LiveRuns
+pub mod SplitLemmas
+pub mod DisksLemmas
+pub mod AnewLemmas
 pub mod LaterLemmas
+pub mod PolledLemmas
 pub mod Laws
 pub mod Polling
 pub mod Doing

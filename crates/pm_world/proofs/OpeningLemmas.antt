@@ -29,7 +29,8 @@ use Rattle.pm_world.proofs.Lists.{slice_get-set_other, slice_get-set_same}
 use Rattle.pm_world.proofs.Openings.{nothing_falls, nothing_stands, port_opening}
 use Rattle.pm_world.proofs.Orderly.{opening_orderly, orderly_after}
 use Rattle.pm_world.proofs.Steps.{AtBoth, AtDevice, at_both, at_device}
-use Rattle.pm_world.specs.Going.{IsLeftAlone, is_taken_of}
+use Rattle.pm_world.specs.Going.{IsLeftAlone}
+use Rattle.pm_world.proofs.Goings.{is_taken_of}
 use Rattle.pm_world.specs.Wired.{AreAmong, AreFine, GoesOn, IsAtHost, IsAtHostOver, IsSteady, IsThere, IsUnremoved, IsWired, StaysWired}
 use Rattle.pm_world.specs.Wired.{befalls, descending, for_port, injects, unplugs}
 use Rattle.pm_world.proofs.KeptLemmas.{came_unremoved, none_posted, unremoved}

@@ -568,10 +568,10 @@ module _ (n : ℕ) (below : n < 15) (unsent : Bool) (old : Places) (k : Knows n 
 
   -- ---- each step
 
-  abbrev Steps : Step → Answer → Places → Type 0
+  abbrev pub Steps : Step → Answer → Places → Type 0
   Steps s a new = IsInOrder n unsent old s a new × Knows n (unsent_after n unsent old s a new) new
 
-  order_step : (s : Step) (a : Answer) (new : Places) → Rule old s (Ok a) new → Steps s a new
+  pub order_step : (s : Step) (a : Answer) (new : Places) → Rule old s (Ok a) new → Steps s a new
   order_step s answer.Ticked new rule =
       let e : s ≡ step.Tick = tick_step old s new rule in
       let is : Rule old step.Tick (Ok answer.Ticked) new = subst (λ (t : Step). Rule old t (Ok answer.Ticked) new) e rule in
@@ -592,7 +592,20 @@ module _ (n : ℕ) (below : n < 15) where
       let both = order_step n below unsent old k s a run.0 run.1 in
       (both.0, in_order (unsent_after n unsent old s a run.0) run.0 steps answers new run.2 both.1)
 
-opening_knows : (config : Config) (units : List Unit) → is_config config (length units) ≡ true → (n : ℕ) → Knows n false (new_world config units)
+-- what is known after a run
+pub record KnowsNow (n : ℕ) (now : Places) : Type 0 where
+  pub unsent : Bool
+  pub knows : Knows n unsent now
+
+module _ (n : ℕ) (below : n < 15) where
+  knows_on : (unsent : Bool) (old : Places) (steps : List Step) (answers : List Answer) (new : Places) → Run old steps answers new → Knows n unsent old → KnowsNow n new
+  knows_on unsent old [] [] new run k = record { unsent = unsent; knows = subst (Knows n unsent) (sym run) k }
+  knows_on unsent old [] (a ∷ answers) new run k = absurd run
+  knows_on unsent old (s ∷ steps) [] new run k = absurd run
+  knows_on unsent old (s ∷ steps) (a ∷ answers) new run k =
+      knows_on (unsent_after n unsent old s a run.0) run.0 steps answers new run.2 (order_step n below unsent old k s a run.0 run.1).1
+
+pub opening_knows : (config : Config) (units : List Unit) → is_config config (length units) ≡ true → (n : ℕ) → Knows n false (new_world config units)
 opening_knows config units right n = record {
   going = going_opens 0 config.memory (sized config (length units) right);
   their = λ d s c low busy last. none_issued d s c last;
@@ -618,6 +631,11 @@ opening_knows config units right n = record {
 
     most : config.ports ≤ 15
     most = by_tests (nat_le 1 config.ports) (nat_le config.ports 15) (nat_le 1 config.capacity) (nat_le config.capacity 64) (nat_le 2097152 config.memory) (nat_le config.memory 16777216) (config.memory % 2 == 0) (length units == config.ports) refl right
+
+pub knows_after : (config : Config) (units : List Unit) → is_config config (length units) ≡ true → (n : ℕ) → n < 15 → (steps : List Step) (answers : List Answer) (now : Places)
+    → Run (new_world config units) steps answers now → KnowsNow n now
+knows_after config units right n below steps answers now run =
+    knows_on n below false (new_world config units) steps answers now run (opening_knows config units right n)
 
 -- the orders to clear a port are in order, over every run from a new world
 pub orders_in_order : (config : Config) (units : List Unit) → is_config config (length units) ≡ true → (steps : List Step) (answers : List Answer) (new : Places)

@@ -1,5 +1,5 @@
 -- Which connection the unit at a port is plugged in as, in each step that does not plug it in anew.
-use Rattle.std.proofs.Common.{◌≡◌, ◌≢◌, ◌==◌, ◌⊎◌, eqb, ℕ, Bool, true, false, List, [], ◌∷◌, refl, sym, ap, subst, ◌∙◌, inl, inr}
+use Rattle.std.proofs.Common.{◌≡◌, ◌==◌, ℕ, true, false, List, ◌∷◌, sym, ap, subst, ◌∙◌, inl, inr}
 use Rattle.std.proofs.Common.{Option, Some, None, Ok}
 use Rattle.std.specs.Prelude.{slice_get, slice_set, MatchOption}
 use Rattle.std.proofs.lemmas.Bool.{and_parts, cases_eq, eq-eqb, eqb-true, not-false, true≢false}

@@ -11,6 +11,7 @@ use Rattle.slots.specs.Slots.{match_some}
 use Rattle.hba_fbs.specs.Taking.{port_of}
 use Rattle.disk_model.specs.declared.plan.DiskPlan.{DiskPlan}
 use Rattle.disk_model.specs.declared.unit.Unit.{Unit}
+use Rattle.disk_model.specs.Histories.{Happening}
 use Rattle.disk_model.specs.Chunks.{sectors_at}
 use Rattle.disk_model.specs.Ledger.{medium_with}
 use Rattle.hba_laws.specs.Client.{Touches, own}
@@ -53,12 +54,14 @@ use Rattle.pm_world.proofs.HostFold.{does-append, run_does}
 use Rattle.pm_world.proofs.Risen.{AllRisen, opening_risen, run_rises}
 use Rattle.pm_world.specs.Disks.{DiskRun, IsNewDisk, TookHonestly, disk_history, host_turns}
 use Rattle.pm_world.specs.Ended.{EndsHonestly, ReadsSectors, StandsAt, WritesSectors}
+use Rattle.pm_world.specs.Later.{LaterRun, TookLaterHonestly, all_turns, whole_history}
 use Rattle.pm_world.specs.Polled.{EndedHonestly, HonestPolls, IsPolledHonestly, IsReportedIn, IsStepOf}
 use Rattle.pm_world.specs.Touched.{AreTouched}
 use Rattle.pm_world.proofs.CalmLemmas.{IsFreed}
 use Rattle.pm_world.proofs.ClientLemmas.{bytes_stay, came_next}
 use Rattle.pm_world.proofs.DisksLemmas.{honest_disks}
 use Rattle.pm_world.proofs.FirstLemmas.{ComesRisen, comes_risen}
+use Rattle.pm_world.proofs.LaterLemmas.{later_disks_are_honest}
 use Rattle.pm_world.proofs.ReportedLemmas.{SubmittedIn, TookIn, is_take, renamed, stand_over, submitted_over, way_over}
 use Rattle.pm_world.proofs.TookLemmas.{host_takes}
 use Rattle.pm_world.proofs.TouchedLemmas.{touched_delivers, touched_sound}
@@ -264,71 +267,61 @@ module _ (config : Config) (units : List Unit) (fits : is_config config (length 
     issued = told.issued ∙ ap (λ (e : Entry). Some (rephased Issued e)) (sym entry_is);
   }
 
-  -- ## Where its device is a disk
+  -- ## Where the request ended honestly at the report, the bytes of a read stay up to the poll
 
-  module _ (sectors : ℕ) (plan : DiskPlan) (disk : IsNewDisk units submitted.dev plan sectors) (queued : is_queued submitted.request.work ≡ true)
-      (d : DiskRun config units submitted.dev told.took.at) where
-    at_report : entry_at told.took.at.host.driver.entries c.slot ≡ Some (rephased Issued (new_entry c.ticket.0 submitted.dev submitted.request))
-    at_report = told.issued ∙ ap (λ (e : Entry). Some (rephased Issued e)) (sym entry_is)
+  at_report : entry_at told.took.at.host.driver.entries c.slot ≡ Some (rephased Issued (new_entry c.ticket.0 submitted.dev submitted.request))
+  at_report = told.issued ∙ ap (λ (e : Entry). Some (rephased Issued e)) (sym entry_is)
 
-    below : submitted.dev < 15
-    below = subst (λ (n : ℕ). n < 15) (ap (λ (e : Entry). e.head.dev) (sym submitted.is)) (way.served.bounded.entries c.slot facts.entry here).dev
+  below : submitted.dev < 15
+  below = subst (λ (n : ℕ). n < 15) (ap (λ (e : Entry). e.head.dev) (sym submitted.is)) (way.served.bounded.entries c.slot facts.entry here).dev
 
-    low : c.slot < 30
-    low = in_slots now.host.driver.entries c.slot facts.entry way.served.bounded.slots here
+  low : c.slot < 30
+  low = in_slots now.host.driver.entries c.slot facts.entry way.served.bounded.slots here
 
-    first : TookHonestly config units submitted.dev sectors told.took.at d told.report told.took.next
-    first =
-        honest_disks config units submitted.dev sectors plan fits below disk told.took.at d step.HostTake submitted.dev told.conn told.number told.bytes told.report
-        told.took.next took.rule (eq-eqb submitted.dev submitted.dev refl)
+  tooks : Tooks told.took.at.host told.bytes told.report told.took.next.host
+  tooks = host_takes told.took.at told.took.next told.s told.port told.conn told.number told.bytes told.report told.took.rule
 
-    tooks : Tooks told.took.at.host told.bytes told.report told.took.next.host
-    tooks = host_takes told.took.at told.took.next told.s told.port told.conn told.number told.bytes told.report told.took.rule
+  at_next : entry_at told.took.next.host.driver.entries c.slot ≡ Some (rephased Issued (new_entry c.ticket.0 submitted.dev submitted.request))
+  at_next = ap (λ (x : Driver). entry_at x.entries c.slot) tooks.driver ∙ at_report
 
-    ends : EndsHonestly sectors c.slot (rephased Issued (new_entry c.ticket.0 submitted.dev submitted.request))
-        (disk_history config units submitted.dev told.took.at d) (filled c.slot (own submitted.dev first.touches)) told.took.next.host.memory
-    ends = first.done c.slot (rephased Issued (new_entry c.ticket.0 submitted.dev submitted.request)) low at_report queued told.done
+  abbrev more : List HostTurn
+  more = over turn_of told.took.next told.took.after told.took.later now told.took.went
 
-    abbrev turns : List HostTurn
-    turns = host_turns config units submitted.dev told.took.at d
+  goes_on : DoesAll told.took.next.host (over turn_of told.took.next told.took.after told.took.later now told.took.went) now.host
+  goes_on = run_does told.took.next told.took.after told.took.later now told.took.went
 
-    came : AreTouched config.memory (host_turns config units submitted.dev told.took.at d ++ Took told.bytes told.report ∷ []) told.took.next.host
-        (by_device (port_of told.bytes) (event_taken (shared_by told.took.at.host) told.bytes) ++ first.touches)
-    came = came_next config.memory right turns told.took.at.host first.touches first.touched (Took told.bytes told.report) told.took.next.host tooks
+  polls : DoesAll told.took.next.host (more ++ Polled c ∷ []) new.host
+  polls = does-append told.took.next.host now.host new.host more (Polled c ∷ []) goes_on (new.host, rule.0, refl)
 
-    delivers : TookDelivers told.took.at.host first.touches told.bytes told.report told.took.next.host
-    delivers = touched_delivers config.memory turns told.took.at.host first.touches right first.touched told.bytes told.report told.took.next.host tooks
+  whole : total_of submitted.request.prds.items ≡ 512 * submitted.request.sectors
+  whole = matched submitted.request
+      (is_taken submitted.its.at.host.driver submitted.its.at.host.memory submitted.dev submitted.request submitted.its.rule.0.accepted).matched
 
-    freed : IsFreed submitted.dev c.slot (by_device (port_of told.bytes) (event_taken (shared_by told.took.at.host) told.bytes) ++ first.touches)
+  module _ (sectors : ℕ) (happened : List Happening) (turns : List HostTurn) (touches : Touches)
+      (touched : AreTouched config.memory turns told.took.at.host touches)
+      (ends : EndsHonestly sectors c.slot (rephased Issued (new_entry c.ticket.0 submitted.dev submitted.request)) happened
+      (filled c.slot (own submitted.dev touches)) told.took.next.host.memory) where
+    came : AreTouched config.memory (turns ++ Took told.bytes told.report ∷ []) told.took.next.host
+        (by_device (port_of told.bytes) (event_taken (shared_by told.took.at.host) told.bytes) ++ touches)
+    came = came_next config.memory right turns told.took.at.host touches touched (Took told.bytes told.report) told.took.next.host tooks
+
+    delivers : TookDelivers told.took.at.host touches told.bytes told.report told.took.next.host
+    delivers = touched_delivers config.memory turns told.took.at.host touches right touched told.bytes told.report told.took.next.host tooks
+
+    freed : IsFreed submitted.dev c.slot (by_device (port_of told.bytes) (event_taken (shared_by told.took.at.host) told.bytes) ++ touches)
     freed =
-        let now_so : completes_now c.slot (shared_by told.took.at.host) told.bytes (own (port_of told.bytes) first.touches) ≡ true =
+        let now_so : completes_now c.slot (shared_by told.took.at.host) told.bytes (own (port_of told.bytes) touches) ≡ true =
         sym (delivers.reported.done c.slot (omega (arith, low))) ∙ told.done in
-        subst (λ (n : ℕ). IsFreed n c.slot (by_device (port_of told.bytes) (event_taken (shared_by told.took.at.host) told.bytes) ++ first.touches)) from_dev
-        (event_frees (port_of told.bytes) c.slot (event_taken (shared_by told.took.at.host) told.bytes) first.touches now_so)
-
-    at_next : entry_at told.took.next.host.driver.entries c.slot ≡ Some (rephased Issued (new_entry c.ticket.0 submitted.dev submitted.request))
-    at_next = ap (λ (x : Driver). entry_at x.entries c.slot) tooks.driver ∙ at_report
+        subst (λ (n : ℕ). IsFreed n c.slot (by_device (port_of told.bytes) (event_taken (shared_by told.took.at.host) told.bytes) ++ touches)) from_dev
+        (event_frees (port_of told.bytes) c.slot (event_taken (shared_by told.took.at.host) told.bytes) touches now_so)
 
     sound_next : IsSoundHost told.took.next.host
     sound_next = touched_sound config.memory (turns ++ Took told.bytes told.report ∷ []) told.took.next.host
-        (by_device (port_of told.bytes) (event_taken (shared_by told.took.at.host) told.bytes) ++ first.touches) right came
-
-    abbrev more : List HostTurn
-    more = over turn_of told.took.next told.took.after told.took.later now told.took.went
-
-    goes_on : DoesAll told.took.next.host (over turn_of told.took.next told.took.after told.took.later now told.took.went) now.host
-    goes_on = run_does told.took.next told.took.after told.took.later now told.took.went
-
-    polls : DoesAll told.took.next.host (more ++ Polled c ∷ []) new.host
-    polls = does-append told.took.next.host now.host new.host more (Polled c ∷ []) goes_on (new.host, rule.0, refl)
+        (by_device (port_of told.bytes) (event_taken (shared_by told.took.at.host) told.bytes) ++ touches) right came
 
     ungiven : list_any (gives c.slot (rephased Issued (new_entry c.ticket.0 submitted.dev submitted.request))) more ≡ false
     ungiven = not_given more c c.slot (rephased Issued (new_entry c.ticket.0 submitted.dev submitted.request)) refl
         (each_run_keeps told.took.next.host (more ++ Polled c ∷ []) new.host polls sound_next.requests).polled
-
-    whole : total_of submitted.request.prds.items ≡ 512 * submitted.request.sectors
-    whole = matched submitted.request
-        (is_taken submitted.its.at.host.driver submitted.its.at.host.memory submitted.dev submitted.request submitted.its.rule.0.accepted).matched
 
     moved : submitted.request.work ≡ Read → (bytes : List ℕ) (i : ℕ) → i < 512 * submitted.request.sectors
         → StandsAt bytes submitted.request.prds.items told.took.next.host.memory i → StandsAt bytes submitted.request.prds.items now.host.memory i
@@ -337,7 +330,7 @@ module _ (config : Config) (units : List Unit) (fits : is_config config (length 
         let stays : slice_index now.host.memory.client (place submitted.request.prds.items i - client_start)
         ≡ slice_index told.took.next.host.memory.client (place submitted.request.prds.items i - client_start) =
         bytes_stay config.memory right more (turns ++ Took told.bytes told.report ∷ []) told.took.next.host now.host
-        (by_device (port_of told.bytes) (event_taken (shared_by told.took.at.host) told.bytes) ++ first.touches) came goes_on c.slot
+        (by_device (port_of told.bytes) (event_taken (shared_by told.took.at.host) told.bytes) ++ touches) came goes_on c.slot
         (rephased Issued (new_entry c.ticket.0 submitted.dev submitted.request)) at_next (ap is_read reads) refl freed ungiven i
         (subst (λ (k : ℕ). i < k) (sym whole) less) p.inside in
         record {
@@ -345,11 +338,11 @@ module _ (config : Config) (units : List Unit) (fits : is_config config (length 
           is = p.is ∙ ap Some (sym stays);
         }
 
-    read_ends : submitted.request.work ≡ Read → ReadsSectors sectors c.slot (new_entry c.ticket.0 submitted.dev submitted.request)
-        (disk_history config units submitted.dev told.took.at d) now.host.memory
+    read_ends : submitted.request.work ≡ Read
+        → ReadsSectors sectors c.slot (new_entry c.ticket.0 submitted.dev submitted.request) happened now.host.memory
     read_ends reads =
-        let r : ReadsSectors sectors c.slot (rephased Issued (new_entry c.ticket.0 submitted.dev submitted.request))
-        (disk_history config units submitted.dev told.took.at d) told.took.next.host.memory = ends.reads reads in
+        let r : ReadsSectors sectors c.slot (rephased Issued (new_entry c.ticket.0 submitted.dev submitted.request)) happened told.took.next.host.memory =
+        ends.reads reads in
         record {
           at = r.at;
           read = r.read;
@@ -359,18 +352,40 @@ module _ (config : Config) (units : List Unit) (fits : is_config config (length 
               moved reads (sectors_at (medium_with sectors r.read.before) submitted.request.lba submitted.request.sectors) i less (r.brought i less);
         }
 
-    write_ends : submitted.request.work ≡ Write → WritesSectors c.slot (new_entry c.ticket.0 submitted.dev submitted.request)
-        (disk_history config units submitted.dev told.took.at d) (filled c.slot (own submitted.dev first.touches))
+    write_ends : submitted.request.work ≡ Write
+        → WritesSectors c.slot (new_entry c.ticket.0 submitted.dev submitted.request) happened (filled c.slot (own submitted.dev touches))
     write_ends writes =
-        let w : WritesSectors c.slot (rephased Issued (new_entry c.ticket.0 submitted.dev submitted.request))
-        (disk_history config units submitted.dev told.took.at d) (filled c.slot (own submitted.dev first.touches)) = ends.writes writes in
+        let w : WritesSectors c.slot (rephased Issued (new_entry c.ticket.0 submitted.dev submitted.request)) happened (filled c.slot (own submitted.dev touches)) =
+        ends.writes writes in
         record { at = w.at; written = w.written; entered = w.entered; tag = w.tag; place = w.place; long = w.long; bytes = w.bytes }
 
-    ended_honestly : EndedHonestly config units submitted.dev sectors c.slot c.ticket submitted.request told.took.at d now
-    ended_honestly = record { touches = first.touches; touched = first.touched; ends = record { reads = read_ends; writes = write_ends } }
+    stay_honest : EndedHonestly config submitted.dev sectors c.slot c.ticket submitted.request happened turns told.took.at now
+    stay_honest = record { touches = touches; touched = touched; ends = record { reads = read_ends; writes = write_ends } }
+
+  -- ## Where its device is a disk
+
+  module _ (sectors : ℕ) (plan : DiskPlan) (disk : IsNewDisk units submitted.dev plan sectors) (queued : is_queued submitted.request.work ≡ true) where
+    ended_honestly : (d : DiskRun config units submitted.dev told.took.at) → EndedHonestly config submitted.dev sectors c.slot c.ticket submitted.request
+        (disk_history config units submitted.dev told.took.at d) (host_turns config units submitted.dev told.took.at d) told.took.at now
+    ended_honestly d =
+        let first : TookHonestly config units submitted.dev sectors told.took.at d told.report told.took.next =
+        honest_disks config units submitted.dev sectors plan fits below disk told.took.at d step.HostTake submitted.dev told.conn told.number told.bytes
+        told.report told.took.next took.rule (eq-eqb submitted.dev submitted.dev refl) in
+        stay_honest sectors (disk_history config units submitted.dev told.took.at d) (host_turns config units submitted.dev told.took.at d) first.touches
+        first.touched (first.done c.slot (rephased Issued (new_entry c.ticket.0 submitted.dev submitted.request)) low at_report queued told.done)
+
+    -- and since it was plugged in
+    ended_later : (d : LaterRun config units submitted.dev told.took.at) → told.conn ≡ d.conn → EndedHonestly config submitted.dev sectors c.slot c.ticket submitted.request
+        (whole_history config units submitted.dev told.took.at d) (all_turns config units submitted.dev told.took.at d) told.took.at now
+    ended_later d same =
+        let later : TookLaterHonestly config units submitted.dev sectors told.took.at d told.report told.took.next =
+        later_disks_are_honest config units submitted.dev sectors plan fits below disk told.took.at d step.HostTake submitted.dev told.conn told.number
+        told.bytes told.report told.took.next took.rule (eq-eqb submitted.dev submitted.dev refl) same in
+        stay_honest sectors (whole_history config units submitted.dev told.took.at d) (all_turns config units submitted.dev told.took.at d) later.touches
+        later.touched (later.done c.slot (rephased Issued (new_entry c.ticket.0 submitted.dev submitted.request)) low at_report queued told.done)
 
   pub polled_honestly : IsPolledHonestly config units now steps answers run c
-  polled_honestly = record { reported = reported; honest = ended_honestly }
+  polled_honestly = record { reported = reported; honest = ended_honestly; later = ended_later }
 
 pub honest_polls : HonestPolls
 honest_polls config units fits steps answers now run c new rule done = polled_honestly config units fits steps answers now run c new rule done

@@ -125,9 +125,9 @@ fit_same m new ports bank fit = record {
   fits = λ n. subst (λ (l : List PortRegisters). Fits (get_or l n opening_port)) (sym bank) (fit.fits n);
 }
 
--- a write to PSCR[1] is of N and X, which it clears
+-- a write to PSCR[1] is of N and X, which it clears, and one to PSCR[2] is of 0, which opens the port
 abbrev pub WritesChanges : Option Request → Type 0
-WritesChanges (Some (Write at value)) = at.register ≡ 1 → value ≡ changes
+WritesChanges (Some (Write at value)) = (at.register ≡ 1 → value ≡ changes) × (at.register ≡ 2 → value ≡ 0)
 WritesChanges request = Prim.Unit {0}
 
 write_fit : (m : RegisterMap) (port register value : ℕ) → (register ≡ 1 → value ≡ changes) → AreFit m → AreFit (after_write m port register value)
@@ -144,7 +144,7 @@ write_fit m port register value both fit =
 pub request_fit : (m : RegisterMap) (request : Option Request) → WritesChanges request → AreFit m → AreFit (registers_after_request m request)
 request_fit m None plain fit = fit
 request_fit m (Some (Read at)) plain fit = fit
-request_fit m (Some (Write at value)) plain fit = write_fit m at.port at.register value plain fit
+request_fit m (Some (Write at value)) plain fit = write_fit m at.port at.register value plain.0 fit
 request_fit m (Some Unknown) plain fit = fit
 request_fit m (Some Reset) plain fit = fit
 request_fit m (Some EndReset) plain fit = fit

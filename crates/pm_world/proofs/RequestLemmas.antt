@@ -117,19 +117,19 @@ module _ (fields : H2dFields) (bytes : List ℕ) (built : IsBuilt H2d (h2d_given
   order_asks Watch are = absurd (cc)
   order_asks NoMultiplier are = absurd (cc)
 
--- ## Which of them write PSCR[1]
+-- ## Which of them write PSCR[1] and PSCR[2]
 
--- it is only written to clear N and X
+-- the one is only written to clear N and X, the other to open the port
 pub order_changes : (o : Order) → WritesChanges (asked o)
 order_changes ResetOn = tt
 order_changes ResetOff = tt
 order_changes AwaitSignature = tt
 order_changes CountPorts = tt
-order_changes SetMask = λ e. absurd (omega (arith, e))
-order_changes Enable = λ e. absurd (omega (arith, e))
-order_changes (Open port) = λ e. absurd (omega (arith, e))
+order_changes SetMask = (λ e. absurd (omega (arith, e)), λ e. absurd (omega (arith, e)))
+order_changes Enable = (λ e. absurd (omega (arith, e)), λ e. absurd (omega (arith, e)))
+order_changes (Open port) = (λ e. absurd (omega (arith, e)), λ e. refl)
 order_changes Scan = tt
-order_changes (Clear port) = λ e. refl
+order_changes (Clear port) = (λ e. refl, λ e. absurd (omega (arith, e)))
 order_changes (Detect port) = tt
 order_changes Watch = tt
 order_changes NoMultiplier = tt

@@ -10,8 +10,8 @@ use Rattle.multiplier.specs.State.{PmState}
 use Rattle.disk_model.specs.Ends.{begins, reports}
 use Rattle.disk_model.specs.Histories.{Happening, Plugged, Received, Sent}
 use Rattle.pm_world.specs.Units.{happens}
-use Rattle.pm_world.specs.Places.{Place, Places, after_sending, with_device, with_multiplier}
-use Rattle.pm_world.specs.Rules.{CameActs, CameRule, DiskSendActs, DiskSendRule, DiskTakeActs, DiskTakeRule, GoneActs, GoneRule, InjectActs}
+use Rattle.pm_world.specs.Places.{Place, Places, with_device, with_multiplier}
+use Rattle.pm_world.specs.Rules.{CameActs, CameRule, DiskSendActs, DiskSendRule, DiskTakeRule, GoneActs, GoneRule, InjectActs}
 use Rattle.pm_world.specs.Rules.{InjectRule, PmDownRule, PmFromDeviceRule, PmPresenceRule, Rule, came_refusal, largest}
 use Rattle.pm_world.specs.Runs.{over}
 use Rattle.pm_world.specs.declared.step.Step.{Step}
@@ -223,7 +223,7 @@ taking n old new port step.Poll rule = absurd rule.0
 taking n old new port (step.Put at bytes) rule = absurd rule.0
 
 -- the unit that is not unplugged does not go
-going : (n : ℕ) (old new : Places) (port conn : ℕ) (s : Step) → unplugs n s ≡ false → Rule old s (Ok (answer.Gone port conn)) new → eqb port n ≡ false
+pub going : (n : ℕ) (old new : Places) (port conn : ℕ) (s : Step) → unplugs n s ≡ false → Rule old s (Ok (answer.Gone port conn)) new → eqb port n ≡ false
 going n old new port conn (step.Gone m) stays rule =
     let d : AtDevice old m (Ok (answer.Gone port conn)) new (GoneRule m) = at_device old m (answer.Gone port conn) new (GoneRule m) rule in
     let acts : GoneActs m d.place (answer.Gone port conn) d.after = d.rule.1 in

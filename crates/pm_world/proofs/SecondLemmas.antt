@@ -6,7 +6,6 @@ use Rattle.std.specs.List.{flat_map, list_any}
 use Rattle.std.proofs.lemmas.Bool.{eqb-true, or_parts}
 use Rattle.std.proofs.lemmas.List.{append-nil}
 use Rattle.fis_view.specs.Frames.{IsFrame, Stamped, marked}
-use Rattle.fis_view.specs.Seen.{seen}
 use Rattle.host_memory.specs.Memory.{is_memory_size}
 use Rattle.hba_fbs.specs.declared.report.TakeReport.{TakeReport}
 use Rattle.hba_fbs.specs.Taking.{port_of}
@@ -36,7 +35,8 @@ use Rattle.pm_world.specs.declared.step.Answer.{Answer}
 use Rattle.pm_world.specs.declared.step.Answer.TheVariants as answer
 use Rattle.pm_world.proofs.Orderly.{orderly_after}
 use Rattle.pm_world.proofs.Risen.{AllRisen}
-use Rattle.pm_world.specs.Going.{AtEach, GoesWell, IsLeftAlone}
+use Rattle.pm_world.specs.Going.{AtEach, IsLeftAlone}
+use Rattle.pm_world.proofs.Goings.{GoesWell}
 use Rattle.pm_world.specs.Honest.{IsReportedWell}
 use Rattle.pm_world.specs.Wired.{AreFine, GoesOn, IsAtHost, IsAtHostOver, IsNext, IsThere, IsWired, for_port, injects, unplugs}
 use Rattle.pm_world.proofs.FirstLemmas.{ComesRisen, comes_risen, elsewhere}

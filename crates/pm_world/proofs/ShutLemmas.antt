@@ -1,9 +1,8 @@
 -- From the plugging of a unit on, while nothing of its connection passes its port: what it sends waits there, and it takes nothing.
-use Rattle.std.proofs.Common.{◌≡◌, ◌≢◌, ◌==◌, ◌&&◌, ℕ, ◌+◌, ◌<◌, Bool, true, false, List, [], ◌∷◌, ◌++◌, append_assoc, map, refl, sym, ap, subst, ◌∙◌, inl, inr}
+use Rattle.std.proofs.Common.{◌≡◌, ◌≢◌, ◌==◌, ◌&&◌, ℕ, ◌<◌, Bool, true, false, List, [], ◌∷◌, ◌++◌, map, refl, sym, ap, subst, ◌∙◌, inl, inr}
 use Rattle.std.proofs.Common.{Option, Some, None, Ok, arith}
 use Rattle.std.specs.Prelude.{if◌then◌else◌, slice_get, take, MatchOption}
-use Rattle.std.specs.List.{list_any}
-use Rattle.std.proofs.lemmas.Bool.{cases_eq, eq-eqb, eqb-true, ne_eqb, or_parts, true≢false}
+use Rattle.std.proofs.lemmas.Bool.{cases_eq, eq-eqb, eqb-true, ne_eqb, true≢false}
 use Rattle.std.proofs.lemmas.Option.{same_Some}
 use Rattle.std.proofs.lemmas.List.{append-nil}
 use Rattle.fis_view.specs.Frames.{Stamped}
@@ -17,8 +16,7 @@ use Rattle.pm_world.specs.Cleared.{is_cleared}
 use Rattle.pm_world.specs.Downward.{falling_to, on_down_link}
 use Rattle.pm_world.specs.Units.{happens}
 use Rattle.pm_world.specs.Places.{IsOrderly, Place, Places}
-use Rattle.pm_world.specs.Rules.{Rule, Run}
-use Rattle.pm_world.specs.Runs.{over}
+use Rattle.pm_world.specs.Rules.{Rule}
 use Rattle.pm_world.specs.Traffic.{all_marked, is_removed, sent_by, taken_by, transit}
 use Rattle.pm_world.specs.declared.step.Step.{Step}
 use Rattle.pm_world.specs.declared.step.Answer.{Answer}
@@ -34,14 +32,12 @@ use Rattle.pm_world.proofs.DownLemmas.{DownChange, Gone, Put, Quiet, down_change
 use Rattle.pm_world.proofs.EachLemmas.{Each, each_more}
 use Rattle.pm_world.proofs.KeepingLemmas.{IsTrue, passes_open, true_after}
 use Rattle.pm_world.proofs.UpLemmas.{Left, Rose, Same, UpChange, up_change}
-use Rattle.pm_world.specs.Going.{AtEach, IsLeftAlone}
 use Rattle.pm_world.specs.Wired.{AreFine, IsOnly, IsSteady, IsThere, IsUnremoved, befalls, injects, unplugs}
 use Rattle.pm_world.proofs.FirstLemmas.{comes_risen}
 use Rattle.pm_world.proofs.KeptLemmas.{steady_unremoved, unremoved}
 use Rattle.pm_world.proofs.PlaceLemmas.{takes_own}
-use Rattle.pm_world.proofs.RunLemmas.{IsKnown, IsPlugged, fine_front, if_none, if_some, known, there_after}
+use Rattle.pm_world.proofs.RunLemmas.{IsKnown, IsPlugged, if_none, if_some, known, there_after}
 use Rattle.pm_world.proofs.WiredLemmas.{and_both, and_false, if_false, if_true, one_step, still_above}
-use Rattle.pm_world.specs.Later.{IsKeptShut}
 
 -- ## What is kept
 
@@ -230,7 +226,7 @@ module _ (n c : ℕ) (below : n < 15) (old : Places) (s : Step) (a : Answer) (ne
 -- ## The port goes on waiting
 
 pub waits_after : (n c : ℕ) → n < 15 → (old : Places) (s : Step) (a : Answer) (new : Places) → Rule old s (Ok a) new → IsTrue n old.multiplier
-    → IsKeptShut n c old a → WaitsFor n c old → WaitsFor n c new
+    → ((port_at old.multiplier n).present ≡ Some c → is_cleared n old a ≡ false) → WaitsFor n c old → WaitsFor n c new
 waits_after n c below old s a new rule is none waits now = by_was (port_at old.multiplier n).present refl
   where
     goes : PortGoes n (is_cleared n old a) old.multiplier new.multiplier
@@ -244,28 +240,3 @@ waits_after n c below old s a new rule is none waits now = by_was (port_at old.m
           goes.waits (none there) (waits there)
       | inr other ↦ goes.comes c (λ e. other (same_Some d c (sym was ∙ e))) now is.room below
     ]
-
--- ## A run in which the port is not cleared for it
-
-pub record StaysShut (n c : ℕ) (new : Places) (happened : List Happening) : Type 0 where
-  pub shut : IsShut n c new happened
-  pub waits : WaitsFor n c new
-
-pub run_shut : (n c : ℕ) → n < 15 → (old : Places) (steps : List Step) (answers : List Answer) (new : Places) (run : Run old steps answers new)
-    (happened : List Happening) → IsShut n c old happened → WaitsFor n c old → IsLeftAlone n steps
-    → AtEach (IsKeptShut n c) old steps answers new run → AreFine (over (happens n) old steps answers new run)
-    → StaysShut n c new (happened ++ over (happens n) old steps answers new run)
-run_shut n c below old [] [] new run happened h waits alone none fine =
-    subst (λ (w : Places). StaysShut n c w (happened ++ [])) (sym run)
-    (subst (λ (xs : List Happening). StaysShut n c old xs) (sym (append-nil happened)) (record { shut = h; waits = waits }))
-run_shut n c below old [] (a ∷ answers) new run happened h waits alone none fine = absurd run
-run_shut n c below old (s ∷ steps) [] new run happened h waits alone none fine = absurd run
-run_shut n c below old (s ∷ steps) (a ∷ answers) new run happened h waits alone none fine =
-    let i = or_parts (injects n s) (list_any (injects n) steps) alone.clean in
-    let p = or_parts (unplugs n s) (list_any (unplugs n) steps) alone.stays in
-    let f = fine_front (happens n old s a run.0) (over (happens n) run.0 steps answers new run.2) fine in
-    subst (λ (xs : List Happening). StaysShut n c new xs)
-    (append_assoc happened (happens n old s a run.0) (over (happens n) run.0 steps answers new run.2))
-    (run_shut n c below run.0 steps answers new run.2 (happened ++ happens n old s a run.0)
-    (shut_after n c below old s a run.0 run.1 happened h waits i.0 p.0 f.0) (waits_after n c below old s a run.0 run.1 h.true_is none.0 waits)
-    (record { clean = i.1; stays = p.1 }) none.1 f.1)

@@ -3,7 +3,7 @@
 -- of a device on a port).
 --
 -- Cited: runs and places of a world (specs/Rules.antt, Places.antt), what is on its way of
--- a connection, and when its removal is recorded (specs/Traffic.antt there).
+-- a connection, and when its removal is recorded (specs/Traffic.antt).
 use Rattle.std.specs.Prelude.{ℕ, ◌≡◌, ◌<◌, ◌⊎◌, true, false, List, [], length, Some, slice_get}
 use Rattle.disk_model.specs.declared.unit.Unit.{Unit}
 use Rattle.multiplier.specs.State.{port_at}

@@ -4,13 +4,12 @@
 -- AHCI 1.3.1, 5.3).
 --
 -- Cited: runs and what is told over them (specs/Rules.antt, Runs.antt), the history of
--- a unit (`happens`, specs/Laws.antt there) and the turns of the host (specs/Turns.antt there);
--- that a unit is there and reports no error (IsThere, AreFine, specs/Wired.antt); runs in which
+-- a unit (`happens`, specs/Units.antt) and the turns of the host (specs/Turns.antt);
+-- that a unit reports no error (AreFine, specs/Wired.antt); runs in which
 -- nothing goes wrong (specs/Going.antt), touches (specs/Touched.antt), and requests that ended
 -- honestly (specs/Ended.antt).
-use Rattle.std.specs.Prelude.{ℕ, ◌≡◌, ◌<◌, ◌==◌, ◌++◌, true, false, List, [], length}
+use Rattle.std.specs.Prelude.{ℕ, ◌≡◌, ◌<◌, ◌==◌, true, List, [], length}
 use Rattle.std.specs.Prelude.{slice_get, Some, Ok}
-use Rattle.std.specs.List.{list_any}
 use Rattle.slots.specs.Slots.{has_bit}
 use Rattle.hba_fbs.specs.declared.report.TakeReport.{TakeReport}
 use Rattle.disk_model.specs.declared.plan.DiskPlan.{DiskPlan}
@@ -35,9 +34,9 @@ use Rattle.pm_world.specs.declared.step.Step.{Step}
 use Rattle.pm_world.specs.declared.step.Answer.{Answer}
 use Rattle.pm_world.specs.declared.step.Answer.TheVariants as answer
 use Rattle.pm_world.specs.Ended.{EndsHonestly}
-use Rattle.pm_world.specs.Going.{AtEach, GoesFine, IsLeftAlone, OpensFine, is_taken_of}
+use Rattle.pm_world.specs.Going.{AtEach, HearsFine, IsLeftAlone}
 use Rattle.pm_world.specs.Touched.{AreTouched}
-use Rattle.pm_world.specs.Wired.{AreFine, IsThere}
+use Rattle.pm_world.specs.Wired.{AreFine}
 
 -- ---- the disk and its run
 
@@ -50,39 +49,26 @@ pub record IsNewDisk (units : List Unit) (n : ℕ) (plan : DiskPlan) (sectors : 
   pub sectors_are : disk.sectors ≡ sectors
   pub size : IsSize plan sectors
 
--- A world came here from a new one. The disk at port n was left alone and reported no error. Up to
--- some moment after it was plugged in the host took nothing of it; from then on the host heard all
--- that came from it with nothing wrong, and did not flush it. All the time no fault of the disk was
--- cleared. Of the port and of the other devices nothing is asked.
+-- A world came here from a new one. The disk at port n was left alone and reported no error; and the
+-- host heard all that it took of it with nothing wrong. Of the driver, of the port and of the other
+-- devices nothing is asked.
 pub record DiskRun (config : Config) (units : List Unit) (n : ℕ) (now : Places) : Type 0 where
-  pub first : List Step
-  pub told : List Answer
-  pub mid : Places
-  pub made : Run (new_world config units) first told mid
-  pub alone : IsLeftAlone n first
-  pub untaken : list_any (is_taken_of n) told ≡ false
-  pub opened : AtEach (OpensFine n) (new_world config units) first told mid made
-  pub conn : ℕ
-  pub there : IsThere n conn mid
-  pub second : List Step
+  pub steps : List Step
   pub answers : List Answer
-  pub run : Run mid second answers now
-  pub left : IsLeftAlone n second
-  pub well : AtEach (GoesFine n) mid second answers now run
-  pub fine : AreFine (over (happens n) (new_world config units) first told mid made
-      ++ over (happens n) mid second answers now run)
+  pub run : Run (new_world config units) steps answers now
+  pub left : IsLeftAlone n steps
+  pub well : AtEach (HearsFine n) (new_world config units) steps answers now run
+  pub fine : AreFine (over (happens n) (new_world config units) steps answers now run)
 
 module _ (config : Config) (units : List Unit) (n : ℕ) (now : Places)
     (d : DiskRun config units n now) where
   -- what happened to the disk since the world was made
   abbrev pub disk_history : List Happening
-  disk_history = over (happens n) (new_world config units) d.first d.told d.mid d.made
-      ++ over (happens n) d.mid d.second d.answers now d.run
+  disk_history = over (happens n) (new_world config units) d.steps d.answers now d.run
 
   -- the turns of the host since then
   abbrev pub host_turns : List HostTurn
-  host_turns = over turn_of (new_world config units) d.first d.told d.mid d.made
-      ++ over turn_of d.mid d.second d.answers now d.run
+  host_turns = over turn_of (new_world config units) d.steps d.answers now d.run
 
 -- ---- the law
 

@@ -1,15 +1,17 @@
--- Honest disks on a later connection of a port: what a read that is done brought, and what a write
--- that is done left on the medium, after the disk was plugged in again and the host flushed it
+-- Honest disks on every connection of a port: what a read that is done brought, and what a write
+-- that is done left on the medium, since the disk was plugged in, for the first time or again
 -- (Serial ATA 3.x, 16.3, port multiplier: presence of a device on a port; 16.4.2: PSCR[1], bit X, a
 -- device was exchanged; 13.6, native command queuing; ACS-3, READ FPDMA QUEUED and WRITE FPDMA
 -- QUEUED; AHCI 1.3.1, 5.3 and chapter 9).
 --
--- Cited: runs and what is told over them (specs/Rules.antt, Runs.antt, Turns.antt,
--- Laws.antt), the FIS that clears a port (specs/Cleared.antt there), removals (specs/Traffic.antt
--- there); new disks, touches, and requests that ended honestly (specs/Disks.antt,
--- Touched.antt, Ended.antt); the orders that clear a port, and a port that waits for one
--- (specs/Stale.antt); runs in which nothing goes wrong with the disk (`world_ends`,
--- specs/Going.antt).
+-- That the host flushed the disk before any FIS of the connection passed its port, and does not flush
+-- it again while it stays, is no premise: it follows from what is said of orders (specs/Stale.antt)
+-- and of what passes a port that is to be cleared (specs/Cleared.antt).
+--
+-- Cited: runs and what is told over them (specs/Rules.antt, Runs.antt, Turns.antt, Laws.antt); new
+-- disks, touches, and requests that ended honestly (specs/Disks.antt, Touched.antt, Ended.antt); a
+-- port that waits for an order that clears it (specs/Stale.antt); runs in which nothing goes wrong
+-- with the disk (specs/Going.antt).
 use Rattle.std.specs.Prelude.{ℕ, ◌≡◌, ◌<◌, ◌==◌, ◌++◌, true, false, List, ◌∷◌, length}
 use Rattle.std.specs.Prelude.{Some, Ok}
 use Rattle.std.specs.List.{list_any}
@@ -18,19 +20,16 @@ use Rattle.hba_fbs.specs.declared.report.TakeReport.{TakeReport}
 use Rattle.disk_model.specs.declared.plan.DiskPlan.{DiskPlan}
 use Rattle.disk_model.specs.declared.unit.Unit.{Unit}
 use Rattle.disk_model.specs.Histories.{Happening}
-use Rattle.multiplier.specs.State.{port_at}
 use Rattle.hba_laws.specs.Client.{Touches, own}
 use Rattle.hba_laws.specs.History.{filled}
 use Rattle.hba_driver.specs.Drivers.{Entry, entry_at}
 use Rattle.hba_driver.specs.HostTurns.{HostTurn}
 use Rattle.hba_driver.specs.Orders.{is_queued}
 use Rattle.hba_driver.specs.Steady.{IsFlushTick}
-use Rattle.pm_world.specs.Cleared.{is_cleared}
 use Rattle.pm_world.specs.Units.{happens}
 use Rattle.pm_world.specs.Places.{Places, is_config, new_world}
 use Rattle.pm_world.specs.Rules.{Rule, Run}
 use Rattle.pm_world.specs.Runs.{over}
-use Rattle.pm_world.specs.Traffic.{is_removed}
 use Rattle.pm_world.specs.Turns.{turn_of}
 use Rattle.pm_world.specs.declared.step.Config.{Config}
 use Rattle.pm_world.specs.declared.step.Step.{Step}
@@ -40,16 +39,11 @@ use Rattle.pm_world.specs.declared.step.Answer.TheVariants as answer
 use Rattle.pm_world.specs.Stale.{Waits, is_from}
 use Rattle.pm_world.specs.Disks.{IsNewDisk}
 use Rattle.pm_world.specs.Ended.{EndsHonestly}
-use Rattle.pm_world.specs.Going.{AtEach, GoesFine, IsLeftAlone}
+use Rattle.pm_world.specs.Going.{AtEach, HearsOn, IsLeftAlone}
 use Rattle.pm_world.specs.Touched.{AreTouched}
 use Rattle.pm_world.specs.Wired.{AreFine}
 
 -- ---- the port
-
--- while connection c is recorded at port n, the host does not clear the port
-abbrev pub IsKeptShut : (n c : ℕ) → Places → Answer → Type 0
-IsKeptShut n c old a =
-    (port_at old.multiplier n).present ≡ Some c → is_cleared n old a ≡ false
 
 -- no FIS of port n is on the host's link, and the port passes none until it is cleared
 pub record IsAtRest (n : ℕ) (now : Places) : Type 0 where
@@ -58,50 +52,35 @@ pub record IsAtRest (n : ℕ) (now : Places) : Type 0 where
 
 -- ---- the disk's run
 
--- A world came from a new one by any run; then the disk at port n was plugged in. From there on it
--- was left alone and reported no error. Up to the tick by which the driver flushed it and ordered
--- that its port be cleared, the port was not cleared for this connection, and by then the removals
--- of all connections before were recorded, as they are where this one is (specs/Connections.antt).
--- From that tick on the host heard all that came from the port with nothing wrong, did not flush
--- the disk again and cleared no fault of it.
+-- A world came from a new one by any run; then the disk at port n was plugged in, as connection conn.
+-- From there on it was left alone and reported no error; and the host heard all that it took of this
+-- connection with nothing wrong. Of what was before, of the driver, of the port and of the other
+-- devices nothing is asked.
 pub record LaterRun (config : Config) (units : List Unit) (n : ℕ) (now : Places) : Type 0 where
   pub first : List Step
   pub told : List Answer
   pub out : Places
   pub made : Run (new_world config units) first told out
   pub conn : ℕ
-  pub second : List Step
-  pub said : List Answer
-  pub mid : Places
-  pub plugged : Run out (step.Came n ∷ second) (answer.Came n conn ∷ said) mid
-  pub alone : IsLeftAlone n second
-  pub shut : AtEach (IsKeptShut n conn) plugged.0 second said mid plugged.2
-  pub removed : (d : ℕ) → 0 < d → d < conn → is_removed n d mid ≡ true
-  pub flush : IsFlushTick n mid.host
-  pub third : List Step
+  pub steps : List Step
   pub answers : List Answer
-  pub run : Run mid (step.Tick ∷ third) (answer.Ticked ∷ answers) now
-  pub left : IsLeftAlone n third
-  pub well : AtEach (GoesFine n) run.0 third answers now run.2
-  pub fine : AreFine (over (happens n) out (step.Came n ∷ second) (answer.Came n conn ∷ said) mid
-      plugged
-      ++ over (happens n) mid (step.Tick ∷ third) (answer.Ticked ∷ answers) now run)
+  pub run : Run out (step.Came n ∷ steps) (answer.Came n conn ∷ answers) now
+  pub left : IsLeftAlone n steps
+  pub well : AtEach (HearsOn n conn) run.0 steps answers now run.2
+  pub fine : AreFine (over (happens n) out (step.Came n ∷ steps) (answer.Came n conn ∷ answers) now
+      run)
 
 module _ (config : Config) (units : List Unit) (n : ℕ) (now : Places)
     (d : LaterRun config units n now) where
   -- what happened to the disk since the world was made, on all its connections
   abbrev pub whole_history : List Happening
   whole_history = over (happens n) (new_world config units) d.first d.told d.out d.made
-      ++ (over (happens n) d.out (step.Came n ∷ d.second) (answer.Came n d.conn ∷ d.said) d.mid
-      d.plugged
-      ++ over (happens n) d.mid (step.Tick ∷ d.third) (answer.Ticked ∷ d.answers) now d.run)
+      ++ over (happens n) d.out (step.Came n ∷ d.steps) (answer.Came n d.conn ∷ d.answers) now d.run
 
   -- the turns of the host since then
   abbrev pub all_turns : List HostTurn
   all_turns = over turn_of (new_world config units) d.first d.told d.out d.made
-      ++ (over turn_of d.out (step.Came n ∷ d.second) (answer.Came n d.conn ∷ d.said) d.mid
-      d.plugged
-      ++ over turn_of d.mid (step.Tick ∷ d.third) (answer.Ticked ∷ d.answers) now d.run)
+      ++ over turn_of d.out (step.Came n ∷ d.steps) (answer.Came n d.conn ∷ d.answers) now d.run
 
 -- ---- the law
 
@@ -116,7 +95,7 @@ pub record TookLaterHonestly (config : Config) (units : List Unit) (n sectors : 
       → EndsHonestly sectors s e (whole_history config units n now d) (filled s (own n touches))
       new.host.memory
 
--- At each FIS that the host takes of the disk, whatever the other devices do.
+-- At each FIS of this connection that the host takes, whatever the other devices do.
 abbrev pub LaterDisksAreHonest : Type 0
 LaterDisksAreHonest =
     (config : Config) (units : List Unit) (n sectors : ℕ) (plan : DiskPlan)
@@ -124,7 +103,7 @@ LaterDisksAreHonest =
     → (now : Places) (d : LaterRun config units n now)
     → (s : Step) (port conn number : ℕ) (bytes : List ℕ) (report : TakeReport) (new : Places)
     → Rule now s (Ok (answer.Took port conn number bytes report)) new → (port == n) ≡ true
-    → TookLaterHonestly config units n sectors now d report new
+    → conn ≡ d.conn → TookLaterHonestly config units n sectors now d report new
 
 -- ---- what the host finds as it flushes a disk
 

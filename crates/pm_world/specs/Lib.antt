@@ -24,9 +24,9 @@ pub mod Touched
 pub mod Going
 pub mod Ended
 pub mod Disks
-pub mod Polled
 pub mod Keeping
 pub mod Stale
 pub mod Connections
 pub mod Later
+pub mod Polled
 pub mod Laws

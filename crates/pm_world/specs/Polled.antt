@@ -4,15 +4,16 @@
 -- Region Descriptor Table, and 5.3, data transfer).
 --
 -- Cited: runs of a world and what is told over them (specs/Rules.antt, Runs.antt); a
--- disk and its run (specs/Disks.antt), touches (specs/Touched.antt), and requests that ended
--- honestly (specs/Ended.antt). That the slot of a request is completed by its device is DoneIsTrue
--- of `hba_driver` (specs/Done.antt).
+-- disk and its run (specs/Disks.antt), its run where it was plugged in again (specs/Later.antt),
+-- touches (specs/Touched.antt), and requests that ended honestly (specs/Ended.antt). That the slot
+-- of a request is completed by its device is DoneIsTrue of `hba_driver` (specs/Done.antt).
 use Rattle.std.specs.Prelude.{ℕ, ◌≡◌, true, List, [], ◌∷◌, ◌++◌, length, Some, Ok}
 use Rattle.slots.specs.Slots.{has_bit}
 use Rattle.hba_fbs.specs.declared.report.TakeReport.{TakeReport}
 use Rattle.hba_fbs.specs.Taking.{port_of}
 use Rattle.disk_model.specs.declared.plan.DiskPlan.{DiskPlan}
 use Rattle.disk_model.specs.declared.unit.Unit.{Unit}
+use Rattle.disk_model.specs.Histories.{Happening}
 use Rattle.hba_laws.specs.Client.{Touches, own}
 use Rattle.hba_laws.specs.History.{filled}
 use Rattle.hba_driver.specs.declared.request.Completion.{Completion}
@@ -21,6 +22,7 @@ use Rattle.hba_driver.specs.declared.request.Request.{Request}
 use Rattle.hba_driver.specs.declared.request.Ticket.{Ticket}
 use Rattle.hba_driver.specs.declared.slot.Phase.TheVariants.{Issued}
 use Rattle.hba_driver.specs.Drivers.{entry_at, rephased}
+use Rattle.hba_driver.specs.HostTurns.{HostTurn}
 use Rattle.hba_driver.specs.Orders.{is_queued}
 use Rattle.hba_driver.specs.Submits.{new_entry}
 use Rattle.pm_world.specs.Places.{Places, is_config, new_world}
@@ -33,6 +35,7 @@ use Rattle.pm_world.specs.declared.step.Answer.{Answer}
 use Rattle.pm_world.specs.declared.step.Answer.TheVariants as answer
 use Rattle.pm_world.specs.Disks.{DiskRun, IsNewDisk, disk_history, host_turns}
 use Rattle.pm_world.specs.Ended.{EndsHonestly}
+use Rattle.pm_world.specs.Later.{LaterRun, all_turns, whole_history}
 use Rattle.pm_world.specs.Touched.{AreTouched}
 
 -- ---- steps of a run
@@ -85,19 +88,21 @@ pub record IsReportedIn (ticket : Ticket) (slot : ℕ) (old now : Places) (steps
 
 -- ---- the law
 
--- The request in a slot ended honestly, by what happened to the disk up to the report, and by
--- client memory as it is now.
-pub record EndedHonestly (config : Config) (units : List Unit) (n sectors slot : ℕ)
-    (ticket : Ticket) (request : Request) (at : Places) (d : DiskRun config units n at)
-    (now : Places) : Type 0 where
+-- The request in a slot ended honestly, by what happened to its disk and by the turns of the host
+-- up to the report, and by client memory as it is now.
+pub record EndedHonestly (config : Config) (n sectors slot : ℕ) (ticket : Ticket)
+    (request : Request) (happened : List Happening) (turns : List HostTurn) (at now : Places)
+    : Type 0 where
   pub touches : Touches
-  pub touched : AreTouched config.memory (host_turns config units n at d) at.host touches
-  pub ends : EndsHonestly sectors slot (new_entry ticket.0 n request)
-      (disk_history config units n at d) (filled slot (own n touches)) now.host.memory
+  pub touched : AreTouched config.memory turns at.host touches
+  pub ends : EndsHonestly sectors slot (new_entry ticket.0 n request) happened
+      (filled slot (own n touches)) now.host.memory
 
 -- A request that is polled as Done was reported; and where it is queued, its device is a disk, and
--- nothing went wrong with the disk up to the report, it ended honestly. What the disk does after
--- the report, up to the poll, does not matter, and what other devices do never does.
+-- nothing went wrong with the disk up to the report, it ended honestly. So it did where nothing went
+-- wrong with the disk since it was plugged in as the connection of that FIS, for the first time or
+-- again. What the disk does after the report, up to the poll, does not matter, and what other devices
+-- do never does.
 pub record IsPolledHonestly (config : Config) (units : List Unit) (now : Places) (steps : List Step)
     (answers : List Answer) (run : Run (new_world config units) steps answers now)
     (completion : Completion) : Type 0 where
@@ -106,8 +111,15 @@ pub record IsPolledHonestly (config : Config) (units : List Unit) (now : Places)
   pub honest : (sectors : ℕ) (plan : DiskPlan) → IsNewDisk units reported.dev plan sectors
       → is_queued reported.request.work ≡ true
       → (d : DiskRun config units reported.dev reported.took.at)
-      → EndedHonestly config units reported.dev sectors completion.slot completion.ticket
-      reported.request reported.took.at d now
+      → EndedHonestly config reported.dev sectors completion.slot completion.ticket
+      reported.request (disk_history config units reported.dev reported.took.at d)
+      (host_turns config units reported.dev reported.took.at d) reported.took.at now
+  pub later : (sectors : ℕ) (plan : DiskPlan) → IsNewDisk units reported.dev plan sectors
+      → is_queued reported.request.work ≡ true
+      → (d : LaterRun config units reported.dev reported.took.at) → reported.conn ≡ d.conn
+      → EndedHonestly config reported.dev sectors completion.slot completion.ticket
+      reported.request (whole_history config units reported.dev reported.took.at d)
+      (all_turns config units reported.dev reported.took.at d) reported.took.at now
 
 -- So it is with each poll that answers Done, after every run from a new world.
 abbrev pub HonestPolls : Type 0

@@ -9,7 +9,6 @@ use Rattle.pm_world.specs.Downward.{on_down_link}
 use Rattle.pm_world.specs.Places.{Places}
 use Rattle.pm_world.specs.Rules.{Run}
 use Rattle.pm_world.specs.Runs.{AfterEveryRun, Telling, over}
-use Rattle.pm_world.specs.Traffic.{sent}
 use Rattle.pm_world.specs.declared.step.Step.{Step}
 use Rattle.pm_world.specs.declared.step.Step.TheVariants as step
 use Rattle.pm_world.specs.declared.step.Answer.{Answer}

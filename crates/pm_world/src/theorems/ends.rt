@@ -39,9 +39,10 @@ pub fn disks_are_honest()
 
 /// After every run from a new world, where a poll answers that a request is done: it was submitted
 /// under its ticket, and a FIS of its device was taken that reported it. Where nothing went wrong
-/// with the disk up to that FIS, a read or a write ended honestly: the bytes of a read stand in
-/// client memory when it is polled, and are the sectors of the medium, as they were when the disk
-/// started it; a write is on the medium.
+/// with the disk up to that FIS, since the world was made or since it was plugged in as the connection
+/// of the FIS, a read or a write ended honestly: the bytes of a read stand in client memory when it is
+/// polled, and are the sectors of the medium, as they were when the disk started it; a write is on the
+/// medium.
 pub fn polled_is_honest()
     ensures { HonestPolls }
 {}

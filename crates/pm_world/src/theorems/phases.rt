@@ -9,11 +9,12 @@ pub fn connections_follow()
     ensures { ConnectionsFollow }
 {}
 
-/// After a disk was plugged in again and the host flushed it, as long as nothing goes wrong with it:
-/// each queued request that is reported as done ended honestly, by all that the disk did since the
-/// world was made. A read has the sectors of the medium in client memory, as they were when the disk
-/// started it; a write is on the medium. As the host flushes a disk no FIS of its port is on the
-/// host's link, and the port passes none until it is cleared.
+/// Since a disk was plugged in, for the first time or again, as long as nothing goes wrong with it,
+/// whatever was before and whatever the other devices do: each queued request that a FIS of this
+/// connection reports as done ended honestly, by all that the disk did since the world was made. A
+/// read has the sectors of the medium in client memory, as they were when the disk started it; a
+/// write is on the medium. As the host flushes a disk no FIS of its port is on the host's link, and
+/// the port passes none until it is cleared.
 pub fn later_disks_are_honest()
     ensures honest { LaterDisksAreHonest }
     ensures rests { PortsRest }

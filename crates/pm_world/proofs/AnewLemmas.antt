@@ -1,0 +1,436 @@
+-- From each order to clear a port until that is taken the host serves the device at the port anew; and once the port is cleared for the unit that is there, both
+-- ends of the unit's link are linked, and the host serves it.
+use Rattle.std.proofs.Common.{◌≡◌, ◌≢◌, ◌==◌, ℕ, ◌<◌, Bool, true, false, List, [], ◌∷◌, ◌++◌, append_assoc, length, refl, sym, ap, subst, ◌∙◌, inl, inr}
+use Rattle.std.proofs.Common.{Some, Ok, arith}
+use Rattle.std.specs.Prelude.{◌⊎◌, ◌||◌, if◌then◌else◌}
+use Rattle.std.specs.List.{list_any}
+use Rattle.std.proofs.lemmas.Bool.{cases_Bool, eq-eqb, false≢true, or_parts, true≢false}
+use Rattle.std.proofs.lemmas.List.{append-nil}
+use Rattle.fis_view.specs.Frames.{Stamped}
+use Rattle.host_memory.specs.Memory.{is_memory_size}
+use Rattle.disk_model.specs.declared.plan.DiskPlan.{DiskPlan}
+use Rattle.disk_model.specs.declared.unit.Unit.{Unit}
+use Rattle.disk_model.specs.Histories.{Happening, Plugged}
+use Rattle.disk_model.specs.Ledger.{IsSize}
+use Rattle.disk_model.specs.Runs.{IsDiskRun}
+use Rattle.hba_driver.specs.Events.{IsSoundHost}
+use Rattle.hba_driver.specs.HostTurns.{HostTurn, Ticked, sight_in}
+use Rattle.hba_driver.specs.Steady.{IsFlushTick}
+use Rattle.hba_driver.specs.Ticks.{due}
+use Rattle.hba_driver.proofs.ServeLemmas.{act_clears}
+use Rattle.multiplier.specs.State.{port_at}
+use Rattle.pm_registers.specs.RegisterMap as map
+use Rattle.pm_world.specs.Cleared.{is_cleared}
+use Rattle.pm_world.specs.Downward.{pushed_by}
+use Rattle.pm_world.specs.Units.{happens}
+use Rattle.pm_world.specs.Places.{Places, is_config, new_world}
+use Rattle.pm_world.specs.Rules.{Rule, Run}
+use Rattle.pm_world.specs.Runs.{over}
+use Rattle.pm_world.specs.Turns.{IsOfItsPort, turn_of}
+use Rattle.pm_world.specs.declared.step.Config.{Config}
+use Rattle.pm_world.specs.declared.step.Step.{Step}
+use Rattle.pm_world.specs.declared.step.Step.TheVariants as step
+use Rattle.pm_world.specs.declared.step.Answer.{Answer}
+use Rattle.pm_world.specs.declared.step.Answer.TheVariants as answer
+use Rattle.pm_world.specs.Going.{AtEach, HearsOn, IsLeftAlone}
+use Rattle.pm_world.proofs.Goings.{is_taken_of}
+use Rattle.pm_world.specs.Stale.{IsInOrder, is_clear, orders_clear, unsent_after}
+use Rattle.pm_world.specs.Touched.{opens}
+use Rattle.pm_world.specs.Wired.{AreFine, injects, unplugs}
+use Rattle.pm_world.proofs.ChangeLemmas.{tick_step}
+use Rattle.pm_world.proofs.CutLemmas.{IsCut, IsElsewhere, IsHeld, away_now, held_after, wired_now}
+use Rattle.pm_world.proofs.Delivery.{sized}
+use Rattle.pm_world.proofs.DisksLemmas.{drivers_serve}
+use Rattle.pm_world.proofs.DownLemmas.{DownChange, Gone, Put, Quiet, down_change}
+use Rattle.pm_world.proofs.EachLemmas.{Each, Nothing, any_one, each_map, each_more, none_of}
+use Rattle.pm_world.proofs.FineLemmas.{further, goes_well, opens_step, sound_at, untaken_none}
+use Rattle.pm_world.proofs.FirmLemmas.{IsFirm}
+use Rattle.pm_world.proofs.FirstLemmas.{FirstOn, comes_risen, first_step}
+use Rattle.pm_world.proofs.FlushLemmas.{cut_there, flush_serves, held_at_flush, rests_at_flush}
+use Rattle.pm_world.proofs.GoingLemmas.{ports_go_on}
+use Rattle.pm_world.proofs.HostFold.{rule_does}
+use Rattle.pm_world.proofs.HostLemmas.{HostOn}
+use Rattle.pm_world.proofs.KeepingLemmas.{is_there}
+use Rattle.pm_world.proofs.LiveLemmas.{IsLive, IsOpenAt, StaysPresent, open_or_waits, stays_present}
+use Rattle.pm_world.proofs.LiveRuns.{OnlyOf, firm_at, live_goes}
+use Rattle.pm_world.proofs.Moves.{rule_moves}
+use Rattle.pm_world.proofs.OrderLemmas.{Knows}
+use Rattle.pm_world.proofs.OrderTurns.{opening_knows, order_step}
+use Rattle.pm_world.proofs.RunLemmas.{fine_front}
+use Rattle.pm_world.proofs.SecondLemmas.{IsTended, SecondRun, second_run}
+use Rattle.pm_world.proofs.ShutLemmas.{IsShut, WaitsFor, shut_after, waits_after}
+use Rattle.pm_world.proofs.TouchedLemmas.{GoesTouched, touched_over}
+use Rattle.pm_world.proofs.UnfaultedLemmas.{IsUnfaulted, flush_unfaulted, step_unfaulted}
+
+-- ## Lists
+
+-- one of the frames clears port n
+abbrev HasClear : ℕ → List Stamped → Type 0
+HasClear n [] = ⊥
+HasClear n (f ∷ frames) = ((is_clear n f ≡ true) × Nothing (is_clear n) frames) ⊎ ((is_clear n f ≡ false) × HasClear n frames)
+
+clear_more : (n : ℕ) (frames : List Stamped) (f : Stamped) → is_clear n f ≡ true → Nothing (is_clear n) frames → HasClear n (frames ++ f ∷ [])
+clear_more n [] f clears none = inl (clears, tt)
+clear_more n (g ∷ frames) f clears none = inr (none.0, clear_more n frames f clears none.1)
+
+has_more : (n : ℕ) (frames : List Stamped) (f : Stamped) → is_clear n f ≡ false → HasClear n frames → HasClear n (frames ++ f ∷ [])
+has_more n [] f other has = absurd has
+has_more n (g ∷ frames) f other (inl is) = inl (is.0, each_more (λ (x : Stamped). is_clear n x ≡ false) frames f is.1 other)
+has_more n (g ∷ frames) f other (inr is) = inr (is.0, has_more n frames f other is.1)
+
+any_clear : (n : ℕ) (frames : List Stamped) → HasClear n frames → list_any (is_clear n) frames ≡ true
+any_clear n [] has = absurd has
+any_clear n (f ∷ frames) (inl is) = ap (λ (b : Bool). b || list_any (is_clear n) frames) is.0
+any_clear n (f ∷ frames) (inr is) = ap (λ (b : Bool). b || list_any (is_clear n) frames) is.0 ∙ any_clear n frames is.1
+
+-- the bit says whether an order is to be sent
+next_bit : (b pushes unsent : Bool) → b ≡ false → (if b then true else if pushes then false else unsent) ≡ (if pushes then false else unsent)
+next_bit b pushes unsent none = ap (λ (c : Bool). if c then true else if pushes then false else unsent) none
+
+-- ## A port that is to be cleared
+
+module _ (config : Config) (units : List Unit) (fits : is_config config (length units) ≡ true) (n : ℕ) (below : n < 15) where
+  pub right : is_memory_size config.memory ≡ true
+  right = sized config (length units) fits
+
+  -- the port is held, and the host serves the device anew
+  pub record IsAnew (turns : List HostTurn) (now : Places) : Type 0 where
+    pub held : IsHeld n now
+    pub host : HostOn n config.memory turns now.host (Plugged ∷ [])
+    pub unfaulted : IsUnfaulted n now.host.port
+
+  -- an order to clear it is to be sent, it is on its way, or there is none
+  pub data Ordered (unsent : Bool) (turns : List HostTurn) (now : Places) : Type 0 where
+    Unsent : unsent ≡ true → Nothing (is_clear n) now.downward.frames → IsAnew turns now → Ordered unsent turns now
+    Sent : unsent ≡ false → HasClear n now.downward.frames → IsAnew turns now → Ordered unsent turns now
+    Idle : unsent ≡ false → Nothing (is_clear n) now.downward.frames → Ordered unsent turns now
+
+  module _ (before : List Step) (told : List Answer) (old : Places) (made : Run (new_world config units) before told old) (unsent : Bool)
+      (k : Knows n unsent old) (turns : List HostTurn) (touched : GoesTouched config.memory turns old.host) (s : Step) (a : Answer) (new : Places)
+      (rule : Rule old s (Ok a) new) (order : IsInOrder n unsent old s a new) where
+    abbrev now_unsent : Bool
+    now_unsent = unsent_after n unsent old s a new
+
+    abbrev now_turns : List HostTurn
+    now_turns = turns ++ turn_of old s a new
+
+    its : IsOfItsPort a
+    its = (comes_risen old s a new k.risen rule).own_port
+
+    sound : IsSoundHost old.host
+    sound = sound_at config units fits n below before told old made
+
+    untaken : IsHeld n old → is_taken_of n a ≡ false
+    untaken held = by_answer a rule
+      where
+        by_answer : (b : Answer) → Rule old s (Ok b) new → is_taken_of n b ≡ false
+        by_answer (answer.Took port conn number bytes report) rule =
+            let m = rule_moves old s (answer.Took port conn number bytes report) new k.orderly rule in
+            sym (ap (λ (j : ℕ). j == n) m.1.port_is)
+            ∙ (subst (Each (λ (f : Stamped). (f.stamp.port == n) ≡ false)) m.2.upward held.away).0
+        by_answer b rule = refl
+
+    pub first_anew : (anew : IsAnew turns old) → FirstOn drivers_serve n config.memory below right turns old s a new
+    first_anew anew =
+        first_step drivers_serve n config.memory below right turns old s a new anew.host rule its (untaken anew.held)
+        (opens_step n old (ports_go_on config units fits before told old made) sound anew.unfaulted a)
+
+    pub unfaulted_now : IsAnew turns old → IsUnfaulted n new.host.port
+    unfaulted_now anew = step_unfaulted n below old s a new rule sound (untaken_none n a its (untaken anew.held)) anew.unfaulted
+
+    -- it goes on so while the port is not cleared
+    anew_after : IsAnew turns old → is_cleared n old a ≡ false → IsAnew now_turns new
+    anew_after anew none =
+        let f : FirstOn drivers_serve n config.memory below right turns old s a new = first_anew anew in
+        record {
+          held = held_after n below old s a new rule k.orderly k.true_is anew.held f.given none;
+          host = f.host;
+          unfaulted = unfaulted_now anew;
+        }
+
+    -- ---- the order
+
+    change : DownChange n old s a new
+    change = down_change n old s new k.orderly a rule
+
+    uncleared : Nothing (is_clear n) old.downward.frames → is_cleared n old a ≡ false
+    uncleared none = by_down change
+      where
+        by_down : DownChange n old s a new → is_cleared n old a ≡ false
+        by_down (Quiet link pushed uncleared on) = uncleared
+        by_down (Put f link pushed uncleared falls idle ids) = uncleared
+        by_down (Gone f link pushed clears falls idle ids) = elim (cases_Bool (is_cleared n old a)) [
+          | inl cleared ↦ absurd (true≢false (sym (clears cleared) ∙ (subst (Nothing (is_clear n)) link none).0))
+          | inr other ↦ other
+        ]
+
+    bit_is : orders_clear n old a ≡ false → (pushed : List Stamped) → pushed_by old s a new ≡ pushed
+        → now_unsent ≡ (if list_any (is_clear n) pushed then false else unsent)
+    bit_is none pushed is =
+        next_bit (orders_clear n old a) (list_any (is_clear n) (pushed_by old s a new)) unsent none
+        ∙ ap (λ (fs : List Stamped). if list_any (is_clear n) fs then false else unsent) is
+
+    same_bit : orders_clear n old a ≡ false → pushed_by old s a new ≡ [] → now_unsent ≡ unsent
+    same_bit none is = bit_is none [] is
+
+    put_bit : (f : Stamped) → orders_clear n old a ≡ false → pushed_by old s a new ≡ f ∷ [] → now_unsent ≡ (if is_clear n f then false else unsent)
+    put_bit f none is = bit_is none (f ∷ []) is ∙ ap (λ (b : Bool). if b then false else unsent) (any_one (is_clear n) f)
+
+    sends_unsent : (f : Stamped) → pushed_by old s a new ≡ f ∷ [] → is_clear n f ≡ true → unsent ≡ true
+    sends_unsent f one clears = order.once (ap (list_any (is_clear n)) one ∙ any_one (is_clear n) f ∙ clears)
+
+    -- ---- it is to be sent
+
+    unsent_on : orders_clear n old a ≡ false → unsent ≡ true → Nothing (is_clear n) old.downward.frames → IsAnew turns old → Ordered now_unsent now_turns new
+    unsent_on idle is none anew = by_down change
+      where
+        on : IsAnew now_turns new
+        on = anew_after anew (uncleared none)
+
+        by_down : DownChange n old s a new → Ordered now_unsent now_turns new
+        by_down (Quiet link pushed uncleared falls) = Unsent (same_bit idle pushed ∙ is) (subst (Nothing (is_clear n)) (sym link) none) on
+        by_down (Gone f link pushed clears falls _ ids) = Unsent (same_bit idle pushed ∙ is) ((subst (Nothing (is_clear n)) link none).1) on
+        by_down (Put f link pushed uncleared falls _ ids) = elim (cases_Bool (is_clear n f)) [
+          | inl clears ↦
+              Sent (put_bit f idle pushed ∙ ap (λ (b : Bool). if b then false else unsent) clears)
+              (subst (HasClear n) (sym link) (clear_more n old.downward.frames f clears none)) on
+          | inr other ↦
+              Unsent (put_bit f idle pushed ∙ (ap (λ (b : Bool). if b then false else unsent) other ∙ is))
+              (subst (Nothing (is_clear n)) (sym link) (each_more (λ (g : Stamped). is_clear n g ≡ false) old.downward.frames f none other)) on
+        ]
+
+    -- ---- it is on its way
+
+    sent_on : orders_clear n old a ≡ false → unsent ≡ false → HasClear n old.downward.frames → IsAnew turns old → Ordered now_unsent now_turns new
+    sent_on idle is has anew = by_down change
+      where
+        rest : (f : Stamped) → (is_cleared n old a ≡ true → is_clear n f ≡ true) → now_unsent ≡ false → HasClear n (f ∷ new.downward.frames)
+            → Ordered now_unsent now_turns new
+        rest f clears bit (inl one) = Idle bit one.1
+        rest f clears bit (inr one) = elim (cases_Bool (is_cleared n old a)) [
+          | inl cleared ↦ absurd (true≢false (sym (clears cleared) ∙ one.0))
+          | inr none ↦ Sent bit one.1 (anew_after anew none)
+        ]
+
+        by_down : DownChange n old s a new → Ordered now_unsent now_turns new
+        by_down (Quiet link pushed uncleared falls) = Sent (same_bit idle pushed ∙ is) (subst (HasClear n) (sym link) has) (anew_after anew uncleared)
+        by_down (Gone f link pushed clears falls _ ids) = rest f clears (same_bit idle pushed ∙ is) (subst (HasClear n) link has)
+        by_down (Put f link pushed uncleared falls _ ids) = elim (cases_Bool (is_clear n f)) [
+          | inl clears ↦ absurd (true≢false (sym (sends_unsent f pushed clears) ∙ is))
+          | inr other ↦
+              Sent (put_bit f idle pushed ∙ (ap (λ (b : Bool). if b then false else unsent) other ∙ is))
+              (subst (HasClear n) (sym link) (has_more n old.downward.frames f other has)) (anew_after anew uncleared)
+        ]
+
+    -- ---- there is none
+
+    idle_on : orders_clear n old a ≡ false → unsent ≡ false → Nothing (is_clear n) old.downward.frames → Ordered now_unsent now_turns new
+    idle_on idle is none = by_down change
+      where
+        by_down : DownChange n old s a new → Ordered now_unsent now_turns new
+        by_down (Quiet link pushed uncleared falls) = Idle (same_bit idle pushed ∙ is) (subst (Nothing (is_clear n)) (sym link) none)
+        by_down (Gone f link pushed clears falls _ ids) = Idle (same_bit idle pushed ∙ is) ((subst (Nothing (is_clear n)) link none).1)
+        by_down (Put f link pushed uncleared falls _ ids) = elim (cases_Bool (is_clear n f)) [
+          | inl clears ↦ absurd (true≢false (sym (sends_unsent f pushed clears) ∙ is))
+          | inr other ↦
+              Idle (put_bit f idle pushed ∙ (ap (λ (b : Bool). if b then false else unsent) other ∙ is))
+              (subst (Nothing (is_clear n)) (sym link) (each_more (λ (g : Stamped). is_clear n g ≡ false) old.downward.frames f none other))
+        ]
+
+    -- ---- it is given
+
+    flush_now : (b : Answer) → a ≡ b → orders_clear n old b ≡ true → Nothing (is_clear n) old.downward.frames → Ordered now_unsent now_turns new
+    flush_now answer.Ticked is flushed none =
+        let ticked : Rule old s (Ok answer.Ticked) new = subst (λ (x : Answer). Rule old s (Ok x) new) is rule in
+        let tick : Rule old step.Tick (Ok answer.Ticked) new = subst (λ (t : Step). Rule old t (Ok answer.Ticked) new) (tick_step old s new ticked) ticked in
+        let flush : IsFlushTick n old.host = act_clears n (due (sight_in old.host) old.host.driver) flushed in
+        let turns_are : now_turns ≡ turns ++ Ticked true ∷ [] = ap (λ (x : Answer). turns ++ turn_of old s x new) is in
+        Unsent (ap (λ (b : Bool). if b then true else if list_any (is_clear n) (pushed_by old s a new) then false else unsent)
+        (ap (orders_clear n old) is ∙ flushed))
+        (subst (Nothing (is_clear n)) (sym (ap (λ (w : Places). w.downward.frames) tick.1)) none)
+        (record {
+          held = held_at_flush n below config units fits before told old made new tick flush
+              (rests_at_flush config units fits n below before told old made new tick flush);
+          host =
+              subst (λ (ts : List HostTurn). HostOn n config.memory ts new.host (Plugged ∷ [])) (sym turns_are)
+              (flush_serves drivers_serve n config.memory below right turns old.host new.host touched.touches touched.touched tick.0 flush);
+          unfaulted = flush_unfaulted n (omega (arith, below)) old.host true new.host tick.0 sound flush;
+        })
+    flush_now b is flushed none = absurd (false≢true flushed)
+
+    pub order_after : Ordered unsent turns old → Ordered now_unsent now_turns new
+    order_after o = elim (cases_Bool (orders_clear n old a)) [
+      | inl flushed ↦ flush_now a refl flushed (none_of (is_clear n) old.downward.frames (order.taken flushed))
+      | inr idle ↦ by_case idle o
+    ]
+      where
+        by_case : orders_clear n old a ≡ false → Ordered unsent turns old → Ordered now_unsent now_turns new
+        by_case idle (Unsent is none anew) = unsent_on idle is none anew
+        by_case idle (Sent is has anew) = sent_on idle is has anew
+        by_case idle (Idle is none) = idle_on idle is none
+
+    -- where the port is cleared now, the host serves the device anew
+    pub cleared_anew : Ordered unsent turns old → is_cleared n old a ≡ true → IsAnew turns old
+    cleared_anew (Unsent is none anew) cleared = anew
+    cleared_anew (Sent is has anew) cleared = anew
+    cleared_anew (Idle is none) cleared = absurd (true≢false (sym cleared ∙ uncleared none))
+
+-- ## A run
+
+module _ (config : Config) (units : List Unit) (fits : is_config config (length units) ≡ true) (n : ℕ) (below : n < 15) where
+  pub record OrderedNow (turns : List HostTurn) (now : Places) : Type 0 where
+    pub unsent : Bool
+    pub knows : Knows n unsent now
+    pub touched : GoesTouched config.memory turns now.host
+    pub ordered : Ordered config units fits n below unsent turns now
+
+  opening_ordered : OrderedNow [] (new_world config units)
+  opening_ordered = record {
+    unsent = false;
+    knows = opening_knows config units fits n;
+    touched = record { touches = []; touched = opens };
+    ordered = Idle refl tt;
+  }
+
+  pub ordered_on : (before : List Step) (told : List Answer) (old : Places) → Run (new_world config units) before told old → (turns : List HostTurn)
+      → OrderedNow turns old → (s : Step) (a : Answer) (new : Places) → Rule old s (Ok a) new → OrderedNow (turns ++ turn_of old s a new) new
+  ordered_on before told old made turns o s a new rule =
+      let both = order_step n below o.unsent old o.knows s a new rule in
+      record {
+        unsent = unsent_after n o.unsent old s a new;
+        knows = both.1;
+        touched =
+            touched_over config.memory (sized config (length units) fits) turns (turn_of old s a new) old.host new.host o.touched.touches o.touched.touched
+            (rule_does old s a new rule);
+        ordered = order_after config units fits n below before told old made o.unsent o.knows turns o.touched s a new rule both.0 o.ordered;
+      }
+
+  order_run : (before : List Step) (told : List Answer) (old : Places) → Run (new_world config units) before told old → (turns : List HostTurn)
+      → OrderedNow turns old → (steps : List Step) (answers : List Answer) (new : Places) (run : Run old steps answers new)
+      → OrderedNow (turns ++ over turn_of old steps answers new run) new
+  order_run before told old made turns o [] [] new run =
+      subst (λ (w : Places). OrderedNow (turns ++ []) w) (sym run) (subst (λ (ts : List HostTurn). OrderedNow ts old) (sym (append-nil turns)) o)
+  order_run before told old made turns o [] (a ∷ answers) new run = absurd run
+  order_run before told old made turns o (s ∷ steps) [] new run = absurd run
+  order_run before told old made turns o (s ∷ steps) (a ∷ answers) new run =
+      subst (λ (ts : List HostTurn). OrderedNow ts new) (append_assoc turns (turn_of old s a run.0) (over turn_of run.0 steps answers new run.2))
+      (order_run (before ++ s ∷ []) (told ++ a ∷ []) run.0 (further config units fits n below before told old made s a run.0 run.1) (turns ++ turn_of old s a run.0)
+      (ordered_on before told old made turns o s a run.0 run.1) steps answers new run.2)
+
+  pub ordered_after : (steps : List Step) (answers : List Answer) (now : Places) (run : Run (new_world config units) steps answers now)
+      → OrderedNow (over turn_of (new_world config units) steps answers now run) now
+  ordered_after steps answers now run = order_run [] [] (new_world config units) refl [] opening_ordered steps answers now run
+
+  -- ## A unit from its plugging on
+
+  module _ (plan : DiskPlan) (sectors : ℕ) (size : IsSize plan sectors) (c : ℕ) (earlier : List Happening) where
+    -- nothing of it passed its port yet, or both ends are linked, and the host serves it
+    pub data Stage (now : Places) (happened : List Happening) (turns : List HostTurn) : Type 0 where
+      Waiting : IsShut n c now happened → Stage now happened turns
+      Serving : (heard : List Happening)
+          → IsTended drivers_serve n config.memory below (right config units fits n below) plan sectors size c earlier now happened heard turns
+          → Stage now happened turns
+
+    pub run_opens : (before : List Step) (told : List Answer) (old : Places) → Run (new_world config units) before told old → (happened : List Happening)
+        (turns : List HostTurn) → OrderedNow turns old → IsShut n c old happened → WaitsFor n c old
+        → (steps : List Step) (answers : List Answer) (new : Places) (run : Run old steps answers new) → IsLeftAlone n steps
+        → AtEach (HearsOn n c) old steps answers new run → AreFine (over (happens n) old steps answers new run)
+        → IsDiskRun plan sectors (earlier ++ (happened ++ over (happens n) old steps answers new run))
+        → Stage new (happened ++ over (happens n) old steps answers new run) (turns ++ over turn_of old steps answers new run)
+    run_opens before told old made happened turns o h waits [] [] new run alone well fine disk =
+        subst (λ (w : Places). Stage w (happened ++ []) (turns ++ [])) (sym run)
+        (subst (λ (xs : List Happening). Stage old xs (turns ++ [])) (sym (append-nil happened)) (Waiting h))
+    run_opens before told old made happened turns o h waits [] (a ∷ answers) new run alone well fine disk = absurd run
+    run_opens before told old made happened turns o h waits (s ∷ steps) [] new run alone well fine disk = absurd run
+    run_opens before told old made happened turns o h waits (s ∷ steps) (a ∷ answers) new run alone well fine disk =
+        subst (λ (xs : List Happening). Stage new xs (turns ++ (turn_of old s a run.0 ++ over turn_of run.0 steps answers new run.2))) all_told
+        (subst (λ (ts : List HostTurn). Stage new ((happened ++ happens n old s a run.0) ++ over (happens n) run.0 steps answers new run.2) ts) all_turns
+        (let goes_on : WaitsFor n c run.0
+        → Stage new ((happened ++ happens n old s a run.0) ++ over (happens n) run.0 steps answers new run.2)
+        ((turns ++ turn_of old s a run.0) ++ over turn_of run.0 steps answers new run.2) =
+        λ next. run_opens (before ++ s ∷ []) (told ++ a ∷ []) run.0 made_on (happened ++ happens n old s a run.0) (turns ++ turn_of old s a run.0) ordered on
+        next steps answers new run.2 apart well.1 f.1 later in
+        elim (cases_Bool (is_cleared n old a)) [
+          | inl cleared ↦ by_there goes_on cleared (is_there (port_at old.multiplier n).present c)
+          | inr none ↦ goes_on (waits_after n c below old s a run.0 run.1 h.true_is (λ here. none) waits)
+        ]))
+      where
+        i : (injects n s ≡ false) × (list_any (injects n) steps ≡ false)
+        i = or_parts (injects n s) (list_any (injects n) steps) alone.clean
+
+        p : (unplugs n s ≡ false) × (list_any (unplugs n) steps ≡ false)
+        p = or_parts (unplugs n s) (list_any (unplugs n) steps) alone.stays
+
+        f : AreFine (happens n old s a run.0) × AreFine (over (happens n) run.0 steps answers new run.2)
+        f = fine_front (happens n old s a run.0) (over (happens n) run.0 steps answers new run.2) fine
+
+        apart : IsLeftAlone n steps
+        apart = record { clean = i.1; stays = p.1 }
+
+        on : IsShut n c run.0 (happened ++ happens n old s a run.0)
+        on = shut_after n c below old s a run.0 run.1 happened h waits i.0 p.0 f.0
+
+        made_on : Run (new_world config units) (before ++ s ∷ []) (told ++ a ∷ []) run.0
+        made_on = further config units fits n below before told old made s a run.0 run.1
+
+        ordered : OrderedNow (turns ++ turn_of old s a run.0) run.0
+        ordered = ordered_on before told old made turns o s a run.0 run.1
+
+        all_told : (happened ++ happens n old s a run.0) ++ over (happens n) run.0 steps answers new run.2
+            ≡ happened ++ (happens n old s a run.0 ++ over (happens n) run.0 steps answers new run.2)
+        all_told = append_assoc happened (happens n old s a run.0) (over (happens n) run.0 steps answers new run.2)
+
+        all_turns : (turns ++ turn_of old s a run.0) ++ over turn_of run.0 steps answers new run.2
+            ≡ turns ++ (turn_of old s a run.0 ++ over turn_of run.0 steps answers new run.2)
+        all_turns = append_assoc turns (turn_of old s a run.0) (over turn_of run.0 steps answers new run.2)
+
+        later : IsDiskRun plan sectors (earlier ++ ((happened ++ happens n old s a run.0) ++ over (happens n) run.0 steps answers new run.2))
+        later = subst (λ (xs : List Happening). IsDiskRun plan sectors (earlier ++ xs)) (sym all_told) disk
+
+        -- the port is cleared for the unit
+        serves : is_cleared n old a ≡ true → (port_at old.multiplier n).present ≡ Some c → IsOpenAt n run.0.multiplier.registers
+            → Stage new ((happened ++ happens n old s a run.0) ++ over (happens n) run.0 steps answers new run.2)
+            ((turns ++ turn_of old s a run.0) ++ over turn_of run.0 steps answers new run.2)
+        serves cleared here opens_now =
+            let both = order_step n below o.unsent old o.knows s a run.0 run.1 in
+            let anew : IsAnew config units fits n below turns old =
+            cleared_anew config units fits n below before told old made o.unsent o.knows turns o.touched s a run.0 run.1 both.0 o.ordered cleared in
+            let first : FirstOn drivers_serve n config.memory below (right config units fits n below) turns old s a run.0 =
+            first_anew config units fits n below before told old made o.unsent o.knows turns o.touched s a run.0 run.1 both.0 anew in
+            let cut : IsCut n c old = cut_there n c below config units fits before told old made anew.held h.there here in
+            let firm : IsFirm n old = firm_at config units fits n below before told old made in
+            let there : StaysPresent n c a run.0 = stays_present n c old s a run.0 run.1 p.0 firm here h.kept in
+            let live : IsLive n c run.0 = record { here = there.here; opens = opens_now; kept = there.kept } in
+            let only : OnlyOf n c run.0.upward.frames =
+            each_map (IsElsewhere n) (λ (g : Stamped). g.stamp.port ≡ n → g.stamp.conn ≡ c) run.0.upward.frames
+            (λ g other at. absurd (true≢false (sym (eq-eqb g.stamp.port n at) ∙ other)))
+            (away_now n below old s a run.0 run.1 h.orderly h.true_is anew.held first.given) in
+            let tended : IsTended drivers_serve n config.memory below (right config units fits n below) plan sectors size c earlier run.0
+            (happened ++ happens n old s a run.0) [] (turns ++ turn_of old s a run.0) =
+            record {
+              orderly = on.orderly;
+              risen = on.risen;
+              there = on.there;
+              wired = wired_now n c below old s a run.0 run.1 happened h cut i.0 p.0 f.0 cleared;
+              host = first.host;
+            } in
+            let rest : SecondRun drivers_serve n config.memory below (right config units fits n below) plan sectors size c earlier run.0 steps answers new run.2
+            (happened ++ happens n old s a run.0) [] (turns ++ turn_of old s a run.0) =
+            second_run drivers_serve n config.memory below (right config units fits n below) plan sectors size c earlier run.0 steps answers new run.2
+            (happened ++ happens n old s a run.0) [] (turns ++ turn_of old s a run.0) tended apart
+            (goes_well config units fits n below (before ++ s ∷ []) (told ++ a ∷ []) run.0 made_on
+            (unfaulted_now config units fits n below before told old made o.unsent o.knows turns o.touched s a run.0 run.1 both.0 anew) steps answers new run.2
+            (live_goes config units fits n below c (before ++ s ∷ []) (told ++ a ∷ []) run.0 made_on ordered.unsent ordered.knows live only steps answers new run.2 p.1 well.1))
+            f.1 later in
+            Serving rest.more rest.tended
+
+        by_there : (WaitsFor n c run.0 → Stage new ((happened ++ happens n old s a run.0) ++ over (happens n) run.0 steps answers new run.2)
+            ((turns ++ turn_of old s a run.0) ++ over turn_of run.0 steps answers new run.2)) → is_cleared n old a ≡ true
+            → ((port_at old.multiplier n).present ≡ Some c) ⊎ ((port_at old.multiplier n).present ≢ Some c)
+            → Stage new ((happened ++ happens n old s a run.0) ++ over (happens n) run.0 steps answers new run.2)
+            ((turns ++ turn_of old s a run.0) ++ over turn_of run.0 steps answers new run.2)
+        by_there goes_on cleared (inr other) = goes_on (waits_after n c below old s a run.0 run.1 h.true_is (λ here. absurd (other here)) waits)
+        by_there goes_on cleared (inl here) = elim (open_or_waits (map.port_at run.0.multiplier.registers n)) [
+          | inl opens_now ↦ serves cleared here opens_now
+          | inr told_still ↦ goes_on (λ present. told_still)
+        ]
