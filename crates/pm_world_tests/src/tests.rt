@@ -12,5 +12,6 @@ mod refusals;
 mod rig;
 mod running;
 mod sizes;
+mod steps;
 mod submitting;
 mod writing;

@@ -1,11 +1,12 @@
 //! Frames that go down to nobody: for a port that does not forward, and for a connection that is not there.
 
-use super::rig::{Act, Rig, Told};
+use super::rig::{Act, Told};
+use super::steps::Seen::{Comes, Does, Dropped, Rows};
+use super::steps::{all_held, plays};
 use fis_view::{Frame, FrameError, Stamp};
 use hba_driver::Work;
 use multiplier::{Multiplier, Passed};
 use std::alloc::Global;
-use std::process::Abort;
 use std::test::Fail;
 
 /// The queued read of one sector that the host sends to port 3.
@@ -32,26 +33,22 @@ fn drops(alloc: Global, pm: &mut Multiplier) -> Result<bool, FrameError> {
 /// Port 3 is there and has no device, and is not there.
 #[test]
 fn closed_ports_drop(rt: HostRuntime) -> Result<(), Fail> {
-    assert!(rt; drops(rt.alloc(), &mut Multiplier::new(4))?);
-    assert!(rt; drops(rt.alloc(), &mut Multiplier::new(3))?);
+    let alloc = rt.alloc();
+    let four = drops(alloc, &mut Multiplier::new(4))?;
+    let three = drops(alloc, &mut Multiplier::new(3))?;
+    all_held(&rt, &[four, three]);
     Ok(())
 }
 
 /// The command of a read of the disk is on the host's link.
-const ASKS: [(Act, Told); 3] = [
+const ASKS: &[(Act, Told)] = &[
     (Act::Submit(0, Work::Read, 1, 0x10_1000), Told::Submitted(1)),
     (Act::Tick, Told::Ticked),
     (Act::HostPush, Told::Pushed),
 ];
 
-/// It goes to its port, and on to the link of the disk.
-const PASSES: [(Act, Told); 2] = [
-    (Act::PmFromHost, Told::Passed(Passed::Down(0))),
-    (Act::PmDown(0), Told::Down(0)),
-];
-
 /// The multiplier sees that the disk went, and drops what is for it.
-const CLOSES: [(Act, Told); 4] = [
+const CLOSES: &[(Act, Told)] = &[
     (Act::Gone(0), Told::Gone(0, 1)),
     (Act::PmPresence(0), Told::Presence(0)),
     (Act::PmFromHost, Told::Passed(Passed::Dropped)),
@@ -61,44 +58,50 @@ const CLOSES: [(Act, Told); 4] = [
 /// What is dropped leaves the host's link, and is counted once.
 #[test]
 fn dropped_frames_leave_their_link(rt: HostRuntime) -> Result<(), Fail> {
-    let mut rig = Rig::ready(rt.alloc(), 1)?;
-    rig.answers(&rt, &ASKS);
-    rig.answers(&rt, &CLOSES);
-    assert_eq!(rt; rig.dropped(), 1);
-    Ok(())
+    let steps = [Comes, Rows(ASKS), Rows(CLOSES), Dropped(1)];
+    plays(&rt, rt.alloc(), 1, &steps)
 }
 
-/// The disk goes, and comes again.
-const GOES: [(Act, Told); 3] = [
-    (Act::Gone(0), Told::Gone(0, 1)),
+/// It goes to its port, and on to the link of the disk.
+const PASSES: &[(Act, Told)] = &[
+    (Act::PmFromHost, Told::Passed(Passed::Down(0))),
+    (Act::PmDown(0), Told::Down(0)),
+];
+
+/// The disk takes what is on its link.
+const TAKES: &[(Act, Told)] = &[
+    (Act::DiskTake(0), Told::DiskTook(0, false)),
+    (Act::DiskTake(0), Told::Idle),
+];
+
+/// Where it is there no more, the frame is dropped.
+const DROPS: &[(Act, Told)] = &[
+    (Act::DiskTake(0), Told::DiskTook(0, true)),
+    (Act::DiskTake(0), Told::Idle),
+];
+
+/// The disk comes again.
+const COMES_AGAIN: &[(Act, Told)] = &[
     (Act::PmPresence(0), Told::Presence(0)),
     (Act::Came(0), Told::Came(0, 2)),
 ];
-
-/// The command is on the link of a disk to which this happens. It sees it or drops it.
-fn takes(
-    rt: &impl Abort,
-    alloc: Global,
-    happens: &[(Act, Told)],
-    dropped: bool,
-) -> Result<(), Fail> {
-    let mut rig = Rig::ready(alloc, 1)?;
-    rig.answers(rt, &ASKS);
-    rig.answers(rt, &PASSES);
-    rig.answers(rt, happens);
-    let rows = [
-        (Act::DiskTake(0), Told::DiskTook(0, dropped)),
-        (Act::DiskTake(0), Told::Idle),
-    ];
-    rig.answers(rt, &rows);
-    Ok(())
-}
 
 /// A disk that is not plugged in, or plugged in under another connection, does not see the frame.
 #[test]
 fn other_connections_are_dropped(rt: HostRuntime) -> Result<(), Fail> {
     let alloc = rt.alloc();
-    takes(&rt, alloc, &GOES[..1], true)?;
-    takes(&rt, alloc, &GOES, true)?;
-    takes(&rt, alloc, &[], false)
+    let goes = Does(Act::Gone(0), Told::Gone(0, 1));
+    let seen = [Comes, Rows(ASKS), Rows(PASSES), Rows(TAKES)];
+    plays(&rt, alloc, 1, &seen)?;
+    let out = [Comes, Rows(ASKS), Rows(PASSES), goes, Rows(DROPS)];
+    plays(&rt, alloc, 1, &out)?;
+    let other = [
+        Comes,
+        Rows(ASKS),
+        Rows(PASSES),
+        goes,
+        Rows(COMES_AGAIN),
+        Rows(DROPS),
+    ];
+    plays(&rt, alloc, 1, &other)
 }

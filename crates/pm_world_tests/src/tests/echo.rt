@@ -157,13 +157,19 @@ fn pass(alloc: Global, pm: &mut Multiplier, frame: Frame) -> Option<Option<Bytes
 
 impl Echo {
     /// Of a world of three ports.
-    pub(super) fn new(alloc: Global) -> Result<Echo, Fail> {
+    fn new(alloc: Global) -> Result<Echo, Fail> {
         Ok(Echo {
             host: Host::new(alloc)?,
             multiplier: three()?,
             pushed: None,
             fell: None,
         })
+    }
+
+    /// The same, on the heap.
+    pub(super) fn boxed(alloc: Global) -> Result<Box<Echo>, Fail> {
+        let echo = Echo::new(alloc)?;
+        Ok(Box::new(alloc, echo)?)
     }
 
     /// Does what the world's host did in this step. Answers whether it could.

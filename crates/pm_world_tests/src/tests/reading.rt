@@ -1,6 +1,8 @@
 //! From nothing to disks that take requests, and reads.
 
-use super::rig::{Act, Rig, Told, is_told};
+use super::rig::{Act, Rig, Told};
+use super::steps::Seen::{AllSentAndTaken, AreAsked, AreDone, Comes, Counts, Does, Settles};
+use super::steps::plays;
 use hba_driver::{Completion, Outcome, Ticket, Work};
 use pm_world::ConnCount;
 use std::alloc::Global;
@@ -21,12 +23,12 @@ pub(super) const SECOND_DONE: Told = Told::Polled(Completion {
     outcome: Outcome::Done,
 });
 
-/// The request in this slot, whose ticket is one more, ended well.
-fn done(slot: u8) -> Told {
+/// The request in this slot, whose ticket is one more, ended so.
+pub(super) fn ended(slot: u8, outcome: Outcome) -> Told {
     Told::Polled(Completion {
         ticket: Ticket(u32::from(slot) + 1),
         slot,
-        outcome: Outcome::Done,
+        outcome,
     })
 }
 
@@ -35,33 +37,31 @@ fn place(n: u8) -> u32 {
     0x10_1000 + 512 * u32::from(n)
 }
 
-/// The sector with the number of the disk, as a disk opens, stands at its place.
-fn shows_sector(rt: &impl Abort, rig: &Rig, n: u8) {
-    for byte in 0..512_u32 {
-        let opening = ((u32::from(n) + byte) % 256) as u8;
-        let now = rig.byte_at(place(n).wrapping_add(byte));
-        assert_eq!(rt; now, Some(opening), "{n} {byte}");
-    }
-}
-
-/// One sector of each of so many disks is read, all at once.
-fn reads(rt: &impl Abort, rig: &mut Rig, ports: u8) {
+/// One sector of each of so many disks is asked for: that with the number of the disk.
+pub(super) fn are_asked(rig: &mut Rig, ports: u8) -> bool {
+    let mut asked = true;
     for n in 0..ports {
         let told = rig.does(Act::Submit(n, Work::Read, u64::from(n), place(n)));
-        is_told(rt, usize::from(n), told, Told::Submitted(u32::from(n) + 1));
+        asked &= told == Told::Submitted(u32::from(n) + 1);
     }
-    assert!(rt; rig.settle());
+    asked
+}
+
+/// All are done, and each sector stands at its place.
+pub(super) fn are_done(rig: &mut Rig, ports: u8) -> bool {
+    let mut are = true;
     for n in 0..ports {
-        is_told(rt, usize::from(n), rig.does(Act::Poll), done(n));
-        shows_sector(rt, rig, n);
+        are &= rig.does(Act::Poll) == ended(n, Outcome::Done);
+        are &= rig.holds_sector(place(n), n);
     }
-    rig.answers(rt, &[(Act::Poll, Told::Idle)]);
+    are && rig.does(Act::Poll) == Told::Idle
 }
 
 /// Signature, PIO Setup and Data of the identify data, answer, DMA Setup, Data and Set Device Bits of each disk were sent
 /// and taken.
-fn all_sent_and_taken(rt: &impl Abort, rows: &[ConnCount], ports: u8) {
-    assert_eq!(rt; rows.len(), usize::from(ports));
+pub(super) fn all_sent_and_taken(rig: &Rig, ports: u8) -> bool {
+    let rows = rig.rows();
+    let mut all = rows.len() == usize::from(ports);
     for (port, row) in rows.iter().enumerate() {
         let wanted = ConnCount {
             port: (port % 256) as u8,
@@ -69,16 +69,21 @@ fn all_sent_and_taken(rt: &impl Abort, rows: &[ConnCount], ports: u8) {
             sent: 7,
             taken: 7,
         };
-        assert_eq!(rt; *row, wanted);
+        all &= *row == wanted;
     }
+    all
 }
 
-/// Each of so many disks comes up, and one sector of it is read.
+/// Each of so many disks comes up, and one sector of it is read, of all at once.
 fn read_of_each(rt: &impl Abort, alloc: Global, ports: u8) -> Result<(), Fail> {
-    let mut rig = Rig::ready(alloc, ports)?;
-    reads(rt, &mut rig, ports);
-    all_sent_and_taken(rt, rig.rows(), ports);
-    Ok(())
+    let steps = [
+        Comes,
+        AreAsked(ports),
+        Settles,
+        AreDone(ports),
+        AllSentAndTaken(ports),
+    ];
+    plays(rt, alloc, ports, &steps)
 }
 
 #[test]
@@ -91,21 +96,16 @@ fn fifteen_disks_are_read(rt: HostRuntime) -> Result<(), Fail> {
     read_of_each(&rt, rt.alloc(), 15)
 }
 
-fn flushes(rt: &impl Abort, rig: &mut Rig) {
-    rig.answers(
-        rt,
-        &[(Act::Submit(0, Work::Flush, 0, 0), Told::Submitted(1))],
-    );
-    assert!(rt; rig.settle());
-    rig.answers(rt, &[(Act::Poll, FIRST_DONE), (Act::Poll, Told::Idle)]);
-}
-
 /// A Flush moves no data.
 #[test]
 fn one_disk_is_flushed(rt: HostRuntime) -> Result<(), Fail> {
-    let mut rig = Rig::ready(rt.alloc(), 1)?;
-    flushes(&rt, &mut rig);
-    let counted = rig.rows().first().map(|row| (row.sent, row.taken));
-    assert_eq!(rt; counted, Some((4, 4)));
-    Ok(())
+    let steps = [
+        Comes,
+        Does(Act::Submit(0, Work::Flush, 0, 0), Told::Submitted(1)),
+        Settles,
+        Does(Act::Poll, FIRST_DONE),
+        Does(Act::Poll, Told::Idle),
+        Counts(0, 1, (4, 4)),
+    ];
+    plays(&rt, rt.alloc(), 1, &steps)
 }

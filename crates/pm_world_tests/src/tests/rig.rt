@@ -12,8 +12,6 @@ use multiplier::Passed;
 use pm_world::{Answer, Config, ConnCount, Counts, Step, StepError, World, WorldError};
 use std::alloc::{AllocError, Global};
 use std::marker::Model;
-use std::process::Abort;
-use std::test::Fail;
 
 /// Bytes of the host's memory.
 pub(super) const MEMORY: u32 = 0x20_0000;
@@ -43,7 +41,7 @@ pub(super) enum Act {
 }
 
 /// What an answer tells, but for bytes: ports, connections and numbers of frames.
-#[derive(Clone, Copy, Debug, PartialEq, Eq)]
+#[derive(Clone, Copy, PartialEq)]
 pub(super) enum Told {
     Idle,
     Blocked,
@@ -116,7 +114,7 @@ fn bytes_of(answer: Answer) -> Option<Bytes> {
 }
 
 /// A request for so many sectors, into or from these entries.
-pub(super) fn submit(
+fn submit(
     alloc: Global,
     (dev, work, lba, sectors): (u8, Work, u64, u16),
     entries: &[(u32, u32)],
@@ -155,7 +153,7 @@ fn bytes(alloc: Global, value: u8, count: usize) -> Result<Bytes, AllocError> {
 }
 
 /// The step.
-pub(super) fn step_of(alloc: Global, act: Act) -> Result<Step, AllocError> {
+fn step_of(alloc: Global, act: Act) -> Result<Step, AllocError> {
     let step = match act {
         Act::Came(n) => Step::Came(n),
         Act::Gone(n) => Step::Gone(n),
@@ -175,6 +173,23 @@ pub(super) fn step_of(alloc: Global, act: Act) -> Result<Step, AllocError> {
         Act::Put(at, value, count) => Step::Put(at, bytes(alloc, value, count)?),
     };
     Ok(step)
+}
+
+/// One more step.
+fn add(alloc: Global, steps: &mut Vec<Step>, act: Act) -> Result<(), AllocError> {
+    Ok(steps.push(step_of(alloc, act)?)?)
+}
+
+/// Further steps.
+pub(super) fn add_all(
+    alloc: Global,
+    steps: &mut Vec<Step>,
+    acts: &[Act],
+) -> Result<(), AllocError> {
+    for act in acts.iter() {
+        add(alloc, steps, *act)?;
+    }
+    Ok(())
 }
 
 /// A disk of 16 sectors.
@@ -197,9 +212,7 @@ pub(super) fn disks(alloc: Global, count: u8) -> Result<Vec<Unit>, AllocError> {
 /// The plan of a disk of which one sector cannot be read.
 fn bad_plan(sector: u32) -> DiskPlan {
     let mut plan = DiskPlan::plain();
-    if !plan.bad.is_full() {
-        plan.bad.push(sector);
-    }
+    plan.bad.push(sector);
     plan
 }
 
@@ -232,12 +245,6 @@ fn world_with_bad(alloc: Global, sector: u32) -> Result<World, WorldError> {
 /// A world of so many disks, with links of this capacity.
 fn world(alloc: Global, ports: u8, capacity: usize) -> Result<World, WorldError> {
     world_of(alloc, config(ports, capacity), ports)
-}
-
-/// PxIS and PxFBS, which tell of faults.
-fn faults(world: &World) -> [Option<u32>; 2] {
-    let port = world.host();
-    [port.read(0x10).ok(), port.read(0x40).ok()]
 }
 
 fn give_once(world: &mut World, alloc: Global, step: &Step) -> Result<Answer, StepError> {
@@ -285,11 +292,6 @@ fn sector_of(world: &World, n: u8, lba: u32) -> Option<&[u8]> {
     }
 }
 
-/// What is told in step i is what is wanted.
-pub(super) fn is_told(rt: &impl Abort, i: usize, told: Told, wanted: Told) {
-    assert_eq!(rt; told, wanted, "step {i}");
-}
-
 /// A world with the counts of its answers.
 #[derive(Drop)]
 pub(super) struct Rig {
@@ -314,43 +316,31 @@ impl Model for Rig {
 impl Rig {
     /// Of so many disks, none of which is plugged in.
     pub(super) fn new(alloc: Global, ports: u8, capacity: usize) -> Result<Rig, WorldError> {
-        Ok(Rig::of(alloc, world(alloc, ports, capacity)?, ports))
+        let world = world(alloc, ports, capacity)?;
+        Ok(Rig::of(alloc, world, ports, None))
     }
 
-    /// Of two disks and a third, of which one sector cannot be read; all take requests.
-    pub(super) fn with_bad(alloc: Global, sector: u32) -> Result<Rig, Fail> {
-        let mut rig = Rig::of(alloc, world_with_bad(alloc, sector)?, 3);
-        if rig.come() {
-            Ok(rig)
-        } else {
-            Err("no end".into())
-        }
+    /// Of two disks and a third, of which one sector cannot be read. None is plugged in.
+    pub(super) fn with_bad(alloc: Global, sector: u32) -> Result<Rig, WorldError> {
+        let world = world_with_bad(alloc, sector)?;
+        Ok(Rig::of(alloc, world, 3, None))
     }
 
-    fn of(alloc: Global, world: World, ports: u8) -> Rig {
+    /// Of three disks, none of which is plugged in, with an echo that follows.
+    pub(super) fn shown(alloc: Global, echo: Box<Echo>) -> Result<Rig, WorldError> {
+        let world = world(alloc, 3, 1)?;
+        Ok(Rig::of(alloc, world, 3, Some(echo)))
+    }
+
+    fn of(alloc: Global, world: World, ports: u8, echo: Option<Box<Echo>>) -> Rig {
         Rig {
             alloc,
             world,
             ports,
             counts: Counts::new(alloc),
             bytes: None,
-            echo: None,
+            echo,
         }
-    }
-
-    /// Of so many disks that take requests, with links of one frame.
-    pub(super) fn ready(alloc: Global, ports: u8) -> Result<Rig, Fail> {
-        let mut rig = Rig::new(alloc, ports, 1)?;
-        if rig.come() {
-            Ok(rig)
-        } else {
-            Err("no end".into())
-        }
-    }
-
-    /// Lets an echo follow.
-    pub(super) fn show(&mut self, echo: Box<Echo>) {
-        self.echo = Some(echo);
     }
 
     /// Whether all disks come, and all steps are done that can be.
@@ -370,6 +360,18 @@ impl Rig {
         }
         match made {
             Ok(step) => self.gives(&step),
+            Err(_) => Told::Stopped(StepError::OutOfMemory),
+        }
+    }
+
+    /// Puts these bytes at this address, and tells what came of it.
+    pub(super) fn puts(&mut self, at: u32, bytes: &[u8]) -> Told {
+        let mut copied = Bytes::from_slice(self.alloc, bytes);
+        if copied.is_err() {
+            copied = Bytes::from_slice(self.alloc, bytes);
+        }
+        match copied {
+            Ok(bytes) => self.gives(&Step::Put(at, bytes)),
             Err(_) => Told::Stopped(StepError::OutOfMemory),
         }
     }
@@ -439,10 +441,29 @@ impl Rig {
         false
     }
 
-    /// The steps are answered so, one after another.
-    pub(super) fn answers(&mut self, rt: &impl Abort, rows: &[(Act, Told)]) {
-        for (i, (act, wanted)) in rows.iter().enumerate() {
-            is_told(rt, i, self.does(*act), *wanted);
+    /// Whether each of these tells what stands beside it, one after another.
+    pub(super) fn tells(&mut self, rows: &[(Act, Told)]) -> bool {
+        for (act, told) in rows.iter() {
+            if self.does(*act) != *told {
+                return false;
+            }
+        }
+        true
+    }
+
+    /// What is told of a request.
+    pub(super) fn submits(
+        &mut self,
+        request: (u8, Work, u64, u16),
+        entries: &[(u32, u32)],
+    ) -> Told {
+        let mut made = submit(self.alloc, request, entries);
+        if made.is_err() {
+            made = submit(self.alloc, request, entries);
+        }
+        match made {
+            Ok(step) => self.gives(&step),
+            Err(_) => Told::Stopped(StepError::OutOfMemory),
         }
     }
 
@@ -489,14 +510,23 @@ impl Rig {
         self.world.unit(n).is_some()
     }
 
-    /// The byte of the client area at an address.
-    pub(super) fn byte_at(&self, at: u32) -> Option<u8> {
-        byte_at(&self.world, at)
+    /// Whether so many bytes of memory, from this address on, are this one.
+    pub(super) fn holds(&self, at: u32, count: u32, byte: u8) -> bool {
+        let mut holds = true;
+        for i in 0..count {
+            holds &= byte_at(&self.world, at.wrapping_add(i)) == Some(byte);
+        }
+        holds
     }
 
-    /// PxIS and PxFBS, which tell of faults.
-    pub(super) fn faults(&self) -> [Option<u32>; 2] {
-        faults(&self.world)
+    /// Whether the bytes from this address on are this sector of a disk, as it opens: each is one more than the one before.
+    pub(super) fn holds_sector(&self, at: u32, lba: u8) -> bool {
+        let mut holds = true;
+        for i in 0..512_u32 {
+            let opening = ((u32::from(lba) + i) % 256) as u8;
+            holds &= byte_at(&self.world, at.wrapping_add(i)) == Some(opening);
+        }
+        holds
     }
 
     /// The sector of a disk.

@@ -1,9 +1,9 @@
 //! Runs of steps.
 
-use super::rig::{Act, Rig, Told, telling};
+use super::rig::{Act, Rig, Told, add_all, telling};
+use super::steps::all_held;
 use pm_world::{Answer, Step, StepError};
 use std::alloc::{AllocError, Global};
-use std::process::Abort;
 use std::test::Fail;
 
 /// The signature of an ATA device.
@@ -11,14 +11,10 @@ const SIGNATURE: [u8; 20] = [
     0x34, 0, 0x50, 1, 1, 0, 0, 0, 0, 0, 0, 0, 1, 0, 0, 0, 0, 0, 0, 0,
 ];
 
-/// A disk comes and sends its first FIS, and may come again.
-fn steps(alloc: Global, again: bool) -> Result<Vec<Step>, AllocError> {
+/// The steps.
+fn steps(alloc: Global, acts: &[Act]) -> Result<Vec<Step>, AllocError> {
     let mut steps = Vec::new(alloc);
-    steps.push(Step::Came(0))?;
-    steps.push(Step::DiskSend(0))?;
-    if again {
-        steps.push(Step::Came(0))?;
-    }
+    add_all(alloc, &mut steps, acts)?;
     Ok(steps)
 }
 
@@ -31,57 +27,72 @@ fn sends_signature(answer: &Answer) -> bool {
 }
 
 /// A disk came and sent its signature.
-fn are_two(rt: &impl Abort, answers: &[Answer]) {
+fn are_two(answers: &[Answer]) -> bool {
     match answers {
         [came, sent] => {
-            assert!(rt; telling(came) == Told::Came(0, 1));
-            assert!(rt; telling(sent) == Told::Sent(0, 1, 0));
-            assert!(rt; sends_signature(sent));
+            telling(came) == Told::Came(0, 1)
+                && telling(sent) == Told::Sent(0, 1, 0)
+                && sends_signature(sent)
         }
-        _ => assert!(rt; false),
+        _ => false,
     }
 }
 
-/// What the steps answer.
-fn all(rig: &mut Rig, steps: &[Step]) -> Result<Vec<Answer>, StepError> {
+/// Whether this is what a run of the steps answers.
+fn comes_and_sends(rig: &mut Rig, steps: &[Step]) -> Result<bool, StepError> {
     match rig.runs(steps) {
-        Ok(answers) => Ok(answers),
+        Ok(answers) => Ok(are_two(&answers)),
         Err((_, e)) => Err(e),
     }
 }
 
 #[test]
 fn a_disk_comes_and_sends(rt: HostRuntime) -> Result<(), Fail> {
-    let steps = steps(rt.alloc(), false)?;
+    let steps = steps(rt.alloc(), &[Act::Came(0), Act::DiskSend(0)])?;
     let mut rig = Rig::new(rt.alloc(), 1, 64)?;
-    let answers = all(&mut rig, &steps)?;
-    are_two(&rt, &answers);
+    let held = comes_and_sends(&mut rig, &steps)?;
+    all_held(&rt, &[held]);
     Ok(())
 }
 
-/// A run of the steps stops at this one, since a device is there already.
-fn stops_at(rt: &impl Abort, rig: &mut Rig, steps: &[Step], i: usize) {
-    let stopped = rig.runs(steps).err();
-    assert!(rt; stopped == Some((i, StepError::AlreadyThere)));
+/// Whether a run of the steps stops at this one, since a device is there already.
+fn stops_at(rig: &mut Rig, steps: &[Step], i: usize) -> bool {
+    match rig.runs(steps) {
+        Ok(_) => false,
+        Err((at, e)) => at == i && e == StepError::AlreadyThere,
+    }
 }
 
 /// A refused step ends the run, and what was done before stays.
 #[test]
 fn a_disk_comes_once(rt: HostRuntime) -> Result<(), Fail> {
-    let steps = steps(rt.alloc(), true)?;
+    let acts = [Act::Came(0), Act::DiskSend(0), Act::Came(0)];
+    let steps = steps(rt.alloc(), &acts)?;
     let mut rig = Rig::new(rt.alloc(), 1, 1)?;
-    stops_at(&rt, &mut rig, &steps, 2);
-    stops_at(&rt, &mut rig, &steps, 0);
-    rig.answers(&rt, &[(Act::PmFromDevice(0), Told::Offered(0, false))]);
+    let held = [
+        stops_at(&mut rig, &steps, 2),
+        stops_at(&mut rig, &steps, 0),
+        rig.does(Act::PmFromDevice(0)) == Told::Offered(0, false),
+    ];
+    all_held(&rt, &held);
     Ok(())
 }
 
-/// No steps have no answers, and change nothing.
+/// A run of no steps has no answers.
+fn answers_nothing(rig: &mut Rig) -> bool {
+    match rig.runs(&[]) {
+        Ok(answers) => answers.is_empty(),
+        Err(_) => false,
+    }
+}
+
+/// No steps have no answers. There are as many units as ports.
 #[test]
 fn no_steps(rt: HostRuntime) -> Result<(), Fail> {
     let mut rig = Rig::new(rt.alloc(), 1, 1)?;
-    let answers = all(&mut rig, &[])?;
-    assert!(rt; answers.is_empty());
-    assert!(rt; rig.has_unit(0) && !rig.has_unit(1));
+    all_held(
+        &rt,
+        &[answers_nothing(&mut rig), rig.has_unit(0), !rig.has_unit(1)],
+    );
     Ok(())
 }

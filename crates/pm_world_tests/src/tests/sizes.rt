@@ -1,7 +1,9 @@
 //! Configurations, and the numbers of the refusals.
 
 use super::rig::world_of;
+use super::steps::all_held;
 use pm_world::{Config, StepError, WorldError};
+use std::alloc::Global;
 use std::test::Fail;
 
 /// Ports, units, capacity and bytes of memory, and whether there is such a world.
@@ -24,36 +26,42 @@ const ROWS: [(u8, u8, usize, u32, bool); 16] = [
     (1, 1, 1, 0, false),
 ];
 
+/// Whether there is a world of a row where its numbers fit, and else a refusal. Want of memory tells neither.
+fn is_row(alloc: Global, row: (u8, u8, usize, u32, bool)) -> Result<bool, WorldError> {
+    let (ports, units, capacity, memory, fits) = row;
+    let config = Config {
+        ports,
+        capacity,
+        memory,
+    };
+    match world_of(alloc, config, units) {
+        Ok(_) => Ok(fits),
+        Err(WorldError::BadConfig) => Ok(!fits),
+        Err(e) => Err(e),
+    }
+}
+
 #[test]
 fn sizes_are_tested(rt: HostRuntime) -> Result<(), Fail> {
-    for (ports, units, capacity, memory, fits) in ROWS {
-        let config = Config {
-            ports,
-            capacity,
-            memory,
-        };
-        let refused = world_of(rt.alloc(), config, units).err();
-        if refused == Some(WorldError::OutOfMemory) {
-            return Err(WorldError::OutOfMemory.into());
-        }
-        let wanted = (!fits).then_some(WorldError::BadConfig);
-        assert_eq!(rt; refused, wanted, "{ports} {units} {capacity} {memory}");
+    let mut held = [false; 16];
+    for (i, row) in ROWS.iter().enumerate() {
+        held[i] = is_row(rt.alloc(), *row)?;
     }
+    all_held(&rt, &held);
     Ok(())
 }
 
 #[test]
 fn refusals_have_their_numbers(rt: HostRuntime) {
-    for (number, error) in [
-        (1_u8, StepError::OutOfMemory),
-        (2, StepError::BadBytes),
-        (3, StepError::NoSuchPort),
-        (4, StepError::AlreadyThere),
-        (5, StepError::NotThere),
-        (6, StepError::Spent),
-        (7, StepError::Outside),
-        (8, StepError::InUse),
-    ] {
-        assert_eq!(rt; error as u8, number);
-    }
+    let held = [
+        StepError::OutOfMemory as u8 == 1,
+        StepError::BadBytes as u8 == 2,
+        StepError::NoSuchPort as u8 == 3,
+        StepError::AlreadyThere as u8 == 4,
+        StepError::NotThere as u8 == 5,
+        StepError::Spent as u8 == 6,
+        StepError::Outside as u8 == 7,
+        StepError::InUse as u8 == 8,
+    ];
+    all_held(&rt, &held);
 }

@@ -2,37 +2,35 @@
 
 use super::echo::Echo;
 use super::reading::FIRST_DONE;
-use super::rig::{Act, Rig, Told, is_told};
-use fis_view::Bytes;
+use super::rig::{Act, Rig, Told};
+use super::steps::Seen::{Begins, Comes, DataFalls, Falls, IsWritten, PutsWritten, Rises, Rows};
+use super::steps::{Seen, passes};
 use hba_driver::Work;
 use multiplier::Passed;
-use pm_world::Step;
-use std::alloc::Global;
-use std::process::Abort;
 use std::test::Fail;
 
 /// WRITE FPDMA QUEUED of tag 0 for device 2: sector 8.
-const COMMAND: [u8; 20] = [
+const COMMAND: &[u8] = &[
     0x27, 0x82, 0x61, 1, 8, 0, 0, 0x40, 0, 0, 0, 0, 0, 0, 0, 0, 0, 0, 0, 0,
 ];
 /// The command is queued.
-const ACCEPTED: [u8; 20] = [
+const ACCEPTED: &[u8] = &[
     0x34, 2, 0x50, 0, 0, 0, 0, 0, 0, 0, 0, 0, 0, 0, 0, 0, 0, 0, 0, 0,
 ];
 /// DMA Setup of tag 0 from the host, 512 bytes from offset 0.
-const SETUP: [u8; 28] = [
+const SETUP: &[u8] = &[
     0x41, 2, 0, 0, 0, 0, 0, 0, 0, 0, 0, 0, 0, 0, 0, 0, 0, 0, 0, 0, 0, 2, 0, 0, 0, 0, 0, 0,
 ];
 /// DMA Activate.
-const ACTIVATE: [u8; 4] = [0x39, 2, 0, 0];
+const ACTIVATE: &[u8] = &[0x39, 2, 0, 0];
 /// Set Device Bits: tag 0 is done.
-const ENDED: [u8; 8] = [0xA1, 0x42, 0x50, 0, 1, 0, 0, 0];
+const ENDED: &[u8] = &[0xA1, 0x42, 0x50, 0, 1, 0, 0, 0];
 
 /// Where the bytes of the write stand.
 const PLACE: u32 = 0x10_2000;
 
 /// The bytes that are written: each is other than the ones beside it.
-fn written() -> [u8; 512] {
+pub(super) fn written() -> [u8; 512] {
     let mut sector = [0; 512];
     for (i, byte) in sector.iter_mut().enumerate() {
         *byte = (i % 251) as u8;
@@ -41,7 +39,7 @@ fn written() -> [u8; 512] {
 }
 
 /// Data for device 2.
-fn data() -> [u8; 516] {
+pub(super) fn data() -> [u8; 516] {
     let mut fis = [0; 516];
     fis[0] = 0x46;
     fis[1] = 2;
@@ -67,79 +65,82 @@ const DOWN: [(Act, Told); 4] = [
     (Act::DiskTake(2), Told::DiskTook(2, false)),
 ];
 
-/// The host sent this FIS, and device 2 took it with PM Port 0.
-fn went_down(rt: &impl Abort, echo: &Echo, fis: &[u8]) {
-    assert!(rt; echo.pushed() == Some(fis));
+/// Whether the host sent this FIS, and device 2 took it with PM Port 0.
+fn went_down(echo: &Echo, fis: &[u8]) -> bool {
     let fell = echo.fell().unwrap_or(&[]);
-    assert!(rt; is_unmarked(fell, fis));
+    echo.pushed() == Some(fis) && is_unmarked(fell, fis)
 }
 
-/// The host sends this FIS, and device 2 takes it with PM Port 0.
-fn goes_down(rt: &impl Abort, rig: &mut Rig, fis: &[u8]) {
-    rig.answers(rt, &DOWN);
+/// Whether the host sends this FIS, and device 2 takes it with PM Port 0.
+pub(super) fn falls(rig: &mut Rig, fis: &[u8]) -> bool {
+    let told = rig.tells(&DOWN);
     match rig.echo() {
-        Some(echo) => went_down(rt, echo, fis),
-        None => assert!(rt; false),
+        Some(echo) => told && went_down(echo, fis),
+        None => false,
     }
 }
 
-/// Device 2 sends the FIS with this number, with PM Port 0, and the host takes it with PM Port 2.
-fn goes_up(rt: &impl Abort, rig: &mut Rig, number: u32, fis: &[u8]) {
-    is_told(rt, 0, rig.does(Act::DiskSend(2)), Told::Sent(2, 1, number));
-    assert!(rt; is_unmarked(rig.bytes().unwrap_or(&[]), fis));
-    let rows = [
+/// Whether device 2 sends the FIS with this number, with PM Port 0, and the host takes it with PM Port 2.
+pub(super) fn rises(rig: &mut Rig, number: u32, fis: &[u8]) -> bool {
+    let sent = rig.does(Act::DiskSend(2)) == Told::Sent(2, 1, number);
+    let unmarked = is_unmarked(rig.bytes().unwrap_or(&[]), fis);
+    let told = rig.tells(&[
         (Act::PmFromDevice(2), Told::Offered(2, false)),
         (Act::PmUp, Told::Up(2)),
         (Act::HostTake, Told::Took(2, 1, number)),
-    ];
-    rig.answers(rt, &rows);
-    assert!(rt; rig.bytes() == Some(fis));
+    ]);
+    sent && unmarked && told && rig.bytes() == Some(fis)
 }
 
 /// Device 2 of three is given a write of sector 8, of bytes that were put.
-const SUBMITTED: [(Act, Told); 3] = [
+const SUBMITTED: &[(Act, Told)] = &[
     (Act::Submit(2, Work::Write, 8, PLACE), Told::Submitted(1)),
     (Act::Tick, Told::Ticked),
     (Act::Tick, Told::Idle),
 ];
 
-/// The FISes of the write, one after another.
-fn writes(rt: &impl Abort, rig: &mut Rig) {
-    rig.answers(rt, &SUBMITTED);
-    goes_down(rt, rig, &COMMAND);
-    goes_up(rt, rig, 3, &ACCEPTED);
-    goes_up(rt, rig, 4, &SETUP);
-    goes_up(rt, rig, 5, &ACTIVATE);
-    goes_down(rt, rig, &data());
-    assert!(rt; rig.sector(2, 8) == Some(written().as_slice()));
-    goes_up(rt, rig, 6, &ENDED);
-    rig.answers(rt, &[(Act::Tick, Told::Ticked), (Act::Poll, FIRST_DONE)]);
-}
+const ENDS: &[(Act, Told)] = &[(Act::Tick, Told::Ticked), (Act::Poll, FIRST_DONE)];
 
-/// The first byte of a sector of a disk is this one.
-fn begins_with(rig: &Rig, n: u8, lba: u32, byte: u8) -> bool {
+/// Whether the first byte of a sector of a disk is this one.
+pub(super) fn begins_with(rig: &Rig, n: u8, lba: u32, byte: u8) -> bool {
     match rig.sector(n, lba) {
         Some(sector) => sector.first() == Some(&byte),
         None => false,
     }
 }
 
-/// Three disks that take requests, and the bytes to be written at their place.
-fn ready(rt: &impl Abort, alloc: Global) -> Result<Rig, Fail> {
-    let mut rig = Rig::new(alloc, 3, 1)?;
-    rig.show(Box::new(alloc, Echo::new(alloc)?)?);
-    assert!(rt; rig.come());
-    let put = Step::Put(PLACE, Bytes::from_slice(alloc, &written())?);
-    is_told(rt, 0, rig.gives(&put), Told::Put);
-    Ok(rig)
+/// Whether the sector of device 2 is what was written.
+pub(super) fn is_written(rig: &Rig) -> bool {
+    rig.sector(2, 8) == Some(written().as_slice())
 }
+
+/// The bytes to be written are put at their place.
+pub(super) fn puts_written(rig: &mut Rig) -> bool {
+    rig.puts(PLACE, &written()) == Told::Put
+}
+
+/// The FISes of the write, one after another, and the sectors of the disks then.
+const STEPS: &[Seen] = &[
+    Comes,
+    PutsWritten,
+    Rows(SUBMITTED),
+    Falls(COMMAND),
+    Rises(3, ACCEPTED),
+    Rises(4, SETUP),
+    Rises(5, ACTIVATE),
+    DataFalls,
+    IsWritten,
+    Rises(6, ENDED),
+    Rows(ENDS),
+    Begins(1, 8, 8),
+    Begins(2, 7, 7),
+    Begins(2, 9, 9),
+];
 
 #[test]
 fn one_sector_is_written(rt: HostRuntime) -> Result<(), Fail> {
-    let mut rig = ready(&rt, rt.alloc())?;
-    writes(&rt, &mut rig);
-    assert!(rt; begins_with(&rig, 1, 8, 8));
-    assert!(rt; begins_with(&rig, 2, 7, 7));
-    assert!(rt; begins_with(&rig, 2, 9, 9));
+    let echo = Echo::boxed(rt.alloc())?;
+    let mut rig = Rig::shown(rt.alloc(), echo)?;
+    passes(&rt, &mut rig, STEPS);
     Ok(())
 }
