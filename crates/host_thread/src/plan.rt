@@ -68,10 +68,15 @@ pub(crate) fn any_submitted(states: &[State]) -> bool
     states.iter().any(|state| state.is_submitted())
 }
 
-/// Whether one of these has not ended.
+/// Whether one of these has not ended. The last one is open longest, so it is looked at first.
 pub(crate) fn any_open(states: &[State]) -> bool
     ensures { result ≡ list_any is_open states.now }
 {
+    if let Some(last) = states.last() {
+        if last.is_open() {
+            return true;
+        }
+    }
     states.iter().any(|state| state.is_open())
 }
 
