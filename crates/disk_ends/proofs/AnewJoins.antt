@@ -102,7 +102,7 @@ careful_base base = record { since = []; is = sym (append-nil base); fits = tt }
 
 -- ## One happening more
 
-careful_more : (base given : List Happening) (e : Happening) → IsCarefulSince base given → FitsOne (ledger given) e
+pub careful_more : (base given : List Happening) (e : Happening) → IsCarefulSince base given → FitsOne (ledger given) e
     → IsCarefulSince base (given ++ e ∷ [])
 careful_more base given e careful one =
     let now : ledger_after (ledger base) careful.since ≡ ledger given = sym (after_more empty base careful.since) ∙ ap ledger (sym careful.is) in

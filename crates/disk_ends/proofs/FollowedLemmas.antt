@@ -27,7 +27,7 @@ before_run plan sectors m (e ∷ history) more run = (run.0, before_run plan sec
 
 -- ## Each event
 
-follows_linked : (base disk host : List Happening) (down stale up : List (List ℕ)) → IsLinkedOn base disk host down stale up
+pub follows_linked : (base disk host : List Happening) (down stale up : List (List ℕ)) → IsLinkedOn base disk host down stale up
     → IsFollowed base disk host down stale up
 follows_linked base disk host down stale up linked = record {
   followed = disk;
@@ -174,7 +174,7 @@ record IsBefore (base disk host : List Happening) (down up : List (List ℕ)) (b
   linked : IsLinkedOn base followed host below [] (bytes ∷ before)
   past : IsPast later beyond down below
 
-same_first : (x y : List ℕ) (xs ys : List (List ℕ)) → x ∷ xs ≡ y ∷ ys → (y ≡ x) × (xs ≡ ys)
+pub same_first : (x y : List ℕ) (xs ys : List (List ℕ)) → x ∷ xs ≡ y ∷ ys → (y ≡ x) × (xs ≡ ys)
 same_first x y xs ys e = (let a : y ≡ x = cc e in a, let b : xs ≡ ys = cc e in b)
 
 next_by : (base disk host : List Happening) (down up : List (List ℕ)) (bytes : List ℕ) (followed later : List Happening)
@@ -236,7 +236,7 @@ follows_on = record {
 
 -- ## Honesty
 
-run_to : (plan : DiskPlan) (sectors : ℕ) (disk followed later : List Happening) → disk ≡ followed ++ later → IsDiskRun plan sectors disk
+pub run_to : (plan : DiskPlan) (sectors : ℕ) (disk followed later : List Happening) → disk ≡ followed ++ later → IsDiskRun plan sectors disk
     → IsDiskRun plan sectors followed
 run_to plan sectors disk followed later is run = before_run plan sectors (opening sectors) followed later (subst (IsDiskRun plan sectors) is run)
 

@@ -24,3 +24,14 @@ pub mod FollowedLemmas
 pub mod LaterJoins
 pub mod PhaseLemmas
 pub mod CalmOn
+pub mod PlainLemmas
+pub mod WatchedLemmas
+pub mod LineLemmas
+pub mod SentLemmas
+pub mod LooseLemmas
+pub mod MarkedFiles
+pub mod FileLemmas
+pub mod FileLaws
+pub mod FilesLeft
+pub mod WatchingLemmas
+pub mod OutcomeLemmas

@@ -98,14 +98,14 @@ error_heard dev v sound f is =
     ap (λ (b : Bool). (if b then faulty (with_bits v.state status error) cause.TaskFile
     else named (completed mask v.slots) (with_bits v.state status error) mask).fault) is
 
-heard_if : (host new : Host) (frame : List ℕ) (report : TakeReport) (b : Bool) → ignores (port_of frame) host.port frame ≡ b
+pub heard_if : (host new : Host) (frame : List ℕ) (report : TakeReport) (b : Bool) → ignores (port_of frame) host.port frame ≡ b
     → TakesFrame host frame report new → report.ignored ≡ false → b ≡ false
 heard_if host new frame report false is takes heard = refl
 heard_if host new frame report true is takes heard =
     let said = (takes.ignored is).reports in
     absurd (true≢false (sym (ap (λ (r : TakeReport). r.ignored) said) ∙ heard))
 
-error_faults : (n : ℕ) (host new : Host) (bytes : List ℕ) (report : TakeReport) → n < 16 → IsFrame bytes → TakesFrame host (marked bytes n) report new
+pub error_faults : (n : ℕ) (host new : Host) (bytes : List ℕ) (report : TakeReport) → n < 16 → IsFrame bytes → TakesFrame host (marked bytes n) report new
     → report.ignored ≡ false → reports (seen bytes) ≡ true → is_some report.fault ≡ true
 unfolding heard_report
 error_faults n host new bytes report below plain takes heard_it fails =
@@ -126,7 +126,7 @@ error_faults n host new bytes report below plain takes heard_it fails =
 
 -- ## What comes next
 
-none_is : {X : Type 0} (o : Option X) → is_some o ≡ false → o ≡ None
+pub none_is : {X : Type 0} (o : Option X) → is_some o ≡ false → o ≡ None
 none_is None is = refl
 none_is (Some x) is = cc is
 
@@ -141,7 +141,7 @@ module _ (plan : DiskPlan) (sectors : ℕ) (base disk given : List Happening) (d
   low : port_of (marked bytes n) < 15
   low = subst (λ (m : ℕ). m < 15) (sym from_n) below
 
-  hosted_on : IsNextRight given bytes → report.fault ≡ None → report.stopped ≡ None → (resetting : Bool)
+  pub hosted_on : IsNextRight given bytes → report.fault ≡ None → report.stopped ≡ None → (resetting : Bool)
       → (view_of (port_of (marked bytes n)) host.port).state.resetting ≡ resetting
       → IsHostedOn n base new (given ++ Sent bytes ∷ []) commands (own n (touched host (Took (marked bytes n) report)) ++ past)
   hosted_on right fine goes true resetting =

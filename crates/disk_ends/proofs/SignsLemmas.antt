@@ -139,7 +139,7 @@ no_signature f error is other set =
     true≢false (sym first.0 ∙ ap (λ (n : ℕ). eqb n 1) is ∙ other)
 
 -- it answers what came first, and that is the signature
-signs_first : (xs : List Reply) (f : List ℕ) → AnswersFirst xs f → is_signature f ≡ true → (later : List Reply) × (xs ≡ Signs ∷ later)
+pub signs_first : (xs : List Reply) (f : List ℕ) → AnswersFirst xs f → is_signature f ≡ true → (later : List Reply) × (xs ≡ Signs ∷ later)
 signs_first [] f answers set = absurd answers
 signs_first (Signs ∷ xs) f answers set = (xs, refl)
 signs_first (Accepts ∷ xs) f answers set = absurd (no_signature f 0 answers.error_is refl set)

@@ -14,3 +14,7 @@ pub mod Aside
 pub mod Followed
 pub mod Later
 pub mod Phases
+pub mod Watched
+pub mod Line
+pub mod Files
+pub mod Outcomes

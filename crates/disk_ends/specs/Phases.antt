@@ -2,7 +2,8 @@
 -- began anew up to the error that the host takes, and apart from its first fault on, until they
 -- begin anew (AHCI 1.3.1, 6.2.2, error recovery, and 9.3; Serial ATA 3.x, 13.6, native command queuing). In
 -- each phase what the port says is done was done honestly.
-use Rattle.std.specs.Prelude.{ℕ, ◌≡◌, ◌<◌, ◌⊎◌, ◌++◌, true, false, List, [], ◌∷◌, Some}
+use Rattle.std.specs.Prelude.{ℕ, ◌≡◌, ◌<◌, ◌⊎◌, ◌++◌, true, false, List, [], ◌∷◌}
+use Rattle.std.specs.Prelude.{None, Some}
 use Rattle.fis_view.specs.Frames.{IsFrame, marked}
 use Rattle.slots.specs.Slots.{has_bit}
 use Rattle.slots.specs.Work.{is_queued}
@@ -23,6 +24,7 @@ use Rattle.disk_ends.specs.Aside.{IsAside}
 use Rattle.disk_ends.specs.Calm.{IsCalm}
 use Rattle.disk_ends.specs.Followed.{IsFollowed}
 use Rattle.disk_ends.specs.Honest.{IsDoneHonestly}
+use Rattle.disk_ends.specs.Watched.{IsWatched}
 
 -- The disk did all this, and these bytes come next from it; the host heard and gave that, its slots
 -- have these commands, and this is the history of the device's events at its port.
@@ -78,3 +80,23 @@ CalmLeavesTogether =
     (commands next : ℕ → Command) (past : History) → n < 15 → IsHost host → Does host event new
     → IsCalm n host commands event next → IsHostedOn n base host given commands past
     → IsHostedOn n base new given next (own n (touched host event) ++ past)
+
+-- the host took the next FIS of a disk that it watches, and still watches it
+pub record AreWatching (n : ℕ) (base disk given : List Happening) (down up : List (List ℕ))
+    (host : Host) (commands : ℕ → Command) (past : History) : Type 0 where
+  pub watched : IsWatched base disk given down [] up
+  pub hosted : IsHostedOn n base host given commands past
+
+-- So it is with each FIS of which the port reports nothing wrong, and which it does not ignore.
+abbrev pub WatchesWhatIsFine : Type 0
+WatchesWhatIsFine =
+    (plan : DiskPlan) (sectors : ℕ) (base disk given : List Happening)
+    (down up : List (List ℕ)) (bytes : List ℕ)
+    → IsSize plan sectors → IsDiskRun plan sectors disk
+    → IsWatched base disk given down [] (bytes ∷ up)
+    → (n : ℕ) (host new : Host) (report : TakeReport) (commands : ℕ → Command) (past : History)
+    → IsHost host → n < 15 → IsFrame bytes → IsFrame (marked bytes n) → port_of (marked bytes n) ≡ n
+    → IsHostedOn n base host given commands past → TakesFrame host (marked bytes n) report new
+    → report.ignored ≡ false → report.fault ≡ None → report.stopped ≡ None
+    → AreWatching n base disk (given ++ Sent bytes ∷ []) down up new commands
+    (own n (touched host (Took (marked bytes n) report)) ++ past)

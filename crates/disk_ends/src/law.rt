@@ -7,6 +7,8 @@ ghost use Rattle.disk_ends.specs.Answers.{AnswersKeep, NamesKeep, OthersKeep};
 ghost use Rattle.disk_ends.specs.Aside.{AsideIsKept};
 ghost use Rattle.disk_ends.specs.Calm.{CalmRunsKeep};
 ghost use Rattle.disk_ends.specs.Elsewhere.{OthersLeaveDevice};
+ghost use Rattle.disk_ends.specs.Files.{BothHaveBegun, DisksSendTheirs, FilesAreLeft};
+ghost use Rattle.disk_ends.specs.Files.{FilesStayFine, NothingIsRefused};
 ghost use Rattle.disk_ends.specs.Followed.{FollowedIsHonest, FollowsOn, NextIsRightOrFails};
 ghost use Rattle.disk_ends.specs.Heard.{HeardAsTold};
 ghost use Rattle.disk_ends.specs.Honest.{DoneIsHonest, NextIsRight};
@@ -14,11 +16,16 @@ ghost use Rattle.disk_ends.specs.Hosted.{HostedIsKept, NextIsShort};
 ghost use Rattle.disk_ends.specs.Joined.{JoinsCommands, JoinsData, JoinsFrames};
 ghost use Rattle.disk_ends.specs.Joined.{JoinsIssues, JoinsOthers, ReportsHonestly, StaysJoined};
 ghost use Rattle.disk_ends.specs.Later.{NextIsRightLater, ReportsHonestlyLater};
+ghost use Rattle.disk_ends.specs.Line.{LinesBegin, LinesGoOn, MarksAskNothing};
+ghost use Rattle.disk_ends.specs.Line.{PluggingLeavesReset};
 ghost use Rattle.disk_ends.specs.Marked.{MarksTellNothing};
+ghost use Rattle.disk_ends.specs.Outcomes.{EachTakenHasOutcome, NothingIsGiven};
 ghost use Rattle.disk_ends.specs.Phases.{CalmLeavesTogether, EachDoneIsHonest, TakesInEachPhase};
+ghost use Rattle.disk_ends.specs.Phases.{WatchesWhatIsFine};
 ghost use Rattle.disk_ends.specs.Same.{CommandsKeep, DataFills, IssuesKeep, SetupsStart};
 ghost use Rattle.disk_ends.specs.Steps.{ActivatesKeep, DataDown, DataUp, SetupsGoOn};
 ghost use Rattle.disk_ends.specs.Together.{SameGoesOn};
+ghost use Rattle.disk_ends.specs.Watched.{WatchesOn};
 
 /// A command that is issued in a slot whose tag is free, and then goes out, is one that the ledger
 /// has as outstanding with nothing filled; those of other slots stand as they stood.
@@ -164,4 +171,42 @@ pub fn reports_are_honest_in_each_phase()
 pub fn reports_are_honest_later()
     ensures next { NextIsRightLater }
     ensures done { ReportsHonestlyLater }
+{}
+
+/// A disk to which a host gives nothing but commands and Data is watched up to the error that it
+/// reports: that comes up last, and from then on the disk is in its error mode and rests. So it is
+/// watched on at each FIS of which the host port reports nothing wrong.
+pub fn disks_are_watched_to_their_errors()
+    ensures goes_on { WatchesOn }
+    ensures takes { WatchesWhatIsFine }
+{}
+
+/// Once a disk is set aside, the link to it goes from stage to stage, whatever is lost on the way
+/// down, until the disk takes the command that reads its log, or the end of a software reset: then
+/// it owes that page, or its signature, and nothing else, and both begin anew. Until then no
+/// signature comes from it.
+pub fn lines_lead_to_beginning_anew()
+    ensures begins { LinesBegin }
+    ensures goes_on { LinesGoOn }
+    ensures plugs { PluggingLeavesReset }
+    ensures marks { MarksAskNothing }
+{}
+
+/// A disk sends only FISes that are for a host, it refuses nothing of what a careful host gives it
+/// while it watches the disk, and so Status.ERR of its task file at the host port stays 0 up to the
+/// error that it reports, even where the port finds a fault.
+pub fn task_files_stay_fine()
+    ensures begins { BothHaveBegun }
+    ensures sends { DisksSendTheirs }
+    ensures refuses { NothingIsRefused }
+    ensures stays { FilesStayFine }
+    ensures left { FilesAreLeft }
+{}
+
+/// At each FIS that comes from a disk that it watches, and that it does not ignore, a host watches
+/// the disk on, or it sets the disk aside: then the disk failed and rests, or its link is loose and
+/// Status.ERR of its task file is 0. The host gives nothing before the first one.
+pub fn each_fis_has_its_outcome()
+    ensures takes { EachTakenHasOutcome }
+    ensures none { NothingIsGiven }
 {}

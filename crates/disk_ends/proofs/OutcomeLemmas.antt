@@ -1,0 +1,189 @@
+-- What becomes of a host and of a disk that it watches, at each FIS of the disk.
+use Rattle.std.proofs.Common.{◌≡◌, ◌==◌, ℕ, ◌<◌, Bool, true, false, List, [], ◌∷◌, ◌++◌, drop, refl, sym, ap, subst, ◌∙◌, inl, inr, Option, None, Ok, Err, Result, arith}
+use Rattle.std.specs.Prelude.{◌⊎◌, if◌then◌else◌, is_some}
+use Rattle.std.proofs.lemmas.Bool.{true≢false}
+use Rattle.fis_view.specs.Frames.{marked}
+use Rattle.fis_view.specs.Seen.{seen}
+use Rattle.fis_view.specs.declared.view.Fis.{Fis}
+use Rattle.fis_view.specs.declared.view.Fis.TheVariants as view
+use Rattle.fis_view.specs.declared.view.FisFault.{FisFault}
+use Rattle.slots.specs.Slots.{DeviceSlots}
+use Rattle.hba_fbs.specs.declared.register.Register.TheVariants.{Ci}
+use Rattle.hba_fbs.specs.declared.report.TakeReport.{TakeReport}
+use Rattle.hba_fbs.specs.Issuing.{view_issued}
+use Rattle.hba_fbs.specs.Views.{DeviceView, view_of}
+use Rattle.hba_fbs.specs.Writing.{view_after}
+use Rattle.disk_model.specs.declared.plan.DiskPlan.{DiskPlan}
+use Rattle.disk_model.specs.declared.request.Command.{Command}
+use Rattle.disk_model.specs.Anew.{IsClear, OwesOnly}
+use Rattle.disk_model.specs.Ends.{Fits, FitsData, reports}
+use Rattle.disk_model.specs.Histories.{Happening, Received, Sent}
+use Rattle.disk_model.specs.Ledger.{Ledger, Moving, Reply, Wanted, ledger}
+use Rattle.disk_model.specs.Requests.{request_of}
+use Rattle.hba_laws.specs.Client.{own}
+use Rattle.hba_laws.specs.Delivering.{touched}
+use Rattle.hba_laws.specs.History.{History}
+use Rattle.hba_laws.specs.Hosts.{Does, Host, Took, Wrote}
+use Rattle.disk_ends.specs.Anew.{IsHostedOn, IsKeptOn, IsOpening, KeepsSlots}
+use Rattle.disk_ends.specs.Anew as anew
+use Rattle.disk_ends.specs.Aside.{AsideIsKept, IsAside}
+use Rattle.disk_ends.specs.Files.{FilesStayFine, IsFineFile, IsNextHeard}
+use Rattle.disk_ends.specs.Line.{IsWatchedWell, LinesBegin, Loose, OnLine}
+use Rattle.disk_ends.specs.Outcomes.{EachTakenHasOutcome, Fails, HasFineFile, IsNextTaken, Loosens, NothingIsGiven, Outcome, Watches}
+use Rattle.disk_ends.specs.Phases.{AreWatching}
+use Rattle.disk_ends.proofs.AnewJoins.{hosted_on_is_kept}
+use Rattle.disk_ends.proofs.AsideLemmas.{aside_is_kept}
+use Rattle.disk_ends.proofs.FileLaws.{files_stay_fine}
+use Rattle.disk_ends.proofs.LooseLemmas.{lines_begin, not_base, not_waited}
+use Rattle.disk_ends.proofs.PhaseLemmas.{error_faults, none_is}
+use Rattle.disk_ends.proofs.WatchingLemmas.{watches_what_is_fine}
+
+-- ## Nothing is given
+
+given_none : (k : Ledger) (reply : Reply) (wanted : List Wanted) (r : Result Fis FisFault) → OwesOnly k (reply ∷ []) wanted → Fits k r → ⊥
+given_none k reply wanted (Ok (view.RegH2D f)) owes fits =
+    let bad : reply ∷ [] ≡ [] = sym owes.awaited ∙ not_waited k (request_of f) fits.1 in
+    cc bad
+given_none k reply wanted (Ok (view.Payload f)) owes fits = subst (λ (v : Option Moving). FitsData v (drop 4 f)) owes.clear.moving fits
+given_none k reply wanted (Ok (view.RegD2H f)) owes fits = absurd fits
+given_none k reply wanted (Ok (view.SetBits f)) owes fits = absurd fits
+given_none k reply wanted (Ok (view.DmaActivate f)) owes fits = absurd fits
+given_none k reply wanted (Ok (view.DmaSetup f)) owes fits = absurd fits
+given_none k reply wanted (Ok (view.PioSetup f)) owes fits = absurd fits
+given_none k reply wanted (Ok (view.Unknown f)) owes fits = absurd fits
+given_none k reply wanted (Err e) owes fits = absurd fits
+
+pub nothing_is_given : NothingIsGiven
+nothing_is_given k reply wanted bytes owes fits = given_none k reply wanted (seen bytes) owes fits
+
+-- ## Where both began
+
+module _ (n : ℕ) (base : List Happening) (below : n < 15) where
+  began_clear : (host : Host) (given : List Happening) (commands : ℕ → Command) (past : History) → IsHostedOn n base host given commands past
+      → IsClear (ledger base)
+  began_clear host given commands past (anew.opens h c p opening) = opening.clear
+  began_clear host given commands past (anew.stays old new g c p same hosted) = began_clear old g c p hosted
+  began_clear host given commands past (anew.signs old new bytes report g c p sound plain framed from_n well right hosted) =
+      began_clear old g c p hosted
+  began_clear host given commands past (anew.hears old new bytes report g c p sound plain framed from_n well right short hosted) =
+      began_clear old g c p hosted
+  began_clear host given commands past (anew.issues old new value g c next p sound chosen does tags names hosted) = began_clear old g c p hosted
+  began_clear host given commands past (anew.sends old new frame slot command f t g c p sound framed does out here queued cfis request signed hosted) =
+      began_clear old g c p hosted
+  began_clear host given commands past
+      (anew.asks old new frame slot command f t g c p sound framed does out here not_queued control cfis one none signed hosted) =
+      began_clear old g c p hosted
+  began_clear host given commands past (anew.gives old new frame offset len command g c p sound framed does out hosted) = began_clear old g c p hosted
+
+  -- more than the base is not the base
+  not_yet : (old : Host) (g : List Happening) (c : ℕ → Command) (p : History) (e : Happening) → IsHostedOn n base old g c p → g ++ e ∷ [] ≡ base → ⊥
+  not_yet old g c p e hosted same =
+      let kept : IsKeptOn n base old g c p = hosted_on_is_kept n base old g c p below hosted in
+      not_base base g kept.careful.since e kept.careful.is same
+
+  issued_unset : (old new : Host) (value : ℕ) → Does old (Wrote Ci value) new → (view_of n old.port).slots.context ≡ None
+      → (view_of n new.port).slots.context ≡ None
+  unfolding view_after
+  issued_unset old new value does unset =
+      let small : n < 16 = omega (arith, below) in
+      let v : DeviceView = view_of n old.port in
+      ap (λ (w : DeviceView). w.slots.context) (does.1.views n small) ∙ issued_by (n == old.port.registers.chosen)
+    where
+      issued_by : (b : Bool) → (if b then view_issued old.port.registers old.memory value (view_of n old.port) else view_of n old.port).slots.context ≡ None
+      issued_by true = unset
+      issued_by false = unset
+
+  -- no setup stands there
+  began_unset : (host : Host) (given : List Happening) (commands : ℕ → Command) (past : History) → IsHostedOn n base host given commands past
+      → given ≡ base → (view_of n host.port).slots.context ≡ None
+  began_unset host given commands past (anew.opens h c p opening) same = opening.unset
+  began_unset host given commands past (anew.stays old new g c p keeps hosted) same =
+      ap (λ (own : DeviceSlots). own.context) keeps.slots ∙ began_unset old g c p hosted same
+  began_unset host given commands past (anew.signs old new bytes report g c p sound plain framed from_n well right hosted) same =
+      absurd (not_yet old g c p (Sent bytes) hosted same)
+  began_unset host given commands past (anew.hears old new bytes report g c p sound plain framed from_n well right short hosted) same =
+      absurd (not_yet old g c p (Sent bytes) hosted same)
+  began_unset host given commands past (anew.issues old new value g c next p sound chosen does tags names hosted) same =
+      issued_unset old new value does (began_unset old g c p hosted same)
+  began_unset host given commands past (anew.sends old new frame slot command f t g c p sound framed does out here queued cfis request signed hosted) same =
+      absurd (not_yet old g c p (Received (marked frame.bytes 0)) hosted same)
+  began_unset host given commands past
+      (anew.asks old new frame slot command f t g c p sound framed does out here not_queued control cfis one none signed hosted) same =
+      absurd (not_yet old g c p (Received (marked frame.bytes 0)) hosted same)
+  began_unset host given commands past (anew.gives old new frame offset len command g c p sound framed does out hosted) same =
+      absurd (not_yet old g c p (Received (marked frame.bytes 0)) hosted same)
+
+-- ## The outcome
+
+module _ (plan : DiskPlan) (sectors : ℕ) (base disk given : List Happening) (down up : List (List ℕ)) (bytes : List ℕ) (n : ℕ) (host : Host)
+    (report : TakeReport) (new : Host) (commands : ℕ → Command) (past : History)
+    (x : IsNextTaken plan sectors base disk given down up bytes n host report new commands past) (goes : report.stopped ≡ None) where
+  small : n < 16
+  small = let below : n < 15 = x.below in omega (arith, below)
+
+  next_heard : reports (seen bytes) ≡ false → IsNextHeard plan sectors base disk given down up bytes n host report new
+  next_heard fine = record {
+    well = x.well;
+    unrefused = x.unrefused;
+    fine = fine;
+    below = x.below;
+    framed = x.plain;
+    from = x.from;
+    takes = x.takes;
+    heard = x.heard;
+  }
+
+  -- the task file, or a fault of the first FIS
+  file_by : reports (seen bytes) ≡ false → HasFineFile n host base given
+      → IsFineFile (view_of n new.port) ⊎ ((given ≡ base) × (is_some report.fault ≡ true))
+  file_by fine (inr file) =
+      let laws : FilesStayFine = files_stay_fine in
+      inl (laws.stays plan sectors base disk given down up bytes n host report new (next_heard fine) file)
+  file_by fine (inl same) =
+      let laws : FilesStayFine = files_stay_fine in
+      let clear : IsClear (ledger base) = began_clear n base x.below host given commands past x.hosted in
+      elim (laws.first plan sectors base disk given down up bytes n host report new (next_heard fine) clear same
+      (began_unset n base x.below host given commands past x.hosted same)) [
+        | inl file ↦ inl file
+        | inr faulty ↦ inr (same, faulty)
+      ]
+
+  is_aside : is_some report.fault ≡ true → IsAside n new (own n (touched host (Took (marked bytes n) report)) ++ past)
+  is_aside faulty = let laws : AsideIsKept = aside_is_kept in laws.starts n host new (Took (marked bytes n) report) past small x.takes (inl (x.from, faulty))
+
+  loosens : reports (seen bytes) ≡ false → is_some report.fault ≡ true → OnLine Loose (ledger disk) down up
+      → Outcome n base disk given down up bytes new commands (own n (touched host (Took (marked bytes n) report)) ++ past)
+  loosens fine faulty loose = elim (file_by fine x.file) [
+    | inl file ↦ Loosens (is_aside faulty) loose (inr file)
+    | inr fresh ↦ Loosens (is_aside faulty) loose (inl fresh.0)
+  ]
+
+  watching : report.fault ≡ None → AreWatching n base disk (given ++ Sent bytes ∷ []) down up new commands (own n (touched host (Took (marked bytes n) report)) ++ past)
+  watching none =
+      let well : IsWatchedWell plan sectors base disk given down (bytes ∷ up) = x.well in
+      watches_what_is_fine plan sectors base disk given down up bytes well.size well.run well.watched n host new report commands past x.sound x.below
+      x.plain x.framed x.from x.hosted x.takes x.heard none goes
+
+  watches : reports (seen bytes) ≡ false → report.fault ≡ None
+      → Outcome n base disk given down up bytes new commands (own n (touched host (Took (marked bytes n) report)) ++ past)
+  watches fine none = elim (file_by fine x.file) [
+    | inl file ↦ Watches (watching none) file
+    | inr fresh ↦ absurd (true≢false (sym fresh.1 ∙ ap is_some none))
+  ]
+
+  by_fault : reports (seen bytes) ≡ false → OnLine Loose (ledger disk) down up → (b : Bool) → is_some report.fault ≡ b
+      → Outcome n base disk given down up bytes new commands (own n (touched host (Took (marked bytes n) report)) ++ past)
+  by_fault fine loose true is = loosens fine is loose
+  by_fault fine loose false is = watches fine (none_is report.fault is)
+
+  outcome : Outcome n base disk given down up bytes new commands (own n (touched host (Took (marked bytes n) report)) ++ past)
+  outcome =
+      let laws : LinesBegin = lines_begin in
+      elim (laws.next plan sectors base disk given down up bytes x.well) [
+        | inl failed ↦ Fails (is_aside (error_faults n host new bytes report small x.plain x.takes x.heard failed.0)) failed.1
+        | inr loose ↦ by_fault loose.0 loose.1 (is_some report.fault) refl
+      ]
+
+pub each_taken_has_outcome : EachTakenHasOutcome
+each_taken_has_outcome plan sectors base disk given down up bytes n host report new commands past x goes =
+    outcome plan sectors base disk given down up bytes n host report new commands past x goes

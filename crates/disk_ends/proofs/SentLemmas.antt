@@ -1,0 +1,39 @@
+-- The FISes that a disk sends.
+use Rattle.std.proofs.Common.{◌≡◌, ℕ, List}
+use Rattle.fis_view.specs.Table.{EStatus, Pio, field, places}
+use Rattle.fis_view.specs.Built.{cut}
+use Rattle.fis_view.specs.Seen.{seen}
+use Rattle.disk_model.specs.declared.answer.Answer.{Answer}
+use Rattle.disk_model.specs.declared.answer.Answer.TheVariants.{Signature, Accepted, Finished, Refused, Ended, PageFollows, PageData}
+use Rattle.disk_model.specs.Sendings.{Sending, Register, SetsBits, SetsUp, Activates, SetsUpPio, Carries, Shows, answer_sent, page_follows}
+use Rattle.disk_model.proofs.TurnCases.{IsTransfer, sent_by}
+use Rattle.disk_ends.specs.Files.{DisksSendTheirs, IsOfDisk}
+
+ends_fine : (b : List ℕ) → Shows page_follows b → field Pio EStatus b ≡ 0x50
+unfolding places cut
+ends_fine b shows = shows.fields EStatus
+
+answers_by : (sectors : ℕ) (a : Answer) (b : List ℕ) → Shows (answer_sent sectors a) b → IsOfDisk (seen b)
+answers_by sectors Signature b shows = rw shows.viewed tt
+answers_by sectors Accepted b shows = rw shows.viewed tt
+answers_by sectors Finished b shows = rw shows.viewed tt
+answers_by sectors Refused b shows = rw shows.viewed tt
+answers_by sectors (Ended t) b shows = rw shows.viewed tt
+answers_by sectors PageFollows b shows = rw shows.viewed (ends_fine b shows)
+answers_by sectors (PageData page) b shows = rw shows.1 tt
+
+goes_by : (x : Sending) (b : List ℕ) → IsTransfer x → Shows x b → IsOfDisk (seen b)
+goes_by (Register f) b moves shows = absurd moves
+goes_by (SetsBits f) b moves shows = absurd moves
+goes_by (SetsUp f) b moves shows = rw shows.viewed tt
+goes_by Activates b moves shows = rw shows.viewed tt
+goes_by (SetsUpPio f) b moves shows = absurd moves
+goes_by (Carries bytes) b moves shows = rw shows.1 tt
+
+pub of_disk : DisksSendTheirs
+of_disk plan sectors disk b size run = sent_by plan sectors disk b _ size run (λ agrees. record {
+  answers = λ a later is shows. answers_by sectors a b shows;
+  fails = λ c f turn is none shows. rw shows.viewed tt;
+  starts = λ c turn here is none shows. rw shows.viewed tt;
+  goes_on = λ now x is moves shows. goes_by x b moves shows;
+})

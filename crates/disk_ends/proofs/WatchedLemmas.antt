@@ -1,0 +1,196 @@
+-- A disk that is watched, at each happening at either end.
+use Rattle.std.proofs.Common.{◌≡◌, ℕ, Bool, true, false, List, [], ◌∷◌, ◌++◌, append_assoc, refl, sym, ap, subst, ◌∙◌, inl, inr}
+use Rattle.std.specs.Prelude.{◌⊎◌}
+use Rattle.std.proofs.lemmas.List.{append-nil}
+use Rattle.fis_view.specs.Seen.{seen}
+use Rattle.disk_model.specs.declared.plan.DiskPlan.{DiskPlan}
+use Rattle.disk_model.specs.Anew.{IsClear, IsLinkedOn}
+use Rattle.disk_model.specs.Anew as link
+use Rattle.disk_model.specs.Ends.{reports}
+use Rattle.disk_model.specs.Histories.{Happening, Plugged, Received, Sent}
+use Rattle.disk_model.specs.Ledger.{IsSize, ledger}
+use Rattle.disk_model.specs.Runs.{IsDiskRun}
+use Rattle.disk_model.proofs.AnewLemmas.{resting_is_silent}
+use Rattle.disk_ends.specs.Followed.{IsFollowed}
+use Rattle.disk_ends.specs.Followed as past
+use Rattle.disk_ends.specs.Watched.{ArePlain, Erred, Fine, GavePlain, IsErred, IsLastError, IsPlain, IsPlainSince, IsWatched, IsWatchedTo, WatchesOn}
+use Rattle.disk_ends.proofs.FollowedLemmas.{follows_linked, same_first}
+use Rattle.disk_ends.proofs.PlainLemmas.{Stays, erred_now, plain_no_reset, stays_gone, stays_received, unheard_now}
+
+-- ## Lists
+
+pub plain_push : (down : List (List ℕ)) (bytes : List ℕ) → ArePlain down → IsPlain (seen bytes) → ArePlain (down ++ bytes ∷ [])
+plain_push [] bytes plain one = (one, tt)
+plain_push (b ∷ down) bytes plain one = (plain.0, plain_push down bytes plain.1 one)
+
+-- one of them comes
+plain_split : (front : List (List ℕ)) (bytes : List ℕ) (back : List (List ℕ)) → ArePlain (front ++ bytes ∷ back)
+    → IsPlain (seen bytes) × ArePlain (front ++ back)
+plain_split [] bytes back plain = plain
+plain_split (b ∷ front) bytes back plain =
+    let rest = plain_split front bytes back plain.1 in
+    (rest.0, (plain.0, rest.1))
+
+gave_received : (since : List Happening) (bytes : List ℕ) → GavePlain since → IsPlain (seen bytes) → GavePlain (since ++ Received bytes ∷ [])
+gave_received [] bytes gave one = (one, tt)
+gave_received (Received b ∷ since) bytes gave one = (gave.0, gave_received since bytes gave.1 one)
+gave_received (Sent b ∷ since) bytes gave one = gave_received since bytes gave one
+gave_received (Plugged ∷ since) bytes gave one = gave_received since bytes gave one
+
+gave_sent : (since : List Happening) (bytes : List ℕ) → GavePlain since → GavePlain (since ++ Sent bytes ∷ [])
+gave_sent [] bytes gave = tt
+gave_sent (Received b ∷ since) bytes gave = (gave.0, gave_sent since bytes gave.1)
+gave_sent (Sent b ∷ since) bytes gave = gave_sent since bytes gave
+gave_sent (Plugged ∷ since) bytes gave = gave_sent since bytes gave
+
+one_more : (base host since : List Happening) (e : Happening) → host ≡ base ++ since → host ++ e ∷ [] ≡ base ++ (since ++ e ∷ [])
+one_more base host since e is = ap (λ (xs : List Happening). xs ++ e ∷ []) is ∙ append_assoc base since (e ∷ [])
+
+since_given : (base host : List Happening) (bytes : List ℕ) → IsPlain (seen bytes) → IsPlainSince base host
+    → IsPlainSince base (host ++ Received bytes ∷ [])
+since_given base host bytes plain gave = record {
+  since = gave.since ++ Received bytes ∷ [];
+  is = one_more base host gave.since (Received bytes) gave.is;
+  plain = gave_received gave.since bytes gave.plain plain;
+}
+
+since_taken : (base host : List Happening) (bytes : List ℕ) → IsPlainSince base host → IsPlainSince base (host ++ Sent bytes ∷ [])
+since_taken base host bytes gave = record {
+  since = gave.since ++ Sent bytes ∷ [];
+  is = one_more base host gave.since (Sent bytes) gave.is;
+  plain = gave_sent gave.since bytes gave.plain;
+}
+
+-- ## It is followed
+
+follows_to : (base disk host : List Happening) (down stale up : List (List ℕ)) → IsWatchedTo base disk host down stale up
+    → IsFollowed base disk host down stale up
+follows_to base disk host down stale up (Fine linked) = follows_linked base disk host down stale up linked
+follows_to base disk host down stale up (Erred followed later error below before disk_is up_is fails linked erred) = record {
+  followed = followed;
+  later = Sent error ∷ later;
+  before = before;
+  beyond = error ∷ [];
+  below = below;
+  disk_is = disk_is;
+  up_is = up_is;
+  linked = linked;
+  past = past.Failed error later [] down below fails;
+}
+
+-- ## Each event
+
+begins_clear : (base : List Happening) (stale : List (List ℕ)) → IsClear (ledger base) → IsWatched base base base [] stale []
+begins_clear base stale clear = record {
+  to_error = Fine (link.begins stale clear);
+  plain = tt;
+  gave = record { since = []; is = sym (append-nil base); plain = tt };
+  held = refl;
+}
+
+module _ (base disk host : List Happening) (stale up : List (List ℕ)) (bytes : List ℕ) where
+  gives_to : (down : List (List ℕ)) → IsWatchedTo base disk host down stale up
+      → IsWatchedTo base disk (host ++ Received bytes ∷ []) (down ++ bytes ∷ []) stale up
+  gives_to down (Fine linked) = Fine (link.gives disk host down stale up bytes linked)
+  gives_to down (Erred followed later error below before disk_is up_is fails linked erred) =
+      Erred followed later error (below ++ bytes ∷ []) before disk_is up_is fails (link.gives followed host below stale before bytes linked) erred
+
+  gives_on : (down : List (List ℕ)) → IsPlain (seen bytes) → IsWatched base disk host down stale up
+      → IsWatched base disk (host ++ Received bytes ∷ []) (down ++ bytes ∷ []) stale up
+  gives_on down plain w = record {
+    to_error = gives_to down w.to_error;
+    plain = plain_push down bytes w.plain plain;
+    gave = since_given base host bytes plain w.gave;
+    held = w.held;
+  }
+
+  disk_more : (followed later : List Happening) (error : List ℕ) → disk ≡ followed ++ Sent error ∷ later
+      → disk ++ Received bytes ∷ [] ≡ followed ++ Sent error ∷ (later ++ Received bytes ∷ [])
+  disk_more followed later error is = one_more followed disk (Sent error ∷ later) (Received bytes) is
+
+  comes_to : (front back : List (List ℕ)) → IsPlain (seen bytes) → IsWatchedTo base disk host (front ++ bytes ∷ back) stale up
+      → IsWatchedTo base (disk ++ Received bytes ∷ []) host (front ++ back) stale up
+  comes_to front back plain (Fine linked) = Fine (link.comes disk host front back stale up bytes linked)
+  comes_to front back plain (Erred followed later error below before disk_is up_is fails linked erred) =
+      Erred followed (later ++ Received bytes ∷ []) error below before (disk_more followed later error disk_is) up_is fails linked
+      (subst IsErred (sym (unheard_now disk bytes erred plain)) erred)
+
+  comes_on : (front back : List (List ℕ)) → IsWatched base disk host (front ++ bytes ∷ back) stale up
+      → IsWatched base (disk ++ Received bytes ∷ []) host (front ++ back) stale up
+  comes_on front back w =
+      let parts = plain_split front bytes back w.plain in
+      let stays : Stays (ledger disk) (ledger (disk ++ Received bytes ∷ [])) = stays_received disk bytes (plain_no_reset (seen bytes) parts.0) in
+      record { to_error = comes_to front back parts.0 w.to_error; plain = parts.1; gave = w.gave; held = stays.resetting ∙ w.held }
+
+  sends_to : (down : List (List ℕ)) (b : Bool) → reports (seen bytes) ≡ b → (IsErred (ledger disk) → ⊥) → IsWatchedTo base disk host down stale up
+      → IsWatchedTo base (disk ++ Sent bytes ∷ []) host down stale (up ++ bytes ∷ [])
+  sends_to down false fine speaks (Fine linked) = Fine (link.sends disk host down stale up bytes fine linked)
+  sends_to down true fails speaks (Fine linked) = Erred disk [] bytes down up refl refl fails linked (erred_now disk bytes fails)
+  sends_to down b is speaks (Erred followed later error below before disk_is up_is fails linked erred) = absurd (speaks erred)
+
+  sends_on : (plan : DiskPlan) (sectors : ℕ) (down : List (List ℕ)) → IsSize plan sectors → IsDiskRun plan sectors (disk ++ Sent bytes ∷ [])
+      → IsWatched base disk host down stale up → IsWatched base (disk ++ Sent bytes ∷ []) host down stale (up ++ bytes ∷ [])
+  sends_on plan sectors down size run w = record {
+    to_error =
+        sends_to down (reports (seen bytes)) refl (λ erred. resting_is_silent plan sectors disk bytes size erred.rests run) w.to_error;
+    plain = w.plain;
+    gave = w.gave;
+    held = (stays_gone disk bytes).resetting ∙ w.held;
+  }
+
+drops_to : (base disk host : List Happening) (down stale up : List (List ℕ)) (bytes : List ℕ) → IsWatchedTo base disk host down (bytes ∷ stale) up
+    → IsWatchedTo base disk host down stale up
+drops_to base disk host down stale up bytes (Fine linked) = Fine (link.drops disk host down stale up bytes linked)
+drops_to base disk host down stale up bytes (Erred followed later error below before disk_is up_is fails linked erred) =
+    Erred followed later error below before disk_is up_is fails (link.drops followed host below stale before bytes linked) erred
+
+drops_on : (base disk host : List Happening) (down stale up : List (List ℕ)) (bytes : List ℕ) → IsWatched base disk host down (bytes ∷ stale) up
+    → IsWatched base disk host down stale up
+drops_on base disk host down stale up bytes w =
+    record { to_error = drops_to base disk host down stale up bytes w.to_error; plain = w.plain; gave = w.gave; held = w.held }
+
+-- ## What comes next
+
+module _ (base disk host : List Happening) (down up : List (List ℕ)) (bytes : List ℕ) (w : IsWatched base disk host down [] (bytes ∷ up)) where
+  pub next_fails : (error : List ℕ) → bytes ∷ up ≡ error ∷ [] → reports (seen error) ≡ true → IsErred (ledger disk) → IsLastError base disk down up bytes
+  next_fails error up_is fails erred =
+      let first = same_first bytes error up [] up_is in
+      record {
+        fails = subst (λ (x : List ℕ). reports (seen x) ≡ true) first.0 fails;
+        erred = erred;
+        plain = w.plain;
+        last = first.1;
+        held = w.held;
+      }
+
+  takes_erred : (followed later : List Happening) (error : List ℕ) (below before : List (List ℕ)) → disk ≡ followed ++ Sent error ∷ later
+      → bytes ∷ up ≡ before ++ error ∷ [] → reports (seen error) ≡ true → IsLinkedOn base followed host below [] before → IsErred (ledger disk)
+      → IsLastError base disk down up bytes ⊎ IsWatchedTo base disk (host ++ Sent bytes ∷ []) down [] up
+  takes_erred followed later error below [] disk_is up_is fails linked erred = inl (next_fails error up_is fails erred)
+  takes_erred followed later error below (b ∷ before) disk_is up_is fails linked erred =
+      let first = same_first bytes b up (before ++ error ∷ []) up_is in
+      let mine : IsLinkedOn base followed host below [] (bytes ∷ before) =
+      subst (λ (x : List ℕ). IsLinkedOn base followed host below [] (x ∷ before)) first.0 linked in
+      inr (Erred followed later error below before disk_is first.1 fails (link.takes followed host below before bytes mine) erred)
+
+  takes_to : IsWatchedTo base disk host down [] (bytes ∷ up) → IsLastError base disk down up bytes ⊎ IsWatchedTo base disk (host ++ Sent bytes ∷ []) down [] up
+  takes_to (Fine linked) = inr (Fine (link.takes disk host down up bytes linked))
+  takes_to (Erred followed later error below before disk_is up_is fails linked erred) =
+      takes_erred followed later error below before disk_is up_is fails linked erred
+
+  pub takes_on : IsLastError base disk down up bytes ⊎ IsWatched base disk (host ++ Sent bytes ∷ []) down [] up
+  takes_on = elim (takes_to w.to_error) [
+    | inl last ↦ inl last
+    | inr on ↦ inr (record { to_error = on; plain = w.plain; gave = since_taken base host bytes w.gave; held = w.held })
+  ]
+
+pub watches_on : WatchesOn
+watches_on = record {
+  follows = λ base disk host down stale up w. follows_to base disk host down stale up w.to_error;
+  begins = begins_clear;
+  gives = λ base disk host down stale up bytes plain w. gives_on base disk host stale up bytes down plain w;
+  comes = λ base disk host front back stale up bytes w. comes_on base disk host stale up bytes front back w;
+  sends = λ plan sectors base disk host down stale up bytes size run w. sends_on base disk host stale up bytes plan sectors down size run w;
+  drops = drops_on;
+  takes = takes_on;
+}
