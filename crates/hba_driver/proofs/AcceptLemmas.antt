@@ -198,15 +198,15 @@ identify_taken dev old new before after below up none free m acts =
 
 -- ---- each stage of a path
 
-log_proper : (dev : ℕ) → is_proper (header_for (request_of (log_fields dev)) (table_of 30) 1) (request_of (log_fields dev)) 512 30 false ≡ true
+pub log_proper : (dev : ℕ) → is_proper (header_for (request_of (log_fields dev)) (table_of 30) 1) (request_of (log_fields dev)) 512 30 false ≡ true
 unfolding is_proper work_of
 log_proper dev = identify_test (dev % 16 == dev % 16) (equal_is (dev % 16) (dev % 16) refl)
 
-control_proper : (dev value : ℕ) → is_proper (header_for (request_of (control dev value)) (table_of 30) 0) (request_of (control dev value)) 0 30 false ≡ true
+pub control_proper : (dev value : ℕ) → is_proper (header_for (request_of (control dev value)) (table_of 30) 0) (request_of (control dev value)) 0 30 false ≡ true
 unfolding is_proper work_of
 control_proper dev value = rw (equal_is (dev % 16) (dev % 16) refl) refl
 
-small_dev : (n : ℕ) → n < 15 → n % 16 ≡ n
+pub small_dev : (n : ℕ) → n < 15 → n % 16 ≡ n
 small_dev n h = omega (arith, h)
 
 control_taken : (dev value : ℕ) (old new : Port) (before after : Memory) → dev < 15 → IsUp old.registers → old.registers.armed ≡ 0 → issue_at old.slots 30 ≡ None

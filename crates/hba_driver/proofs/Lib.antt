@@ -59,3 +59,9 @@ pub mod AddressLemmas
 pub mod AsksLemmas
 pub mod ScansLemmas
 pub mod ScansTurns
+pub mod TendedLemmas
+pub mod TendedTurns
+pub mod ApartPushes
+pub mod ApartPlans
+pub mod ApartActs
+pub mod ApartViews

@@ -64,7 +64,7 @@ keeps_beside n signs p q h same path order = record {
 
 -- ---- devices that are set
 
-set_other : (devices : List Device) (m n : ℕ) (device : Device) → n ≢ m → get_or (set devices m device) n Absent ≡ get_or devices n Absent
+pub set_other : (devices : List Device) (m n : ℕ) (device : Device) → n ≢ m → get_or (set devices m device) n Absent ≡ get_or devices n Absent
 set_other devices m n device other = get_or-set_other devices m n device Absent other
 
 -- one of a list that is set is what it is set to, or past its end
@@ -95,7 +95,7 @@ detected_cases answer = by_test (answer % 16 == 3)
     by_test true = inl refl
     by_test false = inr refl
 
-never : (n found from : ℕ) → detects n false (scan_from found from) ≡ true → ⊥
+pub never : (n found from : ℕ) → detects n false (scan_from found from) ≡ true → ⊥
 unfolding scan_from
 never n found from h = by_case (lowest_below (λ port. Rattle.std.specs.Prelude.nat_le from port && Rattle.slots.specs.Slots.has_bit found port) 15) h
   where
@@ -103,7 +103,7 @@ never n found from h = by_case (lowest_below (λ port. Rattle.std.specs.Prelude.
     by_case None k = false≢true k
     by_case (Some p) k = false≢true k
 
-never_open : (n ports from : ℕ) → detects n false (open_from ports from) ≡ true → ⊥
+pub never_open : (n ports from : ℕ) → detects n false (open_from ports from) ≡ true → ⊥
 never_open n ports from h = by_test (nat_lt from ports) h
   where
     by_test : (b : Bool) → detects n false (if b then Open from else Scan) ≡ true → ⊥
@@ -211,13 +211,13 @@ control_keeps n signs v plan h =
 
 -- ---- slot 30
 
-same_path : (x y : Path) → Some x ≡ Some y → x ≡ y
+pub same_path : (x y : Path) → Some x ≡ Some y → x ≡ y
 same_path x y h = cc
 
-none_path : (x : Path) {P : Type 0} → None ≡ Some x → P
+pub none_path : (x : Path) {P : Type 0} → None ≡ Some x → P
 none_path x h = cc
 
-path_to_dev : (dev : ℕ) (stage : Option Stage) (x : Path) → path_to dev stage ≡ Some x → x.dev ≡ dev
+pub path_to_dev : (dev : ℕ) (stage : Option Stage) (x : Path) → path_to dev stage ≡ Some x → x.dev ≡ dev
 path_to_dev dev None x h = none_path x h
 path_to_dev dev (Some s) x h =
     let next : Path = record { dev = dev; stage = s; asked = false } in
@@ -418,7 +418,7 @@ of_request : (v : Sight) (plan : Plan) (entries : List (Option Entry)) → DueOf
 unfolding request_due
 of_request v plan entries = of_slots v plan entries (lowest_below (λ slot. may_issue plan (entry_at entries slot)) 30)
 
-of_device : (v : Sight) (plan : Plan) (entries : List (Option Entry)) → DueOf v plan (option_or (device_due v plan) (request_due plan entries))
+pub of_device : (v : Sight) (plan : Plan) (entries : List (Option Entry)) → DueOf v plan (option_or (device_due v plan) (request_due plan entries))
 unfolding device_due
 of_device v plan entries = of_or v plan _ _ (of_slot v plan plan.path refl) (of_request v plan entries)
 

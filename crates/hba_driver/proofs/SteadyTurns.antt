@@ -96,11 +96,11 @@ requests_keep n p q old new ready keeps h = record {
 
 -- ---- a tick
 
-acted_plan : (a : Option Act) (file : TaskFile) (d : Driver) → (acted a file d).plan ≡ match_some a d.plan (λ x. plan_after x file d.plan)
+pub acted_plan : (a : Option Act) (file : TaskFile) (d : Driver) → (acted a file d).plan ≡ match_some a d.plan (λ x. plan_after x file d.plan)
 acted_plan None file d = refl
 acted_plan (Some a) file d = refl
 
-signed_by : (n : ℕ) (port : Port) (memory : Memory) → slice_index_or (sight_of port memory).signed n false ≡ true → is_ata (seen_in (last_d2h memory.structure n)) ≡ true
+pub signed_by : (n : ℕ) (port : Port) (memory : Memory) → slice_index_or (sight_of port memory).signed n false ≡ true → is_ata (seen_in (last_d2h memory.structure n)) ≡ true
 unfolding sight_of
 signed_by n port memory h = elim (cases_lt n 16) [
   | inl below ↦ sym (get_or-map-range_with_len (λ dev. is_ata (seen_in (last_d2h memory.structure dev))) 0 16 n n false below (omega arith)) ∙ h
@@ -149,7 +149,7 @@ unrefused : (b : Bool) (e : SubmitError) → (if b then Some e else None) ≡ No
 unrefused true e h = cc
 unrefused false e h = refl
 
-not_blocked : (d : Driver) (memory : Memory) (dev : ℕ) (request : Request) → submit_refusal d memory dev request ≡ None → is_blocked d dev request ≡ false
+pub not_blocked : (d : Driver) (memory : Memory) (dev : ℕ) (request : Request) → submit_refusal d memory dev request ≡ None → is_blocked d dev request ≡ false
 unfolding submit_refusal
 not_blocked d memory dev request h =
     let rest = second_none (device_refusal (device_at d.plan dev)) _ h in
@@ -162,7 +162,7 @@ ready_device Ready h = refl
 ready_device Unusable h = cc
 ready_device (Recovering way) h = cc
 
-is_ready_dev : (d : Driver) (memory : Memory) (dev : ℕ) (request : Request) → submit_refusal d memory dev request ≡ None → device_at d.plan dev ≡ Ready
+pub is_ready_dev : (d : Driver) (memory : Memory) (dev : ℕ) (request : Request) → submit_refusal d memory dev request ≡ None → device_at d.plan dev ≡ Ready
 unfolding submit_refusal
 is_ready_dev d memory dev request h = ready_device (device_at d.plan dev) (first_none (device_refusal (device_at d.plan dev)) _ h)
 
@@ -192,7 +192,7 @@ not_ended false h = refl
 not_ended true h = absurd (true≢false h)
 
 -- an open request of the device beside the new one: neither is a Flush
-no_flush : (d : Driver) (dev s : ℕ) (request : Request) (e : Entry) → is_blocked d dev request ≡ false → IsOpenAt dev s d.entries e → (is_flush request.work ≡ false) × (is_flush e.head.work ≡ false)
+pub no_flush : (d : Driver) (dev s : ℕ) (request : Request) (e : Entry) → is_blocked d dev request ≡ false → IsOpenAt dev s d.entries e → (is_flush request.work ≡ false) × (is_flush e.head.work ≡ false)
 no_flush d dev s request e free there =
     let below = stands_below d.entries s e there.stands in
     let one : holds (blocks dev request.work) (Some e) ≡ false =

@@ -22,3 +22,5 @@ pub mod Going
 pub mod Slot31
 pub mod Scans
 pub mod Addressed
+pub mod Tended
+pub mod Slot30

@@ -11,6 +11,7 @@ ghost use Rattle.hba_driver.specs.Laws.{CommandsStand, DoneIsFree, EachRunKeeps,
 ghost use Rattle.hba_driver.specs.Scans.{ScansClear};
 ghost use Rattle.hba_driver.specs.Served.{TurnsServe};
 ghost use Rattle.hba_driver.specs.Steady.{EachIsSteady};
+ghost use Rattle.hba_driver.specs.Tended.{EachIsTended};
 
 /// A tick takes no request and gives none away, gives no ticket, and ends no request twice. It does
 /// nothing when it runs.
@@ -113,6 +114,15 @@ pub fn done_was_reported()
 /// none of it, or issues for it what stands in one slot. It does nothing when it runs.
 pub fn turns_are_steady()
     ensures { EachIsSteady }
+{}
+
+/// Of a device that is together with its disk, since its flush or again since its log was read or SRST
+/// was cleared, requests wait or are issued only while it is ready, a Flush alone; it is asked for
+/// something only after its signature came. So it goes on over each turn that does not flush it and ends
+/// no fault of it or of the port, up to the tick that issues its software reset. It does nothing when it
+/// runs.
+pub fn turns_tend()
+    ensures { EachIsTended }
 {}
 
 /// A device that is ready, one of which a request is issued, and one to which the command of a request

@@ -12,6 +12,7 @@ mod laws;
 mod order;
 mod path;
 mod plan;
+mod recovering;
 mod refusal;
 mod request;
 mod scan;
@@ -24,6 +25,7 @@ pub use going::{frames_are_addressed, orders_take_turns, port_goes_on};
 pub use laws::{
     commands_stand, devices_are_known, done_is_free, done_is_true, done_was_reported,
     errors_are_named, hosts_stay_sound, ticks_keep, ticks_serve, turns_are_events,
-    turns_are_steady, turns_deliver, turns_keep, turns_serve, writes_are_accepted,
+    turns_are_steady, turns_deliver, turns_keep, turns_serve, turns_tend, writes_are_accepted,
 };
+pub use recovering::devices_are_apart;
 pub use request::{Completion, Outcome, Request, SubmitError, Ticket, Work};

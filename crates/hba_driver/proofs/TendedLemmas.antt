@@ -1,0 +1,746 @@
+-- What a calm tick leaves of the plan of a device that is together with its disk.
+use Rattle.std.proofs.Common.{◌≡◌, ◌≢◌, ℕ, ◌+◌, ◌⊎◌, ◌&&◌, Bool, true, false, nat_lt, List, get_or, set, refl, sym, ◌∙◌, ap, subst, inl, inr, arith, Option, Some, None}
+use Rattle.std.specs.Prelude.{if◌then◌else◌, ◌==◌, not, is_some, slice_index_or}
+use Rattle.std.specs.Option.{option_map, option_or}
+use Rattle.std.proofs.lemmas.Bool.{cases_eq, false≢true, true≢false}
+use Rattle.std.proofs.lemmas.Bool.Decides.{nat_tests}
+use Rattle.std.proofs.lemmas.List.{get_or-set_other}
+use Rattle.fis_view.specs.declared.build.H2dFields.{H2dFields}
+use Rattle.slots.specs.Slots.{lowest_below, match_some}
+use Rattle.hba_driver.specs.declared.order.Order.{Order}
+use Rattle.hba_driver.specs.declared.order.Order.TheVariants.{ResetOn, ResetOff, AwaitSignature, CountPorts, SetMask, Enable, Open, Scan, Clear, Detect, Watch, NoMultiplier}
+use Rattle.hba_driver.specs.declared.path.Path.{Path}
+use Rattle.hba_driver.specs.declared.path.Recovery.{Recovery}
+use Rattle.hba_driver.specs.declared.path.Recovery.TheVariants.{Log, Reset}
+use Rattle.hba_driver.specs.declared.path.Stage.{Stage}
+use Rattle.hba_driver.specs.declared.path.Stage.TheVariants.{Identify, ReadLog, AssertReset, ReleaseReset, AwaitReset}
+use Rattle.hba_driver.specs.declared.path.TaskFile.{TaskFile}
+use Rattle.hba_driver.specs.declared.plan.Device.{Device}
+use Rattle.hba_driver.specs.declared.plan.Device.TheVariants.{Absent, Ready, Unusable, Recovering}
+use Rattle.hba_driver.specs.declared.plan.Plan.{Plan}
+use Rattle.hba_driver.specs.declared.sight.Sight.{Sight}
+use Rattle.hba_driver.specs.declared.turn.Act.{Act}
+use Rattle.hba_driver.specs.declared.turn.Act.TheVariants as act
+use Rattle.hba_driver.specs.declared.turn.Turn.{Turn}
+use Rattle.hba_driver.specs.Drivers.{Entry, device_at, entry_at}
+use Rattle.hba_driver.specs.Orders.{next_order, order_fields}
+use Rattle.hba_driver.specs.Paths.{first_stage, next_stage, stage_fields}
+use Rattle.hba_driver.specs.Steady.{IsAskedOf, IsCalmAct, IsFine, IsSteadyPlan, detects}
+use Rattle.hba_driver.specs.Tended.{Awaits, Fine, Identifies, IsAskedOn, IsAsking, IsAtStage, IsBegun, IsReleasing, IsStepless, IsTendedBy, IsTendedPlan, IsUnworked, Logs, Releases, Spoilt, WorksOn}
+use Rattle.hba_driver.specs.Ticks.{from_reset, ordered, plan_after, recovering, unless}
+use Rattle.hba_driver.specs.Turns.{advanced, answered, control_news, control_seen, control_turn, detected, device_due, device_seen, device_turn, early_due, found_of, is_back, is_due, is_idle, is_in_reset, is_out, issue_of, may_issue, met, met_order, met_path, met_stage, noted, order_due, path_answered, path_due, path_met, path_to, plain_turn, request_due, signed_order, stage_due, stage_for, turn_of, with_next}
+use Rattle.hba_driver.proofs.SteadyLemmas.{DueOf, PlanKeeps, act_keeps, keeps_then, never, never_open, of_device, of_turn, set_same, turn_keeps, unless_here}
+
+-- ---- paths
+
+same_path : (x y : Path) → Some x ≡ Some y → x ≡ y
+same_path x y h = cc
+
+none_path : (x : Path) {P : Type 0} → None ≡ Some x → P
+none_path x h = cc
+
+-- slot 30 works on the device at one stage
+pub stage_is : (n : ℕ) (stage : Stage) (asked : Bool) (plan : Plan) (stages : Stage → Type 0) → WorksOn n stage asked plan → IsAtStage n stages plan → stages stage
+stage_is n stage asked plan stages works there =
+    let x : Path = record { dev = n; stage = stage; asked = asked } in
+    let same : x ≡ there.0 = same_path x there.0 (sym works ∙ there.1.0) in
+    subst (λ (p : Path). stages p.stage) (sym same) there.1.1.1
+
+pub at_stage : (n : ℕ) (stage : Stage) (asked : Bool) (plan : Plan) (stages : Stage → Type 0) → WorksOn n stage asked plan → stages stage → IsAtStage n stages plan
+at_stage n stage asked plan stages works is = (record { dev = n; stage = stage; asked = asked }, (works, (refl, is)))
+
+pub unworked : (n : ℕ) (plan : Plan) (stages : Stage → Type 0) → IsUnworked n plan → IsAtStage n stages plan → ⊥
+unworked n plan stages free there = free there.0 there.1.0 there.1.1.0
+
+pub recovering_ready : (way : Recovery) → Recovering way ≡ Ready → ⊥
+recovering_ready way h = cc
+
+recovering_absent : (way : Recovery) → Recovering way ≡ Absent → ⊥
+recovering_absent way h = cc
+
+-- ---- what a tick leaves
+
+-- with a tick that finds this sight, of which this is due
+pub record PlanTends (n : ℕ) (signs : Type 0) (v : Sight) (a : Option Act) (p q : Plan) : Type 0 where
+  pub next : IsTendedPlan n q ⊎ ((a ≡ Some (act.Steps n AssertReset)) × ((device_at q n ≡ Recovering Reset) × (WorksOn n AssertReset true q × (detects n q.asked q.order ≡ true → ⊥))))
+  pub ready : device_at p n ≡ Ready → device_at q n ≡ Ready
+  pub asks : IsAskedOn n q → IsAskedOn n p ⊎ ((IsFine (device_at p n) × signs) ⊎ (IsAtStage n IsReleasing p × (is_in_reset v n ≡ false)))
+  pub well : IsFine (device_at q n) → IsFine (device_at p n) ⊎ IsAskedOn n p
+  pub begun : IsAtStage n IsBegun q → IsAtStage n IsBegun p × IsStepless a
+  pub releasing : IsAtStage n IsReleasing q → IsAtStage n IsReleasing p
+  pub awaiting : IsAtStage n IsReleasing p → is_in_reset v n ≡ true → IsAtStage n IsReleasing q
+
+-- ---- a device that recovers from nothing
+
+identify_not : (stages : Stage → Type 0) (s : Stage) → s ≡ Identify → (stages Identify → ⊥) → stages s → ⊥
+identify_not stages s is not h = not (subst stages is h)
+
+none_begun : IsBegun Identify → ⊥
+none_begun h = h
+
+none_releasing : IsReleasing Identify → ⊥
+none_releasing h = h
+
+module _ (n : ℕ) (signs : Type 0) (v : Sight) (a : Option Act) (p q : Plan) (h : IsSteadyPlan n p) (keeps : PlanKeeps n signs p q) where
+  asked_before : IsAskedOn n q → IsAskedOn n p ⊎ ((IsFine (device_at p n) × signs) ⊎ (IsAtStage n IsReleasing p × (is_in_reset v n ≡ false)))
+  asked_before asked = elim (keeps.asks (plainly asked)) [
+    | inl was ↦ inl (back was)
+    | inr signed ↦ inr (inl (h.fine, signed))
+  ]
+    where
+      plainly : IsAskedOn n q → IsAskedOf n q
+      plainly (inl r) = inl r
+      plainly (inr there) = inr (there.0, (there.1.0, there.1.1.0))
+
+      back : IsAskedOf n p → IsAskedOn n p
+      back (inl r) = inl r
+      back (inr there) = inr (there.0, (there.1.0, (there.1.1, subst IsAsking (sym (h.path there.0 there.1.0 there.1.1).0) tt)))
+
+  pub fine_tends : PlanTends n signs v a p q
+  fine_tends = record {
+    next = inl (record { way = Fine keeps.steady.fine keeps.steady.path; order = keeps.steady.order });
+    ready = keeps.ready;
+    asks = asked_before;
+    well = λ f. inl h.fine;
+    begun = λ there. absurd (identify_not IsBegun there.0.stage (keeps.steady.path there.0 there.1.0 there.1.1.0).0 none_begun there.1.1.1);
+    releasing = λ there. absurd (identify_not IsReleasing there.0.stage (keeps.steady.path there.0 there.1.0 there.1.1.0).0 none_releasing there.1.1.1);
+    awaiting = λ there set. absurd (identify_not IsReleasing there.0.stage (h.path there.0 there.1.0 there.1.1.0).0 none_releasing there.1.1.1);
+  }
+
+-- ---- a device that recovers
+
+-- the order is none that looks for the device
+abbrev pub IsUnsought : ℕ → Plan → Type 0
+IsUnsought n plan = detects n plan.asked plan.order ≡ true → ⊥
+
+-- the device and its path are as they were
+pub record Leaves (n : ℕ) (p q : Plan) : Type 0 where
+  pub device : device_at q n ≡ device_at p n
+  pub path : (x : Path) → x.dev ≡ n → p.path ≡ Some x → q.path ≡ Some x
+  pub back : (x : Path) → x.dev ≡ n → q.path ≡ Some x → p.path ≡ Some x
+  pub unsought : IsUnsought n q
+
+leaves_same : (n : ℕ) (p : Plan) → IsUnsought n p → Leaves n p p
+leaves_same n p h = record { device = refl; path = λ x to here. here; back = λ x to here. here; unsought = h }
+
+leaves_then : (n : ℕ) (p q r : Plan) → Leaves n p q → Leaves n q r → Leaves n p r
+leaves_then n p q r h k = record {
+  device = k.device ∙ h.device;
+  path = λ x to here. k.path x to (h.path x to here);
+  back = λ x to here. h.back x to (k.back x to here);
+  unsought = k.unsought;
+}
+
+leaves_path : (n : ℕ) (p q : Plan) → device_at q n ≡ device_at p n → q.path ≡ p.path → IsUnsought n q → Leaves n p q
+leaves_path n p q device path h = record { device = device; path = λ x to here. path ∙ here; back = λ x to here. sym path ∙ here; unsought = h }
+
+leaves_if : (n : ℕ) (b : Bool) (p q r : Plan) → Leaves n p q → Leaves n p r → Leaves n p (if b then q else r)
+leaves_if n true p q r h k = h
+leaves_if n false p q r h k = k
+
+-- ---- slot 31
+
+signed_never : (n : ℕ) (v : Sight) → detects n false (signed_order v) ≡ true → ⊥
+signed_never n v on = by_test v.resetting (v.signature == 0x96690101) on
+  where
+    by_test : (b c : Bool) → detects n false (if b then AwaitSignature else if c then CountPorts else NoMultiplier) ≡ true → ⊥
+    by_test true c k = false≢true k
+    by_test false true k = false≢true k
+    by_test false false k = false≢true k
+
+met_never : (n : ℕ) (v : Sight) (order : Order) → detects n false (met_order v order) ≡ true → detects n false order ≡ true
+unfolding met_order
+met_never n v AwaitSignature on = absurd (signed_never n v on)
+met_never n v Watch on = by_test v.notified on
+  where
+    by_test : (b : Bool) → detects n false (if b then Scan else Watch) ≡ true → detects n false Watch ≡ true
+    by_test true k = k
+    by_test false k = k
+met_never n v ResetOn on = on
+met_never n v ResetOff on = on
+met_never n v CountPorts on = on
+met_never n v SetMask on = on
+met_never n v Enable on = on
+met_never n v (Open port) on = on
+met_never n v Scan on = on
+met_never n v (Clear port) on = on
+met_never n v (Detect port) on = on
+met_never n v NoMultiplier on = on
+
+module _ (n : ℕ) (v : Sight) (plan : Plan) (h : IsUnsought n plan) where
+  answers_order : (order : Order) → plan.order ≡ order → plan.asked ≡ true → Leaves n plan (with_next order (noted v order plan))
+  unfolding noted next_order
+  answers_order ResetOn is out = leaves_path n plan _ refl refl (λ on. false≢true on)
+  answers_order ResetOff is out = leaves_path n plan _ refl refl (λ on. false≢true on)
+  answers_order AwaitSignature is out = leaves_path n plan _ refl refl (λ on. false≢true on)
+  answers_order CountPorts is out = leaves_path n plan _ refl refl (λ on. false≢true on)
+  answers_order SetMask is out = leaves_path n plan _ refl refl (λ on. false≢true on)
+  answers_order Enable is out = leaves_path n plan _ refl refl (λ on. never_open n plan.ports 0 on)
+  answers_order (Open port) is out = leaves_path n plan _ refl refl (λ on. never_open n plan.ports (port + 1) on)
+  answers_order Scan is out = leaves_path n plan _ refl refl (λ on. never n v.answer 0 on)
+  answers_order (Clear port) is out = leaves_path n plan _ refl refl (λ on. h (subst (λ (o : Order). detects n plan.asked o ≡ true) (sym is) (subst (λ (b : Bool). detects n b (Clear port) ≡ true) (sym out) on)))
+  answers_order (Detect port) is out =
+      leaves_path n plan _ (get_or-set_other plan.devices port n (detected v.answer) Absent other) refl (λ on. never n plan.found (port + 1) on)
+    where
+      equal_is : (x y : ℕ) → x ≡ y → (x == y) ≡ true
+      equal_is x y e = grind (arith, nat_tests)
+
+      other : n ≢ port
+      other same = h (subst (λ (o : Order). detects n plan.asked o ≡ true) (sym is) (equal_is port n (sym same)))
+  answers_order Watch is out = leaves_path n plan _ refl refl (λ on. false≢true on)
+  answers_order NoMultiplier is out = leaves_path n plan _ refl refl (λ on. false≢true on)
+
+  answers_if : (a out : Bool) → plan.asked ≡ a → Leaves n plan (if a && not out then with_next plan.order (noted v plan.order plan) else plan)
+  answers_if true false on = answers_order plan.order refl on
+  answers_if true true on = leaves_same n plan h
+  answers_if false out on = leaves_same n plan h
+
+  answered_leaves : Leaves n plan (answered v plan)
+  answered_leaves = answers_if plan.asked (is_out v plan) refl
+
+  met_if : (a : Bool) → plan.asked ≡ a → Leaves n plan (if a then plan else record plan { order = met_order v plan.order })
+  met_if true is = leaves_same n plan h
+  met_if false is =
+      leaves_path n plan (record plan { order = met_order v plan.order }) refl refl
+      (λ on. h (subst (λ (b : Bool). detects n b plan.order ≡ true) (sym is) (met_never n v plan.order (subst (λ (b : Bool). detects n b (met_order v plan.order) ≡ true) is on))))
+
+  met_leaves : Leaves n plan (met v plan)
+  met_leaves = met_if plan.asked refl
+
+control_leaves : (n : ℕ) (v : Sight) (plan : Plan) → IsUnsought n plan → Leaves n plan (control_seen v plan)
+control_leaves n v plan h =
+    let first : Leaves n plan (answered v plan) = answered_leaves n v plan h in
+    leaves_then n plan (answered v plan) (control_seen v plan) first (met_leaves n v (answered v plan) first.unsought)
+
+-- ---- acts beside slot 30
+
+-- no stage is due, and an order that is due is the plan's
+abbrev Plainly : Plan → Option Act → Type 0
+Plainly plan (Some (act.Steps dev stage)) = ⊥
+Plainly plan (Some (act.Orders order)) = order ≡ plan.order
+Plainly plan a = Unit {0}
+
+plainly_or : (plan : Plan) (a b : Option Act) → Plainly plan a → Plainly plan b → Plainly plan (option_or a b)
+plainly_or plan None b h k = k
+plainly_or plan (Some a) b h k = h
+
+plainly_open : (plan : Plan) (b : Bool) → Plainly plan (if b then Some (act.Opens plan.opened) else None)
+plainly_open plan true = tt
+plainly_open plan false = tt
+
+plainly_restart : (plan : Plan) (b : Bool) → Plainly plan (if b then Some (act.Restarts plan.restarted) else None)
+plainly_restart plan true = tt
+plainly_restart plan false = tt
+
+plainly_clears : (plan : Plan) (o : Option ℕ) → Plainly plan (option_map act.Clears o)
+plainly_clears plan None = tt
+plainly_clears plan (Some dev) = tt
+
+plainly_fault : (v : Sight) (plan : Plan) (b : Bool) → Plainly plan (if b then Some act.Stops else option_map act.Clears v.faulty)
+plainly_fault v plan true = tt
+plainly_fault v plan false = plainly_clears plan v.faulty
+
+plainly_early : (v : Sight) (plan : Plan) → Plainly plan (early_due v plan)
+unfolding early_due
+plainly_early v plan = plainly_or plan _ _ (plainly_open plan (nat_lt plan.opened 7)) (plainly_or plan _ _ (plainly_restart plan (nat_lt plan.restarted 2)) (plainly_fault v plan v.stopped))
+
+plainly_map : (plan : Plan) (fields : Option H2dFields) → Plainly plan (option_map (λ f. act.Orders plan.order) fields)
+plainly_map plan None = tt
+plainly_map plan (Some f) = refl
+
+plainly_order : (plan : Plan) (b : Bool) → Plainly plan (if b then None else option_map (λ f. act.Orders plan.order) (order_fields plan.order))
+plainly_order plan true = tt
+plainly_order plan false = plainly_map plan (order_fields plan.order)
+
+plainly_entry : (plan : Plan) (slot : ℕ) (x : Option Entry) → Plainly plan (issue_of slot x)
+plainly_entry plan slot None = tt
+plainly_entry plan slot (Some e) = tt
+
+plainly_slots : (plan : Plan) (entries : List (Option Entry)) (o : Option ℕ) → Plainly plan (match_some o None (λ slot. issue_of slot (entry_at entries slot)))
+plainly_slots plan entries None = tt
+plainly_slots plan entries (Some slot) = plainly_entry plan slot (entry_at entries slot)
+
+plainly_request : (plan : Plan) (entries : List (Option Entry)) → Plainly plan (request_due plan entries)
+unfolding request_due
+plainly_request plan entries = plainly_slots plan entries (lowest_below (λ slot. may_issue plan (entry_at entries slot)) 30)
+
+plainly_stepless : (plan : Plan) (a : Option Act) → Plainly plan a → IsStepless a
+plainly_stepless plan None h = tt
+plainly_stepless plan (Some (act.Opens k)) h = tt
+plainly_stepless plan (Some act.Stops) h = tt
+plainly_stepless plan (Some (act.Restarts k)) h = tt
+plainly_stepless plan (Some (act.Clears dev)) h = tt
+plainly_stepless plan (Some (act.Orders order)) h = tt
+plainly_stepless plan (Some (act.Steps dev stage)) h = h
+plainly_stepless plan (Some (act.Issues slot dev queued)) h = tt
+
+-- an order that is out
+detects_out : (n : ℕ) (asked : Bool) (order : Order) → order ≢ Clear n → detects n true order ≡ true → detects n asked order ≡ true
+detects_out n asked (Clear port) other on = absurd (other (ap Clear (equal_of port n on)))
+  where
+    equal_of : (a b : ℕ) → (true && (a == b)) ≡ true → a ≡ b
+    equal_of a b e = grind (arith, nat_tests)
+detects_out n asked (Detect port) other on = on
+detects_out n asked ResetOn other on = on
+detects_out n asked ResetOff other on = on
+detects_out n asked AwaitSignature other on = on
+detects_out n asked CountPorts other on = on
+detects_out n asked SetMask other on = on
+detects_out n asked Enable other on = on
+detects_out n asked (Open port) other on = on
+detects_out n asked Scan other on = on
+detects_out n asked Watch other on = on
+detects_out n asked NoMultiplier other on = on
+
+-- the path of another device is given up
+unless_stays : (dev : ℕ) (o : Option Path) (x : Path) → x.dev ≢ dev → o ≡ Some x → unless dev o ≡ Some x
+unless_stays dev None x other h = none_path x h
+unless_stays dev (Some path) x other h =
+    let is : path ≡ x = same_path path x h in
+    ap (λ (b : Bool). if b then None else Some path) (test path.dev dev (λ e. other (sym (ap (λ (p : Path). p.dev) is) ∙ e))) ∙ h
+  where
+    test : (a b : ℕ) → a ≢ b → (a == b) ≡ false
+    test a b e = grind (arith, nat_tests)
+
+module _ (n : ℕ) (file : TaskFile) (plan : Plan) (h : IsUnsought n plan) where
+  -- another device recovers
+  aside : (dev : ℕ) → n ≢ dev → Leaves n plan (recovering dev file plan)
+  aside dev other = record {
+    device = get_or-set_other plan.devices dev n _ Absent other;
+    path = λ x to here. unless_stays dev plan.path x (λ e. other (sym to ∙ e)) here;
+    back = λ x to here. (unless_here dev plan.path x here).0;
+    unsought = h;
+  }
+
+  cleared_if : (b : Bool) (dev : ℕ) → n ≢ dev → Leaves n plan (if b then recovering dev file plan else from_reset plan)
+  cleared_if true dev other = aside dev other
+  cleared_if false dev other = leaves_path n plan (from_reset plan) refl refl (λ on. false≢true on)
+
+  out : (order : Order) → order ≢ Clear n → order ≡ plan.order → detects n true plan.order ≡ true → ⊥
+  out order other is on = h (detects_out n plan.asked plan.order (λ e. other (is ∙ e)) on)
+
+  plainly : (order : Order) → order ≢ Clear n → order ≡ plan.order → Leaves n plan (record plan { asked = true })
+  plainly order other is = leaves_path n plan (record plan { asked = true }) refl refl (λ on. out order other is on)
+
+  ordered_leaves : (order : Order) → order ≢ Clear n → order ≡ plan.order → Leaves n plan (ordered order plan)
+  ordered_leaves (Clear port) other is = record {
+    device = get_or-set_other plan.devices port n Absent Absent (λ e. other (ap Clear (sym e)));
+    path = λ x to here. unless_stays port plan.path x (λ e. other (ap Clear (sym e ∙ to))) here;
+    back = λ x to here. (unless_here port plan.path x here).0;
+    unsought = λ on. out (Clear port) other is on;
+  }
+  ordered_leaves ResetOn other is = plainly ResetOn other is
+  ordered_leaves ResetOff other is = plainly ResetOff other is
+  ordered_leaves AwaitSignature other is = plainly AwaitSignature other is
+  ordered_leaves CountPorts other is = plainly CountPorts other is
+  ordered_leaves SetMask other is = plainly SetMask other is
+  ordered_leaves Enable other is = plainly Enable other is
+  ordered_leaves (Open port) other is = plainly (Open port) other is
+  ordered_leaves Scan other is = plainly Scan other is
+  ordered_leaves (Detect port) other is = plainly (Detect port) other is
+  ordered_leaves Watch other is = plainly Watch other is
+  ordered_leaves NoMultiplier other is = plainly NoMultiplier other is
+
+  act_leaves : (a : Option Act) → IsCalmAct n a → Plainly plan a → Leaves n plan (match_some a plan (λ x. plan_after x file plan))
+  unfolding plan_after
+  act_leaves None calm due = leaves_same n plan h
+  act_leaves (Some (act.Opens k)) calm due = leaves_path n plan _ refl refl h
+  act_leaves (Some act.Stops) calm due = absurd calm
+  act_leaves (Some (act.Restarts k)) calm due = leaves_path n plan _ refl refl h
+  act_leaves (Some (act.Clears dev)) calm due = cleared_if (nat_lt dev 15) dev calm
+  act_leaves (Some (act.Orders order)) calm due = ordered_leaves order calm due
+  act_leaves (Some (act.Steps dev stage)) calm due = absurd due
+  act_leaves (Some (act.Issues slot dev queued)) calm due = leaves_same n plan h
+
+-- ---- where the device comes to
+
+abbrev path_at : ℕ → Stage → Bool → Path
+path_at n stage asked = record { dev = n; stage = stage; asked = asked }
+
+unsought_order : (n : ℕ) (plan : Plan) → IsUnsought n plan → detects n plan.asked plan.order ≡ true → device_at plan n ≡ Absent
+unsought_order n plan h on = absurd (h on)
+
+module _ (n : ℕ) (signs : Type 0) (v : Sight) (a : Option Act) (p q : Plan) (unready : device_at p n ≡ Ready → ⊥) where
+  -- slot 30 works on it at this stage
+  to_work : (way : Recovery) (stage : Stage) (asked : Bool) → device_at q n ≡ Recovering way → WorksOn n stage asked q
+      → IsTendedPlan n q ⊎ ((a ≡ Some (act.Steps n AssertReset)) × ((device_at q n ≡ Recovering Reset) × (WorksOn n AssertReset true q × (detects n q.asked q.order ≡ true → ⊥))))
+      → (IsAsking stage → IsAskedOn n p ⊎ ((IsFine (device_at p n) × signs) ⊎ (IsAtStage n IsReleasing p × (is_in_reset v n ≡ false))))
+      → (IsBegun stage → IsAtStage n IsBegun p × IsStepless a) → (IsReleasing stage → IsAtStage n IsReleasing p)
+      → (IsAtStage n IsReleasing p → is_in_reset v n ≡ true → IsReleasing stage) → PlanTends n signs v a p q
+  to_work way stage asked device works next asks begun releasing awaiting = record {
+    next = next;
+    ready = λ r. absurd (unready r);
+    asks = λ on. elim on [
+      | inl r ↦ absurd (recovering_ready way (sym device ∙ r))
+      | inr there ↦ asks (stage_is n stage asked q IsAsking works there)
+    ];
+    well = λ f. absurd (subst IsFine device f);
+    begun = λ there. begun (stage_is n stage asked q IsBegun works there);
+    releasing = λ there. releasing (stage_is n stage asked q IsReleasing works there);
+    awaiting = λ there set. at_stage n stage asked q IsReleasing works (awaiting there set);
+  }
+
+  -- its page came
+  to_steady : IsAskedOn n p → (IsAtStage n IsReleasing p → ⊥) → IsSteadyPlan n q → PlanTends n signs v a p q
+  to_steady asked unreleased steady = record {
+    next = inl (record { way = Fine steady.fine steady.path; order = steady.order });
+    ready = λ r. absurd (unready r);
+    asks = λ on. inl asked;
+    well = λ f. inr asked;
+    begun = λ there. absurd (identify_not IsBegun there.0.stage (steady.path there.0 there.1.0 there.1.1.0).0 none_begun there.1.1.1);
+    releasing = λ there. absurd (identify_not IsReleasing there.0.stage (steady.path there.0 there.1.0 there.1.1.0).0 none_releasing there.1.1.1);
+    awaiting = λ there set. absurd (unreleased there);
+  }
+
+  -- it is to be reset
+  to_spoilt : (IsAtStage n IsReleasing p → ⊥) → device_at q n ≡ Recovering Reset → IsUnsought n q → IsUnworked n q → PlanTends n signs v a p q
+  to_spoilt unreleased device unsought free = record {
+    next = inl (record { way = Spoilt device free; order = unsought_order n q unsought });
+    ready = λ r. absurd (unready r);
+    asks = λ on. elim on [
+      | inl r ↦ absurd (recovering_ready Reset (sym device ∙ r))
+      | inr there ↦ absurd (unworked n q IsAsking free there)
+    ];
+    well = λ f. absurd (subst IsFine device f);
+    begun = λ there. absurd (unworked n q IsBegun free there);
+    releasing = λ there. absurd (unworked n q IsReleasing free there);
+    awaiting = λ there set. absurd (unreleased there);
+  }
+
+  -- its reset is issued
+  to_reset : a ≡ Some (act.Steps n AssertReset) → (IsAtStage n IsReleasing p → ⊥) → device_at q n ≡ Recovering Reset → IsUnsought n q → WorksOn n AssertReset true q → PlanTends n signs v a p q
+  to_reset is unreleased device unsought works =
+      to_work Reset AssertReset true device works (inr (is, (device, (works, unsought)))) (λ k. absurd k) (λ k. absurd k) (λ k. absurd k) (λ there set. absurd (unreleased there))
+
+  -- SRST was cleared before
+  to_released : IsAtStage n IsReleasing p → IsAtStage n IsBegun p → IsStepless a → device_at q n ≡ Recovering Reset → IsUnsought n q → WorksOn n ReleaseReset true q ⊎ WorksOn n AwaitReset false q → PlanTends n signs v a p q
+  to_released at begun stepless device unsought (inl works) =
+      to_work Reset ReleaseReset true device works (inl (record { way = Releases device works; order = unsought_order n q unsought })) (λ k. absurd k) (λ k. (begun, stepless)) (λ k. at) (λ there set. tt)
+  to_released at begun stepless device unsought (inr works) =
+      to_work Reset AwaitReset false device works (inl (record { way = Awaits device works; order = unsought_order n q unsought })) (λ k. absurd k) (λ k. (begun, stepless)) (λ k. at) (λ there set. tt)
+
+  -- and the device signed
+  to_signed : IsAtStage n IsReleasing p → device_at q n ≡ Recovering Reset → IsUnsought n q → WorksOn n Identify true q → is_in_reset v n ≡ false → PlanTends n signs v a p q
+  to_signed at device unsought works off =
+      to_work Reset Identify true device works (inl (record { way = Identifies device works; order = unsought_order n q unsought })) (λ k. inr (inr (at, off))) (λ k. absurd k) (λ k. absurd k)
+      (λ there set. absurd (true≢false (sym set ∙ off)))
+
+  to_identifies : WorksOn n Identify true p → device_at q n ≡ Recovering Reset → IsUnsought n q → WorksOn n Identify true q → PlanTends n signs v a p q
+  to_identifies was device unsought works =
+      to_work Reset Identify true device works (inl (record { way = Identifies device works; order = unsought_order n q unsought })) (λ k. inl (inr (at_stage n Identify true p IsAsking was tt))) (λ k. absurd k) (λ k. absurd k)
+      (λ there set. stage_is n Identify true p IsReleasing was there)
+
+  to_logs : (before file : TaskFile) → IsStepless a → WorksOn n (ReadLog file) true p → device_at q n ≡ Recovering (Log before) → IsUnsought n q → WorksOn n (ReadLog file) true q → PlanTends n signs v a p q
+  to_logs before file stepless was device unsought works =
+      to_work (Log before) (ReadLog file) true device works (inl (record { way = Logs before file device works; order = unsought_order n q unsought }))
+      (λ k. inl (inr (at_stage n (ReadLog file) true p IsAsking was tt))) (λ k. (at_stage n (ReadLog file) true p IsBegun was tt, stepless)) (λ k. absurd k)
+      (λ there set. stage_is n (ReadLog file) true p IsReleasing was there)
+
+-- ---- what slot 30 shows
+
+seen_as : (v : Sight) (plan : Plan) (x : Path) → plan.path ≡ Some x → device_seen v plan ≡ path_met v (if is_back v x then advanced v x plan else plan)
+seen_as v plan x here = ap (λ (o : Option Path). path_met v (match_some o plan (λ path. if is_back v path then advanced v path plan else plan))) here
+
+-- SRST was cleared: its signature is awaited, or came
+data ReleasedSeen (n : ℕ) (v : Sight) (q : Plan) : Type 0 where
+  Going : device_at q n ≡ Recovering Reset → IsUnsought n q → WorksOn n ReleaseReset true q → ReleasedSeen n v q
+  Waiting : device_at q n ≡ Recovering Reset → IsUnsought n q → WorksOn n AwaitReset false q → ReleasedSeen n v q
+  Signed : device_at q n ≡ Recovering Reset → IsUnsought n q → WorksOn n Identify false q → is_in_reset v n ≡ false → ReleasedSeen n v q
+
+releases_seen : (n : ℕ) (v : Sight) (plan : Plan) → device_at plan n ≡ Recovering Reset → IsUnsought n plan → WorksOn n ReleaseReset true plan → ReleasedSeen n v (device_seen v plan)
+unfolding found_of next_stage met_stage
+releases_seen n v plan device unsought works =
+    subst (λ (q : Plan). ReleasedSeen n v q) (sym (seen_as v plan (path_at n ReleaseReset true) works)) (by_back (is_back v (path_at n ReleaseReset true)))
+  where
+    by_in : (c : Bool) → is_in_reset v n ≡ c → ReleasedSeen n v (path_met v (advanced v (path_at n ReleaseReset true) plan))
+    by_in true is = Waiting device unsought (ap (λ (c : Bool). Some (path_at n (if c then AwaitReset else Identify) false)) is)
+    by_in false is = Signed device unsought (ap (λ (c : Bool). Some (path_at n (if c then AwaitReset else Identify) false)) is) is
+
+    by_back : (b : Bool) → ReleasedSeen n v (path_met v (if b then advanced v (path_at n ReleaseReset true) plan else plan))
+    by_back true = by_in (is_in_reset v n) refl
+    by_back false = Going device unsought (ap (option_map (met_path v)) works)
+
+awaits_seen : (n : ℕ) (v : Sight) (plan : Plan) → device_at plan n ≡ Recovering Reset → IsUnsought n plan → WorksOn n AwaitReset false plan → ReleasedSeen n v (device_seen v plan)
+unfolding met_stage
+awaits_seen n v plan device unsought works =
+    subst (λ (q : Plan). ReleasedSeen n v q) (sym (seen_as v plan (path_at n AwaitReset false) works)) (by_in (is_in_reset v n) refl)
+  where
+    by_in : (c : Bool) → is_in_reset v n ≡ c → ReleasedSeen n v (path_met v plan)
+    by_in true is = Waiting device unsought (ap (option_map (met_path v)) works ∙ ap (λ (c : Bool). Some (path_at n (if c then AwaitReset else Identify) false)) is)
+    by_in false is = Signed device unsought (ap (option_map (met_path v)) works ∙ ap (λ (c : Bool). Some (path_at n (if c then AwaitReset else Identify) false)) is) is
+
+-- a page of it is out, or came: then slot 30 is free, and the device recovers from nothing, or its log was not whole
+data PageSeen (n : ℕ) (way : Recovery) (stage : Stage) (q : Plan) : Type 0 where
+  StillOut : device_at q n ≡ Recovering way → IsUnsought n q → WorksOn n stage true q → PageSeen n way stage q
+  Came : IsFine (device_at q n) → IsUnsought n q → q.path ≡ None → PageSeen n way stage q
+  Bad : device_at q n ≡ Recovering Reset → IsUnsought n q → q.path ≡ None → PageSeen n way stage q
+
+fine_set : (devices : List Device) (n : ℕ) (device : Device) → IsFine device → IsFine (get_or (set devices n device) n Absent)
+fine_set devices n device fine = elim (set_same devices n device) [ inl is ↦ subst IsFine (sym is) fine | inr past ↦ subst IsFine (sym past) tt ]
+
+identifies_seen : (n : ℕ) (v : Sight) (plan : Plan) → device_at plan n ≡ Recovering Reset → IsUnsought n plan → WorksOn n Identify true plan → PageSeen n Reset Identify (device_seen v plan)
+unfolding found_of next_stage
+identifies_seen n v plan device unsought works =
+    subst (λ (q : Plan). PageSeen n Reset Identify q) (sym (seen_as v plan (path_at n Identify true) works)) (by_back (is_back v (path_at n Identify true)))
+  where
+    fine_by : (b : Bool) → IsFine (if b then Ready else Unusable)
+    fine_by true = tt
+    fine_by false = tt
+
+    by_back : (b : Bool) → PageSeen n Reset Identify (path_met v (if b then advanced v (path_at n Identify true) plan else plan))
+    by_back true = Came (fine_set plan.devices n (if v.usable then Ready else Unusable) (fine_by v.usable)) unsought refl
+    by_back false = StillOut device unsought (ap (option_map (met_path v)) works)
+
+logs_seen : (n : ℕ) (v : Sight) (plan : Plan) (before file : TaskFile) → device_at plan n ≡ Recovering (Log before) → IsUnsought n plan → WorksOn n (ReadLog file) true plan → PageSeen n (Log before) (ReadLog file) (device_seen v plan)
+unfolding found_of next_stage
+logs_seen n v plan before file device unsought works =
+    subst (λ (q : Plan). PageSeen n (Log before) (ReadLog file) q) (sym (seen_as v plan (path_at n (ReadLog file) true) works)) (by_back (is_back v (path_at n (ReadLog file) true)))
+  where
+    by_set : (b : Bool) → (if v.log.whole then Ready else Recovering Reset) ≡ (if b then Ready else Recovering Reset) → PageSeen n (Log before) (ReadLog file) (path_met v (advanced v (path_at n (ReadLog file) true) plan))
+    by_set true is = Came (fine_set plan.devices n (if v.log.whole then Ready else Recovering Reset) (subst IsFine (sym is) tt)) unsought refl
+    by_set false is = elim (set_same plan.devices n (if v.log.whole then Ready else Recovering Reset)) [
+      | inl at ↦ Bad (at ∙ is) unsought refl
+      | inr past ↦ Came (subst IsFine (sym past) tt) unsought refl
+    ]
+
+    by_back : (b : Bool) → PageSeen n (Log before) (ReadLog file) (path_met v (if b then advanced v (path_at n (ReadLog file) true) plan else plan))
+    by_back true = by_set v.log.whole refl
+    by_back false = StillOut device unsought (ap (option_map (met_path v)) works)
+
+-- ---- slot 30 works on another device, or on none
+
+found_device : (n : ℕ) (v : Sight) (plan : Plan) (stage : Stage) (dev : ℕ) → dev ≢ n → device_at (found_of v stage dev plan) n ≡ device_at plan n
+unfolding found_of
+found_device n v plan Identify dev other = get_or-set_other plan.devices dev n _ Absent (λ e. other (sym e))
+found_device n v plan (ReadLog file) dev other = get_or-set_other plan.devices dev n _ Absent (λ e. other (sym e))
+found_device n v plan AssertReset dev other = refl
+found_device n v plan ReleaseReset dev other = refl
+found_device n v plan AwaitReset dev other = refl
+
+found_order : (n : ℕ) (v : Sight) (plan : Plan) (stage : Stage) (dev : ℕ) → detects n (found_of v stage dev plan).asked (found_of v stage dev plan).order ≡ detects n plan.asked plan.order
+unfolding found_of
+found_order n v plan Identify dev = refl
+found_order n v plan (ReadLog file) dev = refl
+found_order n v plan AssertReset dev = refl
+found_order n v plan ReleaseReset dev = refl
+found_order n v plan AwaitReset dev = refl
+
+path_to_dev : (dev : ℕ) (stage : Option Stage) (x : Path) → path_to dev stage ≡ Some x → x.dev ≡ dev
+path_to_dev dev None x h = none_path x h
+path_to_dev dev (Some s) x h = ap (λ (p : Path). p.dev) (sym (same_path (path_at dev s false) x h))
+
+met_dev : (v : Sight) (b : Bool) (path : Path) → (if b then path else record path { stage = met_stage v path.dev path.stage }).dev ≡ path.dev
+met_dev v true path = refl
+met_dev v false path = refl
+
+met_unworked : (n : ℕ) (v : Sight) (o : Option Path) → ((x : Path) → o ≡ Some x → x.dev ≢ n) → (x : Path) → option_map (met_path v) o ≡ Some x → x.dev ≢ n
+met_unworked n v None free x there to = none_path x there
+met_unworked n v (Some y) free x there to =
+    free y refl (sym (met_dev v y.asked y) ∙ ap (λ (p : Path). p.dev) (same_path (met_path v y) x there) ∙ to)
+
+-- the device is to be reset, and slot 30 does not work on it
+record IsLeft (n : ℕ) (q : Plan) : Type 0 where
+  pub device : device_at q n ≡ Recovering Reset
+  pub unsought : IsUnsought n q
+  pub free : IsUnworked n q
+
+left_met : (n : ℕ) (v : Sight) (plan : Plan) → IsLeft n plan → IsLeft n (path_met v plan)
+left_met n v plan h = record { device = h.device; unsought = h.unsought; free = met_unworked n v plan.path h.free }
+
+left_seen : (n : ℕ) (v : Sight) (plan : Plan) → IsLeft n plan → IsLeft n (device_seen v plan)
+left_seen n v plan h = left_met n v (path_answered v plan) (by_path plan.path refl)
+  where
+    by_back : (b : Bool) (y : Path) → plan.path ≡ Some y → IsLeft n (if b then advanced v y plan else plan)
+    by_back false y here = h
+    by_back true y here = record {
+      device = found_device n v plan y.stage y.dev (h.free y here) ∙ h.device;
+      unsought = λ on. h.unsought (sym (found_order n v plan y.stage y.dev) ∙ on);
+      free = λ x there to. h.free y here (sym (path_to_dev y.dev (next_stage y.stage) x there) ∙ to);
+    }
+
+    by_path : (o : Option Path) → plan.path ≡ o → IsLeft n (match_some o plan (λ path. if is_back v path then advanced v path plan else plan))
+    by_path None here = h
+    by_path (Some y) here = by_back (is_back v y) y here
+
+-- ---- what is due by slot 30
+
+due_is : (v : Sight) (q : Plan) (y : Path) → q.path ≡ Some y → device_due v q ≡ path_due y
+unfolding device_due
+due_is v q y here = ap (λ (o : Option Path). match_some o (match_some (lowest_below (is_due v q) 15) None (stage_due v q)) path_due) here
+
+none_due : (n : ℕ) → path_due (path_at n AwaitReset false) ≡ None
+unfolding stage_fields
+none_due n = refl
+
+identify_due : (n : ℕ) → path_due (path_at n Identify false) ≡ Some (act.Steps n Identify)
+unfolding stage_fields
+identify_due n = refl
+
+reset_stage : (device : Device) (signed : Bool) (stage : Stage) → device ≡ Recovering Reset → first_stage device signed ≡ Some stage → stage ≡ AssertReset
+reset_stage device signed stage is due =
+    let it : Some AssertReset ≡ Some stage = sym (ap (λ (d : Device). first_stage d signed) is) ∙ due in cc
+
+-- ---- turns
+
+abbrev pub TurnTends : ℕ → Type 0 → Sight → TaskFile → Plan → Turn → Type 0
+TurnTends n signs v file p t = IsCalmAct n t.act → PlanTends n signs v t.act p (match_some t.act t.plan (λ x. plan_after x file t.plan))
+
+tends_if : (n : ℕ) (signs : Type 0) (v : Sight) (file : TaskFile) (p : Plan) (b : Bool) (t u : Turn) → TurnTends n signs v file p t → TurnTends n signs v file p u → TurnTends n signs v file p (if b then t else u)
+tends_if n signs v file p true t u h k = h
+tends_if n signs v file p false t u h k = k
+
+-- another name of what is due
+renamed : (n : ℕ) (signs : Type 0) (v : Sight) (file : TaskFile) (p q : Plan) (a b : Option Act) → a ≡ b → (IsCalmAct n b → PlanTends n signs v b p (match_some b q (λ x. plan_after x file q)))
+    → IsCalmAct n a → PlanTends n signs v a p (match_some a q (λ x. plan_after x file q))
+renamed n signs v file p q a b is f = subst (λ (c : Option Act). IsCalmAct n c → PlanTends n signs v c p (match_some c q (λ x. plan_after x file q))) (sym is) f
+
+module _ (n : ℕ) (signs : Type 0) (v : Sight) (file : TaskFile) (p : Plan) (entries : List (Option Entry)) where
+  -- a turn that does not look at slot 30, and one that does
+  abbrev Keeps : Type 0
+  Keeps = (q : Plan) (a : Option Act) → Leaves n p q → IsStepless a → PlanTends n signs v a p q
+
+  abbrev Looks : Type 0
+  Looks = (q : Plan) (news : Bool) → Leaves n p q → TurnTends n signs v file p (device_turn v news q entries)
+
+  plain_tends : Keeps → (r : Plan) (a : Option Act) (news : Bool) → Leaves n p r → Plainly r a → TurnTends n signs v file p (plain_turn r a news)
+  plain_tends keep r a news leaves due calm =
+      keep (match_some a r (λ x. plan_after x file r)) a (leaves_then n p r (match_some a r (λ x. plan_after x file r)) leaves (act_leaves n file r leaves.unsought a calm due)) (plainly_stepless r a due)
+
+  control_tends : Keeps → Looks → (r : Plan) (news : Bool) → Leaves n p r → TurnTends n signs v file p (control_turn v news r entries)
+  control_tends keep looks r news leaves =
+      tends_if n signs v file p (is_idle r.order) (plain_turn r None news) _ (plain_tends keep r None news leaves tt)
+      (tends_if n signs v file p (is_some (order_due r)) (plain_turn r (order_due r) news) _ (plain_tends keep r (order_due r) news leaves (plainly_order r r.asked)) (looks r news leaves))
+
+  whole_tends : IsUnsought n p → Keeps → Looks → TurnTends n signs v file p (turn_of v p entries)
+  unfolding turn_of
+  whole_tends unsought keep looks =
+      tends_if n signs v file p (is_some (early_due v p)) (plain_turn p (early_due v p) false) _ (plain_tends keep p (early_due v p) false (leaves_same n p unsought) (plainly_early v p))
+      (control_tends keep looks (control_seen v p) (control_news v p) (control_leaves n v p unsought))
+
+  -- no stage is due, since slot 30 is held
+  holding : (q : Plan) → IsUnsought n q → device_due v q ≡ None
+      → ((r : Plan) (a : Option Act) → Leaves n q r → IsStepless a → PlanTends n signs v a p r) → IsCalmAct n (option_or (device_due v q) (request_due q entries))
+      → PlanTends n signs v (option_or (device_due v q) (request_due q entries)) p (match_some (option_or (device_due v q) (request_due q entries)) q (λ x. plan_after x file q))
+  holding q unsought none f =
+      renamed n signs v file p q (option_or (device_due v q) (request_due q entries)) (request_due q entries) (ap (λ (o : Option Act). option_or o (request_due q entries)) none)
+      (λ calm. f (match_some (request_due q entries) q (λ x. plan_after x file q)) (request_due q entries) (act_leaves n file q unsought (request_due q entries) calm (plainly_request q entries)) (plainly_stepless q (request_due q entries) (plainly_request q entries)))
+
+  -- ---- each state
+
+  module _ (signed : slice_index_or v.signed n false ≡ true → signs) where
+    unready : (way : Recovery) → device_at p n ≡ Recovering way → device_at p n ≡ Ready → ⊥
+    unready way device r = recovering_ready way (sym device ∙ r)
+
+    released_looks : device_at p n ≡ Recovering Reset → IsAtStage n IsReleasing p → IsAtStage n IsBegun p → (q : Plan) (news : Bool) → ReleasedSeen n v (device_seen v q) → TurnTends n signs v file p (device_turn v news q entries)
+    unfolding plan_after
+    released_looks device at begun q news (Going there unsought works) =
+        holding (device_seen v q) unsought (due_is v (device_seen v q) (path_at n ReleaseReset true) works) (λ r a leaves stepless.
+        to_released n signs v a p r (unready Reset device) at begun stepless (leaves.device ∙ there) leaves.unsought (inl (leaves.path (path_at n ReleaseReset true) refl works)))
+    released_looks device at begun q news (Waiting there unsought works) =
+        holding (device_seen v q) unsought (due_is v (device_seen v q) (path_at n AwaitReset false) works ∙ none_due n) (λ r a leaves stepless.
+        to_released n signs v a p r (unready Reset device) at begun stepless (leaves.device ∙ there) leaves.unsought (inr (leaves.path (path_at n AwaitReset false) refl works)))
+    released_looks device at begun q news (Signed there unsought works off) =
+        renamed n signs v file p (device_seen v q) (option_or (device_due v (device_seen v q)) (request_due (device_seen v q) entries)) (Some (act.Steps n Identify))
+        (ap (λ (o : Option Act). option_or o (request_due (device_seen v q) entries)) (due_is v (device_seen v q) (path_at n Identify false) works ∙ identify_due n)) (λ calm. stepped (device_seen v q) there unsought)
+      where
+        stepped : (r : Plan) → device_at r n ≡ Recovering Reset → IsUnsought n r → PlanTends n signs v (Some (act.Steps n Identify)) p (plan_after (act.Steps n Identify) file r)
+        stepped r there unsought = to_signed n signs v (Some (act.Steps n Identify)) p (record r { path = Some (path_at n Identify true) }) (unready Reset device) at there unsought refl off
+
+    -- its page came
+    came_looks : (device_at p n ≡ Ready → ⊥) → IsAskedOn n p → (IsAtStage n IsReleasing p → ⊥) → (q : Plan) (news : Bool) → IsFine (device_at (device_seen v q) n) → IsUnsought n (device_seen v q) → (device_seen v q).path ≡ None
+        → TurnTends n signs v file p (device_turn v news q entries)
+    came_looks not_ready asked unreleased q news fine unsought none calm =
+        let steady : IsSteadyPlan n (device_seen v q) = record {
+          fine = fine;
+          path = λ x here to. none_path x (sym none ∙ here);
+          order = unsought_order n (device_seen v q) unsought;
+        } in
+        to_steady n signs v (option_or (device_due v (device_seen v q)) (request_due (device_seen v q) entries)) p _ not_ready asked unreleased
+        (act_keeps n signs v file (device_seen v q) steady (option_or (device_due v (device_seen v q)) (request_due (device_seen v q) entries)) signed calm (of_device v (device_seen v q) entries)).steady
+
+    -- it is to be reset
+    left_plain : (device_at p n ≡ Ready → ⊥) → (IsAtStage n IsReleasing p → ⊥) → (q : Plan) → IsLeft n q → (a : Option Act) → Plainly q a → IsCalmAct n a → PlanTends n signs v a p (match_some a q (λ x. plan_after x file q))
+    left_plain not_ready unreleased q left a due calm =
+        let l : Leaves n q (match_some a q (λ x. plan_after x file q)) = act_leaves n file q left.unsought a calm due in
+        to_spoilt n signs v a p (match_some a q (λ x. plan_after x file q)) not_ready unreleased (l.device ∙ left.device) l.unsought (λ x there to. left.free x (l.back x to there) to)
+
+    left_acts : (device_at p n ≡ Ready → ⊥) → (IsAtStage n IsReleasing p → ⊥) → (q : Plan) → IsLeft n q → (a : Option Act) → DueOf v q a → IsCalmAct n a → PlanTends n signs v a p (match_some a q (λ x. plan_after x file q))
+    unfolding plan_after
+    left_acts not_ready unreleased q left (Some (act.Steps dev stage)) due calm = elim (cases_eq dev n) [
+      | inl same ↦ elim due [
+        | inl goes ↦ absurd (left.free (path_at dev stage false) goes same)
+        | inr first ↦
+            let is : stage ≡ AssertReset = reset_stage (device_at q n) (slice_index_or v.signed n false) stage left.device (subst (λ (k : ℕ). stage_for v q k ≡ Some stage) same first) in
+            to_reset n signs v (Some (act.Steps dev stage)) p (record q { path = Some (path_at dev stage true) }) not_ready (ap (λ (k : ℕ). Some (act.Steps k stage)) same ∙ ap (λ (s : Stage). Some (act.Steps n s)) is) unreleased
+            left.device left.unsought (ap (λ (k : ℕ). Some (path_at k stage true)) same ∙ ap (λ (s : Stage). Some (path_at n s true)) is)
+      ]
+      | inr other ↦
+          to_spoilt n signs v (Some (act.Steps dev stage)) p (record q { path = Some (path_at dev stage true) }) not_ready unreleased left.device left.unsought
+          (λ x there to. other (ap (λ (y : Path). y.dev) (same_path (path_at dev stage true) x there) ∙ to))
+    ]
+    left_acts not_ready unreleased q left None due calm = to_spoilt n signs v None p q not_ready unreleased left.device left.unsought left.free
+    left_acts not_ready unreleased q left (Some (act.Opens k)) due calm = left_plain not_ready unreleased q left (Some (act.Opens k)) tt calm
+    left_acts not_ready unreleased q left (Some act.Stops) due calm = absurd calm
+    left_acts not_ready unreleased q left (Some (act.Restarts k)) due calm = left_plain not_ready unreleased q left (Some (act.Restarts k)) tt calm
+    left_acts not_ready unreleased q left (Some (act.Clears dev)) due calm = left_plain not_ready unreleased q left (Some (act.Clears dev)) tt calm
+    left_acts not_ready unreleased q left (Some (act.Orders order)) due calm = left_plain not_ready unreleased q left (Some (act.Orders order)) due calm
+    left_acts not_ready unreleased q left (Some (act.Issues slot dev queued)) due calm = left_plain not_ready unreleased q left (Some (act.Issues slot dev queued)) tt calm
+
+    left_looks : (device_at p n ≡ Ready → ⊥) → (IsAtStage n IsReleasing p → ⊥) → (q : Plan) (news : Bool) → IsLeft n (device_seen v q) → TurnTends n signs v file p (device_turn v news q entries)
+    left_looks not_ready unreleased q news left calm =
+        left_acts not_ready unreleased (device_seen v q) left (option_or (device_due v (device_seen v q)) (request_due (device_seen v q) entries)) (of_device v (device_seen v q) entries) calm
+
+    -- a page of it is out
+    page_looks : (way : Recovery) (stage : Stage) → (device_at p n ≡ Ready → ⊥) → IsAskedOn n p → (IsAtStage n IsReleasing p → ⊥) → (q : Plan) (news : Bool) → PageSeen n way stage (device_seen v q)
+        → (device_at (device_seen v q) n ≡ Recovering way → WorksOn n stage true (device_seen v q) → (r : Plan) (a : Option Act) → Leaves n (device_seen v q) r → IsStepless a → PlanTends n signs v a p r)
+        → TurnTends n signs v file p (device_turn v news q entries)
+    page_looks way stage not_ready asked unreleased q news (StillOut device unsought works) still =
+        holding (device_seen v q) unsought (due_is v (device_seen v q) (path_at n stage true) works) (still device works)
+    page_looks way stage not_ready asked unreleased q news (Came fine unsought none) still = came_looks not_ready asked unreleased q news fine unsought none
+    page_looks way stage not_ready asked unreleased q news (Bad device unsought none) still =
+        left_looks not_ready unreleased q news (record { device = device; unsought = unsought; free = λ x here to. none_path x (sym none ∙ here) })
+
+    unsought_by : (way : Recovery) → (detects n p.asked p.order ≡ true → device_at p n ≡ Absent) → device_at p n ≡ Recovering way → IsUnsought n p
+    unsought_by way order device on = recovering_absent way (sym device ∙ order on)
+
+    by_way : IsTendedBy n p → (detects n p.asked p.order ≡ true → device_at p n ≡ Absent) → TurnTends n signs v file p (turn_of v p entries)
+    by_way (Fine fine path) order = λ calm.
+        let h : IsSteadyPlan n p = record { fine = fine; path = path; order = order } in
+        let first = turn_keeps n signs v p entries h in
+        let second = act_keeps n signs v file (turn_of v p entries).plan first.steady (turn_of v p entries).act signed calm (of_turn v p entries) in
+        fine_tends n signs v (turn_of v p entries).act p _ h (keeps_then n signs p (turn_of v p entries).plan _ first second)
+    by_way (Releases device works) order =
+        let at : IsAtStage n IsReleasing p = at_stage n ReleaseReset true p IsReleasing works tt in
+        let begun : IsAtStage n IsBegun p = at_stage n ReleaseReset true p IsBegun works tt in
+        whole_tends (unsought_by Reset order device)
+        (λ q a leaves stepless. to_released n signs v a p q (unready Reset device) at begun stepless (leaves.device ∙ device) leaves.unsought (inl (leaves.path (path_at n ReleaseReset true) refl works)))
+        (λ q news leaves. released_looks device at begun q news (releases_seen n v q (leaves.device ∙ device) leaves.unsought (leaves.path (path_at n ReleaseReset true) refl works)))
+    by_way (Awaits device works) order =
+        let at : IsAtStage n IsReleasing p = at_stage n AwaitReset false p IsReleasing works tt in
+        let begun : IsAtStage n IsBegun p = at_stage n AwaitReset false p IsBegun works tt in
+        whole_tends (unsought_by Reset order device)
+        (λ q a leaves stepless. to_released n signs v a p q (unready Reset device) at begun stepless (leaves.device ∙ device) leaves.unsought (inr (leaves.path (path_at n AwaitReset false) refl works)))
+        (λ q news leaves. released_looks device at begun q news (awaits_seen n v q (leaves.device ∙ device) leaves.unsought (leaves.path (path_at n AwaitReset false) refl works)))
+    by_way (Identifies device works) order =
+        let unreleased : IsAtStage n IsReleasing p → ⊥ = λ there. stage_is n Identify true p IsReleasing works there in
+        whole_tends (unsought_by Reset order device)
+        (λ q a leaves stepless. to_identifies n signs v a p q (unready Reset device) works (leaves.device ∙ device) leaves.unsought (leaves.path (path_at n Identify true) refl works))
+        (λ q news leaves. page_looks Reset Identify (unready Reset device) (inr (at_stage n Identify true p IsAsking works tt)) unreleased q news
+        (identifies_seen n v q (leaves.device ∙ device) leaves.unsought (leaves.path (path_at n Identify true) refl works))
+        (λ there on r a more stepless. to_identifies n signs v a p r (unready Reset device) works (more.device ∙ there) more.unsought (more.path (path_at n Identify true) refl on)))
+    by_way (Logs before page device works) order =
+        let unreleased : IsAtStage n IsReleasing p → ⊥ = λ there. stage_is n (ReadLog page) true p IsReleasing works there in
+        whole_tends (unsought_by (Log before) order device)
+        (λ q a leaves stepless. to_logs n signs v a p q (unready (Log before) device) before page stepless works (leaves.device ∙ device) leaves.unsought (leaves.path (path_at n (ReadLog page) true) refl works))
+        (λ q news leaves. page_looks (Log before) (ReadLog page) (unready (Log before) device) (inr (at_stage n (ReadLog page) true p IsAsking works tt)) unreleased q news
+        (logs_seen n v q before page (leaves.device ∙ device) leaves.unsought (leaves.path (path_at n (ReadLog page) true) refl works))
+        (λ there on r a more stepless. to_logs n signs v a p r (unready (Log before) device) before page stepless works (more.device ∙ there) more.unsought (more.path (path_at n (ReadLog page) true) refl on)))
+    by_way (Spoilt device free) order =
+        let unreleased : IsAtStage n IsReleasing p → ⊥ = unworked n p IsReleasing free in
+        whole_tends (unsought_by Reset order device)
+        (λ q a leaves stepless. to_spoilt n signs v a p q (unready Reset device) unreleased (leaves.device ∙ device) leaves.unsought (λ x there to. free x (leaves.back x to there) to))
+        (λ q news leaves. left_looks (unready Reset device) unreleased q news
+        (left_seen n v q (record { device = leaves.device ∙ device; unsought = leaves.unsought; free = λ x there to. free x (leaves.back x to there) to })))
+
+    pub turn_tends : IsTendedPlan n p → TurnTends n signs v file p (turn_of v p entries)
+    turn_tends h = by_way h.way h.order

@@ -1,0 +1,278 @@
+-- What a turn leaves of the driver's plan and requests of a device that is together with its disk.
+use Rattle.std.proofs.Common.{◌≡◌, ◌≢◌, ℕ, ◌+◌, ◌<◌, ◌⊎◌, ◌||◌, Bool, true, false, List, set, refl, sym, ◌∙◌, ap, subst, inl, inr, arith, Option, Some, None}
+use Rattle.std.proofs.lemmas.Bool.{false≢true}
+use Rattle.std.proofs.lemmas.List.FromFn.{get_or-map-range_with_len}
+use Rattle.host_memory.specs.Memory.{Memory}
+use Rattle.hba_fbs.specs.Views.{Port, view_of}
+use Rattle.hba_laws.proofs.StandLemmas.{some_inj}
+use Rattle.hba_driver.specs.declared.path.Recovery.TheVariants.{Reset}
+use Rattle.hba_driver.specs.declared.path.TaskFile.{TaskFile}
+use Rattle.hba_driver.specs.declared.plan.Device.TheVariants.{Ready}
+use Rattle.hba_driver.specs.declared.plan.Plan.{Plan}
+use Rattle.hba_driver.specs.declared.request.Completion.{Completion}
+use Rattle.hba_driver.specs.declared.request.Request.{Request}
+use Rattle.hba_driver.specs.declared.sight.Sight.{Sight}
+use Rattle.hba_driver.specs.declared.slot.Phase.{Phase}
+use Rattle.hba_driver.specs.declared.slot.Phase.TheVariants.{Waits, Issued, Aside, Ended}
+use Rattle.hba_driver.specs.declared.turn.Act.{Act}
+use Rattle.hba_driver.specs.declared.turn.Act.TheVariants as act
+use Rattle.hba_driver.specs.Drivers.{Driver, Entry, device_at, entry_at, has_ended_in, is_issued, is_issued_in, new_driver, waits, waits_in}
+use Rattle.hba_driver.specs.HostTurns.{Does, Host, HostTurn, Took, Pushed, Ticked, Submitted, Polled, Put, sight_in}
+use Rattle.hba_driver.specs.Laws.{Goes, Keeps}
+use Rattle.hba_driver.specs.Orders.{is_flush}
+use Rattle.hba_driver.specs.Sights.{file_shown, sight_of}
+use Rattle.hba_driver.specs.Steady.{HasSignature, IsCalmTick, IsFine, IsFlushTick, IsOpenAt, IsSteady, IsSteadyTurn, slot_in, slot_of}
+use Rattle.hba_driver.specs.Submits.{after_submit, new_entry, next_slot, submit_refusal}
+use Rattle.hba_driver.specs.Tended.{AreTended, Fine, IsAskedOn, IsAtStage, IsBegun, IsLiveAt, IsReleasing, IsStepless, IsSteplessTurn, IsTended, IsTendedPlan, TendsOn, TurnsTend}
+use Rattle.hba_driver.specs.Ticks.{after_tick, done_ended, due, seen, turn}
+use Rattle.hba_driver.specs.Turns.{is_in_reset}
+use Rattle.hba_driver.proofs.DueLemmas.{Due, due_turn}
+use Rattle.hba_driver.proofs.HistoryLemmas.{PollFacts, back_of, freed, poll_facts}
+use Rattle.hba_driver.proofs.LifeLemmas.{keeps_tick}
+use Rattle.hba_driver.proofs.RequestLemmas.{set_cases}
+use Rattle.hba_driver.proofs.SteadyTurns.{acted_plan, flush_steady, is_ready_dev, no_flush, not_blocked, opens_steady, signed_by}
+use Rattle.hba_driver.proofs.TendedLemmas.{PlanTends, recovering_ready, turn_tends}
+
+-- ---- requests that go on
+
+live_unended : (p : Phase) → (waits_in p || is_issued_in p) ≡ true → has_ended_in p ≡ false
+live_unended Waits h = refl
+live_unended Issued h = refl
+live_unended Aside h = refl
+live_unended (Ended o) h = absurd (false≢true h)
+
+-- a request that waits or is issued is open
+pub live_open : (n s : ℕ) (entries : List (Option Entry)) (e : Entry) → IsLiveAt n s entries e → IsOpenAt n s entries e
+live_open n s entries e there = record { stands = there.stands; of_dev = there.of_dev; unended = live_unended e.head.phase there.lives }
+
+issued_lives : (p : Phase) → is_issued_in p ≡ true → (waits_in p || is_issued_in p) ≡ true
+issued_lives Waits h = refl
+issued_lives Issued h = refl
+issued_lives Aside h = absurd (false≢true h)
+issued_lives (Ended o) h = absurd (false≢true h)
+
+-- what is issued lives
+pub issued_live : (e : Entry) → is_issued e.head ≡ true → (waits e.head || is_issued e.head) ≡ true
+issued_live e h = issued_lives e.head.phase h
+
+lived_before : (p q : Phase) → Goes p q → (waits_in q || is_issued_in q) ≡ true → (waits_in p || is_issued_in p) ≡ true
+lived_before Waits q goes h = refl
+lived_before Issued q goes h = refl
+lived_before Aside q goes h = absurd (false≢true (sym goes ∙ h))
+lived_before (Ended o) q goes h = sym (ap (λ (x : Phase). waits_in x || is_issued_in x) goes) ∙ h
+
+record WasLive (n s : ℕ) (old : List (Option Entry)) (f : Entry) : Type 0 where
+  pub entry : Entry
+  pub is : IsLiveAt n s old entry
+  pub work : f.head.work ≡ entry.head.work
+
+live_back : (n s : ℕ) (old new : List (Option Entry)) (f : Entry) → Keeps (entry_at old s) (entry_at new s) → IsLiveAt n s new f → WasLive n s old f
+live_back n s old new f keeps there =
+    let b = back_of (entry_at old s) (entry_at new s) keeps f there.stands in
+    record {
+      entry = b.0;
+      is = record {
+        stands = b.1;
+        of_dev = sym (ap (λ (x : Entry). x.head.dev) b.2.same) ∙ there.of_dev;
+        lives = lived_before b.0.head.phase f.head.phase b.2.goes there.lives;
+      };
+      work = ap (λ (x : Entry). x.head.work) b.2.same;
+    }
+
+requests_keep : (n : ℕ) (p q : Plan) (old new : List (Option Entry)) → (device_at p n ≡ Ready → device_at q n ≡ Ready) → ((s : ℕ) → Keeps (entry_at old s) (entry_at new s)) → AreTended n p old → AreTended n q new
+requests_keep n p q old new ready keeps h = record {
+  ready = λ s f there. let b = live_back n s old new f (keeps s) there in ready (h.ready s b.entry b.is);
+  alone = λ s r e f there other flush.
+      let b = live_back n s old new e (keeps s) there in
+      let c = live_back n r old new f (keeps r) other in
+      h.alone s r b.entry c.entry b.is c.is (sym (ap is_flush b.work) ∙ flush);
+}
+
+-- ---- a device of which nothing failed since its flush
+
+pub steady_tends : (n : ℕ) (d : Driver) → IsSteady n d → IsTended n d
+steady_tends n d h = record {
+  plan = record { way = Fine h.plan.fine h.plan.path; order = h.plan.order };
+  requests = record {
+    ready = λ s e there. h.requests.ready s e (live_open n s d.entries e there);
+    alone = λ s r e f there other flush. h.requests.alone s r e f (live_open n s d.entries e there) (live_open n r d.entries f other) flush;
+  };
+}
+
+unasked_on : (n : ℕ) (plan : Plan) → (Rattle.hba_driver.specs.Steady.IsAskedOf n plan → ⊥) → IsAskedOn n plan → ⊥
+unasked_on n plan none (inl r) = none (inl r)
+unasked_on n plan none (inr there) = none (inr (there.0, (there.1.0, there.1.1.0)))
+
+pub opens_tended : (n given : ℕ) → IsTended n (new_driver given) × (IsAskedOn n (new_driver given).plan → ⊥)
+opens_tended n given = (steady_tends n (new_driver given) (opens_steady n given).0, unasked_on n (new_driver given).plan (opens_steady n given).1)
+
+pub flush_tended : (n : ℕ) (old : Host) (a : Bool) (new : Host) → Does old (Ticked a) new → IsFlushTick n old → IsTended n new.driver × (IsAskedOn n new.driver.plan → ⊥)
+flush_tended n old a new does is =
+    let steady = flush_steady n old a new does is in
+    (steady_tends n new.driver steady.0, unasked_on n new.driver.plan steady.1)
+
+-- ---- a tick
+
+in_reset_is : (n : ℕ) (port : Port) (memory : Memory) → n < 16 → is_in_reset (sight_of port memory) n ≡ (view_of n port).state.resetting
+unfolding sight_of
+in_reset_is n port memory below = get_or-map-range_with_len (λ dev. (view_of dev port).state.resetting) 0 16 n n false below (omega arith)
+
+tick_plan : (n : ℕ) (old : Host) (file : TaskFile) → IsCalmTick n old → IsTendedPlan n old.driver.plan
+    → PlanTends n (HasSignature n old) (sight_in old) (due (sight_in old) old.driver) old.driver.plan (after_tick (sight_in old) file old.driver).plan
+unfolding after_tick
+tick_plan n old file calm h =
+    let v : Sight = sight_in old in
+    let whole = turn_tends n (HasSignature n old) v file old.driver.plan (done_ended v.issued old.driver.entries) (λ on. signed_by n old.port old.memory on) h calm in
+    subst (λ (p : Plan). PlanTends n (HasSignature n old) (sight_in old) (due (sight_in old) old.driver) old.driver.plan p) (sym (acted_plan (turn v old.driver).act file (seen v old.driver))) whole
+
+tick_tends : (n : ℕ) (old : Host) (a : Bool) (new : Host) → n < 16 → Does old (Ticked a) new → IsCalmTick n old → IsTended n old.driver → TendsOn n old (Ticked a) new
+tick_tends n old a new below does calm h =
+    let v : Sight = sight_in old in
+    let after : Driver = after_tick v (file_shown new.port) old.driver in
+    let plan = subst (λ (x : Driver). PlanTends n (HasSignature n old) (sight_in old) (due (sight_in old) old.driver) old.driver.plan x.plan) (sym does.driver) (tick_plan n old (file_shown new.port) calm h.plan) in
+    let requests : AreTended n new.driver.plan new.driver.entries =
+    requests_keep n old.driver.plan new.driver.plan old.driver.entries new.driver.entries plan.ready
+    (λ s. subst (λ (x : Driver). Keeps (entry_at old.driver.entries s) (entry_at x.entries s)) (sym does.driver) (keeps_tick v (file_shown new.port) old.driver s)) h.requests in
+    let shown : is_in_reset (sight_in old) n ≡ (view_of n old.port).state.resetting = in_reset_is n old.port old.memory below in
+    record {
+      next = elim plan.next [
+        | inl on ↦ inl (record { plan = on; requests = requests })
+        | inr reset ↦ inr (
+          reset.0,
+          record {
+            device = reset.1.0;
+            works = reset.1.1.0;
+            order = reset.1.1.1;
+            none = λ s e there. recovering_ready Reset (sym reset.1.0 ∙ requests.ready s e there);
+          },
+        )
+      ];
+      asks = λ on. elim (plan.asks on) [
+        | inl was ↦ inl was
+        | inr more ↦ elim more [
+          | inl signed ↦ inr (inl signed)
+          | inr over ↦ inr (inr (over.0, sym shown ∙ over.1))
+        ]
+      ];
+      well = plan.well;
+      begun = plan.begun;
+      releasing = plan.releasing;
+      awaiting = λ there set. plan.awaiting there (shown ∙ set);
+    }
+
+-- ---- the other turns
+
+-- they leave the plan
+plan_stays : (n : ℕ) (old : Host) (t : HostTurn) (new : Host) → new.driver.plan ≡ old.driver.plan → (IsAtStage n IsBegun new.driver.plan → IsSteplessTurn old t) → IsTended n new.driver → TendsOn n old t new
+plan_stays n old t new same stepless h = record {
+  next = inl h;
+  asks = λ on. inl (subst (λ (p : Plan). IsAskedOn n p) same on);
+  well = λ f. inl (subst (λ (p : Plan). IsFine (device_at p n)) same f);
+  begun = λ there. (subst (λ (p : Plan). IsAtStage n IsBegun p) same there, stepless there);
+  releasing = λ there. subst (λ (p : Plan). IsAtStage n IsReleasing p) same there;
+  awaiting = λ there set. subst (λ (p : Plan). IsAtStage n IsReleasing p) (sym same) there;
+}
+
+driver_stays : (n : ℕ) (old new : Host) → new.driver ≡ old.driver → IsTended n old.driver → IsTended n new.driver
+driver_stays n old new is h = subst (λ (x : Driver). IsTended n x) (sym is) h
+
+module _ (n : ℕ) (d : Driver) (memory : Memory) (dev : ℕ) (request : Request) (accepted : submit_refusal d memory dev request ≡ None) (h : IsTended n d) where
+  abbrev fresh : Entry
+  fresh = new_entry (d.given + 1) dev request
+
+  cases : (s : ℕ) (e : Entry) → IsLiveAt n s (after_submit d dev request).entries e → ((s ≡ next_slot d) × (fresh ≡ e)) ⊎ IsLiveAt n s d.entries e
+  cases s e there = elim (set_cases d.entries (next_slot d) (Some fresh) s e there.stands) [
+    | inl at ↦ inl (at.0, some_inj fresh e at.1)
+    | inr beside ↦ inr (record { stands = beside.1; of_dev = there.of_dev; lives = there.lives })
+  ]
+
+  to_dev : (e : Entry) → fresh ≡ e → e.head.dev ≡ n → dev ≡ n
+  to_dev e is of_dev = ap (λ (x : Entry). x.head.dev) is ∙ of_dev
+
+  to_work : (e : Entry) → fresh ≡ e → e.head.work ≡ request.work
+  to_work e is = sym (ap (λ (x : Entry). x.head.work) is)
+
+  beside : (s : ℕ) (e f : Entry) → fresh ≡ f → f.head.dev ≡ n → IsLiveAt n s d.entries e → (is_flush request.work ≡ false) × (is_flush e.head.work ≡ false)
+  beside s e f is of_dev there =
+      no_flush d dev s request e (not_blocked d memory dev request accepted) (subst (λ (k : ℕ). IsOpenAt k s d.entries e) (sym (to_dev f is of_dev)) (live_open n s d.entries e there))
+
+  submit_tended : IsTended n (after_submit d dev request)
+  submit_tended = record {
+    plan = h.plan;
+    requests = record {
+      ready = λ s e there. elim (cases s e there) [
+        | inl new ↦ subst (λ (k : ℕ). device_at d.plan k ≡ Ready) (to_dev e new.1 there.of_dev) (is_ready_dev d memory dev request accepted)
+        | inr was ↦ h.requests.ready s e was
+      ];
+      alone = λ s r e f there other flush. elim (cases s e there) [
+        | inl new ↦ elim (cases r f other) [
+          | inl also ↦ new.0 ∙ sym also.0
+          | inr was ↦ absurd (false≢true (sym (beside r f e new.1 there.of_dev was).0 ∙ sym (ap is_flush (to_work e new.1)) ∙ flush))
+        ]
+        | inr was ↦ elim (cases r f other) [
+          | inl new ↦ absurd (false≢true (sym (beside s e f new.1 other.of_dev was).1 ∙ flush))
+          | inr too ↦ h.requests.alone s r e f was too flush
+        ]
+      ];
+    };
+  }
+
+none_some : (e : Entry) {P : Type 0} → None ≡ Some e → P
+none_some e h = cc
+
+fewer : (n : ℕ) (d : Driver) (entries : List (Option Entry)) → ((s : ℕ) (e : Entry) → entry_at entries s ≡ Some e → entry_at d.entries s ≡ Some e) → IsTended n d → IsTended n (record d { entries = entries })
+fewer n d entries was h = record {
+  plan = h.plan;
+  requests = record {
+    ready = λ s e there. h.requests.ready s e (record { stands = was s e there.stands; of_dev = there.of_dev; lives = there.lives });
+    alone = λ s r e f there other flush.
+        h.requests.alone s r e f (record { stands = was s e there.stands; of_dev = there.of_dev; lives = there.lives }) (record { stands = was r f other.stands; of_dev = other.of_dev; lives = other.lives }) flush;
+  };
+}
+
+poll_tends : (n : ℕ) (old : Host) (c : Completion) (new : Host) → Does old (Polled c) new → IsTended n old.driver → TendsOn n old (Polled c) new
+poll_tends n old c new does h =
+    let f : PollFacts old.driver c = poll_facts old.driver c does.polled in
+    let left : List (Option Entry) = set old.driver.entries f.place None in
+    let tended : IsTended n (record old.driver { entries = left }) =
+    fewer n old.driver left (λ s e there. elim (set_cases old.driver.entries f.place None s e there) [ inl at ↦ none_some e at.1 | inr beside ↦ beside.1 ]) h in
+    plan_stays n old (Polled c) new (ap (λ (x : Driver). x.plan) (does.driver ∙ freed old.driver c f)) (λ there. tt)
+    (subst (λ (x : Driver). IsTended n x) (sym (does.driver ∙ freed old.driver c f)) tended)
+
+-- ---- the slot of a tick
+
+-- a tick that issues no command of the driver's own for a device issues in another slot
+stepless_by : (v : Sight) (plan : Plan) (entries : List (Option Entry)) (a : Option Act) → Due v plan entries a → IsStepless a → slot_of a ≢ 30
+stepless_by v plan entries None is stepless at = omega (arith, at)
+stepless_by v plan entries (Some (act.Opens k)) is stepless at = omega (arith, at)
+stepless_by v plan entries (Some act.Stops) is stepless at = omega (arith, at)
+stepless_by v plan entries (Some (act.Restarts k)) is stepless at = omega (arith, at)
+stepless_by v plan entries (Some (act.Clears dev)) is stepless at = omega (arith, at)
+stepless_by v plan entries (Some (act.Orders order)) is stepless at = omega (arith, at)
+stepless_by v plan entries (Some (act.Steps dev stage)) is stepless at = stepless
+stepless_by v plan entries (Some (act.Issues slot dev queued)) is stepless at = let low = is.0.below in omega (arith, at, low)
+
+pub stepless_slot : (old : Host) (a : Bool) → IsSteplessTurn old (Ticked a) → slot_in old ≢ 30
+stepless_slot old a stepless =
+    stepless_by (sight_in old) (turn (sight_in old) old.driver).plan (done_ended (sight_in old).issued old.driver.entries) (due (sight_in old) old.driver)
+    (due_turn (sight_in old) old.driver.plan (done_ended (sight_in old).issued old.driver.entries)) stepless
+
+-- ---- each turn
+
+pub turn_tended : (n : ℕ) (old : Host) (t : HostTurn) (new : Host) → n < 16 → Does old t new → IsSteadyTurn n old t → IsTended n old.driver → TendsOn n old t new
+turn_tended n old (Took frame report) new below does calm h = plan_stays n old (Took frame report) new (ap (λ (x : Driver). x.plan) does.driver) (λ there. tt) (driver_stays n old new does.driver h)
+turn_tended n old (Pushed frame) new below does calm h = plan_stays n old (Pushed frame) new (ap (λ (x : Driver). x.plan) does.driver) (λ there. tt) (driver_stays n old new does.driver h)
+turn_tended n old (Ticked a) new below does calm h = tick_tends n old a new below does calm h
+turn_tended n old (Submitted dev request ticket) new below does calm h =
+    plan_stays n old (Submitted dev request ticket) new (ap (λ (x : Driver). x.plan) does.taken.driver) (λ there. tt)
+    (subst (λ (x : Driver). IsTended n x) (sym does.taken.driver) (submit_tended n old.driver old.memory dev request does.accepted h))
+turn_tended n old (Polled c) new below does calm h = poll_tends n old c new does h
+turn_tended n old (Put at bytes) new below does calm h = plan_stays n old (Put at bytes) new (ap (λ (x : Driver). x.plan) does.driver) (λ there. tt) (driver_stays n old new does.driver h)
+
+pub each_is_tended : (n : ℕ) → TurnsTend n
+each_is_tended n = record {
+  steady = λ d h. steady_tends n d h;
+  opens = λ given. opens_tended n given;
+  flushed = λ old a new does is. flush_tended n old a new does is;
+  stays = λ old t new below does calm h. turn_tended n old t new below does calm h;
+}
