@@ -4,3 +4,10 @@ pub mod SignLemmas
 pub mod FisLemmas
 pub mod PushLemmas
 pub mod TakeLemmas
+pub mod ResetLemmas
+pub mod SentLemmas
+pub mod TogetherTurns
+pub mod TogetherTakes
+pub mod TogetherBegins
+pub mod TogetherOrders
+pub mod TogetherPushes

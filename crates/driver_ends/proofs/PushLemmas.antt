@@ -71,13 +71,13 @@ use Rattle.driver_ends.proofs.FisLemmas.{flush_is, identify_control, identify_is
 use Rattle.driver_ends.proofs.SignLemmas.{signed_given}
 use Rattle.driver_ends.proofs.TurnLemmas.{after}
 
-frame_by : (bytes : List ℕ) → 4 ≤ length bytes → length bytes ≤ 8196 → length bytes % 4 ≡ 0 → IsFrame bytes
+pub frame_by : (bytes : List ℕ) → 4 ≤ length bytes → length bytes ≤ 8196 → length bytes % 4 ≡ 0 → IsFrame bytes
 frame_by bytes low high dwords = grind (arith, nat_tests)
 
 -- ---- what goes out of a port
 
 -- a command that goes out was issued last in its slot; data goes to a device that is there
-abbrev HasLast : Port → Outgoing → Type 0
+abbrev pub HasLast : Port → Outgoing → Type 0
 HasLast port Nothing = Unit {0}
 HasLast port (Unreadable dev) = Unit {0}
 HasLast port (Data dev offset len command) = dev < 16
@@ -105,7 +105,7 @@ data_last port memory dev below = by_payload (payload (context_of port.slots dev
     by_payload None = tt
     by_payload (Some next) = by_command next.1 next.2 (sound_command memory port.commands (view_of dev port).slots next.0)
 
-out_last : (port : Port) (memory : Memory) → HasLast port (outgoing port memory)
+pub out_last : (port : Port) (memory : Memory) → HasLast port (outgoing port memory)
 unfolding next_receiver
 out_last port memory = by_running (is_running port)
   where
@@ -122,7 +122,7 @@ out_last port memory = by_running (is_running port)
     by_running true = by_receiver (next_receiver port) (λ dev is. (lowest_is (is_due port.slots port.errors) 16 dev is).below)
 
 -- the issue of a command that goes out
-record OutIssue (port : Port) (dev slot : ℕ) : Type 0 where
+pub record OutIssue (port : Port) (dev slot : ℕ) : Type 0 where
   pub issue : Issue
   pub at : issue_at port.slots slot ≡ Some issue
   pub of_dev : issue.dev ≡ dev
@@ -134,13 +134,13 @@ out_issue port dev slot command goes = record { issue = goes.0; at = goes.1; of_
 
 -- ---- the command that goes out
 
-flush_of : (w : driver_work.Work) → orders.is_queued w ≡ false → orders.is_flush w ≡ true
+pub flush_of : (w : driver_work.Work) → orders.is_queued w ≡ false → orders.is_flush w ≡ true
 flush_of work.Read h = absurd (true≢false h)
 flush_of work.Write h = absurd (true≢false h)
 flush_of work.Flush h = refl
 
 -- it is told of by the history of its device, and built for it
-record OutTold (old : Host) (touches : Touches) (dev slot : ℕ) (command : issued_command.Command) : Type 0 where
+pub record OutTold (old : Host) (touches : Touches) (dev slot : ℕ) (command : issued_command.Command) : Type 0 where
   pub transfer : Transfer
   pub there : issued slot (own dev touches) ≡ Some transfer
   pub fis : IsFisOf old.driver dev slot transfer command
@@ -149,7 +149,7 @@ record OutTold (old : Host) (touches : Touches) (dev slot : ℕ) (command : issu
   pub work : transfer.work ≡ issue.work
   pub port : slice_index command.cfis 1 % 16 ≡ dev
 
-out_told : (old : Host) (touches : Touches) (dev slot : ℕ) (command : issued_command.Command) → IsHost (shared_by old) → IsServed old.driver (shared_by old) touches → GoesOut old.port (Order dev slot command) → last_command old.port.commands slot ≡ Some command
+pub out_told : (old : Host) (touches : Touches) (dev slot : ℕ) (command : issued_command.Command) → IsHost (shared_by old) → IsServed old.driver (shared_by old) touches → GoesOut old.port (Order dev slot command) → last_command old.port.commands slot ≡ Some command
     → OutTold old touches dev slot command
 out_told old touches dev slot command sound served goes last =
     let o : OutIssue old.port dev slot = out_issue old.port dev slot command goes in
@@ -173,7 +173,7 @@ out_told old touches dev slot command sound served goes last =
     }
 
 -- the command of a slot asks for what the slot's command is, or for one that is not queued while no queued one is issued
-record IsOrderOf (slot : ℕ) (command : issued_command.Command) (given : List Happening) (commands : ℕ → Command) (past : History) (t : Transfer) : Type 0 where
+pub record IsOrderOf (slot : ℕ) (command : issued_command.Command) (given : List Happening) (commands : ℕ → Command) (past : History) (t : Transfer) : Type 0 where
   pub control : is_control t.work.kind ≡ false
   pub cfis : seen command.cfis ≡ Ok (view.RegH2D command.cfis)
   pub long : length command.cfis ≡ 20
@@ -181,7 +181,7 @@ record IsOrderOf (slot : ℕ) (command : issued_command.Command) (given : List H
   pub queued : is_queued t.work.kind ≡ true → request_of command.cfis ≡ Queue (commands slot)
   pub other : is_queued t.work.kind ≡ false → IsAlone (request_of command.cfis) × ((s : ℕ) → NoneQueued (issued s past))
 
-none_queued : (o : Option Transfer) → ((u : Transfer) → o ≡ Some u → is_queued u.work.kind ≡ false) → NoneQueued o
+pub none_queued : (o : Option Transfer) → ((u : Transfer) → o ≡ Some u → is_queued u.work.kind ≡ false) → NoneQueued o
 none_queued None h = tt
 none_queued (Some u) h = h u refl
 
@@ -248,19 +248,19 @@ module _ (n : ℕ) (old : Host) (given : List Happening) (commands : ℕ → Com
 
 -- ---- frames
 
-short_frame : (f : Stamped) (command : issued_command.Command) → f.bytes ≡ command.cfis → length command.cfis ≡ 20 → IsFrame f.bytes
+pub short_frame : (f : Stamped) (command : issued_command.Command) → f.bytes ≡ command.cfis → length command.cfis ≡ 20 → IsFrame f.bytes
 short_frame f command is long =
     let all : length f.bytes ≡ 20 = ap (λ (b : List ℕ). length b) is ∙ long in
     frame_by f.bytes (omega (arith, all)) (omega (arith, all)) (omega (arith, all))
 
 -- data that goes out
-record OutData (n len : ℕ) (old : Host) : Type 0 where
+pub record OutData (n len : ℕ) (old : Host) : Type 0 where
   pub context : Context
   pub now : (view_of n old.port).slots.context ≡ Some context
   pub asked : context.activated ≡ true
   pub long : len ≡ payload_len context
 
-out_data : (n offset len : ℕ) (old : Host) (command : issued_command.Command) → GoesOut old.port (Data n offset len command) → OutData n len old
+pub out_data : (n offset len : ℕ) (old : Host) (command : issued_command.Command) → GoesOut old.port (Data n offset len command) → OutData n len old
 unfolding GoesOut
 out_data n offset len old command goes = record { context = goes.0; now = goes.1; asked = goes.2; long = goes.3 }
 
@@ -285,10 +285,10 @@ data_frame n offset len old given commands touches below h sound command f goes 
 
 -- ---- a frame goes out
 
-given_here : (n : ℕ) (f : Stamped) → slice_index f.bytes 1 % 16 ≡ n → given_to n (Some f) ≡ Received (marked f.bytes 0) ∷ []
+pub given_here : (n : ℕ) (f : Stamped) → slice_index f.bytes 1 % 16 ≡ n → given_to n (Some f) ≡ Received (marked f.bytes 0) ∷ []
 given_here n f port = ap (λ (b : Bool). if b then Received (marked f.bytes 0) ∷ [] else []) (eq-eqb (slice_index f.bytes 1 % 16) n port)
 
-given_elsewhere : (n dev : ℕ) (f : Stamped) → slice_index f.bytes 1 % 16 ≡ dev → n ≢ dev → given_to n (Some f) ≡ []
+pub given_elsewhere : (n dev : ℕ) (f : Stamped) → slice_index f.bytes 1 % 16 ≡ dev → n ≢ dev → given_to n (Some f) ≡ []
 given_elsewhere n dev f port other = ap (λ (b : Bool). if b then Received (marked f.bytes 0) ∷ [] else []) (ne_eqb (slice_index f.bytes 1 % 16) n (λ e. other (sym e ∙ port)))
 
 module _ (n : ℕ) (old : Host) (frame : Option Stamped) (new : Host) (given : List Happening) (commands : ℕ → Command) (touches : Touches) (below : n < 15)
@@ -380,7 +380,7 @@ module _ (n : ℕ) (old : Host) (frame : Option Stamped) (new : Host) (given : L
 -- ---- the turn
 
 -- what the disk gets is nothing, or one FIS
-given_cases : (n : ℕ) (frame : Option Stamped) → (given_to n frame ≡ []) ⊎ ((bytes : List ℕ) × (given_to n frame ≡ Received bytes ∷ []))
+pub given_cases : (n : ℕ) (frame : Option Stamped) → (given_to n frame ≡ []) ⊎ ((bytes : List ℕ) × (given_to n frame ≡ Received bytes ∷ []))
 given_cases n None = inl refl
 given_cases n (Some f) = by_test (slice_index f.bytes 1 % 16 == n)
   where

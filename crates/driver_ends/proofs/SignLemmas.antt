@@ -28,7 +28,7 @@ unfolding ledger_after
 ledger_more l [] e = refl
 ledger_more l (x ∷ given) e = ledger_more (listens l x) given e
 
-fits_last : (l : Ledger) (given : List Happening) (bytes : List ℕ) → FitsAll l (given ++ Received bytes ∷ []) → Fits (ledger_after l given) (seen bytes)
+pub fits_last : (l : Ledger) (given : List Happening) (bytes : List ℕ) → FitsAll l (given ++ Received bytes ∷ []) → Fits (ledger_after l given) (seen bytes)
 unfolding FitsAll ledger_after
 fits_last l [] bytes h = h.0
 fits_last l (Received a ∷ given) bytes h = fits_last (listens l (Received a)) given bytes h.1
@@ -96,7 +96,7 @@ takes_same : (l : Ledger) (o : Option Moving) (bytes : List ℕ) → (takes_data
 takes_same l None bytes = refl
 takes_same l (Some v) bytes = takes_if (v.active && (length bytes == v.count)) l v bytes
 
-signed_down : (l : Ledger) (fis : Result Fis FisFault) → Fits l fis → l.awaited ≢ Signs ∷ [] → (listens_down l fis).awaited ≢ Signs ∷ []
+pub signed_down : (l : Ledger) (fis : Result Fis FisFault) → Fits l fis → l.awaited ≢ Signs ∷ [] → (listens_down l fis).awaited ≢ Signs ∷ []
 signed_down l (Ok (view.RegH2D f)) fits was = asks_down l (request_of f) l.failed fits.0 fits.1
 signed_down l (Ok (view.Payload f)) fits was = λ is. was (sym (takes_same l l.moving (drop 4 f)) ∙ is)
 signed_down l (Ok (view.RegD2H f)) fits was = absurd fits

@@ -38,7 +38,7 @@ use Rattle.driver_ends.proofs.SignLemmas.{ledger_more, signed_register, signed_s
 use Rattle.driver_ends.proofs.TurnLemmas.{after}
 
 -- a Register FIS of a device, or none
-register_or : (r : Result Fis FisFault) → ((f : List ℕ) × (r ≡ Ok (view.RegD2H f))) ⊎ ((f : List ℕ) → r ≡ Ok (view.RegD2H f) → ⊥)
+pub register_or : (r : Result Fis FisFault) → ((f : List ℕ) × (r ≡ Ok (view.RegD2H f))) ⊎ ((f : List ℕ) → r ≡ Ok (view.RegD2H f) → ⊥)
 register_or (Ok (view.RegD2H f)) = inl (f, refl)
 register_or (Ok (view.RegH2D f)) = inr (λ g e. cc)
 register_or (Ok (view.SetBits f)) = inr (λ g e. cc)
@@ -50,7 +50,7 @@ register_or (Ok (view.Unknown f)) = inr (λ g e. cc)
 register_or (Err e) = inr (λ g k. cc)
 
 -- the ledger hears the same of the frame and of the marked one
-signed_marked : (given : List Happening) (plain frame : List ℕ) → listens (ledger given) (Sent frame) ≡ listens (ledger given) (Sent plain) → HasSigned (given ++ Sent frame ∷ []) → HasSigned (given ++ Sent plain ∷ [])
+pub signed_marked : (given : List Happening) (plain frame : List ℕ) → listens (ledger given) (Sent frame) ≡ listens (ledger given) (Sent plain) → HasSigned (given ++ Sent frame ∷ []) → HasSigned (given ++ Sent plain ∷ [])
 signed_marked given plain frame same was is =
     was (ap (λ (l : Ledger). l.awaited) (ledger_more empty given (Sent frame) ∙ same ∙ sym (ledger_more empty given (Sent plain))) ∙ is)
 

@@ -79,11 +79,11 @@ kept_entry old t new does s x e here there = by_turn t does
 
 -- ---- the commands of the slots
 
-abbrev command_in : ℕ → Option Entry → Command
+abbrev pub command_in : ℕ → Option Entry → Command
 command_in slot None = record { write = false; tag = slot; lba = 0; count = 0 }
 command_in slot (Some e) = command_of slot e
 
-tag_in : (slot : ℕ) (o : Option Entry) → (command_in slot o).tag ≡ slot
+pub tag_in : (slot : ℕ) (o : Option Entry) → (command_in slot o).tag ≡ slot
 tag_in slot None = refl
 tag_in slot (Some e) = refl
 
@@ -107,7 +107,7 @@ module _ (n : ℕ) (old : Host) (turn : HostTurn) (new : Host) (does : Does old 
       by_issue (inr (inl i)) = absurd (omega (arith, low, i.slot))
       by_issue (inr (inr o)) = absurd (omega (arith, low, o.slot))
 
-  named_then : (slot : ℕ) → IsServed old.driver (shared_by old) before → length new.driver.entries ≡ 30 → AreNamed n old.driver commands before
+  pub named_then : (slot : ℕ) → IsServed old.driver (shared_by old) before → length new.driver.entries ≡ 30 → AreNamed n old.driver commands before
       → IsNewOrOld slot (command_in slot (entry_at new.driver.entries slot)) commands next (own n before) (own n later) → AreNamed n new.driver next later
   named_then slot served long named fresh s t e here there queued = elim (fresh s t here) [
     | inl new_one ↦
@@ -197,15 +197,15 @@ calm_turns_keep n old turn new run given commands touches below calm h = calm_tu
 
 -- ---- where nothing of the disk is issued
 
-no_issue : (o : Option Issue) → None ≡ option_map work_of_issue o → o ≡ None
+pub no_issue : (o : Option Issue) → None ≡ option_map work_of_issue o → o ≡ None
 no_issue None h = refl
 no_issue (Some i) h = cc
 
-no_transfer : (o : Option Transfer) → ((t : Transfer) → o ≡ Some t → ⊥) → o ≡ None
+pub no_transfer : (o : Option Transfer) → ((t : Transfer) → o ≡ Some t → ⊥) → o ≡ None
 no_transfer None h = refl
 no_transfer (Some t) h = absurd (h t refl)
 
-abbrev plain : ℕ → Command
+abbrev pub plain : ℕ → Command
 plain s = record { write = false; tag = s; lba = 0; count = 0 }
 
 begins : (n : ℕ) (h : Host) (commands : ℕ → Command) (touches : Touches) → n < 15 → IsSoundHost h → IsServed h.driver (shared_by h) touches → IsSteady n h.driver → (IsAskedOf n h.driver.plan → ⊥) → (HasSignature n h → ⊥) → ((s : ℕ) → (commands s).tag ≡ s)

@@ -1,2 +1,3 @@
 pub mod Steady
 pub mod Kept
+pub mod Together

@@ -2,6 +2,9 @@
 
 ghost use Rattle.driver_ends.specs.Kept.{CalmTurnsKeep, FlushOpens, OpensHonestly};
 ghost use Rattle.driver_ends.specs.Kept.{PushesGoOn, PushesKeep, TakesKeep};
+ghost use Rattle.driver_ends.specs.Together.{CalmTurnsKeepOn, FlushOpensOn, IgnoredKeepOn};
+ghost use Rattle.driver_ends.specs.Together.{LogBeginsServed, PushesGoOnOn, ResetBeginsServed};
+ghost use Rattle.driver_ends.specs.Together.{ServedSinceFlush, SignaturesKeepOn, TakesKeepOn};
 
 /// As a host opens, and in the tick that flushes a disk, its driver begins to serve the disk
 /// honestly. It goes on to do so over each turn in which no FIS of the disk comes or goes, that
@@ -23,4 +26,36 @@ pub fn takes_keep_honest()
 pub fn pushes_keep_honest()
     ensures goes_on { PushesGoOn }
     ensures framed { PushesKeep }
+{}
+
+/// The driver begins to serve a disk where both begin anew: in the tick that flushes it, whatever
+/// happened before it was plugged in; where SRST was cleared; and where the log of an error is
+/// read. And it does so where it served the disk honestly since its flush.
+pub fn begins_to_serve()
+    ensures since { ServedSinceFlush }
+    ensures flushes { FlushOpensOn }
+    ensures reset { ResetBeginsServed }
+    ensures log { LogBeginsServed }
+{}
+
+/// From there it goes on to serve the disk over each turn in which no FIS of the disk comes or
+/// goes, that does not flush it, ends no fault of it or of the port, and issues no software reset
+/// of it.
+pub fn calm_turns_serve_on()
+    ensures { CalmTurnsKeepOn }
+{}
+
+/// So it does over each turn in which a FIS of the disk is taken: one that is right and of which
+/// the port reports nothing wrong, the signature that ends a software reset, and one that the port
+/// ignores.
+pub fn takes_serve_on()
+    ensures right { TakesKeepOn }
+    ensures signs { SignaturesKeepOn }
+    ensures ignored { IgnoredKeepOn }
+{}
+
+/// And so it does over each turn in which the port is asked for a frame: a FIS that goes out to the
+/// disk fits what was told since both began anew, and is no reset and not the log.
+pub fn pushes_serve_on()
+    ensures { PushesGoOnOn }
 {}

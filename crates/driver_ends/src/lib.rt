@@ -4,4 +4,7 @@
 
 mod law;
 
-pub use law::{pushes_keep_honest, serves_honestly, takes_keep_honest};
+pub use law::{
+    begins_to_serve, calm_turns_serve_on, pushes_keep_honest, pushes_serve_on, serves_honestly,
+    takes_keep_honest, takes_serve_on,
+};

@@ -1,0 +1,184 @@
+-- The driver serves a disk honestly from where both began anew: after its flush, and again with
+-- the log after an error or with a software reset, up to the next fault of it (AHCI 1.3.1, 5.3,
+-- 6.2.2, error recovery, and chapter 9; Serial ATA 3.x, 13.6, native command queuing, and software
+-- reset; ACS-3, commands).
+--
+-- Cited: a driver that serves a disk since its flush (specs/Kept.antt), what the driver keeps of a
+-- device (`hba_driver`, specs/Tended.antt), and what a host has of a disk from where both began
+-- anew (`disk_ends`, specs/Anew.antt).
+use Rattle.std.specs.Prelude.{ℕ, ◌≡◌, ◌<◌, ◌++◌, Bool, false, true, List, [], ◌∷◌, Option}
+use Rattle.std.specs.Prelude.{None, Some}
+use Rattle.fis_view.specs.Frames.{IsFrame, Stamped, marked}
+use Rattle.fis_view.specs.Seen.{seen}
+use Rattle.slots.specs.Slots.{Issue, own_issue}
+use Rattle.hba_fbs.specs.declared.report.TakeReport.{TakeReport}
+use Rattle.hba_fbs.specs.Taking.{ignores, port_of}
+use Rattle.hba_fbs.specs.Views.{view_of}
+use Rattle.disk_model.specs.declared.request.Command.{Command}
+use Rattle.disk_model.specs.Anew.{OwesOnly}
+use Rattle.disk_model.specs.Ends.{IsRight}
+use Rattle.disk_model.specs.Histories.{Happening, Plugged, Sent}
+use Rattle.disk_model.specs.Ledger.{ShowsPage, Signs, Wanted, ledger}
+use Rattle.hba_laws.specs.Client.{Touches, own}
+use Rattle.hba_laws.specs.Delivering.{touches_after}
+use Rattle.hba_laws.specs.History.{Transfer, issued}
+use Rattle.disk_ends.specs.Watched.{GavePlain}
+use Rattle.disk_ends.specs.Anew.{IsAwaited, IsHostedOn, IsSignedWell}
+use Rattle.disk_ends.specs.Heard.{IsTakenWell}
+use Rattle.disk_ends.specs.Joined.{IsShort, SentAgrees}
+use Rattle.disk_ends.specs.Together.{IsWaitedUnset, is_sent}
+use Rattle.hba_driver.specs.declared.path.Stage.TheVariants.{ReadLog}
+use Rattle.hba_driver.specs.declared.path.TaskFile.{TaskFile}
+use Rattle.hba_driver.specs.Drivers.{device_at}
+use Rattle.hba_driver.specs.Events.{IsSoundHost, events_over, shared_by}
+use Rattle.hba_driver.specs.HostTurns.{DoesAll, Host, HostTurn, Pushed, Ticked, Took}
+use Rattle.hba_driver.specs.Served.{IsServed, RunServes}
+use Rattle.hba_driver.specs.Steady.{HasSignature, IsFine, IsFlushTick}
+use Rattle.hba_driver.specs.Tended.{IsAskedOn, IsAtStage, IsBegun, IsReleasing, IsResetTurn}
+use Rattle.hba_driver.specs.Tended.{IsTended, IsUnreset, WorksOn}
+use Rattle.driver_ends.specs.Kept.{IsCalmTurn, IsServedHonestly, given_to}
+use Rattle.driver_ends.specs.Steady.{AreNamed, HasSigned}
+
+-- ---- what is kept
+
+-- the host, with what it gave to disk n and heard of it up to where both began anew, and in all
+-- (as the disk sees it), the commands of its slots, and all that touched its port and memory
+pub record IsServedOn (n : ℕ) (base : List Happening) (h : Host) (given : List Happening)
+    (commands : ℕ → Command) (touches : Touches) : Type 0 where
+  pub sound : IsSoundHost h
+  pub served : IsServed h.driver (shared_by h) touches
+  pub hosted : IsHostedOn n base (shared_by h) given commands (own n touches)
+  pub tended : IsTended n h.driver
+  pub named : AreNamed n h.driver commands touches
+  -- the device is asked for something only after it signed; its row of the received area shows a
+  -- signature only then, unless it recovers; and so it is out of its software reset only then
+  pub signed : IsAskedOn n h.driver.plan → HasSigned given
+  pub row : IsFine (device_at h.driver.plan n) → HasSignature n h → HasSigned given
+  pub ended : IsAtStage n IsReleasing h.driver.plan → IsUnreset n h → HasSigned given
+  -- what slot 30 holds of that with which both began anew went out
+  pub begun : IsAtStage n IsBegun h.driver.plan → (t : Transfer)
+      → issued 30 (own n touches) ≡ Some t → is_sent 30 (own n touches) ≡ true
+  -- it is in its software reset only while its signature is awaited, and nothing was given or heard
+  -- of it since both began anew
+  pub resets : (view_of n h.port).state.resetting ≡ true
+      → IsAtStage n IsReleasing h.driver.plan × (given ≡ base)
+
+-- so it is after a turn, with some commands of the slots
+pub record ServesOnAnew (n : ℕ) (base : List Happening) (old : Host) (turn : HostTurn) (new : Host)
+    (run : DoesAll old (turn ∷ []) new) (given : List Happening) (touches : Touches) : Type 0 where
+  pub next : ℕ → Command
+  pub serves : RunServes old new (turn ∷ []) run touches
+  pub on : IsServedOn n base new given next
+      (touches_after touches (shared_by old) (shared_by new)
+      (events_over old new (turn ∷ []) run) serves.runs)
+
+-- ---- where both begin anew
+
+-- The host of a disk that it served honestly since its flush is such a host.
+abbrev pub ServedSinceFlush : Type 0
+ServedSinceFlush =
+    (n : ℕ) (h : Host) (given : List Happening) (commands : ℕ → Command) (touches : Touches)
+    → n < 15 → (view_of n h.port).state.resetting ≡ false
+    → IsServedHonestly n h given commands touches
+    → IsServedOn n (Plugged ∷ []) h given commands touches
+
+-- In the tick that flushes the disk it begins anew, whatever happened before the disk was plugged in.
+abbrev pub FlushOpensOn : Type 0
+FlushOpensOn =
+    (n : ℕ) (old : Host) (acted : Bool) (new : Host) (run : DoesAll old (Ticked acted ∷ []) new)
+    (before : List Happening) (touches : Touches) → n < 15 → IsFlushTick n old
+    → IsSoundHost old → IsServed old.driver (shared_by old) touches
+    → (view_of n new.port).state.resetting ≡ false
+    → ServesOnAnew n (before ++ Plugged ∷ []) old (Ticked acted) new run
+    (before ++ Plugged ∷ []) touches
+
+-- SRST was cleared: nothing of the device is issued, and it only owes its signature.
+abbrev pub ResetBeginsServed : Type 0
+ResetBeginsServed =
+    (n : ℕ) (h : Host) (base : List Happening) (commands : ℕ → Command) (touches : Touches)
+    → n < 15 → IsSoundHost h → IsServed h.driver (shared_by h) touches → IsTended n h.driver
+    → IsAtStage n IsReleasing h.driver.plan → (view_of n h.port).state.resetting ≡ true
+    → ((s : ℕ) → own_issue (view_of n h.port).slots s ≡ None)
+    → ((s : ℕ) → (commands s).tag ≡ s) → OwesOnly (ledger base) (Signs ∷ []) []
+    → IsServedOn n base h base commands touches
+
+-- The log of an error is read: nothing of the device is issued but that, which went out, and it
+-- only owes the page.
+abbrev pub LogBeginsServed : Type 0
+LogBeginsServed =
+    (n : ℕ) (h : Host) (base : List Happening) (file : TaskFile) (page : Wanted)
+    (commands : ℕ → Command) (touches : Touches)
+    → n < 15 → IsSoundHost h → IsServed h.driver (shared_by h) touches → IsTended n h.driver
+    → WorksOn n (ReadLog file) true h.driver.plan
+    → (view_of n h.port).state.resetting ≡ false
+    → ((s : ℕ) (i : Issue) → own_issue (view_of n h.port).slots s ≡ Some i → IsAwaited i)
+    → SentAgrees (view_of n h.port).slots (own n touches)
+    → (view_of n h.port).slots.context ≡ None → IsWaitedUnset (own n touches)
+    → ((s : ℕ) → (commands s).tag ≡ s)
+    → OwesOnly (ledger base) (ShowsPage ∷ []) (page ∷ [])
+    → IsServedOn n base h base commands touches
+
+-- ---- turns
+
+-- No FIS of the device comes in the turn and none goes out, the driver does not flush it, ends no
+-- fault of it or of the port, and issues no software reset of it.
+abbrev pub CalmTurnsKeepOn : Type 0
+CalmTurnsKeepOn =
+    (n : ℕ) (base : List Happening) (old : Host) (turn : HostTurn) (new : Host)
+    (run : DoesAll old (turn ∷ []) new)
+    (given : List Happening) (commands : ℕ → Command) (touches : Touches) → n < 15
+    → IsCalmTurn n old turn → (IsResetTurn n old turn → ⊥)
+    → IsServedOn n base old given commands touches
+    → ServesOnAnew n base old turn new run given touches
+
+-- A FIS of the disk comes, marked with its port, that is right by what was told since, and nothing
+-- is wrong with it.
+abbrev pub TakesKeepOn : Type 0
+TakesKeepOn =
+    (n : ℕ) (base : List Happening) (old : Host) (plain : List ℕ) (report : TakeReport) (new : Host)
+    (run : DoesAll old (Took (marked plain n) report ∷ []) new)
+    (given : List Happening) (commands : ℕ → Command) (touches : Touches) → n < 15
+    → IsFrame plain → port_of (marked plain n) ≡ n
+    → IsTakenWell (shared_by old) (marked plain n) report (shared_by new)
+    → IsRight (ledger given) (seen plain) → IsShort (seen plain)
+    → IsServedOn n base old given commands touches
+    → ServesOnAnew n base old (Took (marked plain n) report) new run (given ++ Sent plain ∷ [])
+    touches
+
+-- The signature comes that ends the software reset.
+abbrev pub SignaturesKeepOn : Type 0
+SignaturesKeepOn =
+    (n : ℕ) (base : List Happening) (old : Host) (plain : List ℕ) (report : TakeReport) (new : Host)
+    (run : DoesAll old (Took (marked plain n) report ∷ []) new)
+    (given : List Happening) (commands : ℕ → Command) (touches : Touches) → n < 15
+    → IsFrame plain → port_of (marked plain n) ≡ n
+    → IsSignedWell (shared_by old) (marked plain n) report (shared_by new)
+    → IsRight (ledger given) (seen plain)
+    → IsServedOn n base old given commands touches
+    → ServesOnAnew n base old (Took (marked plain n) report) new run (given ++ Sent plain ∷ [])
+    touches
+
+-- A FIS comes that the port ignores: what was on its way as both began anew.
+abbrev pub IgnoredKeepOn : Type 0
+IgnoredKeepOn =
+    (n : ℕ) (base : List Happening) (old : Host) (frame : List ℕ) (report : TakeReport) (new : Host)
+    (run : DoesAll old (Took frame report ∷ []) new)
+    (given : List Happening) (commands : ℕ → Command) (touches : Touches) → n < 15
+    → ignores (port_of frame) old.port frame ≡ true
+    → IsServedOn n base old given commands touches
+    → ServesOnAnew n base old (Took frame report) new run given touches
+
+-- the port was asked for a frame, and what it gave the disk is plain
+pub record GivesOnAnew (n : ℕ) (base : List Happening) (old : Host) (frame : Option Stamped)
+    (new : Host) (run : DoesAll old (Pushed frame ∷ []) new) (given : List Happening)
+    (touches : Touches) : Type 0 where
+  pub plain : GavePlain (given_to n frame)
+  pub on : ServesOnAnew n base old (Pushed frame) new run (given ++ given_to n frame) touches
+
+abbrev pub PushesGoOnOn : Type 0
+PushesGoOnOn =
+    (n : ℕ) (base : List Happening) (old : Host) (frame : Option Stamped) (new : Host)
+    (run : DoesAll old (Pushed frame ∷ []) new)
+    (given : List Happening) (commands : ℕ → Command) (touches : Touches) → n < 15
+    → IsServedOn n base old given commands touches
+    → GivesOnAnew n base old frame new run given touches
