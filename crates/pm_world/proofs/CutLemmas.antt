@@ -24,10 +24,12 @@ use Rattle.pm_world.proofs.EachLemmas.{Each, Nothing, each_more}
 use Rattle.pm_world.proofs.KeepingLemmas.{IsTrue}
 use Rattle.pm_world.proofs.UpLemmas.{Left, Rose, Same, UpChange, up_change}
 use Rattle.pm_world.specs.Wired.{AreAmong, AreFine, IsAway, IsWired, for_port, injects, unplugs}
+use Rattle.pm_world.specs.Wire.{IsOnWire}
 use Rattle.pm_world.proofs.OpeningLemmas.{given_for}
-use Rattle.pm_world.proofs.RunLemmas.{IsKnown, known}
-use Rattle.pm_world.proofs.WiredLemmas.{away_after, falls_on, falls_other, unsent_other}
-use Rattle.pm_world.proofs.ShutLemmas.{IsForOther, IsShut, only_there, shut_after}
+use Rattle.pm_world.proofs.RunLemmas.{TellsOf, tells_of}
+use Rattle.pm_world.proofs.WireLemmas.{away_after, falls_on, falls_other, unsent_other}
+use Rattle.pm_world.proofs.WiredLemmas.{wired_by}
+use Rattle.pm_world.proofs.ShutLemmas.{IsForOther, IsShut, IsShutOff, only_there, shut_after, shut_off}
 
 -- ## What is kept
 
@@ -138,17 +140,16 @@ module _ (n : ℕ) (below : n < 15) (old : Places) (s : Step) (a : Answer) (new 
 
 -- ## The port is cleared
 
-module _ (n c : ℕ) (below : n < 15) (old : Places) (s : Step) (a : Answer) (new : Places) (rule : Rule old s (Ok a) new) (happened : List Happening)
-    (h : IsShut n c old happened) (cut : IsCut n c old) (clean : injects n s ≡ false) (stays : unplugs n s ≡ false)
-    (fine : AreFine (happens n old s a new)) where
+module _ (n c : ℕ) (below : n < 15) (old : Places) (s : Step) (a : Answer) (new : Places) (rule : Rule old s (Ok a) new) (rising : List (List ℕ))
+    (h : IsShutOff n c old rising) (cut : IsCut n c old) (clean : injects n s ≡ false) (stays : unplugs n s ≡ false) where
   device : n ≢ control_port
   device e = absurd (omega (arith, e, below))
 
-  its : IsKnown n c old s a new
-  its = known n c old s a new h.there stays clean rule fine
+  its : TellsOf n c old s a new
+  its = tells_of n c old s a new h.there stays clean rule
 
   alone_now : (d : ℕ) → d ≢ c → IsAway n d new
-  alone_now d other = (away_after n d old new s a device h.orderly rule (cut.alone d other) (unsent_other n c d a its.steady other)).1
+  alone_now d other = (away_after n d old new s a device h.orderly rule (cut.alone d other) (unsent_other n c d a its.stays other)).1
 
   none_to : is_cleared n old a ≡ true → Nothing (is_to n) new.downward.frames
   none_to is = by_down (down_change n old s new h.orderly a rule)
@@ -159,20 +160,28 @@ module _ (n c : ℕ) (below : n < 15) (old : Places) (s : Step) (a : Answer) (ne
       by_down (Gone f link none clears falls idle _) =
           none_rest n f new.downward.frames cut.held.line.stale cut.held.line.fresh (sym link ∙ cut.held.line.is) cut.held.line.unclear cut.held.line.others (clears is)
 
+  -- nothing goes down then, and what the unit sent goes up
+  pub wire_now : is_cleared n old a ≡ true → (up : List (List ℕ)) → IsShutOff n c new up → IsOnWire n c new [] up
+  wire_now is up off = record {
+    above = off.above;
+    alone = alone_now;
+    kept = off.kept;
+    only = only_there n c new off.there;
+    below =
+        subst (λ (xs : List (List ℕ)). AreAmong xs [])
+        (sym (ap (λ (xs : List (List ℕ)). xs ++ flat_map (for_port n) new.downward.frames) (none_falls c (falling_to n new) off.falls)
+        ∙ none_for n new.downward.frames (none_to is))) tt;
+  }
+
+-- so it is with a unit that reports no error
+module _ (n c : ℕ) (below : n < 15) (old : Places) (s : Step) (a : Answer) (new : Places) (rule : Rule old s (Ok a) new) (happened : List Happening)
+    (h : IsShut n c old happened) (cut : IsCut n c old) (clean : injects n s ≡ false) (stays : unplugs n s ≡ false)
+    (fine : AreFine (happens n old s a new)) where
   pub shut_on : IsShut n c new (happened ++ happens n old s a new)
   shut_on = shut_after n c below old s a new rule happened h (λ there. cut.held.told) clean stays fine
 
   pub wired_now : is_cleared n old a ≡ true → IsWired n c new (happened ++ happens n old s a new) (Plugged ∷ [])
-  wired_now is = record {
-    down = [];
-    up = shut_on.rising;
-    linked = shut_on.linked;
-    above = shut_on.above;
-    alone = alone_now;
-    kept = shut_on.kept;
-    only = only_there n c new shut_on.there;
-    below =
-        subst (λ (xs : List (List ℕ)). AreAmong xs [])
-        (sym (ap (λ (xs : List (List ℕ)). xs ++ flat_map (for_port n) new.downward.frames) (none_falls c (falling_to n new) shut_on.falls)
-        ∙ none_for n new.downward.frames (none_to is))) tt;
-  }
+  wired_now is =
+      wired_by n c new (happened ++ happens n old s a new) (Plugged ∷ []) [] shut_on.rising shut_on.linked
+      (wire_now n c below old s a new rule h.rising (shut_off n c old happened h) cut clean stays is shut_on.rising
+      (shut_off n c new (happened ++ happens n old s a new) shut_on))

@@ -28,11 +28,11 @@ use Rattle.pm_world.specs.Wired.{IsThere, IsUnremoved}
 use Rattle.pm_world.proofs.FirstLemmas.{comes_risen}
 use Rattle.pm_world.proofs.KeptLemmas.{came_unremoved, unremoved}
 use Rattle.pm_world.proofs.RunLemmas.{IsPlugged}
-use Rattle.pm_world.proofs.WiredLemmas.{and_both, none_both, still_above}
+use Rattle.pm_world.proofs.WireLemmas.{and_both, none_both, still_above}
 use Rattle.pm_world.specs.Connections.{IsUnused}
 use Rattle.pm_world.proofs.FirmLemmas.{HasCome, IsFirm, firm_after, opening_firm, run_firm, seen_at}
 use Rattle.pm_world.proofs.SentLemmas.{none_on_way}
-use Rattle.pm_world.proofs.ShutLemmas.{IsForOther, IsNoneOf, IsShut, WaitsFor}
+use Rattle.pm_world.proofs.ShutLemmas.{IsForOther, IsNoneOf, IsShut, IsShutOff, WaitsFor, shut_by}
 
 -- ## The plugging
 
@@ -54,6 +54,7 @@ none_of_conn n c (f ∷ frames) none =
 
 -- the unit that comes is shut off at its port
 pub record ComesShut (n c : ℕ) (new : Places) : Type 0 where
+  pub off : IsShutOff n c new []
   pub shut : IsShut n c new (Plugged ∷ [])
   pub waits : WaitsFor n c new
 
@@ -83,25 +84,26 @@ comes_shut n c below config units fits first told out made new rule =
     let led : IsLed (Some d.place) (seen_at n out) = subst (λ (o : Option Place). IsLed o (seen_at n out)) d.is firm.led in
     let most : (seen_at n out).1 ≤ d.place.conn = led_last d.place (seen_at n out) led in
     let last : (seen_at n new).1 ≡ (seen_at n out).1 = ap (λ (m : PmState). (port_at m n).last) pm in
+    let off : IsShutOff n c new [] =
     record {
-      shut = record {
-        orderly = firm_now.orderly;
-        risen =
-            (comes_risen out (step.Came n) (answer.Came n c) new (run_rises (new_world config units) first told out (opening_risen config units) made).1
-            rule).risen;
-        true_is = firm_now.true_is;
-        up =
-            none_of_conn n c new.upward.frames
-            (none_both (stamped n c new.upward.frames) (all_marked n (of_conn c (waiting n new))) above).0;
-        falls =
-            each_map (HasCome n new) (IsForOther c) (falling_to n new)
-            (λ f came same. let low : f.stamp.conn ≤ (seen_at n new).1 = came in absurd (omega (arith, low, same, last, most, less))) firm_now.falls;
-        there = there;
-        kept = kept;
-        rising = [];
-        above = above;
-        linked = begins;
-      };
+      orderly = firm_now.orderly;
+      risen =
+          (comes_risen out (step.Came n) (answer.Came n c) new (run_rises (new_world config units) first told out (opening_risen config units) made).1
+          rule).risen;
+      true_is = firm_now.true_is;
+      up =
+          none_of_conn n c new.upward.frames
+          (none_both (stamped n c new.upward.frames) (all_marked n (of_conn c (waiting n new))) above).0;
+      falls =
+          each_map (HasCome n new) (IsForOther c) (falling_to n new)
+          (λ f came same. let low : f.stamp.conn ≤ (seen_at n new).1 = came in absurd (omega (arith, low, same, last, most, less))) firm_now.falls;
+      there = there;
+      kept = kept;
+      above = above;
+    } in
+    record {
+      off = off;
+      shut = shut_by n c new (Plugged ∷ []) [] begins off;
       waits = λ present.
           let is : c ≡ (seen_at n new).1 = ((firm_now.orderly.knows n).present c present).0 in
           absurd (omega (arith, is, last, most, less));

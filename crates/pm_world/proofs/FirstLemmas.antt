@@ -37,7 +37,7 @@ use Rattle.pm_world.proofs.Goings.{OpensWell, is_taken_of}
 use Rattle.pm_world.specs.Wired.{for_port}
 use Rattle.pm_world.proofs.HostLemmas.{DriversServe, HasPushed, HostOn, step_flushes, step_keeps, step_pushes}
 use Rattle.pm_world.proofs.OpeningLemmas.{IsUnheard, given_for}
-use Rattle.pm_world.proofs.WiredLemmas.{drop_front}
+use Rattle.pm_world.proofs.WireLemmas.{drop_front}
 
 -- ## Nothing fits before the signature
 

@@ -47,7 +47,7 @@ use Rattle.pm_world.specs.Wired.{IsAway, IsThere}
 use Rattle.pm_world.proofs.HostLemmas.{DriversServe, HostOn}
 use Rattle.pm_world.proofs.RunLemmas.{IsPlugged}
 use Rattle.pm_world.proofs.TouchedLemmas.{touched_served, touched_sound}
-use Rattle.pm_world.proofs.WiredLemmas.{and_false, if_false}
+use Rattle.pm_world.proofs.WireLemmas.{and_false, if_false}
 use Rattle.pm_world.specs.Connections.{IsAhead, IsUnused}
 use Rattle.pm_world.specs.Later.{IsAtRest, PortsRest, RestsAtFlush}
 use Rattle.pm_world.proofs.CutLemmas.{IsCut, IsHeld}

@@ -31,7 +31,8 @@ use Rattle.pm_world.specs.declared.step.Answer.TheVariants as answer
 use Rattle.pm_world.proofs.Steps.{at_both, at_device}
 use Rattle.pm_world.specs.Given.{GivesOn, IsAddressed, IsOrderOf, PushedFits}
 use Rattle.pm_world.specs.Wired.{GoesOn, IsWired, for_port}
-use Rattle.pm_world.proofs.WiredLemmas.{disks_stay_linked, drop_front}
+use Rattle.pm_world.proofs.WireLemmas.{drop_front}
+use Rattle.pm_world.proofs.WiredLemmas.{disks_stay_linked}
 
 -- ## The host gives in a step of its own
 

@@ -36,7 +36,7 @@ use Rattle.pm_world.specs.Touched.{AreTouched, goes, opens}
 use Rattle.pm_world.specs.Wired.{for_port}
 use Rattle.pm_world.proofs.FrameLemmas.{pushes_frame}
 use Rattle.pm_world.proofs.GivenLemmas.{HasGiven, host_gives}
-use Rattle.pm_world.proofs.WiredLemmas.{drop_front}
+use Rattle.pm_world.proofs.WireLemmas.{drop_front}
 
 -- ## The host
 

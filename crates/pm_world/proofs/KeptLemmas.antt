@@ -28,6 +28,7 @@ use Rattle.pm_world.proofs.Openings.{port_opening}
 use Rattle.pm_world.proofs.Orderly.{device_roomy, down_roomy, heard_roomy, known, opening_orderly, orderly_after, roomy, up_roomy}
 use Rattle.pm_world.proofs.Steps.{AtBoth, AtDevice, at_both, at_device}
 use Rattle.pm_world.specs.Wired.{AreBefore, IsBefore, IsSteady, IsUnremoved}
+use Rattle.pm_world.specs.Wire.{StaysOn}
 
 -- where no removal is recorded the connection is not removed
 pub unremoved : (n c : ℕ) (now : Places) → IsUnremoved n c now → is_removed n c now ≡ false
@@ -269,14 +270,21 @@ module _ (n k : ℕ) (old new : Places) (a : Answer) (u : IsUnremoved n k old) (
   unremoved_after step.Poll orderly rule = quiet (ap (λ (w : Places). w.devices) rule.1) (ap (λ (w : Places). w.multiplier) rule.1)
   unremoved_after (step.Put at bytes) orderly rule = quiet (ap (λ (w : Places). w.devices) rule.1) (ap (λ (w : Places). w.multiplier) rule.1)
 
-steady_goes : (n c : ℕ) (a : Answer) → IsSteady n c a → GoesBefore n c a
-steady_goes n c (answer.Gone port conn) steady = λ here. absurd (true≢false (sym (eq-eqb port n here) ∙ steady))
-steady_goes n c _ steady = tt
+stays_goes : (n c : ℕ) (a : Answer) → StaysOn n c a → GoesBefore n c a
+stays_goes n c (answer.Gone port conn) stays = λ here. absurd (true≢false (sym (eq-eqb port n here) ∙ stays))
+stays_goes n c _ stays = tt
 
 -- a step that does not unplug it leaves a connection so
-pub steady_unremoved : (n c : ℕ) (old new : Places) (s : Step) (a : Answer) → IsOrderly old → Rule old s (Ok a) new → IsSteady n c a
+pub stays_unremoved : (n c : ℕ) (old new : Places) (s : Step) (a : Answer) → IsOrderly old → Rule old s (Ok a) new → StaysOn n c a
     → IsUnremoved n c old → IsUnremoved n c new
-steady_unremoved n c old new s a orderly rule steady is = unremoved_after n c old new a is (steady_goes n c a steady) s orderly rule
+stays_unremoved n c old new s a orderly rule stays is = unremoved_after n c old new a is (stays_goes n c a stays) s orderly rule
+
+-- a unit that is steady stays on its connection
+pub stays_on : (n c : ℕ) (a : Answer) → IsSteady n c a → StaysOn n c a
+stays_on n c (answer.Came port conn) steady = steady
+stays_on n c (answer.Gone port conn) steady = steady
+stays_on n c (answer.Sent port conn number bytes) steady = λ here. (steady here).0
+stays_on n c _ steady = tt
 
 -- ## Since the world was made
 

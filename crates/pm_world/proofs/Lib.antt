@@ -27,6 +27,7 @@ pub mod LineLemmas
 pub mod GoingLemmas
 pub mod KeptLemmas
 pub mod PlaceLemmas
+pub mod WireLemmas
 pub mod WiredLemmas
 pub mod RunLemmas
 pub mod TookLemmas
@@ -57,6 +58,7 @@ pub mod FirmLemmas
 pub mod SentLemmas
 pub mod ShutLemmas
 pub mod CutLemmas
+pub mod AlongLemmas
 pub mod FollowLemmas
 pub mod EarlyLemmas
 pub mod FlushLemmas

@@ -36,7 +36,8 @@ use Rattle.pm_world.specs.Wired.{befalls, descending, for_port, injects, unplugs
 use Rattle.pm_world.proofs.KeptLemmas.{came_unremoved, none_posted, unremoved}
 use Rattle.pm_world.proofs.PlaceLemmas.{KeepsPlace, keeps_down, keeps_from_device, keeps_inject, keeps_presence, keeps_send, keeps_take}
 use Rattle.pm_world.proofs.RunLemmas.{came_elsewhere, fine_front, if_none, if_some, runs_stay_linked, sent_elsewhere}
-use Rattle.pm_world.proofs.WiredLemmas.{away_after, disks_stay_linked, none_both, none_on, rests_on, still_above}
+use Rattle.pm_world.proofs.WireLemmas.{away_after, none_both, none_on, rests_on, still_above}
+use Rattle.pm_world.proofs.WiredLemmas.{disks_stay_linked}
 
 -- ## What the host takes and gives
 

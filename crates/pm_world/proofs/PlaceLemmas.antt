@@ -15,7 +15,8 @@ use Rattle.pm_world.specs.declared.step.Answer.{Answer}
 use Rattle.pm_world.specs.declared.step.Answer.TheVariants as answer
 use Rattle.pm_world.proofs.Lists.{slice_get-set_other, slice_get-set_same}
 use Rattle.pm_world.proofs.Steps.{AtBoth, AtDevice, at_both, at_device}
-use Rattle.pm_world.specs.Wired.{IsOnly, IsSteady}
+use Rattle.pm_world.specs.Wired.{IsOnly}
+use Rattle.pm_world.specs.Wire.{StaysOn}
 
 -- ## A place that is written over
 
@@ -114,17 +115,17 @@ written_as n c m devices place after is keeps only = elim (cases_eq n m) [
   | inr other ↦ subst (IsOnlyAs c) (sym (slice_get-set_other devices m n after other)) only
 ]
 
-came_as : (n c m : ℕ) (old : Place) (a : Answer) (new : Place) → CameActs m old a new → IsSteady n c a → n ≡ m → IsAs c old → IsAs c new
-came_as n c m old answer.Blocked new acts steady same is = keeps_as c old new (same_place old new acts.1) is
-came_as n c m old (answer.Came p conn) new acts steady same is = absurd (true≢false (sym (eq-eqb p n (acts.0 ∙ sym same)) ∙ steady))
-came_as n c m old _ new acts steady same is = absurd acts
+came_as : (n c m : ℕ) (old : Place) (a : Answer) (new : Place) → CameActs m old a new → StaysOn n c a → n ≡ m → IsAs c old → IsAs c new
+came_as n c m old answer.Blocked new acts stays same is = keeps_as c old new (same_place old new acts.1) is
+came_as n c m old (answer.Came p conn) new acts stays same is = absurd (true≢false (sym (eq-eqb p n (acts.0 ∙ sym same)) ∙ stays))
+came_as n c m old _ new acts stays same is = absurd acts
 
 gone_as : (c m : ℕ) (old : Place) (a : Answer) (new : Place) → GoneActs m old a new → IsAs c old → IsAs c new
 gone_as c m old answer.Blocked new acts is = keeps_as c old new (same_place old new acts.1) is
 gone_as c m old (answer.Gone p conn) new acts is = λ there. absurd (true≢false (sym there ∙ ap (λ (q : Place). q.plugged) acts.2))
 gone_as c m old _ new acts is = absurd acts
 
-module _ (n c : ℕ) (old : Places) (a : Answer) (new : Places) (only : IsOnly n c old) (steady : IsSteady n c a) where
+module _ (n c : ℕ) (old : Places) (a : Answer) (new : Places) (only : IsOnly n c old) (stays : StaysOn n c a) where
   at_one : (m : ℕ) (place after : Place) → slice_get old.devices m ≡ Some place → new ≡ with_device old m after → (n ≡ m → IsAs c place → IsAs c after)
       → IsOnly n c new
   at_one m place after is new_is keeps =
@@ -142,7 +143,7 @@ module _ (n c : ℕ) (old : Places) (a : Answer) (new : Places) (only : IsOnly n
       at_one m d.place d.after d.is d.new_is (λ same was. gone_as c m d.place a d.after d.rule.1 was)
   only_after (step.Came m) rule =
       let d : AtDevice old m (Ok a) new (CameRule m) = at_device old m a new (CameRule m) rule in
-      at_one m d.place d.after d.is d.new_is (came_as n c m d.place a d.after d.rule.1 steady)
+      at_one m d.place d.after d.is d.new_is (came_as n c m d.place a d.after d.rule.1 stays)
   only_after (step.DiskSend m) rule =
       let d : AtDevice old m (Ok a) new (DiskSendRule m) = at_device old m a new (DiskSendRule m) rule in
       at_one m d.place d.after d.is d.new_is (λ same was. keeps_as c d.place d.after (keeps_send m d.place a d.after d.rule.1) was)

@@ -25,9 +25,11 @@ use Rattle.pm_world.proofs.Orderly.{orderly_after}
 use Rattle.pm_world.proofs.Steps.{AtBoth, AtDevice, at_both, at_device}
 use Rattle.pm_world.specs.Wired.{AreAmong, AreFine, GoesOn, IsSteady, IsThere, IsAway, IsUnremoved, IsWired, PluggedIsLinked, RunsStayLinked}
 use Rattle.pm_world.specs.Wired.{StaysWired, befalls, descending, injects, unplugs}
+use Rattle.pm_world.specs.Wire.{GoesOnWire, IsOnWire, PluggedIsOnWire, StaysOn, UnitWiresGoOn}
 use Rattle.pm_world.proofs.KeptLemmas.{came_unremoved, unremoved}
 use Rattle.pm_world.proofs.PlaceLemmas.{KeepsPlace, keeps_down, keeps_from_device, keeps_inject, keeps_presence, keeps_send, keeps_take}
-use Rattle.pm_world.proofs.WiredLemmas.{away_after, disks_stay_linked, none_on, rests_below}
+use Rattle.pm_world.proofs.WireLemmas.{away_after, none_on, rests_below, wires_go_on}
+use Rattle.pm_world.proofs.WiredLemmas.{disks_stay_linked, wired_by}
 
 -- ## The unit stays there
 
@@ -253,6 +255,54 @@ gone_tells n old _ port conn new = refl
 
 -- ## One step
 
+-- what is told of the unit is what its step is to it, and it stays on its connection
+pub record TellsOf (n c : ℕ) (old : Places) (s : Step) (a : Answer) (new : Places) : Type 0 where
+  pub same : befalls n old a ≡ happens n old s a new
+  pub stays : StaysOn n c a
+
+tells_sent : (n c : ℕ) (old : Places) (s : Step) (port conn number : ℕ) (bytes : List ℕ) (new : Places) (b : Bool) → eqb port n ≡ b → IsThere n c old
+    → injects n s ≡ false → Rule old s (Ok (answer.Sent port conn number bytes)) new → TellsOf n c old s (answer.Sent port conn number bytes) new
+tells_sent n c old s port conn number bytes new true here there clean rule =
+    let k : IsSending n c old s port conn number bytes new = sending n c old new port conn number bytes there here s clean rule in
+    record { same = if_some (port == n) (Sent bytes ∷ []) here ∙ sym k.happened; stays = λ e. k.conn_is }
+tells_sent n c old s port conn number bytes new false other there clean rule = record {
+  same = if_none (port == n) (Sent bytes ∷ []) other ∙ sym (sent_elsewhere n old s port conn number bytes new other);
+  stays = λ here. absurd (true≢false (sym here ∙ other));
+}
+
+pub tells_of : (n c : ℕ) (old : Places) (s : Step) (a : Answer) (new : Places) → IsThere n c old → unplugs n s ≡ false → injects n s ≡ false
+    → Rule old s (Ok a) new → TellsOf n c old s a new
+tells_of n c old s (answer.Gone port conn) new there stays clean rule =
+    record { same = gone_tells n old s port conn new; stays = going n old new port conn s stays rule }
+tells_of n c old s (answer.Came port conn) new there stays clean rule =
+    let other : eqb port n ≡ false = coming n c old new port conn s there rule in
+    record { same = if_none (port == n) (Plugged ∷ []) other ∙ sym (came_elsewhere n old s port conn new other); stays = other }
+tells_of n c old s (answer.Sent port conn number bytes) new there stays clean rule =
+    tells_sent n c old s port conn number bytes new (port == n) refl there clean rule
+tells_of n c old s (answer.DiskTook port false) new there stays clean rule = record { same = taking n old new port s rule; stays = tt }
+tells_of n c old s (answer.DiskTook port true) new there stays clean rule = record { same = dropped_tells s; stays = tt }
+  where
+    dropped_tells : (s : Step) → [] ≡ happens n old s (answer.DiskTook port true) new
+    dropped_tells (step.Came m) = refl
+    dropped_tells (step.DiskTake m) = refl
+    dropped_tells (step.DiskSend m) = refl
+    dropped_tells _ = refl
+tells_of n c old s a new there stays clean rule = record { same = quiet_tells s; stays = tt }
+  where
+    quiet_tells : (s : Step) → [] ≡ happens n old s a new
+    quiet_tells (step.Came m) = refl
+    quiet_tells (step.DiskTake m) = refl
+    quiet_tells (step.DiskSend m) = refl
+    quiet_tells _ = refl
+
+-- so goes its wire
+pub unit_wires_go_on : UnitWiresGoOn
+unit_wires_go_on n c old new s a down up device orderly rule there stays clean w =
+    let t : TellsOf n c old s a new = tells_of n c old s a new there stays clean rule in
+    let g : GoesOnWire n c old a new (befalls n old a) down up = wires_go_on n c old new s a down up device orderly rule t.stays w in
+    (there_after n c old a new there s stays rule, subst (λ (xs : List Happening). GoesOnWire n c old a new xs down up) t.same g)
+
+-- and where the unit reports no error it is steady
 pub record IsKnown (n c : ℕ) (old : Places) (s : Step) (a : Answer) (new : Places) : Type 0 where
   pub same : befalls n old a ≡ happens n old s a new
   pub steady : IsSteady n c a
@@ -260,45 +310,18 @@ pub record IsKnown (n c : ℕ) (old : Places) (s : Step) (a : Answer) (new : Pla
 fine_one : (bytes : List ℕ) (events : List Happening) → events ≡ Sent bytes ∷ [] → AreFine events → reports (seen bytes) ≡ false
 fine_one bytes events is fine = let all : AreFine (Sent bytes ∷ []) = subst AreFine is fine in all.0
 
-known_sent : (n c : ℕ) (old : Places) (s : Step) (port conn number : ℕ) (bytes : List ℕ) (new : Places) (b : Bool) → eqb port n ≡ b → IsThere n c old
-    → injects n s ≡ false → Rule old s (Ok (answer.Sent port conn number bytes)) new
-    → AreFine (happens n old s (answer.Sent port conn number bytes) new) → IsKnown n c old s (answer.Sent port conn number bytes) new
-known_sent n c old s port conn number bytes new true here there clean rule fine =
-    let k : IsSending n c old s port conn number bytes new = sending n c old new port conn number bytes there here s clean rule in
-    record {
-      same = if_some (port == n) (Sent bytes ∷ []) here
-          ∙ sym k.happened;
-      steady = λ e. (k.conn_is, fine_one bytes (happens n old s (answer.Sent port conn number bytes) new) k.happened fine);
-    }
-known_sent n c old s port conn number bytes new false other there clean rule fine = record {
-  same = if_none (port == n) (Sent bytes ∷ []) other ∙ sym (sent_elsewhere n old s port conn number bytes new other);
-  steady = λ here. absurd (true≢false (sym here ∙ other));
-}
+steady_of : (n c : ℕ) (old : Places) (a : Answer) → StaysOn n c a → AreFine (befalls n old a) → IsSteady n c a
+steady_of n c old (answer.Came port conn) stays fine = stays
+steady_of n c old (answer.Gone port conn) stays fine = stays
+steady_of n c old (answer.Sent port conn number bytes) stays fine =
+    λ here. (stays here, fine_one bytes (befalls n old (answer.Sent port conn number bytes)) (if_some (port == n) (Sent bytes ∷ []) here) fine)
+steady_of n c old _ stays fine = tt
 
 pub known : (n c : ℕ) (old : Places) (s : Step) (a : Answer) (new : Places) → IsThere n c old → unplugs n s ≡ false → injects n s ≡ false
     → Rule old s (Ok a) new → AreFine (happens n old s a new) → IsKnown n c old s a new
-known n c old s (answer.Gone port conn) new there stays clean rule fine =
-    record { same = gone_tells n old s port conn new; steady = going n old new port conn s stays rule }
-known n c old s (answer.Came port conn) new there stays clean rule fine =
-    let other : eqb port n ≡ false = coming n c old new port conn s there rule in
-    record { same = if_none (port == n) (Plugged ∷ []) other ∙ sym (came_elsewhere n old s port conn new other); steady = other }
-known n c old s (answer.Sent port conn number bytes) new there stays clean rule fine =
-    known_sent n c old s port conn number bytes new (port == n) refl there clean rule fine
-known n c old s (answer.DiskTook port false) new there stays clean rule fine = record { same = taking n old new port s rule; steady = tt }
-known n c old s (answer.DiskTook port true) new there stays clean rule fine = record { same = dropped_tells s; steady = tt }
-  where
-    dropped_tells : (s : Step) → [] ≡ happens n old s (answer.DiskTook port true) new
-    dropped_tells (step.Came m) = refl
-    dropped_tells (step.DiskTake m) = refl
-    dropped_tells (step.DiskSend m) = refl
-    dropped_tells _ = refl
-known n c old s a new there stays clean rule fine = record { same = quiet_tells s; steady = tt }
-  where
-    quiet_tells : (s : Step) → [] ≡ happens n old s a new
-    quiet_tells (step.Came m) = refl
-    quiet_tells (step.DiskTake m) = refl
-    quiet_tells (step.DiskSend m) = refl
-    quiet_tells _ = refl
+known n c old s a new there stays clean rule fine =
+    let t : TellsOf n c old s a new = tells_of n c old s a new there stays clean rule in
+    record { same = t.same; steady = steady_of n c old a t.stays (subst AreFine (sym t.same) fine) }
 
 -- ## A run
 
@@ -343,8 +366,8 @@ runs_stay_linked n c old (s ∷ steps) [] new run disk given device orderly ther
 
 -- ## The plugging
 
-pub plugged_is_linked : PluggedIsLinked
-plugged_is_linked n c old new device orderly rule empty below config units fits before told made =
+pub plugged_is_on_wire : PluggedIsOnWire
+plugged_is_on_wire n c old new device orderly rule empty below config units fits before told made =
     let d : AtDevice old n (Ok (answer.Came n c)) new (CameRule n) = at_device old n (answer.Came n c) new (CameRule n) rule in
     let acts : CameActs n d.place (answer.Came n c) d.after = d.rule.1 in
     let after_is = acts.3 in
@@ -356,9 +379,6 @@ plugged_is_linked n c old new device orderly rule empty below config units fits 
     let low : descending n new ≡ [] = rests_below n old new (rule_moves_down old (step.Came n) (answer.Came n c) new orderly rule) ∙ below in (
       subst (IsPlugged c) (sym here) (ap (λ (p : Place). p.plugged) after_is, ap (λ (p : Place). p.conn) after_is ∙ sym acts.1),
       record {
-        down = [];
-        up = [];
-        linked = begins;
         above = (still c).1 (unremoved n c new kept);
         alone = λ k other. still k;
         kept = kept;
@@ -368,3 +388,9 @@ plugged_is_linked n c old new device orderly rule empty below config units fits 
             (λ (xs : List (List ℕ)). AreAmong xs []) (sym (none_on n c new low)) tt;
       },
     )
+
+pub plugged_is_linked : PluggedIsLinked
+plugged_is_linked n c old new device orderly rule empty below config units fits before told made =
+    let both : IsThere n c new × IsOnWire n c new [] [] =
+    plugged_is_on_wire n c old new device orderly rule empty below config units fits before told made in
+    (both.0, wired_by n c new (Plugged ∷ []) (Plugged ∷ []) [] [] begins both.1)

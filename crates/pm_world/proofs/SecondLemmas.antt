@@ -43,7 +43,8 @@ use Rattle.pm_world.proofs.FirstLemmas.{ComesRisen, comes_risen, elsewhere}
 use Rattle.pm_world.proofs.HostLemmas.{DriversServe, HasPushed, HostOn, step_keeps, step_pushes, step_takes}
 use Rattle.pm_world.proofs.RunLemmas.{IsKnown, fine_front, known, there_after}
 use Rattle.pm_world.proofs.TookLemmas.{host_takes, plain_frame}
-use Rattle.pm_world.proofs.WiredLemmas.{disks_stay_linked, drop_front}
+use Rattle.pm_world.proofs.WireLemmas.{drop_front}
+use Rattle.pm_world.proofs.WiredLemmas.{disks_stay_linked}
 
 -- ## A run of a disk, up to a moment
 

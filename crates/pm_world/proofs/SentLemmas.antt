@@ -21,7 +21,7 @@ use Rattle.pm_world.proofs.Openings.{nothing_stands}
 use Rattle.pm_world.proofs.Recorded.{IsLed, all}
 use Rattle.pm_world.proofs.Steps.{AtDevice, at_both, at_device}
 use Rattle.pm_world.proofs.KeptLemmas.{Was, was}
-use Rattle.pm_world.proofs.WiredLemmas.{none_both}
+use Rattle.pm_world.proofs.WireLemmas.{none_both}
 use Rattle.pm_world.specs.Connections.{IsUnused}
 use Rattle.pm_world.proofs.FirmLemmas.{IsFirm, firm_after, opening_firm, seen_at, whole_closed}
 

@@ -32,12 +32,13 @@ use Rattle.pm_world.proofs.DownLemmas.{DownChange, Gone, Put, Quiet, down_change
 use Rattle.pm_world.proofs.EachLemmas.{Each, each_more}
 use Rattle.pm_world.proofs.KeepingLemmas.{IsTrue, passes_open, true_after}
 use Rattle.pm_world.proofs.UpLemmas.{Left, Rose, Same, UpChange, up_change}
-use Rattle.pm_world.specs.Wired.{AreFine, IsOnly, IsSteady, IsThere, IsUnremoved, befalls, injects, unplugs}
+use Rattle.pm_world.specs.Wired.{AreFine, IsOnly, IsThere, IsUnremoved, befalls, injects, unplugs}
+use Rattle.pm_world.specs.Wire.{StaysOn}
 use Rattle.pm_world.proofs.FirstLemmas.{comes_risen}
-use Rattle.pm_world.proofs.KeptLemmas.{steady_unremoved, unremoved}
+use Rattle.pm_world.proofs.KeptLemmas.{stays_unremoved, unremoved}
 use Rattle.pm_world.proofs.PlaceLemmas.{takes_own}
-use Rattle.pm_world.proofs.RunLemmas.{IsKnown, IsPlugged, if_none, if_some, known, there_after}
-use Rattle.pm_world.proofs.WiredLemmas.{and_both, and_false, if_false, if_true, one_step, still_above}
+use Rattle.pm_world.proofs.RunLemmas.{IsPlugged, TellsOf, if_none, if_some, tells_of, there_after}
+use Rattle.pm_world.proofs.WireLemmas.{and_both, and_false, if_false, if_true, one_step, still_above}
 
 -- ## What is kept
 
@@ -49,7 +50,18 @@ IsNoneOf n c f = f.stamp.port ≡ n → f.stamp.conn ≢ c
 abbrev pub IsForOther : ℕ → Stamped → Type 0
 IsForOther c f = f.stamp.conn ≢ c
 
--- The unit is there as connection c, and nothing of that passed its port; what it sent is still on its way there.
+-- The unit is there as connection c, and nothing of that passed its port; this is what it sent, and it is still on its way there.
+pub record IsShutOff (n c : ℕ) (now : Places) (rising : List (List ℕ)) : Type 0 where
+  pub orderly : IsOrderly now
+  pub risen : AllRisen now.multiplier now.upward.frames
+  pub true_is : IsTrue n now.multiplier
+  pub up : Each (IsNoneOf n c) now.upward.frames
+  pub falls : Each (IsForOther c) (falling_to n now)
+  pub there : IsThere n c now
+  pub kept : IsUnremoved n c now
+  pub above : transit n c now ≡ all_marked n rising
+
+-- So it is, and it is linked with the host's end.
 pub record IsShut (n c : ℕ) (now : Places) (happened : List Happening) : Type 0 where
   pub orderly : IsOrderly now
   pub risen : AllRisen now.multiplier now.upward.frames
@@ -61,6 +73,38 @@ pub record IsShut (n c : ℕ) (now : Places) (happened : List Happening) : Type 
   pub rising : List (List ℕ)
   pub above : transit n c now ≡ all_marked n rising
   pub linked : IsLinked happened (Plugged ∷ []) [] rising
+
+pub shut_off : (n c : ℕ) (now : Places) (happened : List Happening) (h : IsShut n c now happened) → IsShutOff n c now h.rising
+shut_off n c now happened h = record {
+  orderly = h.orderly;
+  risen = h.risen;
+  true_is = h.true_is;
+  up = h.up;
+  falls = h.falls;
+  there = h.there;
+  kept = h.kept;
+  above = h.above;
+}
+
+pub shut_by : (n c : ℕ) (now : Places) (happened : List Happening) (rising : List (List ℕ)) → IsLinked happened (Plugged ∷ []) [] rising
+    → IsShutOff n c now rising → IsShut n c now happened
+shut_by n c now happened rising linked h = record {
+  orderly = h.orderly;
+  risen = h.risen;
+  true_is = h.true_is;
+  up = h.up;
+  falls = h.falls;
+  there = h.there;
+  kept = h.kept;
+  rising = rising;
+  above = h.above;
+  linked = linked;
+}
+
+-- What happens to it in a step: nothing, or it sends a FIS, which waits at its port behind the others.
+pub data WaitsOn (n c : ℕ) (new : Places) (happened : List Happening) (rising : List (List ℕ)) : Type 0 where
+  Silent : happened ≡ [] → IsShutOff n c new rising → WaitsOn n c new happened rising
+  Adds : (bytes : List ℕ) → happened ≡ Sent bytes ∷ [] → IsShutOff n c new (rising ++ bytes ∷ []) → WaitsOn n c new happened rising
 
 -- where the connection is recorded, the port waits for the host
 abbrev pub WaitsFor : (n c : ℕ) → Places → Type 0
@@ -75,17 +119,16 @@ only_there n c now there = by_place (slice_get now.devices n) there
 
 -- ## A step
 
-module _ (n c : ℕ) (below : n < 15) (old : Places) (s : Step) (a : Answer) (new : Places) (rule : Rule old s (Ok a) new) (happened : List Happening)
-    (h : IsShut n c old happened) (waits : WaitsFor n c old) (clean : injects n s ≡ false) (stays : unplugs n s ≡ false)
-    (fine : AreFine (happens n old s a new)) where
+module _ (n c : ℕ) (below : n < 15) (old : Places) (s : Step) (a : Answer) (new : Places) (rule : Rule old s (Ok a) new) (rising : List (List ℕ))
+    (h : IsShutOff n c old rising) (waits : WaitsFor n c old) (clean : injects n s ≡ false) (stays : unplugs n s ≡ false) where
   device : n ≢ control_port
   device e = absurd (omega (arith, e, below))
 
-  its : IsKnown n c old s a new
-  its = known n c old s a new h.there stays clean rule fine
+  its : TellsOf n c old s a new
+  its = tells_of n c old s a new h.there stays clean rule
 
   kept_now : IsUnremoved n c new
-  kept_now = steady_unremoved n c old new s a h.orderly rule its.steady h.kept
+  kept_now = stays_unremoved n c old new s a h.orderly rule its.stays h.kept
 
   there_still : is_removed n c new ≡ false
   there_still = unremoved n c new kept_now
@@ -119,20 +162,25 @@ module _ (n c : ℕ) (below : n < 15) (old : Places) (s : Step) (a : Answer) (ne
           (each_more (IsForOther c) (falling_to n old) (falling fallen.conn f) h.falls
           (λ same. never opens.0 (opens.1 ∙ ap (λ (k : ℕ). Some k) same)))
 
+  off_now : (rising_now : List (List ℕ)) → transit n c new ≡ all_marked n rising_now → IsShutOff n c new rising_now
+  off_now rising_now above = record {
+    orderly = orderly_after old s a new h.orderly rule;
+    risen = (comes_risen old s a new h.risen rule).risen;
+    true_is = true_after n old s a new rule h.true_is;
+    up = up_now;
+    falls = falls_now;
+    there = there_after n c old a new h.there s stays rule;
+    kept = kept_now;
+    above = above;
+  }
+
   -- what is on its way
-  record Waited : Type 0 where
-    rising : List (List ℕ)
-    above : transit n c new ≡ all_marked n rising
-    linked : IsLinked (happened ++ befalls n old a) (Plugged ∷ []) [] rising
+  abbrev Waited : Type 0
+  Waited = WaitsOn n c new (befalls n old a) rising
 
   waited_nothing : befalls n old a ≡ [] → taken_by n c a ≡ [] → sent_by n c a ≡ [] → Waited
-  waited_nothing none untaken unsent = record {
-    rising = h.rising;
-    above = still_above n c old new s a device h.orderly rule untaken unsent there_still ∙ h.above;
-    linked =
-        subst (λ (xs : List Happening). IsLinked xs (Plugged ∷ []) [] h.rising)
-        (sym (ap (λ (xs : List Happening). happened ++ xs) none ∙ append-nil happened)) h.linked;
-  }
+  waited_nothing none untaken unsent =
+      Silent none (off_now rising (still_above n c old new s a device h.orderly rule untaken unsent there_still ∙ h.above))
 
   sent_case : (port conn number : ℕ) (bytes : List ℕ) → a ≡ answer.Sent port conn number bytes → Waited
   sent_case port conn number bytes is = by_test (port == n) refl
@@ -140,34 +188,25 @@ module _ (n c : ℕ) (below : n < 15) (old : Places) (s : Step) (a : Answer) (ne
       told : befalls n old a ≡ (if port == n then Sent bytes ∷ [] else [])
       told = ap (befalls n old) is
 
-      steady : IsSteady n c (answer.Sent port conn number bytes)
-      steady = subst (IsSteady n c) is its.steady
-
       by_test : (b : Bool) → (port == n) ≡ b → Waited
       by_test true here =
-          let mine = steady here in
+          let mine : StaysOn n c (answer.Sent port conn number bytes) = subst (StaysOn n c) is its.stays in
           let sent_is : sent_by n c a ≡ bytes ∷ [] =
-          ap (sent_by n c) is ∙ if_true (port == n && conn == c) (bytes ∷ []) (and_both (port == n) (conn == c) here (eq-eqb conn c mine.0)) in
-          record {
-            rising = h.rising ++ bytes ∷ [];
-            above =
-                ap (λ (xs : List (List ℕ)). xs ++ transit n c new) (sym (ap (taken_by n c) is))
-                ∙ one_step n c old new s a device h.orderly rule there_still
-                ∙ ap (λ (xs : List (List ℕ)). transit n c old ++ all_marked n xs) sent_is
-                ∙ ap (λ (xs : List (List ℕ)). xs ++ all_marked n (bytes ∷ [])) h.above
-                ∙ sym (all_marked-append n h.rising (bytes ∷ []));
-            linked =
-                subst (λ (xs : List Happening). IsLinked (happened ++ xs) (Plugged ∷ []) [] (h.rising ++ bytes ∷ []))
-                (sym (told ∙ if_some (port == n) (Sent bytes ∷ []) here))
-                (sends happened (Plugged ∷ []) [] h.rising bytes mine.1 h.linked);
-          }
+          ap (sent_by n c) is ∙ if_true (port == n && conn == c) (bytes ∷ []) (and_both (port == n) (conn == c) here (eq-eqb conn c (mine here))) in
+          Adds bytes (told ∙ if_some (port == n) (Sent bytes ∷ []) here)
+          (off_now (rising ++ bytes ∷ [])
+          (ap (λ (xs : List (List ℕ)). xs ++ transit n c new) (sym (ap (taken_by n c) is))
+          ∙ one_step n c old new s a device h.orderly rule there_still
+          ∙ ap (λ (xs : List (List ℕ)). transit n c old ++ all_marked n xs) sent_is
+          ∙ ap (λ (xs : List (List ℕ)). xs ++ all_marked n (bytes ∷ [])) h.above
+          ∙ sym (all_marked-append n rising (bytes ∷ []))))
       by_test false other =
           waited_nothing (told ∙ if_none (port == n) (Sent bytes ∷ []) other) (ap (taken_by n c) is)
           (ap (sent_by n c) is ∙ if_false (port == n && conn == c) (bytes ∷ []) (and_false (port == n) (conn == c) (λ here. absurd (true≢false (sym here ∙ other)))))
 
   came_case : (port conn : ℕ) → a ≡ answer.Came port conn → Waited
   came_case port conn is =
-      let other : (port == n) ≡ false = subst (IsSteady n c) is its.steady in
+      let other : (port == n) ≡ false = subst (StaysOn n c) is its.stays in
       waited_nothing (ap (befalls n old) is ∙ if_none (port == n) (Plugged ∷ []) other) (ap (taken_by n c) is) (ap (sent_by n c) is)
 
   -- the host takes none of it
@@ -207,21 +246,26 @@ module _ (n c : ℕ) (below : n < 15) (old : Places) (s : Step) (a : Answer) (ne
   waited (answer.DiskTook port true) is = waited_nothing (ap (befalls n old) is) (ap (taken_by n c) is) (ap (sent_by n c) is)
   waited b is = waited_nothing (ap (befalls n old) is) (ap (taken_by n c) is) (ap (sent_by n c) is)
 
+  pub off_after : WaitsOn n c new (happens n old s a new) rising
+  off_after = subst (λ (xs : List Happening). WaitsOn n c new xs rising) its.same (waited a refl)
+
+-- and where it reports no error it stays linked with the host's end
+module _ (n c : ℕ) (below : n < 15) (old : Places) (s : Step) (a : Answer) (new : Places) (rule : Rule old s (Ok a) new) (happened : List Happening)
+    (h : IsShut n c old happened) (waits : WaitsFor n c old) (clean : injects n s ≡ false) (stays : unplugs n s ≡ false)
+    (fine : AreFine (happens n old s a new)) where
   pub shut_after : IsShut n c new (happened ++ happens n old s a new)
-  shut_after =
-      let w : Waited = waited a refl in
-      record {
-        orderly = orderly_after old s a new h.orderly rule;
-        risen = (comes_risen old s a new h.risen rule).risen;
-        true_is = true_after n old s a new rule h.true_is;
-        up = up_now;
-        falls = falls_now;
-        there = there_after n c old a new h.there s stays rule;
-        kept = kept_now;
-        rising = w.rising;
-        above = w.above;
-        linked = subst (λ (xs : List Happening). IsLinked (happened ++ xs) (Plugged ∷ []) [] w.rising) its.same w.linked;
-      }
+  shut_after = by_case (off_after n c below old s a new rule h.rising (shut_off n c old happened h) waits clean stays)
+    where
+      by_case : WaitsOn n c new (happens n old s a new) h.rising → IsShut n c new (happened ++ happens n old s a new)
+      by_case (Silent none off) =
+          shut_by n c new (happened ++ happens n old s a new) h.rising
+          (subst (λ (xs : List Happening). IsLinked xs (Plugged ∷ []) [] h.rising)
+          (sym (ap (λ (xs : List Happening). happened ++ xs) none ∙ append-nil happened)) h.linked) off
+      by_case (Adds bytes is off) =
+          let its_fine : AreFine (Sent bytes ∷ []) = subst AreFine is fine in
+          shut_by n c new (happened ++ happens n old s a new) (h.rising ++ bytes ∷ [])
+          (subst (λ (xs : List Happening). IsLinked (happened ++ xs) (Plugged ∷ []) [] (h.rising ++ bytes ∷ [])) (sym is)
+          (sends happened (Plugged ∷ []) [] h.rising bytes its_fine.0 h.linked)) off
 
 -- ## The port goes on waiting
 

@@ -17,6 +17,8 @@ pub mod Units
 pub mod Line
 pub mod GoingOn
 pub mod Wired
+pub mod Wire
+pub mod Along
 pub mod Honest
 pub mod Given
 pub mod Brought

@@ -5,7 +5,18 @@ ghost use Rattle.pm_world.specs.Disks.{HonestDisks};
 ghost use Rattle.pm_world.specs.Given.{PushedFits};
 ghost use Rattle.pm_world.specs.Honest.{TookIsHonest};
 ghost use Rattle.pm_world.specs.Polled.{HonestPolls};
+ghost use Rattle.pm_world.specs.Wire.{DroppedNeverComes, PluggedIsOnWire, UnitWiresGoOn, WiresGoOn};
 ghost use Rattle.pm_world.specs.Wired.{DisksStayLinked, PluggedIsLinked, RunsStayLinked};
+
+/// What each step of a world does on the wire of one device, whatever the device sends: the host
+/// gives a FIS, the device takes one, the device sends one, the host takes the next one, or nothing
+/// is done at either end; and so it goes on, until the device is unplugged.
+pub fn wires_go_on()
+    ensures plugged { PluggedIsOnWire }
+    ensures steps { WiresGoOn }
+    ensures units { UnitWiresGoOn }
+    ensures dropped { DroppedNeverComes }
+{}
 
 /// What a disk and the host did at their ends of the disk's link, and what is on its way between
 /// them, are linked from each plugging on, and go on to be so at each step of a world and over each

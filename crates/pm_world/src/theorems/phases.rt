@@ -1,5 +1,6 @@
 //! Laws of the connections of a port in a world. The functions do nothing when they run.
 
+ghost use Rattle.pm_world.specs.Along.{FollowsAlong};
 ghost use Rattle.pm_world.specs.Connections.{ConnectionsFollow};
 ghost use Rattle.pm_world.specs.Later.{LaterDisksAreHonest, PortsRest};
 
@@ -18,4 +19,11 @@ pub fn connections_follow()
 pub fn later_disks_are_honest()
     ensures honest { LaterDisksAreHonest }
     ensures rests { PortsRest }
+{}
+
+/// A disk is followed along its wire from where it and the host began anew, whatever it does, up to
+/// the moment at which the host takes an error of it: what it sent before comes up first, and then
+/// what it sent since, in order.
+pub fn followed_along_the_wire()
+    ensures { FollowsAlong }
 {}

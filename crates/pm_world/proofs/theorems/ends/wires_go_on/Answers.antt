@@ -1,0 +1,15 @@
+use Rattle.pm_world.proofs.RunLemmas.{plugged_is_on_wire, unit_wires_go_on}
+use Rattle.pm_world.proofs.WireLemmas.{dropped_never_comes, wires_go_on}
+use Rattle.pm_world.proofs.theorems.ends.wires_go_on.Goals as goal
+
+pub returns-clause-plugged : goal.returns-clause-plugged
+returns-clause-plugged c = plugged_is_on_wire
+
+pub returns-clause-steps : goal.returns-clause-steps
+returns-clause-steps c = wires_go_on
+
+pub returns-clause-units : goal.returns-clause-units
+returns-clause-units c = unit_wires_go_on
+
+pub returns-clause-dropped : goal.returns-clause-dropped
+returns-clause-dropped c = dropped_never_comes
