@@ -1,6 +1,6 @@
 -- What an act leaves of the plan of a device that recovers.
-use Rattle.std.proofs.Common.{◌≡◌, ◌≢◌, ℕ, ◌<◌, ◌⊎◌, ◌&&◌, Bool, true, false, nat_lt, List, refl, sym, ◌∙◌, ap, subst, inl, inr, arith, Option, Some, None}
-use Rattle.std.specs.Prelude.{if◌then◌else◌, ◌==◌, is_some, slice_index_or}
+use Rattle.std.proofs.Common.{◌≡◌, ◌≢◌, ℕ, ◌⊎◌, ◌&&◌, Bool, true, false, nat_lt, List, refl, sym, ◌∙◌, ap, subst, inl, inr, Option, Some, None}
+use Rattle.std.specs.Prelude.{if◌then◌else◌, is_some, slice_index_or}
 use Rattle.std.proofs.lemmas.Bool.{cases_eq, eqb-true, false≢true, true≢false}
 use Rattle.fis_view.specs.declared.build.H2dFields.{H2dFields}
 use Rattle.slots.specs.Slots.{match_some}
@@ -15,7 +15,7 @@ use Rattle.hba_driver.specs.declared.path.Stage.{Stage}
 use Rattle.hba_driver.specs.declared.path.Stage.TheVariants.{ReadLog, AssertReset, ReleaseReset, AwaitReset}
 use Rattle.hba_driver.specs.declared.path.TaskFile.{TaskFile}
 use Rattle.hba_driver.specs.declared.plan.Device.{Device}
-use Rattle.hba_driver.specs.declared.plan.Device.TheVariants.{Absent, Recovering, Ready}
+use Rattle.hba_driver.specs.declared.plan.Device.TheVariants.{Absent, Recovering}
 use Rattle.hba_driver.specs.declared.plan.Plan.{Plan}
 use Rattle.hba_driver.specs.declared.sight.Sight.{Sight}
 use Rattle.hba_driver.specs.declared.turn.Act.{Act}
@@ -26,7 +26,7 @@ use Rattle.hba_driver.specs.Paths.{first_stage, stage_fields}
 use Rattle.hba_driver.specs.Slot30.{Asks, Cleared, Clears, Faulty, IsAwayFrom, IsPlan30, IsSlot30, IsUnsent30, LogSent, Off, On, ReadsLog, Resets, Sets, Stage30, TicksOn30, is_faulty, is_resetting, path_of}
 use Rattle.hba_driver.specs.Steady.{IsCalmAct, detects}
 use Rattle.hba_driver.specs.Ticks.{from_reset, ordered, plan_after, recovering}
-use Rattle.hba_driver.specs.Turns.{is_ready, may_issue, stage_for}
+use Rattle.hba_driver.specs.Turns.{is_ready}
 use Rattle.hba_driver.proofs.ApartPlans.{HasFields, Plans}
 use Rattle.hba_driver.proofs.DueLemmas.{Due, MayStep, Waiting}
 use Rattle.hba_driver.proofs.SteadyLemmas.{DueOf, set_other}

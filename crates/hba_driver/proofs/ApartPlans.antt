@@ -1,20 +1,17 @@
 -- What a tick leaves of the plan of a device that recovers.
-use Rattle.std.proofs.Common.{◌≡◌, ◌≢◌, ℕ, ◌+◌, ◌<◌, ◌⊎◌, ◌&&◌, Bool, true, false, nat_lt, List, get_or, set, refl, sym, ◌∙◌, ap, subst, inl, inr, arith, Option, Some, None}
-use Rattle.std.specs.Prelude.{if◌then◌else◌, ◌==◌, not, is_some, slice_index_or}
+use Rattle.std.proofs.Common.{◌≡◌, ◌≢◌, ℕ, ◌+◌, ◌&&◌, Bool, true, false, nat_lt, List, get_or, refl, sym, ◌∙◌, ap, subst, inl, inr, Option, Some, None}
+use Rattle.std.specs.Prelude.{if◌then◌else◌, ◌==◌, not, is_some}
 use Rattle.std.specs.Option.{option_map, option_or}
-use Rattle.std.proofs.lemmas.Bool.{cases_Bool, cases_eq, eq-eqb, eqb-true, false≢true, true≢false}
+use Rattle.std.proofs.lemmas.Bool.{cases_eq, eq-eqb, false≢true, true≢false}
 use Rattle.fis_view.specs.declared.build.H2dFields.{H2dFields}
 use Rattle.slots.specs.Slots.{has_bit, lowest_below, match_some}
 use Rattle.hba_driver.specs.declared.order.Order.{Order}
 use Rattle.hba_driver.specs.declared.order.Order.TheVariants.{ResetOn, ResetOff, AwaitSignature, CountPorts, SetMask, Enable, Open, Scan, Clear, Detect, Watch, NoMultiplier}
 use Rattle.hba_driver.specs.declared.path.Path.{Path}
-use Rattle.hba_driver.specs.declared.path.Recovery.{Recovery}
-use Rattle.hba_driver.specs.declared.path.Recovery.TheVariants.{Log, Reset}
 use Rattle.hba_driver.specs.declared.path.Stage.{Stage}
 use Rattle.hba_driver.specs.declared.path.Stage.TheVariants.{Identify, ReadLog, AssertReset, ReleaseReset, AwaitReset}
-use Rattle.hba_driver.specs.declared.path.TaskFile.{TaskFile}
 use Rattle.hba_driver.specs.declared.plan.Device.{Device}
-use Rattle.hba_driver.specs.declared.plan.Device.TheVariants.{Absent, Recovering, Ready}
+use Rattle.hba_driver.specs.declared.plan.Device.TheVariants.{Absent}
 use Rattle.hba_driver.specs.declared.plan.Plan.{Plan}
 use Rattle.hba_driver.specs.declared.sight.Sight.{Sight}
 use Rattle.hba_driver.specs.declared.turn.Act.{Act}
@@ -22,14 +19,12 @@ use Rattle.hba_driver.specs.declared.turn.Act.TheVariants as act
 use Rattle.hba_driver.specs.declared.turn.Turn.{Turn}
 use Rattle.hba_driver.specs.Drivers.{Entry, device_at, entry_at}
 use Rattle.hba_driver.specs.Orders.{next_order}
-use Rattle.hba_driver.specs.Paths.{first_stage, next_stage, stage_fields}
-use Rattle.hba_driver.specs.Slot30.{Asks, Cleared, Clears, Faulty, IsAwayFrom, IsCleared, IsPlan30, LogSent, Off, On, ReadsLog, Resets, Sets, Stage30, TicksOn30, is_faulty, path_of}
+use Rattle.hba_driver.specs.Paths.{next_stage, stage_fields}
+use Rattle.hba_driver.specs.Slot30.{Asks, Cleared, Clears, Faulty, IsAwayFrom, IsCleared, IsPlan30, LogSent, Off, On, ReadsLog, Resets, Sets, Stage30, is_faulty, path_of}
 use Rattle.hba_driver.specs.Steady.{detects}
-use Rattle.hba_driver.specs.Ticks.{from_reset, ordered, plan_after, recovering, unless}
 use Rattle.hba_driver.specs.Turns.{advanced, answered, control_news, control_seen, control_turn, detected, device_due, device_seen, early_due, found_of, is_back, is_due, is_idle, is_in_reset, issue_of, may_issue, met, met_order, met_path, met_stage, noted, order_due, path_answered, path_due, path_met, path_to, request_due, signed_order, stage_due, stage_for, step_of, turn_of, with_next}
-use Rattle.hba_driver.proofs.SteadyLemmas.{DueOf, never, never_open, none_path, path_to_dev, same_path, set_other}
+use Rattle.hba_driver.proofs.SteadyLemmas.{never, never_open, none_path, path_to_dev, same_path, set_other}
 use Rattle.hba_driver.proofs.StopLemmas.{either}
-use Rattle.hba_driver.proofs.TickingLemmas.{unless_back, unless_other}
 
 -- ---- slot 31 leaves a device that is not being looked for
 

@@ -1,6 +1,6 @@
 -- What a device has issued while it recovers, what goes out to it, and that its requests wait for none.
 use Rattle.std.proofs.Common.{◌≡◌, ◌≢◌, ℕ, ◌+◌, ◌*◌, ◌<◌, ◌≤◌, ◌⊎◌, Bool, true, false, ◌&&◌, ◌||◌, List, length, set, refl, sym, ◌∙◌, ap, subst, inl, inr, arith, Option, Some, None}
-use Rattle.std.specs.Prelude.{if◌then◌else◌, not, is_none, is_some, bit_or, ◌==◌, ◌%◌}
+use Rattle.std.specs.Prelude.{if◌then◌else◌, not, is_none, is_some, bit_or, ◌%◌}
 use Rattle.std.specs.Option.{option_map}
 use Rattle.std.proofs.lemmas.Bool.{cases_eq, false≢true, true≢false}
 use Rattle.fis_view.specs.Bits.{bits}
@@ -24,32 +24,26 @@ use Rattle.slots.proofs.MaskLemmas.{lowest_is}
 use Rattle.hba_fbs.specs.Sending.{Data, Gives, Nothing, Order as Goes, Outgoing, Sends, Unreadable, data_due, data_with, is_due, is_ready, next_receiver, next_to_send, order_due, outgoing, resets, view_sent}
 use Rattle.hba_fbs.specs.Tables.{sound_command}
 use Rattle.hba_fbs.specs.Views.{DeviceView, Port, last_command, view_of}
-use Rattle.hba_fbs.specs.declared.state.DeviceState.{DeviceState}
 use Rattle.hba_laws.specs.Agreement.{work_of_issue, work_of_transfer}
 use Rattle.hba_laws.specs.Client.{Touches, own}
 use Rattle.hba_laws.specs.History.{Transfer, issued}
 use Rattle.hba_laws.specs.Isolation.{may_leave, next_own}
-use Rattle.hba_laws.proofs.OutgoingLemmas.{IsOrder, data_is_own, order_is, order_is_own}
+use Rattle.hba_laws.proofs.OutgoingLemmas.{IsOrder, order_is, order_is_own}
 use Rattle.hba_laws.proofs.StandLemmas.{some_inj}
 use Rattle.hba_laws.proofs.ViewLemmas.{at_same, held, is_own, own_freed, own_set}
 use Rattle.hba_laws.proofs.WithinLemmas.{the_transfer}
-use Rattle.hba_driver.specs.declared.path.Path.{Path}
-use Rattle.hba_driver.specs.declared.path.Stage.{Stage}
-use Rattle.hba_driver.specs.declared.path.Stage.TheVariants.{AwaitReset, ReleaseReset}
-use Rattle.hba_driver.specs.declared.plan.Device.{Device}
 use Rattle.hba_driver.specs.declared.plan.Device.TheVariants.{Ready, Recovering}
 use Rattle.hba_driver.specs.declared.plan.Plan.{Plan}
-use Rattle.hba_driver.specs.declared.request.Completion.{Completion}
 use Rattle.hba_driver.specs.declared.request.Request.{Request}
 use Rattle.hba_driver.specs.declared.slot.Phase.{Phase}
 use Rattle.hba_driver.specs.declared.slot.Phase.TheVariants.{Waits, Issued, Aside, Ended}
 use Rattle.hba_driver.specs.Drivers.{Driver, Entry, device_at, entry_at, has_ended_in, is_aside_in, is_issued_in}
 use Rattle.hba_driver.specs.Events.{IsSoundHost, shared_by}
-use Rattle.hba_driver.specs.HostTurns.{Does, Host, Polled, Pushed, Put, Submitted}
+use Rattle.hba_driver.specs.HostTurns.{Host, Pushed}
 use Rattle.hba_driver.specs.Laws.{is_withdrawn}
 use Rattle.hba_driver.specs.Orders.{control, log_fields}
 use Rattle.hba_driver.specs.Served.{IsOrdered, IsRequest, IsServed, IsStep}
-use Rattle.hba_driver.specs.Slot30.{Asks, Cleared, Clears, Faulty, Goes30, IsAlone30, IsApart30, IsAt30, IsFree30, IsPlan30, IsSent30, IsSlot30, IsUnsent30, LogSent, Off, On, PushesOn30, Sets, Stage30, StaysOn30, Turns30, fields30, is_faulty, is_resetting, sent30}
+use Rattle.hba_driver.specs.Slot30.{Asks, Cleared, Clears, Faulty, IsAlone30, IsAt30, IsFree30, IsPlan30, IsSlot30, IsUnsent30, LogSent, Off, On, PushesOn30, Sets, Stage30, StaysOn30, Turns30, fields30, is_faulty, is_resetting, sent30}
 use Rattle.hba_driver.specs.Steady.{detects}
 use Rattle.hba_driver.specs.Submits.{after_submit, next_slot as place_for, new_entry}
 use Rattle.hba_driver.proofs.HistoryLemmas.{PollFacts, freed as polled_is, poll_facts}
@@ -72,7 +66,7 @@ pub slot_same : (n : ℕ) (stage : Stage30) (p q : Port) → view_of n q ≡ vie
 slot_same n Faulty p q view last is = tt
 slot_same n Cleared p q view last is = ap (λ (v : DeviceView). own_issue v.slots 30) view ∙ is
 slot_same n Asks p q view last is = unsent_same n (log_fields n) p q view (last refl) is
-slot_same n LogSent p q view last is = record { issue = is.issue; issued = ap (λ (v : DeviceView). own_issue v.slots 30) view ∙ is.issued; sent = is.sent; work = is.work }
+slot_same n LogSent p q view last is = record { issue = is.issue; issued = ap (λ (v : DeviceView). own_issue v.slots 30) view ∙ is.issued; sent = is.sent; unanswered = is.unanswered; work = is.work }
 slot_same n Sets p q view last is = unsent_same n (control n 4) p q view (last refl) is
 slot_same n On p q view last is = ap (λ (v : DeviceView). own_issue v.slots 30) view ∙ is
 slot_same n Clears p q view last is = unsent_same n (control n 0) p q view (last refl) is
@@ -160,7 +154,10 @@ module _ (n : ℕ) (past : Touches) (h : Host) (stage : Stage30) (low : n < 15) 
       (slot, sym (ap (λ (w : Work). is_queued w.kind) i.2) ∙ queued_slot n stage h.port i.0 well (at.apart well).slot here)
 
 pub is_alone : (n : ℕ) → IsAlone30 n
-is_alone n past h stage low served at well s t is = alone_transfer n past h stage low served at well s t is
+is_alone n = record {
+  issues = λ past h stage low served at well s i there. alone_issue n past h stage low served at well s i there;
+  transfers = λ past h stage low served at well s t is. alone_transfer n past h stage low served at well s t is;
+}
 
 -- ---- a command goes out of slot 30
 
@@ -328,7 +325,7 @@ module _ (n : ℕ) (past : Touches) (old : Host) (new : Host) (stage : Stage30) 
       record {
         next = LogSent;
         now = went_at LogSent refl well plan (ap (λ (x : DeviceView). is_some x.fault) sent.own ∙ at.fault ∙ well)
-            (record { issue = sent_issue i; issued = ap (λ (x : DeviceView). own_issue x.slots 30) sent.own ∙ gone_sent v command i u.issued long none kind; sent = refl; work = refl })
+            (record { issue = sent_issue i; issued = ap (λ (x : DeviceView). own_issue x.slots 30) sent.own ∙ gone_sent v command i u.issued long none kind; sent = refl; unanswered = refl; work = refl })
             (ap (λ (x : DeviceView). x.slots.context) sent.own ∙ kept_context v command i u.issued long none kind)
             (ap (λ (x : DeviceView). x.state.resetting) sent.own ∙ state_command v command i u.issued long none work ∙ (at.apart well).resetting ∙ ap is_resetting asks);
         fields = log_fields n;

@@ -1,8 +1,8 @@
 -- What an act leaves of the view of a device: all of it, but for a command of its own in slot 30.
-use Rattle.std.proofs.Common.{◌≡◌, ◌≢◌, ℕ, ◌+◌, ◌*◌, ◌^◌, ◌<◌, ◌≤◌, Bool, true, false, ◌&&◌, nat_lt, List, [], length, refl, sym, ◌∙◌, ap, subst, inl, inr, arith, Option, Some, None}
-use Rattle.std.specs.Prelude.{◌==◌, ◌%◌, if◌then◌else◌, is_none, is_some}
+use Rattle.std.proofs.Common.{◌≡◌, ◌≢◌, ℕ, ◌+◌, ◌*◌, ◌^◌, ◌<◌, ◌≤◌, Bool, true, false, List, [], length, refl, sym, ◌∙◌, ap, subst, inl, inr, arith, Option, Some, None}
+use Rattle.std.specs.Prelude.{if◌then◌else◌}
 use Rattle.std.specs.Option.{option_or}
-use Rattle.std.proofs.lemmas.Bool.{cases_eq, cases_lt, eq-eqb, false≢true, ne_eqb}
+use Rattle.std.proofs.lemmas.Bool.{cases_lt, eq-eqb, ne_eqb}
 use Rattle.std.proofs.lemmas.List.{get_or_past}
 use Rattle.std.proofs.lemmas.List.FromFn.{get_or-map-range_with_len, length-map-range_with_len}
 use Rattle.fis_view.specs.Built.{IsBuilt, h2d_given}
@@ -14,10 +14,10 @@ use Rattle.hba_commands.specs.declared.command.Command.{Command}
 use Rattle.hba_commands.specs.Commands.{cfis_at, is_proper}
 use Rattle.hba_commands.specs.Requests.{request_of, work_of}
 use Rattle.hba_commands.specs.Writing.{header_for, total_if_usable}
-use Rattle.port_errors.specs.Errors.{Errors, cleared_device}
+use Rattle.port_errors.specs.Errors.{cleared_device}
 use Rattle.slots.specs.Slots.{Issue, issue_at, match_some, new_issue, own_issue, slots_of}
 use Rattle.hba_fbs.specs.declared.register.Register.{Register}
-use Rattle.hba_fbs.specs.declared.register.Register.TheVariants.{Is, Sact, Ci, Fbs, Sntf}
+use Rattle.hba_fbs.specs.declared.register.Register.TheVariants.{Is, Sact, Ci, Fbs}
 use Rattle.hba_fbs.specs.declared.registers.Registers.{Registers}
 use Rattle.hba_fbs.specs.Issuing.{asked, commands_with}
 use Rattle.hba_fbs.specs.Offsets.{register_at}
@@ -28,13 +28,13 @@ use Rattle.hba_laws.proofs.StandLemmas.{some_inj}
 use Rattle.hba_laws.proofs.ViewLemmas.{own_in}
 use Rattle.hba_driver.specs.declared.effect.Effect.TheVariants as effect
 use Rattle.hba_driver.specs.declared.order.Order.{Order}
-use Rattle.hba_driver.specs.declared.order.Order.TheVariants.{ResetOn, ResetOff, AwaitSignature, CountPorts, SetMask, Enable, Open, Scan, Clear, Detect, Watch, NoMultiplier}
+use Rattle.hba_driver.specs.declared.order.Order.TheVariants.{Scan, Clear}
 use Rattle.hba_driver.specs.declared.path.Stage.{Stage}
 use Rattle.hba_driver.specs.declared.path.Stage.TheVariants.{Identify, ReadLog, AssertReset, ReleaseReset, AwaitReset}
 use Rattle.hba_driver.specs.Effects.{Acts, ActsAll, IsRuled, clearing, issuing, order_effects, prds_with, sending, stage_effects, table_of}
 use Rattle.hba_driver.specs.Orders.{control, identify_fields, log_fields, order_fields}
 use Rattle.hba_driver.specs.Paths.{reads_page, stage_fields}
-use Rattle.hba_driver.specs.Sights.{px_ci, px_fbs, px_is, px_sact, px_sntf}
+use Rattle.hba_driver.specs.Sights.{px_ci, px_fbs, px_is, px_sact}
 use Rattle.hba_driver.specs.Slot30.{IsUnsent30}
 use Rattle.hba_driver.proofs.AcceptLemmas.{buffer_usable, control_proper, identify_proper, log_proper, small_dev}
 use Rattle.hba_driver.proofs.DrivenLemmas.{tried_at}

@@ -60,8 +60,13 @@ pub mod AsksLemmas
 pub mod ScansLemmas
 pub mod ScansTurns
 pub mod TendedLemmas
+pub mod FlushLemmas
 pub mod TendedTurns
 pub mod ApartPushes
 pub mod ApartPlans
 pub mod ApartActs
 pub mod ApartViews
+pub mod ApartTicks
+pub mod ApartTakes
+pub mod ApartArmed
+pub mod ApartFiles

@@ -3,11 +3,14 @@ use Rattle.std.proofs.Common.{◌≡◌, ◌≢◌, ℕ, ◌+◌, ◌<◌, ◌�
 use Rattle.std.proofs.lemmas.Bool.{false≢true}
 use Rattle.std.proofs.lemmas.List.FromFn.{get_or-map-range_with_len}
 use Rattle.host_memory.specs.Memory.{Memory}
+use Rattle.slots.specs.Slots.{has_bit, issue_at}
 use Rattle.hba_fbs.specs.Views.{Port, view_of}
 use Rattle.hba_laws.proofs.StandLemmas.{some_inj}
+use Rattle.hba_driver.specs.declared.path.Path.{Path}
 use Rattle.hba_driver.specs.declared.path.Recovery.TheVariants.{Reset}
 use Rattle.hba_driver.specs.declared.path.TaskFile.{TaskFile}
 use Rattle.hba_driver.specs.declared.plan.Device.TheVariants.{Ready}
+use Rattle.hba_driver.specs.declared.path.Stage.TheVariants.{AssertReset}
 use Rattle.hba_driver.specs.declared.plan.Plan.{Plan}
 use Rattle.hba_driver.specs.declared.request.Completion.{Completion}
 use Rattle.hba_driver.specs.declared.request.Request.{Request}
@@ -17,6 +20,7 @@ use Rattle.hba_driver.specs.declared.slot.Phase.TheVariants.{Waits, Issued, Asid
 use Rattle.hba_driver.specs.declared.turn.Act.{Act}
 use Rattle.hba_driver.specs.declared.turn.Act.TheVariants as act
 use Rattle.hba_driver.specs.Drivers.{Driver, Entry, device_at, entry_at, has_ended_in, is_issued, is_issued_in, new_driver, waits, waits_in}
+use Rattle.hba_driver.specs.Events.{IsSoundHost}
 use Rattle.hba_driver.specs.HostTurns.{Does, Host, HostTurn, Took, Pushed, Ticked, Submitted, Polled, Put, sight_in}
 use Rattle.hba_driver.specs.Laws.{Goes, Keeps}
 use Rattle.hba_driver.specs.Orders.{is_flush}
@@ -25,11 +29,13 @@ use Rattle.hba_driver.specs.Steady.{HasSignature, IsCalmTick, IsFine, IsFlushTic
 use Rattle.hba_driver.specs.Submits.{after_submit, new_entry, next_slot, submit_refusal}
 use Rattle.hba_driver.specs.Tended.{AreTended, Fine, IsAskedOn, IsAtStage, IsBegun, IsLiveAt, IsReleasing, IsStepless, IsSteplessTurn, IsTended, IsTendedPlan, TendsOn, TurnsTend}
 use Rattle.hba_driver.specs.Ticks.{after_tick, done_ended, due, seen, turn}
-use Rattle.hba_driver.specs.Turns.{is_in_reset}
-use Rattle.hba_driver.proofs.DueLemmas.{Due, due_turn}
+use Rattle.hba_driver.specs.Turns.{is_in_reset, turn_of}
+use Rattle.hba_driver.proofs.DoneLemmas.{free_slot}
+use Rattle.hba_driver.proofs.DueLemmas.{Due, due_turn, goes_turn}
 use Rattle.hba_driver.proofs.HistoryLemmas.{PollFacts, back_of, freed, poll_facts}
 use Rattle.hba_driver.proofs.LifeLemmas.{keeps_tick}
 use Rattle.hba_driver.proofs.RequestLemmas.{set_cases}
+use Rattle.hba_driver.proofs.FlushLemmas.{flush_unreset}
 use Rattle.hba_driver.proofs.SteadyTurns.{acted_plan, flush_steady, is_ready_dev, no_flush, not_blocked, opens_steady, signed_by}
 use Rattle.hba_driver.proofs.TendedLemmas.{PlanTends, recovering_ready, turn_tends}
 
@@ -147,6 +153,7 @@ tick_tends n old a new below does calm h =
           },
         )
       ];
+      ready = plan.ready;
       asks = λ on. elim (plan.asks on) [
         | inl was ↦ inl was
         | inr more ↦ elim more [
@@ -166,6 +173,7 @@ tick_tends n old a new below does calm h =
 plan_stays : (n : ℕ) (old : Host) (t : HostTurn) (new : Host) → new.driver.plan ≡ old.driver.plan → (IsAtStage n IsBegun new.driver.plan → IsSteplessTurn old t) → IsTended n new.driver → TendsOn n old t new
 plan_stays n old t new same stepless h = record {
   next = inl h;
+  ready = λ r. subst (λ (p : Plan). device_at p n ≡ Ready) (sym same) r;
   asks = λ on. inl (subst (λ (p : Plan). IsAskedOn n p) same on);
   well = λ f. inl (subst (λ (p : Plan). IsFine (device_at p n)) same f);
   begun = λ there. (subst (λ (p : Plan). IsAtStage n IsBegun p) same there, stepless there);
@@ -257,6 +265,26 @@ stepless_slot old a stepless =
     stepless_by (sight_in old) (turn (sight_in old) old.driver).plan (done_ended (sight_in old).issued old.driver.entries) (due (sight_in old) old.driver)
     (due_turn (sight_in old) old.driver.plan (done_ended (sight_in old).issued old.driver.entries)) stepless
 
+-- ---- what slot 30 held
+
+out_or_none : (n : ℕ) (x : Path) (o : Option Path) (low : Type 0) → o ≡ Some x → x.asked ≡ true → ((o ≡ None) × low) ⊎ (o ≡ Some (record { dev = n; stage = AssertReset; asked = false })) → ⊥
+out_or_none n x o low there asked (inl none) = let bad : None ≡ Some x = sym none.0 ∙ there in cc bad
+out_or_none n x o low there asked (inr goes) =
+    let y : Path = record { dev = n; stage = AssertReset; asked = false } in
+    let same : y ≡ x = some_inj y x (sym goes ∙ there) in
+    false≢true (ap (λ (p : Path). p.asked) same ∙ asked)
+
+reset_over : (n : ℕ) (v : Sight) (plan : Plan) (entries : List (Option Entry)) (x : Path) (b : Bool) → has_bit v.issued 30 ≡ b → (turn_of v plan entries).act ≡ Some (act.Steps n AssertReset) → plan.path ≡ Some x → x.asked ≡ true → b ≡ false
+reset_over n v plan entries x false bit is here asked = refl
+reset_over n v plan entries x true bit is here asked =
+    let stays : (turn_of v plan entries).plan.path ≡ Some x = (goes_turn v plan entries).path bit x here asked in
+    absurd (out_or_none n x (turn_of v plan entries).plan.path (n < 15) stays asked (subst (λ (a : Option Act). Due v (turn_of v plan entries).plan entries a) is (due_turn v plan entries)))
+
+pub slot_over : (n : ℕ) (old : Host) (p : Path) → IsSoundHost old → due (sight_in old) old.driver ≡ Some (act.Steps n AssertReset) → old.driver.plan.path ≡ Some p → p.asked ≡ true → issue_at old.port.slots 30 ≡ None
+slot_over n old p sound is here asked =
+    free_slot old.port old.memory 30 sound.ruled.table (omega arith)
+    (reset_over n (sight_in old) old.driver.plan (done_ended (sight_in old).issued old.driver.entries) p (has_bit (sight_in old).issued 30) refl is here asked)
+
 -- ---- each turn
 
 pub turn_tended : (n : ℕ) (old : Host) (t : HostTurn) (new : Host) → n < 16 → Does old t new → IsSteadyTurn n old t → IsTended n old.driver → TendsOn n old t new
@@ -274,5 +302,7 @@ each_is_tended n = record {
   steady = λ d h. steady_tends n d h;
   opens = λ given. opens_tended n given;
   flushed = λ old a new does is. flush_tended n old a new does is;
+  unreset = λ old a new below does is. flush_unreset n old a new below does is;
+  over = λ old a p sound is here asked. slot_over n old p sound is here asked;
   stays = λ old t new below does calm h. turn_tended n old t new below does calm h;
 }

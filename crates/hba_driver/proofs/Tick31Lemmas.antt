@@ -47,7 +47,7 @@ use Rattle.hba_driver.proofs.TickingLemmas.{free_order, step_dev}
 
 -- ---- PxFBS shows the device that is reported
 
-faulty_shown : (port : Port) (memory : Memory) → IsRuled port → port.errors.port ≡ None → is_some port.errors.reported ≡ true → (dev : ℕ) × ((sight_of port memory).faulty ≡ Some dev)
+pub faulty_shown : (port : Port) (memory : Memory) → IsRuled port → port.errors.port ≡ None → is_some port.errors.reported ≡ true → (dev : ℕ) × ((sight_of port memory).faulty ≡ Some dev)
 faulty_shown port memory ruled none some = by_reported port.errors.reported refl some
   where
     by_reported : (o : Option ℕ) → port.errors.reported ≡ o → is_some o ≡ true → (dev : ℕ) × ((sight_of port memory).faulty ≡ Some dev)

@@ -1,7 +1,9 @@
--- Slot 30 over turns of the host, while a device recovers from a fault (AHCI 1.3.1, 6.2.2, error recovery, and 9.3,
--- FIS-based Switching, on errors; Serial ATA 3.x, software reset; ACS-3, READ LOG EXT): its fault is cleared, and then its
--- error log is read, or it is reset. Meanwhile no request of it waits or is issued.
-use Rattle.std.specs.Prelude.{ℕ, ◌≡◌, ◌≢◌, ◌<◌, ◌≤◌, ◌⊎◌, Bool, true, false, Option, Some, None, List, is_some}
+-- Slot 30 over turns of the host, while a device recovers from a fault (AHCI 1.3.1, 6.2.2, error
+-- recovery, and 9.3, FIS-based Switching, on errors; Serial ATA 3.x, software reset; ACS-3, READ LOG
+-- EXT): its fault is cleared, and then its error log is read, or it is reset. Meanwhile no request of
+-- it waits or is issued.
+use Rattle.std.specs.Prelude.{ℕ, ◌≡◌, ◌≢◌, ◌<◌, ◌≤◌, ◌⊎◌, Bool, true, false, Option, Some, None}
+use Rattle.std.specs.Prelude.{List, is_some}
 use Rattle.fis_view.specs.Built.{IsBuilt, h2d_given}
 use Rattle.fis_view.specs.Frames.{Stamped}
 use Rattle.fis_view.specs.Seen.{seen}
@@ -22,16 +24,18 @@ use Rattle.hba_driver.specs.declared.path.Path.{Path}
 use Rattle.hba_driver.specs.declared.path.Recovery.{Recovery}
 use Rattle.hba_driver.specs.declared.path.Recovery.TheVariants.{Log, Reset}
 use Rattle.hba_driver.specs.declared.path.Stage.{Stage}
-use Rattle.hba_driver.specs.declared.path.Stage.TheVariants.{AssertReset, AwaitReset, ReadLog, ReleaseReset}
+use Rattle.hba_driver.specs.declared.path.Stage.TheVariants.{AssertReset, AwaitReset, ReadLog}
+use Rattle.hba_driver.specs.declared.path.Stage.TheVariants.{ReleaseReset}
 use Rattle.hba_driver.specs.declared.path.TaskFile.{TaskFile}
 use Rattle.hba_driver.specs.declared.plan.Device.TheVariants.{Ready, Recovering}
 use Rattle.hba_driver.specs.declared.plan.Plan.{Plan}
 use Rattle.hba_driver.specs.declared.request.Completion.{Completion}
 use Rattle.hba_driver.specs.declared.request.Request.{Request}
-use Rattle.hba_driver.specs.Drivers.{Driver, Entry, device_at, entry_at}
+use Rattle.hba_driver.specs.Drivers.{Entry, device_at, entry_at}
 use Rattle.hba_driver.specs.Events.{IsSoundHost, opening_host, shared_by}
 use Rattle.hba_driver.specs.Going.{GoesOn}
-use Rattle.hba_driver.specs.HostTurns.{Does, DoesAll, Host, HostTurn, Polled, Pushed, Put, Submitted, Ticked, Took}
+use Rattle.hba_driver.specs.HostTurns.{Does, DoesAll, Host, HostTurn, Polled, Pushed, Put}
+use Rattle.hba_driver.specs.HostTurns.{Submitted, Ticked, Took}
 use Rattle.hba_driver.specs.Laws.{is_withdrawn}
 use Rattle.hba_driver.specs.Orders.{control, log_fields}
 use Rattle.hba_driver.specs.Served.{IsServed}
@@ -120,17 +124,19 @@ IsPlan30 n Off plan = Resets n ReleaseReset true plan ⊎ Resets n AwaitReset fa
 
 -- slot 30 holds this command of the device, and it has not gone out
 pub record IsUnsent30 (n : ℕ) (fields : H2dFields) (port : Port) : Type 0 where
-  pub issued : own_issue (view_of n port).slots 30 ≡ Some (new_issue n (work_of (request_of fields)))
+  pub issued : own_issue (view_of n port).slots 30
+      ≡ Some (new_issue n (work_of (request_of fields)))
   pub command : Command
   pub there : last_command port.commands 30 ≡ Some command
   pub work : command.work ≡ work_of (request_of fields)
   pub built : IsBuilt H2d (h2d_given fields) command.cfis
 
--- it went out
+-- it went out, and was not answered
 pub record IsSent30 (n : ℕ) (fields : H2dFields) (port : Port) : Type 0 where
   pub issue : Issue
   pub issued : own_issue (view_of n port).slots 30 ≡ Some issue
   pub sent : issue.sent ≡ true
+  pub unanswered : issue.answered ≡ false
   pub work : issue.work ≡ work_of (request_of fields)
 
 abbrev pub IsFree30 : ℕ → Port → Type 0
@@ -166,7 +172,8 @@ pub record IsAt30 (n : ℕ) (stage : Stage30) (h : Host) : Type 0 where
 
 -- ---- what a turn changes
 
--- No FIS of the device comes before its log is asked for, and while it is reset none but a signature ends that.
+-- No FIS of the device comes before its log is asked for, and while it is reset none but a
+-- signature ends that.
 abbrev pub MayCome30 : Stage30 → List ℕ → Type 0
 MayCome30 Asks frame = ⊥
 MayCome30 LogSent frame = ⊥
@@ -204,12 +211,6 @@ IsNext30 n stage (Pushed (Some frame)) next =
 IsNext30 n stage (Ticked acted) next = TicksOn30 stage next
 IsNext30 n stage turn next = next ≡ stage
 
--- the device sends what may come, and is not flushed
-abbrev pub MayBe30 : ℕ → Stage30 → Host → HostTurn → Type 0
-MayBe30 n stage old (Took frame report) = port_of frame ≡ n → MayCome30 stage frame
-MayBe30 n stage old (Ticked acted) = IsFlushTick n old → ⊥
-MayBe30 n stage old turn = Unit {0}
-
 -- ---- the law
 
 -- Turns lead from stage to stage.
@@ -225,19 +226,34 @@ pub record IsOn30 (past : Touches) (h : Host) : Type 0 where
   pub going : GoesOn h
   pub unarmed : h.port.registers.armed ≡ 0
 
--- A device goes by its log only where it was ready and its Status had ERR.
+-- A tick that clears the fault has the device go by its log only where it was ready, and its Status
+-- had ERR; the log is read with the task file that PxTFD shows then.
 pub record IsLogged (n : ℕ) (old new : Host) (file : TaskFile) : Type 0 where
   pub ready : device_at old.driver.plan n ≡ Ready
   pub shown : file ≡ file_shown new.port
   pub failed : has_bit (view_of n old.port).state.status 0 ≡ true
 
--- At each stage but the first, nothing of the device is issued but for what slot 30 holds, and nothing
+-- Ticks lead from stage to stage, but for one that flushes the device.
+pub record TicksLead30 (n : ℕ) : Type 0 where
+  pub turns : (past : Touches) (old : Host) (acted : Bool) (new : Host) (stage : Stage30) → n < 15
+      → IsOn30 past old → Does old (Ticked acted) new → IsAt30 n stage old
+      → (IsFlushTick n old → ⊥) → Turns30 n stage (Ticked acted) new
+  pub logged : (past : Touches) (old : Host) (acted : Bool) (new : Host) (file : TaskFile) → n < 15
+      → IsOn30 past old → Does old (Ticked acted) new → IsAt30 n Faulty old
+      → (IsFlushTick n old → ⊥) → is_some (view_of n new.port).fault ≡ false
+      → device_at new.driver.plan n ≡ Recovering (Log file) → IsLogged n old new file
+
+-- At each stage but the first, nothing of the device is issued but for what slot 30 holds, and
+-- nothing
 -- queued.
-abbrev pub IsAlone30 : ℕ → Type 0
-IsAlone30 n =
-    (past : Touches) (h : Host) (stage : Stage30) → n < 15 → IsServed h.driver (shared_by h) past
-    → IsAt30 n stage h → is_faulty stage ≡ false → (s : ℕ) (t : Transfer)
-    → issued s (own n past) ≡ Some t → (s ≡ 30) × (is_queued t.work.kind ≡ false)
+pub record IsAlone30 (n : ℕ) : Type 0 where
+  pub issues : (past : Touches) (h : Host) (stage : Stage30) → n < 15
+      → IsServed h.driver (shared_by h) past → IsAt30 n stage h → is_faulty stage ≡ false
+      → (s : ℕ) (i : Issue) → own_issue (view_of n h.port).slots s ≡ Some i → s ≡ 30
+  pub transfers : (past : Touches) (h : Host) (stage : Stage30) → n < 15
+      → IsServed h.driver (shared_by h) past → IsAt30 n stage h → is_faulty stage ≡ false
+      → (s : ℕ) (t : Transfer) → issued s (own n past) ≡ Some t
+      → (s ≡ 30) × (is_queued t.work.kind ≡ false)
 
 -- No other frame goes out to it.
 abbrev pub PushesOn30 : ℕ → Type 0
@@ -245,6 +261,20 @@ PushesOn30 n =
     (past : Touches) (old : Host) (frame : Option Stamped) (new : Host) (stage : Stage30) → n < 15
     → IsSoundHost old → IsServed old.driver (shared_by old) past → Does old (Pushed frame) new
     → IsAt30 n stage old → Turns30 n stage (Pushed frame) new
+
+-- What comes from it is ignored while it has a fault, or is reset, and else leaves it there or is a
+-- fault.
+pub record TakesLead30 (n : ℕ) : Type 0 where
+  pub turns : (past : Touches) (old : Host) (frame : List ℕ) (report : TakeReport) (new : Host)
+      (stage : Stage30) → n < 15 → IsServed old.driver (shared_by old) past
+      → Does old (Took frame report) new → IsAt30 n stage old
+      → (port_of frame ≡ n → MayCome30 stage frame) → Turns30 n stage (Took frame report) new
+  -- a frame that gives the device its first fault begins this
+  pub begins : (old : Host) (frame : List ℕ) (report : TakeReport) (new : Host) → n < 15
+      → IsSoundHost old → Does old (Took frame report) new → port_of frame ≡ n
+      → detects n old.driver.plan.asked old.driver.plan.order ≡ false
+      → is_some (view_of n old.port).fault ≡ false → is_some (view_of n new.port).fault ≡ true
+      → IsAt30 n Faulty new
 
 -- Requests of other devices are taken meanwhile, and none of it.
 pub record StaysOn30 (n : ℕ) : Type 0 where
@@ -259,7 +289,15 @@ pub record StaysOn30 (n : ℕ) : Type 0 where
 pub record DeviceIsApart (n : ℕ) : Type 0 where
   pub alone : IsAlone30 n
   pub pushes : PushesOn30 n
+  pub ticks : TicksLead30 n
+  pub takes : TakesLead30 n
   pub stays : StaysOn30 n
 
 abbrev pub EachIsApart : Type 0
 EachIsApart = (n : ℕ) → DeviceIsApart n
+
+-- From the opening of a host on, no bit of PxSACT waits for its command between two turns.
+abbrev pub NoneIsArmed : Type 0
+NoneIsArmed =
+    (given len : ℕ) → is_memory_size len ≡ true → (turns : List HostTurn) (h : Host)
+    → DoesAll (opening_host given len) turns h → h.port.registers.armed ≡ 0

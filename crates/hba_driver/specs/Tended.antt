@@ -6,7 +6,8 @@
 -- Cited: a device of which nothing failed since its flush, and which ticks are calm for one
 -- (specs/Steady.antt).
 use Rattle.std.specs.Prelude.{ℕ, ◌≡◌, ◌≢◌, ◌<◌, ◌⊎◌, ◌||◌, Bool, true, false, List}
-use Rattle.std.specs.Prelude.{Option, Some}
+use Rattle.std.specs.Prelude.{None, Option, Some}
+use Rattle.slots.specs.Slots.{issue_at}
 use Rattle.hba_fbs.specs.Views.{view_of}
 use Rattle.hba_driver.specs.declared.path.Path.{Path}
 use Rattle.hba_driver.specs.declared.path.Recovery.TheVariants.{Log, Reset}
@@ -20,6 +21,7 @@ use Rattle.hba_driver.specs.declared.turn.Act.{Act}
 use Rattle.hba_driver.specs.declared.turn.Act.TheVariants as act
 use Rattle.hba_driver.specs.Drivers.{Driver, Entry, device_at, entry_at, is_issued, new_driver}
 use Rattle.hba_driver.specs.Drivers.{waits}
+use Rattle.hba_driver.specs.Events.{IsSoundHost}
 use Rattle.hba_driver.specs.HostTurns.{Does, Host, HostTurn, Ticked, sight_in}
 use Rattle.hba_driver.specs.Orders.{is_flush}
 use Rattle.hba_driver.specs.Steady.{HasSignature, IsFine, IsFlushTick, IsSteady, IsSteadyTurn}
@@ -148,6 +150,7 @@ IsUnreset n h = (view_of n h.port).state.resetting ≡ false
 pub record TendsOn (n : ℕ) (old : Host) (turn : HostTurn) (new : Host) : Type 0 where
   -- it is tended further, or its reset is issued
   pub next : IsTended n new.driver ⊎ (IsResetTurn n old turn × IsBeingReset n new.driver)
+  pub ready : device_at old.driver.plan n ≡ Ready → device_at new.driver.plan n ≡ Ready
   -- it is asked for something only if it was before, or its signature came
   pub asks : IsAskedOn n new.driver.plan → IsAskedOn n old.driver.plan
       ⊎ ((IsFine (device_at old.driver.plan n) × HasSignature n old)
@@ -174,6 +177,13 @@ pub record TurnsTend (n : ℕ) : Type 0 where
       → IsTended n (new_driver given) × (IsAskedOn n (new_driver given).plan → ⊥)
   pub flushed : (old : Host) (acted : Bool) (new : Host) → Does old (Ticked acted) new
       → IsFlushTick n old → IsTended n new.driver × (IsAskedOn n new.driver.plan → ⊥)
+  -- it is in no software reset after its flush
+  pub unreset : (old : Host) (acted : Bool) (new : Host) → n < 16 → Does old (Ticked acted) new
+      → IsFlushTick n old → IsUnreset n new
+  -- where its software reset is issued, what slot 30 held before is over
+  pub over : (old : Host) (acted : Bool) (p : Path) → IsSoundHost old
+      → IsResetTurn n old (Ticked acted) → old.driver.plan.path ≡ Some p → p.asked ≡ true
+      → issue_at old.port.slots 30 ≡ None
   -- over each turn that is calm for the device
   pub stays : (old : Host) (turn : HostTurn) (new : Host) → n < 16 → Does old turn new
       → IsSteadyTurn n old turn → IsTended n old.driver → TendsOn n old turn new

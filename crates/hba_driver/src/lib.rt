@@ -27,5 +27,5 @@ pub use laws::{
     errors_are_named, hosts_stay_sound, ticks_keep, ticks_serve, turns_are_events,
     turns_are_steady, turns_deliver, turns_keep, turns_serve, turns_tend, writes_are_accepted,
 };
-pub use recovering::devices_are_apart;
+pub use recovering::{devices_are_apart, none_is_armed};
 pub use request::{Completion, Outcome, Request, SubmitError, Ticket, Work};
