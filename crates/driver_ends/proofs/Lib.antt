@@ -11,3 +11,5 @@ pub mod TogetherTakes
 pub mod TogetherBegins
 pub mod TogetherOrders
 pub mod TogetherPushes
+pub mod TogetherParts
+pub mod ApartBegins

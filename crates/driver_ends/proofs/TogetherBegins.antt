@@ -3,6 +3,7 @@ use Rattle.std.proofs.Common.{◌≡◌, ◌≢◌, ℕ, ◌<◌, true, false, L
 use Rattle.std.specs.Option.{option_map}
 use Rattle.std.proofs.lemmas.Bool.{true≢false}
 use Rattle.slots.specs.Slots.{own_issue}
+use Rattle.slots.specs.declared.table.Context.{Context}
 use Rattle.hba_fbs.specs.Views.{view_of}
 use Rattle.disk_model.specs.declared.request.Command.{Command}
 use Rattle.disk_model.specs.Histories.{Happening, Plugged}
@@ -16,6 +17,7 @@ use Rattle.disk_ends.specs.Anew.{IsAwaited}
 use Rattle.disk_ends.specs.Anew as anew
 use Rattle.disk_ends.proofs.AnewJoins.{hosted_since_new, opens_after, opens_signing}
 use Rattle.disk_ends.proofs.HeardLemmas.{IsThere, there_by}
+use Rattle.disk_ends.proofs.HostedLemmas.{no_context}
 use Rattle.hba_driver.specs.declared.path.Path.{Path}
 use Rattle.hba_driver.specs.declared.path.Recovery.{Recovery}
 use Rattle.hba_driver.specs.declared.path.Recovery.TheVariants.{Log, Reset}
@@ -30,6 +32,7 @@ use Rattle.hba_driver.specs.HostTurns.{Does, Host, Ticked}
 use Rattle.hba_driver.specs.Served.{IsServed, RunServes}
 use Rattle.hba_driver.specs.Steady.{IsAskedOf, IsFine, IsSteady, IsSteadyPlan}
 use Rattle.hba_driver.specs.Tended.{Awaits, Fine, Identifies, IsAskedOn, IsAsking, IsAtStage, IsBegun, IsLiveAt, IsReleasing, IsTended, IsTendedBy, Logs, Releases, Spoilt}
+use Rattle.hba_driver.proofs.FlushLemmas.{flush_unreset}
 use Rattle.hba_driver.proofs.IssuingLemmas.{From}
 use Rattle.hba_driver.proofs.RowLemmas.{flush_row}
 use Rattle.hba_driver.proofs.ServedLemmas.{turns_serve}
@@ -39,7 +42,7 @@ use Rattle.hba_driver.proofs.SteadyTurns.{flush_steady, issued_unended}
 use Rattle.hba_driver.proofs.TendedLemmas.{stage_is, unworked}
 use Rattle.hba_driver.proofs.TendedTurns.{issued_live, steady_tends}
 use Rattle.driver_ends.specs.Steady.{HasSigned}
-use Rattle.driver_ends.specs.Together.{FlushOpensOn, IsServedOn, LogBeginsServed, ResetBeginsServed, ServedSinceFlush}
+use Rattle.driver_ends.specs.Together.{FlushOpensOn, IsServedOn, LogBeginsServed, ResetBeginsServed, ServedSinceFlush, SpoiltIsFree}
 use Rattle.driver_ends.proofs.TurnLemmas.{after, no_issue, no_transfer, plain}
 
 -- ---- a device of which nothing failed since its flush
@@ -98,14 +101,14 @@ module _ (n : ℕ) (h : Host) (before : List Happening) (commands : ℕ → Comm
       }
 
 pub flush_opens_on : FlushOpensOn
-flush_opens_on n old a new run before touches below flush sound served off =
+flush_opens_on n old a new run before touches below flush sound served =
     let d : Does old (Ticked a) new = after old (Ticked a) new run in
     let steady = flush_steady n old a new d flush in
     let serves : RunServes old new (Ticked a ∷ []) run touches = turns_serve.runs old new (Ticked a ∷ []) run sound touches served in
     record {
       next = plain;
       serves = serves;
-      on = begins_plugged n new before plain (touches_after touches (shared_by old) (shared_by new) (events_over old new (Ticked a ∷ []) run) serves.runs) below (sound_turn old (Ticked a) new d sound) serves.last steady.0 steady.1 off
+      on = begins_plugged n new before plain (touches_after touches (shared_by old) (shared_by new) (events_over old new (Ticked a ∷ []) run) serves.runs) below (sound_turn old (Ticked a) new d sound) serves.last steady.0 steady.1 (flush_unreset n old a new (omega (arith, below)) d flush)
           (flush_row n old a new (omega (arith, below)) d sound flush) (λ s. refl);
     }
 
@@ -195,3 +198,27 @@ log_begins_served n h base file page commands touches below sound served tended 
         steps_alone_on n h.driver (record { dev = n; stage = ReadLog file; asked = true }) s r.entry tended works refl (record { stands = r.stands; of_dev = r.of_dev; lives = issued_live r.entry r.goes })
     unnamed s t e there (inr (inl i)) = let low : s < 30 = in_slots h.driver.entries s e served.bounded.slots there in omega (arith, low, i.slot)
     unnamed s t e there (inr (inr o)) = omega (arith, below, o.of_dev)
+
+-- ---- where the log was not whole
+
+pub no_context_at : (o : Option Context) → ((c : Context) → o ≡ Some c → ⊥) → o ≡ None
+no_context_at None never = refl
+no_context_at (Some c) never = absurd (never c refl)
+
+pub spoilt_is_free : SpoiltIsFree
+spoilt_is_free n base h given commands touches below device free served =
+    let told : IsHistoryOf n (shared_by h) (own n touches) = served.served.told n (omega (arith, below)) in
+    let none : (s : ℕ) → issued s (own n touches) ≡ None = λ s. no_transfer (issued s (own n touches)) (λ t here. by_issue s t (served.served.issues n s t here).from) in
+    let slots : (s : ℕ) → own_issue (view_of n h.port).slots s ≡ None =
+    λ s. no_issue (own_issue (view_of n h.port).slots s) (sym (ap (option_map work_of_transfer) (none s)) ∙ told.issued s) in
+    record {
+      told = none;
+      slots = slots;
+      context = no_context_at (view_of n h.port).slots.context (no_context n (shared_by h) (own n touches) told slots);
+    }
+  where
+    by_issue : (s : ℕ) (t : Transfer) → From h.driver n s t → ⊥
+    by_issue s t (inl r) =
+        recovering_not Reset (sym device ∙ served.tended.requests.ready s r.entry (record { stands = r.stands; of_dev = r.of_dev; lives = issued_live r.entry r.goes }))
+    by_issue s t (inr (inl i)) = free i.path i.goes i.of_dev
+    by_issue s t (inr (inr o)) = omega (arith, below, o.of_dev)

@@ -31,8 +31,8 @@ use Rattle.hba_driver.specs.Drivers.{entry_at}
 use Rattle.hba_driver.specs.Events.{events_over, shared_by}
 use Rattle.hba_driver.specs.HostTurns.{DoesAll, Host, HostTurn, Took, Pushed, Ticked, Submitted, Polled, Put}
 use Rattle.hba_driver.specs.Served.{RunServes}
-use Rattle.hba_driver.specs.Steady.{HasSignature, Issues, slot_in}
-use Rattle.hba_driver.specs.Tended.{IsResetTurn, IsSteplessTurn, IsTended, TendsOn}
+use Rattle.hba_driver.specs.Steady.{HasSignature, IsSteadyTurn, Issues, slot_in}
+use Rattle.hba_driver.specs.Tended.{IsSteplessTurn, IsTended, TendsOn}
 use Rattle.hba_driver.proofs.BesideLemmas.{tick_beside}
 use Rattle.hba_driver.proofs.IssuingLemmas.{asked_is}
 use Rattle.hba_driver.proofs.RowLemmas.{rows_stay}
@@ -176,44 +176,50 @@ module _ (n : ℕ) (base : List Happening) (old : Host) (turn : HostTurn) (new :
         };
       }
 
-  -- the driver tends it further
-  tended_by : TendsOn n old turn new → (IsResetTurn n old turn → ⊥) → IsTended n new.driver
-  tended_by tends never = elim tends.next [ inl on ↦ on | inr reset ↦ absurd (never reset.0) ]
-
 apart_31 : ◌≢◌ {A = ℕ} 31 30
 apart_31 is = omega (arith, is)
 
-calm_turn : (n : ℕ) (base : List Happening) (old : Host) (turn : HostTurn) (new : Host) (run : DoesAll old (turn ∷ []) new) (given : List Happening) (commands : ℕ → Command) (touches : Touches) → n < 15
-    → IsCalmTurn n old turn → (IsResetTurn n old turn → ⊥) → IsServedOn n base old given commands touches → ServesOnAnew n base old turn new run given touches
-calm_turn n base old (Took frame report) new run given commands touches below calm never h =
+pub calm_turn : (n : ℕ) (base : List Happening) (old : Host) (turn : HostTurn) (new : Host) (run : DoesAll old (turn ∷ []) new) (given : List Happening) (commands : ℕ → Command) (touches : Touches) → n < 15
+    → IsCalmTurn n old turn → TendsOn n old turn new → IsTended n new.driver → IsServedOn n base old given commands touches → ServesOnAnew n base old turn new run given touches
+calm_turn n base old (Took frame report) new run given commands touches below calm tends tended h =
     let d = after old (Took frame report) new run in
-    let tends : TendsOn n old (Took frame report) new = turn_tended n old (Took frame report) new (omega (arith, below)) d tt h.tended in
-    goes_on n base old (Took frame report) new run given commands touches below h 31 (inl calm, tt) tends (tended_by n base old (Took frame report) new run given commands touches below h tends never) (λ t. apart_31)
+    goes_on n base old (Took frame report) new run given commands touches below h 31 (inl calm, tt) tends tended (λ t. apart_31)
     (rows_stay n old (Took frame report) new (omega (arith, below)) d h.sound (inl (λ e. calm (sym e))))
-calm_turn n base old (Pushed frame) new run given commands touches below calm never h = absurd calm
-calm_turn n base old (Ticked a) new run given commands touches below calm never h =
+calm_turn n base old (Pushed frame) new run given commands touches below calm tends tended h = absurd calm
+calm_turn n base old (Ticked a) new run given commands touches below calm tends tended h =
     let d = after old (Ticked a) new run in
-    let tends : TendsOn n old (Ticked a) new = turn_tended n old (Ticked a) new (omega (arith, below)) d calm h.tended in
     let runs = (turns_serve.runs old new (Ticked a ∷ []) run h.sound touches h.served).runs in
     goes_on n base old (Ticked a) new run given commands touches below h (slot_in old)
     (beside_away n (slot_in old) (shared_by old) (shared_by new) (events_over old new (Ticked a ∷ []) run) runs (tick_beside n old a new run h.sound h.served.bounded calm runs))
-    tends (tended_by n base old (Ticked a) new run given commands touches below h tends never) (stepless_slot old a)
+    tends tended (stepless_slot old a)
     (rows_stay n old (Ticked a) new (omega (arith, below)) d h.sound calm)
-calm_turn n base old (Submitted dev request ticket) new run given commands touches below calm never h =
+calm_turn n base old (Submitted dev request ticket) new run given commands touches below calm tends tended h =
     let d = after old (Submitted dev request ticket) new run in
-    let tends : TendsOn n old (Submitted dev request ticket) new = turn_tended n old (Submitted dev request ticket) new (omega (arith, below)) d tt h.tended in
-    goes_on n base old (Submitted dev request ticket) new run given commands touches below h 31 (inl tt, tt) tends (tended_by n base old (Submitted dev request ticket) new run given commands touches below h tends never) (λ t. apart_31)
+    goes_on n base old (Submitted dev request ticket) new run given commands touches below h 31 (inl tt, tt) tends tended (λ t. apart_31)
     (rows_stay n old (Submitted dev request ticket) new (omega (arith, below)) d h.sound tt)
-calm_turn n base old (Polled c) new run given commands touches below calm never h =
+calm_turn n base old (Polled c) new run given commands touches below calm tends tended h =
     let d = after old (Polled c) new run in
-    let tends : TendsOn n old (Polled c) new = turn_tended n old (Polled c) new (omega (arith, below)) d tt h.tended in
-    goes_on n base old (Polled c) new run given commands touches below h 31 tt tends (tended_by n base old (Polled c) new run given commands touches below h tends never) (λ t. apart_31)
+    goes_on n base old (Polled c) new run given commands touches below h 31 tt tends tended (λ t. apart_31)
     (rows_stay n old (Polled c) new (omega (arith, below)) d h.sound tt)
-calm_turn n base old (Put at bytes) new run given commands touches below calm never h =
+calm_turn n base old (Put at bytes) new run given commands touches below calm tends tended h =
     let d = after old (Put at bytes) new run in
-    let tends : TendsOn n old (Put at bytes) new = turn_tended n old (Put at bytes) new (omega (arith, below)) d tt h.tended in
-    goes_on n base old (Put at bytes) new run given commands touches below h 31 (inl tt, tt) tends (tended_by n base old (Put at bytes) new run given commands touches below h tends never) (λ t. apart_31)
+    goes_on n base old (Put at bytes) new run given commands touches below h 31 (inl tt, tt) tends tended (λ t. apart_31)
     (rows_stay n old (Put at bytes) new (omega (arith, below)) d h.sound tt)
 
+-- a turn that is calm for it is so for the driver
+steady_of : (n : ℕ) (old : Host) (turn : HostTurn) → IsCalmTurn n old turn → IsSteadyTurn n old turn
+steady_of n old (Took frame report) calm = tt
+steady_of n old (Pushed frame) calm = absurd calm
+steady_of n old (Ticked a) calm = calm
+steady_of n old (Submitted dev request ticket) calm = tt
+steady_of n old (Polled c) calm = tt
+steady_of n old (Put at bytes) calm = tt
+
+pub calm_tends : (n : ℕ) (base : List Happening) (old : Host) (turn : HostTurn) (new : Host) → DoesAll old (turn ∷ []) new → (given : List Happening) (commands : ℕ → Command) (touches : Touches) → n < 15 → IsCalmTurn n old turn
+    → IsServedOn n base old given commands touches → TendsOn n old turn new
+calm_tends n base old turn new run given commands touches below calm h = turn_tended n old turn new (omega (arith, below)) (after old turn new run) (steady_of n old turn calm) h.tended
+
 pub calm_turns_keep_on : CalmTurnsKeepOn
-calm_turns_keep_on n base old turn new run given commands touches below calm never h = calm_turn n base old turn new run given commands touches below calm never h
+calm_turns_keep_on n base old turn new run given commands touches below calm never h =
+    let tends : TendsOn n old turn new = calm_tends n base old turn new run given commands touches below calm h in
+    calm_turn n base old turn new run given commands touches below calm tends (elim tends.next [ inl on ↦ on | inr reset ↦ absurd (never reset.0) ]) h

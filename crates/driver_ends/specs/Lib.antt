@@ -1,3 +1,4 @@
 pub mod Steady
 pub mod Kept
 pub mod Together
+pub mod Apart

@@ -6,7 +6,7 @@
 -- Cited: a driver that serves a disk since its flush (specs/Kept.antt), what the driver keeps of a
 -- device (`hba_driver`, specs/Tended.antt), and what a host has of a disk from where both began
 -- anew (`disk_ends`, specs/Anew.antt).
-use Rattle.std.specs.Prelude.{ℕ, ◌≡◌, ◌<◌, ◌++◌, Bool, false, true, List, [], ◌∷◌, Option}
+use Rattle.std.specs.Prelude.{ℕ, ◌≡◌, ◌<◌, ◌⊎◌, ◌++◌, Bool, false, true, List, [], ◌∷◌, Option}
 use Rattle.std.specs.Prelude.{None, Some}
 use Rattle.fis_view.specs.Frames.{IsFrame, Stamped, marked}
 use Rattle.fis_view.specs.Seen.{seen}
@@ -27,15 +27,18 @@ use Rattle.disk_ends.specs.Anew.{IsAwaited, IsHostedOn, IsSignedWell}
 use Rattle.disk_ends.specs.Heard.{IsTakenWell}
 use Rattle.disk_ends.specs.Joined.{IsShort, SentAgrees}
 use Rattle.disk_ends.specs.Together.{IsWaitedUnset, is_sent}
+use Rattle.hba_driver.specs.declared.path.Recovery.TheVariants.{Reset}
 use Rattle.hba_driver.specs.declared.path.Stage.TheVariants.{ReadLog}
 use Rattle.hba_driver.specs.declared.path.TaskFile.{TaskFile}
+use Rattle.hba_driver.specs.declared.plan.Device.TheVariants.{Recovering}
 use Rattle.hba_driver.specs.Drivers.{device_at}
 use Rattle.hba_driver.specs.Events.{IsSoundHost, events_over, shared_by}
 use Rattle.hba_driver.specs.HostTurns.{DoesAll, Host, HostTurn, Pushed, Ticked, Took}
 use Rattle.hba_driver.specs.Served.{IsServed, RunServes}
 use Rattle.hba_driver.specs.Steady.{HasSignature, IsFine, IsFlushTick}
-use Rattle.hba_driver.specs.Tended.{IsAskedOn, IsAtStage, IsBegun, IsReleasing, IsResetTurn}
-use Rattle.hba_driver.specs.Tended.{IsTended, IsUnreset, WorksOn}
+use Rattle.hba_driver.specs.Tended.{IsAskedOn, IsAtStage, IsBegun, IsBeingReset}
+use Rattle.hba_driver.specs.Tended.{IsReleasing, IsResetTurn}
+use Rattle.hba_driver.specs.Tended.{IsTended, IsUnreset, IsUnworked, WorksOn}
 use Rattle.driver_ends.specs.Kept.{IsCalmTurn, IsServedHonestly, given_to}
 use Rattle.driver_ends.specs.Steady.{AreNamed, HasSigned}
 
@@ -82,13 +85,13 @@ ServedSinceFlush =
     → IsServedHonestly n h given commands touches
     → IsServedOn n (Plugged ∷ []) h given commands touches
 
--- In the tick that flushes the disk it begins anew, whatever happened before the disk was plugged in.
+-- In the tick that flushes the disk it begins anew, whatever happened before the disk was plugged
+-- in.
 abbrev pub FlushOpensOn : Type 0
 FlushOpensOn =
     (n : ℕ) (old : Host) (acted : Bool) (new : Host) (run : DoesAll old (Ticked acted ∷ []) new)
     (before : List Happening) (touches : Touches) → n < 15 → IsFlushTick n old
     → IsSoundHost old → IsServed old.driver (shared_by old) touches
-    → (view_of n new.port).state.resetting ≡ false
     → ServesOnAnew n (before ++ Plugged ∷ []) old (Ticked acted) new run
     (before ++ Plugged ∷ []) touches
 
@@ -118,6 +121,23 @@ LogBeginsServed =
     → OwesOnly (ledger base) (ShowsPage ∷ []) (page ∷ [])
     → IsServedOn n base h base commands touches
 
+-- ---- where they part again
+
+-- nothing of the device is issued, and it has no context
+pub record IsFreeAt (n : ℕ) (h : Host) (touches : Touches) : Type 0 where
+  pub told : (s : ℕ) → issued s (own n touches) ≡ None
+  pub slots : (s : ℕ) → own_issue (view_of n h.port).slots s ≡ None
+  pub context : (view_of n h.port).slots.context ≡ None
+
+-- So it is with a device that is to be reset since its log was not whole, until its software reset
+-- is issued.
+abbrev pub SpoiltIsFree : Type 0
+SpoiltIsFree =
+    (n : ℕ) (base : List Happening) (h : Host) (given : List Happening) (commands : ℕ → Command)
+    (touches : Touches) → n < 15 → device_at h.driver.plan n ≡ Recovering Reset
+    → IsUnworked n h.driver.plan
+    → IsServedOn n base h given commands touches → IsFreeAt n h touches
+
 -- ---- turns
 
 -- No FIS of the device comes in the turn and none goes out, the driver does not flush it, ends no
@@ -130,6 +150,22 @@ CalmTurnsKeepOn =
     → IsCalmTurn n old turn → (IsResetTurn n old turn → ⊥)
     → IsServedOn n base old given commands touches
     → ServesOnAnew n base old turn new run given touches
+
+-- the turn issues the software reset of the device, of which nothing was issued before
+pub record ResetsAt (n : ℕ) (old : Host) (turn : HostTurn) (new : Host) (touches : Touches)
+    : Type 0 where
+  pub issues : IsResetTurn n old turn
+  pub reset : IsBeingReset n new.driver
+  pub free : IsFreeAt n old touches
+
+-- So it is, or the software reset of the device is issued.
+abbrev pub CalmTurnsGoOn : Type 0
+CalmTurnsGoOn =
+    (n : ℕ) (base : List Happening) (old : Host) (turn : HostTurn) (new : Host)
+    (run : DoesAll old (turn ∷ []) new)
+    (given : List Happening) (commands : ℕ → Command) (touches : Touches) → n < 15
+    → IsCalmTurn n old turn → IsServedOn n base old given commands touches
+    → ServesOnAnew n base old turn new run given touches ⊎ ResetsAt n old turn new touches
 
 -- A FIS of the disk comes, marked with its port, that is right by what was told since, and nothing
 -- is wrong with it.

@@ -1,10 +1,13 @@
 //! Laws of the driver and a disk that it serves. The functions do nothing when they run.
 
+ghost use Rattle.driver_ends.specs.Apart.{AsideAt, LogBegins, ResetBegins};
 ghost use Rattle.driver_ends.specs.Kept.{CalmTurnsKeep, FlushOpens, OpensHonestly};
 ghost use Rattle.driver_ends.specs.Kept.{PushesGoOn, PushesKeep, TakesKeep};
-ghost use Rattle.driver_ends.specs.Together.{CalmTurnsKeepOn, FlushOpensOn, IgnoredKeepOn};
+ghost use Rattle.driver_ends.specs.Together.{CalmTurnsGoOn, CalmTurnsKeepOn, FlushOpensOn};
+ghost use Rattle.driver_ends.specs.Together.{IgnoredKeepOn};
 ghost use Rattle.driver_ends.specs.Together.{LogBeginsServed, PushesGoOnOn, ResetBeginsServed};
-ghost use Rattle.driver_ends.specs.Together.{ServedSinceFlush, SignaturesKeepOn, TakesKeepOn};
+ghost use Rattle.driver_ends.specs.Together.{ServedSinceFlush, SignaturesKeepOn, SpoiltIsFree};
+ghost use Rattle.driver_ends.specs.Together.{TakesKeepOn};
 
 /// As a host opens, and in the tick that flushes a disk, its driver begins to serve the disk
 /// honestly. It goes on to do so over each turn in which no FIS of the disk comes or goes, that
@@ -58,4 +61,19 @@ pub fn takes_serve_on()
 /// disk fits what was told since both began anew, and is no reset and not the log.
 pub fn pushes_serve_on()
     ensures { PushesGoOnOn }
+{}
+
+/// Where such a turn issues the software reset of the disk, nothing of the disk was issued before;
+/// nor is it while that is to be issued, since the disk's log was not whole.
+pub fn resets_begin_free()
+    ensures turns { CalmTurnsGoOn }
+    ensures spoilt { SpoiltIsFree }
+{}
+
+/// A device that has a fault, or recovers from one, is set aside at each stage of slot 30, until
+/// driver and disk begin anew: as READ LOG EXT, or the FIS that clears SRST, comes to the disk.
+pub fn begins_anew_apart()
+    ensures aside { AsideAt }
+    ensures log { LogBegins }
+    ensures reset { ResetBegins }
 {}
