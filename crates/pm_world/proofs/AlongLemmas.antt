@@ -1,5 +1,5 @@
 -- A link of both ends goes along the wire: from where a unit that is shut off at its port is let through, and at each step.
-use Rattle.std.proofs.Common.{◌≡◌, ◌≢◌, ℕ, ◌<◌, false, true, List, [], ◌∷◌, ◌++◌, append_assoc, refl, sym, ap, subst, ◌∙◌, inl, inr, Ok}
+use Rattle.std.proofs.Common.{◌≡◌, ◌≢◌, ℕ, ◌<◌, false, true, List, [], ◌∷◌, ◌++◌, append_assoc, sym, subst, ◌∙◌, inl, inr, Ok}
 use Rattle.std.specs.Prelude.{◌⊎◌}
 use Rattle.std.proofs.lemmas.List.{append-nil}
 use Rattle.fis_view.specs.Frames.{marked}
@@ -19,10 +19,11 @@ use Rattle.pm_world.specs.declared.step.Step.{Step}
 use Rattle.pm_world.specs.declared.step.Answer.{Answer}
 use Rattle.pm_world.specs.declared.step.Answer.TheVariants as answer
 use Rattle.pm_world.specs.Along.{FollowsAlong, GoesAlong, IsAlong, LinkMoves, Next, Stale, Untaken}
-use Rattle.pm_world.specs.Wire.{Comes, Gives, GoesOnWire, IsOnWire, Sends, Still, Takes, WireMoves}
-use Rattle.pm_world.specs.Wired.{IsAtHost, IsThere, injects, unplugs}
+use Rattle.pm_world.specs.Wire.{Comes, Gives, GoesOnWire, IsOnWire, Sends, StaysOn, Still, Takes, WireMoves}
+use Rattle.pm_world.specs.Wired.{IsAtHost, IsThere, befalls, injects, unplugs}
 use Rattle.pm_world.proofs.CutLemmas.{IsCut, wire_now}
 use Rattle.pm_world.proofs.RunLemmas.{unit_wires_go_on}
+use Rattle.pm_world.proofs.WireLemmas.{wires_go_on}
 use Rattle.pm_world.proofs.ShutLemmas.{Adds, IsShutOff, Silent, WaitsFor, WaitsOn, off_after}
 
 module _ (MayGive : List ℕ → Type 0) (IsRun : List Happening → Type 0)
@@ -102,6 +103,15 @@ module _ (MayGive : List ℕ → Type 0) (IsRun : List Happening → Type 0)
       let both : IsThere n c new × GoesOnWire n c old a new (happens n old s a new) w.down (w.stale ++ w.up) =
       unit_wires_go_on n c old new s a w.down (w.stale ++ w.up) device orderly rule there stays clean w.wire in
       moved old new a disk given (happens n old s a new) runs may both.1.heard w.down w.stale w.up both.1.is w.linked both.1.moves
+
+  -- so it is by the answer alone
+  pub along_answer : (old new : Places) (s : Step) (a : Answer) (disk given : List Happening) → n ≢ control_port → IsOrderly old → Rule old s (Ok a) new
+      → StaysOn n c a → IsRun (disk ++ befalls n old a) → ((bytes : List ℕ) → IsAtHost n old a new (Received bytes ∷ []) → MayGive bytes)
+      → IsAlong n c Link old disk given → LinkMoves n c Link old a new disk (befalls n old a) given
+  along_answer old new s a disk given device orderly rule stays runs may w =
+      let g : GoesOnWire n c old a new (befalls n old a) w.down (w.stale ++ w.up) =
+      wires_go_on n c old new s a w.down (w.stale ++ w.up) device orderly rule stays w.wire in
+      moved old new a disk given (befalls n old a) runs may g.heard w.down w.stale w.up g.is w.linked g.moves
 
   -- ## A unit that is shut off
 

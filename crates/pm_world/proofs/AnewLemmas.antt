@@ -36,9 +36,9 @@ use Rattle.pm_world.specs.Going.{AtEach, HearsOn, IsLeftAlone}
 use Rattle.pm_world.proofs.Goings.{is_taken_of}
 use Rattle.pm_world.specs.Stale.{IsInOrder, is_clear, orders_clear, unsent_after}
 use Rattle.pm_world.specs.Touched.{opens}
-use Rattle.pm_world.specs.Wired.{AreFine, injects, unplugs}
+use Rattle.pm_world.specs.Wired.{injects, unplugs}
 use Rattle.pm_world.proofs.ChangeLemmas.{tick_step}
-use Rattle.pm_world.proofs.CutLemmas.{IsCut, IsElsewhere, IsHeld, away_now, held_after, wired_now}
+use Rattle.pm_world.proofs.CutLemmas.{IsCut, IsElsewhere, IsHeld, away_now, held_after}
 use Rattle.pm_world.proofs.Delivery.{sized}
 use Rattle.pm_world.proofs.DisksLemmas.{drivers_serve}
 use Rattle.pm_world.proofs.DownLemmas.{DownChange, Gone, Put, Quiet, down_change}
@@ -56,9 +56,9 @@ use Rattle.pm_world.proofs.LiveRuns.{OnlyOf, firm_at, live_goes}
 use Rattle.pm_world.proofs.Moves.{rule_moves}
 use Rattle.pm_world.proofs.OrderLemmas.{Knows}
 use Rattle.pm_world.proofs.OrderTurns.{opening_knows, order_step}
-use Rattle.pm_world.proofs.RunLemmas.{fine_front}
+use Rattle.pm_world.proofs.ErrorLemmas.{IsShutSince, opens_since, shut_since}
 use Rattle.pm_world.proofs.SecondLemmas.{IsTended, SecondRun, second_run}
-use Rattle.pm_world.proofs.ShutLemmas.{IsShut, WaitsFor, shut_after, waits_after}
+use Rattle.pm_world.proofs.ShutLemmas.{WaitsFor, waits_after}
 use Rattle.pm_world.proofs.TouchedLemmas.{GoesTouched, touched_over}
 use Rattle.pm_world.proofs.UnfaultedLemmas.{IsUnfaulted, flush_unfaulted, step_unfaulted}
 
@@ -324,35 +324,35 @@ module _ (config : Config) (units : List Unit) (fits : is_config config (length 
   -- ## A unit from its plugging on
 
   module _ (plan : DiskPlan) (sectors : ℕ) (size : IsSize plan sectors) (c : ℕ) (earlier : List Happening) where
-    -- nothing of it passed its port yet, or both ends are linked, and the host serves it
+    -- nothing of it passed its port yet, or it is followed along its wire, and the host serves it
     pub data Stage (now : Places) (happened : List Happening) (turns : List HostTurn) : Type 0 where
-      Waiting : IsShut n c now happened → Stage now happened turns
+      Waiting : IsShutSince n c now happened → Stage now happened turns
       Serving : (heard : List Happening)
           → IsTended drivers_serve n config.memory below (right config units fits n below) plan sectors size c earlier now happened heard turns
           → Stage now happened turns
 
     pub run_opens : (before : List Step) (told : List Answer) (old : Places) → Run (new_world config units) before told old → (happened : List Happening)
-        (turns : List HostTurn) → OrderedNow turns old → IsShut n c old happened → WaitsFor n c old
+        (turns : List HostTurn) → OrderedNow turns old → IsShutSince n c old happened → WaitsFor n c old
         → (steps : List Step) (answers : List Answer) (new : Places) (run : Run old steps answers new) → IsLeftAlone n steps
-        → AtEach (HearsOn n c) old steps answers new run → AreFine (over (happens n) old steps answers new run)
+        → AtEach (HearsOn n c) old steps answers new run
         → IsDiskRun plan sectors (earlier ++ (happened ++ over (happens n) old steps answers new run))
         → Stage new (happened ++ over (happens n) old steps answers new run) (turns ++ over turn_of old steps answers new run)
-    run_opens before told old made happened turns o h waits [] [] new run alone well fine disk =
+    run_opens before told old made happened turns o h waits [] [] new run alone well disk =
         subst (λ (w : Places). Stage w (happened ++ []) (turns ++ [])) (sym run)
         (subst (λ (xs : List Happening). Stage old xs (turns ++ [])) (sym (append-nil happened)) (Waiting h))
-    run_opens before told old made happened turns o h waits [] (a ∷ answers) new run alone well fine disk = absurd run
-    run_opens before told old made happened turns o h waits (s ∷ steps) [] new run alone well fine disk = absurd run
-    run_opens before told old made happened turns o h waits (s ∷ steps) (a ∷ answers) new run alone well fine disk =
+    run_opens before told old made happened turns o h waits [] (a ∷ answers) new run alone well disk = absurd run
+    run_opens before told old made happened turns o h waits (s ∷ steps) [] new run alone well disk = absurd run
+    run_opens before told old made happened turns o h waits (s ∷ steps) (a ∷ answers) new run alone well disk =
         subst (λ (xs : List Happening). Stage new xs (turns ++ (turn_of old s a run.0 ++ over turn_of run.0 steps answers new run.2))) all_told
         (subst (λ (ts : List HostTurn). Stage new ((happened ++ happens n old s a run.0) ++ over (happens n) run.0 steps answers new run.2) ts) all_turns
         (let goes_on : WaitsFor n c run.0
         → Stage new ((happened ++ happens n old s a run.0) ++ over (happens n) run.0 steps answers new run.2)
         ((turns ++ turn_of old s a run.0) ++ over turn_of run.0 steps answers new run.2) =
         λ next. run_opens (before ++ s ∷ []) (told ++ a ∷ []) run.0 made_on (happened ++ happens n old s a run.0) (turns ++ turn_of old s a run.0) ordered on
-        next steps answers new run.2 apart well.1 f.1 later in
+        next steps answers new run.2 apart well.1 later in
         elim (cases_Bool (is_cleared n old a)) [
           | inl cleared ↦ by_there goes_on cleared (is_there (port_at old.multiplier n).present c)
-          | inr none ↦ goes_on (waits_after n c below old s a run.0 run.1 h.true_is (λ here. none) waits)
+          | inr none ↦ goes_on (waits_after n c below old s a run.0 run.1 h.off.true_is (λ here. none) waits)
         ]))
       where
         i : (injects n s ≡ false) × (list_any (injects n) steps ≡ false)
@@ -361,14 +361,11 @@ module _ (config : Config) (units : List Unit) (fits : is_config config (length 
         p : (unplugs n s ≡ false) × (list_any (unplugs n) steps ≡ false)
         p = or_parts (unplugs n s) (list_any (unplugs n) steps) alone.stays
 
-        f : AreFine (happens n old s a run.0) × AreFine (over (happens n) run.0 steps answers new run.2)
-        f = fine_front (happens n old s a run.0) (over (happens n) run.0 steps answers new run.2) fine
-
         apart : IsLeftAlone n steps
         apart = record { clean = i.1; stays = p.1 }
 
-        on : IsShut n c run.0 (happened ++ happens n old s a run.0)
-        on = shut_after n c below old s a run.0 run.1 happened h waits i.0 p.0 f.0
+        on : IsShutSince n c run.0 (happened ++ happens n old s a run.0)
+        on = shut_since n c below old s a run.0 run.1 happened h i.0 p.0 waits
 
         made_on : Run (new_world config units) (before ++ s ∷ []) (told ++ a ∷ []) run.0
         made_on = further config units fits n below before told old made s a run.0 run.1
@@ -397,21 +394,21 @@ module _ (config : Config) (units : List Unit) (fits : is_config config (length 
             cleared_anew config units fits n below before told old made o.unsent o.knows turns o.touched s a run.0 run.1 both.0 o.ordered cleared in
             let first : FirstOn drivers_serve n config.memory below (right config units fits n below) turns old s a run.0 =
             first_anew config units fits n below before told old made o.unsent o.knows turns o.touched s a run.0 run.1 both.0 anew in
-            let cut : IsCut n c old = cut_there n c below config units fits before told old made anew.held h.there here in
+            let cut : IsCut n c old = cut_there n c below config units fits before told old made anew.held h.off.there here in
             let firm : IsFirm n old = firm_at config units fits n below before told old made in
-            let there : StaysPresent n c a run.0 = stays_present n c old s a run.0 run.1 p.0 firm here h.kept in
+            let there : StaysPresent n c a run.0 = stays_present n c old s a run.0 run.1 p.0 firm here h.off.kept in
             let live : IsLive n c run.0 = record { here = there.here; opens = opens_now; kept = there.kept } in
             let only : OnlyOf n c run.0.upward.frames =
             each_map (IsElsewhere n) (λ (g : Stamped). g.stamp.port ≡ n → g.stamp.conn ≡ c) run.0.upward.frames
             (λ g other at. absurd (true≢false (sym (eq-eqb g.stamp.port n at) ∙ other)))
-            (away_now n below old s a run.0 run.1 h.orderly h.true_is anew.held first.given) in
+            (away_now n below old s a run.0 run.1 h.off.orderly h.off.true_is anew.held first.given) in
             let tended : IsTended drivers_serve n config.memory below (right config units fits n below) plan sectors size c earlier run.0
             (happened ++ happens n old s a run.0) [] (turns ++ turn_of old s a run.0) =
             record {
-              orderly = on.orderly;
-              risen = on.risen;
-              there = on.there;
-              wired = wired_now n c below old s a run.0 run.1 happened h cut i.0 p.0 f.0 cleared;
+              orderly = on.off.orderly;
+              risen = on.off.risen;
+              there = on.off.there;
+              along = opens_since n c below old s a run.0 run.1 happened h i.0 p.0 cut cleared;
               host = first.host;
             } in
             let rest : SecondRun drivers_serve n config.memory below (right config units fits n below) plan sectors size c earlier run.0 steps answers new run.2
@@ -421,7 +418,7 @@ module _ (config : Config) (units : List Unit) (fits : is_config config (length 
             (goes_well config units fits n below (before ++ s ∷ []) (told ++ a ∷ []) run.0 made_on
             (unfaulted_now config units fits n below before told old made o.unsent o.knows turns o.touched s a run.0 run.1 both.0 anew) steps answers new run.2
             (live_goes config units fits n below c (before ++ s ∷ []) (told ++ a ∷ []) run.0 made_on ordered.unsent ordered.knows live only steps answers new run.2 p.1 well.1))
-            f.1 later in
+            later in
             Serving rest.more rest.tended
 
         by_there : (WaitsFor n c run.0 → Stage new ((happened ++ happens n old s a run.0) ++ over (happens n) run.0 steps answers new run.2)
@@ -429,7 +426,7 @@ module _ (config : Config) (units : List Unit) (fits : is_config config (length 
             → ((port_at old.multiplier n).present ≡ Some c) ⊎ ((port_at old.multiplier n).present ≢ Some c)
             → Stage new ((happened ++ happens n old s a run.0) ++ over (happens n) run.0 steps answers new run.2)
             ((turns ++ turn_of old s a run.0) ++ over turn_of run.0 steps answers new run.2)
-        by_there goes_on cleared (inr other) = goes_on (waits_after n c below old s a run.0 run.1 h.true_is (λ here. absurd (other here)) waits)
+        by_there goes_on cleared (inr other) = goes_on (waits_after n c below old s a run.0 run.1 h.off.true_is (λ here. absurd (other here)) waits)
         by_there goes_on cleared (inl here) = elim (open_or_waits (map.port_at run.0.multiplier.registers n)) [
           | inl opens_now ↦ serves cleared here opens_now
           | inr told_still ↦ goes_on (λ present. told_still)

@@ -74,11 +74,12 @@ use Rattle.pm_world.proofs.HostLemmas.{DriversServe, HostOn, host_opens}
 use Rattle.pm_world.proofs.LiveLemmas.{live_there}
 use Rattle.pm_world.proofs.FirmLemmas.{opening_firm, run_firm}
 use Rattle.pm_world.proofs.OpeningLemmas.{Opens, Out, There, opened}
-use Rattle.pm_world.proofs.ReadLemmas.{ended_at_disk}
+use Rattle.pm_world.proofs.ErrorLemmas.{since_wired, took_since}
+use Rattle.pm_world.proofs.ReadLemmas.{ended_followed}
 use Rattle.pm_world.proofs.RunLemmas.{fine_front}
 use Rattle.pm_world.proofs.SecondLemmas.{IsTended, SecondRun, second_run}
 use Rattle.pm_world.proofs.SplitLemmas.{IsSplit, split_run}
-use Rattle.pm_world.proofs.TookLemmas.{host_takes, took_later}
+use Rattle.pm_world.proofs.TookLemmas.{host_takes}
 use Rattle.pm_world.proofs.TouchedLemmas.{touched_delivers, touched_served, touched_sound}
 use Rattle.pm_world.proofs.UnfaultedLemmas.{opens_unfaulted}
 
@@ -261,8 +262,8 @@ module _ (law : DriversServe) (n len : ℕ) (below : n < 15) (right : is_memory_
     honest : moved.is_queued issue.transfer.work.kind ≡ true → IsDoneHonestly sectors (h.commands slot) (filled slot (own n h.touches))
         issue.transfer.work.len (ledger (before ++ happened)) (ledger (before ++ Plugged ∷ heard))
     honest is_queued =
-        took_later plan sectors n c now new s port conn number bytes report before happened (Plugged ∷ heard) h.commands (own n h.touches) below tended.orderly
-        rule here at_port size disk tended.wired h.serves.hosted is_host slot issue.transfer low_slot issue.is is_queued done
+        took_since plan sectors n c now new s port conn number bytes report before happened (Plugged ∷ heard) h.commands (own n h.touches) below tended.orderly
+        rule here at_port size disk tended.along h.serves.hosted is_host slot issue.transfer low_slot issue.is is_queued done
 
     table : issue.transfer.table ≡ e.prds
     table = request.table
@@ -284,8 +285,8 @@ module _ (law : DriversServe) (n len : ℕ) (below : n < 15) (right : is_memory_
           at = b.at;
           read = b.read;
           ended =
-              ended_at_disk plan sectors before happened (Plugged ∷ heard) tended.wired.down tended.wired.up size disk tended.wired.linked kept.careful b.at b.read
-              b.ended;
+              ended_followed plan sectors before happened (Plugged ∷ heard) tended.along.down tended.along.up size disk tended.along.linked.followed kept.careful
+              b.at b.read b.ended;
           command = record {
             tag = ap (λ (c : Command). c.tag) its;
             lba = ap (λ (c : Command). c.lba) its;
@@ -382,7 +383,7 @@ module _ (config : Config) (units : List Unit) (n sectors : ℕ) (plan : DiskPla
     orderly = run_orderly (new_world config units) r.first r.told r.mid (opening_orderly config units fits) r.made;
     risen = first.risen;
     there = ends.0;
-    wired = ends.1;
+    along = since_wired n 1 r.mid first_told (Plugged ∷ []) ends.1;
     host = first.host;
   }
 
@@ -404,7 +405,7 @@ module _ (config : Config) (units : List Unit) (n sectors : ℕ) (plan : DiskPla
   second : SecondRun drivers_serve n config.memory below right plan sectors disk.size 1 [] r.mid r.second r.said now r.on first_told [] first_turns
   second =
       second_run drivers_serve n config.memory below right plan sectors disk.size 1 [] r.mid r.second r.said now r.on first_told [] first_turns start r.left
-      (goes_well config units fits n below r.first r.told r.mid r.made unfaulted.last r.second r.said now r.on r.well) fine.1 whole_run
+      (goes_well config units fits n below r.first r.told r.mid r.made unfaulted.last r.second r.said now r.on r.well) whole_run
 
   took_honestly : (s : Step) (port conn number : ℕ) (bytes : List ℕ) (report : TakeReport) (new : Places)
       → Rule now s (Ok (answer.Took port conn number bytes report)) new → (port == n) ≡ true → TookHonestly config units n sectors now d report new

@@ -26,16 +26,16 @@ use Rattle.pm_world.proofs.Units.{units_lived_on}
 use Rattle.pm_world.specs.Disks.{IsNewDisk}
 use Rattle.pm_world.specs.Later.{LaterDisksAreHonest, LaterRun, TookLaterHonestly, all_turns}
 use Rattle.pm_world.specs.Touched.{AreTouched}
-use Rattle.pm_world.specs.Wired.{AreFine}
 use Rattle.pm_world.proofs.AnewLemmas.{Serving, Stage, Waiting, ordered_after, ordered_on, right as right_size, run_opens}
 use Rattle.pm_world.proofs.DisksLemmas.{drivers_serve, ends_honestly, from_opening, lived_run, may_run}
 use Rattle.pm_world.proofs.EachLemmas.{Each}
 use Rattle.pm_world.proofs.EarlyLemmas.{ComesShut, comes_shut}
 use Rattle.pm_world.proofs.FineLemmas.{further}
 use Rattle.pm_world.proofs.Moves.{rule_moves}
-use Rattle.pm_world.proofs.RunLemmas.{fine_front, if_some}
+use Rattle.pm_world.proofs.RunLemmas.{if_some}
+use Rattle.pm_world.proofs.ErrorLemmas.{IsShutSince, came_since}
 use Rattle.pm_world.proofs.SecondLemmas.{IsTended}
-use Rattle.pm_world.proofs.ShutLemmas.{IsNoneOf, IsShut}
+use Rattle.pm_world.proofs.ShutLemmas.{IsNoneOf}
 
 module _ (config : Config) (units : List Unit) (n sectors : ℕ) (plan : DiskPlan) (fits : is_config config (length units) ≡ true) (below : n < 15)
     (disk : IsNewDisk units n plan sectors) (now : Places) (d : LaterRun config units n now) where
@@ -80,9 +80,6 @@ module _ (config : Config) (units : List Unit) (n sectors : ℕ) (plan : DiskPla
   came_told : happens n d.out (step.Came n) (answer.Came n d.conn) d.run.0 ≡ Plugged ∷ []
   came_told = if_some (n == n) (Plugged ∷ []) (eq-eqb n n refl)
 
-  fine_since : AreFine (over (happens n) d.run.0 d.steps d.answers now d.run.2)
-  fine_since = (fine_front came (over (happens n) d.run.0 d.steps d.answers now d.run.2) d.fine).1
-
   comes : ComesShut n d.conn d.run.0
   comes = comes_shut n d.conn below config units fits d.first d.told d.out d.made d.run.0 d.run.1
 
@@ -98,7 +95,7 @@ module _ (config : Config) (units : List Unit) (n sectors : ℕ) (plan : DiskPla
       (further config units fits n below d.first d.told d.out d.made (step.Came n) (answer.Came n d.conn) d.run.0 d.run.1) came (first_turns ++ came_turns)
       (ordered_on config units fits n below d.first d.told d.out d.made first_turns (ordered_after config units fits n below d.first d.told d.out d.made)
       (step.Came n) (answer.Came n d.conn) d.run.0 d.run.1)
-      (subst (IsShut n d.conn d.run.0) (sym came_told) comes.shut) comes.waits d.steps d.answers now d.run.2 d.left d.well fine_since whole_run
+      (subst (IsShutSince n d.conn d.run.0) (sym came_told) (came_since n d.conn d.run.0 comes.off)) comes.waits d.steps d.answers now d.run.2 d.left d.well whole_run
 
   module _ (s : Step) (port conn number : ℕ) (bytes : List ℕ) (report : TakeReport) (new : Places)
       (rule : Rule now s (Ok (answer.Took port conn number bytes report)) new) (here : (port == n) ≡ true) (same : conn ≡ d.conn) where
@@ -114,10 +111,10 @@ module _ (config : Config) (units : List Unit) (n sectors : ℕ) (plan : DiskPla
     }
 
     -- nothing of it is on the host's link before
-    never_shut : IsShut n d.conn now since → ⊥
+    never_shut : IsShutSince n d.conn now since → ⊥
     never_shut shut =
-        let m = rule_moves now s (answer.Took port conn number bytes report) new shut.orderly rule in
-        (subst (Each (IsNoneOf n d.conn)) m.2.upward shut.up).0 (m.1.port_is ∙ eqb-true port n here) (m.1.conn_is ∙ same)
+        let m = rule_moves now s (answer.Took port conn number bytes report) new shut.off.orderly rule in
+        (subst (Each (IsNoneOf n d.conn)) m.2.upward shut.off.up).0 (m.1.port_is ∙ eqb-true port n here) (m.1.conn_is ∙ same)
 
     took : Stage config units fits n below plan sectors disk.size d.conn before now since turns → TookLaterHonestly config units n sectors now d report new
     took (Waiting shut) = absurd (never_shut shut)

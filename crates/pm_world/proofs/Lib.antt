@@ -59,6 +59,7 @@ pub mod SentLemmas
 pub mod ShutLemmas
 pub mod CutLemmas
 pub mod AlongLemmas
+pub mod ErrorLemmas
 pub mod FollowLemmas
 pub mod EarlyLemmas
 pub mod FlushLemmas

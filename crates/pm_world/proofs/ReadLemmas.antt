@@ -26,7 +26,8 @@ use Rattle.disk_model.specs.Later.{TellsOfAll}
 use Rattle.disk_model.proofs.AnewLemmas.{ends_agree_anew}
 use Rattle.disk_model.proofs.LaterLemmas.{later_is_linked, later_tells_of_all}
 use Rattle.disk_model.proofs.MovesLemmas.{moves_right}
-use Rattle.pm_world.proofs.SecondLemmas.{disk_front}
+use Rattle.disk_ends.specs.Followed.{IsFollowed}
+use Rattle.pm_world.proofs.ErrorLemmas.{disk_front, linked_of_new}
 
 -- ## What a disk asks for is data of a write
 
@@ -265,3 +266,48 @@ ended_at_disk plan sectors before disk host down up size run linked careful at r
     let whole : (ledger (before ++ disk)).reads ≡ (ledger (before ++ host)).reads ++ m.more =
     sym (reads_down (ledger (before ++ disk)) down asks) ∙ sym (ap (λ (l : Ledger). l.reads) agree.same) ∙ m.is in
     subst (λ (xs : List ReadOut). slice_get xs at ≡ Some r) (sym whole) (front_get (ledger (before ++ host)).reads m.more at r is)
+
+-- ## At a disk that is followed
+
+opens_more : (l : Ledger) → HasMore l (listens l Plugged)
+opens_more l = none_more l (listens l Plugged) refl
+
+module _ (plan : DiskPlan) (sectors : ℕ) (size : IsSize plan sectors) where
+  one_more : (before : List Happening) (e : Happening) → IsAsked (ledger before).moving → HasMore (ledger before) (listens (ledger before) e)
+  one_more before (Received bytes) a =
+      none_more (ledger before) (listens_down (ledger before) (seen bytes)) (keep_down (ledger before) (seen bytes) a).reads
+  one_more before (Sent bytes) a = more_up (ledger before) (seen bytes)
+  one_more before Plugged a = opens_more (ledger before)
+
+  -- reads that ended stay so, whatever the disk does later
+  reads_stay : (before later : List Happening) → IsDiskRun plan sectors (before ++ later) → IsAsked (ledger before).moving
+      → HasMore (ledger before) (ledger (before ++ later))
+  reads_stay before [] run a = none_more (ledger before) (ledger (before ++ [])) (ap (λ (xs : List Happening). (ledger xs).reads) (append-nil before))
+  reads_stay before (e ∷ later) run a =
+      let whole : (before ++ e ∷ []) ++ later ≡ before ++ e ∷ later = append_assoc before (e ∷ []) later in
+      let rest : IsDiskRun plan sectors ((before ++ e ∷ []) ++ later) = subst (IsDiskRun plan sectors) (sym whole) run in
+      let one : HasMore (ledger before) (listens (ledger before) e) = one_more before e a in
+      let on : HasMore (ledger (before ++ e ∷ [])) (ledger ((before ++ e ∷ []) ++ later)) =
+      reads_stay (before ++ e ∷ []) later rest (asked_next plan sectors size before e (disk_front plan sectors (before ++ e ∷ []) later rest) a) in
+      record {
+        more = one.more ++ on.more;
+        is = sym (ap (λ (xs : List Happening). (ledger xs).reads) whole) ∙ on.is
+            ∙ ap (λ (l : Ledger). l.reads ++ on.more) (told before e)
+            ∙ ap (λ (xs : List ReadOut). xs ++ on.more) one.is
+            ∙ append_assoc (ledger before).reads one.more on.more;
+      }
+
+pub ended_followed : (plan : DiskPlan) (sectors : ℕ) (before disk host : List Happening) (down up : List (List ℕ)) → IsSize plan sectors
+    → IsDiskRun plan sectors (before ++ disk) → IsFollowed (Plugged ∷ []) disk host down [] up → IsCareful host → (at : ℕ) (r : ReadOut)
+    → slice_get (ledger (before ++ host)).reads at ≡ Some r → slice_get (ledger (before ++ disk)).reads at ≡ Some r
+ended_followed plan sectors before disk host down up size run f careful at r is =
+    let whole : before ++ disk ≡ (before ++ f.followed) ++ f.later =
+    ap (λ (xs : List Happening). before ++ xs) f.disk_is ∙ sym (append_assoc before f.followed f.later) in
+    let runs : IsDiskRun plan sectors ((before ++ f.followed) ++ f.later) = subst (IsDiskRun plan sectors) whole run in
+    let first : IsDiskRun plan sectors (before ++ f.followed) = disk_front plan sectors (before ++ f.followed) f.later runs in
+    let there : slice_get (ledger (before ++ f.followed)).reads at ≡ Some r =
+    ended_at_disk plan sectors before f.followed host f.below f.before size first (linked_of_new f.followed host f.below [] f.before f.linked) careful at r is in
+    let m : HasMore (ledger (before ++ f.followed)) (ledger ((before ++ f.followed) ++ f.later)) =
+    reads_stay plan sectors size (before ++ f.followed) f.later runs (asked_more plan sectors size [] (before ++ f.followed) first first_asked) in
+    subst (λ (xs : List ReadOut). slice_get xs at ≡ Some r) (sym (ap (λ (xs : List Happening). (ledger xs).reads) whole ∙ m.is))
+    (front_get (ledger (before ++ f.followed)).reads m.more at r there)

@@ -1,37 +1,28 @@
 -- What a host takes of a disk brought what it says.
-use Rattle.std.proofs.Common.{◌≡◌, ◌≢◌, ◌==◌, ◌&&◌, ℕ, ◌+◌, ◌*◌, ◌%◌, ◌<◌, Bool, true, false, List, [], ◌∷◌, ◌++◌, sym, ap, subst, ◌∙◌, Some, Ok, arith}
+use Rattle.std.proofs.Common.{◌≡◌, ◌≢◌, ◌==◌, ◌&&◌, ℕ, ◌+◌, ◌*◌, ◌%◌, Bool, true, false, List, [], ◌∷◌, ◌++◌, sym, ap, subst, ◌∙◌, Ok, arith}
 use Rattle.std.specs.Prelude.{◌/◌, IsTrue, MatchBool, nat_le, slice_index}
 use Rattle.std.proofs.lemmas.Bool.{true≢false}
 use Rattle.std.proofs.lemmas.List.{append-nil, length-set}
 use Rattle.fis_view.specs.Frames.{IsFrame, marked}
 use Rattle.fis_view.specs.Seen.{seen}
-use Rattle.slots.specs.Slots.{has_bit}
-use Rattle.slots.specs.Work.{is_queued}
 use Rattle.hba_fbs.specs.declared.report.TakeReport.{TakeReport}
 use Rattle.hba_fbs.specs.Taking.{port_of}
 use Rattle.multiplier.specs.Arbiter.{control_port}
-use Rattle.disk_model.specs.declared.plan.DiskPlan.{DiskPlan}
-use Rattle.disk_model.specs.declared.request.Command.{Command}
 use Rattle.disk_model.specs.Ends.{IsCareful, IsLinked, IsRight}
 use Rattle.disk_model.specs.Histories.{Happening, Sent}
-use Rattle.disk_model.specs.Ledger.{IsSize, ledger}
-use Rattle.disk_model.specs.Runs.{IsDiskRun}
-use Rattle.hba_laws.specs.History.{History, Transfer, filled, issued}
+use Rattle.disk_model.specs.Ledger.{ledger}
 use Rattle.hba_laws.specs.Hosts.{TakesFrame}
-use Rattle.hba_laws.specs.Sound.{IsHost}
 use Rattle.hba_driver.specs.Events.{shared_by}
 use Rattle.hba_driver.specs.HostTurns.{Tooks}
 use Rattle.disk_ends.specs.Heard.{IsTakenWell}
-use Rattle.disk_ends.specs.Honest.{IsDoneHonestly}
 use Rattle.disk_ends.specs.Hosted.{IsHosted, IsKept, hears}
 use Rattle.disk_ends.specs.Joined.{IsShort}
 use Rattle.disk_ends.specs.Together.{told}
 use Rattle.disk_ends.proofs.HonestLemmas.{next_right}
 use Rattle.disk_ends.proofs.HostedLemmas.{hosted_is_kept}
-use Rattle.disk_ends.proofs.LaterJoins.{reports_later}
 use Rattle.disk_ends.proofs.ReportLemmas.{reports_honestly}
 use Rattle.disk_ends.proofs.SizeLemmas.{next_short}
-use Rattle.pm_world.specs.Places.{IsOrderly, Places}
+use Rattle.pm_world.specs.Places.{Places}
 use Rattle.pm_world.specs.Rules.{CameRule, DiskSendRule, DiskTakeRule, GoneRule, InjectRule, PmDownRule, PmFromDeviceRule, PmPresenceRule, Rule}
 use Rattle.pm_world.specs.declared.step.Step.{Step}
 use Rattle.pm_world.specs.declared.step.Step.TheVariants as step
@@ -77,32 +68,6 @@ by_true P Q false e m = absurd (true≢false (sym e))
 pub plain_frame : (plain : List ℕ) (n : ℕ) → IsFrame (marked plain n) → IsFrame plain
 plain_frame plain n framed =
     subst (λ (k : ℕ). IsTrue (nat_le 4 k && nat_le k 8196 && k % 4 == 0)) (length-set plain 1 (slice_index plain 1 / 16 * 16 + n)) framed
-
--- what is done of a connection that is not the first was done honestly by all that the disk did
-pub took_later : (plan : DiskPlan) (sectors n c : ℕ) (old new : Places) (s : Step) (port conn number : ℕ) (bytes : List ℕ) (report : TakeReport)
-    (before disk given : List Happening) (commands : ℕ → Command) (past : History) → n < 15 → IsOrderly old
-    → Rule old s (Ok (answer.Took port conn number bytes report)) new → (port == n) ≡ true → port_of bytes ≡ n → IsSize plan sectors
-    → IsDiskRun plan sectors (before ++ disk) → IsWired n c old disk given → IsHosted n (shared_by old.host) given commands past
-    → IsHost (shared_by old.host) → (slot : ℕ) (t : Transfer) → slot < 32 → issued slot past ≡ Some t → is_queued t.work.kind ≡ true
-    → has_bit report.done slot ≡ true
-    → IsDoneHonestly sectors (commands slot) (filled slot past) t.work.len (ledger (before ++ disk)) (ledger (before ++ given))
-took_later plan sectors n c old new s port conn number bytes report before disk given commands past below orderly rule here port_is
-    size run wired hosted sound slot t low there queued named =
-    let device : n ≢ control_port = λ e. absurd (omega (arith, e, below)) in
-    let g : GoesOn n c old (answer.Took port conn number bytes report) new disk given =
-    disks_stay_linked n c old new s (answer.Took port conn number bytes report) disk given device orderly rule tt wired in
-    let p = by_true ((plain : List ℕ) × (g.heard ≡ Sent plain ∷ []) × (bytes ≡ marked plain n)) (g.heard ≡ []) (port == n) here g.is in
-    let plain : List ℕ = p.0 in
-    let marks : bytes ≡ marked p.0 n = p.2 in
-    let next : IsNext p.0 disk given = g.next p.0 p.1 in
-    let kept : IsKept n (shared_by old.host) given commands past = hosted_is_kept n (shared_by old.host) given commands past below hosted in
-    let tooks : Tooks old.host bytes report new.host = host_takes old new s port conn number bytes report rule in
-    let takes : TakesFrame (shared_by old.host) bytes report (shared_by new.host) = record { ignored = tooks.ignored; heard = tooks.heard } in
-    let its : TakesFrame (shared_by old.host) (marked p.0 n) report (shared_by new.host) =
-    subst (λ (b : List ℕ). TakesFrame (shared_by old.host) b report (shared_by new.host)) marks takes in
-    let framed : IsFrame (marked p.0 n) = subst IsFrame marks tooks.framed in
-    reports_later plan sectors before disk given next.down next.up p.0 size run next.linked kept.careful n (shared_by old.host) (shared_by new.host) report commands
-    past sound below (plain_frame p.0 n framed) framed (ap port_of (sym marks) ∙ port_is) its kept.joined slot t low there queued named
 
 pub took_is_honest : TookIsHonest
 took_is_honest plan sectors n c old new s port conn number bytes report disk given commands past below orderly rule here port_is

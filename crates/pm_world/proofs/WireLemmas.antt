@@ -28,8 +28,8 @@ use Rattle.pm_world.proofs.Orderly.{removed_after}
 use Rattle.pm_world.proofs.Lists.{all_marked-append}
 use Rattle.pm_world.proofs.Steps.{at_both, at_device}
 use Rattle.pm_world.specs.Rules.{CameRule, DiskSendRule, DiskTakeRule, GoneRule, InjectRule, PmDownRule, PmFromDeviceRule, PmPresenceRule}
-use Rattle.pm_world.specs.Wired.{AreAmong, IsAtHost, IsAway, IsOnly, IsUnremoved, befalls, descending, descending_on, for_port}
-use Rattle.pm_world.specs.Wire.{Comes, DroppedNeverComes, Gives, GoesOnWire, IsOnWire, Sends, StaysOn, Still, Takes, WireMoves, WiresGoOn}
+use Rattle.pm_world.specs.Wired.{AreAmong, IsAtHost, IsAway, IsUnremoved, befalls, descending, descending_on, for_port}
+use Rattle.pm_world.specs.Wire.{Comes, DroppedNeverComes, Gives, GoesOnWire, IsOnWire, Sends, StaysOn, Still, Takes, WiresGoOn}
 use Rattle.pm_world.proofs.KeptLemmas.{stays_unremoved, unremoved}
 use Rattle.pm_world.proofs.PlaceLemmas.{only_after, takes_own}
 

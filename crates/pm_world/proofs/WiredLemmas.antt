@@ -1,14 +1,11 @@
 -- A disk and the host stay linked at each step of a world.
-use Rattle.std.proofs.Common.{◌≡◌, ◌≢◌, ℕ, false, List, [], ◌∷◌, ◌++◌, refl, sym, ap, subst, ◌∙◌, Ok}
+use Rattle.std.proofs.Common.{◌≡◌, ℕ, false, List, [], ◌∷◌, ◌++◌, refl, sym, subst, ◌∙◌}
 use Rattle.std.proofs.lemmas.Bool.{eq-eqb}
 use Rattle.std.proofs.lemmas.List.{append-nil}
 use Rattle.fis_view.specs.Seen.{seen}
-use Rattle.multiplier.specs.Arbiter.{control_port}
 use Rattle.disk_model.specs.Ends.{IsLinked, comes, gives, reports, sends, takes}
 use Rattle.disk_model.specs.Histories.{Happening, Received, Sent}
-use Rattle.pm_world.specs.Places.{IsOrderly, Places}
-use Rattle.pm_world.specs.Rules.{Rule}
-use Rattle.pm_world.specs.declared.step.Step.{Step}
+use Rattle.pm_world.specs.Places.{Places}
 use Rattle.pm_world.specs.declared.step.Answer.{Answer}
 use Rattle.pm_world.specs.declared.step.Answer.TheVariants as answer
 use Rattle.pm_world.specs.Wired.{DisksStayLinked, GoesOn, IsNext, IsSteady, IsWired, befalls}

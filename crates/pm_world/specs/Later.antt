@@ -41,7 +41,6 @@ use Rattle.pm_world.specs.Disks.{IsNewDisk}
 use Rattle.pm_world.specs.Ended.{EndsHonestly}
 use Rattle.pm_world.specs.Going.{AtEach, HearsOn, IsLeftAlone}
 use Rattle.pm_world.specs.Touched.{AreTouched}
-use Rattle.pm_world.specs.Wired.{AreFine}
 
 -- ---- the port
 
@@ -52,10 +51,10 @@ pub record IsAtRest (n : ℕ) (now : Places) : Type 0 where
 
 -- ---- the disk's run
 
--- A world came from a new one by any run; then the disk at port n was plugged in, as connection conn.
--- From there on it was left alone and reported no error; and the host heard all that it took of this
--- connection with nothing wrong. Of what was before, of the driver, of the port and of the other
--- devices nothing is asked.
+-- A world came from a new one by any run; then the disk at port n was plugged in, as connection
+-- conn. From there on it was left alone; and the host heard all that it took of this connection
+-- with nothing wrong. An error that the disk reported since may still be on its way. Of what was
+-- before, of the driver, of the port and of the other devices nothing is asked.
 pub record LaterRun (config : Config) (units : List Unit) (n : ℕ) (now : Places) : Type 0 where
   pub first : List Step
   pub told : List Answer
@@ -67,8 +66,6 @@ pub record LaterRun (config : Config) (units : List Unit) (n : ℕ) (now : Place
   pub run : Run out (step.Came n ∷ steps) (answer.Came n conn ∷ answers) now
   pub left : IsLeftAlone n steps
   pub well : AtEach (HearsOn n conn) run.0 steps answers now run.2
-  pub fine : AreFine (over (happens n) out (step.Came n ∷ steps) (answer.Came n conn ∷ answers) now
-      run)
 
 module _ (config : Config) (units : List Unit) (n : ℕ) (now : Places)
     (d : LaterRun config units n now) where
