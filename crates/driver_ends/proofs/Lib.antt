@@ -13,3 +13,5 @@ pub mod TogetherOrders
 pub mod TogetherPushes
 pub mod TogetherParts
 pub mod ApartBegins
+pub mod UnaskedLemmas
+pub mod FaultyLemmas

@@ -8,6 +8,7 @@ ghost use Rattle.driver_ends.specs.Together.{IgnoredKeepOn};
 ghost use Rattle.driver_ends.specs.Together.{LogBeginsServed, PushesGoOnOn, ResetBeginsServed};
 ghost use Rattle.driver_ends.specs.Together.{ServedSinceFlush, SignaturesKeepOn, SpoiltIsFree};
 ghost use Rattle.driver_ends.specs.Together.{TakesKeepOn};
+ghost use Rattle.driver_ends.specs.Unasked.{EachStaysUnasked, FaultsSetAside};
 
 /// As a host opens, and in the tick that flushes a disk, its driver begins to serve the disk
 /// honestly. It goes on to do so over each turn in which no FIS of the disk comes or goes, that
@@ -76,4 +77,12 @@ pub fn begins_anew_apart()
     ensures aside { AsideAt }
     ensures log { LogBegins }
     ensures reset { ResetBegins }
+{}
+
+/// From where both began anew, a device that the driver takes to be absent owes nothing but its
+/// signature. So where the port finds a fault in a FIS of the disk, the device is set aside, and the
+/// driver does not look for it.
+pub fn stays_unasked()
+    ensures stays { EachStaysUnasked }
+    ensures faults { FaultsSetAside }
 {}

@@ -6,5 +6,5 @@ mod law;
 
 pub use law::{
     begins_anew_apart, begins_to_serve, calm_turns_serve_on, pushes_keep_honest, pushes_serve_on,
-    resets_begin_free, serves_honestly, takes_keep_honest, takes_serve_on,
+    resets_begin_free, serves_honestly, stays_unasked, takes_keep_honest, takes_serve_on,
 };

@@ -59,6 +59,7 @@ pub mod AddressLemmas
 pub mod AsksLemmas
 pub mod ScansLemmas
 pub mod ScansTurns
+pub mod AbsentLemmas
 pub mod TendedLemmas
 pub mod FlushLemmas
 pub mod TendedTurns
@@ -70,3 +71,4 @@ pub mod ApartTicks
 pub mod ApartTakes
 pub mod ApartArmed
 pub mod ApartFiles
+pub mod SetsLemmas

@@ -24,3 +24,5 @@ pub mod Scans
 pub mod Addressed
 pub mod Tended
 pub mod Slot30
+pub mod Absent
+pub mod Resetting

@@ -1,6 +1,7 @@
 //! What is true of the driver over ticks and over lists of turns.
 
 ghost use Rattle.hba_driver.specs.Delivered.{TurnsDeliver};
+ghost use Rattle.hba_driver.specs.Absent.{EachWasAbsent};
 ghost use Rattle.hba_driver.specs.Accepted.{WritesAreAccepted};
 ghost use Rattle.hba_driver.specs.Done.{DoneIsTrue};
 ghost use Rattle.hba_driver.specs.Events.{EachRunTells, HostsAreSound, TurnsAreEvents};
@@ -8,6 +9,7 @@ ghost use Rattle.hba_driver.specs.Faults.{ErrorsAreNamed};
 ghost use Rattle.hba_driver.specs.Known.{DevicesAreKnown};
 ghost use Rattle.hba_driver.specs.Reported.{DoneWasReported};
 ghost use Rattle.hba_driver.specs.Laws.{CommandsStand, DoneIsFree, EachRunKeeps, TicksKeep, TicksServe};
+ghost use Rattle.hba_driver.specs.Resetting.{EachResetIsDriven};
 ghost use Rattle.hba_driver.specs.Scans.{ScansClear};
 ghost use Rattle.hba_driver.specs.Served.{TurnsServe};
 ghost use Rattle.hba_driver.specs.Steady.{EachIsSteady};
@@ -138,4 +140,16 @@ pub fn devices_are_known()
 /// when it runs.
 pub fn scans_clear()
     ensures { ScansClear }
+{}
+
+/// A device that is taken to be absent after a turn that does not flush it and ends no fault of it or
+/// of the port was taken so before. It does nothing when it runs.
+pub fn absent_before()
+    ensures { EachWasAbsent }
+{}
+
+/// In the tick that issues the software reset of a device that is tended, slot 30 is given the Control
+/// that sets SRST, and no request of the device waits or is issued. It does nothing when it runs.
+pub fn resets_are_issued()
+    ensures { EachResetIsDriven }
 {}
