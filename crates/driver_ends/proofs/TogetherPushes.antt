@@ -48,7 +48,7 @@ use Rattle.hba_driver.proofs.TurnLemmas.{sound_shared}
 use Rattle.driver_ends.specs.Kept.{given_to}
 use Rattle.driver_ends.specs.Steady.{HasSigned}
 use Rattle.disk_ends.specs.Watched.{GavePlain, IsPlain}
-use Rattle.driver_ends.specs.Together.{IsServedOn, PushesGoOnOn}
+use Rattle.driver_ends.specs.Together.{IsServedOn, PushesServeOn}
 use Rattle.driver_ends.proofs.PushLemmas.{HasLast, IsOrderOf, OutData, OutTold, frame_by, given_cases, given_elsewhere, given_here, out_data, out_last, out_told, short_frame}
 use Rattle.driver_ends.proofs.ResetLemmas.{sent_state}
 use Rattle.driver_ends.proofs.SentLemmas.{sent_there}
@@ -229,7 +229,7 @@ signed_more n base given frame before careful was = elim (given_cases n frame) [
       (signed_since base given one.0 before (subst (λ (xs : List Happening). IsCarefulSince base (given ++ xs)) one.1 careful) was)
 ]
 
-pub pushes_go_on_on : PushesGoOnOn
+pub pushes_go_on_on : PushesServeOn
 pushes_go_on_on n base old frame new run given commands touches below h =
     let d : Does old (Pushed frame) new = after old (Pushed frame) new run in
     let sound : IsHost (shared_by old) = sound_shared old h.sound in

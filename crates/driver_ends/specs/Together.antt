@@ -211,8 +211,8 @@ pub record GivesOnAnew (n : ℕ) (base : List Happening) (old : Host) (frame : O
   pub plain : GavePlain (given_to n frame)
   pub on : ServesOnAnew n base old (Pushed frame) new run (given ++ given_to n frame) touches
 
-abbrev pub PushesGoOnOn : Type 0
-PushesGoOnOn =
+abbrev pub PushesServeOn : Type 0
+PushesServeOn =
     (n : ℕ) (base : List Happening) (old : Host) (frame : Option Stamped) (new : Host)
     (run : DoesAll old (Pushed frame ∷ []) new)
     (given : List Happening) (commands : ℕ → Command) (touches : Touches) → n < 15

@@ -5,7 +5,7 @@ ghost use Rattle.driver_ends.specs.Kept.{CalmTurnsKeep, FlushOpens, OpensHonestl
 ghost use Rattle.driver_ends.specs.Kept.{PushesGoOn, PushesKeep, TakesKeep};
 ghost use Rattle.driver_ends.specs.Together.{CalmTurnsGoOn, CalmTurnsKeepOn, FlushOpensOn};
 ghost use Rattle.driver_ends.specs.Together.{IgnoredKeepOn};
-ghost use Rattle.driver_ends.specs.Together.{LogBeginsServed, PushesGoOnOn, ResetBeginsServed};
+ghost use Rattle.driver_ends.specs.Together.{LogBeginsServed, PushesServeOn, ResetBeginsServed};
 ghost use Rattle.driver_ends.specs.Together.{ServedSinceFlush, SignaturesKeepOn, SpoiltIsFree};
 ghost use Rattle.driver_ends.specs.Together.{TakesKeepOn};
 ghost use Rattle.driver_ends.specs.Unasked.{EachStaysUnasked, FaultsSetAside};
@@ -61,7 +61,7 @@ pub fn takes_serve_on()
 /// And so it does over each turn in which the port is asked for a frame: a FIS that goes out to the
 /// disk fits what was told since both began anew, and is no reset and not the log.
 pub fn pushes_serve_on()
-    ensures { PushesGoOnOn }
+    ensures { PushesServeOn }
 {}
 
 /// Where such a turn issues the software reset of the disk, nothing of the disk was issued before;
