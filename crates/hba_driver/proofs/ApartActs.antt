@@ -23,7 +23,7 @@ use Rattle.hba_driver.specs.declared.turn.Act.TheVariants as act
 use Rattle.hba_driver.specs.Drivers.{Entry, device_at}
 use Rattle.hba_driver.specs.Orders.{control, log_fields}
 use Rattle.hba_driver.specs.Paths.{first_stage, stage_fields}
-use Rattle.hba_driver.specs.Slot30.{Asks, Cleared, Clears, Faulty, IsAwayFrom, IsPlan30, IsSlot30, IsUnsent30, LogSent, Off, On, ReadsLog, Resets, Sets, Stage30, TicksOn30, is_faulty, is_resetting, path_of}
+use Rattle.hba_driver.specs.Slot30.{Asks, Cleared, Clears, Faulty, IsPlan30, IsSlot30, IsUnsent30, LogSent, Off, On, ReadsLog, Resets, Sets, Stage30, TicksOn30, is_faulty, is_resetting, path_of}
 use Rattle.hba_driver.specs.Steady.{IsCalmAct, detects}
 use Rattle.hba_driver.specs.Ticks.{from_reset, ordered, plan_after, recovering}
 use Rattle.hba_driver.specs.Turns.{is_ready}

@@ -20,7 +20,8 @@ use Rattle.hba_driver.specs.declared.turn.Turn.{Turn}
 use Rattle.hba_driver.specs.Drivers.{Entry, device_at, entry_at}
 use Rattle.hba_driver.specs.Orders.{next_order}
 use Rattle.hba_driver.specs.Paths.{next_stage, stage_fields}
-use Rattle.hba_driver.specs.Slot30.{Asks, Cleared, Clears, Faulty, IsAwayFrom, IsCleared, IsPlan30, LogSent, Off, On, ReadsLog, Resets, Sets, Stage30, is_faulty, path_of}
+use Rattle.hba_driver.specs.Tended.{IsUnworked}
+use Rattle.hba_driver.specs.Slot30.{Asks, Cleared, Clears, Faulty, IsCleared, IsPlan30, LogSent, Off, On, ReadsLog, Resets, Sets, Stage30, is_faulty, path_of}
 use Rattle.hba_driver.specs.Steady.{detects}
 use Rattle.hba_driver.specs.Turns.{advanced, answered, control_news, control_seen, control_turn, detected, device_due, device_seen, early_due, found_of, is_back, is_due, is_idle, is_in_reset, issue_of, may_issue, met, met_order, met_path, met_stage, noted, order_due, path_answered, path_due, path_met, path_to, request_due, signed_order, stage_due, stage_for, step_of, turn_of, with_next}
 use Rattle.hba_driver.proofs.SteadyLemmas.{never, never_open, none_path, path_to_dev, same_path, set_other}
@@ -119,7 +120,7 @@ resets_as n stage asked p q device path h = record { device = device ∙ h.devic
 reads_as : (n : ℕ) (p q : Plan) → device_at q n ≡ device_at p n → q.path ≡ p.path → ReadsLog n p → ReadsLog n q
 reads_as n p q device path h = record { file = h.file; device = device ∙ h.device; path = path ∙ h.path }
 
-cleared_as : (n : ℕ) (p q : Plan) → device_at q n ≡ device_at p n → IsAwayFrom n q → IsCleared n p → IsCleared n q
+cleared_as : (n : ℕ) (p q : Plan) → device_at q n ≡ device_at p n → IsUnworked n q → IsCleared n p → IsCleared n q
 cleared_as n p q device away h = record { way = h.way; device = device ∙ h.device; away = away }
 
 -- where device and path are as they were
@@ -164,7 +165,7 @@ module _ (n : ℕ) (v : Sight) (c : Plan) (free : detects n c.asked c.order ≡ 
 
   record Away (q : Plan) : Type 0 where
     pub device : device_at q n ≡ device_at c n
-    pub away : IsAwayFrom n q
+    pub away : IsUnworked n q
     pub order : detects n q.asked q.order ≡ true → ⊥
 
   away_back : (path : Path) (b : Bool) → path.dev ≢ n → c.path ≡ Some path → Away (if b then advanced v path c else c)
@@ -175,11 +176,11 @@ module _ (n : ℕ) (v : Sight) (c : Plan) (free : detects n c.asked c.order ≡ 
     order = λ on. free (sym (found_order n v c path.stage path.dev) ∙ on);
   }
 
-  away_answered : (o : Option Path) → c.path ≡ o → IsAwayFrom n c → Away (match_some o c (λ path. if is_back v path then advanced v path c else c))
+  away_answered : (o : Option Path) → c.path ≡ o → IsUnworked n c → Away (match_some o c (λ path. if is_back v path then advanced v path c else c))
   away_answered None here away = record { device = refl; away = away; order = free }
   away_answered (Some path) here away = away_back path (is_back v path) (away path here) here
 
-  seen_away : IsAwayFrom n c → Away (device_seen v c)
+  seen_away : IsUnworked n c → Away (device_seen v c)
   seen_away away =
       let a = away_answered c.path refl away in
       record { device = a.device; away = away_met (path_answered v c).path a.away; order = a.order }

@@ -40,6 +40,7 @@ use Rattle.hba_driver.specs.Laws.{is_withdrawn}
 use Rattle.hba_driver.specs.Orders.{control, log_fields}
 use Rattle.hba_driver.specs.Served.{IsServed}
 use Rattle.hba_driver.specs.Sights.{file_shown}
+use Rattle.hba_driver.specs.Tended.{IsUnworked}
 use Rattle.hba_driver.specs.Steady.{IsFlushTick, detects}
 
 pub data Stage30 : Type 0 where
@@ -90,10 +91,6 @@ sent30 stage = stage
 abbrev pub path_of : ℕ → Stage → Bool → Option Path
 path_of n stage asked = Some (record { dev = n; stage = stage; asked = asked })
 
--- slot 30 does not work on the device
-abbrev pub IsAwayFrom : ℕ → Plan → Type 0
-IsAwayFrom n plan = (p : Path) → plan.path ≡ Some p → p.dev ≢ n
-
 -- the device recovers by its log, which slot 30 was given to read
 pub record ReadsLog (n : ℕ) (plan : Plan) : Type 0 where
   pub file : TaskFile
@@ -108,7 +105,7 @@ pub record Resets (n : ℕ) (stage : Stage) (asked : Bool) (plan : Plan) : Type 
 pub record IsCleared (n : ℕ) (plan : Plan) : Type 0 where
   pub way : Recovery
   pub device : device_at plan n ≡ Recovering way
-  pub away : IsAwayFrom n plan
+  pub away : IsUnworked n plan
 
 abbrev pub IsPlan30 : ℕ → Stage30 → Plan → Type 0
 IsPlan30 n Faulty plan = Unit {0}

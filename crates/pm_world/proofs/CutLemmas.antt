@@ -1,17 +1,15 @@
 -- From the flush of a unit on: the host's commands of before are lost at its port; and where that is cleared both ends of the link are linked.
+use Rattle.std.specs.Prelude.{if◌then◌else◌}
 use Rattle.std.proofs.Common.{◌≡◌, ◌≢◌, ◌==◌, ℕ, ◌<◌, Bool, true, false, List, [], ◌∷◌, ◌++◌, append_assoc, refl, sym, ap, subst, ◌∙◌}
 use Rattle.std.proofs.Common.{Ok, arith}
-use Rattle.std.specs.Prelude.{if◌then◌else◌}
 use Rattle.std.specs.List.{flat_map}
 use Rattle.std.proofs.lemmas.Bool.{ne_eqb, true≢false}
 use Rattle.std.proofs.lemmas.List.{append-nil}
 use Rattle.fis_view.specs.Frames.{Stamped, marked}
-use Rattle.disk_model.specs.Histories.{Happening, Plugged}
 use Rattle.multiplier.specs.Arbiter.{control_port}
 use Rattle.multiplier.specs.State.{pm_port}
 use Rattle.pm_world.specs.Cleared.{PassesNone, is_cleared}
 use Rattle.pm_world.specs.Downward.{falling_to, pushed_by}
-use Rattle.pm_world.specs.Units.{happens}
 use Rattle.pm_world.specs.Places.{IsOrderly, Places}
 use Rattle.pm_world.specs.Rules.{Rule}
 use Rattle.pm_world.specs.declared.step.Step.{Step}
@@ -23,13 +21,12 @@ use Rattle.pm_world.proofs.DownLemmas.{DownChange, Gone, Put, Quiet, down_change
 use Rattle.pm_world.proofs.EachLemmas.{Each, Nothing, each_more}
 use Rattle.pm_world.proofs.KeepingLemmas.{IsTrue}
 use Rattle.pm_world.proofs.UpLemmas.{Left, Rose, Same, UpChange, up_change}
-use Rattle.pm_world.specs.Wired.{AreAmong, AreFine, IsAway, IsWired, for_port, injects, unplugs}
+use Rattle.pm_world.specs.Wired.{AreAmong, IsAway, for_port, injects, unplugs}
 use Rattle.pm_world.specs.Wire.{IsOnWire}
 use Rattle.pm_world.proofs.OpeningLemmas.{given_for}
 use Rattle.pm_world.proofs.RunLemmas.{TellsOf, tells_of}
 use Rattle.pm_world.proofs.WireLemmas.{away_after, falls_on, falls_other, unsent_other}
-use Rattle.pm_world.proofs.WiredLemmas.{wired_by}
-use Rattle.pm_world.proofs.ShutLemmas.{IsForOther, IsShut, IsShutOff, only_there, shut_after, shut_off}
+use Rattle.pm_world.proofs.ShutLemmas.{IsForOther, IsShutOff, only_there}
 
 -- ## What is kept
 
@@ -172,16 +169,3 @@ module _ (n c : ℕ) (below : n < 15) (old : Places) (s : Step) (a : Answer) (ne
         (sym (ap (λ (xs : List (List ℕ)). xs ++ flat_map (for_port n) new.downward.frames) (none_falls c (falling_to n new) off.falls)
         ∙ none_for n new.downward.frames (none_to is))) tt;
   }
-
--- so it is with a unit that reports no error
-module _ (n c : ℕ) (below : n < 15) (old : Places) (s : Step) (a : Answer) (new : Places) (rule : Rule old s (Ok a) new) (happened : List Happening)
-    (h : IsShut n c old happened) (cut : IsCut n c old) (clean : injects n s ≡ false) (stays : unplugs n s ≡ false)
-    (fine : AreFine (happens n old s a new)) where
-  pub shut_on : IsShut n c new (happened ++ happens n old s a new)
-  shut_on = shut_after n c below old s a new rule happened h (λ there. cut.held.told) clean stays fine
-
-  pub wired_now : is_cleared n old a ≡ true → IsWired n c new (happened ++ happens n old s a new) (Plugged ∷ [])
-  wired_now is =
-      wired_by n c new (happened ++ happens n old s a new) (Plugged ∷ []) [] shut_on.rising shut_on.linked
-      (wire_now n c below old s a new rule h.rising (shut_off n c old happened h) cut clean stays is shut_on.rising
-      (shut_off n c new (happened ++ happens n old s a new) shut_on))

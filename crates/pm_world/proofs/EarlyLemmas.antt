@@ -1,15 +1,13 @@
 -- The plugging of a unit: its port is shut from there on.
 use Rattle.std.proofs.Common.{◌≡◌, ◌≢◌, ◌==◌, ◌&&◌, ℕ, ◌+◌, ◌<◌, ◌≤◌, Bool, true, false, List, [], ◌∷◌, length, refl, sym, ap, subst, ◌∙◌, inr}
 use Rattle.std.proofs.Common.{Option, Some, Ok, arith}
-use Rattle.std.specs.Prelude.{if◌then◌else◌, slice_get}
+use Rattle.std.specs.Prelude.{slice_get, if◌then◌else◌}
 use Rattle.std.proofs.lemmas.Bool.{eq-eqb, true≢false}
 use Rattle.fis_view.specs.Frames.{Stamped}
 use Rattle.pm_ports.specs.Port.{is_gone}
 use Rattle.multiplier.specs.Arbiter.{control_port}
 use Rattle.multiplier.specs.State.{PmState, port_at}
 use Rattle.disk_model.specs.declared.unit.Unit.{Unit}
-use Rattle.disk_model.specs.Ends.{begins}
-use Rattle.disk_model.specs.Histories.{Plugged}
 use Rattle.pm_world.specs.Downward.{falling_to}
 use Rattle.pm_world.specs.Places.{Place, Places, is_config, new_world}
 use Rattle.pm_world.specs.Rules.{CameActs, CameRule, Rule, Run}
@@ -32,7 +30,7 @@ use Rattle.pm_world.proofs.WireLemmas.{and_both, none_both, still_above}
 use Rattle.pm_world.specs.Connections.{IsUnused}
 use Rattle.pm_world.proofs.FirmLemmas.{HasCome, IsFirm, firm_after, opening_firm, run_firm, seen_at}
 use Rattle.pm_world.proofs.SentLemmas.{none_on_way}
-use Rattle.pm_world.proofs.ShutLemmas.{IsForOther, IsNoneOf, IsShut, IsShutOff, WaitsFor, shut_by}
+use Rattle.pm_world.proofs.ShutLemmas.{IsForOther, IsNoneOf, IsShutOff, WaitsFor}
 
 -- ## The plugging
 
@@ -55,7 +53,6 @@ none_of_conn n c (f ∷ frames) none =
 -- the unit that comes is shut off at its port
 pub record ComesShut (n c : ℕ) (new : Places) : Type 0 where
   pub off : IsShutOff n c new []
-  pub shut : IsShut n c new (Plugged ∷ [])
   pub waits : WaitsFor n c new
 
 pub comes_shut : (n c : ℕ) → n < 15 → (config : Config) (units : List Unit) → is_config config (length units) ≡ true → (first : List Step) (told : List Answer)
@@ -103,7 +100,6 @@ comes_shut n c below config units fits first told out made new rule =
     } in
     record {
       off = off;
-      shut = shut_by n c new (Plugged ∷ []) [] begins off;
       waits = λ present.
           let is : c ≡ (seen_at n new).1 = ((firm_now.orderly.knows n).present c present).0 in
           absurd (omega (arith, is, last, most, less));

@@ -1,13 +1,12 @@
 -- From the plugging of a unit on, while nothing of its connection passes its port: what it sends waits there, and it takes nothing.
 use Rattle.std.proofs.Common.{◌≡◌, ◌≢◌, ◌==◌, ◌&&◌, ℕ, ◌<◌, Bool, true, false, List, [], ◌∷◌, ◌++◌, map, refl, sym, ap, subst, ◌∙◌, inl, inr}
 use Rattle.std.proofs.Common.{Option, Some, None, Ok, arith}
-use Rattle.std.specs.Prelude.{if◌then◌else◌, slice_get, take, MatchOption}
+use Rattle.std.specs.Prelude.{slice_get, take, MatchOption, if◌then◌else◌}
 use Rattle.std.proofs.lemmas.Bool.{cases_eq, eq-eqb, eqb-true, ne_eqb, true≢false}
 use Rattle.std.proofs.lemmas.Option.{same_Some}
-use Rattle.std.proofs.lemmas.List.{append-nil}
 use Rattle.fis_view.specs.Frames.{Stamped}
 use Rattle.hba_fbs.specs.declared.report.TakeReport.{TakeReport}
-use Rattle.disk_model.specs.Ends.{IsLinked, sends}
+use Rattle.disk_model.specs.Ends.{sends}
 use Rattle.disk_model.specs.Histories.{Happening, Plugged, Received, Sent}
 use Rattle.pm_registers.specs.RegisterMap.{forwards}
 use Rattle.multiplier.specs.Arbiter.{control_port}
@@ -32,7 +31,7 @@ use Rattle.pm_world.proofs.DownLemmas.{DownChange, Gone, Put, Quiet, down_change
 use Rattle.pm_world.proofs.EachLemmas.{Each, each_more}
 use Rattle.pm_world.proofs.KeepingLemmas.{IsTrue, passes_open, true_after}
 use Rattle.pm_world.proofs.UpLemmas.{Left, Rose, Same, UpChange, up_change}
-use Rattle.pm_world.specs.Wired.{AreFine, IsOnly, IsThere, IsUnremoved, befalls, injects, unplugs}
+use Rattle.pm_world.specs.Wired.{IsOnly, IsThere, IsUnremoved, befalls, injects, unplugs}
 use Rattle.pm_world.specs.Wire.{StaysOn}
 use Rattle.pm_world.proofs.FirstLemmas.{comes_risen}
 use Rattle.pm_world.proofs.KeptLemmas.{stays_unremoved, unremoved}
@@ -60,46 +59,6 @@ pub record IsShutOff (n c : ℕ) (now : Places) (rising : List (List ℕ)) : Typ
   pub there : IsThere n c now
   pub kept : IsUnremoved n c now
   pub above : transit n c now ≡ all_marked n rising
-
--- So it is, and it is linked with the host's end.
-pub record IsShut (n c : ℕ) (now : Places) (happened : List Happening) : Type 0 where
-  pub orderly : IsOrderly now
-  pub risen : AllRisen now.multiplier now.upward.frames
-  pub true_is : IsTrue n now.multiplier
-  pub up : Each (IsNoneOf n c) now.upward.frames
-  pub falls : Each (IsForOther c) (falling_to n now)
-  pub there : IsThere n c now
-  pub kept : IsUnremoved n c now
-  pub rising : List (List ℕ)
-  pub above : transit n c now ≡ all_marked n rising
-  pub linked : IsLinked happened (Plugged ∷ []) [] rising
-
-pub shut_off : (n c : ℕ) (now : Places) (happened : List Happening) (h : IsShut n c now happened) → IsShutOff n c now h.rising
-shut_off n c now happened h = record {
-  orderly = h.orderly;
-  risen = h.risen;
-  true_is = h.true_is;
-  up = h.up;
-  falls = h.falls;
-  there = h.there;
-  kept = h.kept;
-  above = h.above;
-}
-
-pub shut_by : (n c : ℕ) (now : Places) (happened : List Happening) (rising : List (List ℕ)) → IsLinked happened (Plugged ∷ []) [] rising
-    → IsShutOff n c now rising → IsShut n c now happened
-shut_by n c now happened rising linked h = record {
-  orderly = h.orderly;
-  risen = h.risen;
-  true_is = h.true_is;
-  up = h.up;
-  falls = h.falls;
-  there = h.there;
-  kept = h.kept;
-  rising = rising;
-  above = h.above;
-  linked = linked;
-}
 
 -- What happens to it in a step: nothing, or it sends a FIS, which waits at its port behind the others.
 pub data WaitsOn (n c : ℕ) (new : Places) (happened : List Happening) (rising : List (List ℕ)) : Type 0 where
@@ -248,24 +207,6 @@ module _ (n c : ℕ) (below : n < 15) (old : Places) (s : Step) (a : Answer) (ne
 
   pub off_after : WaitsOn n c new (happens n old s a new) rising
   off_after = subst (λ (xs : List Happening). WaitsOn n c new xs rising) its.same (waited a refl)
-
--- and where it reports no error it stays linked with the host's end
-module _ (n c : ℕ) (below : n < 15) (old : Places) (s : Step) (a : Answer) (new : Places) (rule : Rule old s (Ok a) new) (happened : List Happening)
-    (h : IsShut n c old happened) (waits : WaitsFor n c old) (clean : injects n s ≡ false) (stays : unplugs n s ≡ false)
-    (fine : AreFine (happens n old s a new)) where
-  pub shut_after : IsShut n c new (happened ++ happens n old s a new)
-  shut_after = by_case (off_after n c below old s a new rule h.rising (shut_off n c old happened h) waits clean stays)
-    where
-      by_case : WaitsOn n c new (happens n old s a new) h.rising → IsShut n c new (happened ++ happens n old s a new)
-      by_case (Silent none off) =
-          shut_by n c new (happened ++ happens n old s a new) h.rising
-          (subst (λ (xs : List Happening). IsLinked xs (Plugged ∷ []) [] h.rising)
-          (sym (ap (λ (xs : List Happening). happened ++ xs) none ∙ append-nil happened)) h.linked) off
-      by_case (Adds bytes is off) =
-          let its_fine : AreFine (Sent bytes ∷ []) = subst AreFine is fine in
-          shut_by n c new (happened ++ happens n old s a new) (h.rising ++ bytes ∷ [])
-          (subst (λ (xs : List Happening). IsLinked (happened ++ xs) (Plugged ∷ []) [] (h.rising ++ bytes ∷ [])) (sym is)
-          (sends happened (Plugged ∷ []) [] h.rising bytes its_fine.0 h.linked)) off
 
 -- ## The port goes on waiting
 
