@@ -80,7 +80,7 @@ signs_then k (Err e) owes mine right = absurd mine
 
 -- ## Careful hosts
 
-since_of : (base disk host : List Happening) (down stale up : List (List ℕ)) → IsLinkedOn base disk host down stale up
+pub since_of : (base disk host : List Happening) (down stale up : List (List ℕ)) → IsLinkedOn base disk host down stale up
     → (since : List Happening) × (host ≡ base ++ since)
 since_of base disk host down stale up (anew.begins s clear) = ([], sym (append-nil base))
 since_of base disk host down stale up (anew.gives d h below s above bytes linked) =
@@ -94,7 +94,7 @@ since_of base disk host down stale up (anew.takes d h below above bytes linked) 
     let p = since_of base d h below [] (bytes ∷ above) linked in
     (p.0 ++ Sent bytes ∷ [], ap (λ (xs : List Happening). xs ++ Sent bytes ∷ []) p.1 ∙ append_assoc base p.0 (Sent bytes ∷ []))
 
-careful_before : (base host since : List Happening) (e : Happening) → host ≡ base ++ since → IsCarefulSince base (host ++ e ∷ [])
+pub careful_before : (base host since : List Happening) (e : Happening) → host ≡ base ++ since → IsCarefulSince base (host ++ e ∷ [])
     → IsCarefulSince base host × FitsOne (ledger host) e
 careful_before base host since e is careful =
     let same : since ++ e ∷ [] ≡ careful.since =

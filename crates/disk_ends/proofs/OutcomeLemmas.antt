@@ -76,7 +76,7 @@ module _ (n : ℕ) (base : List Happening) (below : n < 15) where
   began_clear host given commands past (anew.gives old new frame offset len command g c p sound framed does out hosted) = began_clear old g c p hosted
 
   -- more than the base is not the base
-  not_yet : (old : Host) (g : List Happening) (c : ℕ → Command) (p : History) (e : Happening) → IsHostedOn n base old g c p → g ++ e ∷ [] ≡ base → ⊥
+  pub not_yet : (old : Host) (g : List Happening) (c : ℕ → Command) (p : History) (e : Happening) → IsHostedOn n base old g c p → g ++ e ∷ [] ≡ base → ⊥
   not_yet old g c p e hosted same =
       let kept : IsKeptOn n base old g c p = hosted_on_is_kept n base old g c p below hosted in
       not_base base g kept.careful.since e kept.careful.is same
@@ -94,7 +94,7 @@ module _ (n : ℕ) (base : List Happening) (below : n < 15) where
       issued_by false = unset
 
   -- no setup stands there
-  began_unset : (host : Host) (given : List Happening) (commands : ℕ → Command) (past : History) → IsHostedOn n base host given commands past
+  pub began_unset : (host : Host) (given : List Happening) (commands : ℕ → Command) (past : History) → IsHostedOn n base host given commands past
       → given ≡ base → (view_of n host.port).slots.context ≡ None
   began_unset host given commands past (anew.opens h c p opening) same = opening.unset
   began_unset host given commands past (anew.stays old new g c p keeps hosted) same =

@@ -61,7 +61,7 @@ signed_fine dev v sound k r none owes right mine =
 -- ---- a fault
 
 -- what a report says of a frame that is not ignored
-report_fault : (dev : ℕ) (port : Port) (memory : Memory) (fis : Option Fis) → (heard_report dev (place_of fis) (heard_now port memory dev fis)).fault ≡ device_cause (heard_now port memory dev fis).fault
+pub report_fault : (dev : ℕ) (port : Port) (memory : Memory) (fis : Option Fis) → (heard_report dev (place_of fis) (heard_now port memory dev fis)).fault ≡ device_cause (heard_now port memory dev fis).fault
 unfolding heard_report
 report_fault dev port memory fis = refl
 

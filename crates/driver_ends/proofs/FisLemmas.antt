@@ -28,12 +28,13 @@ pub record FieldsRead (fields : H2dFields) (f : List ℕ) : Type 0 where
   pub features : field H2d name.Features f ≡ fields.features % 65536
   pub lba : field H2d name.Lba f ≡ fields.lba % 281474976710656
   pub count : field H2d name.Count f ≡ fields.count % 65536
+  pub control : field H2d name.Control f ≡ fields.control % 256
 
 bool_small : (b : Bool) → from_bool b < 2
 bool_small true = omega arith
 bool_small false = omega arith
 
-fields_read : (fields : H2dFields) (f : List ℕ) → IsBuilt H2d (h2d_given fields) f → FieldsRead fields f
+pub fields_read : (fields : H2dFields) (f : List ℕ) → IsBuilt H2d (h2d_given fields) f → FieldsRead fields f
 unfolding places cut
 fields_read fields f built =
     let small = bool_small fields.c in
@@ -43,6 +44,7 @@ fields_read fields f built =
       features = omega (arith, built.fields name.Features);
       lba = omega (arith, built.fields name.Lba);
       count = omega (arith, built.fields name.Count);
+      control = omega (arith, built.fields name.Control);
     }
 
 -- ---- a request
@@ -78,7 +80,7 @@ queued_is slot lba sectors write f below some most place count at features =
     few = omega (arith, most)
 
 -- the request of a FIS of which C and the Command register are known
-request_by : (f : List ℕ) (code : ℕ) → field H2d name.C f ≡ 1 → field H2d name.Command f ≡ code → request_of f ≡ command_request f code
+pub request_by : (f : List ℕ) (code : ℕ) → field H2d name.C f ≡ 1 → field H2d name.Command f ≡ code → request_of f ≡ command_request f code
 request_by f code c is = ap (λ (k : ℕ). if k == 1 then command_request f (field H2d name.Command f) else Reset (field H2d name.Control f / 4 % 2 == 1)) c ∙ ap (command_request f) is
 
 read_asks : (f : List ℕ) → command_request f 0x60 ≡ Queue (queued_command f false)

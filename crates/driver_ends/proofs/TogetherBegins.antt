@@ -48,10 +48,10 @@ use Rattle.driver_ends.proofs.TurnLemmas.{after, no_issue, no_transfer, plain}
 -- ---- a device of which nothing failed since its flush
 
 -- slot 30 works on it to identify it alone
-steady_not : (n : ℕ) (plan : Plan) (stages : Stage → Type 0) → IsSteadyPlan n plan → (stages Identify → ⊥) → IsAtStage n stages plan → ⊥
+pub steady_not : (n : ℕ) (plan : Plan) (stages : Stage → Type 0) → IsSteadyPlan n plan → (stages Identify → ⊥) → IsAtStage n stages plan → ⊥
 steady_not n plan stages h not there = not (subst stages (h.path there.0 there.1.0 there.1.1.0).0 there.1.1.1)
 
-asked_of : (n : ℕ) (plan : Plan) → IsAskedOn n plan → IsAskedOf n plan
+pub asked_of : (n : ℕ) (plan : Plan) → IsAskedOn n plan → IsAskedOf n plan
 asked_of n plan (inl r) = inl r
 asked_of n plan (inr there) = inr (there.0, (there.1.0, there.1.1.0))
 
