@@ -1,0 +1,17 @@
+pub mod ResetAside
+pub mod Unfaulted
+pub mod BesideLemmas
+pub mod WorkedLemmas
+pub mod GivenLemmas
+pub mod BesideTogether
+pub mod GivesTogether
+pub mod ErrorLemmas
+pub mod Beginnings
+pub mod ReadLemmas
+pub mod StaleLemmas
+pub mod HonestEnds
+pub mod TakesTogether
+pub mod ApartLines
+pub mod ApartDriver
+pub mod ApartTurns
+pub mod EndLemmas
