@@ -1,10 +1,23 @@
--- From each order to clear a port until that is taken the host serves the device at the port anew; and once the port is cleared for the unit that is there, both
--- ends of the unit's link are linked, and the host serves it.
-use Rattle.std.proofs.Common.{◌≡◌, ◌≢◌, ◌==◌, ℕ, ◌<◌, Bool, true, false, List, [], ◌∷◌, ◌++◌, append_assoc, length, refl, sym, ap, subst, ◌∙◌, inl, inr}
-use Rattle.std.proofs.Common.{Some, Ok, arith}
-use Rattle.std.specs.Prelude.{◌⊎◌, ◌||◌, if◌then◌else◌}
+-- From each order to clear a port until that is taken the host serves the device at the port anew, and it and a disk that is plugged in there are ends that go on.
+use Rattle.std.proofs.Common.{◌≡◌, ◌==◌, ℕ, ◌<◌, Bool, true, false, List, [], ◌∷◌, ◌++◌, append_assoc, length, refl, sym, ap, subst, ◌∙◌, inl, inr}
+use Rattle.std.proofs.Common.{Ok, arith}
+use Rattle.std.proofs.Common.{map}
+use Rattle.std.specs.Prelude.{MatchBool}
+use Rattle.fis_view.specs.Frames.{marked}
+use Rattle.disk_model.specs.Histories.{Received}
+use Rattle.disk_model.specs.Histories as history
+use Rattle.hba_driver.specs.HostTurns.{Does}
+use Rattle.hba_driver.proofs.FlushLemmas.{flush_unreset}
+use Rattle.driver_phases.proofs.Beginnings.{flush_begins}
+use Rattle.pm_world.specs.Wired.{IsAtHost}
+use Rattle.pm_world.proofs.FlushLemmas.{flush_orders}
+use Rattle.pm_world.proofs.LineLemmas.{IsNow, opening_now, run_now}
+use Rattle.pm_world.proofs.DownLemmas.{down_change, DownChange, given_for, Gone, Put, Quiet}
+use Rattle.pm_world.proofs.EndsSteps.{HasEnds, IsUnflushed, stays_beside}
+use Rattle.pm_world.proofs.FlushedLemmas.{opened_at_flush}
+use Rattle.std.specs.Prelude.{◌⊎◌, if◌then◌else◌}
 use Rattle.std.specs.List.{list_any}
-use Rattle.std.proofs.lemmas.Bool.{cases_Bool, eq-eqb, false≢true, or_parts, true≢false}
+use Rattle.std.proofs.lemmas.Bool.{cases_Bool, false≢true, true≢false}
 use Rattle.std.proofs.lemmas.List.{append-nil}
 use Rattle.fis_view.specs.Frames.{Stamped}
 use Rattle.host_memory.specs.Memory.{is_memory_size}
@@ -18,11 +31,8 @@ use Rattle.hba_driver.specs.HostTurns.{HostTurn, Ticked, sight_in}
 use Rattle.hba_driver.specs.Steady.{IsFlushTick}
 use Rattle.hba_driver.specs.Ticks.{due}
 use Rattle.hba_driver.proofs.ServeLemmas.{act_clears}
-use Rattle.multiplier.specs.State.{port_at}
-use Rattle.pm_registers.specs.RegisterMap as map
 use Rattle.pm_world.specs.Cleared.{is_cleared}
 use Rattle.pm_world.specs.Downward.{pushed_by}
-use Rattle.pm_world.specs.Units.{happens}
 use Rattle.pm_world.specs.Places.{Places, is_config, new_world}
 use Rattle.pm_world.specs.Rules.{Rule, Run}
 use Rattle.pm_world.specs.Runs.{over}
@@ -32,35 +42,24 @@ use Rattle.pm_world.specs.declared.step.Step.{Step}
 use Rattle.pm_world.specs.declared.step.Step.TheVariants as step
 use Rattle.pm_world.specs.declared.step.Answer.{Answer}
 use Rattle.pm_world.specs.declared.step.Answer.TheVariants as answer
-use Rattle.pm_world.specs.Going.{AtEach, HearsOn, IsLeftAlone}
-use Rattle.pm_world.proofs.Goings.{is_taken_of}
 use Rattle.pm_world.specs.Stale.{IsInOrder, is_clear, orders_clear, unsent_after}
 use Rattle.pm_world.specs.Touched.{opens}
-use Rattle.pm_world.specs.Wired.{injects, unplugs}
 use Rattle.pm_world.proofs.ChangeLemmas.{tick_step}
-use Rattle.pm_world.proofs.CutLemmas.{IsCut, IsElsewhere, IsHeld, away_now, held_after}
+use Rattle.pm_world.proofs.CutLemmas.{IsHeld, held_after}
 use Rattle.pm_world.proofs.Delivery.{sized}
-use Rattle.pm_world.proofs.DisksLemmas.{drivers_serve}
-use Rattle.pm_world.proofs.DownLemmas.{DownChange, Gone, Put, Quiet, down_change}
-use Rattle.pm_world.proofs.EachLemmas.{Each, Nothing, any_one, each_map, each_more, none_of}
-use Rattle.pm_world.proofs.FineLemmas.{further, goes_well, opens_step, sound_at, untaken_none}
-use Rattle.pm_world.proofs.FirmLemmas.{IsFirm}
-use Rattle.pm_world.proofs.FirstLemmas.{FirstOn, comes_risen, first_step}
-use Rattle.pm_world.proofs.FlushLemmas.{cut_there, flush_serves, held_at_flush, rests_at_flush}
+use Rattle.pm_world.proofs.EachLemmas.{Each, Nothing, any_one, each_more, none_of}
+use Rattle.pm_world.proofs.FineLemmas.{further, opens_step, sound_at, untaken_none}
+use Rattle.pm_world.proofs.FirstLemmas.{FirstOn, comes_risen, first_step, is_taken_of}
+use Rattle.pm_world.proofs.FlushLemmas.{flush_serves, held_at_flush, rests_at_flush}
 use Rattle.pm_world.proofs.GoingLemmas.{ports_go_on}
 use Rattle.pm_world.proofs.HostFold.{rule_does}
-use Rattle.pm_world.proofs.HostLemmas.{HostOn}
-use Rattle.pm_world.proofs.KeepingLemmas.{is_there}
-use Rattle.pm_world.proofs.LiveLemmas.{IsLive, IsOpenAt, StaysPresent, open_or_waits, stays_present}
-use Rattle.pm_world.proofs.LiveRuns.{OnlyOf, firm_at, live_goes}
+use Rattle.pm_world.proofs.HostLemmas.{HostOn, drivers_serve}
 use Rattle.pm_world.proofs.Moves.{rule_moves}
 use Rattle.pm_world.proofs.OrderLemmas.{Knows}
 use Rattle.pm_world.proofs.OrderTurns.{opening_knows, order_step}
-use Rattle.pm_world.proofs.ErrorLemmas.{IsShutSince, opens_since, shut_since}
-use Rattle.pm_world.proofs.SecondLemmas.{IsTended, SecondRun, second_run}
-use Rattle.pm_world.proofs.ShutLemmas.{WaitsFor, waits_after}
 use Rattle.pm_world.proofs.TouchedLemmas.{GoesTouched, touched_over}
-use Rattle.pm_world.proofs.UnfaultedLemmas.{IsUnfaulted, flush_unfaulted, step_unfaulted}
+use Rattle.driver_phases.proofs.Unfaulted.{IsUnfaulted, flush_unfaulted}
+use Rattle.pm_world.proofs.UnfaultedLemmas.{step_unfaulted}
 
 -- ## Lists
 
@@ -78,26 +77,28 @@ has_more n [] f other has = absurd has
 has_more n (g ∷ frames) f other (inl is) = inl (is.0, each_more (λ (x : Stamped). is_clear n x ≡ false) frames f is.1 other)
 has_more n (g ∷ frames) f other (inr is) = inr (is.0, has_more n frames f other is.1)
 
-any_clear : (n : ℕ) (frames : List Stamped) → HasClear n frames → list_any (is_clear n) frames ≡ true
-any_clear n [] has = absurd has
-any_clear n (f ∷ frames) (inl is) = ap (λ (b : Bool). b || list_any (is_clear n) frames) is.0
-any_clear n (f ∷ frames) (inr is) = ap (λ (b : Bool). b || list_any (is_clear n) frames) is.0 ∙ any_clear n frames is.1
-
 -- the bit says whether an order is to be sent
 next_bit : (b pushes unsent : Bool) → b ≡ false → (if b then true else if pushes then false else unsent) ≡ (if pushes then false else unsent)
 next_bit b pushes unsent none = ap (λ (c : Bool). if c then true else if pushes then false else unsent) none
 
+-- the world is where a run from a new one leads
+pub now_at : (config : Config) (units : List Unit) → is_config config (length units) ≡ true → (before : List Step) (told : List Answer) (old : Places)
+    → Run (new_world config units) before told old → IsNow old
+now_at config units fits before told old made = run_now (new_world config units) before told old (opening_now units config fits) made
+
 -- ## A port that is to be cleared
 
-module _ (config : Config) (units : List Unit) (fits : is_config config (length units) ≡ true) (n : ℕ) (below : n < 15) where
+module _ (config : Config) (units : List Unit) (fits : is_config config (length units) ≡ true) (n : ℕ) (below : n < 15) (plan : DiskPlan) (sectors : ℕ)
+    (size : IsSize plan sectors) (earlier : List Happening) (disk : IsDiskRun plan sectors (earlier ++ Plugged ∷ [])) where
   pub right : is_memory_size config.memory ≡ true
   right = sized config (length units) fits
 
-  -- the port is held, and the host serves the device anew
+  -- The port is held, and the host serves the device anew; it and the disk are ends from where the disk is plugged in.
   pub record IsAnew (turns : List HostTurn) (now : Places) : Type 0 where
     pub held : IsHeld n now
     pub host : HostOn n config.memory turns now.host (Plugged ∷ [])
     pub unfaulted : IsUnfaulted n now.host.port
+    pub ends : HasEnds n config.memory turns now.host (earlier ++ Plugged ∷ []) [] []
 
   -- an order to clear it is to be sent, it is on its way, or there is none
   pub data Ordered (unsent : Bool) (turns : List HostTurn) (now : Places) : Type 0 where
@@ -138,15 +139,41 @@ module _ (config : Config) (units : List Unit) (fits : is_config config (length 
     pub unfaulted_now : IsAnew turns old → IsUnfaulted n new.host.port
     unfaulted_now anew = step_unfaulted n below old s a new rule sound (untaken_none n a its (untaken anew.held)) anew.unfaulted
 
+    -- nothing of the device goes over its link
+    pub ends_now : IsAnew turns old → IsUnflushed n old a → HasEnds n config.memory now_turns new.host (earlier ++ Plugged ∷ []) [] []
+    ends_now anew idle =
+        let f : FirstOn drivers_serve n config.memory below right turns old s a new = first_anew anew in
+        stays_beside n config.memory below right plan sectors size turns old (now_at config units fits before told old made) s a new rule
+        (earlier ++ Plugged ∷ []) [] [] anew.ends disk its (none_at_host a (untaken anew.held) f.given) idle
+      where
+        none_at_host : (b : Answer) → is_taken_of n b ≡ false → given_for n old s b new ≡ [] → IsAtHost n old b new []
+        none_at_host (answer.Took port conn number bytes report) untaken given = by_port (port == n) untaken
+          where
+            by_port : (b : Bool) → b ≡ false
+                → MatchBool b ((plain : List ℕ) × ([] ≡ history.Sent plain ∷ []) × (bytes ≡ marked plain n)) (◌≡◌ {A = List Happening} [] [])
+            by_port true e = absurd (true≢false e)
+            by_port false e = refl
+        none_at_host answer.Pushed untaken given = sym (ap (map (λ (bytes : List ℕ). Received bytes)) given)
+        none_at_host b untaken given = refl
+
     -- it goes on so while the port is not cleared
-    anew_after : IsAnew turns old → is_cleared n old a ≡ false → IsAnew now_turns new
-    anew_after anew none =
+    anew_after : IsAnew turns old → IsUnflushed n old a → is_cleared n old a ≡ false → IsAnew now_turns new
+    anew_after anew idle none =
         let f : FirstOn drivers_serve n config.memory below right turns old s a new = first_anew anew in
         record {
           held = held_after n below old s a new rule k.orderly k.true_is anew.held f.given none;
           host = f.host;
           unfaulted = unfaulted_now anew;
+          ends = ends_now anew idle;
         }
+
+    -- what flushes the device orders that its port be cleared
+    unflushed_now : orders_clear n old a ≡ false → IsUnflushed n old a
+    unflushed_now idle = by_answer a idle
+      where
+        by_answer : (b : Answer) → orders_clear n old b ≡ false → IsUnflushed n old b
+        by_answer answer.Ticked none = λ flush. true≢false (sym (flush_orders n old.host flush) ∙ none)
+        by_answer b none = tt
 
     -- ---- the order
 
@@ -185,7 +212,7 @@ module _ (config : Config) (units : List Unit) (fits : is_config config (length 
     unsent_on idle is none anew = by_down change
       where
         on : IsAnew now_turns new
-        on = anew_after anew (uncleared none)
+        on = anew_after anew (unflushed_now idle) (uncleared none)
 
         by_down : DownChange n old s a new → Ordered now_unsent now_turns new
         by_down (Quiet link pushed uncleared falls) = Unsent (same_bit idle pushed ∙ is) (subst (Nothing (is_clear n)) (sym link) none) on
@@ -209,17 +236,17 @@ module _ (config : Config) (units : List Unit) (fits : is_config config (length 
         rest f clears bit (inl one) = Idle bit one.1
         rest f clears bit (inr one) = elim (cases_Bool (is_cleared n old a)) [
           | inl cleared ↦ absurd (true≢false (sym (clears cleared) ∙ one.0))
-          | inr none ↦ Sent bit one.1 (anew_after anew none)
+          | inr none ↦ Sent bit one.1 (anew_after anew (unflushed_now idle) none)
         ]
 
         by_down : DownChange n old s a new → Ordered now_unsent now_turns new
-        by_down (Quiet link pushed uncleared falls) = Sent (same_bit idle pushed ∙ is) (subst (HasClear n) (sym link) has) (anew_after anew uncleared)
+        by_down (Quiet link pushed uncleared falls) = Sent (same_bit idle pushed ∙ is) (subst (HasClear n) (sym link) has) (anew_after anew (unflushed_now idle) uncleared)
         by_down (Gone f link pushed clears falls _ ids) = rest f clears (same_bit idle pushed ∙ is) (subst (HasClear n) link has)
         by_down (Put f link pushed uncleared falls _ ids) = elim (cases_Bool (is_clear n f)) [
           | inl clears ↦ absurd (true≢false (sym (sends_unsent f pushed clears) ∙ is))
           | inr other ↦
               Sent (put_bit f idle pushed ∙ (ap (λ (b : Bool). if b then false else unsent) other ∙ is))
-              (subst (HasClear n) (sym link) (has_more n old.downward.frames f other has)) (anew_after anew uncleared)
+              (subst (HasClear n) (sym link) (has_more n old.downward.frames f other has)) (anew_after anew (unflushed_now idle) uncleared)
         ]
 
     -- ---- there is none
@@ -239,6 +266,19 @@ module _ (config : Config) (units : List Unit) (fits : is_config config (length 
 
     -- ---- it is given
 
+    flush_ends : Does old.host (Ticked true) new.host → IsFlushTick n old.host
+        → HasEnds n config.memory (turns ++ Ticked true ∷ []) new.host (earlier ++ Plugged ∷ []) [] []
+    flush_ends does flush =
+        let on : HostOn n config.memory (turns ++ Ticked true ∷ []) new.host (Plugged ∷ []) =
+        flush_serves drivers_serve n config.memory below right turns old.host new.host touched.touches touched.touched does flush in
+        record {
+          touches = on.touches;
+          touched = on.touched;
+          ends = flush_begins n new.host earlier on.commands on.touches below on.serves
+              (flush_unreset n old.host true new.host (omega (arith, below)) does flush) (opened_at_flush n old.host true new.host does flush)
+              (flush_unfaulted n (omega (arith, below)) old.host true new.host does sound flush);
+        }
+
     flush_now : (b : Answer) → a ≡ b → orders_clear n old b ≡ true → Nothing (is_clear n) old.downward.frames → Ordered now_unsent now_turns new
     flush_now answer.Ticked is flushed none =
         let ticked : Rule old s (Ok answer.Ticked) new = subst (λ (x : Answer). Rule old s (Ok x) new) is rule in
@@ -255,6 +295,7 @@ module _ (config : Config) (units : List Unit) (fits : is_config config (length 
               subst (λ (ts : List HostTurn). HostOn n config.memory ts new.host (Plugged ∷ [])) (sym turns_are)
               (flush_serves drivers_serve n config.memory below right turns old.host new.host touched.touches touched.touched tick.0 flush);
           unfaulted = flush_unfaulted n (omega (arith, below)) old.host true new.host tick.0 sound flush;
+          ends = subst (λ (ts : List HostTurn). HasEnds n config.memory ts new.host (earlier ++ Plugged ∷ []) [] []) (sym turns_are) (flush_ends tick.0 flush);
         })
     flush_now b is flushed none = absurd (false≢true flushed)
 
@@ -277,12 +318,13 @@ module _ (config : Config) (units : List Unit) (fits : is_config config (length 
 
 -- ## A run
 
-module _ (config : Config) (units : List Unit) (fits : is_config config (length units) ≡ true) (n : ℕ) (below : n < 15) where
+module _ (config : Config) (units : List Unit) (fits : is_config config (length units) ≡ true) (n : ℕ) (below : n < 15) (plan : DiskPlan) (sectors : ℕ)
+    (size : IsSize plan sectors) (earlier : List Happening) (disk : IsDiskRun plan sectors (earlier ++ Plugged ∷ [])) where
   pub record OrderedNow (turns : List HostTurn) (now : Places) : Type 0 where
     pub unsent : Bool
     pub knows : Knows n unsent now
     pub touched : GoesTouched config.memory turns now.host
-    pub ordered : Ordered config units fits n below unsent turns now
+    pub ordered : Ordered config units fits n below plan sectors size earlier disk unsent turns now
 
   opening_ordered : OrderedNow [] (new_world config units)
   opening_ordered = record {
@@ -302,7 +344,7 @@ module _ (config : Config) (units : List Unit) (fits : is_config config (length 
         touched =
             touched_over config.memory (sized config (length units) fits) turns (turn_of old s a new) old.host new.host o.touched.touches o.touched.touched
             (rule_does old s a new rule);
-        ordered = order_after config units fits n below before told old made o.unsent o.knows turns o.touched s a new rule both.0 o.ordered;
+        ordered = order_after config units fits n below plan sectors size earlier disk before told old made o.unsent o.knows turns o.touched s a new rule both.0 o.ordered;
       }
 
   order_run : (before : List Step) (told : List Answer) (old : Places) → Run (new_world config units) before told old → (turns : List HostTurn)
@@ -320,114 +362,3 @@ module _ (config : Config) (units : List Unit) (fits : is_config config (length 
   pub ordered_after : (steps : List Step) (answers : List Answer) (now : Places) (run : Run (new_world config units) steps answers now)
       → OrderedNow (over turn_of (new_world config units) steps answers now run) now
   ordered_after steps answers now run = order_run [] [] (new_world config units) refl [] opening_ordered steps answers now run
-
-  -- ## A unit from its plugging on
-
-  module _ (plan : DiskPlan) (sectors : ℕ) (size : IsSize plan sectors) (c : ℕ) (earlier : List Happening) where
-    -- nothing of it passed its port yet, or it is followed along its wire, and the host serves it
-    pub data Stage (now : Places) (happened : List Happening) (turns : List HostTurn) : Type 0 where
-      Waiting : IsShutSince n c now happened → Stage now happened turns
-      Serving : (heard : List Happening)
-          → IsTended drivers_serve n config.memory below (right config units fits n below) plan sectors size c earlier now happened heard turns
-          → Stage now happened turns
-
-    pub run_opens : (before : List Step) (told : List Answer) (old : Places) → Run (new_world config units) before told old → (happened : List Happening)
-        (turns : List HostTurn) → OrderedNow turns old → IsShutSince n c old happened → WaitsFor n c old
-        → (steps : List Step) (answers : List Answer) (new : Places) (run : Run old steps answers new) → IsLeftAlone n steps
-        → AtEach (HearsOn n c) old steps answers new run
-        → IsDiskRun plan sectors (earlier ++ (happened ++ over (happens n) old steps answers new run))
-        → Stage new (happened ++ over (happens n) old steps answers new run) (turns ++ over turn_of old steps answers new run)
-    run_opens before told old made happened turns o h waits [] [] new run alone well disk =
-        subst (λ (w : Places). Stage w (happened ++ []) (turns ++ [])) (sym run)
-        (subst (λ (xs : List Happening). Stage old xs (turns ++ [])) (sym (append-nil happened)) (Waiting h))
-    run_opens before told old made happened turns o h waits [] (a ∷ answers) new run alone well disk = absurd run
-    run_opens before told old made happened turns o h waits (s ∷ steps) [] new run alone well disk = absurd run
-    run_opens before told old made happened turns o h waits (s ∷ steps) (a ∷ answers) new run alone well disk =
-        subst (λ (xs : List Happening). Stage new xs (turns ++ (turn_of old s a run.0 ++ over turn_of run.0 steps answers new run.2))) all_told
-        (subst (λ (ts : List HostTurn). Stage new ((happened ++ happens n old s a run.0) ++ over (happens n) run.0 steps answers new run.2) ts) all_turns
-        (let goes_on : WaitsFor n c run.0
-        → Stage new ((happened ++ happens n old s a run.0) ++ over (happens n) run.0 steps answers new run.2)
-        ((turns ++ turn_of old s a run.0) ++ over turn_of run.0 steps answers new run.2) =
-        λ next. run_opens (before ++ s ∷ []) (told ++ a ∷ []) run.0 made_on (happened ++ happens n old s a run.0) (turns ++ turn_of old s a run.0) ordered on
-        next steps answers new run.2 apart well.1 later in
-        elim (cases_Bool (is_cleared n old a)) [
-          | inl cleared ↦ by_there goes_on cleared (is_there (port_at old.multiplier n).present c)
-          | inr none ↦ goes_on (waits_after n c below old s a run.0 run.1 h.off.true_is (λ here. none) waits)
-        ]))
-      where
-        i : (injects n s ≡ false) × (list_any (injects n) steps ≡ false)
-        i = or_parts (injects n s) (list_any (injects n) steps) alone.clean
-
-        p : (unplugs n s ≡ false) × (list_any (unplugs n) steps ≡ false)
-        p = or_parts (unplugs n s) (list_any (unplugs n) steps) alone.stays
-
-        apart : IsLeftAlone n steps
-        apart = record { clean = i.1; stays = p.1 }
-
-        on : IsShutSince n c run.0 (happened ++ happens n old s a run.0)
-        on = shut_since n c below old s a run.0 run.1 happened h i.0 p.0 waits
-
-        made_on : Run (new_world config units) (before ++ s ∷ []) (told ++ a ∷ []) run.0
-        made_on = further config units fits n below before told old made s a run.0 run.1
-
-        ordered : OrderedNow (turns ++ turn_of old s a run.0) run.0
-        ordered = ordered_on before told old made turns o s a run.0 run.1
-
-        all_told : (happened ++ happens n old s a run.0) ++ over (happens n) run.0 steps answers new run.2
-            ≡ happened ++ (happens n old s a run.0 ++ over (happens n) run.0 steps answers new run.2)
-        all_told = append_assoc happened (happens n old s a run.0) (over (happens n) run.0 steps answers new run.2)
-
-        all_turns : (turns ++ turn_of old s a run.0) ++ over turn_of run.0 steps answers new run.2
-            ≡ turns ++ (turn_of old s a run.0 ++ over turn_of run.0 steps answers new run.2)
-        all_turns = append_assoc turns (turn_of old s a run.0) (over turn_of run.0 steps answers new run.2)
-
-        later : IsDiskRun plan sectors (earlier ++ ((happened ++ happens n old s a run.0) ++ over (happens n) run.0 steps answers new run.2))
-        later = subst (λ (xs : List Happening). IsDiskRun plan sectors (earlier ++ xs)) (sym all_told) disk
-
-        -- the port is cleared for the unit
-        serves : is_cleared n old a ≡ true → (port_at old.multiplier n).present ≡ Some c → IsOpenAt n run.0.multiplier.registers
-            → Stage new ((happened ++ happens n old s a run.0) ++ over (happens n) run.0 steps answers new run.2)
-            ((turns ++ turn_of old s a run.0) ++ over turn_of run.0 steps answers new run.2)
-        serves cleared here opens_now =
-            let both = order_step n below o.unsent old o.knows s a run.0 run.1 in
-            let anew : IsAnew config units fits n below turns old =
-            cleared_anew config units fits n below before told old made o.unsent o.knows turns o.touched s a run.0 run.1 both.0 o.ordered cleared in
-            let first : FirstOn drivers_serve n config.memory below (right config units fits n below) turns old s a run.0 =
-            first_anew config units fits n below before told old made o.unsent o.knows turns o.touched s a run.0 run.1 both.0 anew in
-            let cut : IsCut n c old = cut_there n c below config units fits before told old made anew.held h.off.there here in
-            let firm : IsFirm n old = firm_at config units fits n below before told old made in
-            let there : StaysPresent n c a run.0 = stays_present n c old s a run.0 run.1 p.0 firm here h.off.kept in
-            let live : IsLive n c run.0 = record { here = there.here; opens = opens_now; kept = there.kept } in
-            let only : OnlyOf n c run.0.upward.frames =
-            each_map (IsElsewhere n) (λ (g : Stamped). g.stamp.port ≡ n → g.stamp.conn ≡ c) run.0.upward.frames
-            (λ g other at. absurd (true≢false (sym (eq-eqb g.stamp.port n at) ∙ other)))
-            (away_now n below old s a run.0 run.1 h.off.orderly h.off.true_is anew.held first.given) in
-            let tended : IsTended drivers_serve n config.memory below (right config units fits n below) plan sectors size c earlier run.0
-            (happened ++ happens n old s a run.0) [] (turns ++ turn_of old s a run.0) =
-            record {
-              orderly = on.off.orderly;
-              risen = on.off.risen;
-              there = on.off.there;
-              along = opens_since n c below old s a run.0 run.1 happened h i.0 p.0 cut cleared;
-              host = first.host;
-            } in
-            let rest : SecondRun drivers_serve n config.memory below (right config units fits n below) plan sectors size c earlier run.0 steps answers new run.2
-            (happened ++ happens n old s a run.0) [] (turns ++ turn_of old s a run.0) =
-            second_run drivers_serve n config.memory below (right config units fits n below) plan sectors size c earlier run.0 steps answers new run.2
-            (happened ++ happens n old s a run.0) [] (turns ++ turn_of old s a run.0) tended apart
-            (goes_well config units fits n below (before ++ s ∷ []) (told ++ a ∷ []) run.0 made_on
-            (unfaulted_now config units fits n below before told old made o.unsent o.knows turns o.touched s a run.0 run.1 both.0 anew) steps answers new run.2
-            (live_goes config units fits n below c (before ++ s ∷ []) (told ++ a ∷ []) run.0 made_on ordered.unsent ordered.knows live only steps answers new run.2 p.1 well.1))
-            later in
-            Serving rest.more rest.tended
-
-        by_there : (WaitsFor n c run.0 → Stage new ((happened ++ happens n old s a run.0) ++ over (happens n) run.0 steps answers new run.2)
-            ((turns ++ turn_of old s a run.0) ++ over turn_of run.0 steps answers new run.2)) → is_cleared n old a ≡ true
-            → ((port_at old.multiplier n).present ≡ Some c) ⊎ ((port_at old.multiplier n).present ≢ Some c)
-            → Stage new ((happened ++ happens n old s a run.0) ++ over (happens n) run.0 steps answers new run.2)
-            ((turns ++ turn_of old s a run.0) ++ over turn_of run.0 steps answers new run.2)
-        by_there goes_on cleared (inr other) = goes_on (waits_after n c below old s a run.0 run.1 h.off.true_is (λ here. absurd (other here)) waits)
-        by_there goes_on cleared (inl here) = elim (open_or_waits (map.port_at run.0.multiplier.registers n)) [
-          | inl opens_now ↦ serves cleared here opens_now
-          | inr told_still ↦ goes_on (λ present. told_still)
-        ]

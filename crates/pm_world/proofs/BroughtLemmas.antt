@@ -8,20 +8,18 @@ use Rattle.slots.specs.declared.work.Work.{Work}
 use Rattle.hba_fbs.specs.declared.report.TakeReport.{TakeReport}
 use Rattle.hba_fbs.specs.Taking.{port_of}
 use Rattle.disk_model.specs.declared.request.Command.{Command}
-use Rattle.disk_model.specs.Ledger.{Ledger, ledger}
+use Rattle.disk_model.specs.Ledger.{Ledger}
 use Rattle.hba_laws.specs.Client.{IsReading, Touches, own}
 use Rattle.hba_laws.specs.Delivering.{by_device, event_taken, completes_now, touched}
 use Rattle.hba_laws.specs.History as event
-use Rattle.hba_laws.specs.History.{Event, History, Transfer, completes, filled, issued}
+use Rattle.hba_laws.specs.History.{Event, History, Transfer, completes, filled}
 use Rattle.hba_laws.specs.Hosts as host_event
 use Rattle.hba_driver.specs.Delivered.{IsAtItsPlace, TookDelivers}
 use Rattle.hba_driver.specs.Events.{shared_by}
 use Rattle.hba_driver.specs.HostTurns.{Host}
 use Rattle.disk_ends.specs.Honest.{BroughtSectors}
 use Rattle.disk_ends.proofs.TogetherLemmas.{no_end, not_pio}
-use Rattle.pm_world.specs.Brought.{IsBrought, TookBrings}
-use Rattle.pm_world.specs.Honest.{IsTakenHonestly}
-use Rattle.pm_world.proofs.TookLemmas.{took_is_honest}
+use Rattle.pm_world.specs.Brought.{IsBrought}
 
 -- what completes a queued command fills nothing
 fills_nothing : (s : ℕ) (e : Event) (past : History) (w : Work) → is_queued w.kind ≡ true → completes s e past w ≡ true
@@ -76,12 +74,3 @@ brought_there sectors n old new bytes report touches c k slot t port_is low read
                 ∙ sym (ap (λ (b : ℕ). Some b) p.stands);
           };
     }
-
-pub took_brings : TookBrings
-took_brings plan sectors n c old new s port conn number bytes report disk given commands touches below orderly rule here port_is
-    size run wired hosted sound well delivers slot t low reading queued reads named =
-    let honest : IsTakenHonestly sectors n c new bytes report disk given commands (own n touches) =
-    took_is_honest plan sectors n c old new s port conn number bytes report disk given commands (own n touches) below orderly rule here
-    port_is size run wired hosted sound well in
-    brought_there sectors n old.host new.host bytes report touches (commands slot) (ledger given) slot t port_is low reading queued named delivers
-    ((honest.done slot t low reading.is queued named).reads reads)

@@ -17,13 +17,12 @@ use Rattle.pm_world.specs.declared.step.Answer.{Answer}
 use Rattle.pm_world.proofs.Cleared as cleared
 use Rattle.pm_world.proofs.Cleared.{rule_goes, run_waits}
 use Rattle.pm_world.specs.Stale.{is_clear}
-use Rattle.pm_world.proofs.DownLemmas.{DownChange, Gone, Put, Quiet, down_change}
+use Rattle.pm_world.proofs.DownLemmas.{down_change, DownChange, given_for, Gone, Put, Quiet}
 use Rattle.pm_world.proofs.EachLemmas.{Each, Nothing, each_more}
 use Rattle.pm_world.proofs.KeepingLemmas.{IsTrue}
 use Rattle.pm_world.proofs.UpLemmas.{Left, Rose, Same, UpChange, up_change}
 use Rattle.pm_world.specs.Wired.{AreAmong, IsAway, for_port, injects, unplugs}
 use Rattle.pm_world.specs.Wire.{IsOnWire}
-use Rattle.pm_world.proofs.OpeningLemmas.{given_for}
 use Rattle.pm_world.proofs.RunLemmas.{TellsOf, tells_of}
 use Rattle.pm_world.proofs.WireLemmas.{away_after, falls_on, falls_other, unsent_other}
 use Rattle.pm_world.proofs.ShutLemmas.{IsForOther, IsShutOff, only_there}

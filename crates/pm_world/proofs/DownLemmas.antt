@@ -17,6 +17,8 @@ use Rattle.pm_world.specs.Cleared.{clears_x, is_cleared}
 use Rattle.pm_world.specs.Downward.{falling_to, fell_to, pushed_by}
 use Rattle.pm_world.specs.Places.{IsOrderly, Places}
 use Rattle.pm_world.specs.Rules.{Rule}
+use Rattle.pm_world.specs.Runs.{Telling}
+use Rattle.pm_world.specs.Wired.{for_port}
 use Rattle.pm_world.specs.declared.step.Step.{Step}
 use Rattle.pm_world.specs.declared.step.Step.TheVariants as step
 use Rattle.pm_world.specs.declared.step.Answer.{Answer}
@@ -26,6 +28,10 @@ use Rattle.pm_world.specs.Stale.{identified_by, is_clear, orders_clear}
 use Rattle.pm_world.proofs.EachLemmas.{Each, any_one, each_back, each_front}
 use Rattle.pm_world.proofs.KeepingLemmas.{drop_own}
 use Rattle.pm_world.proofs.UpLemmas.{passed_step}
+
+-- what the host put on its link for the device at port n
+abbrev pub given_for : ℕ → Telling (List ℕ)
+given_for n old s a new = flat_map (for_port n) (pushed_by old s a new)
 
 -- ## A FIS of the host
 
@@ -42,7 +48,7 @@ heard old s p new rule =
     record { frame = acts.0.0; link = acts.0.1; goes = acts.0.2 }
 
 -- one that the control port took was for it
-to_control : (old : PmState) (frame : Stamped) (new : PmState) → FromHostRule old frame (Ok passed.Control) new → (pm_port frame == control_port) ≡ true
+pub to_control : (old : PmState) (frame : Stamped) (new : PmState) → FromHostRule old frame (Ok passed.Control) new → (pm_port frame == control_port) ≡ true
 to_control old frame new rule = by_port (pm_port frame == control_port) rule
   where
     by_conn : (o : Option ℕ) → MatchOption o (ToNobody old (Ok passed.Control) new) (λ conn. ToDevice old (pm_port frame) conn frame (Ok passed.Control) new) → ⊥
@@ -54,7 +60,7 @@ to_control old frame new rule = by_port (pm_port frame == control_port) rule
     by_port false acts = absurd (by_conn (passes_to old (pm_port frame)) acts)
 
 -- one that was passed down was for its port
-to_port : (old : PmState) (frame : Stamped) (m : ℕ) (new : PmState) → FromHostRule old frame (Ok (passed.Down m)) new → pm_port frame ≡ m
+pub to_port : (old : PmState) (frame : Stamped) (m : ℕ) (new : PmState) → FromHostRule old frame (Ok (passed.Down m)) new → pm_port frame ≡ m
 to_port old frame m new rule = by_port (pm_port frame == control_port) rule
   where
     by_conn : (o : Option ℕ) → MatchOption o (ToNobody old (Ok (passed.Down m)) new) (λ conn. ToDevice old (pm_port frame) conn frame (Ok (passed.Down m)) new) → pm_port frame ≡ m

@@ -12,11 +12,6 @@ pub each_map : {X : Type 0} (P Q : X → Type 0) (xs : List X) → ((x : X) → 
 each_map P Q [] f h = tt
 each_map P Q (x ∷ xs) f h = (f x h.0, each_map P Q xs f h.1)
 
--- by two facts of each
-pub each_both : {X : Type 0} (P Q R : X → Type 0) (xs : List X) → ((x : X) → P x → Q x → R x) → Each P xs → Each Q xs → Each R xs
-each_both P Q R [] f h k = tt
-each_both P Q R (x ∷ xs) f h k = (f x h.0 k.0, each_both P Q R xs f h.1 k.1)
-
 pub each_more : {X : Type 0} (P : X → Type 0) (xs : List X) (y : X) → Each P xs → P y → Each P (xs ++ y ∷ [])
 each_more P [] y h last = (last, tt)
 each_more P (x ∷ xs) y h last = (h.0, each_more P xs y h.1 last)

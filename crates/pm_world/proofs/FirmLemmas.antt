@@ -11,7 +11,7 @@ use Rattle.multiplier.specs.State.{falling, port_at}
 use Rattle.pm_world.specs.Downward.{falling_to}
 use Rattle.pm_world.specs.Links.{changed_by, on_presence}
 use Rattle.pm_world.specs.Places.{IsOrderly, Place, Places, is_config, new_world, opening}
-use Rattle.pm_world.specs.Rules.{CameActs, CameRule, Rule, Run}
+use Rattle.pm_world.specs.Rules.{CameActs, CameRule, DiskSendRule, DiskTakeRule, GoneRule, InjectRule, PmDownRule, PmFromDeviceRule, PmPresenceRule, Rule, Run}
 use Rattle.pm_world.specs.Traffic.{is_removed}
 use Rattle.pm_world.specs.declared.link.Change.{Change}
 use Rattle.pm_world.specs.declared.link.Change.TheVariants as change
@@ -24,11 +24,32 @@ use Rattle.pm_world.proofs.Openings.{nothing_falls, port_opening}
 use Rattle.pm_world.proofs.Orderly as world_orderly
 use Rattle.pm_world.proofs.Orderly.{opening_orderly, orderly_after}
 use Rattle.pm_world.proofs.Recorded.{AreLetIn, IsLed, Known, Records, all, one, opening_led, records_last, rule_records}
-use Rattle.pm_world.proofs.Steps.{AtDevice, at_device}
+use Rattle.pm_world.proofs.Steps.{AtDevice, at_both, at_device}
 use Rattle.pm_world.proofs.DownLemmas.{DownChange, Gone, Put, Quiet, down_change, falls_keep}
 use Rattle.pm_world.proofs.EachLemmas.{Each, each_map, each_more}
 use Rattle.pm_world.proofs.KeepingLemmas.{IsTrue, opening_true, passes_open, true_after}
-use Rattle.pm_world.proofs.OpeningLemmas.{came_by}
+
+-- who says that a unit came is the step by which it did
+came_by : (old new : Places) (port conn : ℕ) (s : Step) → Rule old s (Ok (answer.Came port conn)) new → s ≡ step.Came port
+came_by old new port conn (step.Came m) rule =
+    let d : AtDevice old m (Ok (answer.Came port conn)) new (CameRule m) = at_device old m (answer.Came port conn) new (CameRule m) rule in
+    let acts : CameActs m d.place (answer.Came port conn) d.after = d.rule.1 in
+    ap (λ (k : ℕ). step.Came k) (sym acts.0)
+came_by old new port conn (step.Gone m) rule = absurd (at_device old m (answer.Came port conn) new (GoneRule m) rule).rule.1
+came_by old new port conn (step.DiskSend m) rule = absurd (at_device old m (answer.Came port conn) new (DiskSendRule m) rule).rule.1
+came_by old new port conn (step.Inject m given) rule = absurd (at_device old m (answer.Came port conn) new (InjectRule m given) rule).rule.1
+came_by old new port conn (step.DiskTake m) rule = absurd (at_device old m (answer.Came port conn) new (DiskTakeRule m) rule).rule
+came_by old new port conn (step.PmPresence m) rule = absurd (at_both old m (answer.Came port conn) new (PmPresenceRule m) rule).rule
+came_by old new port conn (step.PmFromDevice m) rule = absurd (at_both old m (answer.Came port conn) new (PmFromDeviceRule m) rule).rule
+came_by old new port conn (step.PmDown m) rule = absurd (at_both old m (answer.Came port conn) new (PmDownRule m) rule).rule
+came_by old new port conn step.PmFromHost rule = absurd rule.0
+came_by old new port conn step.PmUp rule = absurd rule.0
+came_by old new port conn step.HostTake rule = absurd rule.0
+came_by old new port conn step.HostPush rule = absurd rule.0
+came_by old new port conn step.Tick rule = absurd rule.0
+came_by old new port conn (step.Submit dev request) rule = absurd rule.0
+came_by old new port conn step.Poll rule = absurd rule.0
+came_by old new port conn (step.Put at given) rule = absurd rule.0
 
 -- ## Changes, one after another
 
@@ -218,3 +239,9 @@ removed_before n c d now f there some less =
     let gone = (f.closed.there c there).1 in
     let low : d ≤ (port_at now.multiplier n).gone = omega (arith, gone, less) in
     and_from (nat_lt 0 d) (nat_le d (port_at now.multiplier n).gone) (lt-ltb 0 d some) (le-leb d (port_at now.multiplier n).gone low)
+
+-- ## In each world to which a run from a new one leads
+
+pub firm_at : (config : Config) (units : List Unit) → is_config config (length units) ≡ true → (n : ℕ) → n < 15 → (before : List Step)
+    (told : List Answer) (old : Places) → Run (new_world config units) before told old → IsFirm n old
+firm_at config units fits n below before told old made = run_firm n below (new_world config units) before told old made (opening_firm config units fits n)

@@ -1,9 +1,9 @@
 -- Up to the first FIS of a disk the host serves it, and gives it nothing.
-use Rattle.std.proofs.Common.{◌≡◌, ◌≢◌, eqb, ℕ, ◌<◌, true, false, List, [], ◌∷◌, ◌++◌, append_assoc, drop, length, map, refl, sym, ap, subst, ◌∙◌, inl, inr}
+use Rattle.std.proofs.Common.{◌≡◌, ◌≢◌, eqb, ◌==◌, ◌⊎◌, ℕ, ◌<◌, Bool, true, false, List, [], ◌∷◌, ◌++◌, drop, length, map, refl, sym, ap, subst, ◌∙◌, inl, inr}
 use Rattle.std.proofs.Common.{Ok}
 use Rattle.std.specs.Prelude.{Result}
-use Rattle.std.specs.List.{flat_map, list_any}
-use Rattle.std.proofs.lemmas.Bool.{eq-eqb, or_parts, true≢false}
+use Rattle.std.specs.List.{flat_map}
+use Rattle.std.proofs.lemmas.Bool.{eq-eqb, true≢false}
 use Rattle.std.proofs.lemmas.List.{append-nil}
 use Rattle.std.proofs.lemmas.List.Elements.{All-head}
 use Rattle.fis_view.specs.Frames.{Stamped}
@@ -22,22 +22,30 @@ use Rattle.disk_model.specs.Requests.{request_of}
 use Rattle.hba_laws.specs.Client.{own}
 use Rattle.hba_driver.specs.Events.{shared_by}
 use Rattle.hba_driver.specs.HostTurns.{HostTurn}
+use Rattle.hba_driver.specs.Steady.{IsCalmTick, IsFlushTick}
 use Rattle.disk_ends.specs.Hosted.{IsKept}
 use Rattle.disk_ends.proofs.HostedLemmas.{hosted_is_kept}
 use Rattle.pm_world.specs.Places.{Places}
-use Rattle.pm_world.specs.Rules.{Rule, Run}
-use Rattle.pm_world.specs.Runs.{over}
+use Rattle.pm_world.specs.Rules.{Rule}
 use Rattle.pm_world.specs.Turns.{IsOfItsPort, turn_of}
 use Rattle.pm_world.specs.declared.step.Step.{Step}
 use Rattle.pm_world.specs.declared.step.Answer.{Answer}
 use Rattle.pm_world.specs.declared.step.Answer.TheVariants as answer
 use Rattle.pm_world.proofs.Risen.{AllRisen, run_rises}
-use Rattle.pm_world.specs.Going.{AtEach}
-use Rattle.pm_world.proofs.Goings.{OpensWell, is_taken_of}
 use Rattle.pm_world.specs.Wired.{for_port}
 use Rattle.pm_world.proofs.HostLemmas.{DriversServe, HasPushed, HostOn, step_flushes, step_keeps, step_pushes}
-use Rattle.pm_world.proofs.OpeningLemmas.{IsUnheard, given_for}
+use Rattle.pm_world.proofs.DownLemmas.{given_for}
 use Rattle.pm_world.proofs.WireLemmas.{drop_front}
+
+-- the host took a FIS of port n
+abbrev pub is_taken_of : ℕ → Answer → Bool
+is_taken_of n (answer.Took port conn number bytes report) = port == n
+is_taken_of n a = false
+
+-- A tick does not stop the port and clears no fault of n; it may flush n.
+abbrev pub OpensWell : ℕ → Places → Answer → Type 0
+OpensWell n old answer.Ticked = IsCalmTick n old.host ⊎ IsFlushTick n old.host
+OpensWell n old a = Prim.Unit {0}
 
 -- ## Nothing fits before the signature
 
@@ -110,37 +118,3 @@ module _ (law : DriversServe) (n len : ℕ) (below : n < 15) (right : is_memory_
       record { host = step_flushes law n len below right turns old s new (Plugged ∷ []) h rule flush; given = refl }
   first_step turns old s a new h rule its untaken well =
       record { host = step_keeps law n len below right turns old s new (Plugged ∷ []) h a rule tt; given = refl }
-
-  pub record FirstRun (turns : List HostTurn) (old : Places) (steps : List Step) (answers : List Answer) (new : Places)
-      (run : Run old steps answers new) : Type 0 where
-    pub host : HostOn n len (turns ++ over turn_of old steps answers new run) new.host (Plugged ∷ [])
-    pub unheard : IsUnheard n old steps answers new run
-    pub risen : AllRisen new.multiplier new.upward.frames
-
-  pub first_run : (turns : List HostTurn) (old : Places) (steps : List Step) (answers : List Answer) (new : Places) (run : Run old steps answers new)
-      → AllRisen old.multiplier old.upward.frames → HostOn n len turns old.host (Plugged ∷ []) → list_any (is_taken_of n) answers ≡ false
-      → AtEach (OpensWell n) old steps answers new run → FirstRun turns old steps answers new run
-  first_run turns old [] [] new run risen h untaken well =
-      record {
-        host = subst (λ (ts : List HostTurn). HostOn n len ts new.host (Plugged ∷ [])) (sym (append-nil turns))
-            (subst (λ (w : Places). HostOn n len turns w.host (Plugged ∷ [])) (sym run) h);
-        unheard = record { taken = refl; given = refl };
-        risen = subst (λ (w : Places). AllRisen w.multiplier w.upward.frames) (sym run) risen;
-      }
-  first_run turns old [] (a ∷ answers) new run risen h untaken well = absurd run
-  first_run turns old (s ∷ steps) [] new run risen h untaken well = absurd run
-  first_run turns old (s ∷ steps) (a ∷ answers) new run risen h untaken well =
-      let u = or_parts (is_taken_of n a) (list_any (is_taken_of n) answers) untaken in
-      let c : ComesRisen a run.0 = comes_risen old s a run.0 risen run.1 in
-      let on : FirstOn turns old s a run.0 = first_step turns old s a run.0 h run.1 c.own_port u.0 well.0 in
-      let later : FirstRun (turns ++ turn_of old s a run.0) run.0 steps answers new run.2 =
-      first_run (turns ++ turn_of old s a run.0) run.0 steps answers new run.2 c.risen on.host u.1 well.1 in
-      record {
-        host = subst (λ (ts : List HostTurn). HostOn n len ts new.host (Plugged ∷ []))
-            (append_assoc turns (turn_of old s a run.0) (over turn_of run.0 steps answers new run.2)) later.host;
-        unheard = record {
-          taken = untaken;
-          given = ap (λ (xs : List (List ℕ)). xs ++ over (given_for n) run.0 steps answers new run.2) on.given ∙ later.unheard.given;
-        };
-        risen = later.risen;
-      }

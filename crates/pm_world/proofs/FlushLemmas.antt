@@ -25,6 +25,7 @@ use Rattle.hba_driver.specs.Laws.{flushes}
 use Rattle.hba_driver.specs.Steady.{IsFlushTick}
 use Rattle.hba_driver.specs.Ticks.{effects, effects_due}
 use Rattle.driver_ends.specs.Kept.{ServesOn}
+use Rattle.pm_world.specs.Runs.{AtEach}
 use Rattle.pm_world.specs.Cleared.{clears_x}
 use Rattle.pm_world.specs.Places.{Place, Places, is_config, new_world}
 use Rattle.pm_world.specs.Rules.{Rule, Run}
@@ -41,7 +42,6 @@ use Rattle.pm_world.proofs.LineLemmas.{one_order_at_a_time}
 use Rattle.pm_world.specs.Stale.{InOrder, IsInOrder, is_clear, is_from, unsent_after}
 use Rattle.pm_world.proofs.EachLemmas.{Nothing, none_of}
 use Rattle.pm_world.proofs.OrderTurns.{orders_in_order}
-use Rattle.pm_world.specs.Going.{AtEach}
 use Rattle.pm_world.specs.Touched.{AreTouched, goes}
 use Rattle.pm_world.specs.Wired.{IsAway, IsThere}
 use Rattle.pm_world.proofs.HostLemmas.{DriversServe, HostOn}
@@ -49,7 +49,7 @@ use Rattle.pm_world.proofs.RunLemmas.{IsPlugged}
 use Rattle.pm_world.proofs.TouchedLemmas.{touched_served, touched_sound}
 use Rattle.pm_world.proofs.WireLemmas.{and_false, if_false}
 use Rattle.pm_world.specs.Connections.{IsAhead, IsUnused}
-use Rattle.pm_world.specs.Later.{IsAtRest, PortsRest, RestsAtFlush}
+use Rattle.pm_world.specs.Resting.{IsAtRest, PortsRest, RestsAtFlush}
 use Rattle.pm_world.proofs.CutLemmas.{IsCut, IsHeld}
 use Rattle.pm_world.proofs.FirmLemmas.{opening_firm, removed_before, run_firm}
 use Rattle.pm_world.proofs.SentLemmas.{none_on_way}

@@ -17,12 +17,15 @@ use Rattle.hba_laws.specs.Client.{Touches}
 use Rattle.hba_laws.specs.Delivering.{touches_after}
 use Rattle.hba_driver.specs.declared.request.Request.{Request}
 use Rattle.hba_driver.specs.declared.request.Ticket.{Ticket}
-use Rattle.hba_driver.specs.Events.{events_over, opening_host, shared_by}
+use Rattle.hba_driver.specs.Events.{events_over, shared_by}
 use Rattle.hba_driver.specs.HostTurns.{DoesAll, Host, HostTurn, Polled, Pushed, Put, Submitted, Ticked, Took}
 use Rattle.hba_driver.specs.Steady.{IsCalmTick, IsFlushTick}
 use Rattle.disk_ends.specs.Heard.{IsTakenWell}
 use Rattle.disk_ends.specs.Joined.{IsShort}
 use Rattle.driver_ends.specs.Kept.{CalmTurnsKeep, FlushOpens, IsCalmTurn, IsServedHonestly, OpensHonestly, PushesKeep, ServesOn, TakesKeep, given_to}
+use Rattle.driver_ends.proofs.PushLemmas.{pushes_keep}
+use Rattle.driver_ends.proofs.TakeLemmas.{takes_keep}
+use Rattle.driver_ends.proofs.TurnLemmas.{calm_turns_keep, flush_opens, opens_honestly}
 use Rattle.pm_world.specs.Places.{Places, Queue}
 use Rattle.pm_world.specs.Rules.{CameRule, DiskSendRule, DiskTakeRule, GoneRule, InjectRule, PmDownRule, PmFromDeviceRule, PmPresenceRule, Rule}
 use Rattle.pm_world.specs.Turns.{turn_of}
@@ -32,7 +35,7 @@ use Rattle.pm_world.specs.declared.step.Answer.{Answer}
 use Rattle.pm_world.specs.declared.step.Answer.TheVariants as answer
 use Rattle.pm_world.proofs.HostFold.{rule_does}
 use Rattle.pm_world.proofs.Steps.{at_both, at_device}
-use Rattle.pm_world.specs.Touched.{AreTouched, goes, opens}
+use Rattle.pm_world.specs.Touched.{AreTouched, goes}
 use Rattle.pm_world.specs.Wired.{for_port}
 use Rattle.pm_world.proofs.FrameLemmas.{pushes_frame}
 use Rattle.pm_world.proofs.GivenLemmas.{HasGiven, host_gives}
@@ -48,6 +51,9 @@ pub record DriversServe : Type 0 where
   pub takes : TakesKeep
   pub pushes : PushesKeep
 
+pub drivers_serve : DriversServe
+drivers_serve = record { starts = opens_honestly; opens = flush_opens; calm = calm_turns_keep; takes = takes_keep; pushes = pushes_keep }
+
 -- it serves disk n honestly, after these turns, with these FISes of the disk since it was plugged in
 pub record HostOn (n len : ℕ) (turns : List HostTurn) (h : Host) (given : List Happening) : Type 0 where
   pub commands : ℕ → Command
@@ -56,14 +62,6 @@ pub record HostOn (n len : ℕ) (turns : List HostTurn) (h : Host) (given : List
   pub touched : AreTouched len turns h touches
 
 module _ (law : DriversServe) (n len : ℕ) (below : n < 15) (right : is_memory_size len ≡ true) where
-  pub host_opens : HostOn n len [] (opening_host 0 len) (Plugged ∷ [])
-  host_opens = record {
-    commands = λ s. record { write = false; tag = s; lba = 0; count = 1 };
-    touches = [];
-    serves = law.starts n 0 len (λ s. record { write = false; tag = s; lba = 0; count = 1 }) below right (λ s. refl);
-    touched = opens;
-  }
-
   module _ (turns : List HostTurn) (old : Host) (given : List Happening) (h : HostOn n len turns old given) where
     on_served : (t : HostTurn) (new : Host) (run : DoesAll old (t ∷ []) new) (later : List Happening) → ServesOn n old t new run later h.touches
         → HostOn n len (turns ++ t ∷ []) new later
@@ -100,37 +98,37 @@ module _ (law : DriversServe) (n len : ℕ) (below : n < 15) (right : is_memory_
 
 -- ## The turn of a step
 
-idle_turn : (old new : Places) (s : Step) → (turn_of old s answer.Idle new ≡ []) ⊎ (turn_of old s answer.Idle new ≡ Pushed None ∷ [])
+pub idle_turn : (old new : Places) (s : Step) → (turn_of old s answer.Idle new ≡ []) ⊎ (turn_of old s answer.Idle new ≡ Pushed None ∷ [])
 idle_turn old new step.HostPush = inr refl
 idle_turn old new (step.Submit dev request) = inl refl
 idle_turn old new (step.Put at bytes) = inl refl
 idle_turn old new _ = inl refl
 
-record IsSubmit (turns : List HostTurn) (ticket : ℕ) : Type 0 where
-  dev : ℕ
-  request : Request
-  is : turns ≡ Submitted dev request ticket ∷ []
+pub record IsSubmit (turns : List HostTurn) (ticket : ℕ) : Type 0 where
+  pub dev : ℕ
+  pub request : Request
+  pub is : turns ≡ Submitted dev request ticket ∷ []
 
-submitted_turn : (old new : Places) (s : Step) (ticket : Ticket) → (turn_of old s (answer.Submitted ticket) new ≡ [])
+pub submitted_turn : (old new : Places) (s : Step) (ticket : Ticket) → (turn_of old s (answer.Submitted ticket) new ≡ [])
     ⊎ IsSubmit (turn_of old s (answer.Submitted ticket) new) ticket.0
 submitted_turn old new step.HostPush ticket = inl refl
 submitted_turn old new (step.Submit dev request) ticket = inr (record { dev = dev; request = request; is = refl })
 submitted_turn old new (step.Put at bytes) ticket = inl refl
 submitted_turn old new _ ticket = inl refl
 
-record IsPut (turns : List HostTurn) : Type 0 where
-  at : ℕ
-  bytes : List ℕ
-  is : turns ≡ Put at bytes ∷ []
+pub record IsPut (turns : List HostTurn) : Type 0 where
+  pub at : ℕ
+  pub bytes : List ℕ
+  pub is : turns ≡ Put at bytes ∷ []
 
-put_turn : (old new : Places) (s : Step) → (turn_of old s answer.Put new ≡ []) ⊎ IsPut (turn_of old s answer.Put new)
+pub put_turn : (old new : Places) (s : Step) → (turn_of old s answer.Put new ≡ []) ⊎ IsPut (turn_of old s answer.Put new)
 put_turn old new step.HostPush = inl refl
 put_turn old new (step.Submit dev request) = inl refl
 put_turn old new (step.Put at bytes) = inr (record { at = at; bytes = bytes; is = refl })
 put_turn old new _ = inl refl
 
 -- what is pushed is what the link has more than before
-pushed_turn : (old new : Places) (s : Step) → Rule old s (Ok answer.Pushed) new
+pub pushed_turn : (old new : Places) (s : Step) → Rule old s (Ok answer.Pushed) new
     → turn_of old s answer.Pushed new ≡ map (λ frame. Pushed (Some frame)) (drop (length old.downward.frames) new.downward.frames)
 pushed_turn old new (step.Came m) rule = absurd (at_device old m answer.Pushed new (CameRule m) rule).rule.1
 pushed_turn old new (step.Gone m) rule = absurd (at_device old m answer.Pushed new (GoneRule m) rule).rule.1
@@ -174,15 +172,6 @@ module _ (law : DriversServe) (n len : ℕ) (below : n < 15) (right : is_memory_
   step_flushes rule flush =
       at_turn (turn_of old s answer.Ticked new) (Ticked true) (Plugged ∷ []) refl (rule_does old s answer.Ticked new rule)
       (λ run. on_flush law n len below right turns old.host given h new.host run flush)
-
-  pub step_takes : (port conn number : ℕ) (plain : List ℕ) (report : TakeReport)
-      → Rule old s (Ok (answer.Took port conn number (marked plain n) report)) new → IsFrame plain → port_of (marked plain n) ≡ n
-      → IsTakenWell (shared_by old.host) (marked plain n) report (shared_by new.host) → IsRight (ledger given) (seen plain) → IsShort (seen plain)
-      → HostOn n len (turns ++ turn_of old s (answer.Took port conn number (marked plain n) report) new) new.host (given ++ Sent plain ∷ [])
-  step_takes port conn number plain report rule framed at_port taken is_right short =
-      at_turn (turn_of old s (answer.Took port conn number (marked plain n) report) new) (Took (marked plain n) report) (given ++ Sent plain ∷ []) refl
-      (rule_does old s (answer.Took port conn number (marked plain n) report) new rule)
-      (λ run. on_take law n len below right turns old.host given h plain report new.host run framed at_port taken is_right short)
 
   -- what it gives is what the device gets of what comes on the host's link
   pub record HasPushed : Type 0 where

@@ -27,7 +27,7 @@ use Rattle.pm_world.proofs.Lists.{slice_get-set_other, slice_get-set_same}
 use Rattle.pm_world.proofs.Openings.{port_opening}
 use Rattle.pm_world.proofs.Orderly.{device_roomy, down_roomy, heard_roomy, known, opening_orderly, orderly_after, roomy, up_roomy}
 use Rattle.pm_world.proofs.Steps.{AtBoth, AtDevice, at_both, at_device}
-use Rattle.pm_world.specs.Wired.{AreBefore, IsBefore, IsSteady, IsUnremoved}
+use Rattle.pm_world.specs.Wired.{AreBefore, IsBefore, IsUnremoved}
 use Rattle.pm_world.specs.Wire.{StaysOn}
 
 -- where no removal is recorded the connection is not removed
@@ -278,13 +278,6 @@ stays_goes n c _ stays = tt
 pub stays_unremoved : (n c : ℕ) (old new : Places) (s : Step) (a : Answer) → IsOrderly old → Rule old s (Ok a) new → StaysOn n c a
     → IsUnremoved n c old → IsUnremoved n c new
 stays_unremoved n c old new s a orderly rule stays is = unremoved_after n c old new a is (stays_goes n c a stays) s orderly rule
-
--- a unit that is steady stays on its connection
-pub stays_on : (n c : ℕ) (a : Answer) → IsSteady n c a → StaysOn n c a
-stays_on n c (answer.Came port conn) steady = steady
-stays_on n c (answer.Gone port conn) steady = steady
-stays_on n c (answer.Sent port conn number bytes) steady = λ here. (steady here).0
-stays_on n c _ steady = tt
 
 -- ## Since the world was made
 

@@ -23,10 +23,9 @@ use Rattle.pm_world.proofs.GoingLemmas as ports_go_on_law
 use Rattle.pm_world.proofs.LineLemmas as one_order_law
 use Rattle.pm_world.proofs.KeepingLemmas as ports_keep_law
 use Rattle.pm_world.proofs.FollowLemmas as connections_follow_law
-use Rattle.pm_world.proofs.DisksLemmas as honest_disks_law
+use Rattle.pm_world.proofs.HonestRuns as honest_disks_law
 use Rattle.pm_world.proofs.PolledLemmas as honest_polls_law
 use Rattle.pm_world.proofs.OrderTurns as none_is_stale_law
-use Rattle.pm_world.proofs.LaterLemmas as later_disks_law
 
 pub obeys : (old : Places) (steps : List Step) (answers : List Answer) (new : Places) → IsOrderly old → AreLawful old steps answers new
 obeys old steps answers new orderly run = record {
@@ -50,10 +49,9 @@ obeys old steps answers new orderly run = record {
   one_order = one_order_law.one_order_at_a_time;
   ports_keep = ports_keep_law.ports_keep;
   connections_follow = connections_follow_law.connections_follow;
-  honest_disks = honest_disks_law.honest_disks;
+  honest_disks = honest_disks_law.disks_are_honest;
   honest_polls = honest_polls_law.honest_polls;
   none_is_stale = none_is_stale_law.none_is_stale;
-  later_disks = later_disks_law.later_disks_are_honest;
 }
 
 -- one step is a run

@@ -1,18 +1,17 @@
 -- A port that passed a FIS of its device stays open to it until that is unplugged; and meanwhile the host does not flush the device.
-use Rattle.std.proofs.Common.{◌≡◌, ◌≢◌, ◌==◌, ◌&&◌, ℕ, ◌+◌, ◌%◌, ◌<◌, min, Bool, true, false, not, List, [], ◌∷◌, ◌++◌, length, refl, sym, ap, subst, ◌∙◌, inl, inr, get_or, set, bit_and}
+use Rattle.std.proofs.Common.{◌≡◌, ◌≢◌, ◌==◌, ℕ, ◌+◌, ◌%◌, ◌<◌, min, Bool, true, false, List, [], ◌∷◌, ◌++◌, length, refl, sym, ap, subst, ◌∙◌, inl, inr, get_or, set, bit_and}
 use Rattle.std.proofs.Common.{Option, Some, None, Ok, arith}
 use Rattle.std.specs.Int.{bit_at}
-use Rattle.std.specs.Prelude.{◌⊎◌, if◌then◌else◌, is_none, nat_lt, slice_get, IsSomeAnd, MatchBool, MatchOption}
-use Rattle.std.proofs.lemmas.Bool.{and_parts, cases_eq, eqb-true, eq-eqb, true≢false}
+use Rattle.std.specs.Prelude.{◌⊎◌, if◌then◌else◌, is_none, slice_get, MatchBool, MatchOption}
+use Rattle.std.proofs.lemmas.Bool.{cases_eq, eqb-true, eq-eqb, true≢false}
 use Rattle.std.proofs.lemmas.Nat.Bits.{bit_at-lt, bit_at_and, bit_at_xor}
-use Rattle.std.proofs.lemmas.List.{append-nil}
 use Rattle.std.proofs.lemmas.Option.{same_Some}
 use Rattle.fis_view.specs.Frames.{Stamped}
 use Rattle.pm_registers.specs.Bits.{without}
 use Rattle.pm_registers.specs.declared.port.PortRegisters.{PortRegisters}
-use Rattle.pm_registers.specs.Port.{bit_x, controlled, det, inserted, is_open, opened, opening_port, passes, port_written, removed}
+use Rattle.pm_registers.specs.Port.{controlled, inserted, is_open, opened, opening_port, port_written, removed}
 use Rattle.pm_registers.specs.RegisterMap as map
-use Rattle.pm_registers.specs.RegisterMap.{RegisterMap, forwards}
+use Rattle.pm_registers.specs.RegisterMap.{RegisterMap}
 use Rattle.pm_control.specs.Answers.{registers_after_request}
 use Rattle.pm_control.specs.Requests.{request_in}
 use Rattle.pm_control.specs.declared.request.Request.{Request}
@@ -25,24 +24,24 @@ use Rattle.multiplier.specs.declared.multiplier.Passed.{Passed}
 use Rattle.multiplier.specs.declared.multiplier.Passed.TheVariants as passed
 use Rattle.multiplier.proofs.GiveLemmas.{Answer as Answers, FromPort, Gives, Notice, gives}
 use Rattle.pm_world.specs.Downward.{times}
-use Rattle.pm_world.specs.Later.{IsAtRest}
+use Rattle.pm_world.specs.Resting.{IsAtRest}
 use Rattle.pm_world.specs.Links.{changed_by, is_recorded, on_presence}
 use Rattle.pm_world.specs.Places.{IsOrderly, Place, Places, Queue}
 use Rattle.pm_world.specs.Rules.{CameRule, DiskSendRule, DiskTakeRule, GoneRule, InjectRule, OnDevice, Outcome, PmDownRule, PmFromDeviceRule, PmFromHostRule, PmPresenceRule, PmUpRule, Rule, recorded}
-use Rattle.pm_world.specs.Wired.{AreBefore, IsThere, IsUnremoved, unplugs}
+use Rattle.pm_world.specs.Wired.{AreBefore, IsUnremoved, unplugs}
 use Rattle.pm_world.specs.declared.link.Change.{Change}
 use Rattle.pm_world.specs.declared.link.Change.TheVariants as change
 use Rattle.pm_world.specs.declared.step.Step.{Step}
 use Rattle.pm_world.specs.declared.step.Step.TheVariants as step
 use Rattle.pm_world.specs.declared.step.Answer.{Answer}
 use Rattle.pm_world.specs.declared.step.Answer.TheVariants as answer
-use Rattle.pm_world.proofs.Cleared.{Shows, Told, set_keeps, write_keeps, x_unshared}
+use Rattle.pm_world.proofs.Cleared.{Told, set_keeps, write_keeps}
 use Rattle.pm_world.proofs.FirmLemmas.{IsFirm, seen_at}
 use Rattle.pm_world.proofs.FlushLemmas.{x_set}
 use Rattle.pm_world.proofs.KeptLemmas.{GoesBefore, unremoved_after}
 use Rattle.pm_world.proofs.OrderLemmas.{Knows, Only}
 use Rattle.pm_world.proofs.PortLemmas.{WritesChanges}
-use Rattle.pm_world.proofs.Recorded.{AreLetIn, IsLed, Known, Records, Stands, all, rule_records}
+use Rattle.pm_world.proofs.Recorded.{AreLetIn, Known, Records, all, rule_records}
 use Rattle.pm_world.proofs.RunLemmas.{going}
 use Rattle.pm_world.proofs.Steps.{at_both, at_device}
 
@@ -53,15 +52,6 @@ pub record IsOpenTo (p : PortRegisters) : Type 0 where
   pub opens : is_open p ≡ true
   pub there : p.present ≡ true
   pub clear : bit_at p.error 26 ≡ 0
-
--- so it is where FISes pass
-pub opens_to : (n : ℕ) (m : RegisterMap) → Shows n m → forwards m n ≡ true → IsOpenTo (map.port_at m n)
-opens_to n m shows is =
-    let p : PortRegisters = map.port_at m n in
-    let port = (and_parts (nat_lt n m.ports) (passes (map.port_at m n)) is).1 in
-    let last = and_parts (is_open p && det p.status == 3) (bit_and p.error bit_x == 0) port in
-    let truly = shows (eqb-true (det p.status) 3 (and_parts (is_open p) (det p.status == 3) last.0).1) in
-    record { opens = truly.0; there = truly.1; clear = x_unshared p.error (ap not last.1) }
 
 without_clear : (error value : ℕ) → bit_at error 26 ≡ 0 → bit_at (without error value) 26 ≡ 0
 without_clear error value none =
@@ -333,29 +323,3 @@ never_flushed n c old live rest =
     let set_is : bit_at (map.port_at old.multiplier.registers n).error 26 ≡ 1 = x_set _ (rest.waits live.opens.opens live.opens.there) in
     let none : bit_at (map.port_at old.multiplier.registers n).error 26 ≡ 0 = live.opens.clear in
     absurd (omega (arith, set_is, none))
-
--- ## The unit is there
-
-live_place : (n c : ℕ) (now : Places) (o : Option Place) → slice_get now.devices n ≡ o → IsFirm n now → IsLive n c now → IsSomeAnd o (λ place. Prim.Unit {0})
-    → MatchOption o ⊥ (λ place. (place.plugged ≡ true) × (place.conn ≡ c))
-live_place n c now None is firm live some = absurd some
-live_place n c now (Some place) is firm live some =
-    by_plugged place.plugged (sym (stands.0) ∙ ap (λ (cs : List Change). (all cs (seen_at n now)).0) none ∙ live.here)
-  where
-    led : IsLed (Some place) (seen_at n now)
-    led = subst (λ (o : Option Place). IsLed o (seen_at n now)) is firm.led
-
-    none : place.presence.changes ≡ []
-    none =
-        none_read c place.presence.changes [] place.presence.changes (seen_at n now) live.here led.let_in (append-nil place.presence.changes)
-        (subst (λ (o : Option Place). AreBefore c (on_presence o)) is live.kept.posted)
-
-    stands : Stands (Some place) (all place.presence.changes (seen_at n now))
-    stands = led.stands
-
-    by_plugged : (b : Bool) → (if b then Some place.conn else None) ≡ Some c → (b ≡ true) × (place.conn ≡ c)
-    by_plugged true e = (refl, same_Some place.conn c e)
-    by_plugged false e = absurd (cc)
-
-pub live_there : (n c : ℕ) (now : Places) → IsFirm n now → IsLive n c now → IsSomeAnd (slice_get now.devices n) (λ place. Prim.Unit {0}) → IsThere n c now
-live_there n c now firm live some = live_place n c now (slice_get now.devices n) refl firm live some

@@ -592,19 +592,6 @@ module _ (n : ℕ) (below : n < 15) where
       let both = order_step n below unsent old k s a run.0 run.1 in
       (both.0, in_order (unsent_after n unsent old s a run.0) run.0 steps answers new run.2 both.1)
 
--- what is known after a run
-pub record KnowsNow (n : ℕ) (now : Places) : Type 0 where
-  pub unsent : Bool
-  pub knows : Knows n unsent now
-
-module _ (n : ℕ) (below : n < 15) where
-  knows_on : (unsent : Bool) (old : Places) (steps : List Step) (answers : List Answer) (new : Places) → Run old steps answers new → Knows n unsent old → KnowsNow n new
-  knows_on unsent old [] [] new run k = record { unsent = unsent; knows = subst (Knows n unsent) (sym run) k }
-  knows_on unsent old [] (a ∷ answers) new run k = absurd run
-  knows_on unsent old (s ∷ steps) [] new run k = absurd run
-  knows_on unsent old (s ∷ steps) (a ∷ answers) new run k =
-      knows_on (unsent_after n unsent old s a run.0) run.0 steps answers new run.2 (order_step n below unsent old k s a run.0 run.1).1
-
 pub opening_knows : (config : Config) (units : List Unit) → is_config config (length units) ≡ true → (n : ℕ) → Knows n false (new_world config units)
 opening_knows config units right n = record {
   going = going_opens 0 config.memory (sized config (length units) right);
@@ -631,11 +618,6 @@ opening_knows config units right n = record {
 
     most : config.ports ≤ 15
     most = by_tests (nat_le 1 config.ports) (nat_le config.ports 15) (nat_le 1 config.capacity) (nat_le config.capacity 64) (nat_le 2097152 config.memory) (nat_le config.memory 16777216) (config.memory % 2 == 0) (length units == config.ports) refl right
-
-pub knows_after : (config : Config) (units : List Unit) → is_config config (length units) ≡ true → (n : ℕ) → n < 15 → (steps : List Step) (answers : List Answer) (now : Places)
-    → Run (new_world config units) steps answers now → KnowsNow n now
-knows_after config units right n below steps answers now run =
-    knows_on n below false (new_world config units) steps answers now run (opening_knows config units right n)
 
 -- the orders to clear a port are in order, over every run from a new world
 pub orders_in_order : (config : Config) (units : List Unit) → is_config config (length units) ≡ true → (steps : List Step) (answers : List Answer) (new : Places)

@@ -54,14 +54,12 @@ use Rattle.pm_world.proofs.HostFold.{does-append, run_does}
 use Rattle.pm_world.proofs.Risen.{AllRisen, opening_risen, run_rises}
 use Rattle.pm_world.specs.Disks.{DiskRun, IsNewDisk, TookHonestly, disk_history, host_turns}
 use Rattle.pm_world.specs.Ended.{EndsHonestly, ReadsSectors, StandsAt, WritesSectors}
-use Rattle.pm_world.specs.Later.{LaterRun, TookLaterHonestly, all_turns, whole_history}
 use Rattle.pm_world.specs.Polled.{EndedHonestly, HonestPolls, IsPolledHonestly, IsReportedIn, IsStepOf}
 use Rattle.pm_world.specs.Touched.{AreTouched}
 use Rattle.pm_world.proofs.CalmLemmas.{IsFreed}
 use Rattle.pm_world.proofs.ClientLemmas.{bytes_stay, came_next}
-use Rattle.pm_world.proofs.DisksLemmas.{honest_disks}
 use Rattle.pm_world.proofs.FirstLemmas.{ComesRisen, comes_risen}
-use Rattle.pm_world.proofs.LaterLemmas.{later_disks_are_honest}
+use Rattle.pm_world.proofs.HonestRuns.{disks_are_honest}
 use Rattle.pm_world.proofs.ReportedLemmas.{SubmittedIn, TookIn, is_take, renamed, stand_over, submitted_over, way_over}
 use Rattle.pm_world.proofs.TookLemmas.{host_takes}
 use Rattle.pm_world.proofs.TouchedLemmas.{touched_delivers, touched_sound}
@@ -365,27 +363,17 @@ module _ (config : Config) (units : List Unit) (fits : is_config config (length 
   -- ## Where its device is a disk
 
   module _ (sectors : ℕ) (plan : DiskPlan) (disk : IsNewDisk units submitted.dev plan sectors) (queued : is_queued submitted.request.work ≡ true) where
-    ended_honestly : (d : DiskRun config units submitted.dev told.took.at) → EndedHonestly config submitted.dev sectors c.slot c.ticket submitted.request
-        (disk_history config units submitted.dev told.took.at d) (host_turns config units submitted.dev told.took.at d) told.took.at now
-    ended_honestly d =
+    ended_honestly : (d : DiskRun config units submitted.dev told.took.at) → told.conn ≡ d.conn → EndedHonestly config submitted.dev sectors c.slot c.ticket
+        submitted.request (disk_history config units submitted.dev told.took.at d) (host_turns config units submitted.dev told.took.at d) told.took.at now
+    ended_honestly d same =
         let first : TookHonestly config units submitted.dev sectors told.took.at d told.report told.took.next =
-        honest_disks config units submitted.dev sectors plan fits below disk told.took.at d step.HostTake submitted.dev told.conn told.number told.bytes
-        told.report told.took.next took.rule (eq-eqb submitted.dev submitted.dev refl) in
+        disks_are_honest config units submitted.dev sectors plan fits below disk told.took.at d step.HostTake submitted.dev told.conn told.number told.bytes
+        told.report told.took.next took.rule (eq-eqb submitted.dev submitted.dev refl) same in
         stay_honest sectors (disk_history config units submitted.dev told.took.at d) (host_turns config units submitted.dev told.took.at d) first.touches
         first.touched (first.done c.slot (rephased Issued (new_entry c.ticket.0 submitted.dev submitted.request)) low at_report queued told.done)
 
-    -- and since it was plugged in
-    ended_later : (d : LaterRun config units submitted.dev told.took.at) → told.conn ≡ d.conn → EndedHonestly config submitted.dev sectors c.slot c.ticket submitted.request
-        (whole_history config units submitted.dev told.took.at d) (all_turns config units submitted.dev told.took.at d) told.took.at now
-    ended_later d same =
-        let later : TookLaterHonestly config units submitted.dev sectors told.took.at d told.report told.took.next =
-        later_disks_are_honest config units submitted.dev sectors plan fits below disk told.took.at d step.HostTake submitted.dev told.conn told.number
-        told.bytes told.report told.took.next took.rule (eq-eqb submitted.dev submitted.dev refl) same in
-        stay_honest sectors (whole_history config units submitted.dev told.took.at d) (all_turns config units submitted.dev told.took.at d) later.touches
-        later.touched (later.done c.slot (rephased Issued (new_entry c.ticket.0 submitted.dev submitted.request)) low at_report queued told.done)
-
   pub polled_honestly : IsPolledHonestly config units now steps answers run c
-  polled_honestly = record { reported = reported; honest = ended_honestly; later = ended_later }
+  polled_honestly = record { reported = reported; honest = ended_honestly }
 
 pub honest_polls : HonestPolls
 honest_polls config units fits steps answers now run c new rule done = polled_honestly config units fits steps answers now run c new rule done

@@ -1,19 +1,14 @@
 -- A disk and the host stay linked over each run of a world.
-use Rattle.std.proofs.Common.{◌≡◌, ◌≢◌, ◌==◌, eqb, ℕ, Bool, true, false, List, [], ◌∷◌, ◌++◌, append_assoc, refl, sym, ap, subst, ◌∙◌, inl, inr}
+use Rattle.std.proofs.Common.{◌≡◌, ◌≢◌, ◌==◌, eqb, ℕ, Bool, true, false, List, [], ◌∷◌, refl, sym, ap, subst, ◌∙◌, inl, inr}
 use Rattle.std.proofs.Common.{Option, Some, None, Ok}
 use Rattle.std.specs.Prelude.{if◌then◌else◌, slice_get, slice_set, MatchOption}
-use Rattle.std.specs.List.{list_any}
-use Rattle.std.proofs.lemmas.Bool.{cases_eq, eq-eqb, eqb-true, or_parts, true≢false}
-use Rattle.std.proofs.lemmas.List.{append-nil}
-use Rattle.fis_view.specs.Seen.{seen}
+use Rattle.std.proofs.lemmas.Bool.{cases_eq, eq-eqb, eqb-true, true≢false}
 use Rattle.multiplier.specs.State.{PmState}
-use Rattle.disk_model.specs.Ends.{begins, reports}
-use Rattle.disk_model.specs.Histories.{Happening, Plugged, Received, Sent}
+use Rattle.disk_model.specs.Histories.{Happening, Plugged, Sent}
 use Rattle.pm_world.specs.Units.{happens}
 use Rattle.pm_world.specs.Places.{Place, Places, with_device, with_multiplier}
 use Rattle.pm_world.specs.Rules.{CameActs, CameRule, DiskSendActs, DiskSendRule, DiskTakeRule, GoneActs, GoneRule, InjectActs}
 use Rattle.pm_world.specs.Rules.{InjectRule, PmDownRule, PmFromDeviceRule, PmPresenceRule, Rule, came_refusal, largest}
-use Rattle.pm_world.specs.Runs.{over}
 use Rattle.pm_world.specs.declared.step.Step.{Step}
 use Rattle.pm_world.specs.declared.step.Step.TheVariants as step
 use Rattle.pm_world.specs.declared.step.StepError.TheVariants as error
@@ -21,15 +16,13 @@ use Rattle.pm_world.specs.declared.step.Answer.{Answer}
 use Rattle.pm_world.specs.declared.step.Answer.TheVariants as answer
 use Rattle.pm_world.proofs.FallMoves.{rule_moves_down}
 use Rattle.pm_world.proofs.Lists.{slice_get-set_other, slice_get-set_same}
-use Rattle.pm_world.proofs.Orderly.{orderly_after}
 use Rattle.pm_world.proofs.Steps.{AtBoth, AtDevice, at_both, at_device}
-use Rattle.pm_world.specs.Wired.{AreAmong, AreFine, GoesOn, IsSteady, IsThere, IsAway, IsUnremoved, IsWired, PluggedIsLinked, RunsStayLinked}
-use Rattle.pm_world.specs.Wired.{StaysWired, befalls, descending, injects, unplugs}
-use Rattle.pm_world.specs.Wire.{GoesOnWire, IsOnWire, PluggedIsOnWire, StaysOn, UnitWiresGoOn}
+use Rattle.pm_world.specs.Wired.{AreAmong, IsThere, IsAway, IsUnremoved}
+use Rattle.pm_world.specs.Wired.{befalls, descending, injects, unplugs}
+use Rattle.pm_world.specs.Wire.{GoesOnWire, PluggedIsOnWire, StaysOn, UnitWiresGoOn}
 use Rattle.pm_world.proofs.KeptLemmas.{came_unremoved, unremoved}
 use Rattle.pm_world.proofs.PlaceLemmas.{KeepsPlace, keeps_down, keeps_from_device, keeps_inject, keeps_presence, keeps_send, keeps_take}
 use Rattle.pm_world.proofs.WireLemmas.{away_after, none_on, rests_below, wires_go_on}
-use Rattle.pm_world.proofs.WiredLemmas.{disks_stay_linked, wired_by}
 
 -- ## The unit stays there
 
@@ -302,68 +295,6 @@ unit_wires_go_on n c old new s a down up device orderly rule there stays clean w
     let g : GoesOnWire n c old a new (befalls n old a) down up = wires_go_on n c old new s a down up device orderly rule t.stays w in
     (there_after n c old a new there s stays rule, subst (λ (xs : List Happening). GoesOnWire n c old a new xs down up) t.same g)
 
--- and where the unit reports no error it is steady
-pub record IsKnown (n c : ℕ) (old : Places) (s : Step) (a : Answer) (new : Places) : Type 0 where
-  pub same : befalls n old a ≡ happens n old s a new
-  pub steady : IsSteady n c a
-
-fine_one : (bytes : List ℕ) (events : List Happening) → events ≡ Sent bytes ∷ [] → AreFine events → reports (seen bytes) ≡ false
-fine_one bytes events is fine = let all : AreFine (Sent bytes ∷ []) = subst AreFine is fine in all.0
-
-steady_of : (n c : ℕ) (old : Places) (a : Answer) → StaysOn n c a → AreFine (befalls n old a) → IsSteady n c a
-steady_of n c old (answer.Came port conn) stays fine = stays
-steady_of n c old (answer.Gone port conn) stays fine = stays
-steady_of n c old (answer.Sent port conn number bytes) stays fine =
-    λ here. (stays here, fine_one bytes (befalls n old (answer.Sent port conn number bytes)) (if_some (port == n) (Sent bytes ∷ []) here) fine)
-steady_of n c old _ stays fine = tt
-
-pub known : (n c : ℕ) (old : Places) (s : Step) (a : Answer) (new : Places) → IsThere n c old → unplugs n s ≡ false → injects n s ≡ false
-    → Rule old s (Ok a) new → AreFine (happens n old s a new) → IsKnown n c old s a new
-known n c old s a new there stays clean rule fine =
-    let t : TellsOf n c old s a new = tells_of n c old s a new there stays clean rule in
-    record { same = t.same; steady = steady_of n c old a t.stays (subst AreFine (sym t.same) fine) }
-
--- ## A run
-
-pub fine_front : (xs ys : List Happening) → AreFine (xs ++ ys) → AreFine xs × AreFine ys
-fine_front [] ys fine = (tt, fine)
-fine_front (Sent bytes ∷ xs) ys fine = let rest = fine_front xs ys fine.1 in ((fine.0, rest.0), rest.1)
-fine_front (Received bytes ∷ xs) ys fine = fine_front xs ys fine
-fine_front (Plugged ∷ xs) ys fine = fine_front xs ys fine
-
-pub runs_stay_linked : RunsStayLinked
-runs_stay_linked n c old [] [] new run disk given device orderly there stays clean fine w = record {
-  heard = [];
-  is = refl;
-  there = subst (λ (p : Places). IsThere n c p) (sym run) there;
-  wired = subst (λ (p : Places). IsWired n c p (disk ++ []) (given ++ [])) (sym run)
-      (subst (λ (xs : List Happening). IsWired n c old (disk ++ []) xs) (sym (append-nil given))
-      (subst (λ (xs : List Happening). IsWired n c old xs given) (sym (append-nil disk)) w));
-}
-runs_stay_linked n c old (s ∷ steps) (a ∷ answers) new run disk given device orderly there stays clean fine w =
-    let unplugged = or_parts (unplugs n s) (list_any (unplugs n) steps) stays in
-    let parts = or_parts (injects n s) (list_any (injects n) steps) clean in
-    let both = fine_front (happens n old s a run.0) (over (happens n) run.0 steps answers new run.2) fine in
-    let k : IsKnown n c old s a run.0 = known n c old s a run.0 there unplugged.0 parts.0 run.1 both.0 in
-    let g : GoesOn n c old a run.0 disk given = disks_stay_linked n c old run.0 s a disk given device orderly run.1 k.steady w in
-    let mid : IsWired n c run.0 (disk ++ happens n old s a run.0) (given ++ g.heard) =
-    subst (λ (xs : List Happening). IsWired n c run.0 (disk ++ xs) (given ++ g.heard)) k.same g.wired in
-    let rest : StaysWired n c run.0 steps answers new run.2 (disk ++ happens n old s a run.0) (given ++ g.heard) =
-    runs_stay_linked n c run.0 steps answers new run.2 (disk ++ happens n old s a run.0) (given ++ g.heard) device
-    (orderly_after old s a run.0 orderly run.1) (there_after n c old a run.0 there s unplugged.0 run.1) unplugged.1 parts.1 both.1 mid in
-    record {
-      heard = g.heard ++ rest.heard;
-      is = (g.heard, rest.heard, refl, g.is, rest.is);
-      there = rest.there;
-      wired =
-          subst (λ (xs : List Happening). IsWired n c new (disk ++ (happens n old s a run.0 ++ over (happens n) run.0 steps answers new run.2)) xs)
-          (append_assoc given g.heard rest.heard)
-          (subst (λ (xs : List Happening). IsWired n c new xs ((given ++ g.heard) ++ rest.heard))
-          (append_assoc disk (happens n old s a run.0) (over (happens n) run.0 steps answers new run.2)) rest.wired);
-    }
-runs_stay_linked n c old [] (a ∷ answers) new run disk given device orderly there stays clean fine w = absurd run
-runs_stay_linked n c old (s ∷ steps) [] new run disk given device orderly there stays clean fine w = absurd run
-
 -- ## The plugging
 
 pub plugged_is_on_wire : PluggedIsOnWire
@@ -388,9 +319,3 @@ plugged_is_on_wire n c old new device orderly rule empty below config units fits
             (λ (xs : List (List ℕ)). AreAmong xs []) (sym (none_on n c new low)) tt;
       },
     )
-
-pub plugged_is_linked : PluggedIsLinked
-plugged_is_linked n c old new device orderly rule empty below config units fits before told made =
-    let both : IsThere n c new × IsOnWire n c new [] [] =
-    plugged_is_on_wire n c old new device orderly rule empty below config units fits before told made in
-    (both.0, wired_by n c new (Plugged ∷ []) (Plugged ∷ []) [] [] begins both.1)

@@ -196,12 +196,12 @@ none_on n c now e =
     ap (λ (xs : List (List ℕ)). xs ++ flat_map (for_port n) now.downward.frames) (no_falls c (falling_to n now) both.0) ∙ both.1
 
 -- what falls on a connection, of two lists and of one frame
-falls_both : (c : ℕ) (xs ys : List Stamped) → falls_on c (xs ++ ys) ≡ falls_on c xs ++ falls_on c ys
+pub falls_both : (c : ℕ) (xs ys : List Stamped) → falls_on c (xs ++ ys) ≡ falls_on c xs ++ falls_on c ys
 falls_both c xs ys =
     ap (λ (l : List Stamped). map (λ g. g.bytes) l) (filter-append (λ (g : Stamped). g.stamp.conn == c) xs ys)
     ∙ map-append (λ (g : Stamped). g.bytes) (of_connection c xs) (of_connection c ys)
 
-falls_first : (c : ℕ) (f : Stamped) (xs : List Stamped) → (f.stamp.conn == c) ≡ true → falls_on c (f ∷ xs) ≡ f.bytes ∷ falls_on c xs
+pub falls_first : (c : ℕ) (f : Stamped) (xs : List Stamped) → (f.stamp.conn == c) ≡ true → falls_on c (f ∷ xs) ≡ f.bytes ∷ falls_on c xs
 falls_first c f xs is = by_test (f.stamp.conn == c) is
   where
     by_test : (b : Bool) → b ≡ true → map (λ (g : Stamped). g.bytes) (if b then f ∷ of_connection c xs else of_connection c xs) ≡ f.bytes ∷ falls_on c xs
@@ -215,7 +215,7 @@ falls_other c f xs is = by_test (f.stamp.conn == c) is
     by_test true e = cc e
     by_test false e = refl
 
-flat_more : (n : ℕ) (xs : List Stamped) (f : Stamped) → flat_map (for_port n) (xs ++ f ∷ []) ≡ flat_map (for_port n) xs ++ for_port n f
+pub flat_more : (n : ℕ) (xs : List Stamped) (f : Stamped) → flat_map (for_port n) (xs ++ f ∷ []) ≡ flat_map (for_port n) xs ++ for_port n f
 flat_more n [] f = append-nil (for_port n f)
 flat_more n (x ∷ xs) f =
     ap (λ (ys : List (List ℕ)). for_port n x ++ ys) (flat_more n xs f) ∙ sym (append_assoc (for_port n x) (flat_map (for_port n) xs) (for_port n f))

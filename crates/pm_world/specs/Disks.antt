@@ -1,15 +1,17 @@
 -- Honest disks, over whole runs of a world: what a read that is done brought, and what a write that
--- is done left on the medium, where the unit at a port is a disk and nothing was injected there
--- (ACS-3, READ FPDMA QUEUED and WRITE FPDMA QUEUED; Serial ATA 3.x, 13.6, native command queuing;
--- AHCI 1.3.1, 5.3).
+-- is done left on the medium, since the disk was plugged in, for the first time or again (ACS-3, READ
+-- FPDMA QUEUED and WRITE FPDMA QUEUED; Serial ATA 3.x, 13.6, native command queuing, and 16.3, port
+-- multiplier: presence of a device on a port; AHCI 1.3.1, 5.3, 6.2.2, error recovery, and chapter 9).
+--
+-- Of errors that the disk reports, and of faults that the host finds in what it sends, nothing is
+-- asked; nor of the driver, of the port and of the other devices.
 --
 -- Cited: runs and what is told over them (specs/Rules.antt, Runs.antt), the history of
 -- a unit (`happens`, specs/Units.antt) and the turns of the host (specs/Turns.antt);
--- that a unit reports no error (AreFine, specs/Wired.antt); runs in which
--- nothing goes wrong (specs/Going.antt), touches (specs/Touched.antt), and requests that ended
--- honestly (specs/Ended.antt).
-use Rattle.std.specs.Prelude.{ℕ, ◌≡◌, ◌<◌, ◌==◌, true, List, [], length}
+-- touches (specs/Touched.antt), and requests that ended honestly (specs/Ended.antt).
+use Rattle.std.specs.Prelude.{ℕ, ◌≡◌, ◌<◌, ◌==◌, ◌++◌, true, false, List, [], ◌∷◌, length}
 use Rattle.std.specs.Prelude.{slice_get, Some, Ok}
+use Rattle.std.specs.List.{list_any}
 use Rattle.slots.specs.Slots.{has_bit}
 use Rattle.hba_fbs.specs.declared.report.TakeReport.{TakeReport}
 use Rattle.disk_model.specs.declared.plan.DiskPlan.{DiskPlan}
@@ -24,6 +26,7 @@ use Rattle.hba_laws.specs.History.{filled}
 use Rattle.hba_driver.specs.Drivers.{Entry, entry_at}
 use Rattle.hba_driver.specs.HostTurns.{HostTurn}
 use Rattle.hba_driver.specs.Orders.{is_queued}
+use Rattle.pm_world.specs.Wired.{injects, unplugs}
 use Rattle.pm_world.specs.Units.{happens}
 use Rattle.pm_world.specs.Places.{Places, is_config, new_world}
 use Rattle.pm_world.specs.Rules.{Rule, Run}
@@ -31,12 +34,11 @@ use Rattle.pm_world.specs.Runs.{over}
 use Rattle.pm_world.specs.Turns.{turn_of}
 use Rattle.pm_world.specs.declared.step.Config.{Config}
 use Rattle.pm_world.specs.declared.step.Step.{Step}
+use Rattle.pm_world.specs.declared.step.Step.TheVariants as step
 use Rattle.pm_world.specs.declared.step.Answer.{Answer}
 use Rattle.pm_world.specs.declared.step.Answer.TheVariants as answer
 use Rattle.pm_world.specs.Ended.{EndsHonestly}
-use Rattle.pm_world.specs.Going.{AtEach, HearsFine, IsLeftAlone}
 use Rattle.pm_world.specs.Touched.{AreTouched}
-use Rattle.pm_world.specs.Wired.{AreFine}
 
 -- ---- the disk and its run
 
@@ -49,31 +51,40 @@ pub record IsNewDisk (units : List Unit) (n : ℕ) (plan : DiskPlan) (sectors : 
   pub sectors_are : disk.sectors ≡ sectors
   pub size : IsSize plan sectors
 
--- A world came here from a new one. The disk at port n was left alone and reported no error; and the
--- host heard all that it took of it with nothing wrong. Of the driver, of the port and of the other
--- devices nothing is asked.
+-- nothing is injected at port n, and the unit there is not unplugged
+pub record IsLeftAlone (n : ℕ) (steps : List Step) : Type 0 where
+  pub clean : list_any (injects n) steps ≡ false
+  pub stays : list_any (unplugs n) steps ≡ false
+
+-- A world came from a new one by any run; then the disk at port n was plugged in, as connection
+-- conn, and was left alone from there on.
 pub record DiskRun (config : Config) (units : List Unit) (n : ℕ) (now : Places) : Type 0 where
+  pub first : List Step
+  pub told : List Answer
+  pub out : Places
+  pub made : Run (new_world config units) first told out
+  pub conn : ℕ
   pub steps : List Step
   pub answers : List Answer
-  pub run : Run (new_world config units) steps answers now
+  pub run : Run out (step.Came n ∷ steps) (answer.Came n conn ∷ answers) now
   pub left : IsLeftAlone n steps
-  pub well : AtEach (HearsFine n) (new_world config units) steps answers now run
-  pub fine : AreFine (over (happens n) (new_world config units) steps answers now run)
 
 module _ (config : Config) (units : List Unit) (n : ℕ) (now : Places)
     (d : DiskRun config units n now) where
-  -- what happened to the disk since the world was made
+  -- what happened to the disk since the world was made, on all its connections
   abbrev pub disk_history : List Happening
-  disk_history = over (happens n) (new_world config units) d.steps d.answers now d.run
+  disk_history = over (happens n) (new_world config units) d.first d.told d.out d.made
+      ++ over (happens n) d.out (step.Came n ∷ d.steps) (answer.Came n d.conn ∷ d.answers) now d.run
 
   -- the turns of the host since then
   abbrev pub host_turns : List HostTurn
-  host_turns = over turn_of (new_world config units) d.steps d.answers now d.run
+  host_turns = over turn_of (new_world config units) d.first d.told d.out d.made
+      ++ over turn_of d.out (step.Came n ∷ d.steps) (answer.Came n d.conn ∷ d.answers) now d.run
 
 -- ---- the law
 
 -- What was touched at the host since its opening; and each queued request that the report says is
--- done ended honestly.
+-- done ended honestly, by all that happened to the disk since the world was made.
 pub record TookHonestly (config : Config) (units : List Unit) (n sectors : ℕ) (now : Places)
     (d : DiskRun config units n now) (report : TakeReport) (new : Places) : Type 0 where
   pub touches : Touches
@@ -83,7 +94,7 @@ pub record TookHonestly (config : Config) (units : List Unit) (n sectors : ℕ) 
       → EndsHonestly sectors s e (disk_history config units n now d) (filled s (own n touches))
       new.host.memory
 
--- At each FIS that the host takes of the disk, whatever the other devices do.
+-- At each FIS of this connection that the host takes, whatever the disk and the other devices do.
 abbrev pub HonestDisks : Type 0
 HonestDisks =
     (config : Config) (units : List Unit) (n sectors : ℕ) (plan : DiskPlan)
@@ -91,4 +102,4 @@ HonestDisks =
     → (now : Places) (d : DiskRun config units n now)
     → (s : Step) (port conn number : ℕ) (bytes : List ℕ) (report : TakeReport) (new : Places)
     → Rule now s (Ok (answer.Took port conn number bytes report)) new → (port == n) ≡ true
-    → TookHonestly config units n sectors now d report new
+    → conn ≡ d.conn → TookHonestly config units n sectors now d report new

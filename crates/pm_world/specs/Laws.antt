@@ -28,7 +28,6 @@ use Rattle.pm_world.specs.Connections.{ConnectionsFollow}
 use Rattle.pm_world.specs.Disks.{HonestDisks}
 use Rattle.pm_world.specs.Polled.{HonestPolls}
 use Rattle.pm_world.specs.Stale.{NoneIsStale}
-use Rattle.pm_world.specs.Later.{LaterDisksAreHonest}
 
 -- ---- what was taken
 
@@ -78,7 +77,6 @@ pub record ObeysLaws (old : Places) (steps : List Step) (answers : List Answer)
   pub honest_disks : HonestDisks
   pub honest_polls : HonestPolls
   pub none_is_stale : NoneIsStale
-  pub later_disks : LaterDisksAreHonest
 
 -- They hold of each run of these steps with these answers.
 abbrev pub AreLawful : (old : Places) → (steps : List Step) → (answers : List Answer)

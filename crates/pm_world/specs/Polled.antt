@@ -4,9 +4,9 @@
 -- Region Descriptor Table, and 5.3, data transfer).
 --
 -- Cited: runs of a world and what is told over them (specs/Rules.antt, Runs.antt); a
--- disk and its run (specs/Disks.antt), its run where it was plugged in again (specs/Later.antt),
--- touches (specs/Touched.antt), and requests that ended honestly (specs/Ended.antt). That the slot
--- of a request is completed by its device is DoneIsTrue of `hba_driver` (specs/Done.antt).
+-- disk and its run (specs/Disks.antt), touches (specs/Touched.antt), and requests that ended
+-- honestly (specs/Ended.antt). That the slot of a request is completed by its device is DoneIsTrue
+-- of `hba_driver` (specs/Done.antt).
 use Rattle.std.specs.Prelude.{ℕ, ◌≡◌, true, List, [], ◌∷◌, ◌++◌, length, Some, Ok}
 use Rattle.slots.specs.Slots.{has_bit}
 use Rattle.hba_fbs.specs.declared.report.TakeReport.{TakeReport}
@@ -35,7 +35,6 @@ use Rattle.pm_world.specs.declared.step.Answer.{Answer}
 use Rattle.pm_world.specs.declared.step.Answer.TheVariants as answer
 use Rattle.pm_world.specs.Disks.{DiskRun, IsNewDisk, disk_history, host_turns}
 use Rattle.pm_world.specs.Ended.{EndsHonestly}
-use Rattle.pm_world.specs.Later.{LaterRun, all_turns, whole_history}
 use Rattle.pm_world.specs.Touched.{AreTouched}
 
 -- ---- steps of a run
@@ -99,10 +98,10 @@ pub record EndedHonestly (config : Config) (n sectors slot : ℕ) (ticket : Tick
       (filled slot (own n touches)) now.host.memory
 
 -- A request that is polled as Done was reported; and where it is queued, its device is a disk, and
--- nothing went wrong with the disk up to the report, it ended honestly. So it did where nothing went
--- wrong with the disk since it was plugged in as the connection of that FIS, for the first time or
--- again. What the disk does after the report, up to the poll, does not matter, and what other devices
--- do never does.
+-- the disk was left alone from the step that plugged it in as the connection of that FIS up to the
+-- report, it ended honestly, whatever errors the disk reported and whatever faults the host found.
+-- What the disk does after the report, up to the poll, does not matter, and what other devices do
+-- never does.
 pub record IsPolledHonestly (config : Config) (units : List Unit) (now : Places) (steps : List Step)
     (answers : List Answer) (run : Run (new_world config units) steps answers now)
     (completion : Completion) : Type 0 where
@@ -110,16 +109,10 @@ pub record IsPolledHonestly (config : Config) (units : List Unit) (now : Places)
       answers run
   pub honest : (sectors : ℕ) (plan : DiskPlan) → IsNewDisk units reported.dev plan sectors
       → is_queued reported.request.work ≡ true
-      → (d : DiskRun config units reported.dev reported.took.at)
+      → (d : DiskRun config units reported.dev reported.took.at) → reported.conn ≡ d.conn
       → EndedHonestly config reported.dev sectors completion.slot completion.ticket
       reported.request (disk_history config units reported.dev reported.took.at d)
       (host_turns config units reported.dev reported.took.at d) reported.took.at now
-  pub later : (sectors : ℕ) (plan : DiskPlan) → IsNewDisk units reported.dev plan sectors
-      → is_queued reported.request.work ≡ true
-      → (d : LaterRun config units reported.dev reported.took.at) → reported.conn ≡ d.conn
-      → EndedHonestly config reported.dev sectors completion.slot completion.ticket
-      reported.request (whole_history config units reported.dev reported.took.at d)
-      (all_turns config units reported.dev reported.took.at d) reported.took.at now
 
 -- So it is with each poll that answers Done, after every run from a new world.
 abbrev pub HonestPolls : Type 0

@@ -19,6 +19,14 @@ over tell old (s ∷ steps) [] new run = []
 over tell old (s ∷ steps) (a ∷ answers) new run =
     tell old s a run.0 ++ over tell run.0 steps answers new run.2
 
+-- it holds at each step of a run, of the world before it and its answer
+abbrev pub AtEach : (Places → Answer → Type 0) → (old : Places) → (steps : List Step)
+    → (answers : List Answer) → (new : Places) → Run old steps answers new → Type 0
+AtEach Holds old [] answers new run = Prim.Unit {0}
+AtEach Holds old (s ∷ steps) [] new run = Prim.Unit {0}
+AtEach Holds old (s ∷ steps) (a ∷ answers) new run =
+    Holds old a × AtEach Holds run.0 steps answers new run.2
+
 -- what holds whichever run from a new world leads to here
 abbrev pub AfterEveryRun : (now : Places)
     → ((config : Config) → (units : List Unit) → (before : List Step) → (told : List Answer)

@@ -1,24 +1,18 @@
 -- The two ends of a disk's link in a world: what a disk and the host did at their ends, and what is
 -- on its way between them, over the multiplier and its links (Serial ATA 3.x, 16.3, port
 -- multiplier: frame transmission, PM Port).
-use Rattle.std.specs.Prelude.{ℕ, ◌≡◌, ◌≢◌, ◌<◌, ◌==◌, ◌⊎◌, if◌then◌else◌, Bool, true, false, List}
+use Rattle.std.specs.Prelude.{ℕ, ◌≡◌, ◌<◌, ◌==◌, ◌⊎◌, if◌then◌else◌, Bool, true, false, List}
 use Rattle.std.specs.Prelude.{[]}
 use Rattle.std.specs.Prelude.{◌∷◌}
-use Rattle.std.specs.Prelude.{◌++◌, drop, length, map, take, MatchBool, MatchOption, Ok, slice_get}
-use Rattle.std.specs.List.{flat_map, list_any}
+use Rattle.std.specs.Prelude.{◌++◌, drop, length, map, take, MatchBool, MatchOption, slice_get}
+use Rattle.std.specs.List.{flat_map}
 use Rattle.fis_view.specs.Frames.{Stamped, marked}
-use Rattle.fis_view.specs.Seen.{seen}
-use Rattle.multiplier.specs.Arbiter.{control_port}
 use Rattle.multiplier.specs.State.{pm_port, port_at}
-use Rattle.disk_model.specs.Ends.{IsLinked, reports}
 use Rattle.disk_model.specs.Histories.{Happening, Plugged, Received, Sent}
 use Rattle.pm_world.specs.Downward.{falling_to, of_connection, on_down_link}
-use Rattle.pm_world.specs.Places.{IsOrderly, Places}
-use Rattle.pm_world.specs.Units.{happens}
-use Rattle.pm_world.specs.Rules.{Rule, Run}
-use Rattle.pm_world.specs.Runs.{AfterEveryRun, over}
+use Rattle.pm_world.specs.Places.{Places}
 use Rattle.pm_world.specs.Links.{on_presence}
-use Rattle.pm_world.specs.Traffic.{all_marked, is_removed, on_host_link, transit}
+use Rattle.pm_world.specs.Traffic.{is_removed, on_host_link, transit}
 use Rattle.pm_world.specs.declared.link.Change.{Change}
 use Rattle.pm_world.specs.declared.link.Change.TheVariants as change
 use Rattle.pm_world.specs.declared.step.Step.{Step}
@@ -95,64 +89,19 @@ abbrev pub IsAway : (n c : ℕ) → Places → Type 0
 IsAway n c now =
     (on_host_link n c now ≡ []) × (is_removed n c now ≡ false → transit n c now ≡ [])
 
--- ---- the law
+-- ---- the unit
 
 -- where a unit is plugged in at port n, it is as connection c
 abbrev pub IsOnly : (n c : ℕ) → Places → Type 0
 IsOnly n c now = MatchOption (slice_get now.devices n) (Unit {0})
     (λ place. place.plugged ≡ true → place.conn ≡ c)
 
--- The unit at port n was plugged in as connection c, and was not unplugged since. The first list
--- happened to it since, the second at the host's end of its link, and what is between them is on
--- its way; what the multiplier or the device dropped never comes.
-pub record IsWired (n c : ℕ) (now : Places) (disk given : List Happening) : Type 0 where
-  pub down : List (List ℕ)
-  pub up : List (List ℕ)
-  pub linked : IsLinked disk given down up
-  pub above : transit n c now ≡ all_marked n up
-  pub alone : (d : ℕ) → d ≢ c → IsAway n d now
-  pub kept : IsUnremoved n c now
-  pub only : IsOnly n c now
-  pub below : AreAmong (descending_on n c now) down
-
--- The unit at port n is neither unplugged nor plugged in anew, and what it sends is on connection c
--- and reports no error.
-abbrev pub IsSteady : (n c : ℕ) → Answer → Type 0
-IsSteady n c (answer.Came port conn) = (port == n) ≡ false
-IsSteady n c (answer.Gone port conn) = (port == n) ≡ false
-IsSteady n c (answer.Sent port conn number bytes) =
-    (port == n) ≡ true → (conn ≡ c) × (reports (seen bytes) ≡ false)
-IsSteady n c a = Unit {0}
-
--- these bytes are the next to come to the host
-pub record IsNext (plain : List ℕ) (disk given : List Happening) : Type 0 where
-  pub down : List (List ℕ)
-  pub up : List (List ℕ)
-  pub linked : IsLinked disk given down (plain ∷ up)
-
--- what a step leaves of it
-pub record GoesOn (n c : ℕ) (old : Places) (a : Answer) (new : Places)
-    (disk given : List Happening) : Type 0 where
-  pub heard : List Happening
-  pub is : IsAtHost n old a new heard
-  pub next : (plain : List ℕ) → heard ≡ Sent plain ∷ [] → IsNext plain disk given
-  pub wired : IsWired n c new (disk ++ befalls n old a) (given ++ heard)
-
--- so it is with each step
-abbrev pub DisksStayLinked : Type 0
-DisksStayLinked =
-    (n c : ℕ) (old new : Places) (s : Step) (a : Answer) (disk given : List Happening)
-    → n ≢ control_port → IsOrderly old → Rule old s (Ok a) new → IsSteady n c a
-    → IsWired n c old disk given → GoesOn n c old a new disk given
-
--- ---- over a run
-
--- no step injects at port n
+-- the step injects at port n
 abbrev pub injects : ℕ → Step → Bool
 injects n (step.Inject m bytes) = m == n
 injects n s = false
 
--- no step unplugs the unit at port n
+-- the step unplugs the unit at port n
 abbrev pub unplugs : ℕ → Step → Bool
 unplugs n (step.Gone m) = m == n
 unplugs n s = false
@@ -161,50 +110,3 @@ unplugs n s = false
 abbrev pub IsThere : (n c : ℕ) → Places → Type 0
 IsThere n c now = MatchOption (slice_get now.devices n) ⊥
     (λ place. (place.plugged ≡ true) × (place.conn ≡ c))
-
--- none of these reports an error
-abbrev pub AreFine : List Happening → Type 0
-AreFine [] = Unit {0}
-AreFine (Sent bytes ∷ later) = (reports (seen bytes) ≡ false) × AreFine later
-AreFine (Received bytes ∷ later) = AreFine later
-AreFine (Plugged ∷ later) = AreFine later
-
--- what the host's end heard and gave in a run
-abbrev pub IsAtHostOver : ℕ → (old : Places) → (steps : List Step) → (answers : List Answer)
-    → (new : Places) → Run old steps answers new → List Happening → Type 0
-IsAtHostOver n old [] answers new run heard = heard ≡ []
-IsAtHostOver n old (s ∷ steps) [] new run heard = heard ≡ []
-IsAtHostOver n old (s ∷ steps) (a ∷ answers) new run heard =
-    (first : List Happening) × (later : List Happening) × (heard ≡ first ++ later)
-    × IsAtHost n old a run.0 first × IsAtHostOver n run.0 steps answers new run.2 later
-
--- The two ends are linked after a run as before it, with what happened to the unit in it, and what
--- the host's end heard and gave in it.
-pub record StaysWired (n c : ℕ) (old : Places) (steps : List Step) (answers : List Answer)
-    (new : Places) (run : Run old steps answers new) (disk given : List Happening) : Type 0 where
-  pub heard : List Happening
-  pub is : IsAtHostOver n old steps answers new run heard
-  pub there : IsThere n c new
-  pub wired : IsWired n c new (disk ++ over (happens n) old steps answers new run) (given ++ heard)
-
--- So it is over each run in which the unit is not unplugged, nothing is injected there and the unit
--- reports no error.
-abbrev pub RunsStayLinked : Type 0
-RunsStayLinked =
-    (n c : ℕ) (old : Places) (steps : List Step) (answers : List Answer) (new : Places)
-    (run : Run old steps answers new) (disk given : List Happening)
-    → n ≢ control_port → IsOrderly old → IsThere n c old → list_any (unplugs n) steps ≡ false
-    → list_any (injects n) steps ≡ false
-    → AreFine (over (happens n) old steps answers new run) → IsWired n c old disk given
-    → StaysWired n c old steps answers new run disk given
-
--- And they are linked from each step on in which the unit is plugged in, also anew after a removal,
--- where nothing of the port was on its way, but what of a connection before a recorded removal will
--- drop. So it is in each world to which a run from a new one leads.
-abbrev pub PluggedIsLinked : Type 0
-PluggedIsLinked =
-    (n c : ℕ) (old new : Places) → n ≢ control_port → IsOrderly old
-    → Rule old (step.Came n) (Ok (answer.Came n c)) new
-    → ((d : ℕ) → IsAway n d old) → descending n old ≡ []
-    → AfterEveryRun old (λ config units before told made.
-    IsThere n c new × IsWired n c new (Plugged ∷ []) (Plugged ∷ []))

@@ -18,9 +18,7 @@ mod world;
 pub use counts::{ConnCount, Counts};
 pub use step::{Answer, Config, Step, StepError, WorldError};
 pub use theorems::{
-    connections_follow, disks_are_honest, disks_stay_linked, followed_along_the_wire,
-    later_disks_are_honest, none_is_stale, one_order_at_a_time, ordered_is_not_stale,
-    polled_is_honest, ports_go_on, ports_keep_to_one, reads_are_brought, taken_is_honest,
-    wires_go_on,
+    connections_follow, disks_are_honest, none_is_stale, one_order_at_a_time, ordered_is_not_stale,
+    polled_is_honest, ports_go_on, ports_keep_to_one, ports_rest_at_a_flush, wires_go_on,
 };
 pub use world::World;

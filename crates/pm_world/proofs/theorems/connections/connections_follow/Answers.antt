@@ -1,5 +1,5 @@
 use Rattle.pm_world.proofs.FollowLemmas as follow
-use Rattle.pm_world.proofs.theorems.phases.connections_follow.Goals as goal
+use Rattle.pm_world.proofs.theorems.connections.connections_follow.Goals as goal
 
 pub returns : goal.returns
 returns c = follow.connections_follow

@@ -1,0 +1,5 @@
+use Rattle.pm_world.proofs.FlushLemmas.{ports_rest}
+use Rattle.pm_world.proofs.theorems.connections.ports_rest_at_a_flush.Goals as goal
+
+pub returns : goal.returns
+returns c = ports_rest

@@ -1,0 +1,40 @@
+-- The port of a device that the host flushes is at rest: no FIS of it is on the host's link, and it
+-- passes none until the host clears it (Serial ATA 3.x, 16.3, port multiplier: presence of a device
+-- on a port; 16.4.2: PSCR[1], bit X, a device was exchanged).
+--
+-- Cited: runs and what holds at each step of them (specs/Rules.antt, Runs.antt); a port that waits
+-- for an order that clears it (specs/Stale.antt).
+use Rattle.std.specs.Prelude.{ℕ, ◌≡◌, ◌<◌, true, false, List, length}
+use Rattle.std.specs.List.{list_any}
+use Rattle.disk_model.specs.declared.unit.Unit.{Unit}
+use Rattle.hba_driver.specs.Steady.{IsFlushTick}
+use Rattle.pm_world.specs.Places.{Places, is_config, new_world}
+use Rattle.pm_world.specs.Rules.{Run}
+use Rattle.pm_world.specs.declared.step.Config.{Config}
+use Rattle.pm_world.specs.declared.step.Step.{Step}
+use Rattle.pm_world.specs.declared.step.Answer.{Answer}
+use Rattle.pm_world.specs.declared.step.Answer.TheVariants as answer
+use Rattle.pm_world.specs.Runs.{AtEach}
+use Rattle.pm_world.specs.Stale.{Waits, is_from}
+
+-- ---- the port
+
+-- no FIS of port n is on the host's link, and the port passes none until it is cleared
+pub record IsAtRest (n : ℕ) (now : Places) : Type 0 where
+  pub away : list_any (is_from n) now.upward.frames ≡ false
+  pub waits : Waits n now
+
+-- ---- what the host finds as it flushes a disk
+
+-- where this step flushes device n, the port is at rest
+abbrev pub RestsAtFlush : ℕ → Places → Answer → Type 0
+RestsAtFlush n old answer.Ticked = IsFlushTick n old.host → IsAtRest n old
+RestsAtFlush n old a = Prim.Unit {0}
+
+-- so it is in each step of every run from a new world
+abbrev pub PortsRest : Type 0
+PortsRest =
+    (config : Config) (units : List Unit) → is_config config (length units) ≡ true
+    → (steps : List Step) (answers : List Answer) (new : Places)
+    (run : Run (new_world config units) steps answers new) (n : ℕ) → n < 15
+    → AtEach (RestsAtFlush n) (new_world config units) steps answers new run
