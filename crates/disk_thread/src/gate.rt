@@ -2,8 +2,11 @@
 
 ghost use Rattle.std.specs.Prelude.{OnErr, ⊤};
 
+use thiserror::Error;
+
 /// The gate does not open.
-#[derive(Clone, Copy, Debug, PartialEq, Eq)]
+#[derive(Clone, Copy, Debug, PartialEq, Eq, Error)]
+#[error("the gate is shut")]
 pub struct GateShut;
 
 /// What the thread of a device enters with each FIS that it took, before its device sees it. A gate that may not refuse

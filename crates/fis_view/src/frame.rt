@@ -32,10 +32,10 @@ pub struct Stamp {
 pub enum FrameError {
     /// The number of bytes is none that a frame, or the payload of a Data FIS, may have.
     #[error("bad length")]
-    BadLength,
+    BadLength = 1,
     /// The allocator refused memory for the frame.
     #[error("out of memory")]
-    OutOfMemory,
+    OutOfMemory = 2,
 }
 
 impl From<AllocError> for FrameError {

@@ -41,7 +41,7 @@ pub enum Fis<'a> {
 pub enum FisFault {
     /// The type is known, and the length is none that the standard gives it.
     #[error("wrong length")]
-    WrongLength,
+    WrongLength = 1,
 }
 
 impl<'a> Fis<'a> {

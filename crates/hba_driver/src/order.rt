@@ -64,7 +64,7 @@ const CHANGES: u32 = 0x0401_0000;
 /// Bit 3 of GSCR[96]: notifications.
 const NOTIFICATIONS: u32 = 8;
 /// SRST, of the Device Control register.
-const SRST: u8 = 4;
+const SRST_MASK: u8 = 4;
 
 /// A command of these fields, all others 0.
 pub(crate) fn command(
@@ -170,7 +170,7 @@ impl Order {
         ensures { result ≡ order_fields self }
     {
         match self {
-            Order::ResetOn => Some(control(CONTROL_PORT, SRST)),
+            Order::ResetOn => Some(control(CONTROL_PORT, SRST_MASK)),
             Order::ResetOff => Some(control(CONTROL_PORT, 0)),
             Order::CountPorts => Some(reads(CONTROL_PORT, PORT_COUNT)),
             Order::SetMask => Some(writes(CONTROL_PORT, ERROR_MASK, CHANGES)),

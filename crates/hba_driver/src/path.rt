@@ -63,9 +63,9 @@ const READ_LOG: u8 = 0x2F;
 /// The address of the NCQ Command Error log.
 const ERROR_LOG: u64 = 0x10;
 /// SRST, of the Device Control register.
-const SRST: u8 = 4;
+const SRST_MASK: u8 = 4;
 /// Status.ERR.
-const ERR: u8 = 0;
+const ERR_BIT: u8 = 0;
 /// The slot of the driver's own commands to devices.
 const DEVICE_SLOT: u8 = 30;
 
@@ -108,7 +108,7 @@ impl Stage {
         match self {
             Stage::Identify => Some(identify(dev)),
             Stage::ReadLog(_) => Some(read_log(dev)),
-            Stage::AssertReset => Some(control(dev, SRST)),
+            Stage::AssertReset => Some(control(dev, SRST_MASK)),
             Stage::ReleaseReset => Some(control(dev, 0)),
             Stage::AwaitReset => None,
         }
@@ -224,7 +224,7 @@ impl Device {
         ensures { result ≡ recovery_of self file }
     {
         match self {
-            Device::Ready if has_bit(u32::from(file.status), ERR) => Recovery::Log(file),
+            Device::Ready if has_bit(u32::from(file.status), ERR_BIT) => Recovery::Log(file),
             _ => Recovery::Reset,
         }
     }

@@ -40,16 +40,16 @@ pub(crate) const SNTF: u32 = 0x3C;
 pub(crate) const FBS: u32 = 0x40;
 
 /// PxIS.HBFS.
-const HBFS: u8 = 29;
+const HBFS_BIT: u8 = 29;
 /// PxFBS.SDE.
-const SDE: u8 = 2;
+const SDE_BIT: u8 = 2;
 
 /// Status.ERR.
-const ERR: u8 = 0;
+const ERR_BIT: u8 = 0;
 /// Status.DRQ.
-const DRQ: u8 = 3;
+const DRQ_BIT: u8 = 3;
 /// Status.BSY.
-const BSY: u8 = 7;
+const BSY_BIT: u8 = 7;
 
 /// What the NCQ Command Error log in the driver's buffer says.
 #[derive(Clone, Copy, Debug, PartialEq, Eq)]
@@ -123,7 +123,7 @@ fn is_quiet(status: u8) -> bool
     ensures { result ≡ is_quiet_status status }
 {
     let status = u32::from(status);
-    !has_bit(status, BSY) && !has_bit(status, DRQ) && !has_bit(status, ERR)
+    !has_bit(status, BSY_BIT) && !has_bit(status, DRQ_BIT) && !has_bit(status, ERR_BIT)
 }
 
 fn is_signed(fis: &RegD2H<'_>) -> bool
@@ -222,13 +222,13 @@ fn in_reset(port: &HostPort) -> [bool; 16]
 fn is_stopped(interrupts: u32, switching: u32) -> bool
     ensures { result ≡ is_stopped_of interrupts switching }
 {
-    has_bit(interrupts, HBFS) && !has_bit(switching, SDE)
+    has_bit(interrupts, HBFS_BIT) && !has_bit(switching, SDE_BIT)
 }
 
 fn faulty(switching: u32) -> Option<u8>
     ensures { result ≡ faulty_in switching }
 {
-    if has_bit(switching, SDE) {
+    if has_bit(switching, SDE_BIT) {
         Some((switching / 0x1_0000 % 16) as u8)
     } else {
         None

@@ -1,8 +1,12 @@
 //! The numbers of the bits of a register, and dwords as sets of bits.
 
-ghost use Rattle.std.specs.Prelude.{◌≡◌, ◌<◌};
+ghost use Rattle.std.specs.Prelude.{◌≡◌, ◌<◌, if◌then◌else◌};
+ghost use Rattle.port_errors.specs.Interrupts.{interrupt_bits};
 ghost use Rattle.slots.specs.Slots.{has_bit as has_bit_of};
-ghost use Rattle.hba_fbs.specs.Bits.{bit as bit_of, without};
+ghost use Rattle.hba_fbs.specs.Bits.{bit as bit_of, interrupts, without};
+
+use bitflags::Flags;
+use port_errors::Interrupts;
 
 /// PxCMD.ST, Start.
 pub(crate) const ST: u32 = 0;
@@ -16,11 +20,6 @@ pub(crate) const CR: u32 = 15;
 pub(crate) const PMA: u32 = 17;
 /// PxCMD.FBSCP, FIS-based Switching Capable Port.
 pub(crate) const FBSCP: u32 = 22;
-
-/// PxIS.UFS, Unknown FIS Interrupt.
-pub(crate) const UFS: u32 = 4;
-/// The bits of PxIS that ones clear: DHRS, PSS, DSS, SDBS, OFS, IFS, HBFS and TFES.
-pub(crate) const INTERRUPTS: u32 = 0x6900_000F;
 
 /// PxSERR.DIAG.F, Unknown FIS Type.
 pub(crate) const UNKNOWN: u32 = 25;
@@ -48,6 +47,20 @@ pub(crate) fn bit(set: bool, k: u32) -> u32
     ensures { result ≡ bit_of k set }
 {
     if set { 1 << k } else { 0 }
+}
+
+/// The bit of this interrupt in PxIS where it is set, or no bit.
+pub(crate) fn raised(set: bool, flag: Interrupts) -> u32
+    ensures { result ≡ (if set then interrupt_bits flag else 0) }
+{
+    if set { flag.bits() } else { 0 }
+}
+
+/// The bits of PxIS that ones clear: all but UFS, which follows PxSERR.
+pub(crate) fn clearable() -> u32
+    ensures { result ≡ interrupts }
+{
+    Interrupts::all().difference(Interrupts::UFS).bits()
 }
 
 /// The bits that are not in `dropped`.

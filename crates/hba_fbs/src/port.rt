@@ -11,7 +11,7 @@ ghost use Rattle.hba_fbs.specs.Writing.{Writes, commands_after, errors_after, is
 ghost use Rattle.hba_fbs.specs.Reading.{read_at, value_of};
 ghost use Rattle.hba_fbs.specs.Views.{Flushes, IsPort, LeavesOtherViews, opening_port, stopped_view, view_of};
 
-use crate::bits::{DEC, UFS, UNKNOWN, bit, has_bit};
+use crate::bits::{DEC, UNKNOWN, bit, has_bit, raised};
 use crate::error::{NoRegister, WriteError};
 use crate::issue::{any_bad, any_busy, any_foreign, issue_all};
 use crate::register::Register;
@@ -19,7 +19,7 @@ use crate::registers::Registers;
 use crate::state::{DeviceState, state_of, stop_all};
 use hba_commands::Command;
 use host_memory::HostMemory;
-use port_errors::PortErrors;
+use port_errors::{DeviceCause, Interrupts, PortCause, PortErrors};
 use slots::SlotTable;
 use std::marker::Model;
 
@@ -86,7 +86,7 @@ impl HostPort {
             Register::Clbu => registers.clbu,
             Register::Fb => registers.fb,
             Register::Fbu => registers.fbu,
-            Register::Is => registers.interrupts | bit(registers.unknown, UFS),
+            Register::Is => registers.interrupts | raised(registers.unknown, Interrupts::UFS),
             Register::Ie => registers.enabled,
             Register::Cmd => registers.cmd(),
             Register::Tfd => state_of(&self.states, registers.chosen).task_file(),
@@ -107,6 +107,23 @@ impl HostPort {
             return Err(NoRegister);
         };
         Ok(self.value(register))
+    }
+
+    /// The first cause of a faulty device, None where it is not faulty. It stands until the device is flushed or cleared
+    /// by PxFBS.DEC, or PxCMD.ST falls.
+    pub fn cause(&self, dev: u8) -> Option<DeviceCause>
+        requires { dev < 16 }
+        ensures { result ≡ (view_of dev self.now).fault }
+    {
+        self.errors.cause(dev)
+    }
+
+    /// The first cause that stopped the port as a whole, None where it is not stopped by one. It stands until PxCMD.ST
+    /// falls.
+    pub fn port_cause(&self) -> Option<PortCause>
+        ensures { result ≡ self.now.errors.port }
+    {
+        self.errors.port_cause()
     }
 
     /// Whether a device is in software reset: a control frame with SRST set went out, and no

@@ -6,19 +6,13 @@ ghost use Rattle.hba_fbs.specs.Bits.{bit as bit_of};
 ghost use Rattle.hba_fbs.specs.Posting.{Posts, is_signature as is_signature_of, posted as posted_of, signature_of, signs as signs_of};
 ghost use Rattle.hba_fbs.specs.Registers.{AreRegisters};
 
-use crate::bits::bit;
+use crate::bits::raised;
 use crate::registers::Registers;
 use crate::status::is_quiet;
 use fis_view::{Fis, FisFault, RegD2H};
 use host_memory::HostMemory;
+use port_errors::Interrupts;
 use rx_area::{Posted, RxArea};
-
-/// PxIS.DHRS, Device to Host Register FIS Interrupt.
-const DHRS: u32 = 0;
-/// PxIS.DSS, DMA Setup FIS Interrupt.
-const DSS: u32 = 2;
-/// PxIS.SDBS, Set Device Bits Interrupt.
-const SDBS: u32 = 3;
 
 fn post_into(area: &mut [u8], dev: u8, fis: &Fis<'_>) -> Posted
     requires area { length area.old ≡ 4096 }
@@ -93,7 +87,7 @@ pub(crate) fn posted(registers: Registers, dev: u8, resetting: bool, fis: &Fis<'
 {
     match fis {
         Fis::RegD2H(fis) => Registers {
-            interrupts: registers.interrupts | bit(fis.i(), DHRS),
+            interrupts: registers.interrupts | raised(fis.i(), Interrupts::DHRS),
             signature: if resetting {
                 signature(fis)
             } else {
@@ -102,12 +96,12 @@ pub(crate) fn posted(registers: Registers, dev: u8, resetting: bool, fis: &Fis<'
             ..registers
         },
         Fis::SetBits(fis) => Registers {
-            interrupts: registers.interrupts | bit(fis.i(), SDBS),
+            interrupts: registers.interrupts | raised(fis.i(), Interrupts::SDBS),
             notified: notified(registers.notified, dev, fis.n()),
             ..registers
         },
         Fis::DmaSetup(fis) => Registers {
-            interrupts: registers.interrupts | bit(fis.i(), DSS),
+            interrupts: registers.interrupts | raised(fis.i(), Interrupts::DSS),
             ..registers
         },
         Fis::Unknown(_) => Registers {

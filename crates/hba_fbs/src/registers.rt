@@ -6,7 +6,7 @@ ghost use Rattle.hba_fbs.specs.Bits.{fre as fre_bit, st as st_bit};
 ghost use Rattle.hba_fbs.specs.Registers.{AreRegisters, cmd_of, cmd_refusal as cmd_refusal_of, falls as falls_of, fbs_of, is_area_outside as is_area_outside_of, is_list_outside as is_list_outside_of, opening_registers, own_refusal, running_if as running_if_of, stopped_if_ones as stopped_if_ones_of, written as written_of};
 
 use crate::bits::{
-    ADO, CR, DEV, EN, FBSCP, FR, FRE, INTERRUPTS, PMA, ST, UNKNOWN, bit, cleared, has_bit,
+    ADO, CR, DEV, EN, FBSCP, FR, FRE, PMA, ST, UNKNOWN, bit, clearable, cleared, has_bit,
 };
 use crate::error::WriteError;
 use crate::register::Register;
@@ -200,7 +200,7 @@ impl Registers {
             Register::Clbu => registers.clbu = value,
             Register::Fb => registers.fb = value / AREA_LEN * AREA_LEN,
             Register::Fbu => registers.fbu = value,
-            Register::Is => registers.interrupts = cleared(self.interrupts, value & INTERRUPTS),
+            Register::Is => registers.interrupts = cleared(self.interrupts, value & clearable()),
             Register::Ie => registers.enabled = value,
             Register::Cmd => registers = self.with_cmd(value),
             Register::Tfd | Register::Sig => {}

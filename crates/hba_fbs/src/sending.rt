@@ -28,11 +28,11 @@ use std::alloc::{AllocError, Global};
 /// The type of a Data FIS (Serial ATA 3.x, 10.5.12).
 const DATA: u8 = 0x46;
 /// SRST, Software Reset, in the Control field.
-const SRST: u32 = 2;
+const SRST_BIT: u32 = 2;
 /// The Control field in a Register Host to Device FIS.
 const CONTROL: usize = 15;
 /// Status.BSY.
-const BSY: u8 = 0x80;
+const BSY_MASK: u8 = 0x80;
 
 // ---- who is next
 
@@ -159,11 +159,11 @@ fn sent_to(state: DeviceState, command: &Command) -> DeviceState
 {
     match command.work.kind {
         Kind::Control => DeviceState {
-            resetting: state.resetting || has_bit(u32::from(command.cfis[CONTROL]), SRST),
+            resetting: state.resetting || has_bit(u32::from(command.cfis[CONTROL]), SRST_BIT),
             ..state
         },
         Kind::QueuedRead | Kind::QueuedWrite | Kind::PioIn | Kind::NoData => DeviceState {
-            status: state.status | BSY,
+            status: state.status | BSY_MASK,
             ..state
         },
     }

@@ -7,11 +7,11 @@ use crate::bits::has_bit;
 use crate::state::DeviceState;
 
 /// Status.ERR.
-const ERR: u32 = 0;
+const ERR_BIT: u32 = 0;
 /// Status.DRQ.
-const DRQ: u32 = 3;
+const DRQ_BIT: u32 = 3;
 /// Status.BSY.
-const BSY: u32 = 7;
+const BSY_BIT: u32 = 7;
 /// BSY and DRQ, which a Set Device Bits FIS does not tell.
 const UNTOLD: u8 = 0x88;
 
@@ -28,21 +28,21 @@ pub struct Block {
 pub(crate) fn is_error(status: u8) -> bool
     ensures { result ≡ is_error_status status }
 {
-    has_bit(u32::from(status), ERR)
+    has_bit(u32::from(status), ERR_BIT)
 }
 
 /// Whether BSY is set.
 pub(crate) fn is_busy(status: u8) -> bool
     ensures { result ≡ is_busy_status status }
 {
-    has_bit(u32::from(status), BSY)
+    has_bit(u32::from(status), BSY_BIT)
 }
 
 /// Whether DRQ is set.
 pub(crate) fn wants_data(status: u8) -> bool
     ensures { result ≡ wants_data_status status }
 {
-    has_bit(u32::from(status), DRQ)
+    has_bit(u32::from(status), DRQ_BIT)
 }
 
 /// Whether BSY, DRQ and ERR are 0.

@@ -3,7 +3,7 @@
 ghost use Rattle.std.specs.Prelude.{ℕ, List, ◌≡◌, ◌≢◌, ◌<◌, ◌-◌, None, Some, Ok, false, true, drop, length, IfSome};
 ghost use Rattle.fis_view.specs.Seen.{frame_of, seen};
 ghost use Rattle.host_memory.specs.Memory.{Memory};
-ghost use Rattle.port_errors.specs.Errors.{cause_of};
+ghost use Rattle.port_errors.specs.Errors.{KeepsCauses, cause_of};
 ghost use Rattle.rx_area.specs.Area.{posted_at};
 ghost use Rattle.slots.specs.Slots.{KeepsFree};
 ghost use Rattle.hba_fbs.specs.Posting.{Posts, posted as posted_registers};
@@ -12,7 +12,7 @@ ghost use Rattle.hba_fbs.specs.Tables.{Delivers, is_sound};
 ghost use Rattle.hba_fbs.specs.Taking.{Hears, Ignores, Takes, admitted, device_cause, errors_with, fault_interrupts, heard_now, heard_report, heard_view, ignored_report, ignores, is_ignored as is_ignored_of, is_running as is_running_of, port_of, settled as settled_registers, wrote_by};
 ghost use Rattle.hba_fbs.specs.Views.{LeavesOtherViews, view_of};
 
-use crate::bits::bit;
+use crate::bits::raised;
 use crate::hearing::{Fault, Heard, bad, hear, is_admitted};
 use crate::port::HostPort;
 use crate::post::{post, posted, signs};
@@ -22,11 +22,8 @@ use crate::state::state_of;
 use bitflags::Flags;
 use fis_view::{Fis, FisFault, Frame};
 use host_memory::HostMemory;
-use port_errors::PortErrors;
+use port_errors::{Interrupts, PortErrors};
 use rx_area::Posted;
-
-/// PxIS.PSS, PIO Setup FIS Interrupt.
-const PSS: u32 = 1;
 
 // Marks what is wrong with a FIS, and answers the bits of PxIS that it sets.
 fn mark(errors: &mut PortErrors, dev: u8, fault: Option<Fault>) -> u32
@@ -36,6 +33,7 @@ fn mark(errors: &mut PortErrors, dev: u8, fault: Option<Fault>) -> u32
     ensures own { cause_of errors.old dev ≡ None → cause_of errors.new dev ≡ device_cause fault }
     ensures others { (other : ℕ) → other ≢ dev
         → cause_of errors.new other ≡ cause_of errors.old other }
+    ensures kept { KeepsCauses errors.old errors.new }
 {
     match fault {
         None => 0,
@@ -53,7 +51,7 @@ fn settled(registers: Registers, heard: Heard, interrupts: u32) -> Registers
     ensures are { AreRegisters result }
 {
     Registers {
-        interrupts: registers.interrupts | bit(heard.pss, PSS) | interrupts,
+        interrupts: registers.interrupts | raised(heard.pss, Interrupts::PSS) | interrupts,
         ..registers
     }
 }
@@ -89,8 +87,9 @@ impl HostPort {
     fn hear_bad(&mut self, dev: u8) -> TakeReport
         requires dev { dev < 16 }
         requires sound { (view_of dev self.old).fault ≡ None }
-        ensures { (memory : Memory) → (payload : List ℕ)
+        ensures takes { (memory : Memory) → (payload : List ℕ)
             → Takes self.old memory dev None payload result self.new memory }
+        ensures kept { KeepsCauses self.old.errors self.new.errors }
     {
         let heard = bad(dev, state_of(&self.states, dev));
         let interrupts = mark(&mut self.errors, dev, heard.fault);
@@ -125,6 +124,7 @@ impl HostPort {
         ensures client { Delivers memory.old self.old.commands (drop 4 (frame_of fis.now))
             (wrote_by (heard_now self.old memory.old dev (Some fis.now)).happening)
             memory.new.client }
+        ensures kept { KeepsCauses self.old.errors self.new.errors }
     {
         let state = state_of(&self.states, dev);
         let heard = hear(&mut self.slots, memory, &self.commands, dev, state, fis);
@@ -143,6 +143,9 @@ impl HostPort {
             → Ignores dev self.old memory.old result self.new memory.new }
         ensures heard { ignores dev self.old frame.now.bytes ≡ false
             → Hears dev self.old memory.old frame.now.bytes result self.new memory.new }
+        ensures kept { KeepsCauses self.old.errors self.new.errors }
+        ensures own { (other : ℕ) → other ≢ dev
+            → cause_of self.new.errors other ≡ cause_of self.old.errors other }
     {
         let fis = frame.fis();
         if self.is_ignored(dev, &fis) {
@@ -156,13 +159,17 @@ impl HostPort {
 
     /// Takes a FIS of a device, or of the control port: it is ignored, or posted and heard. A
     /// device that sends something wrong is faulty until it is flushed, and the others go on; what
-    /// is wrong with the control port or with the memory stops the port.
+    /// is wrong with the control port or with the memory stops the port. No FIS changes a cause that is kept, and none
+    /// gives another device one.
     pub fn take(&mut self, frame: &Frame, memory: &mut HostMemory) -> TakeReport
         ensures ignored { ignores (port_of frame.now.bytes) self.old frame.now.bytes ≡ true
             → Ignores (port_of frame.now.bytes) self.old memory.old result self.new memory.new }
         ensures heard { ignores (port_of frame.now.bytes) self.old frame.now.bytes ≡ false
             → Hears (port_of frame.now.bytes) self.old memory.old frame.now.bytes
             result self.new memory.new }
+        ensures kept { KeepsCauses self.old.errors self.new.errors }
+        ensures own { (other : ℕ) → other ≢ port_of frame.now.bytes
+            → cause_of self.new.errors other ≡ cause_of self.old.errors other }
     {
         let dev = frame.pm_port();
         self.take_from(dev, frame, memory)

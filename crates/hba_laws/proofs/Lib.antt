@@ -24,3 +24,4 @@ pub mod DoneLemmas
 pub mod SpareLemmas
 pub mod ReadLemmas
 pub mod KeepingLemmas
+pub mod CauseLemmas

@@ -8,3 +8,4 @@ pub mod Client
 pub mod Agreement
 pub mod Delivering
 pub mod Keeping
+pub mod Causes

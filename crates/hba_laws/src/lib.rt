@@ -5,11 +5,13 @@
 //! list of its calls and of what its software writes between them. None does anything when it runs.
 #![tactic(auto)]
 
+mod causes;
 mod delivering;
 mod devices;
 mod sound;
 mod tables;
 
+pub use causes::causes_stay;
 pub use delivering::delivers;
 pub use devices::isolated;
 pub use sound::stays_sound;

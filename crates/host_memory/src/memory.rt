@@ -16,10 +16,10 @@ use thiserror::Error;
 pub enum MemoryError {
     /// The size is below 2 MiB, above 16 MiB or odd.
     #[error("a memory has 2 to 16 MiB and an even number of bytes")]
-    BadSize,
+    BadSize = 1,
     /// An allocation was refused.
     #[error("out of memory")]
-    OutOfMemory,
+    OutOfMemory = 2,
 }
 
 impl From<AllocError> for MemoryError {

@@ -31,16 +31,16 @@ pub struct Prd {
 pub enum PrdError {
     /// Not all of the table lies in the structure area, or it has more than 248 entries.
     #[error("table outside the structure area")]
-    OutsideStructure,
+    OutsideStructure = 1,
     /// An address or a byte count is odd, or an address has more than 32 bits.
     #[error("bad entry")]
-    BadEntry,
+    BadEntry = 2,
     /// Not all bytes of an entry lie in the client area.
     #[error("entry outside the client area")]
-    OutsideClient,
+    OutsideClient = 3,
     /// Two entries share a byte.
     #[error("entries overlap")]
-    Overlap,
+    Overlap = 4,
 }
 
 /// A table in the structure area, the Physical Region Descriptor Table of a command (AHCI 1.3.1,

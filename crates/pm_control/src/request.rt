@@ -10,7 +10,7 @@ const READ_PORT_MULTIPLIER: u8 = 0xE4;
 /// WRITE PORT MULTIPLIER.
 const WRITE_PORT_MULTIPLIER: u8 = 0xE8;
 /// Bit SRST of the Device Control register: software reset.
-const SRST: u8 = 1 << 2;
+const SRST_MASK: u8 = 1 << 2;
 
 /// The register that a command names.
 #[derive(Clone, Copy, Debug, PartialEq, Eq)]
@@ -47,7 +47,7 @@ fn request_of_fis(fis: &RegH2D<'_>) -> Request
     ensures { result ≡ requested fis.now }
 {
     if !fis.c() {
-        return if fis.control() & SRST == 0 {
+        return if fis.control() & SRST_MASK == 0 {
             Request::EndReset
         } else {
             Request::Reset

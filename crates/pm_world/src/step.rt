@@ -3,6 +3,7 @@ use hba_driver::{Completion, Request, SubmitError, Ticket};
 use hba_fbs::TakeReport;
 use multiplier::Passed;
 use std::alloc::AllocError;
+use thiserror::Error;
 
 /// How large a world is.
 #[derive(Clone, Copy, Debug, PartialEq, Eq)]
@@ -16,11 +17,13 @@ pub struct Config {
 }
 
 /// Why no world is made.
-#[derive(Clone, Copy, Debug, PartialEq, Eq)]
+#[derive(Clone, Copy, Debug, PartialEq, Eq, Error)]
 pub enum WorldError {
     /// A number of the configuration is out of its limits, or there are not as many units as ports.
-    BadConfig,
-    OutOfMemory,
+    #[error("bad configuration")]
+    BadConfig = 1,
+    #[error("out of memory")]
+    OutOfMemory = 2,
 }
 
 /// One action of one actor.
@@ -121,22 +124,30 @@ pub enum Answer {
 }
 
 /// Why a step is refused. A refused step changes nothing.
-#[derive(Clone, Copy, Debug, PartialEq, Eq)]
+#[derive(Clone, Copy, Debug, PartialEq, Eq, Error)]
 pub enum StepError {
     /// Memory was refused, and no other refusal applies.
+    #[error("out of memory")]
     OutOfMemory = 1,
     /// The bytes to inject are no frame.
+    #[error("no frame")]
     BadBytes = 2,
+    #[error("no such port")]
     NoSuchPort = 3,
     /// The device is plugged in already.
+    #[error("a device is plugged in already")]
     AlreadyThere = 4,
     /// No device is plugged in.
+    #[error("no device is plugged in")]
     NotThere = 5,
     /// The connection or the number is at its largest value.
+    #[error("numbers are spent")]
     Spent = 6,
     /// Not all bytes lie in the client area.
+    #[error("outside the client area")]
     Outside = 7,
     /// A byte is of the driver's buffer or of a request that is not polled.
+    #[error("memory is in use")]
     InUse = 8,
 }
 

@@ -66,6 +66,12 @@ pub record LeavesOthers (dev : ℕ) (old new : Errors) : Type 0 where
   pub causes : (other : ℕ) → other ≢ dev → cause_of new other ≡ cause_of old other
   pub port : new.port ≡ old.port
 
+-- Every cause that stood still stands, and is the one that it was: that of each device, and what stopped the port. Clearing
+-- a device or the port alone ends one.
+pub record KeepsCauses (old new : Errors) : Type 0 where
+  pub devices : (dev : ℕ) (cause : DeviceCause) → cause_of old dev ≡ Some cause → cause_of new dev ≡ Some cause
+  pub port : (cause : PortCause) → old.port ≡ Some cause → new.port ≡ Some cause
+
 -- What PxFBS shows: SDE and, in DWE, the reported device. Both are 0 where none is reported, and while the port is
 -- stopped, since that is no device's error.
 abbrev pub shown : Option ℕ → Option PortCause → FbsBits

@@ -3,7 +3,7 @@
 ghost use Rattle.std.specs.Prelude.{◌≡◌, ◌+◌, ◌*◌, ◌<◌, Some, None, is_some, length, unwrap_or, IfSome};
 ghost use Rattle.std.specs.Int.{from_bool};
 ghost use Rattle.port_errors.specs.Interrupts.{device_interrupts, interrupt_bits, port_interrupts};
-ghost use Rattle.port_errors.specs.Errors.{AreErrors, Clears, LeavesOthers, after_clear, cause_of, cleared_device, lowest_marked as lowest_marked_of, no_errors, shown, with_device, with_port, without};
+ghost use Rattle.port_errors.specs.Errors.{AreErrors, Clears, KeepsCauses, LeavesOthers, after_clear, cause_of, cleared_device, lowest_marked as lowest_marked_of, no_errors, shown, with_device, with_port, without};
 
 use crate::cause::{DeviceCause, PortCause};
 use crate::interrupts::Interrupts;
@@ -95,6 +95,7 @@ impl PortErrors {
         ensures after { self.new ≡ with_device self.old dev cause }
         ensures own { cause_of self.new dev ≡ Some (unwrap_or (cause_of self.old dev) cause) }
         ensures others { LeavesOthers dev self.old self.new }
+        ensures kept { KeepsCauses self.old self.new }
     {
         let at = dev as usize;
         let first = self.causes[at].unwrap_or(cause);
@@ -103,10 +104,14 @@ impl PortErrors {
         cause.interrupts()
     }
 
-    /// Stops the port as a whole, and answers the bits of PxIS that this sets. The first cause is kept.
+    /// Stops the port as a whole, and answers the bits of PxIS that this sets. The first cause is kept, and no device
+    /// gains or loses one.
     pub fn port(&mut self, cause: PortCause) -> Interrupts
         ensures interrupts { interrupt_bits result ≡ port_interrupts cause }
         ensures after { self.new ≡ with_port self.old cause }
+        ensures own { self.new.port ≡ Some (unwrap_or self.old.port cause) }
+        ensures devices { self.new.causes ≡ self.old.causes }
+        ensures kept { KeepsCauses self.old self.new }
     {
         self.port = Some(self.port.unwrap_or(cause));
         cause.interrupts()
@@ -155,7 +160,8 @@ impl PortErrors {
         self.causes[dev as usize].is_some()
     }
 
-    /// The first cause of a faulty device.
+    /// The first cause of a faulty device, None where it is not faulty. It stands until [`forget`](PortErrors::forget),
+    /// [`clear_device`](PortErrors::clear_device) or [`stop`](PortErrors::stop) ends it.
     pub fn cause(&self, dev: u8) -> Option<DeviceCause>
         requires { dev < 16 }
         ensures { result ≡ cause_of self.now dev }
@@ -170,7 +176,7 @@ impl PortErrors {
         self.port.is_some()
     }
 
-    /// The first cause that stopped the port.
+    /// The first cause that stopped the port, None where it is not stopped. [`stop`](PortErrors::stop) alone ends it.
     pub fn port_cause(&self) -> Option<PortCause>
         ensures { result ≡ self.now.port }
     {

@@ -30,22 +30,22 @@ pub enum Answered {
 pub enum SetupError {
     /// The device has no such slot outstanding.
     #[error("no such command is outstanding")]
-    NotOutstanding,
+    NotOutstanding = 1,
     /// The command moves data the other way.
     #[error("wrong direction")]
-    WrongWay,
+    WrongWay = 2,
     /// Some of the bytes lie behind the command's last one.
     #[error("more bytes than the command has")]
-    Overflow,
+    Overflow = 3,
     /// One of the bytes went over already.
     #[error("a byte is set up twice")]
-    Twice,
+    Twice = 4,
     /// The bytes that went over are 64 stretches, none of which ends where these begin.
     #[error("too many stretches")]
-    Fragments,
+    Fragments = 5,
     /// No bytes at all, or an offset or a count that is no multiple of 4.
     #[error("bad offset or count")]
-    BadCount,
+    BadCount = 6,
 }
 
 /// Why data is refused, in the order in which it is tested.
@@ -53,10 +53,10 @@ pub enum SetupError {
 pub enum ArriveError {
     /// The device has no context towards the host.
     #[error("no transfer to the host")]
-    Stray,
+    Stray = 1,
     /// The context has fewer bytes left.
     #[error("more data than was set up")]
-    Overflow,
+    Overflow = 2,
 }
 
 /// The queued slots that a device said are done, as masks.

@@ -10,9 +10,19 @@ use fis_view::{Frame, FrameError, H2dFields, Stamp};
 use hba_commands::write_command;
 use hba_fbs::{HostPort, TakeReport, WriteError};
 use host_memory::{HostMemory, MemoryError, Outside, Prd};
+use port_errors::{DeviceCause, PortCause};
 use std::alloc::{AllocError, Global};
 use std::marker::Model;
 use std::process::Abort;
+
+/// What is seen of a device: PxTFD, its row of the received area, whether it is in software reset, and its cause.
+#[derive(Clone, Copy, PartialEq, Eq)]
+pub(super) struct Seen {
+    file: Option<u32>,
+    row: [u8; 256],
+    resetting: bool,
+    cause: Option<DeviceCause>,
+}
 
 /// A host port with its memory of 2 MiB.
 #[derive(Drop)]
@@ -130,6 +140,52 @@ impl Rig {
     pub(super) fn resetting(&self, rt: &impl Abort, dev: u8) -> bool {
         assert!(rt; dev < 16);
         self.port.resetting(dev)
+    }
+
+    pub(super) fn cause(&self, rt: &impl Abort, dev: u8) -> Option<DeviceCause> {
+        assert!(rt; dev < 16);
+        self.port.cause(dev)
+    }
+
+    pub(super) fn port_cause(&self) -> Option<PortCause> {
+        self.port.port_cause()
+    }
+
+    /// The faulty devices, from 0 up, each with its cause.
+    pub(super) fn marked(&self) -> Result<Vec<(u8, DeviceCause)>, AllocError> {
+        let mut marked = Vec::new(self.alloc);
+        for dev in 0..16_u8 {
+            if let Some(cause) = self.port.cause(dev) {
+                marked.push((dev, cause))?;
+            }
+        }
+        Ok(marked)
+    }
+
+    /// What is seen of a device whose received area lies at 1000h. PxFBS.DEV names it then.
+    fn seen(&mut self, rt: &impl Abort, dev: u8) -> Seen {
+        assert!(rt; dev < 16);
+        let _ = self.write(0x40, 1 + 256 * u32::from(dev));
+        let at = 0x1000 + 256 * dev as usize;
+        let mut row = [0; 256];
+        row.copy_from_slice(&self.memory.structure()[at..at + 256]);
+        Seen {
+            file: self.read(0x20),
+            row,
+            resetting: self.port.resetting(dev),
+            cause: self.port.cause(dev),
+        }
+    }
+
+    /// What is seen of each device but this one, from 0 up.
+    pub(super) fn seen_but(&mut self, rt: &impl Abort, dev: u8) -> Result<Vec<Seen>, AllocError> {
+        let mut seen = Vec::new(self.alloc);
+        for other in 0..16_u8 {
+            if other != dev {
+                seen.push(self.seen(rt, other))?;
+            }
+        }
+        Ok(seen)
     }
 
     /// The port takes these bytes as a frame of a device.

@@ -60,6 +60,8 @@ pub enum Action {
     Step(Step),
     /// To have all actors step, round by round, at most so many rounds.
     Settle(u64),
+    /// To see which devices are faulty, and what stopped the port.
+    Faults,
     /// To see what is shown.
     See(View),
 }
@@ -110,6 +112,7 @@ impl Action {
             b"step" => Action::Step(step(words)?),
             b"poll" => Action::Step(Step::Poll),
             b"settle" => Action::Settle(words.number(1, MOST_ROUNDS)?),
+            b"faults" => Action::Faults,
             _ => match Common::read(alloc, name, words, sizes, LAST_NAME)? {
                 Common::Submit(device, request) => Action::Step(Step::Submit(device, request)),
                 Common::Put(at, bytes) => Action::Step(Step::Put(at, bytes)),

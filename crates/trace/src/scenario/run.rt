@@ -4,7 +4,7 @@ use crate::failure::Failure;
 use crate::input::is_skipped;
 use crate::scenario::opening::{Opening, Sizes};
 use crate::scenario::parse::{Action, Setting};
-use crate::scenario::text::{Reply, write_view};
+use crate::scenario::text::{Reply, write_faults, write_view};
 use crate::scenario::words::Words;
 use pm_world::{Answer, Counts, Step, StepError, World, WorldError};
 use std::alloc::Global;
@@ -131,6 +131,7 @@ impl Scene {
                 let reply = self.settle(alloc, rounds)?;
                 writeln!(out, "{reply}")?;
             }
+            Action::Faults => write_faults(self.world.host(), out)?,
             Action::See(view) => {
                 write_view(alloc, view, self.world.memory(), self.counts.rows(), out)?;
             }

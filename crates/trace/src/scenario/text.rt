@@ -4,6 +4,7 @@ use crate::failure::Failure;
 use crate::scenario::opening::Sizes;
 use crate::scenario::parse::View;
 use hba_driver::{Completion, Outcome, SubmitError, Ticket};
+use hba_fbs::HostPort;
 use host_memory::{CLIENT_START, HostMemory};
 use pm_world::{Answer, ConnCount, StepError};
 use std::alloc::{AllocError, Global};
@@ -122,6 +123,20 @@ impl Reply {
         let digits = hex::encode(alloc, bytes)?;
         Ok(Reply::Shown { at, digits })
     }
+}
+
+/// Writes the causes that a host port keeps: a line for each faulty device, upwards, and then one for what stopped the
+/// port. It writes nothing where nothing went wrong.
+pub fn write_faults<W: Write>(port: &HostPort, out: &mut W) -> Result<(), Failure> {
+    for dev in 0..16_u8 {
+        if let Some(cause) = port.cause(dev) {
+            writeln!(out, "device {dev} cause {}", cause as u8)?;
+        }
+    }
+    if let Some(cause) = port.port_cause() {
+        writeln!(out, "port-cause {}", cause as u8)?;
+    }
+    Ok(())
 }
 
 /// Writes what a line asks to see of this memory and these counts.

@@ -210,7 +210,7 @@ fn lines_of_reads_that_are_refused(rt: HostRuntime) -> Result<(), Fail> {
         ("step hostpush x", "number"),
         ("step pmfromhost 0", "number"),
         ("went 0", "command"),
-        ("faults", "command"),
+        ("faults 0", "number"),
         ("barrier", "command"),
     ] {
         let output = format!(in rt.alloc(); "ports 1 capacity 4 memory 2\nline 1: {word}\n")?;

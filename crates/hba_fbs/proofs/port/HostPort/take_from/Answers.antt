@@ -1,5 +1,6 @@
-use Rattle.std.proofs.Common.{ap, sym, ◌∙◌}
+use Rattle.std.proofs.Common.{[], ap, sym, ◌∙◌}
 use Rattle.hba_fbs.specs.Taking.{admitted}
+use Rattle.hba_fbs.specs.Views.{DeviceView}
 use Rattle.hba_fbs.proofs.TakeLemmas.{takes_from, takes_none, whole_of}
 use Rattle.hba_fbs.proofs.port.HostPort.take_from.Goals as goal
 
@@ -12,4 +13,7 @@ returns-in-Some-clause-heard c hears =
 pub returns-in-None-clause-heard : goal.returns-in-None-clause-heard
 returns-in-None-clause-heard c hears =
     takes_none c.args.self.now c.args.memory.now c.args.dev _ _ c.hear_bad.result c.hear_bad.new.self
-    (sym (ap (admitted c.args.dev) c.fis-fis.ensures.view) ∙ sym c.admit.ensures.value ∙ c.in-None.is) (c.hear_bad.ensures c.args.memory.now _)
+    (sym (ap (admitted c.args.dev) c.fis-fis.ensures.view) ∙ sym c.admit.ensures.value ∙ c.in-None.is) (c.hear_bad.ensures.takes c.args.memory.now _)
+
+pub returns-in-None-clause-own : goal.returns-in-None-clause-own
+returns-in-None-clause-own c other apart = ap (λ (v : DeviceView). v.fault) ((c.hear_bad.ensures.takes c.args.memory.now []).others other apart)

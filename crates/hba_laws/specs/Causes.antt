@@ -1,0 +1,66 @@
+-- How long the cause of a fault stands: AHCI 1.3.1, section 9.3 (FIS-based Switching: errors of one device and of the port).
+use Rattle.std.specs.Prelude.{ℕ, ◌≡◌, ◌<◌, ◌==◌, ◌||◌, Bool, false, List, [], ◌∷◌, Some}
+use Rattle.port_errors.specs.declared.cause.DeviceCause.{DeviceCause}
+use Rattle.port_errors.specs.declared.cause.PortCause.{PortCause}
+use Rattle.hba_fbs.specs.declared.register.Register.{Register}
+use Rattle.hba_fbs.specs.declared.register.Register.TheVariants.{Fbs}
+use Rattle.hba_fbs.specs.Taking.{port_of}
+use Rattle.hba_fbs.specs.Views.{view_of}
+use Rattle.hba_fbs.specs.Writing.{cleared_by, is_device}
+use Rattle.hba_laws.specs.Hosts.{Flushed, Host, HostEvent, Runs, Took, Wrote}
+use Rattle.hba_laws.specs.Isolation.{lowers_st}
+
+-- ---- what ends a cause
+
+-- PxFBS.DEC clears this device
+abbrev pub clears_device : ℕ → Host → Register → ℕ → Bool
+clears_device n host Fbs value = is_device n (cleared_by host.port.errors value)
+clears_device n host register value = false
+
+-- PxCMD.ST falls
+abbrev pub clears_port : Host → HostEvent → Bool
+clears_port host (Wrote register value) = lowers_st register host.port.registers value
+clears_port host event = false
+
+-- the device is cleared or flushed, or the whole port is cleared
+abbrev pub clears : ℕ → Host → HostEvent → Bool
+clears n host (Wrote register value) = clears_device n host register value || lowers_st register host.port.registers value
+clears n host (Flushed dev) = dev == n
+clears n host event = false
+
+-- a FIS of the device is taken
+abbrev pub comes_from : ℕ → HostEvent → Bool
+comes_from n (Took frame report) = port_of frame == n
+comes_from n event = false
+
+-- no event of a run is such a one
+abbrev pub NoneIn : (Host → HostEvent → Bool) → (old new : Host) (events : List HostEvent) → Runs old events new → Type 0
+NoneIn is old new [] run = Unit {0}
+NoneIn is old new (event ∷ events) run = (is old event ≡ false) × NoneIn is run.0 new events run.2
+
+-- ---- laws
+
+-- A cause that stands at a device stands until the device or the port is cleared, whatever FISes come after, its own too.
+abbrev pub DeviceCausesStay : Type 0
+DeviceCausesStay =
+    (n : ℕ) → n < 16 → (cause : DeviceCause)
+    → (old new : Host) (events : List HostEvent) (run : Runs old events new)
+    → NoneIn (clears n) old new events run
+    → (view_of n old.port).fault ≡ Some cause → (view_of n new.port).fault ≡ Some cause
+
+-- What stopped the port stands until ST falls.
+abbrev pub PortCausesStay : Type 0
+PortCausesStay =
+    (cause : PortCause)
+    → (old new : Host) (events : List HostEvent) (run : Runs old events new)
+    → NoneIn clears_port old new events run
+    → old.port.errors.port ≡ Some cause → new.port.errors.port ≡ Some cause
+
+-- Over events none of which is a FIS of a device, or clears it, it has the fault that it had, or none where it had none. So
+-- no FIS of another device marks it or changes its cause, and nothing that goes out does.
+abbrev pub OthersFaultNone : Type 0
+OthersFaultNone =
+    (n : ℕ) → n < 16
+    → (old new : Host) (events : List HostEvent) (run : Runs old events new)
+    → NoneIn (λ host event. comes_from n event || clears n host event) old new events run
+    → (view_of n new.port).fault ≡ (view_of n old.port).fault
