@@ -56,6 +56,7 @@ use Rattle.disk_ends.proofs.HonestLemmas.{done_where, next_where}
 use Rattle.disk_ends.proofs.MarkedLemmas.{IsMarkedBits, bits_of_marked}
 use Rattle.disk_ends.proofs.SizeLemmas.{AllShort, more_short, sent_short}
 use Rattle.disk_ends.proofs.TogetherLemmas.{no_answer, no_end, not_pio}
+use Rattle.disk_ends.specs.Same.{SlotCommand}
 
 -- ## What comes
 
@@ -228,7 +229,7 @@ no_error status fine =
     let same : status / 1 ≡ status = omega arith in
     ap (λ (x : ℕ). x % 2 == 1) (sym same) ∙ fine
 
-pub of_bits : (n : ℕ) (host new : Host) (bytes : List ℕ) (report : TakeReport) (commands : ℕ → Command) (past : History) (k : Ledger) → IsHost host → n < 15
+pub of_bits : (n : ℕ) (host new : Host) (bytes : List ℕ) (report : TakeReport) (commands : ℕ → SlotCommand) (past : History) (k : Ledger) → IsHost host → n < 15
     → IsFrame bytes → IsFrame (marked bytes n) → port_of (marked bytes n) ≡ n → TakesFrame host (marked bytes n) report new
     → IsJoined n commands host past k → (s : ℕ) (t : Transfer) → s < 32 → issued s past ≡ Some t → is_queued t.work.kind ≡ true
     → has_bit report.done s ≡ true → IsOfBits bytes s past t
@@ -257,7 +258,7 @@ of_bits n host new bytes report commands past k sound below plain framed from_n 
     }
 
 -- a FIS of which that is reported has no error
-pub fine_done : (n : ℕ) (host new : Host) (bytes : List ℕ) (report : TakeReport) (commands : ℕ → Command) (past : History) (k : Ledger) → IsHost host
+pub fine_done : (n : ℕ) (host new : Host) (bytes : List ℕ) (report : TakeReport) (commands : ℕ → SlotCommand) (past : History) (k : Ledger) → IsHost host
     → n < 15 → IsFrame bytes → IsFrame (marked bytes n) → port_of (marked bytes n) ≡ n → TakesFrame host (marked bytes n) report new
     → IsJoined n commands host past k → (s : ℕ) (t : Transfer) → s < 32 → issued s past ≡ Some t → is_queued t.work.kind ≡ true
     → has_bit report.done s ≡ true → reports (seen bytes) ≡ false
@@ -279,7 +280,7 @@ before_more [] ys i x there = cc there
 before_more (y ∷ xs) ys zero x there = there
 before_more (y ∷ xs) ys (suc i) x there = before_more xs ys i x there
 
-stays_on : (c : Command) (bytes : ℕ → Option ℕ) (len : ℕ) (disk more : List Happening) → IsOnMedium c bytes len (ledger disk)
+stays_on : (c : SlotCommand) (bytes : ℕ → Option ℕ) (len : ℕ) (disk more : List Happening) → IsOnMedium c bytes len (ledger disk)
     → IsOnMedium c bytes len (ledger (disk ++ more))
 stays_on c bytes len disk more m =
     let w : StayWritten disk more = writes_stay disk more in
@@ -287,6 +288,7 @@ stays_on c bytes len disk more m =
     record {
       at = m.at;
       written = m.written;
+      since = m.since;
       entered = ap (λ (ws : List Written). slice_get ws m.at) w.same ∙ before_more k.writes w.later m.at m.written m.entered;
       tag = m.tag;
       place = m.place;

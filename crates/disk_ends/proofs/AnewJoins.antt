@@ -12,7 +12,6 @@ use Rattle.slots.specs.declared.work.Work.{Work}
 use Rattle.hba_fbs.specs.declared.status.Block.{Block}
 use Rattle.hba_fbs.specs.Taking.{port_of}
 use Rattle.hba_fbs.specs.Views.{DeviceView, view_of}
-use Rattle.disk_model.specs.declared.request.Command.{Command}
 use Rattle.disk_model.specs.Anew.{IsCarefulSince, IsClear, OwesOnly}
 use Rattle.disk_model.specs.Ends.{FitsAll}
 use Rattle.disk_model.specs.Histories.{Happening, Plugged, Received, Sent}
@@ -37,6 +36,7 @@ use Rattle.disk_ends.proofs.MarkedLemmas.{marks_tell_nothing}
 use Rattle.disk_ends.proofs.OrderJoins.{joins_commands, joins_data, joins_others}
 use Rattle.disk_ends.proofs.SignsLemmas.{joins_signs}
 use Rattle.disk_ends.proofs.TogetherLemmas.{idle_free}
+use Rattle.disk_ends.specs.Same.{SlotCommand}
 
 -- ## Where they begin
 
@@ -53,7 +53,7 @@ opens_the_same commands past k tags none clear talk sent =
       talk = talk;
     }
 
-module _ (n : ℕ) (host : Host) (commands : ℕ → Command) (past : History) (k : Ledger) (o : IsOpening n host commands past k) where
+module _ (n : ℕ) (host : Host) (commands : ℕ → SlotCommand) (past : History) (k : Ledger) (o : IsOpening n host commands past k) where
   there : (s : ℕ) (t : Transfer) → issued s past ≡ Some t → IsThere (view_of n host.port).slots s t
   there s t here =
       there_by (view_of n host.port).slots s t (own_issue (view_of n host.port).slots s) refl
@@ -80,7 +80,7 @@ module _ (n : ℕ) (host : Host) (commands : ℕ → Command) (past : History) (
   }
 
 -- what leaves the slots leaves all that is joined
-keeps_joined : (n : ℕ) (host new : Host) (commands : ℕ → Command) (past : History) (k : Ledger) → KeepsSlots n host new
+keeps_joined : (n : ℕ) (host new : Host) (commands : ℕ → SlotCommand) (past : History) (k : Ledger) → KeepsSlots n host new
     → IsJoined n commands host past k → IsJoined n commands new past k
 keeps_joined n host new commands past k keeps joined = record {
   history = record {
@@ -113,7 +113,7 @@ careful_more base given e careful one =
     }
 
 module _ (n : ℕ) (base : List Happening) where
-  kept_more : (new : Host) (given : List Happening) (e : Happening) (commands : ℕ → Command) (past : History) → IsCarefulSince base given
+  kept_more : (new : Host) (given : List Happening) (e : Happening) (commands : ℕ → SlotCommand) (past : History) → IsCarefulSince base given
       → FitsOne (ledger given) e → IsJoined n commands new past (listens (ledger given) e)
       → IsKeptOn n base new (given ++ e ∷ []) commands past
   kept_more new given e commands past careful fits joined = record {
@@ -121,7 +121,7 @@ module _ (n : ℕ) (base : List Happening) where
     joined = subst (IsJoined n commands new past) (sym (ledger_more empty given e)) joined;
   }
 
-  kept_given : (new : Host) (frame : Stamped) (given : List Happening) (e : event.Event) (commands : ℕ → Command) (past : History)
+  kept_given : (new : Host) (frame : Stamped) (given : List Happening) (e : event.Event) (commands : ℕ → SlotCommand) (past : History)
       → IsFrame frame.bytes → IsCarefulSince base given
       → JoinsGiven n commands frame.bytes e past (ledger given) new
       → IsKeptOn n base new (given ++ Received (marked frame.bytes 0) ∷ []) commands (e ∷ past)
@@ -130,7 +130,7 @@ module _ (n : ℕ) (base : List Happening) where
       kept_more new given (Received (marked frame.bytes 0)) commands (e ∷ past) careful (a.fits j.fits)
       (subst (IsJoined n commands new (e ∷ past)) (sym a.down) j.joined)
 
-  kept : n < 15 → (host : Host) (given : List Happening) (commands : ℕ → Command) (past : History) → IsHostedOn n base host given commands past
+  kept : n < 15 → (host : Host) (given : List Happening) (commands : ℕ → SlotCommand) (past : History) → IsHostedOn n base host given commands past
       → IsKeptOn n base host given commands past
   kept below host given commands past (anew.opens h c p opening) =
       record { careful = careful_base base; joined = opens_joined n h c p (ledger base) opening }
@@ -160,9 +160,9 @@ module _ (n : ℕ) (base : List Happening) where
       subst (λ (m : ℕ). IsJoined m c new (told (seen (marked bytes n)) ++ p) (listens (ledger g) (Sent (marked bytes n)))) from_n next in
       kept_more new g (Sent bytes) c (told (seen (marked bytes n)) ++ p) before.careful tt
       (subst (IsJoined n c new (told (seen (marked bytes n)) ++ p)) a.up mine)
-  kept below host given commands past (anew.issues old new value g c next p sound chosen does tags names hosted) =
+  kept below host given commands past (anew.issues old new value g c next p sound chosen does tags names counted hosted) =
       let before : IsKeptOn n base old g c p = kept below old g c p hosted in
-      record { careful = before.careful; joined = joins_issues n value old new c next p (ledger g) sound below chosen does tags names before.joined }
+      record { careful = before.careful; joined = joins_issues n value old new c next p (ledger g) sound below chosen does tags names counted before.joined }
   kept below host given commands past (anew.sends old new frame slot command f t g c p sound framed does out here queued cfis request signed hosted) =
       let before : IsKeptOn n base old g c p = kept below old g c p hosted in
       kept_given new frame g (event.Sent slot) c p framed before.careful
@@ -186,8 +186,8 @@ none_at : (o : Option Context) → ((c : Context) → o ≡ Some c → ⊥) → 
 none_at None never = refl
 none_at (Some c) never = absurd (never c refl)
 
-pub opens_signing : (n : ℕ) (host : Host) (commands : ℕ → Command) (past : History) (k : Ledger) → IsHistoryOf n host past
-    → ((s : ℕ) → own_issue (view_of n host.port).slots s ≡ None) → ((s : ℕ) → (commands s).tag ≡ s) → OwesOnly k (Signs ∷ []) []
+pub opens_signing : (n : ℕ) (host : Host) (commands : ℕ → SlotCommand) (past : History) (k : Ledger) → IsHistoryOf n host past
+    → ((s : ℕ) → own_issue (view_of n host.port).slots s ≡ None) → ((s : ℕ) → (commands s).command.tag ≡ s) → OwesOnly k (Signs ∷ []) []
     → IsOpening n host commands past k
 opens_signing n host commands past k history none tags owes =
     let clear : IsClear k = owes.clear in
@@ -201,9 +201,9 @@ opens_signing n host commands past k history none tags owes =
       talk = Replies Signs (record { outstanding = clear.outstanding; unanswered = clear.unanswered; moving = clear.moving }) owes.awaited tt owes.pages;
     }
 
-opens_paging : (n : ℕ) (host : Host) (commands : ℕ → Command) (past : History) (k : Ledger) (page : Wanted) → IsHistoryOf n host past
+opens_paging : (n : ℕ) (host : Host) (commands : ℕ → SlotCommand) (past : History) (k : Ledger) (page : Wanted) → IsHistoryOf n host past
     → ((s : ℕ) (i : Issue) → own_issue (view_of n host.port).slots s ≡ Some i → IsAwaited i) → SentAgrees (view_of n host.port).slots past
-    → (view_of n host.port).slots.context ≡ None → IsWaitedUnset past → ((s : ℕ) → (commands s).tag ≡ s)
+    → (view_of n host.port).slots.context ≡ None → IsWaitedUnset past → ((s : ℕ) → (commands s).command.tag ≡ s)
     → OwesOnly k (ShowsPage ∷ []) (page ∷ []) → IsOpening n host commands past k
 opens_paging n host commands past k page history alone sent unset waited tags owes =
     let clear : IsClear k = owes.clear in
@@ -227,8 +227,8 @@ hosted_since_new n host given commands past (since_new.plugged h c p history non
 hosted_since_new n host given commands past (since_new.stays old new g c p same hosted) = anew.stays old new g c p (record { slots = ap (λ (v : DeviceView). v.slots) same; block = ap (λ (v : DeviceView). v.state.block) same }) (hosted_since_new n old g c p hosted)
 hosted_since_new n host given commands past (since_new.hears old new bytes report g c p sound plain framed from_n well right short hosted) =
     anew.hears old new bytes report g c p sound plain framed from_n well right short (hosted_since_new n old g c p hosted)
-hosted_since_new n host given commands past (since_new.issues old new value g c next p sound chosen does tags names hosted) =
-    anew.issues old new value g c next p sound chosen does tags names (hosted_since_new n old g c p hosted)
+hosted_since_new n host given commands past (since_new.issues old new value g c next p sound chosen does tags names counted hosted) =
+    anew.issues old new value g c next p sound chosen does tags names counted (hosted_since_new n old g c p hosted)
 hosted_since_new n host given commands past (since_new.sends old new frame slot command f t g c p sound framed does out here queued cfis request signed hosted) =
     anew.sends old new frame slot command f t g c p sound framed does out here queued cfis request signed (hosted_since_new n old g c p hosted)
 hosted_since_new n host given commands past (since_new.asks old new frame slot command f t g c p sound framed does out here not_queued control cfis one none signed hosted) =

@@ -1,5 +1,5 @@
 -- What answers, and commands that are not queued, leave of each queued command.
-use Rattle.std.proofs.Common.{◌≡◌, ◌==◌, eqb, ℕ, Bool, true, false, List, [], ◌∷◌, ◌++◌, refl, sym, ap, subst, ◌∙◌, inl, inr, Option, None}
+use Rattle.std.proofs.Common.{◌≡◌, ◌==◌, eqb, ℕ, Bool, true, false, List, [], ◌∷◌, ◌++◌, ◌≤◌, length, refl, sym, ap, subst, ◌∙◌, inl, inr, Option, None}
 use Rattle.std.specs.Prelude.{◌^◌, ◌≢◌, if◌then◌else◌, slice_get, find, drop}
 use Rattle.std.specs.Int.{bit_at}
 use Rattle.std.specs.List.{list_any}
@@ -13,7 +13,7 @@ use Rattle.disk_model.specs.Ends.{FitsRequest, IsFree, MovesOther, has}
 use Rattle.disk_model.specs.Ledger.{Ledger, Moving, Names, ReadOut, Written, answered, answers, asks, sends_data}
 use Rattle.disk_model.proofs.CrossLemmas.{alone, asks_fits, has_left}
 use Rattle.hba_laws.specs.History.{Answered, Carried, History, Named, PioSetUp, Sent, filled, filled_from, is_at, is_set_up, next_number, none_filled, waiting_in}
-use Rattle.disk_ends.specs.Same.{InLife, IsEndedBy, IsLastOf, Moves, Open, ReadEnded, StandsOnce, Unsent, Unset, WriteEnded}
+use Rattle.disk_ends.specs.Same.{InLife, IsEndedBy, IsLastOf, Moves, Open, ReadEnded, SlotCommand, StandsOnce, Unsent, Unset, WriteEnded}
 use Rattle.disk_ends.specs.Answers.{AnswersKeep, ByRead, ByWrite, HasEnded, IsAlone, IsIdle, NamesKeep, OthersKeep}
 use Rattle.disk_ends.proofs.SameLemmas.{same_life}
 
@@ -41,40 +41,45 @@ ended_same s set_up k x b e = record {
   unset = subst (λ (m : Option Moving). Unset m set_up) (sym b.moving) e.unset;
 }
 
-pub life_beside : (s : ℕ) (c : Command) (past : History) (k x : Ledger) → IsBeside k x → InLife s c past k → InLife s c past x
-life_beside s c past k x b (Unsent free quiet unset none) = Unsent (free_beside s k x b free) quiet unset none
-life_beside s c past k x b (Open found yet other unset none) =
+counted_beside : (since : ℕ) (k x : Ledger) → IsBeside k x → since ≤ length k.writes → since ≤ length x.writes
+counted_beside since k x b counted = subst (λ (ws : List Written). since ≤ length ws) (sym b.writes) counted
+
+pub life_beside : (s : ℕ) (c : SlotCommand) (past : History) (k x : Ledger) → IsBeside k x → InLife s c past k → InLife s c past x
+life_beside s c past k x b (Unsent free quiet unset none counted) = Unsent (free_beside s k x b free) quiet unset none (counted_beside c.since k x b counted)
+life_beside s c past k x b (Open found yet other unset none counted) =
     Open (ap (find (λ (q : Command). q.tag == s)) b.outstanding ∙ found) (ap (has s) b.unanswered
-    ∙ yet) (subst (MovesOther s) (sym b.moving) other) unset none
-life_beside s c past k x b (Moves v moving same yet m) = Moves v (b.moving ∙ moving) same (ap (has s) b.unanswered ∙ yet) m
-life_beside s c past k x b (ReadEnded at r e quiet there same stands) =
-    ReadEnded at r (ended_same s (is_set_up s past) k x b e) quiet (ap (λ (rs : List ReadOut). slice_get rs at) b.reads ∙ there) same stands
-life_beside s c past k x b (WriteEnded at w e quiet there same stands) =
-    WriteEnded at w (ended_same s (is_set_up s past) k x b e) quiet (ap (λ (ws : List Written). slice_get ws at) b.writes ∙ there) same stands
+    ∙ yet) (subst (MovesOther s) (sym b.moving) other) unset none (counted_beside c.since k x b counted)
+life_beside s c past k x b (Moves v moving same yet m counted) = Moves v (b.moving ∙ moving) same (ap (has s) b.unanswered ∙ yet) m
+    (record { before = counted.before; now = counted_beside c.since k x b counted.now })
+life_beside s c past k x b (ReadEnded at r e quiet there same stands counted) =
+    ReadEnded at r (ended_same s (is_set_up s past) k x b e) quiet (ap (λ (rs : List ReadOut). slice_get rs at) b.reads ∙ there) same stands counted
+life_beside s c past k x b (WriteEnded at w e quiet there same stands counted) =
+    WriteEnded at w (ended_same s (is_set_up s past) k x b e) quiet (ap (λ (ws : List Written). slice_get ws at) b.writes ∙ there) same stands counted
 
 -- ## Where no queued command is there
 
 -- a command that is issued was not sent
-pub record IsUnsent (s : ℕ) (past : History) (k : Ledger) : Type 0 where
+pub record IsUnsent (s since : ℕ) (past : History) (k : Ledger) : Type 0 where
   pub free : IsFree k s
   pub quiet : is_at s (waiting_in past) ≡ false
   pub unset : is_set_up s past ≡ false
   pub none : filled s past ≡ none_filled
+  pub counted : since ≤ length k.writes
 
 once_empty : (s : ℕ) (us ahead behind : List ℕ) → us ≡ [] → us ≡ ahead ++ s ∷ behind → ⊥
 once_empty s us [] behind empty is = cc (sym empty ∙ is)
 once_empty s us (a ∷ ahead) behind empty is = cc (sym empty ∙ is)
 
-pub idle_unsent : (s : ℕ) (c : Command) (past : History) (k : Ledger) → IsIdle k → InLife s c past k → IsUnsent s past k
-idle_unsent s c past k idle (Unsent free quiet unset none) = record { free = free; quiet = quiet; unset = unset; none = none }
-idle_unsent s c past k idle (Open found yet other unset none) =
+pub idle_unsent : (s : ℕ) (c : SlotCommand) (past : History) (k : Ledger) → IsIdle k → InLife s c past k → IsUnsent s c.since past k
+idle_unsent s c past k idle (Unsent free quiet unset none counted) = record { free = free; quiet = quiet; unset = unset; none = none; counted = counted }
+idle_unsent s c past k idle (Open found yet other unset none counted) =
     let empty : find (λ q. q.tag == s) k.outstanding ≡ None = ap (find (λ (q : Command). q.tag == s)) idle.outstanding in
     cc (sym empty ∙ found)
-idle_unsent s c past k idle (Moves v moving same yet m) = cc (sym idle.moving ∙ moving)
-idle_unsent s c past k idle (ReadEnded at r e quiet there same stands) =
+idle_unsent s c past k idle (Moves v moving same yet m counted) = cc (sym idle.moving ∙ moving)
+idle_unsent s c past k idle (ReadEnded at r e quiet there same stands counted) =
     let once : StandsOnce s k.unanswered = e.unanswered in
     absurd (once_empty s k.unanswered once.ahead once.behind idle.unanswered once.is)
-idle_unsent s c past k idle (WriteEnded at w e quiet there same stands) =
+idle_unsent s c past k idle (WriteEnded at w e quiet there same stands counted) =
     let once : StandsOnce s k.unanswered = e.unanswered in
     absurd (once_empty s k.unanswered once.ahead once.behind idle.unanswered once.is)
 
@@ -98,28 +103,28 @@ others_keep s slot c request past k other failed one fits life =
 
 -- ## Answers
 
-register_keeps : (s : ℕ) (c : Command) (past : History) (k : Ledger) → InLife s c past k → InLife s c (Answered ∷ past) (answered k)
+register_keeps : (s : ℕ) (c : SlotCommand) (past : History) (k : Ledger) → InLife s c past k → InLife s c (Answered ∷ past) (answered k)
 register_keeps s c past k life =
     same_life s c past (Answered ∷ past) (answered k) (λ quiet. refl) refl refl refl refl
     (life_beside s c past k (answered k) (record { outstanding = refl; unanswered = refl; moving = refl; writes = refl; reads = refl }) life)
 
-show_keeps : (s count ends : ℕ) (to_host : Bool) (c : Command) (past : History) (k : Ledger) → IsIdle k → InLife s c past k
+show_keeps : (s count ends : ℕ) (to_host : Bool) (c : SlotCommand) (past : History) (k : Ledger) → IsIdle k → InLife s c past k
     → InLife s c (PioSetUp count to_host ends ∷ past) (answered k)
 show_keeps s count ends to_host c past k idle life =
-    let u : IsUnsent s past k = idle_unsent s c past k idle life in
+    let u : IsUnsent s c.since past k = idle_unsent s c past k idle life in
     let free : IsFree k s = u.free in
-    Unsent (record { outstanding = free.outstanding; unanswered = free.unanswered; moving = free.moving }) u.quiet u.quiet u.none
+    Unsent (record { outstanding = free.outstanding; unanswered = free.unanswered; moving = free.moving }) u.quiet u.quiet u.none u.counted
 
-page_keeps : (s : ℕ) (c : Command) (bytes : List ℕ) (past : History) (k : Ledger) → IsIdle k → InLife s c past k
+page_keeps : (s : ℕ) (c : SlotCommand) (bytes : List ℕ) (past : History) (k : Ledger) → IsIdle k → InLife s c past k
     → InLife s c (Carried bytes ∷ past) (sends_data k k.moving bytes)
 page_keeps s c bytes past k idle life =
-    let u : IsUnsent s past k = idle_unsent s c past k idle life in
+    let u : IsUnsent s c.since past k = idle_unsent s c past k idle life in
     let free : IsFree k s = u.free in
     let unset : is_set_up s past ≡ false = u.unset in
     let fills : filled s (Carried bytes ∷ past) ≡ filled s past =
     ap (λ (t : Bool). if t then filled_from (next_number past) bytes (filled s past) else filled s past) unset in
     subst (λ (m : Option Moving). InLife s c (Carried bytes ∷ past) (sends_data k m bytes)) (sym idle.moving)
-    (Unsent (record { outstanding = free.outstanding; unanswered = free.unanswered; moving = free.moving }) u.quiet unset (fills ∙ u.none))
+    (Unsent (record { outstanding = free.outstanding; unanswered = free.unanswered; moving = free.moving }) u.quiet unset (fills ∙ u.none) u.counted)
 
 pub answers_keep : AnswersKeep
 answers_keep = record { register = register_keeps; shows = show_keeps; page = page_keeps }
@@ -188,24 +193,24 @@ left_by s mask us (a ∷ ahead) behind is not_ahead not_behind names unset = rec
 once_left : (s mask : ℕ) (us : List ℕ) → StandsOnce s us → Names us mask → has_bit mask s ≡ false → StandsOnce s (drop 1 us)
 once_left s mask us once names unset = left_by s mask us once.ahead once.behind once.is once.not_ahead once.not_behind names unset
 
-name_ends : (s mask : ℕ) (c : Command) (past : History) (k : Ledger) → Names k.unanswered mask → has_bit mask s ≡ true → InLife s c past k
+name_ends : (s mask : ℕ) (c : SlotCommand) (past : History) (k : Ledger) → Names k.unanswered mask → has_bit mask s ≡ true → InLife s c past k
     → HasEnded s c past k
-name_ends s mask c past k names set (Unsent free quiet unset none) =
+name_ends s mask c past k names set (Unsent free quiet unset none counted) =
     absurd (first_stands s k.unanswered (named_first s mask k.unanswered names set) free.unanswered)
-name_ends s mask c past k names set (Open found yet other unset none) =
+name_ends s mask c past k names set (Open found yet other unset none counted) =
     absurd (first_stands s k.unanswered (named_first s mask k.unanswered names set) yet)
-name_ends s mask c past k names set (Moves v moving same yet m) = absurd (first_stands s k.unanswered (named_first s mask k.unanswered names set) yet)
-name_ends s mask c past k names set (ReadEnded at r e quiet there same stands) = ByRead at r there same stands
-name_ends s mask c past k names set (WriteEnded at w e quiet there same stands) = ByWrite at w there same stands
+name_ends s mask c past k names set (Moves v moving same yet m counted) = absurd (first_stands s k.unanswered (named_first s mask k.unanswered names set) yet)
+name_ends s mask c past k names set (ReadEnded at r e quiet there same stands counted) = ByRead at r there same stands counted
+name_ends s mask c past k names set (WriteEnded at w e quiet there same stands counted) = ByWrite at w there same stands counted
 
-name_quiet : (s mask : ℕ) (c : Command) (past : History) (k : Ledger) → Names k.unanswered mask → has_bit mask s ≡ true → InLife s c past k
+name_quiet : (s mask : ℕ) (c : SlotCommand) (past : History) (k : Ledger) → Names k.unanswered mask → has_bit mask s ≡ true → InLife s c past k
     → is_at s (waiting_in past) ≡ false
-name_quiet s mask c past k names set (Unsent free quiet unset none) = quiet
-name_quiet s mask c past k names set (Open found yet other unset none) =
+name_quiet s mask c past k names set (Unsent free quiet unset none counted) = quiet
+name_quiet s mask c past k names set (Open found yet other unset none counted) =
     absurd (first_stands s k.unanswered (named_first s mask k.unanswered names set) yet)
-name_quiet s mask c past k names set (Moves v moving same yet m) = m.quiet
-name_quiet s mask c past k names set (ReadEnded at r e quiet there same stands) = quiet
-name_quiet s mask c past k names set (WriteEnded at w e quiet there same stands) = quiet
+name_quiet s mask c past k names set (Moves v moving same yet m counted) = m.quiet
+name_quiet s mask c past k names set (ReadEnded at r e quiet there same stands counted) = quiet
+name_quiet s mask c past k names set (WriteEnded at w e quiet there same stands counted) = quiet
 
 free_ended : (s mask error : ℕ) (b : Bool) (k : Ledger) → Names k.unanswered mask → has_bit mask s ≡ true → IsEndedBy s b k
     → IsFree (answers k error false) s
@@ -217,28 +222,28 @@ free_ended s mask error b k names set e =
       moving = e.moving;
     }
 
-name_frees : (s mask error : ℕ) (c : Command) (past : History) (k : Ledger) → Names k.unanswered mask → has_bit mask s ≡ true → InLife s c past k
+name_frees : (s mask error : ℕ) (c : SlotCommand) (past : History) (k : Ledger) → Names k.unanswered mask → has_bit mask s ≡ true → InLife s c past k
     → IsFree (answers k error false) s
-name_frees s mask error c past k names set (Unsent free quiet unset none) =
+name_frees s mask error c past k names set (Unsent free quiet unset none counted) =
     absurd (first_stands s k.unanswered (named_first s mask k.unanswered names set) free.unanswered)
-name_frees s mask error c past k names set (Open found yet other unset none) =
+name_frees s mask error c past k names set (Open found yet other unset none counted) =
     absurd (first_stands s k.unanswered (named_first s mask k.unanswered names set) yet)
-name_frees s mask error c past k names set (Moves v moving same yet m) =
+name_frees s mask error c past k names set (Moves v moving same yet m counted) =
     absurd (first_stands s k.unanswered (named_first s mask k.unanswered names set) yet)
-name_frees s mask error c past k names set (ReadEnded at r e quiet there same stands) = free_ended s mask error (is_set_up s past) k names set e
-name_frees s mask error c past k names set (WriteEnded at w e quiet there same stands) = free_ended s mask error (is_set_up s past) k names set e
+name_frees s mask error c past k names set (ReadEnded at r e quiet there same stands counted) = free_ended s mask error (is_set_up s past) k names set e
+name_frees s mask error c past k names set (WriteEnded at w e quiet there same stands counted) = free_ended s mask error (is_set_up s past) k names set e
 
 ended_left : (s mask error : ℕ) (b : Bool) (k : Ledger) → Names k.unanswered mask → has_bit mask s ≡ false → IsEndedBy s b k
     → IsEndedBy s b (answers k error false)
 ended_left s mask error b k names unset e =
     record { unanswered = once_left s mask k.unanswered e.unanswered names unset; outstanding = e.outstanding; moving = e.moving; unset = e.unset }
 
-name_other : (s mask error : ℕ) (c : Command) (past : History) (k : Ledger) → Names k.unanswered mask → has_bit mask s ≡ false → InLife s c past k
+name_other : (s mask error : ℕ) (c : SlotCommand) (past : History) (k : Ledger) → Names k.unanswered mask → has_bit mask s ≡ false → InLife s c past k
     → InLife s c (Named mask ∷ past) (answers k error false)
-name_other s mask error c past k names other (Unsent free quiet unset none) =
-    Unsent (record { outstanding = free.outstanding; unanswered = has_left s k.unanswered free.unanswered; moving = free.moving }) quiet unset none
-name_other s mask error c past k names other (Open found yet beside unset none) = Open found (has_left s k.unanswered yet) beside unset none
-name_other s mask error c past k names other (Moves v moving same yet m) =
+name_other s mask error c past k names other (Unsent free quiet unset none counted) =
+    Unsent (record { outstanding = free.outstanding; unanswered = has_left s k.unanswered free.unanswered; moving = free.moving }) quiet unset none counted
+name_other s mask error c past k names other (Open found yet beside unset none counted) = Open found (has_left s k.unanswered yet) beside unset none counted
+name_other s mask error c past k names other (Moves v moving same yet m counted) =
     let n : IsLastOf v past = m.names in
     Moves v moving same (has_left s k.unanswered yet)
     (record {
@@ -250,11 +255,11 @@ name_other s mask error c past k names other (Moves v moving same yet m) =
       fresh = m.fresh;
       asked = m.asked;
       stands = m.stands;
-    })
-name_other s mask error c past k names other (ReadEnded at r e quiet there same stands) =
-    ReadEnded at r (ended_left s mask error (is_set_up s past) k names other e) quiet there same stands
-name_other s mask error c past k names other (WriteEnded at w e quiet there same stands) =
-    WriteEnded at w (ended_left s mask error (is_set_up s past) k names other e) quiet there same stands
+    }) (record { before = counted.before; now = counted.now })
+name_other s mask error c past k names other (ReadEnded at r e quiet there same stands counted) =
+    ReadEnded at r (ended_left s mask error (is_set_up s past) k names other e) quiet there same stands counted
+name_other s mask error c past k names other (WriteEnded at w e quiet there same stands counted) =
+    WriteEnded at w (ended_left s mask error (is_set_up s past) k names other e) quiet there same stands counted
 
 pub names_keep : NamesKeep
 names_keep = record { own = name_ends; answered = name_quiet; free = name_frees; other = name_other }

@@ -1,5 +1,5 @@
 -- What Data of the command that moves leaves of each queued command.
-use Rattle.std.proofs.Common.{◌≡◌, ◌==◌, eqb, ℕ, zero, suc, ◌+◌, ◌*◌, Bool, true, false, List, [], ◌∷◌, ◌++◌, append_assoc, length, refl, sym, ap, subst, ◌∙◌, inl, inr, Option, Some, None, arith}
+use Rattle.std.proofs.Common.{◌≡◌, ◌==◌, eqb, ℕ, zero, suc, ◌+◌, ◌*◌, Bool, true, false, List, [], ◌∷◌, ◌++◌, append_assoc, length, length-append, ◌≤◌, refl, sym, ap, subst, ◌∙◌, inl, inr, Option, Some, None, arith}
 use Rattle.std.specs.Prelude.{not, if◌then◌else◌, slice_get, find, filter}
 use Rattle.std.specs.List.{list_any}
 use Rattle.std.proofs.lemmas.Bool.{cases_Bool, eq-eqb, eqb-true, or_from}
@@ -11,7 +11,7 @@ use Rattle.disk_model.specs.Ledger.{Ledger, Moving, ReadOut, Written, ends, send
 use Rattle.disk_model.proofs.CrossLemmas.{after_bytes, but_free, data_down, goes_by, has_more, is_all, with_bytes}
 use Rattle.disk_model.proofs.PlaceLemmas.{length-put}
 use Rattle.hba_laws.specs.History.{Carried, History, filled, filled_from, is_at, is_set_up, next_number, waiting_in}
-use Rattle.disk_ends.specs.Same.{InLife, IsEndedBy, IsLastOf, IsMovingAt, Moves, Open, ReadEnded, Stand, StandsOnce, Unsent, Unset, WriteEnded}
+use Rattle.disk_ends.specs.Same.{InLife, IsEndedBy, IsLastOf, IsMovingAt, IsMovingSince, Moves, Open, ReadEnded, SlotCommand, Stand, StandsOnce, Unsent, Unset, WriteEnded}
 use Rattle.disk_ends.proofs.MoveLemmas.{IsMoved, not_own, other_life, own_life, unset_other}
 use Rattle.disk_ends.proofs.SameLemmas.{data_fills}
 use Rattle.disk_ends.specs.Steps.{DataDown, DataUp}
@@ -27,6 +27,9 @@ get_more (z ∷ xs) ys (suc i) x e = get_more xs ys i x e
 get_last : {X : Type 0} (xs : List X) (x : X) → slice_get (xs ++ x ∷ []) (length xs) ≡ Some x
 get_last [] x = refl
 get_last (z ∷ xs) x = get_last xs x
+
+length_more : {X : Type 0} (xs : List X) (x : X) → length xs ≤ length (xs ++ x ∷ [])
+length_more xs x = let long : length (xs ++ x ∷ []) ≡ length xs + 1 = length-append xs (x ∷ []) in omega (arith, long)
 
 -- a tag that stands there once does so beside another that is put at the end
 once_kept : (s u : ℕ) (us : List ℕ) → eqb u s ≡ false → StandsOnce s us → StandsOnce s (us ++ u ∷ [])
@@ -82,8 +85,12 @@ record EndsBeside (tag : ℕ) (k x : Ledger) : Type 0 where
   outstanding : x.outstanding ≡ filter (λ q. not (q.tag == tag)) k.outstanding
   unanswered : x.unanswered ≡ k.unanswered ++ tag ∷ []
   moving : x.moving ≡ None
+  grows : length k.writes ≤ length x.writes
   reads : (at : ℕ) (r : ReadOut) → slice_get k.reads at ≡ Some r → slice_get x.reads at ≡ Some r
   writes : (at : ℕ) (w : Written) → slice_get k.writes at ≡ Some w → slice_get x.writes at ≡ Some w
+
+counted_on : (since : ℕ) (old new : List Written) → length old ≤ length new → since ≤ length old → since ≤ length new
+counted_on since old new grows counted = omega (arith, grows, counted)
 
 still_ended : (s : ℕ) (b : Bool) (tag : ℕ) (k x : Ledger) → eqb tag s ≡ false → EndsBeside tag k x → IsEndedBy s b k → IsEndedBy s b x
 still_ended s b tag k x other goes e = record {
@@ -93,34 +100,34 @@ still_ended s b tag k x other goes e = record {
   unset = subst (λ (m : Option Moving). Unset m b) (sym goes.moving) tt;
 }
 
-ends_beside : (s : ℕ) (c : Command) (v : Moving) (past later : History) (k x : Ledger) → k.moving ≡ Some v → eqb v.command.tag s ≡ false → c.tag ≡ s
+ends_beside : (s : ℕ) (c : SlotCommand) (v : Moving) (past later : History) (k x : Ledger) → k.moving ≡ Some v → eqb v.command.tag s ≡ false → c.command.tag ≡ s
     → EndsBeside v.command.tag k x
     → waiting_in later ≡ waiting_in past → is_set_up s later ≡ is_set_up s past → filled s later ≡ filled s past → InLife s c past k
     → InLife s c later x
-ends_beside s c v past later k x moving other tag goes waits set fills (Unsent free quiet unset none) =
+ends_beside s c v past later k x moving other tag goes waits set fills (Unsent free quiet unset none counted) =
     Unsent (record {
       outstanding = ap (list_any (λ (q : Command). q.tag == s)) goes.outstanding ∙ but_free s v.command.tag k.outstanding free.outstanding;
       unanswered = ap (has s) goes.unanswered ∙ has_more s v.command.tag k.unanswered free.unanswered other;
       moving = subst (MovesOther s) (sym goes.moving) tt;
-    }) (ap (is_at s) waits ∙ quiet) (set ∙ unset) (fills ∙ none)
-ends_beside s c v past later k x moving other tag goes waits set fills (Open found yet beside unset none) =
-    Open (ap (find (λ (p : Command). p.tag == s)) goes.outstanding ∙ found_kept s v.command.tag k.outstanding c other found)
+    }) (ap (is_at s) waits ∙ quiet) (set ∙ unset) (fills ∙ none) (counted_on c.since k.writes x.writes goes.grows counted)
+ends_beside s c v past later k x moving other tag goes waits set fills (Open found yet beside unset none counted) =
+    Open (ap (find (λ (p : Command). p.tag == s)) goes.outstanding ∙ found_kept s v.command.tag k.outstanding c.command other found)
     (ap (has s) goes.unanswered ∙ has_more s v.command.tag k.unanswered yet other)
-    (subst (MovesOther s) (sym goes.moving) tt) (set ∙ unset) (fills ∙ none)
-ends_beside s c v past later k x moving other tag goes waits set fills (Moves u here same yet m) =
+    (subst (MovesOther s) (sym goes.moving) tt) (set ∙ unset) (fills ∙ none) (counted_on c.since k.writes x.writes goes.grows counted)
+ends_beside s c v past later k x moving other tag goes waits set fills (Moves u here same yet m counted) =
     absurd (not_own s c u v k moving here same tag other)
-ends_beside s c v past later k x moving other tag goes waits set fills (ReadEnded at r e quiet there same stands) =
+ends_beside s c v past later k x moving other tag goes waits set fills (ReadEnded at r e quiet there same stands counted) =
     ReadEnded at r (subst (λ (b : Bool). IsEndedBy s b x) (sym set) (still_ended s (is_set_up s past) v.command.tag k x other goes e))
     (ap (is_at s) waits ∙ quiet) (goes.reads at r there) same
-    (subst (λ (f : ℕ → Option ℕ). Stand f r.bytes) (sym fills) stands)
-ends_beside s c v past later k x moving other tag goes waits set fills (WriteEnded at w e quiet there same stands) =
+    (subst (λ (f : ℕ → Option ℕ). Stand f r.bytes) (sym fills) stands) counted
+ends_beside s c v past later k x moving other tag goes waits set fills (WriteEnded at w e quiet there same stands counted) =
     WriteEnded at w (subst (λ (b : Bool). IsEndedBy s b x) (sym set) (still_ended s (is_set_up s past) v.command.tag k x other goes e))
     (ap (is_at s) waits ∙ quiet) (goes.writes at w there) same
-    (subst (λ (f : ℕ → Option ℕ). Stand f w.bytes) (sym fills) stands)
+    (subst (λ (f : ℕ → Option ℕ). Stand f w.bytes) (sym fills) stands) counted
 
 goes_beside : (k : Ledger) (w : Moving) (write : Bool) → EndsBeside w.command.tag k (ends k w write)
-goes_beside k w true = record { outstanding = refl; unanswered = refl; moving = refl; reads = λ at r e. e; writes = λ at x e. get_more k.writes _ at x e }
-goes_beside k w false = record { outstanding = refl; unanswered = refl; moving = refl; reads = λ at r e. get_more k.reads _ at r e; writes = λ at x e. e }
+goes_beside k w true = record { outstanding = refl; unanswered = refl; moving = refl; grows = length_more k.writes _; reads = λ at r e. e; writes = λ at x e. get_more k.writes _ at x e }
+goes_beside k w false = record { outstanding = refl; unanswered = refl; moving = refl; grows = omega arith; reads = λ at r e. get_more k.reads _ at r e; writes = λ at x e. e }
 
 -- ## The slot's own command ends
 
@@ -154,10 +161,10 @@ put_long s v bytes past long at =
 names_on : (s : ℕ) (v : Moving) (bytes : List ℕ) (past : History) → IsMovingAt s v past → IsLastOf (with_bytes v bytes) (Carried bytes ∷ past)
 names_on s v bytes past at = let n : IsLastOf v past = at.names in record { setup = n.setup; last = n.last; offset = n.offset; count = n.count }
 
-moved_quiet : (s : ℕ) (c : Command) (v : Moving) (past : History) (k : Ledger) → IsMoved s c v past k → is_at s (waiting_in past) ≡ false
+moved_quiet : (s : ℕ) (c : SlotCommand) (v : Moving) (past : History) (k : Ledger) → IsMoved s c v past k → is_at s (waiting_in past) ≡ false
 moved_quiet s c v past k m = let at : IsMovingAt s v past = m.at in at.quiet
 
-data_own : (s : ℕ) (c : Command) (v : Moving) (bytes : List ℕ) (past : History) (k : Ledger) (b write : Bool) → v.command.tag ≡ s
+data_own : (s : ℕ) (c : SlotCommand) (v : Moving) (bytes : List ℕ) (past : History) (k : Ledger) (b write : Bool) → v.command.tag ≡ s
     → v.command.write ≡ write → length bytes ≡ v.count → v.moved + length bytes ≡ bytes_named v.setups
     → IsMoved s c v past k → InLife s c (Carried bytes ∷ past) (after_bytes k (with_bytes v bytes) b write)
 data_own s c v bytes past k false write own way long in_turn m =
@@ -171,7 +178,7 @@ data_own s c v bytes past k false write own way long in_turn m =
       fresh = inr in_turn;
       asked = λ e. cc e;
       stands = data_fills s v bytes past at long in_turn;
-    })
+    }) (record { before = m.counted.before; now = m.counted.now })
 data_own s c v bytes past k true true own way long in_turn m =
     WriteEnded (length k.writes) (record { tag = v.command.tag; at = 512 * v.command.lba; bytes = put v.bytes v.offset bytes })
     (ends_own s (is_set_up s past) k (with_bytes v bytes) true own m.yet) (moved_quiet s c v past k m) (get_last k.writes _)
@@ -181,7 +188,7 @@ data_own s c v bytes past k true true own way long in_turn m =
       writes = ap (λ (q : Command). q.write) (sym m.command) ∙ way;
       long = put_long s v bytes past long m.at ∙ ap (λ (q : Command). 512 * q.count) m.command;
     })
-    (data_fills s v bytes past m.at long in_turn)
+    (data_fills s v bytes past m.at long in_turn) m.counted.now
 data_own s c v bytes past k true false own way long in_turn m =
     ReadEnded (length k.reads) (record { command = v.command; before = v.before; bytes = put v.bytes v.offset bytes })
     (ends_own s (is_set_up s past) k (with_bytes v bytes) false own m.yet) (moved_quiet s c v past k m) (get_last k.reads _)
@@ -190,10 +197,10 @@ data_own s c v bytes past k true false own way long in_turn m =
       reads = ap (λ (q : Command). q.write) (sym m.command) ∙ way;
       long = put_long s v bytes past long m.at ∙ ap (λ (q : Command). 512 * q.count) m.command;
     })
-    (data_fills s v bytes past m.at long in_turn)
+    (data_fills s v bytes past m.at long in_turn) m.counted.before
 
-data_beside : (s : ℕ) (c : Command) (v : Moving) (bytes : List ℕ) (past : History) (k : Ledger) (b write : Bool) → k.moving ≡ Some v
-    → eqb v.command.tag s ≡ false → c.tag ≡ s
+data_beside : (s : ℕ) (c : SlotCommand) (v : Moving) (bytes : List ℕ) (past : History) (k : Ledger) (b write : Bool) → k.moving ≡ Some v
+    → eqb v.command.tag s ≡ false → c.command.tag ≡ s
     → filled s (Carried bytes ∷ past) ≡ filled s past → is_set_up s past ≡ false → InLife s c past k
     → InLife s c (Carried bytes ∷ past) (after_bytes k (with_bytes v bytes) b write)
 data_beside s c v bytes past k false write moving other tag fills unset life =
@@ -202,7 +209,7 @@ data_beside s c v bytes past k true write moving other tag fills unset life =
     ends_beside s c v past (Carried bytes ∷ past) k (ends k (with_bytes v bytes) write) moving other tag
     (goes_beside k (with_bytes v bytes) write) refl refl fills life
 
-data_keeps : (s : ℕ) (c : Command) (v : Moving) (bytes : List ℕ) (past : History) (k : Ledger) (b write : Bool) → k.moving ≡ Some v → c.tag ≡ s
+data_keeps : (s : ℕ) (c : SlotCommand) (v : Moving) (bytes : List ℕ) (past : History) (k : Ledger) (b write : Bool) → k.moving ≡ Some v → c.command.tag ≡ s
     → v.command.write ≡ write → length bytes ≡ v.count
     → (IsMovingAt s v past → v.moved + length bytes ≡ bytes_named v.setups) → InLife s c past k
     → InLife s c (Carried bytes ∷ past) (after_bytes k (with_bytes v bytes) b write)

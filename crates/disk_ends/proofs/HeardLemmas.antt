@@ -37,7 +37,6 @@ use Rattle.hba_fbs.specs.Status.{after_reset, is_busy, is_error, with_bits, with
 use Rattle.hba_fbs.specs.Taking.{admitted, device_cause, heard, heard_now, heard_report, ignores, port_cause, port_of}
 use Rattle.hba_fbs.specs.Tables.{is_sound}
 use Rattle.hba_fbs.specs.Views.{DeviceView, view_of}
-use Rattle.disk_model.specs.declared.request.Command.{Command}
 use Rattle.disk_model.specs.Ends.{IsFree, IsRight}
 use Rattle.disk_model.specs.Laws.{AnswersFirst}
 use Rattle.disk_model.specs.Ledger.{Accepts, Finishes, Ledger, Refuses, Reply, ShowsPage, Signs}
@@ -53,6 +52,7 @@ use Rattle.hba_laws.proofs.ViewLemmas.{IsOwn, is_own, own_below}
 use Rattle.disk_ends.specs.Together.{IsHeard, NoneQueued, Same, told}
 use Rattle.disk_ends.specs.Heard.{HeardAsTold, IsTakenWell}
 use Rattle.disk_ends.proofs.TogetherLemmas.{set_up_beside}
+use Rattle.disk_ends.specs.Same.{SlotCommand}
 
 -- ## Events as lists
 
@@ -196,7 +196,7 @@ there_by own s t None is same = absurd (none_issue t same)
 there_by own s t (Some i) is same = record { issue = i; there = is; work = let e : Some t.work ≡ Some i.work = same in cc e }
 
 module _ (dev : ℕ) (v : DeviceView) (sound : Bool) (frame : List ℕ) (commands : ℕ
-    → Command) (past : History) (k : Ledger) (is : IsOwn dev v.slots) (history : IsTold v past) (same : Same commands past k)
+    → SlotCommand) (past : History) (k : Ledger) (is : IsOwn dev v.slots) (history : IsTold v past) (same : Same commands past k)
     (steady : v.state.resetting ≡ false) where
   issue_there : (s : ℕ) (t : Transfer) → issued s past ≡ Some t → IsThere v.slots s t
   issue_there s t here = there_by v.slots s t (own_issue v.slots s) refl (sym (ap (option_map work_of_transfer) here) ∙ history.issued s)

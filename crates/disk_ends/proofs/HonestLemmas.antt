@@ -1,5 +1,5 @@
 -- What a queued command that is done brought, or left on the medium.
-use Rattle.std.proofs.Common.{◌≡◌, ◌==◌, ◌&&◌, ℕ, zero, suc, ◌+◌, ◌<◌, Bool, true, false, List, [], ◌∷◌, ◌++◌, get_or, refl, sym, ap, subst, ◌∙◌, inl, inr, Option, Some, None, Ok, Result, arith}
+use Rattle.std.proofs.Common.{length, ◌≡◌, ◌==◌, ◌&&◌, ℕ, zero, suc, ◌+◌, ◌<◌, Bool, true, false, List, [], ◌∷◌, ◌++◌, get_or, refl, sym, ap, subst, ◌∙◌, inl, inr, Option, Some, None, Ok, Result, arith, ◌≤◌}
 use Rattle.std.specs.Prelude.{All, is_some, slice_get}
 use Rattle.std.specs.List.{range_with_len}
 use Rattle.std.proofs.lemmas.Bool.{and_parts, cases_Bool, eq-eqb, true≢false}
@@ -21,7 +21,7 @@ use Rattle.disk_model.specs.Histories.{Happening, Sent}
 use Rattle.disk_model.specs.Ledger.{IsRead, Ledger, Names, ReadOut, Written, ledger, listens, medium_with}
 use Rattle.disk_model.proofs.EndsLemmas.{ends_agree}
 use Rattle.hba_laws.specs.History.{History, Named, Transfer, completes, filled, is_all_filled, issued}
-use Rattle.disk_ends.specs.Same.{IsReadOf, IsWriteOf, Stand}
+use Rattle.disk_ends.specs.Same.{IsReadOf, IsWriteOf, SlotCommand, Stand}
 use Rattle.disk_ends.specs.Answers.{ByRead, ByWrite, HasEnded}
 use Rattle.disk_ends.specs.Together.{Same}
 use Rattle.disk_ends.specs.Honest.{AreFilledBy, BroughtSectors, DoneIsHonest, IsDoneHonestly, IsOnMedium, NextIsRight}
@@ -94,28 +94,29 @@ named_by s mask past t done =
 other_way : {X : Type 0} (b : Bool) → b ≡ false → b ≡ true → X
 other_way b unset set = absurd (true≢false (sym set ∙ unset))
 
-brought : (sectors s at : ℕ) (c : Command) (past : History) (t : Transfer) (k : Ledger) (r : ReadOut)
-    → is_all_filled (filled s past) t.work.len ≡ true → All (IsRead sectors) k.reads → slice_get k.reads at ≡ Some r → IsReadOf c r
-    → Stand (filled s past) r.bytes
+brought : (sectors s at : ℕ) (c : SlotCommand) (past : History) (t : Transfer) (k : Ledger) (r : ReadOut)
+    → is_all_filled (filled s past) t.work.len ≡ true → All (IsRead sectors) k.reads → slice_get k.reads at ≡ Some r → IsReadOf c.command r
+    → Stand (filled s past) r.bytes → c.since ≤ length r.before
     → BroughtSectors sectors c (filled s past) t.work.len k
-brought sectors s at c past t k r all reads there of stands =
+brought sectors s at c past t k r all reads there of stands counted =
     let bytes : r.bytes ≡ sectors_at (medium_with sectors r.before) r.command.lba r.command.count =
     at_place (IsRead sectors) k.reads at r there reads in
-    let is : r.bytes ≡ sectors_at (medium_with sectors r.before) c.lba c.count =
+    let is : r.bytes ≡ sectors_at (medium_with sectors r.before) c.command.lba c.command.count =
     bytes ∙ ap (λ (q : Command). sectors_at (medium_with sectors r.before) q.lba q.count) of.command in
     record {
       at = at;
       read = r;
       ended = there;
       command = of.command;
+      since = counted;
       bytes = subst (AreFilledBy (filled s past) t.work.len) is (fills_all (filled s past) t.work.len r.bytes all stands);
     }
 
-entered : (s at : ℕ) (c : Command) (past : History) (t : Transfer) (disk k : Ledger) (w : Written) → c.tag ≡ s
-    → is_all_filled (filled s past) t.work.len ≡ true → AreEntered disk k s → slice_get k.writes at ≡ Some w → IsWriteOf s c w
-    → Stand (filled s past) w.bytes
+entered : (s at : ℕ) (c : SlotCommand) (past : History) (t : Transfer) (disk k : Ledger) (w : Written) → c.command.tag ≡ s
+    → is_all_filled (filled s past) t.work.len ≡ true → AreEntered disk k s → slice_get k.writes at ≡ Some w → IsWriteOf s c.command w
+    → Stand (filled s past) w.bytes → c.since ≤ at
     → IsOnMedium c (filled s past) t.work.len disk
-entered s at c past t disk k w tag all on there of stands =
+entered s at c past t disk k w tag all on there of stands counted =
     let here : slice_get (disk.writes ++ on.later) at ≡ Some w = ap (λ (ws : List Written). slice_get ws at) (sym on.same) ∙ there in
     record {
       at = at;
@@ -123,19 +124,20 @@ entered s at c past t disk k w tag all on there of stands =
       entered =
           before_last (λ (x : Written). (x.tag == s) ≡ false) disk.writes on.later at w here on.others
           (λ other. true≢false (sym (eq-eqb w.tag s of.tag) ∙ other));
+      since = counted;
       tag = of.tag ∙ sym tag;
       place = of.at;
       long = of.long;
       bytes = fills_all (filled s past) t.work.len w.bytes all stands;
     }
 
-pub done_by : (sectors s : ℕ) (c : Command) (past : History) (t : Transfer) (disk k : Ledger) → c.tag ≡ s
+pub done_by : (sectors s : ℕ) (c : SlotCommand) (past : History) (t : Transfer) (disk k : Ledger) → c.command.tag ≡ s
     → is_all_filled (filled s past) t.work.len ≡ true → All (IsRead sectors) k.reads → AreEntered disk k s → HasEnded s c past k
     → IsDoneHonestly sectors c (filled s past) t.work.len disk k
-done_by sectors s c past t disk k tag all reads on (ByRead at r there of stands) =
-    record { reads = λ way. brought sectors s at c past t k r all reads there of stands; writes = λ way. other_way c.write of.reads way }
-done_by sectors s c past t disk k tag all reads on (ByWrite at w there of stands) =
-    record { reads = λ way. other_way c.write way of.writes; writes = λ way. entered s at c past t disk k w tag all on there of stands }
+done_by sectors s c past t disk k tag all reads on (ByRead at r there of stands counted) =
+    record { reads = λ way. brought sectors s at c past t k r all reads there of stands counted; writes = λ way. other_way c.command.write of.reads way }
+done_by sectors s c past t disk k tag all reads on (ByWrite at w there of stands counted) =
+    record { reads = λ way. other_way c.command.write way of.writes; writes = λ way. entered s at c past t disk k w tag all on there of stands counted }
 
 pub names_of : (k : Ledger) (fis : Result Fis FisFault) (f : List ℕ) → fis ≡ Ok (view.SetBits f) → IsRight k fis
     → Names k.unanswered (field Bits SActive f)
@@ -146,7 +148,7 @@ names_of k fis f is right =
 -- where both ends agree
 pub done_where : (sectors : ℕ) (disk host : List Happening) (down up : List (List ℕ)) (bytes f : List ℕ) → EndsAgree sectors disk host down (bytes ∷ up)
     → IsRight (ledger host) (seen bytes) → seen bytes ≡ Ok (view.SetBits f)
-    → (commands : ℕ → Command) (past : History) → Same commands past (ledger host)
+    → (commands : ℕ → SlotCommand) (past : History) → Same commands past (ledger host)
     → (s : ℕ) (t : Transfer) → issued s past ≡ Some t → is_queued t.work.kind ≡ true
     → completes s (Named (field Bits SActive f)) past t.work ≡ true
     → IsDoneHonestly sectors (commands s) (filled s past) t.work.len (ledger disk) (ledger host)

@@ -9,7 +9,6 @@ use Rattle.slots.specs.Slots.{own_issue}
 use Rattle.slots.specs.declared.table.Context.{Context}
 use Rattle.hba_fbs.specs.Taking.{port_of}
 use Rattle.hba_fbs.specs.Views.{view_of}
-use Rattle.disk_model.specs.declared.request.Command.{Command}
 use Rattle.disk_model.specs.Ends.{Fits, FitsAll, IsCareful}
 use Rattle.disk_model.specs.Histories.{Happening, Plugged, Received, Sent}
 use Rattle.disk_model.specs.Ledger.{Ledger, empty, ledger, ledger_after, listens}
@@ -26,6 +25,7 @@ use Rattle.disk_ends.proofs.IssueJoins.{joins_issues, none_where, stays_joined}
 use Rattle.disk_ends.proofs.JoinLemmas.{joins_frames}
 use Rattle.disk_ends.proofs.OrderJoins.{joins_commands, joins_data, joins_others}
 use Rattle.disk_ends.proofs.TogetherLemmas.{same_goes_on}
+use Rattle.disk_ends.specs.Same.{SlotCommand}
 
 -- ## One happening more
 
@@ -63,7 +63,7 @@ plugged_is = refl
 
 -- ## Each event
 
-kept_more : (n : ℕ) (new : Host) (given : List Happening) (e : Happening) (commands : ℕ → Command) (past : History) → IsCareful given
+kept_more : (n : ℕ) (new : Host) (given : List Happening) (e : Happening) (commands : ℕ → SlotCommand) (past : History) → IsCareful given
     → FitsOne (ledger given) e → IsJoined n commands new past (listens (ledger given) e)
     → IsKept n new (given ++ e ∷ []) commands past
 kept_more n new given e commands past careful fits joined = record {
@@ -77,8 +77,8 @@ no_context n host past history none c now =
     let agrees : ContextAgrees _ c _ past = history.agrees.context_agrees c now in
     true≢false (sym agrees.of_issue ∙ ap is_some (none c.slot))
 
-kept_plugged : (n : ℕ) (host : Host) (commands : ℕ → Command) (past : History) → IsHistoryOf n host past
-    → ((s : ℕ) → own_issue (view_of n host.port).slots s ≡ None) → ((s : ℕ) → (commands s).tag ≡ s)
+kept_plugged : (n : ℕ) (host : Host) (commands : ℕ → SlotCommand) (past : History) → IsHistoryOf n host past
+    → ((s : ℕ) → own_issue (view_of n host.port).slots s ≡ None) → ((s : ℕ) → (commands s).command.tag ≡ s)
     → IsKept n host (Plugged ∷ []) commands past
 kept_plugged n host commands past history none tags =
     let nothing : (s : ℕ) → issued s past ≡ None = λ s. none_where (issued s past) (history.issued s ∙ ap (option_map work_of_issue) (none s)) in
@@ -94,7 +94,7 @@ kept_plugged n host commands past history none tags =
       });
     }
 
-kept_given : (n : ℕ) (new : Host) (frame : Stamped) (given : List Happening) (e : event.Event) (commands : ℕ → Command) (past : History)
+kept_given : (n : ℕ) (new : Host) (frame : Stamped) (given : List Happening) (e : event.Event) (commands : ℕ → SlotCommand) (past : History)
     → IsFrame frame.bytes → IsCareful given
     → JoinsGiven n commands frame.bytes e past (ledger given) new → IsKept n new (given ++ Received (marked frame.bytes 0) ∷ []) commands (e ∷ past)
 kept_given n new frame given e commands past framed careful j =
@@ -102,7 +102,7 @@ kept_given n new frame given e commands past framed careful j =
     kept_more n new given (Received (marked frame.bytes 0)) commands (e ∷ past) careful (a.fits j.fits)
     (subst (IsJoined n commands new (e ∷ past)) (sym a.down) j.joined)
 
-kept : (n : ℕ) (host : Host) (given : List Happening) (commands : ℕ → Command) (past : History) → n < 15 → IsHosted n host given commands past
+kept : (n : ℕ) (host : Host) (given : List Happening) (commands : ℕ → SlotCommand) (past : History) → n < 15 → IsHosted n host given commands past
     → IsKept n host given commands past
 kept n host given commands past below (plugged h c p history none tags) = kept_plugged n h c p history none tags
 kept n host given commands past below (stays old new g c p same hosted) =
@@ -121,9 +121,9 @@ kept n host given commands past below (hears old new bytes report g c p sound pl
     subst (λ (m : ℕ). IsJoined m c new (told (seen (marked bytes n)) ++ p) (listens (ledger g) (Sent (marked bytes n)))) from_n next in
     kept_more n new g (Sent bytes) c (told (seen (marked bytes n)) ++ p) before.careful tt
     (subst (IsJoined n c new (told (seen (marked bytes n)) ++ p)) a.up mine)
-kept n host given commands past below (issues old new value g c next p sound chosen does tags names hosted) =
+kept n host given commands past below (issues old new value g c next p sound chosen does tags names counted hosted) =
     let before : IsKept n old g c p = kept n old g c p below hosted in
-    record { careful = before.careful; joined = joins_issues n value old new c next p (ledger g) sound below chosen does tags names before.joined }
+    record { careful = before.careful; joined = joins_issues n value old new c next p (ledger g) sound below chosen does tags names counted before.joined }
 kept n host given commands past below (sends old new frame slot command f t g c p sound framed does out here queued cfis request signed hosted) =
     let before : IsKept n old g c p = kept n old g c p below hosted in
     kept_given n new frame g (event.Sent slot) c p framed before.careful

@@ -1,5 +1,5 @@
 -- Commands are issued, and reports say that they are done, at a port that is joined to a disk's ledger.
-use Rattle.std.proofs.Common.{◌≡◌, eqb, ℕ, zero, suc, ◌<◌, ◌≤◌, Bool, true, false, ◌∷◌, ◌++◌, refl, sym, ap, subst, ◌∙◌, inl, inr, Option, Some, None, arith}
+use Rattle.std.proofs.Common.{◌≡◌, eqb, ℕ, zero, suc, ◌<◌, ◌≤◌, Bool, true, false, ◌∷◌, ◌++◌, refl, sym, ap, subst, ◌∙◌, inl, inr, Option, Some, None, arith, length}
 use Rattle.std.specs.Prelude.{if◌then◌else◌, is_some}
 use Rattle.std.specs.Option.{option_map}
 use Rattle.std.proofs.lemmas.Bool.{cases_Bool, cases_lt, eq-eqb, eqb-true, le-ltb, lt-ltb, true≢false}
@@ -11,7 +11,6 @@ use Rattle.hba_fbs.specs.declared.register.Register.TheVariants.{Ci}
 use Rattle.hba_fbs.specs.Issuing.{asked, issue_with, issued_slots, view_issued}
 use Rattle.hba_fbs.specs.Views.{DeviceView, Port, view_of}
 use Rattle.hba_fbs.specs.Writing.{view_after}
-use Rattle.disk_model.specs.declared.request.Command.{Command}
 use Rattle.disk_model.specs.Ledger.{Ledger}
 use Rattle.hba_laws.specs.Agreement.{IsTold, work_of_issue, work_of_transfer}
 use Rattle.hba_laws.specs.Client.{own}
@@ -22,42 +21,42 @@ use Rattle.hba_laws.proofs.EventLemmas.{step}
 use Rattle.hba_laws.proofs.IssueLemmas.{asked_free, history_below, own_below_is, transfer_of, with_issued}
 use Rattle.hba_laws.proofs.ViewLemmas.{IsOwn, ext, is_own, issue_below, own_below, own_issued}
 use Rattle.slots.proofs.TableLemmas.{own_at}
-use Rattle.disk_ends.specs.Same.{InLife}
+use Rattle.disk_ends.specs.Same.{InLife, SlotCommand}
 use Rattle.disk_ends.specs.Together.{Same, is_sent, with_command}
-use Rattle.disk_ends.specs.Joined.{IsAskedBy, JoinsIssues, SentAgrees, StaysJoined}
+use Rattle.disk_ends.specs.Joined.{AreCounted, IsAskedBy, JoinsIssues, SentAgrees, StaysJoined}
 use Rattle.disk_ends.proofs.HeardLemmas.{there_by}
 use Rattle.disk_ends.proofs.TogetherLemmas.{same_goes_on}
 
 -- ## Commands are issued
 
-same_map : (a b : ℕ → Command) (past : History) (k : Ledger) → ((s : ℕ) → a s ≡ b s) → Same a past k → Same b past k
-same_map a b past k same joined = subst (λ (f : ℕ → Command). Same f past k) (ext a b same) joined
+same_map : (a b : ℕ → SlotCommand) (past : History) (k : Ledger) → ((s : ℕ) → a s ≡ b s) → Same a past k → Same b past k
+same_map a b past k same joined = subst (λ (f : ℕ → SlotCommand). Same f past k) (ext a b same) joined
 
-own_command : (commands : ℕ → Command) (slot s : ℕ) (b : Bool) → eqb slot s ≡ b → (if b then commands slot else commands s) ≡ commands s
+own_command : (commands : ℕ → SlotCommand) (slot s : ℕ) (b : Bool) → eqb slot s ≡ b → (if b then commands slot else commands s) ≡ commands s
 own_command commands slot s true is = ap commands (eqb-true slot s is)
 own_command commands slot s false is = refl
 
-issue_one : (commands : ℕ → Command) (slot : ℕ) (t : Transfer) (past : History) (k : Ledger) → issued slot past ≡ None → Same commands past k
+issue_one : (commands : ℕ → SlotCommand) (slot : ℕ) (t : Transfer) (past : History) (k : Ledger) → issued slot past ≡ None → (commands slot).since ≤ length k.writes → Same commands past k
     → Same commands (Issued slot t ∷ past) k
-issue_one commands slot t past k free same =
+issue_one commands slot t past k free counted same =
     same_map (with_command commands slot (commands slot)) commands (Issued slot t ∷ past) k (λ s. own_command commands slot s (eqb slot s) refl)
-    (same_goes_on.issues commands slot (commands slot) t past k free (same.tags slot) same)
+    (same_goes_on.issues commands slot (commands slot) t past k free (same.tags slot) counted same)
 
 -- the map may name another command where none is issued
-same_named : (commands next : ℕ → Command) (past : History) (k : Ledger) → ((s : ℕ) → (next s).tag ≡ s)
+same_named : (commands next : ℕ → SlotCommand) (past : History) (k : Ledger) → ((s : ℕ) → (next s).command.tag ≡ s)
     → ((s : ℕ) (t : Transfer) → issued s past ≡ Some t → next s ≡ commands s) → Same commands past k → Same next past k
 same_named commands next past k tags names same = record {
   fine = same.fine;
   tags = tags;
-  live = λ s t there queued. subst (λ (c : Command). InLife s c past k) (sym (names s t there)) (same.live s t there queued);
+  live = λ s t there queued. subst (λ (c : SlotCommand). InLife s c past k) (sym (names s t there)) (same.live s t there queued);
   free = same.free;
   unsent = same.unsent;
   untouched = same.untouched;
   talk = same.talk;
 }
 
-module _ (memory : Memory) (asks : ℕ → Option issued_command.Command) (commands : ℕ → Command) (past : History) (k : Ledger) (free : (s : ℕ) → s < 32
-    → is_some (asks s) ≡ true → issued s past ≡ None) where
+module _ (memory : Memory) (asks : ℕ → Option issued_command.Command) (commands : ℕ → SlotCommand) (past : History) (k : Ledger) (free : (s : ℕ) → s < 32
+    → is_some (asks s) ≡ true → issued s past ≡ None) (counted : AreCounted asks commands k) where
   later_slot : (m s : ℕ) → suc m ≤ s → eqb m s ≡ false
   later_slot m s above = elim (cases_Bool (eqb m s)) [
     | inl is ↦ let same : m ≡ s = eqb-true m s is in absurd (omega (arith, same, above))
@@ -77,7 +76,7 @@ module _ (memory : Memory) (asks : ℕ → Option issued_command.Command) (comma
   one_more m None lt is same = same
   one_more m (Some command) lt is same =
       issue_one commands m (transfer_of memory command) (history_below memory asks past m) k (above m m (omega arith)
-      ∙ free m lt (ap is_some is)) same
+      ∙ free m lt (ap is_some is)) (counted m (ap is_some is)) same
 
   same_below : (m : ℕ) → m ≤ 32 → Same commands past k → Same commands (history_below memory asks past m) k
   same_below zero lt same = same
@@ -149,7 +148,7 @@ view_issued_is n value port memory chosen =
     (eq-eqb n port.registers.chosen (sym chosen))
 
 pub joins_issues : JoinsIssues
-joins_issues n value host new commands next past k sound below chosen does tags names joined =
+joins_issues n value host new commands next past k sound below chosen does tags names counted joined =
     let r = host.port.registers in
     let asks : ℕ → Option issued_command.Command = asked host.port.registers host.memory value in
     let v : DeviceView = view_of n host.port in
@@ -172,7 +171,7 @@ joins_issues n value host new commands next past k sound below chosen does tags 
       history = step n host sound past joined.history (Wrote Ci value) new (omega (arith, below)) tt does;
       same =
           subst (λ (h : History). Same next h k) (sym touch_is)
-          (same_below host.memory (asked host.port.registers host.memory value) next past k free 32 (omega arith) named);
+          (same_below host.memory (asked host.port.registers host.memory value) next past k free counted 32 (omega arith) named);
       sent = λ s i there.
           let here : own_issue (issued_slots host.port.registers.chosen (asked host.port.registers host.memory value) v.slots) s ≡ Some i =
           sym (ap (λ (w : DeviceView). own_issue w.slots s) view_is) ∙ there in
@@ -184,7 +183,7 @@ joins_issues n value host new commands next past k sound below chosen does tags 
                 let with_it =
                 sym (ap (λ (b : Bool). if b then issue_with host.port.registers.chosen (asked host.port.registers host.memory value s)
                 (own_issue v.slots s) else own_issue v.slots s) (lt-ltb s 32 lt)) ∙ by_slot in
-                sent_with host.memory (asked host.port.registers host.memory value) next past k free host.port.registers.chosen s i
+                sent_with host.memory (asked host.port.registers host.memory value) next past k free counted host.port.registers.chosen s i
                 (asked host.port.registers host.memory value s) (own_issue v.slots s) lt refl (λ j old. joined.sent s j old) with_it
             | inr ge ↦
                 let old : own_issue v.slots s ≡ Some i =

@@ -32,7 +32,6 @@ use Rattle.hba_fbs.specs.Status.{after_reset, is_busy, is_error, with_bits, with
 use Rattle.hba_fbs.specs.Tables.{is_sound}
 use Rattle.hba_fbs.specs.Taking.{admitted, heard, heard_now, ignores, port_of}
 use Rattle.hba_fbs.specs.Views.{DeviceView, view_of}
-use Rattle.disk_model.specs.declared.request.Command.{Command}
 use Rattle.disk_model.specs.Ends.{IsFree, IsRight, MovesOther}
 use Rattle.disk_model.specs.Laws.{ActivatesRight, AsksOnce, CarriesNext, CarriesRight, SetsUpRight, bytes_named}
 use Rattle.disk_model.specs.Ledger.{Ledger, Moving, activates, answered, listens_up}
@@ -45,7 +44,7 @@ use Rattle.hba_laws.specs.Hosts.{TakesFrame, Took}
 use Rattle.hba_laws.proofs.AgreeLemmas.{unless_some}
 use Rattle.hba_laws.proofs.EventLemmas.{step}
 use Rattle.hba_laws.proofs.ViewLemmas.{own_freed}
-use Rattle.disk_ends.specs.Same.{InLife, IsMovingAt}
+use Rattle.disk_ends.specs.Same.{InLife, IsMovingAt, SlotCommand}
 use Rattle.disk_ends.specs.Together.{NoneQueued, Same, is_sent, told}
 use Rattle.disk_ends.specs.Heard.{IsToldSo}
 use Rattle.disk_ends.specs.Joined.{IsAskedBy, JoinsFrames}
@@ -355,7 +354,7 @@ queued_or : (t : Transfer) (b : Bool) → is_queued t.work.kind ≡ b → (NoneQ
 queued_or t true is some = is
 queued_or t false is some = absurd (some is)
 
-living_by : (commands : ℕ → Command) (past : History) (k : Ledger) (v : Moving) → Same commands past k → k.moving ≡ Some v → (o : Option Transfer)
+living_by : (commands : ℕ → SlotCommand) (past : History) (k : Ledger) (v : Moving) → Same commands past k → k.moving ≡ Some v → (o : Option Transfer)
     → issued v.command.tag past ≡ o → (NoneQueued o → ⊥) → IsLiving v.command.tag v past k
 living_by commands past k v same moving None here some = absurd (some tt)
 living_by commands past k v same moving (Some t) here some =
@@ -365,7 +364,7 @@ living_by commands past k v same moving (Some t) here some =
     let own = own_life v.command.tag (commands v.command.tag) v past k moving refl life in
     record { transfer = t; there = here; at = own.at }
 
-living : (commands : ℕ → Command) (past : History) (k : Ledger) (v : Moving) → Same commands past k → k.moving ≡ Some v
+living : (commands : ℕ → SlotCommand) (past : History) (k : Ledger) (v : Moving) → Same commands past k → k.moving ≡ Some v
     → IsLiving v.command.tag v past k
 living commands past k v same moving =
     living_by commands past k v same moving (issued v.command.tag past) refl (λ none.
@@ -381,7 +380,7 @@ setup_of c ends past (Some h) g is agrees = let same : h ≡ g = cc is in subst 
 zero_left : (carried_count left count moved all : ℕ) → carried_count + left ≡ count → moved + count ≡ all → moved ≡ all → left ≡ count
 zero_left carried_count left count moved all gone in_turn done = omega arith
 
-asks_now : (commands : ℕ → Command) (v : DeviceView) (past : History) (k : Ledger) (current : Moving) (c : Context) → IsTold v past
+asks_now : (commands : ℕ → SlotCommand) (v : DeviceView) (past : History) (k : Ledger) (current : Moving) (c : Context) → IsTold v past
     → Same commands past k → k.moving ≡ Some current → AsksOnce current → v.slots.context ≡ Some c
     → IsAskedBy (activated c) (activates k k.moving)
 asks_now commands v past k current c history same moving once now =
@@ -413,7 +412,7 @@ asks_now commands v past k current c history same moving once now =
 -- ## A FIS comes
 
 module _ (dev : ℕ) (v : DeviceView) (sound : Bool) (frame : List ℕ) (commands : ℕ
-    → Command) (past : History) (k : Ledger) (history : IsTold v past) (same : Same commands past k) (active : (c : Context)
+    → SlotCommand) (past : History) (k : Ledger) (history : IsTold v past) (same : Same commands past k) (active : (c : Context)
     → v.slots.context ≡ Some c → c.activated ≡ true → IsAskedBy c k) where
   abbrev Asks : Result Fis FisFault → Heard → Type 0
   Asks r h = (c : Context) → (moved h.happening v.slots).context ≡ Some c → c.activated ≡ true → IsAskedBy c (listens_up k r)

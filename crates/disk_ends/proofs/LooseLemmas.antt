@@ -25,7 +25,7 @@ use Rattle.disk_model.proofs.AnewLemmas.{after_more, ends_agree_anew}
 use Rattle.disk_model.proofs.EndsLemmas.{FitsOne, careful_last, ledger_push, run_before, sent_right}
 use Rattle.disk_ends.specs.Files.{IsOfDisk}
 use Rattle.disk_ends.specs.Line.{EachReply, IsFailed, IsLoose, IsNoSignature, IsSigning, IsUnsigned, IsWatchedWell, LinesBegin, NoneSigns, PluggingLeavesReset, ToSign, Unsigned}
-use Rattle.disk_ends.specs.Watched.{Erred, Fine, IsErred, IsLastError, IsWatched, IsWatchedTo}
+use Rattle.disk_ends.specs.Watched.{Erred, Fine, IsErred, IsErredSince, IsLastError, IsWatched, IsWatchedTo}
 use Rattle.disk_ends.proofs.AnewJoins.{careful_more}
 use Rattle.disk_ends.proofs.FollowedLemmas.{run_to, same_first}
 use Rattle.disk_ends.proofs.LineLemmas.{no_end, none_signs_push, unsigned_by}
@@ -277,7 +277,7 @@ module _ (plan : DiskPlan) (sectors : ℕ) (base disk given : List Happening) (d
       let right : AreRight (ledger given) before = (ends_agree_anew plan sectors base followed given below [] before w.size run linked w.careful).right in
       let quiet : NoneSigns (before ++ error ∷ []) =
       none_signs_push before error (none_signs (ledger given) before unsigned right) (error_unsigned (seen error) fails) in
-      (erred_unsigned (ledger disk) erred, subst NoneSigns (sym up_is) quiet)
+      (erred_unsigned (ledger disk) erred.now, subst NoneSigns (sym up_is) quiet)
 
   loosens_to : IsUnsigned (ledger given) → IsLoose (ledger disk) down up
   loosens_to unsigned =
@@ -352,10 +352,10 @@ module _ (plan : DiskPlan) (sectors : ℕ) (base disk given : List Happening) (d
   next_of_disk fine = let watched : IsWatched base disk given down [] (bytes ∷ up) = w.watched in mine_to watched.to_error fine
 
   next_erred : (followed later : List Happening) (error : List ℕ) (below before : List (List ℕ)) → disk ≡ followed ++ Sent error ∷ later
-      → bytes ∷ up ≡ before ++ error ∷ [] → reports (seen error) ≡ true → IsLinkedOn base followed given below [] before → IsErred (ledger disk)
+      → bytes ∷ up ≡ before ++ error ∷ [] → reports (seen error) ≡ true → IsLinkedOn base followed given below [] before → IsErredSince followed disk
       → IsLastError base disk down up bytes ⊎ (reports (seen bytes) ≡ false)
   next_erred followed later error below [] disk_is up_is fails linked erred =
-      inl (next_fails base disk given down up bytes w.watched error up_is fails erred)
+      inl (next_fails base disk given down up bytes w.watched error up_is fails erred.now)
   next_erred followed later error below (b ∷ before) disk_is up_is fails linked erred =
       let first = same_first bytes b up (before ++ error ∷ []) up_is in
       let run = run_to plan sectors disk followed (Sent error ∷ later) disk_is w.run in

@@ -22,7 +22,6 @@ use Rattle.hba_commands.specs.declared.command.Command as issued_command
 use Rattle.hba_fbs.specs.Sending.{Data, Gives, Order, Outgoing, data_fis, gathered, outgoing}
 use Rattle.hba_fbs.specs.Tables.{prds_of}
 use Rattle.hba_fbs.specs.Views.{DeviceView, view_of}
-use Rattle.disk_model.specs.declared.request.Command.{Command}
 use Rattle.disk_model.specs.declared.request.Request.{Request}
 use Rattle.disk_model.specs.declared.request.Request.TheVariants.{Queue}
 use Rattle.disk_model.specs.Ends.{Fits, FitsData, FitsRequest, IsAskedFor, IsFree}
@@ -47,6 +46,7 @@ use Rattle.disk_ends.proofs.TogetherLemmas.{same_goes_on}
 use Rattle.disk_ends.specs.Together.{AsksOne}
 use Rattle.disk_ends.proofs.AnswerLemmas.{IsBeside, asks_beside}
 use Rattle.disk_ends.proofs.JoinLemmas.{WasSent, asked_same, inactive, set_sent}
+use Rattle.disk_ends.specs.Same.{SlotCommand}
 
 -- ## A command goes out
 
@@ -122,7 +122,7 @@ record IsOrdered (n slot : ℕ) (t : Transfer) (past : History) (host : Host) : 
   unsent : is_sent slot past ≡ false
   waits : NothingWaits past
 
-ordered : (n slot : ℕ) (host : Host) (command : issued_command.Command) (t : Transfer) (commands : ℕ → Command) (past : History) (k : Ledger)
+ordered : (n slot : ℕ) (host : Host) (command : issued_command.Command) (t : Transfer) (commands : ℕ → SlotCommand) (past : History) (k : Ledger)
     → IsHost host → outgoing host.port host.memory ≡ Order n slot command
     → issued slot past ≡ Some t → is_control t.work.kind ≡ false → IsJoined n commands host past k → IsOrdered n slot t past host
 ordered n slot host command t commands past k sound out here control joined =
@@ -143,14 +143,14 @@ ordered n slot host command t commands past k sound out here control joined =
     }
 
 -- the ledger's part of it
-record IsAdded (commands : ℕ → Command) (slot : ℕ) (f : List ℕ) (past : History) (k x : Ledger) : Type 0 where
+record IsAdded (commands : ℕ → SlotCommand) (slot : ℕ) (f : List ℕ) (past : History) (k x : Ledger) : Type 0 where
   fits : FitsRequest k (request_of f)
   later : asks k (request_of f) k.failed ≡ x
   moving : x.moving ≡ k.moving
   same : Same commands (event.Sent slot ∷ past) x
 
 joins_order : (n slot : ℕ) (host new : Host) (frame : Stamped) (command : issued_command.Command) (f : List ℕ) (t : Transfer) (commands : ℕ
-    → Command) (past : History) (k x : Ledger) → IsHost host → n < 15
+    → SlotCommand) (past : History) (k x : Ledger) → IsHost host → n < 15
     → Does host (Gave (Some frame)) new → outgoing host.port host.memory ≡ Order n slot command → seen command.cfis ≡ Ok (view.RegH2D f)
     → IsOrdered n slot t past host → IsAdded commands slot f past k x
     → IsJoined n commands host past k → JoinsGiven n commands frame.bytes (event.Sent slot) past k new
@@ -193,11 +193,11 @@ pub joins_commands : JoinsCommands
 joins_commands n slot host new frame command f t commands past k sound below does out here queued cfis request signed joined =
     let o : IsOrdered n slot t past host = ordered n slot host command t commands past k sound out here (not_control t.work.kind queued) joined in
     let q : QueuesOne commands slot past k = same_goes_on.queues commands slot t past k here queued o.unsent signed o.waits joined.same in
-    let free : IsFree k (commands slot).tag = q.fits.0 in
-    joins_order n slot host new frame command f t commands past k (asks k (Queue (commands slot)) k.failed) sound below does out cfis o (record {
+    let free : IsFree k (commands slot).command.tag = q.fits.0 in
+    joins_order n slot host new frame command f t commands past k (asks k (Queue (commands slot).command) k.failed) sound below does out cfis o (record {
       fits = subst (FitsRequest k) (sym request) q.fits;
       later = ap (λ (r : Request). asks k r k.failed) request;
-      moving = ap (λ (l : Ledger). l.moving) (opens_free k (commands slot) joined.same.fine free.outstanding);
+      moving = ap (λ (l : Ledger). l.moving) (opens_free k (commands slot).command joined.same.fine free.outstanding);
       same = q.same;
     }) joined
 

@@ -14,7 +14,6 @@ use Rattle.hba_fbs.specs.Issuing.{view_issued}
 use Rattle.hba_fbs.specs.Views.{DeviceView, view_of}
 use Rattle.hba_fbs.specs.Writing.{view_after}
 use Rattle.disk_model.specs.declared.plan.DiskPlan.{DiskPlan}
-use Rattle.disk_model.specs.declared.request.Command.{Command}
 use Rattle.disk_model.specs.Anew.{IsClear, OwesOnly}
 use Rattle.disk_model.specs.Ends.{Fits, FitsData, reports}
 use Rattle.disk_model.specs.Histories.{Happening, Received, Sent}
@@ -37,6 +36,7 @@ use Rattle.disk_ends.proofs.FileLaws.{files_stay_fine}
 use Rattle.disk_ends.proofs.LooseLemmas.{lines_begin, not_base, not_waited}
 use Rattle.disk_ends.proofs.PhaseLemmas.{error_faults, none_is}
 use Rattle.disk_ends.proofs.WatchingLemmas.{watches_what_is_fine}
+use Rattle.disk_ends.specs.Same.{SlotCommand}
 
 -- ## Nothing is given
 
@@ -59,7 +59,7 @@ nothing_is_given k reply wanted bytes owes fits = given_none k reply wanted (see
 -- ## Where both began
 
 module _ (n : ℕ) (base : List Happening) (below : n < 15) where
-  began_clear : (host : Host) (given : List Happening) (commands : ℕ → Command) (past : History) → IsHostedOn n base host given commands past
+  began_clear : (host : Host) (given : List Happening) (commands : ℕ → SlotCommand) (past : History) → IsHostedOn n base host given commands past
       → IsClear (ledger base)
   began_clear host given commands past (anew.opens h c p opening) = opening.clear
   began_clear host given commands past (anew.stays old new g c p same hosted) = began_clear old g c p hosted
@@ -67,7 +67,7 @@ module _ (n : ℕ) (base : List Happening) (below : n < 15) where
       began_clear old g c p hosted
   began_clear host given commands past (anew.hears old new bytes report g c p sound plain framed from_n well right short hosted) =
       began_clear old g c p hosted
-  began_clear host given commands past (anew.issues old new value g c next p sound chosen does tags names hosted) = began_clear old g c p hosted
+  began_clear host given commands past (anew.issues old new value g c next p sound chosen does tags names counted hosted) = began_clear old g c p hosted
   began_clear host given commands past (anew.sends old new frame slot command f t g c p sound framed does out here queued cfis request signed hosted) =
       began_clear old g c p hosted
   began_clear host given commands past
@@ -76,7 +76,7 @@ module _ (n : ℕ) (base : List Happening) (below : n < 15) where
   began_clear host given commands past (anew.gives old new frame offset len command g c p sound framed does out hosted) = began_clear old g c p hosted
 
   -- more than the base is not the base
-  pub not_yet : (old : Host) (g : List Happening) (c : ℕ → Command) (p : History) (e : Happening) → IsHostedOn n base old g c p → g ++ e ∷ [] ≡ base → ⊥
+  pub not_yet : (old : Host) (g : List Happening) (c : ℕ → SlotCommand) (p : History) (e : Happening) → IsHostedOn n base old g c p → g ++ e ∷ [] ≡ base → ⊥
   not_yet old g c p e hosted same =
       let kept : IsKeptOn n base old g c p = hosted_on_is_kept n base old g c p below hosted in
       not_base base g kept.careful.since e kept.careful.is same
@@ -94,7 +94,7 @@ module _ (n : ℕ) (base : List Happening) (below : n < 15) where
       issued_by false = unset
 
   -- no setup stands there
-  pub began_unset : (host : Host) (given : List Happening) (commands : ℕ → Command) (past : History) → IsHostedOn n base host given commands past
+  pub began_unset : (host : Host) (given : List Happening) (commands : ℕ → SlotCommand) (past : History) → IsHostedOn n base host given commands past
       → given ≡ base → (view_of n host.port).slots.context ≡ None
   began_unset host given commands past (anew.opens h c p opening) same = opening.unset
   began_unset host given commands past (anew.stays old new g c p keeps hosted) same =
@@ -103,7 +103,7 @@ module _ (n : ℕ) (base : List Happening) (below : n < 15) where
       absurd (not_yet old g c p (Sent bytes) hosted same)
   began_unset host given commands past (anew.hears old new bytes report g c p sound plain framed from_n well right short hosted) same =
       absurd (not_yet old g c p (Sent bytes) hosted same)
-  began_unset host given commands past (anew.issues old new value g c next p sound chosen does tags names hosted) same =
+  began_unset host given commands past (anew.issues old new value g c next p sound chosen does tags names counted hosted) same =
       issued_unset old new value does (began_unset old g c p hosted same)
   began_unset host given commands past (anew.sends old new frame slot command f t g c p sound framed does out here queued cfis request signed hosted) same =
       absurd (not_yet old g c p (Received (marked frame.bytes 0)) hosted same)
@@ -116,7 +116,7 @@ module _ (n : ℕ) (base : List Happening) (below : n < 15) where
 -- ## The outcome
 
 module _ (plan : DiskPlan) (sectors : ℕ) (base disk given : List Happening) (down up : List (List ℕ)) (bytes : List ℕ) (n : ℕ) (host : Host)
-    (report : TakeReport) (new : Host) (commands : ℕ → Command) (past : History)
+    (report : TakeReport) (new : Host) (commands : ℕ → SlotCommand) (past : History)
     (x : IsNextTaken plan sectors base disk given down up bytes n host report new commands past) (goes : report.stopped ≡ None) where
   small : n < 16
   small = let below : n < 15 = x.below in omega (arith, below)

@@ -22,7 +22,6 @@ use Rattle.hba_fbs.specs.Tables.{is_sound}
 use Rattle.hba_fbs.specs.Taking.{admitted, device_cause, heard, heard_now, heard_report, ignores, port_of}
 use Rattle.hba_fbs.specs.Views.{DeviceView, view_of}
 use Rattle.disk_model.specs.declared.plan.DiskPlan.{DiskPlan}
-use Rattle.disk_model.specs.declared.request.Command.{Command}
 use Rattle.disk_model.specs.Ends.{reports}
 use Rattle.disk_model.specs.Histories.{Happening, Sent}
 use Rattle.disk_model.specs.Ledger.{IsSize, has_error, ledger}
@@ -47,6 +46,7 @@ use Rattle.disk_ends.proofs.FollowedLemmas.{followed_is_honest, next_or_fails, t
 use Rattle.disk_ends.proofs.HeardLemmas.{heard_as_told}
 use Rattle.disk_ends.proofs.MarkedLemmas.{bits_by, marks_tell_nothing}
 use Rattle.disk_ends.proofs.SignsLemmas.{signature_is_none}
+use Rattle.disk_ends.specs.Same.{SlotCommand}
 
 pub each_done : EachDoneIsHonest
 each_done plan sectors disk given bytes size run n host new report commands past sound below plain framed from_n (Together base down up followed hosted) takes s t lt here queued set =
@@ -132,7 +132,7 @@ none_is (Some x) is = cc is
 
 module _ (plan : DiskPlan) (sectors : ℕ) (base disk given : List Happening) (down up : List (List ℕ)) (bytes : List ℕ) (size : IsSize plan sectors)
     (run : IsDiskRun plan sectors disk) (f : IsFollowed base disk given down [] (bytes ∷ up)) (n : ℕ) (host new : Host) (report : TakeReport)
-    (commands : ℕ → Command) (past : History) (sound : IsHost host) (below : n < 15) (plain : IsFrame bytes) (framed : IsFrame (marked bytes n))
+    (commands : ℕ → SlotCommand) (past : History) (sound : IsHost host) (below : n < 15) (plain : IsFrame bytes) (framed : IsFrame (marked bytes n))
     (from_n : port_of (marked bytes n) ≡ n) (hosted : IsHostedOn n base host given commands past) (takes : TakesFrame host (marked bytes n) report new)
     (heard_it : report.ignored ≡ false) where
   small : n < 16

@@ -236,6 +236,26 @@ errs k (Err e) is = cc is
 pub erred_now : (disk : List Happening) (error : List ℕ) → reports (seen error) ≡ true → IsErred (ledger (disk ++ Sent error ∷ []))
 erred_now disk error is = subst IsErred (sym (ledger_push disk (Sent error))) (errs (ledger disk) (seen error) is)
 
+-- an error ends no write
+writes_by : (k : Ledger) (e : ℕ) (b : Bool) → (answers k e b).writes ≡ k.writes
+writes_by k e true = refl
+writes_by k e false = refl
+
+errs_writes : (k : Ledger) (fis : Result Fis FisFault) → reports fis ≡ true → (listens_up k fis).writes ≡ k.writes
+errs_writes k (Ok (view.SetBits f)) is = writes_by k (field Bits Error f) (has_error f)
+errs_writes k (Ok (view.RegH2D f)) is = cc is
+errs_writes k (Ok (view.RegD2H f)) is = cc is
+errs_writes k (Ok (view.DmaActivate f)) is = cc is
+errs_writes k (Ok (view.DmaSetup f)) is = cc is
+errs_writes k (Ok (view.PioSetup f)) is = cc is
+errs_writes k (Ok (view.Payload f)) is = cc is
+errs_writes k (Ok (view.Unknown f)) is = cc is
+errs_writes k (Err e) is = cc is
+
+pub erred_writes : (disk : List Happening) (error : List ℕ) → reports (seen error) ≡ true
+    → (ledger (disk ++ Sent error ∷ [])).writes ≡ (ledger disk).writes
+erred_writes disk error is = ap (λ (k : Ledger). k.writes) (ledger_push disk (Sent error)) ∙ errs_writes (ledger disk) (seen error) is
+
 passes : (k : Ledger) (r : Request) (failed : Bool) → failed ≡ true → IsPlainRequest r → asks k r failed ≡ k
 passes k (Reset on) failed is plain = absurd plain
 passes k ReadErrorLog failed is plain = absurd plain

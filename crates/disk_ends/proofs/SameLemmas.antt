@@ -15,7 +15,7 @@ use Rattle.disk_model.specs.Ledger.{Ledger, Moving, starts_moving}
 use Rattle.disk_model.proofs.CrossLemmas.{opened, opens_free}
 use Rattle.disk_model.proofs.PutLemmas.{lie_where_put}
 use Rattle.hba_laws.specs.History.{Carried, History, Issued, Sent, SetUp, Setup, Transfer, carried, filled, filled_from, is_at, is_set_up, last_setup, next_number, none_filled, unless, waiting_in}
-use Rattle.disk_ends.specs.Same.{CommandsKeep, DataFills, InLife, IsEndedBy, IsLastOf, IsMovingAt, IssuesKeep, Moves, Open, ReadEnded, SetupsStart, Stand, StandsOnce, Unsent, WriteEnded}
+use Rattle.disk_ends.specs.Same.{CommandsKeep, DataFills, InLife, IsEndedBy, IsLastOf, IsMovingAt, IsMovingSince, IssuesKeep, Moves, Open, ReadEnded, SetupsStart, SlotCommand, Stand, StandsOnce, Unsent, WriteEnded}
 
 -- ## Lists
 
@@ -73,19 +73,19 @@ moving_as s v past later waits set fills last since m = record {
   stands = subst (λ (f : ℕ → Option ℕ). Stand f v.bytes) (sym fills) m.stands;
 }
 
-pub same_life : (s : ℕ) (c : Command) (past later : History) (k : Ledger) → (is_at s (waiting_in past) ≡ false → is_at s (waiting_in later) ≡ false)
+pub same_life : (s : ℕ) (c : SlotCommand) (past later : History) (k : Ledger) → (is_at s (waiting_in past) ≡ false → is_at s (waiting_in later) ≡ false)
     → is_set_up s later ≡ is_set_up s past → filled s later ≡ filled s past → last_setup later ≡ last_setup past → carried later ≡ carried past
     → InLife s c past k → InLife s c later k
-same_life s c past later k waits set fills last since (Unsent free quiet unset none) = Unsent free (waits quiet) (set ∙ unset) (fills ∙ none)
-same_life s c past later k waits set fills last since (Open found yet other unset none) = Open found yet other (set ∙ unset) (fills ∙ none)
-same_life s c past later k waits set fills last since (Moves v moving same yet m) =
-    Moves v moving same yet (moving_as s v past later waits set fills last since m)
-same_life s c past later k waits set fills last since (ReadEnded at r e quiet there same stands) =
+same_life s c past later k waits set fills last since (Unsent free quiet unset none counted) = Unsent free (waits quiet) (set ∙ unset) (fills ∙ none) counted
+same_life s c past later k waits set fills last since (Open found yet other unset none counted) = Open found yet other (set ∙ unset) (fills ∙ none) counted
+same_life s c past later k waits set fills last since (Moves v moving same yet m counted) =
+    Moves v moving same yet (moving_as s v past later waits set fills last since m) (record { before = counted.before; now = counted.now })
+same_life s c past later k waits set fills last since (ReadEnded at r e quiet there same stands counted) =
     ReadEnded at r (subst (λ (b : Bool). IsEndedBy s b k) (sym set) e) (waits quiet) there same
-    (subst (λ (f : ℕ → Option ℕ). Stand f r.bytes) (sym fills) stands)
-same_life s c past later k waits set fills last since (WriteEnded at w e quiet there same stands) =
+    (subst (λ (f : ℕ → Option ℕ). Stand f r.bytes) (sym fills) stands) counted
+same_life s c past later k waits set fills last since (WriteEnded at w e quiet there same stands counted) =
     WriteEnded at w (subst (λ (b : Bool). IsEndedBy s b k) (sym set) e) (waits quiet) there same
-    (subst (λ (f : ℕ → Option ℕ). Stand f w.bytes) (sym fills) stands)
+    (subst (λ (f : ℕ → Option ℕ). Stand f w.bytes) (sym fills) stands) counted
 
 -- ## A command is issued
 
@@ -98,13 +98,14 @@ pub still_not_at : (s : ℕ) (w : Option ℕ) (b : Bool) → is_at s w ≡ false
 still_not_at s w true e = refl
 still_not_at s w false e = e
 
-issue_own : (s : ℕ) (c : Command) (t : Transfer) (past : History) (k : Ledger) → IsFree k s → InLife s c (Issued s t ∷ past) k
-issue_own s c t past k free =
+issue_own : (s : ℕ) (c : SlotCommand) (t : Transfer) (past : History) (k : Ledger) → IsFree k s → c.since ≤ length k.writes
+    → InLife s c (Issued s t ∷ past) k
+issue_own s c t past k free counted =
     let is : eqb s s ≡ true = eq-eqb s s refl in
     Unsent free (not_at s (waiting_in past) (is_at s (waiting_in past)) refl)
-    (ap (λ (b : Bool). if b then false else is_set_up s past) is) (ap (λ (b : Bool). if b then none_filled else filled s past) is)
+    (ap (λ (b : Bool). if b then false else is_set_up s past) is) (ap (λ (b : Bool). if b then none_filled else filled s past) is) counted
 
-issue_other : (s slot : ℕ) (c : Command) (t : Transfer) (past : History) (k : Ledger) → eqb slot s ≡ false → InLife s c past k
+issue_other : (s slot : ℕ) (c : SlotCommand) (t : Transfer) (past : History) (k : Ledger) → eqb slot s ≡ false → InLife s c past k
     → InLife s c (Issued slot t ∷ past) k
 issue_other s slot c t past k other life =
     same_life s c past (Issued slot t ∷ past) k (still_not_at s (waiting_in past) (is_at slot (waiting_in past)))
@@ -135,15 +136,17 @@ not_moving : (s : ℕ) (c : Command) (v : Moving) (m : Option Moving) → m ≡ 
 not_moving s c v m moving same tag other =
     true≢false (sym (eq-eqb v.command.tag s (ap (λ (q : Command). q.tag) same ∙ tag)) ∙ subst (MovesOther s) moving other)
 
-fresh_life : (s : ℕ) (c : Command) (past : History) (k : Ledger) → c.tag ≡ s → IsFree k s → InLife s c past k → IsFresh s past
-fresh_life s c past k tag free (Unsent f quiet unset none) = record { unset = unset; none = none }
-fresh_life s c past k tag free (Open found yet other unset none) = record { unset = unset; none = none }
-fresh_life s c past k tag free (Moves v moving same yet m) = absurd (not_moving s c v k.moving moving same tag free.moving)
-fresh_life s c past k tag free (ReadEnded at r e quiet there same stands) = absurd (not_none s k.unanswered e.unanswered free.unanswered)
-fresh_life s c past k tag free (WriteEnded at w e quiet there same stands) = absurd (not_none s k.unanswered e.unanswered free.unanswered)
+fresh_life : (s : ℕ) (c : SlotCommand) (past : History) (k : Ledger) → c.command.tag ≡ s → IsFree k s → InLife s c past k → IsFresh s past
+fresh_life s c past k tag free (Unsent f quiet unset none counted) = record { unset = unset; none = none }
+fresh_life s c past k tag free (Open found yet other unset none counted) = record { unset = unset; none = none }
+fresh_life s c past k tag free (Moves v moving same yet m counted) = absurd (not_moving s c.command v k.moving moving same tag free.moving)
+fresh_life s c past k tag free (ReadEnded at r e quiet there same stands counted) = absurd (not_none s k.unanswered e.unanswered free.unanswered)
+fresh_life s c past k tag free (WriteEnded at w e quiet there same stands counted) = absurd (not_none s k.unanswered e.unanswered free.unanswered)
 
-sent_own : (s : ℕ) (c : Command) (past : History) (k : Ledger) → c.tag ≡ s → IsFree k s → IsFresh s past → InLife s c (Sent s ∷ past) (opened k c)
-sent_own s c past k tag free fresh = Open (found_last s k.outstanding c free.outstanding tag) free.unanswered free.moving fresh.unset fresh.none
+sent_own : (s : ℕ) (c : SlotCommand) (past : History) (k : Ledger) → c.command.tag ≡ s → IsFree k s → IsFresh s past → c.since ≤ length k.writes
+    → InLife s c (Sent s ∷ past) (opened k c.command)
+sent_own s c past k tag free fresh counted =
+    Open (found_last s k.outstanding c.command free.outstanding tag) free.unanswered free.moving fresh.unset fresh.none counted
 
 ended_beside : (s : ℕ) (b : Bool) (k : Ledger) (other : Command) → eqb other.tag s ≡ false → IsEndedBy s b k → IsEndedBy s b (opened k other)
 ended_beside s b k other differs e = record {
@@ -153,25 +156,34 @@ ended_beside s b k other differs e = record {
   unset = e.unset;
 }
 
-sent_other : (s : ℕ) (c other : Command) (past : History) (k : Ledger) → eqb other.tag s ≡ false → InLife s c past k
+sent_other : (s : ℕ) (c : SlotCommand) (other : Command) (past : History) (k : Ledger) → eqb other.tag s ≡ false → InLife s c past k
     → InLife s c (Sent other.tag ∷ past) (opened k other)
-sent_other s c other past k differs (Unsent free quiet unset none) =
-    Unsent (record { outstanding = free_more s k.outstanding other free.outstanding differs; unanswered = free.unanswered; moving = free.moving }) differs unset none
-sent_other s c other past k differs (Open found yet beside unset none) = Open (found_more s k.outstanding other c found) yet beside unset none
-sent_other s c other past k differs (Moves v moving same yet m) =
+sent_other s c other past k differs (Unsent free quiet unset none counted) =
+    Unsent (record { outstanding = free_more s k.outstanding other free.outstanding differs; unanswered = free.unanswered; moving = free.moving }) differs unset none counted
+sent_other s c other past k differs (Open found yet beside unset none counted) = Open (found_more s k.outstanding other c.command found) yet beside unset none counted
+sent_other s c other past k differs (Moves v moving same yet m counted) =
     Moves v moving same yet (moving_as s v past (Sent other.tag ∷ past) (λ quiet. differs) refl refl refl refl m)
-sent_other s c other past k differs (ReadEnded at r e quiet there same stands) =
-    ReadEnded at r (ended_beside s (is_set_up s past) k other differs e) differs there same stands
-sent_other s c other past k differs (WriteEnded at w e quiet there same stands) =
-    WriteEnded at w (ended_beside s (is_set_up s past) k other differs e) differs there same stands
+    (record { before = counted.before; now = counted.now })
+sent_other s c other past k differs (ReadEnded at r e quiet there same stands counted) =
+    ReadEnded at r (ended_beside s (is_set_up s past) k other differs e) differs there same stands counted
+sent_other s c other past k differs (WriteEnded at w e quiet there same stands counted) =
+    WriteEnded at w (ended_beside s (is_set_up s past) k other differs e) differs there same stands counted
+
+-- the writes that it was counted by are there
+counted_life : (s : ℕ) (c : SlotCommand) (past : History) (k : Ledger) → c.command.tag ≡ s → IsFree k s → InLife s c past k → c.since ≤ length k.writes
+counted_life s c past k tag free (Unsent f quiet unset none counted) = counted
+counted_life s c past k tag free (Open found yet other unset none counted) = counted
+counted_life s c past k tag free (Moves v moving same yet m counted) = counted.now
+counted_life s c past k tag free (ReadEnded at r e quiet there same stands counted) = absurd (not_none s k.unanswered e.unanswered free.unanswered)
+counted_life s c past k tag free (WriteEnded at w e quiet there same stands counted) = absurd (not_none s k.unanswered e.unanswered free.unanswered)
 
 pub commands_keep : CommandsKeep
 commands_keep = record {
   own = λ s c past k tag failed free life.
-      let here : list_any (λ q. q.tag == c.tag) k.outstanding ≡ false =
+      let here : list_any (λ q. q.tag == c.command.tag) k.outstanding ≡ false =
       subst (λ (t : ℕ). list_any (λ q. q.tag == t) k.outstanding ≡ false) (sym tag) free.outstanding in
-      subst (λ (l : Ledger). InLife s c (Sent s ∷ past) l) (sym (opens_free k c failed here))
-      (sent_own s c past k tag free (fresh_life s c past k tag free life));
+      subst (λ (l : Ledger). InLife s c (Sent s ∷ past) l) (sym (opens_free k c.command failed here))
+      (sent_own s c past k tag free (fresh_life s c past k tag free life) (counted_life s c past k tag free life));
   other = λ s c other past k differs failed free life.
       subst (λ (l : Ledger). InLife s c (Sent other.tag ∷ past) l) (sym (opens_free k other failed free.outstanding))
       (sent_other s c other past k differs life);
@@ -179,17 +191,17 @@ commands_keep = record {
 
 -- ## The first DMA Setup of a command
 
-module _ (s tag offset count : ℕ) (to_host : Bool) (c q : Command) (past : History) (k : Ledger) (still : k.moving ≡ None)
+module _ (s tag offset count : ℕ) (to_host : Bool) (c : SlotCommand) (q : Command) (past : History) (k : Ledger) (still : k.moving ≡ None)
     (found : find (λ p. p.tag == tag) k.outstanding ≡ Some q) (answered : is_at tag (waiting_in past) ≡ false)
     (fits : offset + count ≤ 512 * q.count) where
   setup_own : tag ≡ s → eqb tag s ≡ true → InLife s c past k
       → InLife s c (SetUp tag offset count to_host ∷ past) (starts_moving k offset count (Some q))
-  setup_own at is (Unsent free quiet unset none) =
+  setup_own at is (Unsent free quiet unset none counted) =
       absurd (not_both s k.outstanding q (subst (λ (t : ℕ). find (λ p. p.tag == t) k.outstanding ≡ Some q) at found) free.outstanding)
-  setup_own at is (Open here yet other unset none) =
+  setup_own at is (Open here yet other unset none counted) =
       let there : find (λ p. p.tag == s) k.outstanding ≡ Some q = subst (λ (t : ℕ). find (λ p. p.tag == t) k.outstanding ≡ Some q) at found in
-      let both : Some q ≡ Some c = sym there ∙ here in
-      let same : q ≡ c = cc both in
+      let both : Some q ≡ Some c.command = sym there ∙ here in
+      let same : q ≡ c.command = cc both in
       Moves (record {
         command = q;
         before = k.writes;
@@ -209,11 +221,11 @@ module _ (s tag offset count : ℕ) (to_host : Bool) (c q : Command) (past : His
         fresh = inl refl;
         asked = λ e. cc e;
         stands = λ i b e. let empty : filled s past i ≡ None = ap (λ (f : ℕ → Option ℕ). f i) none in cc;
-      })
-  setup_own at is (Moves v moving same yet m) = cc (sym still ∙ moving)
-  setup_own at is (ReadEnded n r e quiet there same stands) =
+      }) (record { before = counted; now = counted })
+  setup_own at is (Moves v moving same yet m counted) = cc (sym still ∙ moving)
+  setup_own at is (ReadEnded n r e quiet there same stands counted) =
       absurd (not_both s k.outstanding q (subst (λ (t : ℕ). find (λ p. p.tag == t) k.outstanding ≡ Some q) at found) e.outstanding)
-  setup_own at is (WriteEnded n w e quiet there same stands) =
+  setup_own at is (WriteEnded n w e quiet there same stands counted) =
       absurd (not_both s k.outstanding q (subst (λ (t : ℕ). find (λ p. p.tag == t) k.outstanding ≡ Some q) at found) e.outstanding)
 
   differs : eqb tag s ≡ false → eqb q.tag s ≡ false
@@ -222,14 +234,14 @@ module _ (s tag offset count : ℕ) (to_host : Bool) (c q : Command) (past : His
       subst (λ (t : ℕ). eqb t s ≡ false) (sym is) other
 
   setup_other : eqb tag s ≡ false → InLife s c past k → InLife s c (SetUp tag offset count to_host ∷ past) (starts_moving k offset count (Some q))
-  setup_other other (Unsent free quiet unset none) =
-      Unsent (record { outstanding = free.outstanding; unanswered = free.unanswered; moving = differs other }) quiet other none
-  setup_other other (Open here yet beside unset none) = Open here yet (differs other) other none
-  setup_other other (Moves v moving same yet m) = cc (sym still ∙ moving)
-  setup_other other (ReadEnded n r e quiet there same stands) =
-      ReadEnded n r (record { unanswered = e.unanswered; outstanding = e.outstanding; moving = differs other; unset = other }) quiet there same stands
-  setup_other other (WriteEnded n w e quiet there same stands) =
-      WriteEnded n w (record { unanswered = e.unanswered; outstanding = e.outstanding; moving = differs other; unset = other }) quiet there same stands
+  setup_other other (Unsent free quiet unset none counted) =
+      Unsent (record { outstanding = free.outstanding; unanswered = free.unanswered; moving = differs other }) quiet other none counted
+  setup_other other (Open here yet beside unset none counted) = Open here yet (differs other) other none counted
+  setup_other other (Moves v moving same yet m counted) = cc (sym still ∙ moving)
+  setup_other other (ReadEnded n r e quiet there same stands counted) =
+      ReadEnded n r (record { unanswered = e.unanswered; outstanding = e.outstanding; moving = differs other; unset = other }) quiet there same stands counted
+  setup_other other (WriteEnded n w e quiet there same stands counted) =
+      WriteEnded n w (record { unanswered = e.unanswered; outstanding = e.outstanding; moving = differs other; unset = other }) quiet there same stands counted
 
 pub setups_start : SetupsStart
 setups_start s tag offset count to_host c q past k still found answered fits life = elim (cases_Bool (eqb tag s)) [

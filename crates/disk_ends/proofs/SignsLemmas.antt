@@ -18,7 +18,6 @@ use Rattle.hba_fbs.specs.Status.{after_reset, is_quiet}
 use Rattle.hba_fbs.specs.Tables.{is_sound}
 use Rattle.hba_fbs.specs.Taking.{admitted, heard, heard_now, ignores, is_running, port_of, view_after_hearing}
 use Rattle.hba_fbs.specs.Views.{DeviceView, view_of}
-use Rattle.disk_model.specs.declared.request.Command.{Command}
 use Rattle.disk_model.specs.Ends.{IsRight}
 use Rattle.disk_model.specs.Laws.{AnswersFirst}
 use Rattle.disk_model.specs.Ledger.{Accepts, Finishes, Ledger, Refuses, Reply, ShowsPage, Signs, answered, listens_up}
@@ -33,6 +32,7 @@ use Rattle.disk_ends.specs.Together.{AtMostAccepts, InTalk, Pages, Queues, Repli
 use Rattle.disk_ends.proofs.AnswerLemmas.{IsBeside, free_beside, life_beside}
 use Rattle.disk_ends.proofs.HeardLemmas.{list_of, own_list}
 use Rattle.disk_ends.proofs.JoinLemmas.{asked_same}
+use Rattle.disk_ends.specs.Same.{SlotCommand}
 
 -- ## The frame
 
@@ -159,7 +159,7 @@ talk_signed past k later signs (Replies reply idle one mine pages) = talk_quiet 
 talk_signed past k later signs (Shows idle one most unset) = let bad : Signs ∷ later ≡ ShowsPage ∷ [] = sym signs ∙ one in cc bad
 talk_signed past k later signs (Pages page idle none one waits) = let bad : Signs ∷ later ≡ [] = sym signs ∙ none in cc bad
 
-same_signed : (commands : ℕ → Command) (past : History) (k : Ledger) (f : List ℕ) → AnswersFirst k.awaited f → is_signature f ≡ true
+same_signed : (commands : ℕ → SlotCommand) (past : History) (k : Ledger) (f : List ℕ) → AnswersFirst k.awaited f → is_signature f ≡ true
     → Same commands past k → Same commands past (answered k)
 same_signed commands past k f answers set same =
     let first = signs_first k.awaited f answers set in
@@ -175,7 +175,7 @@ same_signed commands past k f answers set same =
 
 -- ## Both
 
-pub joins_signs : (host new : Host) (frame : List ℕ) (report : TakeReport) (commands : ℕ → Command) (past : History) (k : Ledger)
+pub joins_signs : (host new : Host) (frame : List ℕ) (report : TakeReport) (commands : ℕ → SlotCommand) (past : History) (k : Ledger)
     → IsSignedWell host frame report new → IsRight k (seen frame) → IsJoined (port_of frame) commands host past k
     → IsJoined (port_of frame) commands new past (listens_up k (seen frame))
 joins_signs host new frame report commands past k well right joined =

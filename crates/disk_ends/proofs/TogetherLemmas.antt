@@ -1,5 +1,5 @@
 -- Both views of a disk go on to say the same.
-use Rattle.std.proofs.Common.{◌≡◌, ◌==◌, ◌&&◌, eqb, ℕ, Bool, true, false, List, [], ◌∷◌, ◌++◌, refl, sym, ap, subst, ◌∙◌, inl, inr, Option, Some, None, Ok, Err, Result}
+use Rattle.std.proofs.Common.{◌≡◌, ◌==◌, ◌&&◌, eqb, ℕ, Bool, true, false, List, [], ◌∷◌, ◌++◌, refl, sym, ap, subst, ◌∙◌, inl, inr, Option, Some, None, Ok, Err, Result, ◌≤◌, length}
 use Rattle.std.specs.Prelude.{◌≢◌, not, if◌then◌else◌, drop, find}
 use Rattle.std.specs.List.{list_any}
 use Rattle.std.proofs.lemmas.Bool.{and_parts, cases_Bool, eq-eqb, eqb-true, or_parts, true≢false}
@@ -22,7 +22,7 @@ use Rattle.disk_model.specs.Ledger.{Ledger, Moving, Signs, activates, answers, a
 use Rattle.disk_model.proofs.CrossLemmas.{after_bytes, alone, asks_fits, bits_up, but_free, data_down, found_not, goes_by, has_more, is_all, opened, opens_free, with_bytes}
 use Rattle.disk_model.proofs.EntersLemmas.{up_leaves}
 use Rattle.hba_laws.specs.History.{Answered, Carried, History, Issued, Named, Sent, SetUp, Transfer, completes, is_at, is_set_up, issued, unless, waiting_in}
-use Rattle.disk_ends.specs.Same.{InLife}
+use Rattle.disk_ends.specs.Same.{InLife, SlotCommand}
 use Rattle.disk_ends.specs.Answers.{IsAlone, IsIdle}
 use Rattle.disk_ends.specs.Together.{AsksOne, InTalk, IsHeard, IsUntouched, IsWaited, NoneQueued, NothingWaits, QueuesOne, Replies, Same, SameGoesOn, is_sent, told, with_command}
 use Rattle.disk_ends.proofs.AnswerLemmas.{IsBeside, answers_keep, asks_beside, free_beside, names_keep, others_keep}
@@ -62,7 +62,7 @@ none_by (Some t) test keeps ends none = one_by t test (is_queued t.work.kind) (t
 
 -- ## An event that issues nothing
 
-record Leaves (commands : ℕ → Command) (past later : History) (k x : Ledger) : Type 0 where
+record Leaves (commands : ℕ → SlotCommand) (past later : History) (k x : Ledger) : Type 0 where
   test : ℕ → Transfer → Bool
   issued_is : (s : ℕ) → issued s later ≡ Stays (issued s past) (test s)
   fine : k.failed ≡ false → x.failed ≡ false
@@ -74,7 +74,7 @@ record Leaves (commands : ℕ → Command) (past later : History) (k x : Ledger)
   untouched : (s : ℕ) → is_sent s later ≡ false → IsFree k s → IsUntouched s past → IsUntouched s later
   talk : InTalk past k → InTalk later x
 
-same_after : (commands : ℕ → Command) (past later : History) (k x : Ledger) → Leaves commands past later k x → Same commands past k
+same_after : (commands : ℕ → SlotCommand) (past later : History) (k x : Ledger) → Leaves commands past later k x → Same commands past k
     → Same commands later x
 same_after commands past later k x l same = record {
   fine = l.fine same.fine;
@@ -146,7 +146,7 @@ idle_free s k idle = record {
   moving = subst (MovesOther s) (sym idle.moving) tt;
 }
 
-opens_same : (commands : ℕ → Command) (past : History) (k : Ledger) → ((s : ℕ) → (commands s).tag ≡ s) → ((s : ℕ) → issued s past ≡ None)
+opens_same : (commands : ℕ → SlotCommand) (past : History) (k : Ledger) → ((s : ℕ) → (commands s).command.tag ≡ s) → ((s : ℕ) → issued s past ≡ None)
     → k.failed ≡ false → IsIdle k → k.awaited ≡ Signs ∷ [] → k.pages ≡ []
     → Same commands past k
 opens_same commands past k tags nothing fine idle signs none = record {
@@ -170,17 +170,17 @@ record IsUntouchedBy (s : ℕ) (at_it set_up : Bool) : Type 0 where
   quiet : at_it ≡ false
   unset : set_up ≡ false
 
-issue_live : (commands : ℕ → Command) (s slot : ℕ) (c : Command) (t u : Transfer) (past : History) (k : Ledger) (b : Bool) → eqb slot s ≡ b
-    → issued slot past ≡ None → Same commands past k
+issue_live : (commands : ℕ → SlotCommand) (s slot : ℕ) (c : SlotCommand) (t u : Transfer) (past : History) (k : Ledger) (b : Bool) → eqb slot s ≡ b
+    → issued slot past ≡ None → c.since ≤ length k.writes → Same commands past k
     → (if b then Some t else issued s past) ≡ Some u → is_queued u.work.kind ≡ true → InLife s (if b then c else commands s) (Issued slot t ∷ past) k
-issue_live commands s slot c t u past k true at free same there queued =
+issue_live commands s slot c t u past k true at free counted same there queued =
     let is : slot ≡ s = eqb-true slot s at in
     let none : issued s past ≡ None = ap (λ (n : ℕ). issued n past) (sym is) ∙ free in
-    subst (λ (n : ℕ). InLife s c (Issued n t ∷ past) k) (sym is) (issues_keep.own s c t past k (same.free s (subst NoneQueued (sym none) tt)))
-issue_live commands s slot c t u past k false other free same there queued =
+    subst (λ (n : ℕ). InLife s c (Issued n t ∷ past) k) (sym is) (issues_keep.own s c t past k (same.free s (subst NoneQueued (sym none) tt)) counted)
+issue_live commands s slot c t u past k false other free counted same there queued =
     issues_keep.other s slot (commands s) t past k other (same.live s u there queued)
 
-issue_free : (commands : ℕ → Command) (s slot : ℕ) (t : Transfer) (past : History) (k : Ledger) (b : Bool) → eqb slot s ≡ b → issued slot past ≡ None
+issue_free : (commands : ℕ → SlotCommand) (s slot : ℕ) (t : Transfer) (past : History) (k : Ledger) (b : Bool) → eqb slot s ≡ b → issued slot past ≡ None
     → Same commands past k
     → NoneQueued (if b then Some t else issued s past) → IsFree k s
 issue_free commands s slot t past k true at free same none =
@@ -189,7 +189,7 @@ issue_free commands s slot t past k true at free same none =
     same.free s (subst NoneQueued (sym before) tt)
 issue_free commands s slot t past k false other free same none = same.free s none
 
-issue_unsent : (commands : ℕ → Command) (s slot : ℕ) (past : History) (k : Ledger) (b : Bool) → eqb slot s ≡ b → issued slot past ≡ None
+issue_unsent : (commands : ℕ → SlotCommand) (s slot : ℕ) (past : History) (k : Ledger) (b : Bool) → eqb slot s ≡ b → issued slot past ≡ None
     → Same commands past k
     → (if b then false else is_sent s past) ≡ false → IsFree k s
 issue_unsent commands s slot past k true at free same sent =
@@ -198,7 +198,7 @@ issue_unsent commands s slot past k true at free same sent =
     same.free s (subst NoneQueued (sym before) tt)
 issue_unsent commands s slot past k false other free same sent = same.unsent s sent
 
-issue_touch : (commands : ℕ → Command) (s slot : ℕ) (t u : Transfer) (past : History) (k : Ledger) (b : Bool) → eqb slot s ≡ b → Same commands past k
+issue_touch : (commands : ℕ → SlotCommand) (s slot : ℕ) (t u : Transfer) (past : History) (k : Ledger) (b : Bool) → eqb slot s ≡ b → Same commands past k
     → (if b then Some t else issued s past) ≡ Some u → (if b then false else is_sent s past) ≡ false
     → IsUntouchedBy s (is_at s (unless (is_at slot (waiting_in past)) (waiting_in past))) (if b then false else is_set_up s past)
 issue_touch commands s slot t u past k true at same there sent =
@@ -208,17 +208,17 @@ issue_touch commands s slot t u past k false other same there sent =
     let before : IsUntouched s past = same.untouched s u there sent in
     record { quiet = still_not_at s (waiting_in past) (is_at slot (waiting_in past)) before.quiet; unset = before.unset }
 
-issue_tag : (commands : ℕ → Command) (s slot : ℕ) (c : Command) (b : Bool) → eqb slot s ≡ b → c.tag ≡ slot → ((n : ℕ) → (commands n).tag ≡ n)
-    → (if b then c else commands s).tag ≡ s
+issue_tag : (commands : ℕ → SlotCommand) (s slot : ℕ) (c : SlotCommand) (b : Bool) → eqb slot s ≡ b → c.command.tag ≡ slot → ((n : ℕ) → (commands n).command.tag ≡ n)
+    → (if b then c else commands s).command.tag ≡ s
 issue_tag commands s slot c true at tag tags = tag ∙ eqb-true slot s at
 issue_tag commands s slot c false at tag tags = tags s
 
-issues_same : (commands : ℕ → Command) (slot : ℕ) (c : Command) (t : Transfer) (past : History) (k : Ledger) → issued slot past ≡ None → c.tag ≡ slot
-    → Same commands past k → Same (with_command commands slot c) (Issued slot t ∷ past) k
-issues_same commands slot c t past k free tag same = record {
+issues_same : (commands : ℕ → SlotCommand) (slot : ℕ) (c : SlotCommand) (t : Transfer) (past : History) (k : Ledger) → issued slot past ≡ None
+    → c.command.tag ≡ slot → c.since ≤ length k.writes → Same commands past k → Same (with_command commands slot c) (Issued slot t ∷ past) k
+issues_same commands slot c t past k free tag counted same = record {
   fine = same.fine;
   tags = λ s. issue_tag commands s slot c (eqb slot s) refl tag same.tags;
-  live = λ s u there queued. issue_live commands s slot c t u past k (eqb slot s) refl free same there queued;
+  live = λ s u there queued. issue_live commands s slot c t u past k (eqb slot s) refl free counted same there queued;
   free = λ s none. issue_free commands s slot t past k (eqb slot s) refl free same none;
   unsent = λ s sent. issue_unsent commands s slot past k (eqb slot s) refl free same sent;
   untouched = λ s u there sent.
@@ -249,36 +249,36 @@ queued_here slot s t past there queued none = elim (cases_Bool (eqb slot s)) [
 opened_free : (s : ℕ) (k : Ledger) (c : Command) → eqb c.tag s ≡ false → IsFree k s → IsFree (opened k c) s
 opened_free s k c other free = record { outstanding = free_more s k.outstanding c free.outstanding other; unanswered = free.unanswered; moving = free.moving }
 
-queue_live : (commands : ℕ → Command) (s slot : ℕ) (past : History) (k : Ledger) → Same commands past k → IsFree k slot → InLife s (commands s) past k
-    → InLife s (commands s) (Sent slot ∷ past) (asks k (Queue (commands slot)) k.failed)
+queue_live : (commands : ℕ → SlotCommand) (s slot : ℕ) (past : History) (k : Ledger) → Same commands past k → IsFree k slot → InLife s (commands s) past k
+    → InLife s (commands s) (Sent slot ∷ past) (asks k (Queue (commands slot).command) k.failed)
 queue_live commands s slot past k same free life = elim (cases_Bool (eqb slot s)) [
   | inl at ↦
       let is : s ≡ slot = sym (eqb-true slot s at) in
-      subst (λ (n : ℕ). InLife n (commands n) past k → InLife n (commands n) (Sent slot ∷ past) (asks k (Queue (commands slot)) k.failed)) (sym is)
+      subst (λ (n : ℕ). InLife n (commands n) past k → InLife n (commands n) (Sent slot ∷ past) (asks k (Queue (commands slot).command) k.failed)) (sym is)
       (λ own. commands_keep.own slot (commands slot) past k (same.tags slot) same.fine free own) life
   | inr other ↦
-      let tag : (commands slot).tag ≡ slot = same.tags slot in
-      let differs : eqb (commands slot).tag s ≡ false = subst (λ (n : ℕ). eqb n s ≡ false) (sym tag) other in
-      let its : IsFree k (commands slot).tag = subst (IsFree k) (sym tag) free in
-      subst (λ (n : ℕ). InLife s (commands s) (Sent n ∷ past) (asks k (Queue (commands slot)) k.failed)) tag
-      (commands_keep.other s (commands s) (commands slot) past k differs same.fine its life)
+      let tag : (commands slot).command.tag ≡ slot = same.tags slot in
+      let differs : eqb (commands slot).command.tag s ≡ false = subst (λ (n : ℕ). eqb n s ≡ false) (sym tag) other in
+      let its : IsFree k (commands slot).command.tag = subst (IsFree k) (sym tag) free in
+      subst (λ (n : ℕ). InLife s (commands s) (Sent n ∷ past) (asks k (Queue (commands slot).command) k.failed)) tag
+      (commands_keep.other s (commands s) (commands slot).command past k differs same.fine its life)
 ]
 
-queues_same : (commands : ℕ → Command) (slot : ℕ) (t : Transfer) (past : History) (k : Ledger) → issued slot past ≡ Some t
+queues_same : (commands : ℕ → SlotCommand) (slot : ℕ) (t : Transfer) (past : History) (k : Ledger) → issued slot past ≡ Some t
     → is_queued t.work.kind ≡ true → is_sent slot past ≡ false → k.awaited ≢ Signs ∷ [] → NothingWaits past
     → Same commands past k → QueuesOne commands slot past k
 queues_same commands slot t past k there queued sent signed nothing same =
     let silent : IsQuiet k = quiet past k nothing signed same.talk in
     let free : IsFree k slot = same.unsent slot sent in
-    let tag : (commands slot).tag ≡ slot = same.tags slot in
-    let its : IsFree k (commands slot).tag = subst (IsFree k) (sym tag) free in
-    let is : asks k (Queue (commands slot)) k.failed ≡ opened k (commands slot) = opens_free k (commands slot) same.fine its.outstanding in
-    let stays : (s : ℕ) → eqb slot s ≡ false → IsFree k s → IsFree (asks k (Queue (commands slot)) k.failed) s =
+    let tag : (commands slot).command.tag ≡ slot = same.tags slot in
+    let its : IsFree k (commands slot).command.tag = subst (IsFree k) (sym tag) free in
+    let is : asks k (Queue (commands slot).command) k.failed ≡ opened k (commands slot).command = opens_free k (commands slot).command same.fine its.outstanding in
+    let stays : (s : ℕ) → eqb slot s ≡ false → IsFree k s → IsFree (asks k (Queue (commands slot).command) k.failed) s =
     λ s other f. subst (λ (x : Ledger). IsFree x s) (sym is)
-    (opened_free s k (commands slot) (subst (λ (n : ℕ). eqb n s ≡ false) (sym tag) other) f) in
+    (opened_free s k (commands slot).command (subst (λ (n : ℕ). eqb n s ≡ false) (sym tag) other) f) in
     record {
       fits = (its, silent.awaited);
-      same = same_after commands past (Sent slot ∷ past) k (asks k (Queue (commands slot)) k.failed) (record {
+      same = same_after commands past (Sent slot ∷ past) k (asks k (Queue (commands slot).command) k.failed) (record {
         test = λ s u. false;
         issued_is = λ s. refl;
         fine = λ fine. subst (λ (x : Ledger). x.failed ≡ false) (sym is) fine;
@@ -288,7 +288,7 @@ queues_same commands slot t past k there queued sent signed nothing same =
         unsent = λ s unsent. let before = sent_before s slot past (eqb slot s) refl unsent in (before.1, stays s before.0);
         untouched =
             λ s unsent f before. let other = sent_before s slot past (eqb slot s) refl unsent in record { quiet = other.0; unset = before.unset };
-        talk = λ talk. subst (InTalk (Sent slot ∷ past)) (sym is) (talk_queues slot t (commands slot) past k there queued silent);
+        talk = λ talk. subst (InTalk (Sent slot ∷ past)) (sym is) (talk_queues slot t (commands slot).command past k there queued silent);
       }) same;
     }
 
@@ -310,7 +310,7 @@ alone_failed k asked.Identify failed one fits = failed
 alone_failed k asked.Flush failed one fits = failed
 alone_failed k asked.Other failed one fits = failed
 
-rest_asks : (commands : ℕ → Command) (slot : ℕ) (t : Transfer) (request : Request) (past : History) (k : Ledger) → issued slot past ≡ Some t
+rest_asks : (commands : ℕ → SlotCommand) (slot : ℕ) (t : Transfer) (request : Request) (past : History) (k : Ledger) → issued slot past ≡ Some t
     → is_queued t.work.kind ≡ false → is_sent slot past ≡ false → IsAlone request → FitsRequest k request
     → Same commands past k → Same commands (Sent slot ∷ past) (asks k request k.failed)
 rest_asks commands slot t request past k there not_queued sent one fits same =
@@ -365,7 +365,7 @@ fits_alone k asked.Identify one rests = rests
 fits_alone k asked.Flush one rests = rests
 fits_alone k asked.Other one rests = rests
 
-asks_same : (commands : ℕ → Command) (slot : ℕ) (t : Transfer) (request : Request) (past : History) (k : Ledger) → issued slot past ≡ Some t
+asks_same : (commands : ℕ → SlotCommand) (slot : ℕ) (t : Transfer) (request : Request) (past : History) (k : Ledger) → issued slot past ≡ Some t
     → is_queued t.work.kind ≡ false → is_sent slot past ≡ false → IsAlone request
     → ((s : ℕ) → NoneQueued (issued s past)) → k.awaited ≢ Signs ∷ [] → NothingWaits past → Same commands past k
     → AsksOne commands slot request past k
@@ -383,9 +383,9 @@ asks_same commands slot t request past k there not_queued sent one none signed n
 
 -- ## FISes of the disk
 
-takes_setup : (commands : ℕ → Command) (f : List ℕ) (past : History) (k : Ledger) (m : Option Moving) (o : Option Command) → k.moving ≡ m
+takes_setup : (commands : ℕ → SlotCommand) (f : List ℕ) (past : History) (k : Ledger) (m : Option Moving) (o : Option Command) → k.moving ≡ m
     → find (λ q. q.tag == field Setup BufferId f) k.outstanding ≡ o
-    → IsRight k (Ok (view.DmaSetup f)) → is_at (field Setup BufferId f) (waiting_in past) ≡ false → (s : ℕ) → (commands s).tag ≡ s
+    → IsRight k (Ok (view.DmaSetup f)) → is_at (field Setup BufferId f) (waiting_in past) ≡ false → (s : ℕ) → (commands s).command.tag ≡ s
     → InLife s (commands s) past k → InLife s (commands s) (told (Ok (view.DmaSetup f)) ++ past) (listens_up k (Ok (view.DmaSetup f)))
 takes_setup commands f past k None None moving found right answered_yet s tag life =
     let first : SetsUpRight k None f = subst (λ (v : Option Moving). SetsUpRight k v f) moving right.moves in
@@ -426,7 +426,7 @@ set_up_answers k (Some v) o f moving found right =
     (ap (λ (x : Ledger). x.awaited) up, ap (λ (x : Ledger). x.pages) up, ap (λ (x : Ledger). x.failed) up)
 
 -- a FIS that completes nothing that is queued
-up_same : (commands : ℕ → Command) (fis : Result Fis FisFault) (past later : History) (k : Ledger) (test : ℕ → Transfer → Bool) → IsRight k fis
+up_same : (commands : ℕ → SlotCommand) (fis : Result Fis FisFault) (past later : History) (k : Ledger) (test : ℕ → Transfer → Bool) → IsRight k fis
     → ((s : ℕ) → issued s later ≡ Stays (issued s past) (test s))
     → ((s : ℕ) (t : Transfer) → is_queued t.work.kind ≡ true → test s t ≡ true → ⊥) → ((s : ℕ) → is_sent s later ≡ is_sent s past)
     → ((s : ℕ) → IsFree k s → IsUntouched s past → IsUntouched s later) → (k.failed ≡ false → (listens_up k fis).failed ≡ false)
@@ -473,7 +473,7 @@ waits_on past later e waits issued_is never w =
     not_true true no_one = absurd (no_one refl)
     not_true false no_one = refl
 
-takes_set_up : (commands : ℕ → Command) (f : List ℕ) (past : History) (k : Ledger) → IsRight k (Ok (view.DmaSetup f))
+takes_set_up : (commands : ℕ → SlotCommand) (f : List ℕ) (past : History) (k : Ledger) → IsRight k (Ok (view.DmaSetup f))
     → is_at (field Setup BufferId f) (waiting_in past) ≡ false → Same commands past k
     → Same commands (told (Ok (view.DmaSetup f)) ++ past) (listens_up k (Ok (view.DmaSetup f)))
 takes_set_up commands f past k right answered_yet same =
@@ -492,7 +492,7 @@ takes_set_up commands f past k right answered_yet same =
     (talk_stays past (told (Ok (view.DmaSetup f)) ++ past) k (listens_up k (Ok (view.DmaSetup f))) is.0 is.1 (idle_sets_up f k right.moves)
     (waits_on past (told (Ok (view.DmaSetup f)) ++ past) (λ s t. false) refl (λ s. refl) (λ s t queued ended. true≢false (sym ended)))) same
 
-activates_by : (commands : ℕ → Command) (f : List ℕ) (past : History) (k : Ledger) (m : Option Moving) → k.moving ≡ m
+activates_by : (commands : ℕ → SlotCommand) (f : List ℕ) (past : History) (k : Ledger) (m : Option Moving) → k.moving ≡ m
     → IsRight k (Ok (view.DmaActivate f)) → Same commands past k → Same commands past (activates k k.moving)
 activates_by commands f past k None moving right same = absurd (subst ActivatesRight moving right.moves)
 activates_by commands f past k (Some v) moving right same =
@@ -522,7 +522,7 @@ never_by_data : (bytes : List ℕ) (past : History) (s : ℕ) (t : Transfer) →
     → completes s (Carried bytes) past t.work ≡ true → ⊥
 never_by_data bytes past s t queued ended = no_end _ (is_pio t.work.kind) _ _ (not_pio t.work.kind queued) ended
 
-takes_bytes : (commands : ℕ → Command) (f : List ℕ) (past : History) (k : Ledger) (m : Option Moving) → k.moving ≡ m → IsRight k (Ok (view.Payload f))
+takes_bytes : (commands : ℕ → SlotCommand) (f : List ℕ) (past : History) (k : Ledger) (m : Option Moving) → k.moving ≡ m → IsRight k (Ok (view.Payload f))
     → Same commands past k → Same commands (Carried (drop 4 f) ∷ past) (sends_data k k.moving (drop 4 f))
 takes_bytes commands f past k None moving right same =
     let pages : k.pages ≢ [] = subst (PageAsked k) moving right.asked in
@@ -550,7 +550,7 @@ takes_bytes commands f past k (Some v) moving right same =
     (waits_on past (Carried (drop 4 f) ∷ past) (λ s t. completes s (Carried (drop 4 f)) past t.work) refl (λ s. refl)
     (never_by_data (drop 4 f) past))) same
 
-gives_bytes : (commands : ℕ → Command) (bytes : List ℕ) (past : History) (k : Ledger) (m : Option Moving) → k.moving ≡ m → FitsData m bytes
+gives_bytes : (commands : ℕ → SlotCommand) (bytes : List ℕ) (past : History) (k : Ledger) (m : Option Moving) → k.moving ≡ m → FitsData m bytes
     → Same commands past k → Same commands (Carried bytes ∷ past) (takes_data k k.moving bytes)
 gives_bytes commands bytes past k None moving asked same = absurd asked
 gives_bytes commands bytes past k (Some v) moving asked same =
@@ -577,7 +577,7 @@ gives_bytes commands bytes past k (Some v) moving asked same =
 
 -- ---- a Set Device Bits FIS
 
-bits_same : (commands : ℕ → Command) (f : List ℕ) (past : History) (k : Ledger) → IsRight k (Ok (view.SetBits f)) → IsHeard past (Ok (view.SetBits f))
+bits_same : (commands : ℕ → SlotCommand) (f : List ℕ) (past : History) (k : Ledger) → IsRight k (Ok (view.SetBits f)) → IsHeard past (Ok (view.SetBits f))
     → Same commands past k
     → Same commands (Named (field Bits SActive f) ∷ past) (answers k (field Bits table.Error f) false)
 bits_same commands f past k right ended same =
@@ -622,7 +622,7 @@ bits_same commands f past k right ended same =
 
 -- ---- each kind
 
-takes_same : (commands : ℕ → Command) (fis : Result Fis FisFault) (past : History) (k : Ledger) → IsRight k fis → IsHeard past fis
+takes_same : (commands : ℕ → SlotCommand) (fis : Result Fis FisFault) (past : History) (k : Ledger) → IsRight k fis → IsHeard past fis
     → Same commands past k → Same commands (told fis ++ past) (listens_up k fis)
 takes_same commands (Ok (view.RegH2D f)) past k right ended same = same
 takes_same commands (Ok (view.RegD2H f)) past k right ended same =

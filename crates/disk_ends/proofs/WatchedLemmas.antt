@@ -1,21 +1,23 @@
 -- A disk that is watched, at each happening at either end.
-use Rattle.std.proofs.Common.{◌≡◌, ℕ, Bool, true, false, List, [], ◌∷◌, ◌++◌, append_assoc, refl, sym, ap, subst, ◌∙◌, inl, inr}
+use Rattle.std.proofs.Common.{◌≡◌, ◌≤◌, ◌+◌, ℕ, Bool, length, length-append, arith, true, false, List, [], ◌∷◌, ◌++◌, append_assoc, refl, sym, ap, subst, ◌∙◌, inl, inr}
 use Rattle.std.specs.Prelude.{◌⊎◌}
 use Rattle.std.proofs.lemmas.List.{append-nil}
 use Rattle.fis_view.specs.Seen.{seen}
 use Rattle.disk_model.specs.declared.plan.DiskPlan.{DiskPlan}
-use Rattle.disk_model.specs.Anew.{IsClear, IsLinkedOn}
+use Rattle.disk_model.specs.Anew.{IsCarefulSince, IsClear, IsLinkedOn}
 use Rattle.disk_model.specs.Anew as link
 use Rattle.disk_model.specs.Ends.{reports}
 use Rattle.disk_model.specs.Histories.{Happening, Plugged, Received, Sent}
-use Rattle.disk_model.specs.Ledger.{IsSize, ledger}
+use Rattle.disk_model.specs.Fronts.{IsFront}
+use Rattle.disk_model.specs.Ledger.{IsSize, Ledger, Written, ledger}
 use Rattle.disk_model.specs.Runs.{IsDiskRun}
-use Rattle.disk_model.proofs.AnewLemmas.{resting_is_silent}
+use Rattle.disk_model.proofs.AnewLemmas.{ends_agree_anew, resting_is_silent}
+use Rattle.disk_model.proofs.FrontLemmas.{host_is_ahead}
 use Rattle.disk_ends.specs.Followed.{IsFollowed}
 use Rattle.disk_ends.specs.Followed as past
-use Rattle.disk_ends.specs.Watched.{ArePlain, Erred, Fine, GavePlain, IsErred, IsLastError, IsPlain, IsPlainSince, IsWatched, IsWatchedTo, WatchesOn}
-use Rattle.disk_ends.proofs.FollowedLemmas.{follows_linked, same_first}
-use Rattle.disk_ends.proofs.PlainLemmas.{Stays, erred_now, plain_no_reset, stays_gone, stays_received, unheard_now}
+use Rattle.disk_ends.specs.Watched.{ArePlain, Erred, Fine, GavePlain, IsErred, IsErredSince, IsLastError, IsPlain, IsPlainSince, IsWatched, IsWatchedTo, WatchedIsAhead, WatchesOn}
+use Rattle.disk_ends.proofs.FollowedLemmas.{follows_linked, run_to, same_first}
+use Rattle.disk_ends.proofs.PlainLemmas.{Stays, erred_now, erred_writes, plain_no_reset, stays_gone, stays_received, unheard_now}
 
 -- ## Lists
 
@@ -113,7 +115,8 @@ module _ (base disk host : List Happening) (stale up : List (List ℕ)) (bytes :
   comes_to front back plain (Fine linked) = Fine (link.comes disk host front back stale up bytes linked)
   comes_to front back plain (Erred followed later error below before disk_is up_is fails linked erred) =
       Erred followed (later ++ Received bytes ∷ []) error below before (disk_more followed later error disk_is) up_is fails linked
-      (subst IsErred (sym (unheard_now disk bytes erred plain)) erred)
+      (let same : ledger (disk ++ Received bytes ∷ []) ≡ ledger disk = unheard_now disk bytes erred.now plain in
+      record { now = subst IsErred (sym same) erred.now; writes = ap (λ (k : Ledger). k.writes) same ∙ erred.writes })
 
   comes_on : (front back : List (List ℕ)) → IsWatched base disk host (front ++ bytes ∷ back) stale up
       → IsWatched base (disk ++ Received bytes ∷ []) host (front ++ back) stale up
@@ -125,8 +128,9 @@ module _ (base disk host : List Happening) (stale up : List (List ℕ)) (bytes :
   sends_to : (down : List (List ℕ)) (b : Bool) → reports (seen bytes) ≡ b → (IsErred (ledger disk) → ⊥) → IsWatchedTo base disk host down stale up
       → IsWatchedTo base (disk ++ Sent bytes ∷ []) host down stale (up ++ bytes ∷ [])
   sends_to down false fine speaks (Fine linked) = Fine (link.sends disk host down stale up bytes fine linked)
-  sends_to down true fails speaks (Fine linked) = Erred disk [] bytes down up refl refl fails linked (erred_now disk bytes fails)
-  sends_to down b is speaks (Erred followed later error below before disk_is up_is fails linked erred) = absurd (speaks erred)
+  sends_to down true fails speaks (Fine linked) = Erred disk [] bytes down up refl refl fails linked
+      (record { now = erred_now disk bytes fails; writes = erred_writes disk bytes fails })
+  sends_to down b is speaks (Erred followed later error below before disk_is up_is fails linked erred) = absurd (speaks erred.now)
 
   sends_on : (plan : DiskPlan) (sectors : ℕ) (down : List (List ℕ)) → IsSize plan sectors → IsDiskRun plan sectors (disk ++ Sent bytes ∷ [])
       → IsWatched base disk host down stale up → IsWatched base (disk ++ Sent bytes ∷ []) host down stale (up ++ bytes ∷ [])
@@ -164,9 +168,9 @@ module _ (base disk host : List Happening) (down up : List (List ℕ)) (bytes : 
       }
 
   takes_erred : (followed later : List Happening) (error : List ℕ) (below before : List (List ℕ)) → disk ≡ followed ++ Sent error ∷ later
-      → bytes ∷ up ≡ before ++ error ∷ [] → reports (seen error) ≡ true → IsLinkedOn base followed host below [] before → IsErred (ledger disk)
+      → bytes ∷ up ≡ before ++ error ∷ [] → reports (seen error) ≡ true → IsLinkedOn base followed host below [] before → IsErredSince followed disk
       → IsLastError base disk down up bytes ⊎ IsWatchedTo base disk (host ++ Sent bytes ∷ []) down [] up
-  takes_erred followed later error below [] disk_is up_is fails linked erred = inl (next_fails error up_is fails erred)
+  takes_erred followed later error below [] disk_is up_is fails linked erred = inl (next_fails error up_is fails erred.now)
   takes_erred followed later error below (b ∷ before) disk_is up_is fails linked erred =
       let first = same_first bytes b up (before ++ error ∷ []) up_is in
       let mine : IsLinkedOn base followed host below [] (bytes ∷ before) =
@@ -183,6 +187,34 @@ module _ (base disk host : List Happening) (down up : List (List ℕ)) (bytes : 
     | inl last ↦ inl last
     | inr on ↦ inr (record { to_error = on; plain = w.plain; gave = since_taken base host bytes w.gave; held = w.held })
   ]
+
+-- ## What is told of writes
+
+front_shorter : (front whole : List Written) → IsFront front whole → length front ≤ length whole
+front_shorter front whole f =
+    let long : length whole ≡ length front + length f.later = ap length f.same ∙ length-append front f.later in
+    omega (arith, long)
+
+linked_ahead : (plan : DiskPlan) (sectors : ℕ) (base disk host : List Happening) (down stale up : List (List ℕ)) → IsSize plan sectors
+    → IsDiskRun plan sectors disk → IsLinkedOn base disk host down stale up → IsCarefulSince base host
+    → length (ledger disk).writes ≤ length (ledger host).writes
+linked_ahead plan sectors base disk host down stale up size run linked careful =
+    front_shorter (ledger disk).writes (ledger host).writes
+    (host_is_ahead sectors disk host down up (ends_agree_anew plan sectors base disk host down stale up size run linked careful))
+
+ahead_by : (plan : DiskPlan) (sectors : ℕ) (base disk host : List Happening) (down stale up : List (List ℕ)) → IsSize plan sectors
+    → IsDiskRun plan sectors disk → IsWatchedTo base disk host down stale up → IsCarefulSince base host
+    → length (ledger disk).writes ≤ length (ledger host).writes
+ahead_by plan sectors base disk host down stale up size run (Fine linked) careful =
+    linked_ahead plan sectors base disk host down stale up size run linked careful
+ahead_by plan sectors base disk host down stale up size run (Erred followed later error below before disk_is up_is fails linked erred) careful =
+    subst (λ (ws : List Written). length ws ≤ length (ledger host).writes) (sym erred.writes)
+    (linked_ahead plan sectors base followed host below stale before size (run_to plan sectors disk followed (Sent error ∷ later) disk_is run) linked
+    careful)
+
+pub watched_is_ahead : WatchedIsAhead
+watched_is_ahead plan sectors base disk host down stale up size run w careful =
+    ahead_by plan sectors base disk host down stale up size run w.to_error careful
 
 pub watches_on : WatchesOn
 watches_on = record {

@@ -18,7 +18,6 @@ use Rattle.hba_fbs.specs.Sending.{Data, Order, gathered, outgoing}
 use Rattle.hba_fbs.specs.Tables.{prds_of}
 use Rattle.hba_fbs.specs.Taking.{port_of}
 use Rattle.hba_fbs.specs.Views.{view_of}
-use Rattle.disk_model.specs.declared.request.Command.{Command}
 use Rattle.disk_model.specs.declared.request.Request.TheVariants.{Queue}
 use Rattle.disk_model.specs.declared.plan.DiskPlan.{DiskPlan}
 use Rattle.disk_model.specs.Anew.{IsCarefulSince, IsClear, IsLinkedOn, OwesOnly}
@@ -38,8 +37,9 @@ use Rattle.disk_ends.specs.Answers.{IsAlone}
 use Rattle.disk_ends.specs.Heard.{IsTakenWell}
 use Rattle.disk_ends.specs.Honest.{IsDoneHonestly}
 use Rattle.disk_ends.specs.Hosted.{IsHosted}
-use Rattle.disk_ends.specs.Joined.{IsJoined, IsShort, SentAgrees}
+use Rattle.disk_ends.specs.Joined.{AreCounted, IsJoined, IsShort, SentAgrees}
 use Rattle.disk_ends.specs.Together.{InTalk, IsWaitedUnset, NoneQueued, Same, is_sent, told}
+use Rattle.disk_ends.specs.Same.{SlotCommand}
 
 -- ---- where they begin
 
@@ -50,10 +50,10 @@ pub record IsAwaited (i : Issue) : Type 0 where
 
 -- Nothing of device n is issued at the port but a command whose answer is still to come, and
 -- nothing is to come but that, or the signature.
-pub record IsOpening (n : ℕ) (host : Host) (commands : ℕ → Command) (past : History) (k : Ledger)
+pub record IsOpening (n : ℕ) (host : Host) (commands : ℕ → SlotCommand) (past : History) (k : Ledger)
     : Type 0 where
   pub history : IsHistoryOf n host past
-  pub tags : (s : ℕ) → (commands s).tag ≡ s
+  pub tags : (s : ℕ) → (commands s).command.tag ≡ s
   pub alone : (s : ℕ) (i : Issue) → own_issue (view_of n host.port).slots s ≡ Some i → IsAwaited i
   pub sent : SentAgrees (view_of n host.port).slots past
   pub unset : (view_of n host.port).slots.context ≡ None
@@ -74,26 +74,26 @@ pub record IsSignedWell (host : Host) (frame : List ℕ) (report : TakeReport)
 
 -- What a host did with a disk from where both began anew with the first list, event by event, as
 -- long as its port refused nothing and emptied nothing.
-pub data IsHostedOn (n : ℕ) (base : List Happening) : Host → List Happening → (ℕ → Command)
+pub data IsHostedOn (n : ℕ) (base : List Happening) : Host → List Happening → (ℕ → SlotCommand)
     → History → Type 0 where
   -- they begin
-  opens : (host : Host) (commands : ℕ → Command) (past : History)
+  opens : (host : Host) (commands : ℕ → SlotCommand) (past : History)
       → IsOpening n host commands past (ledger base) → IsHostedOn n base host base commands past
   -- what happens at the port leaves the slots of n and its block, and is no event of it: what is
   -- another device's, what of n is ignored, and a signature from before they began
-  stays : (host new : Host) (given : List Happening) (commands : ℕ → Command) (past : History)
+  stays : (host new : Host) (given : List Happening) (commands : ℕ → SlotCommand) (past : History)
       → KeepsSlots n host new → IsHostedOn n base host given commands past
       → IsHostedOn n base new given commands past
   -- the signature comes that ends the software reset: it is no event of the device's history
   signs : (host new : Host) (bytes : List ℕ) (report : TakeReport) (given : List Happening)
-      (commands : ℕ → Command) (past : History) → IsHost host → IsFrame bytes
+      (commands : ℕ → SlotCommand) (past : History) → IsHost host → IsFrame bytes
       → IsFrame (marked bytes n)
       → port_of (marked bytes n) ≡ n → IsSignedWell host (marked bytes n) report new
       → IsRight (ledger given) (seen bytes) → IsHostedOn n base host given commands past
       → IsHostedOn n base new (given ++ Sent bytes ∷ []) commands past
   -- a FIS comes that is right by what was told before, and nothing is wrong with it
   hears : (host new : Host) (bytes : List ℕ) (report : TakeReport) (given : List Happening)
-      (commands : ℕ → Command) (past : History) → IsHost host → IsFrame bytes
+      (commands : ℕ → SlotCommand) (past : History) → IsHost host → IsFrame bytes
       → IsFrame (marked bytes n)
       → port_of (marked bytes n) ≡ n → IsTakenWell host (marked bytes n) report new
       → IsRight (ledger given) (seen bytes) → IsShort (seen bytes)
@@ -102,28 +102,29 @@ pub data IsHostedOn (n : ℕ) (base : List Happening) : Host → List Happening 
       (told (seen (marked bytes n)) ++ past)
   -- commands are issued in slots of it
   issues : (host new : Host) (value : ℕ) (given : List Happening) (commands next : ℕ
-      → Command) (past : History)
+      → SlotCommand) (past : History)
       → IsHost host → host.port.registers.chosen ≡ n → Does host (Wrote Ci value) new
-      → ((s : ℕ) → (next s).tag ≡ s)
+      → ((s : ℕ) → (next s).command.tag ≡ s)
       → ((s : ℕ) → asked host.port.registers host.memory value s ≡ None → next s ≡ commands s)
+      → AreCounted (asked host.port.registers host.memory value) next (ledger given)
       → IsHostedOn n base host given commands past
       → IsHostedOn n base new given next (own n (touched host (Wrote Ci value)) ++ past)
   -- the queued command of a slot goes out, once the device signed
   sends : (host new : Host) (frame : Stamped) (slot : ℕ) (command : issued_command.Command)
       (f : List ℕ) (t : Transfer)
-      (given : List Happening) (commands : ℕ → Command) (past : History) → IsHost host
+      (given : List Happening) (commands : ℕ → SlotCommand) (past : History) → IsHost host
       → IsFrame frame.bytes
       → Does host (Gave (Some frame)) new
       → outgoing host.port host.memory ≡ Order n slot command → issued slot past ≡ Some t
       → is_queued t.work.kind ≡ true
-      → seen command.cfis ≡ Ok (view.RegH2D f) → request_of f ≡ Queue (commands slot)
+      → seen command.cfis ≡ Ok (view.RegH2D f) → request_of f ≡ Queue (commands slot).command
       → (ledger given).awaited ≢ Signs ∷ [] → IsHostedOn n base host given commands past
       → IsHostedOn n base new (given ++ Received (marked frame.bytes 0) ∷ []) commands
       (event.Sent slot ∷ past)
   -- another command goes out, while no queued one is issued
   asks : (host new : Host) (frame : Stamped) (slot : ℕ) (command : issued_command.Command)
       (f : List ℕ) (t : Transfer)
-      (given : List Happening) (commands : ℕ → Command) (past : History) → IsHost host
+      (given : List Happening) (commands : ℕ → SlotCommand) (past : History) → IsHost host
       → IsFrame frame.bytes
       → Does host (Gave (Some frame)) new
       → outgoing host.port host.memory ≡ Order n slot command → issued slot past ≡ Some t
@@ -137,7 +138,7 @@ pub data IsHostedOn (n : ℕ) (base : List Happening) : Host → List Happening 
   -- Data goes out
   gives : (host new : Host) (frame : Stamped) (offset len : ℕ) (command : issued_command.Command)
       (given : List Happening)
-      (commands : ℕ → Command) (past : History) → IsHost host → IsFrame frame.bytes
+      (commands : ℕ → SlotCommand) (past : History) → IsHost host → IsFrame frame.bytes
       → Does host (Gave (Some frame)) new
       → outgoing host.port host.memory ≡ Data n offset len command
       → IsHostedOn n base host given commands past
@@ -148,16 +149,16 @@ pub data IsHostedOn (n : ℕ) (base : List Happening) : Host → List Happening 
 -- after a plugging or a reset, and where it only owes a page for the one command that is issued,
 -- after an error.
 pub record OpensAfter : Type 0 where
-  pub signing : (n : ℕ) (host : Host) (commands : ℕ → Command) (past : History) (k : Ledger)
+  pub signing : (n : ℕ) (host : Host) (commands : ℕ → SlotCommand) (past : History) (k : Ledger)
       → IsHistoryOf n host past → ((s : ℕ) → own_issue (view_of n host.port).slots s ≡ None)
-      → ((s : ℕ) → (commands s).tag ≡ s) → OwesOnly k (Signs ∷ []) []
+      → ((s : ℕ) → (commands s).command.tag ≡ s) → OwesOnly k (Signs ∷ []) []
       → IsOpening n host commands past k
-  pub paging : (n : ℕ) (host : Host) (commands : ℕ → Command) (past : History) (k : Ledger)
+  pub paging : (n : ℕ) (host : Host) (commands : ℕ → SlotCommand) (past : History) (k : Ledger)
       (page : Wanted) → IsHistoryOf n host past
       → ((s : ℕ) (i : Issue) → own_issue (view_of n host.port).slots s ≡ Some i → IsAwaited i)
       → SentAgrees (view_of n host.port).slots past
       → (view_of n host.port).slots.context ≡ None → IsWaitedUnset past
-      → ((s : ℕ) → (commands s).tag ≡ s) → OwesOnly k (ShowsPage ∷ []) (page ∷ [])
+      → ((s : ℕ) → (commands s).command.tag ≡ s) → OwesOnly k (ShowsPage ∷ []) (page ∷ [])
       → IsOpening n host commands past k
 
 -- ---- what is so then
@@ -165,27 +166,27 @@ pub record OpensAfter : Type 0 where
 -- both views say the same of each slot where they begin
 abbrev pub OpensTheSame : Type 0
 OpensTheSame =
-    (commands : ℕ → Command) (past : History) (k : Ledger) → ((s : ℕ) → (commands s).tag ≡ s)
+    (commands : ℕ → SlotCommand) (past : History) (k : Ledger) → ((s : ℕ) → (commands s).command.tag ≡ s)
     → ((s : ℕ) → NoneQueued (issued s past)) → IsClear k → InTalk past k
     → ((s : ℕ) (t : Transfer) → issued s past ≡ Some t → is_sent s past ≡ true)
     → Same commands past k
 
 -- the host is careful since then, and joined with the disk's ledger
 pub record IsKeptOn (n : ℕ) (base : List Happening) (host : Host) (given : List Happening)
-    (commands : ℕ → Command) (past : History) : Type 0 where
+    (commands : ℕ → SlotCommand) (past : History) : Type 0 where
   pub careful : IsCarefulSince base given
   pub joined : IsJoined n commands host past (ledger given)
 
 abbrev pub HostedOnIsKept : Type 0
 HostedOnIsKept =
     (n : ℕ) (base : List Happening) (host : Host) (given : List Happening)
-    (commands : ℕ → Command) (past : History) → n < 15
+    (commands : ℕ → SlotCommand) (past : History) → n < 15
     → IsHostedOn n base host given commands past → IsKeptOn n base host given commands past
 
 -- a host of a disk that was plugged in while nothing of it was issued began with that
 abbrev pub HostedSinceNew : Type 0
 HostedSinceNew =
-    (n : ℕ) (host : Host) (given : List Happening) (commands : ℕ → Command) (past : History)
+    (n : ℕ) (host : Host) (given : List Happening) (commands : ℕ → SlotCommand) (past : History)
     → IsHosted n host given commands past
     → IsHostedOn n (Plugged ∷ []) host given commands past
 
@@ -225,7 +226,7 @@ ReportsHonestlyAnew =
     (down up : List (List ℕ)) (bytes : List ℕ)
     → IsSize plan sectors → IsDiskRun plan sectors disk
     → IsLinkedOn base disk given down [] (bytes ∷ up) → IsCarefulSince base given
-    → (n : ℕ) (host new : Host) (report : TakeReport) (commands : ℕ → Command) (past : History)
+    → (n : ℕ) (host new : Host) (report : TakeReport) (commands : ℕ → SlotCommand) (past : History)
     → IsHost host → n < 15 → IsFrame bytes → IsFrame (marked bytes n) → port_of (marked bytes n) ≡ n
     → TakesFrame host (marked bytes n) report new → IsJoined n commands host past (ledger given)
     → (s : ℕ) (t : Transfer) → s < 32 → issued s past ≡ Some t → is_queued t.work.kind ≡ true
@@ -235,6 +236,6 @@ ReportsHonestlyAnew =
 -- And what was done honestly stays so, whatever the disk does later, errors too.
 abbrev pub HonestStays : Type 0
 HonestStays =
-    (sectors len : ℕ) (c : Command) (bytes : ℕ → Option ℕ) (disk more : List Happening) (k : Ledger)
+    (sectors len : ℕ) (c : SlotCommand) (bytes : ℕ → Option ℕ) (disk more : List Happening) (k : Ledger)
     → IsDoneHonestly sectors c bytes len (ledger disk) k
     → IsDoneHonestly sectors c bytes len (ledger (disk ++ more)) k

@@ -1,9 +1,9 @@
 -- What the answers of a device, and commands that are not queued, leave of each queued command:
 -- AHCI 1.3.1, 5.3 (how a port takes each type of FIS); Serial ATA 3.x, 10.5, FIS types, and 13.6,
 -- native command queuing.
-use Rattle.std.specs.Prelude.{ℕ, ◌≡◌, ◌==◌, Bool, true, false, List, [], ◌∷◌, slice_get, None, Some}
+use Rattle.std.specs.Prelude.{ℕ, ◌≡◌, ◌==◌, ◌≤◌, Bool, true, false, List, [], ◌∷◌, length}
+use Rattle.std.specs.Prelude.{slice_get, None, Some}
 use Rattle.slots.specs.Slots.{has_bit}
-use Rattle.disk_model.specs.declared.request.Command.{Command}
 use Rattle.disk_model.specs.declared.request.Request.{Request}
 use Rattle.disk_model.specs.declared.request.Request.TheVariants as asked
 use Rattle.disk_model.specs.Ends.{FitsRequest, IsFree}
@@ -11,7 +11,7 @@ use Rattle.disk_model.specs.Ledger.{Ledger, Names, ReadOut, Written, answered, a
 use Rattle.disk_model.specs.Ledger.{sends_data}
 use Rattle.hba_laws.specs.History.{Answered, Carried, History, Named, PioSetUp, Sent, filled}
 use Rattle.hba_laws.specs.History.{is_at, waiting_in}
-use Rattle.disk_ends.specs.Same.{InLife, IsReadOf, IsWriteOf, Stand}
+use Rattle.disk_ends.specs.Same.{InLife, IsReadOf, IsWriteOf, SlotCommand, Stand}
 
 -- no queued command is outstanding or to be answered, and no data of one moves
 pub record IsIdle (k : Ledger) : Type 0 where
@@ -30,38 +30,39 @@ IsAlone asked.Other = Unit {0}
 
 -- a command that is not queued goes out of another slot, where it may
 abbrev pub OthersKeep : Type 0
-OthersKeep = (s slot : ℕ) (c : Command) (request : Request) (past : History) (k : Ledger)
+OthersKeep = (s slot : ℕ) (c : SlotCommand) (request : Request) (past : History) (k : Ledger)
     → (slot == s) ≡ false → k.failed ≡ false → IsAlone request → FitsRequest k request
     → InLife s c past k → InLife s c (Sent slot ∷ past) (asks k request k.failed)
 
 -- A Register FIS answers a command. A PIO Setup comes, and a page, where no queued command is
 -- there.
 pub record AnswersKeep : Type 0 where
-  pub register : (s : ℕ) (c : Command) (past : History) (k : Ledger) → InLife s c past k
+  pub register : (s : ℕ) (c : SlotCommand) (past : History) (k : Ledger) → InLife s c past k
       → InLife s c (Answered ∷ past) (answered k)
-  pub shows : (s count ends : ℕ) (to_host : Bool) (c : Command) (past : History) (k : Ledger)
+  pub shows : (s count ends : ℕ) (to_host : Bool) (c : SlotCommand) (past : History) (k : Ledger)
       → IsIdle k → InLife s c past k → InLife s c (PioSetUp count to_host ends ∷ past) (answered k)
-  pub page : (s : ℕ) (c : Command) (bytes : List ℕ) (past : History) (k : Ledger) → IsIdle k
+  pub page : (s : ℕ) (c : SlotCommand) (bytes : List ℕ) (past : History) (k : Ledger) → IsIdle k
       → InLife s c past k → InLife s c (Carried bytes ∷ past) (sends_data k k.moving bytes)
 
--- the command ended: the ledger has its read, or its write, with just the bytes that are filled
-pub data HasEnded (s : ℕ) (c : Command) (past : History) (k : Ledger) : Type 0 where
-  ByRead : (at : ℕ) (r : ReadOut) → slice_get k.reads at ≡ Some r → IsReadOf c r
-      → Stand (filled s past) r.bytes → HasEnded s c past k
-  ByWrite : (at : ℕ) (w : Written) → slice_get k.writes at ≡ Some w → IsWriteOf s c w
-      → Stand (filled s past) w.bytes → HasEnded s c past k
+-- The command ended: the ledger has its read, or its write, with just the bytes that are filled, and
+-- after the writes that had ended when it was issued.
+pub data HasEnded (s : ℕ) (c : SlotCommand) (past : History) (k : Ledger) : Type 0 where
+  ByRead : (at : ℕ) (r : ReadOut) → slice_get k.reads at ≡ Some r → IsReadOf c.command r
+      → Stand (filled s past) r.bytes → c.since ≤ length r.before → HasEnded s c past k
+  ByWrite : (at : ℕ) (w : Written) → slice_get k.writes at ≡ Some w → IsWriteOf s c.command w
+      → Stand (filled s past) w.bytes → c.since ≤ at → HasEnded s c past k
 
 -- A Set Device Bits FIS without ERR names the tag that ended first. The command of a slot that it
 -- names ended, was answered before, and its tag is free from then on; those of other slots stand as
 -- they stood.
 pub record NamesKeep : Type 0 where
-  pub own : (s mask : ℕ) (c : Command) (past : History) (k : Ledger) → Names k.unanswered mask
+  pub own : (s mask : ℕ) (c : SlotCommand) (past : History) (k : Ledger) → Names k.unanswered mask
       → has_bit mask s ≡ true → InLife s c past k → HasEnded s c past k
-  pub answered : (s mask : ℕ) (c : Command) (past : History) (k : Ledger) → Names k.unanswered mask
+  pub answered : (s mask : ℕ) (c : SlotCommand) (past : History) (k : Ledger) → Names k.unanswered mask
       → has_bit mask s ≡ true → InLife s c past k → is_at s (waiting_in past) ≡ false
-  pub free : (s mask error : ℕ) (c : Command) (past : History) (k : Ledger)
+  pub free : (s mask error : ℕ) (c : SlotCommand) (past : History) (k : Ledger)
       → Names k.unanswered mask → has_bit mask s ≡ true → InLife s c past k
       → IsFree (answers k error false) s
-  pub other : (s mask error : ℕ) (c : Command) (past : History) (k : Ledger)
+  pub other : (s mask error : ℕ) (c : SlotCommand) (past : History) (k : Ledger)
       → Names k.unanswered mask → has_bit mask s ≡ false → InLife s c past k
       → InLife s c (Named mask ∷ past) (answers k error false)

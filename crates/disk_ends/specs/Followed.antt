@@ -9,7 +9,6 @@ use Rattle.slots.specs.Work.{is_queued}
 use Rattle.hba_fbs.specs.declared.report.TakeReport.{TakeReport}
 use Rattle.hba_fbs.specs.Taking.{port_of}
 use Rattle.disk_model.specs.declared.plan.DiskPlan.{DiskPlan}
-use Rattle.disk_model.specs.declared.request.Command.{Command}
 use Rattle.disk_model.specs.Anew.{IsCarefulSince, IsClear, IsLinkedOn}
 use Rattle.disk_model.specs.Ends.{reports}
 use Rattle.disk_model.specs.Histories.{Happening, Received, Sent}
@@ -21,6 +20,7 @@ use Rattle.hba_laws.specs.Sound.{IsHost}
 use Rattle.disk_ends.specs.Anew.{IsNextRight}
 use Rattle.disk_ends.specs.Honest.{IsDoneHonestly}
 use Rattle.disk_ends.specs.Joined.{IsJoined}
+use Rattle.disk_ends.specs.Same.{SlotCommand}
 
 -- The disk did this since the moment up to which it is followed, and this comes up behind what it
 -- sent before: nothing, or an error and all that it sent later. Until then what is on its way down
@@ -87,7 +87,7 @@ FollowedIsHonest =
     (down up : List (List ℕ)) (bytes : List ℕ)
     → IsSize plan sectors → IsDiskRun plan sectors disk
     → IsFollowed base disk given down [] (bytes ∷ up) → IsCarefulSince base given
-    → (n : ℕ) (host new : Host) (report : TakeReport) (commands : ℕ → Command) (past : History)
+    → (n : ℕ) (host new : Host) (report : TakeReport) (commands : ℕ → SlotCommand) (past : History)
     → IsHost host → n < 15 → IsFrame bytes → IsFrame (marked bytes n) → port_of (marked bytes n) ≡ n
     → TakesFrame host (marked bytes n) report new → IsJoined n commands host past (ledger given)
     → (s : ℕ) (t : Transfer) → s < 32 → issued s past ≡ Some t → is_queued t.work.kind ≡ true

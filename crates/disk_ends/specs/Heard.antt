@@ -5,7 +5,6 @@ use Rattle.fis_view.specs.Seen.{seen}
 use Rattle.hba_fbs.specs.declared.report.TakeReport.{TakeReport}
 use Rattle.hba_fbs.specs.Taking.{port_of}
 use Rattle.hba_fbs.specs.Views.{view_of}
-use Rattle.disk_model.specs.declared.request.Command.{Command}
 use Rattle.disk_model.specs.Ends.{IsRight}
 use Rattle.disk_model.specs.Ledger.{Ledger}
 use Rattle.hba_laws.specs.Agreement.{IsHistoryOf}
@@ -15,6 +14,7 @@ use Rattle.hba_laws.specs.History.{History}
 use Rattle.hba_laws.specs.Hosts.{Host, TakesFrame, Took}
 use Rattle.hba_laws.specs.Sound.{IsHost}
 use Rattle.disk_ends.specs.Together.{IsHeard, Same, told}
+use Rattle.disk_ends.specs.Same.{SlotCommand}
 
 -- the port hears the frame of a device that is in no software reset, and reports nothing wrong with
 -- it
@@ -37,7 +37,7 @@ pub record IsToldSo (host : Host) (frame : List ℕ) (report : TakeReport)
 abbrev pub HeardAsTold : Type 0
 HeardAsTold =
     (host new : Host) (frame : List ℕ) (report : TakeReport) (commands : ℕ
-    → Command) (past : History) (k : Ledger)
+    → SlotCommand) (past : History) (k : Ledger)
     → IsHost host → port_of frame < 15 → IsTakenWell host frame report new
     → IsHistoryOf (port_of frame) host past
     → Same commands past k → IsRight k (seen frame) → IsToldSo host frame report past

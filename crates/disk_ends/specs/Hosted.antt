@@ -17,7 +17,6 @@ use Rattle.hba_fbs.specs.Sending.{Data, Order, gathered, outgoing}
 use Rattle.hba_fbs.specs.Tables.{prds_of}
 use Rattle.hba_fbs.specs.Taking.{port_of}
 use Rattle.hba_fbs.specs.Views.{view_of}
-use Rattle.disk_model.specs.declared.request.Command.{Command}
 use Rattle.disk_model.specs.declared.request.Request.TheVariants.{Queue}
 use Rattle.disk_model.specs.declared.plan.DiskPlan.{DiskPlan}
 use Rattle.disk_model.specs.Ends.{IsCareful, IsLinked, IsRight}
@@ -34,26 +33,27 @@ use Rattle.hba_laws.specs.Hosts.{Does, Gave, Host, Wrote}
 use Rattle.hba_laws.specs.Sound.{IsHost}
 use Rattle.disk_ends.specs.Answers.{IsAlone}
 use Rattle.disk_ends.specs.Heard.{IsTakenWell}
-use Rattle.disk_ends.specs.Joined.{IsJoined, IsShort}
+use Rattle.disk_ends.specs.Joined.{AreCounted, IsJoined, IsShort}
 use Rattle.disk_ends.specs.Together.{NoneQueued, told}
+use Rattle.disk_ends.specs.Same.{SlotCommand}
 
 -- What goes between a host and a device has PM Port 0 at the device's end of the link, and the
 -- device's port at the host's. The port hears n, with these happenings (as the device sees them) at
 -- its end of the link, these commands of its slots and this history of its events.
-pub data IsHosted (n : ℕ) : Host → List Happening → (ℕ → Command) → History → Type 0 where
+pub data IsHosted (n : ℕ) : Host → List Happening → (ℕ → SlotCommand) → History → Type 0 where
   -- the disk is plugged in while nothing of it is issued
-  plugged : (host : Host) (commands : ℕ → Command) (past : History) → IsHistoryOf n host past
+  plugged : (host : Host) (commands : ℕ → SlotCommand) (past : History) → IsHistoryOf n host past
       → ((s : ℕ) → own_issue (view_of n host.port).slots s ≡ None)
-      → ((s : ℕ) → (commands s).tag ≡ s)
+      → ((s : ℕ) → (commands s).command.tag ≡ s)
       → IsHosted n host (Plugged ∷ []) commands past
   -- what happens at the port leaves the view of n, and is no event of it
-  stays : (host new : Host) (given : List Happening) (commands : ℕ → Command) (past : History)
+  stays : (host new : Host) (given : List Happening) (commands : ℕ → SlotCommand) (past : History)
       → view_of n new.port ≡ view_of n host.port → IsHosted n host given commands past
       → IsHosted n new given commands past
   -- a FIS comes, marked with its port, that is right by what was told before, and nothing is wrong
   -- with it
   hears : (host new : Host) (bytes : List ℕ) (report : TakeReport) (given : List Happening)
-      (commands : ℕ → Command)
+      (commands : ℕ → SlotCommand)
       (past : History) → IsHost host → IsFrame bytes → IsFrame (marked bytes n)
       → port_of (marked bytes n) ≡ n
       → IsTakenWell host (marked bytes n) report new → IsRight (ledger given) (seen bytes)
@@ -62,28 +62,29 @@ pub data IsHosted (n : ℕ) : Host → List Happening → (ℕ → Command) → 
       → IsHosted n new (given ++ Sent bytes ∷ []) commands (told (seen (marked bytes n)) ++ past)
   -- commands are issued in slots of it
   issues : (host new : Host) (value : ℕ) (given : List Happening) (commands next : ℕ
-      → Command) (past : History)
+      → SlotCommand) (past : History)
       → IsHost host → host.port.registers.chosen ≡ n → Does host (Wrote Ci value) new
-      → ((s : ℕ) → (next s).tag ≡ s)
+      → ((s : ℕ) → (next s).command.tag ≡ s)
       → ((s : ℕ) → asked host.port.registers host.memory value s ≡ None → next s ≡ commands s)
+      → AreCounted (asked host.port.registers host.memory value) next (ledger given)
       → IsHosted n host given commands past
       → IsHosted n new given next (own n (touched host (Wrote Ci value)) ++ past)
   -- the queued command of a slot goes out, once the device signed
   sends : (host new : Host) (frame : Stamped) (slot : ℕ) (command : issued_command.Command)
       (f : List ℕ) (t : Transfer)
-      (given : List Happening) (commands : ℕ → Command) (past : History) → IsHost host
+      (given : List Happening) (commands : ℕ → SlotCommand) (past : History) → IsHost host
       → IsFrame frame.bytes
       → Does host (Gave (Some frame)) new
       → outgoing host.port host.memory ≡ Order n slot command → issued slot past ≡ Some t
       → is_queued t.work.kind ≡ true
-      → seen command.cfis ≡ Ok (view.RegH2D f) → request_of f ≡ Queue (commands slot)
+      → seen command.cfis ≡ Ok (view.RegH2D f) → request_of f ≡ Queue (commands slot).command
       → (ledger given).awaited ≢ Signs ∷ [] → IsHosted n host given commands past
       → IsHosted n new (given ++ Received (marked frame.bytes 0) ∷ []) commands
       (event.Sent slot ∷ past)
   -- another command goes out, while no queued one is issued
   asks : (host new : Host) (frame : Stamped) (slot : ℕ) (command : issued_command.Command)
       (f : List ℕ) (t : Transfer)
-      (given : List Happening) (commands : ℕ → Command) (past : History) → IsHost host
+      (given : List Happening) (commands : ℕ → SlotCommand) (past : History) → IsHost host
       → IsFrame frame.bytes
       → Does host (Gave (Some frame)) new
       → outgoing host.port host.memory ≡ Order n slot command → issued slot past ≡ Some t
@@ -97,7 +98,7 @@ pub data IsHosted (n : ℕ) : Host → List Happening → (ℕ → Command) → 
   -- Data goes out
   gives : (host new : Host) (frame : Stamped) (offset len : ℕ) (command : issued_command.Command)
       (given : List Happening)
-      (commands : ℕ → Command) (past : History) → IsHost host → IsFrame frame.bytes
+      (commands : ℕ → SlotCommand) (past : History) → IsHost host → IsFrame frame.bytes
       → Does host (Gave (Some frame)) new
       → outgoing host.port host.memory ≡ Data n offset len command
       → IsHosted n host given commands past
@@ -106,14 +107,14 @@ pub data IsHosted (n : ℕ) : Host → List Happening → (ℕ → Command) → 
 
 -- the host is careful, and joined with the disk's ledger
 pub record IsKept (n : ℕ) (host : Host) (given : List Happening) (commands : ℕ
-    → Command) (past : History) : Type 0 where
+    → SlotCommand) (past : History) : Type 0 where
   pub careful : IsCareful given
   pub joined : IsJoined n commands host past (ledger given)
 
 -- so it is whatever happens in this way
 abbrev pub HostedIsKept : Type 0
 HostedIsKept =
-    (n : ℕ) (host : Host) (given : List Happening) (commands : ℕ → Command) (past : History)
+    (n : ℕ) (host : Host) (given : List Happening) (commands : ℕ → SlotCommand) (past : History)
     → n < 15
     → IsHosted n host given commands past → IsKept n host given commands past
 

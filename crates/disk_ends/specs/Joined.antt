@@ -2,7 +2,7 @@
 -- each FIS that the port hears or gives all three go on to agree (AHCI 1.3.1, 5.3, how a port takes
 -- and sends FISes; Serial ATA 3.x, 13.6, native command queuing).
 use Rattle.std.specs.Prelude.{ℕ, ◌≡◌, ◌≢◌, ◌<◌, ◌≤◌, ◌++◌, true, List, [], ◌∷◌, false}
-use Rattle.std.specs.Prelude.{Some, None, Result, Ok}
+use Rattle.std.specs.Prelude.{length, Option, Some, None, Result, Ok, is_some}
 use Rattle.fis_view.specs.Frames.{IsFrame, Stamped, marked}
 use Rattle.fis_view.specs.Table.{Setup, field}
 use Rattle.fis_view.specs.Table as table
@@ -21,7 +21,6 @@ use Rattle.hba_fbs.specs.Sending.{Data, Order, gathered, outgoing}
 use Rattle.hba_fbs.specs.Tables.{prds_of}
 use Rattle.hba_fbs.specs.Taking.{port_of}
 use Rattle.hba_fbs.specs.Views.{view_of}
-use Rattle.disk_model.specs.declared.request.Command.{Command}
 use Rattle.disk_model.specs.declared.request.Request.TheVariants.{Queue}
 use Rattle.disk_model.specs.declared.plan.DiskPlan.{DiskPlan}
 use Rattle.disk_model.specs.Ends.{Fits, IsCareful, IsLinked, IsRight}
@@ -40,6 +39,7 @@ use Rattle.disk_ends.specs.Answers.{IsAlone}
 use Rattle.disk_ends.specs.Heard.{IsTakenWell}
 use Rattle.disk_ends.specs.Honest.{IsDoneHonestly}
 use Rattle.disk_ends.specs.Together.{NoneQueued, Same, is_sent, told}
+use Rattle.disk_ends.specs.Same.{SlotCommand}
 
 -- the port holds a command as sent where the history says so
 abbrev pub SentAgrees : DeviceSlots → History → Type 0
@@ -66,7 +66,7 @@ AreShort k = (v : Moving) → k.moving ≡ Some v → v.count ≤ 8192
 
 -- the view of device n, its history and the ledger agree
 pub record IsJoined (n : ℕ) (commands : ℕ
-    → Command) (host : Host) (past : History) (k : Ledger) : Type 0 where
+    → SlotCommand) (host : Host) (past : History) (k : Ledger) : Type 0 where
   pub history : IsHistoryOf n host past
   pub same : Same commands past k
   pub sent : SentAgrees (view_of n host.port).slots past
@@ -78,7 +78,7 @@ pub record IsJoined (n : ℕ) (commands : ℕ
 abbrev pub JoinsFrames : Type 0
 JoinsFrames =
     (host new : Host) (frame : List ℕ) (report : TakeReport) (commands : ℕ
-    → Command) (past : History) (k : Ledger)
+    → SlotCommand) (past : History) (k : Ledger)
     → IsHost host → IsFrame frame → port_of frame < 15 → IsTakenWell host frame report new
     → IsRight k (seen frame)
     → IsShort (seen frame) → IsJoined (port_of frame) commands host past k
@@ -86,7 +86,7 @@ JoinsFrames =
 
 -- what goes out fits the ledger, and joins it
 pub record JoinsGiven (n : ℕ) (commands : ℕ
-    → Command) (bytes : List ℕ) (e : event.Event) (past : History) (k : Ledger)
+    → SlotCommand) (bytes : List ℕ) (e : event.Event) (past : History) (k : Ledger)
     (new : Host) : Type 0 where
   pub fits : Fits k (seen bytes)
   pub joined : IsJoined n commands new (e ∷ past) (listens k (Received bytes))
@@ -96,11 +96,11 @@ abbrev pub JoinsCommands : Type 0
 JoinsCommands =
     (n slot : ℕ) (host new : Host) (frame : Stamped) (command : issued_command.Command) (f : List ℕ)
     (t : Transfer)
-    (commands : ℕ → Command) (past : History) (k : Ledger)
+    (commands : ℕ → SlotCommand) (past : History) (k : Ledger)
     → IsHost host → n < 15 → Does host (Gave (Some frame)) new
     → outgoing host.port host.memory ≡ Order n slot command
     → issued slot past ≡ Some t → is_queued t.work.kind ≡ true
-    → seen command.cfis ≡ Ok (view.RegH2D f) → request_of f ≡ Queue (commands slot)
+    → seen command.cfis ≡ Ok (view.RegH2D f) → request_of f ≡ Queue (commands slot).command
     → k.awaited ≢ Signs ∷ []
     → IsJoined n commands host past k
     → JoinsGiven n commands frame.bytes (event.Sent slot) past k new
@@ -110,7 +110,7 @@ abbrev pub JoinsOthers : Type 0
 JoinsOthers =
     (n slot : ℕ) (host new : Host) (frame : Stamped) (command : issued_command.Command) (f : List ℕ)
     (t : Transfer)
-    (commands : ℕ → Command) (past : History) (k : Ledger)
+    (commands : ℕ → SlotCommand) (past : History) (k : Ledger)
     → IsHost host → n < 15 → Does host (Gave (Some frame)) new
     → outgoing host.port host.memory ≡ Order n slot command
     → issued slot past ≡ Some t → is_queued t.work.kind ≡ false → is_control t.work.kind ≡ false
@@ -123,7 +123,7 @@ JoinsOthers =
 abbrev pub JoinsData : Type 0
 JoinsData =
     (n offset len : ℕ) (host new : Host) (frame : Stamped) (command : issued_command.Command)
-    (commands : ℕ → Command) (past : History) (k : Ledger)
+    (commands : ℕ → SlotCommand) (past : History) (k : Ledger)
     → IsHost host → n < 15 → Does host (Gave (Some frame)) new
     → outgoing host.port host.memory ≡ Data n offset len command
     → IsJoined n commands host past k
@@ -131,21 +131,26 @@ JoinsData =
     (event.Carried
     (gathered (prds_of host.memory command) offset len host.memory.client)) past k new
 
+-- the commands that are issued are counted by no more writes than have ended by now
+abbrev pub AreCounted : (ℕ → Option issued_command.Command) → (ℕ → SlotCommand) → Ledger → Type 0
+AreCounted asks next k = (s : ℕ) → is_some (asks s) ≡ true → (next s).since ≤ length k.writes
+
 -- Commands are issued for device n, each in its slot, of which the map names the command: what it
 -- named for other slots stays.
 abbrev pub JoinsIssues : Type 0
 JoinsIssues =
-    (n value : ℕ) (host new : Host) (commands next : ℕ → Command) (past : History) (k : Ledger)
+    (n value : ℕ) (host new : Host) (commands next : ℕ → SlotCommand) (past : History) (k : Ledger)
     → IsHost host → n < 15 → host.port.registers.chosen ≡ n → Does host (Wrote Ci value) new
-    → ((s : ℕ) → (next s).tag ≡ s)
+    → ((s : ℕ) → (next s).command.tag ≡ s)
     → ((s : ℕ) → asked host.port.registers host.memory value s ≡ None → next s ≡ commands s)
+    → AreCounted (asked host.port.registers host.memory value) next k
     → IsJoined n commands host past k
     → IsJoined n next new (own n (touched host (Wrote Ci value)) ++ past) k
 
 -- what happens at the port and leaves the view of device n, and is none of its events
 abbrev pub StaysJoined : Type 0
 StaysJoined =
-    (n : ℕ) (host new : Host) (commands : ℕ → Command) (past : History) (k : Ledger)
+    (n : ℕ) (host new : Host) (commands : ℕ → SlotCommand) (past : History) (k : Ledger)
     → view_of n new.port ≡ view_of n host.port → IsJoined n commands host past k
     → IsJoined n commands new past k
 
@@ -157,7 +162,7 @@ ReportsHonestly =
     (bytes : List ℕ)
     → IsSize plan sectors → IsDiskRun plan sectors disk → IsLinked disk given down (bytes ∷ up)
     → IsCareful given
-    → (n : ℕ) (host new : Host) (report : TakeReport) (commands : ℕ → Command) (past : History)
+    → (n : ℕ) (host new : Host) (report : TakeReport) (commands : ℕ → SlotCommand) (past : History)
     → IsHost host → n < 15 → IsFrame bytes → IsFrame (marked bytes n) → port_of (marked bytes n) ≡ n
     → IsTakenWell host (marked bytes n) report new → IsJoined n commands host past (ledger given)
     → (s : ℕ) (t : Transfer) → s < 32 → issued s past ≡ Some t → is_queued t.work.kind ≡ true

@@ -10,7 +10,6 @@ use Rattle.hba_fbs.specs.declared.report.TakeReport.{TakeReport}
 use Rattle.hba_fbs.specs.Taking.{port_of}
 use Rattle.hba_fbs.specs.Views.{view_of}
 use Rattle.disk_model.specs.declared.plan.DiskPlan.{DiskPlan}
-use Rattle.disk_model.specs.declared.request.Command.{Command}
 use Rattle.disk_model.specs.Anew.{OwesOnly}
 use Rattle.disk_model.specs.Ends.{Fits}
 use Rattle.disk_model.specs.Histories.{Happening, Sent}
@@ -25,6 +24,7 @@ use Rattle.disk_ends.specs.Aside.{IsAside}
 use Rattle.disk_ends.specs.Files.{IsFineFile, IsUnrefused}
 use Rattle.disk_ends.specs.Line.{Failed, IsWatchedWell, Loose, OnLine}
 use Rattle.disk_ends.specs.Phases.{AreWatching}
+use Rattle.disk_ends.specs.Same.{SlotCommand}
 
 -- The host heard nothing of the disk since both began anew, or the disk's task file is without an
 -- error.
@@ -34,7 +34,7 @@ HasFineFile n host base given = (given ≡ base) ⊎ IsFineFile (view_of n host.
 -- a FIS comes next from a disk that is watched, and the port does not ignore it
 pub record IsNextTaken (plan : DiskPlan) (sectors : ℕ) (base disk given : List Happening)
     (down up : List (List ℕ)) (bytes : List ℕ) (n : ℕ) (host : Host) (report : TakeReport)
-    (new : Host) (commands : ℕ → Command) (past : History) : Type 0 where
+    (new : Host) (commands : ℕ → SlotCommand) (past : History) : Type 0 where
   pub well : IsWatchedWell plan sectors base disk given down (bytes ∷ up)
   pub unrefused : IsUnrefused (ledger base)
   pub sound : IsHost host
@@ -48,7 +48,7 @@ pub record IsNextTaken (plan : DiskPlan) (sectors : ℕ) (base disk given : List
   pub heard : report.ignored ≡ false
 
 pub data Outcome (n : ℕ) (base disk given : List Happening) (down up : List (List ℕ))
-    (bytes : List ℕ) (new : Host) (commands : ℕ → Command) (past : History) : Type 0 where
+    (bytes : List ℕ) (new : Host) (commands : ℕ → SlotCommand) (past : History) : Type 0 where
   Watches : AreWatching n base disk (given ++ Sent bytes ∷ []) down up new commands past
       → IsFineFile (view_of n new.port) → Outcome n base disk given down up bytes new commands past
   Fails : IsAside n new past → OnLine Failed (ledger disk) down up
@@ -61,7 +61,7 @@ abbrev pub EachTakenHasOutcome : Type 0
 EachTakenHasOutcome =
     (plan : DiskPlan) (sectors : ℕ) (base disk given : List Happening)
     (down up : List (List ℕ)) (bytes : List ℕ) (n : ℕ) (host : Host) (report : TakeReport)
-    (new : Host) (commands : ℕ → Command) (past : History)
+    (new : Host) (commands : ℕ → SlotCommand) (past : History)
     → IsNextTaken plan sectors base disk given down up bytes n host report new commands past
     → report.stopped ≡ None
     → Outcome n base disk given down up bytes new commands

@@ -10,7 +10,6 @@ use Rattle.slots.specs.Work.{is_queued}
 use Rattle.hba_fbs.specs.declared.report.TakeReport.{TakeReport}
 use Rattle.hba_fbs.specs.Taking.{port_of}
 use Rattle.disk_model.specs.declared.plan.DiskPlan.{DiskPlan}
-use Rattle.disk_model.specs.declared.request.Command.{Command}
 use Rattle.disk_model.specs.Histories.{Happening, Sent}
 use Rattle.disk_model.specs.Ledger.{IsSize, ledger}
 use Rattle.disk_model.specs.Runs.{IsDiskRun}
@@ -25,10 +24,11 @@ use Rattle.disk_ends.specs.Calm.{IsCalm}
 use Rattle.disk_ends.specs.Followed.{IsFollowed}
 use Rattle.disk_ends.specs.Honest.{IsDoneHonestly}
 use Rattle.disk_ends.specs.Watched.{IsWatched}
+use Rattle.disk_ends.specs.Same.{SlotCommand}
 
 -- The disk did all this, and these bytes come next from it; the host heard and gave that, its slots
 -- have these commands, and this is the history of the device's events at its port.
-pub data Stands (n : ℕ) (host : Host) (disk given : List Happening) (commands : ℕ → Command)
+pub data Stands (n : ℕ) (host : Host) (disk given : List Happening) (commands : ℕ → SlotCommand)
     (past : History) (bytes : List ℕ) : Type 0 where
   Together : (base : List Happening) (down up : List (List ℕ))
       → IsFollowed base disk given down [] (bytes ∷ up)
@@ -42,7 +42,7 @@ abbrev pub EachDoneIsHonest : Type 0
 EachDoneIsHonest =
     (plan : DiskPlan) (sectors : ℕ) (disk given : List Happening) (bytes : List ℕ)
     → IsSize plan sectors → IsDiskRun plan sectors disk
-    → (n : ℕ) (host new : Host) (report : TakeReport) (commands : ℕ → Command) (past : History)
+    → (n : ℕ) (host new : Host) (report : TakeReport) (commands : ℕ → SlotCommand) (past : History)
     → IsHost host → n < 15 → IsFrame bytes → IsFrame (marked bytes n) → port_of (marked bytes n) ≡ n
     → Stands n host disk given commands past bytes → TakesFrame host (marked bytes n) report new
     → (s : ℕ) (t : Transfer) → s < 32 → issued s past ≡ Some t → is_queued t.work.kind ≡ true
@@ -51,7 +51,7 @@ EachDoneIsHonest =
 
 -- the host took the next FIS of the disk, and they are still together, with this history
 pub record AreTogether (n : ℕ) (base disk given : List Happening) (down up : List (List ℕ))
-    (host : Host) (commands : ℕ → Command) (past : History) : Type 0 where
+    (host : Host) (commands : ℕ → SlotCommand) (past : History) : Type 0 where
   pub followed : IsFollowed base disk given down [] up
   pub hosted : IsHostedOn n base host given commands past
 
@@ -64,7 +64,7 @@ TakesInEachPhase =
     (down up : List (List ℕ)) (bytes : List ℕ)
     → IsSize plan sectors → IsDiskRun plan sectors disk
     → IsFollowed base disk given down [] (bytes ∷ up)
-    → (n : ℕ) (host new : Host) (report : TakeReport) (commands : ℕ → Command) (past : History)
+    → (n : ℕ) (host new : Host) (report : TakeReport) (commands : ℕ → SlotCommand) (past : History)
     → IsHost host → n < 15 → IsFrame bytes → IsFrame (marked bytes n) → port_of (marked bytes n) ≡ n
     → IsHostedOn n base host given commands past → TakesFrame host (marked bytes n) report new
     → report.ignored ≡ false
@@ -77,13 +77,13 @@ TakesInEachPhase =
 abbrev pub CalmLeavesTogether : Type 0
 CalmLeavesTogether =
     (n : ℕ) (base : List Happening) (host new : Host) (event : HostEvent) (given : List Happening)
-    (commands next : ℕ → Command) (past : History) → n < 15 → IsHost host → Does host event new
-    → IsCalm n host commands event next → IsHostedOn n base host given commands past
+    (commands next : ℕ → SlotCommand) (past : History) → n < 15 → IsHost host → Does host event new
+    → IsCalm n (ledger given) host commands event next → IsHostedOn n base host given commands past
     → IsHostedOn n base new given next (own n (touched host event) ++ past)
 
 -- the host took the next FIS of a disk that it watches, and still watches it
 pub record AreWatching (n : ℕ) (base disk given : List Happening) (down up : List (List ℕ))
-    (host : Host) (commands : ℕ → Command) (past : History) : Type 0 where
+    (host : Host) (commands : ℕ → SlotCommand) (past : History) : Type 0 where
   pub watched : IsWatched base disk given down [] up
   pub hosted : IsHostedOn n base host given commands past
 
@@ -94,7 +94,7 @@ WatchesWhatIsFine =
     (down up : List (List ℕ)) (bytes : List ℕ)
     → IsSize plan sectors → IsDiskRun plan sectors disk
     → IsWatched base disk given down [] (bytes ∷ up)
-    → (n : ℕ) (host new : Host) (report : TakeReport) (commands : ℕ → Command) (past : History)
+    → (n : ℕ) (host new : Host) (report : TakeReport) (commands : ℕ → SlotCommand) (past : History)
     → IsHost host → n < 15 → IsFrame bytes → IsFrame (marked bytes n) → port_of (marked bytes n) ≡ n
     → IsHostedOn n base host given commands past → TakesFrame host (marked bytes n) report new
     → report.ignored ≡ false → report.fault ≡ None → report.stopped ≡ None

@@ -73,49 +73,61 @@ pub record IsMovingAt (s : ℕ) (v : Moving) (past : History) : Type 0 where
   pub asked : v.active ≡ true → v.moved + v.count ≡ bytes_named v.setups
   pub stands : Stand (filled s past) v.bytes
 
--- a queued command c that is issued in slot s, by what the FISes tell: it was not sent, it is
--- outstanding, its data moves, or it ended
-pub data InLife (s : ℕ) (c : Command) (past : History) (k : Ledger) : Type 0 where
+-- the queued command of a slot, and how many writes had ended, by the FISes, when it was issued
+pub record SlotCommand : Type 0 where
+  pub command : Command
+  pub since : ℕ
+
+-- the data of the command began to move after those writes
+pub record IsMovingSince (since : ℕ) (v : Moving) (k : Ledger) : Type 0 where
+  pub before : since ≤ length v.before
+  pub now : since ≤ length k.writes
+
+-- A queued command c that is issued in slot s, by what the FISes tell: it was not sent, it is
+-- outstanding, its data moves, or it ended. A read that ended had all writes before it that had
+-- ended when it was issued, and a write was entered behind them.
+pub data InLife (s : ℕ) (c : SlotCommand) (past : History) (k : Ledger) : Type 0 where
   Unsent : IsFree k s → is_at s (waiting_in past) ≡ false → is_set_up s past ≡ false
-      → filled s past ≡ none_filled → InLife s c past k
-  Open : find (λ q. q.tag == s) k.outstanding ≡ Some c → has s k.unanswered ≡ false
+      → filled s past ≡ none_filled → c.since ≤ length k.writes → InLife s c past k
+  Open : find (λ q. q.tag == s) k.outstanding ≡ Some c.command → has s k.unanswered ≡ false
       → MovesOther s k.moving
-      → is_set_up s past ≡ false → filled s past ≡ none_filled → InLife s c past k
-  Moves : (v : Moving) → k.moving ≡ Some v → v.command ≡ c → has s k.unanswered ≡ false
-      → IsMovingAt s v past
+      → is_set_up s past ≡ false → filled s past ≡ none_filled → c.since ≤ length k.writes
+      → InLife s c past k
+  Moves : (v : Moving) → k.moving ≡ Some v → v.command ≡ c.command → has s k.unanswered ≡ false
+      → IsMovingAt s v past → IsMovingSince c.since v k
       → InLife s c past k
   ReadEnded : (at : ℕ) (r : ReadOut) → IsEnded s past k → is_at s (waiting_in past) ≡ false
-      → slice_get k.reads at ≡ Some r → IsReadOf c r
-      → Stand (filled s past) r.bytes → InLife s c past k
+      → slice_get k.reads at ≡ Some r → IsReadOf c.command r
+      → Stand (filled s past) r.bytes → c.since ≤ length r.before → InLife s c past k
   WriteEnded : (at : ℕ) (w : Written) → IsEnded s past k → is_at s (waiting_in past) ≡ false
-      → slice_get k.writes at ≡ Some w → IsWriteOf s c w
-      → Stand (filled s past) w.bytes → InLife s c past k
+      → slice_get k.writes at ≡ Some w → IsWriteOf s c.command w
+      → Stand (filled s past) w.bytes → c.since ≤ at → InLife s c past k
 
 -- ---- the laws, a kind of event each
 
 -- a command is issued in the slot, whose tag is free; and issued in another slot
 pub record IssuesKeep : Type 0 where
-  pub own : (s : ℕ) (c : Command) (t : Transfer) (past : History) (k : Ledger) → IsFree k s
-      → InLife s c (Issued s t ∷ past) k
-  pub other : (s slot : ℕ) (c : Command) (t : Transfer) (past : History) (k : Ledger)
+  pub own : (s : ℕ) (c : SlotCommand) (t : Transfer) (past : History) (k : Ledger) → IsFree k s
+      → c.since ≤ length k.writes → InLife s c (Issued s t ∷ past) k
+  pub other : (s slot : ℕ) (c : SlotCommand) (t : Transfer) (past : History) (k : Ledger)
       → (slot == s) ≡ false
       → InLife s c past k → InLife s c (Issued slot t ∷ past) k
 
 -- the command of the slot goes out, where its tag is free, and that of another slot
 pub record CommandsKeep : Type 0 where
-  pub own : (s : ℕ) (c : Command) (past : History) (k : Ledger) → c.tag ≡ s → k.failed ≡ false
-      → IsFree k s
-      → InLife s c past k → InLife s c (Sent s ∷ past) (asks k (Queue c) k.failed)
-  pub other : (s : ℕ) (c other : Command) (past : History) (k : Ledger) → (other.tag == s) ≡ false
-      → k.failed ≡ false
+  pub own : (s : ℕ) (c : SlotCommand) (past : History) (k : Ledger) → c.command.tag ≡ s
+      → k.failed ≡ false → IsFree k s
+      → InLife s c past k → InLife s c (Sent s ∷ past) (asks k (Queue c.command) k.failed)
+  pub other : (s : ℕ) (c : SlotCommand) (other : Command) (past : History) (k : Ledger)
+      → (other.tag == s) ≡ false → k.failed ≡ false
       → IsFree k other.tag → InLife s c past k
       → InLife s c (Sent other.tag ∷ past) (asks k (Queue other) k.failed)
 
 -- the first DMA Setup of an outstanding command, which was answered: where it is the slot's, its
 -- data moves
 abbrev pub SetupsStart : Type 0
-SetupsStart = (s tag offset count : ℕ) (to_host : Bool) (c q : Command) (past : History)
-    (k : Ledger) → k.moving ≡ None
+SetupsStart = (s tag offset count : ℕ) (to_host : Bool) (c : SlotCommand) (q : Command)
+    (past : History) (k : Ledger) → k.moving ≡ None
     → find (λ p. p.tag == tag) k.outstanding ≡ Some q → is_at tag (waiting_in past) ≡ false
     → offset + count ≤ 512 * q.count → InLife s c past k
     → InLife s c (SetUp tag offset count to_host ∷ past) (starts_moving k offset count (Some q))

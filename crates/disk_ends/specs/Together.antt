@@ -3,7 +3,7 @@
 -- (Serial ATA 3.x, 13.6, native command queuing; AHCI 1.3.1, 5.3 and 9.3). It is so from the moment
 -- that the disk is plugged in, as long as the port refuses no FIS, empties no slot and resets no
 -- device.
-use Rattle.std.specs.Prelude.{ℕ, ◌≡◌, ◌≢◌, ◌==◌, if◌then◌else◌, Bool, true, false, List, [], ◌∷◌}
+use Rattle.std.specs.Prelude.{ℕ, ◌≡◌, ◌≢◌, ◌≤◌, ◌==◌, length, if◌then◌else◌, Bool, true, false, List, [], ◌∷◌}
 use Rattle.std.specs.Prelude.{◌++◌, drop}
 use Rattle.std.specs.Prelude.{Option, Some, None, Result, Ok}
 use Rattle.fis_view.specs.Table.{Bits, BufferId, EStatus, Offset, Pio, SActive, Setup, field}
@@ -13,7 +13,6 @@ use Rattle.fis_view.specs.declared.view.Fis.TheVariants as view
 use Rattle.fis_view.specs.declared.view.FisFault.{FisFault}
 use Rattle.slots.specs.Slots.{has_bit}
 use Rattle.slots.specs.Work.{is_queued}
-use Rattle.disk_model.specs.declared.request.Command.{Command}
 use Rattle.disk_model.specs.declared.request.Request.{Request}
 use Rattle.disk_model.specs.declared.request.Request.TheVariants.{Queue}
 use Rattle.disk_model.specs.Ends.{FitsData, FitsRequest, IsFree, IsRight}
@@ -23,7 +22,7 @@ use Rattle.disk_model.specs.Ledger.{asks, listens_up, takes_data}
 use Rattle.hba_laws.specs.History.{Answered, Carried, History, Issued, Named, PioSetUp, Sent, SetUp}
 use Rattle.hba_laws.specs.History.{Transfer, completes, is_at, is_set_up, issued, waiting_in}
 use Rattle.disk_ends.specs.Answers.{IsAlone, IsIdle}
-use Rattle.disk_ends.specs.Same.{InLife}
+use Rattle.disk_ends.specs.Same.{InLife, SlotCommand}
 
 -- ---- what is still to be answered
 
@@ -99,9 +98,9 @@ pub record IsUntouched (s : ℕ) (past : History) : Type 0 where
 
 -- A queued command that is issued stands in the ledger as its events say, and its tag is its slot's
 -- number. The tag of a slot without one, or whose command was not sent, is free.
-pub record Same (commands : ℕ → Command) (past : History) (k : Ledger) : Type 0 where
+pub record Same (commands : ℕ → SlotCommand) (past : History) (k : Ledger) : Type 0 where
   pub fine : k.failed ≡ false
-  pub tags : (s : ℕ) → (commands s).tag ≡ s
+  pub tags : (s : ℕ) → (commands s).command.tag ≡ s
   pub live : (s : ℕ) (t : Transfer) → issued s past ≡ Some t → is_queued t.work.kind ≡ true
       → InLife s (commands s) past k
   pub free : (s : ℕ) → NoneQueued (issued s past) → IsFree k s
@@ -113,7 +112,7 @@ pub record Same (commands : ℕ → Command) (past : History) (k : Ledger) : Typ
 -- ---- the events
 
 -- the command of one slot is this, those of the others are what they were
-abbrev pub with_command : (ℕ → Command) → ℕ → Command → ℕ → Command
+abbrev pub with_command : (ℕ → SlotCommand) → ℕ → SlotCommand → ℕ → SlotCommand
 with_command commands slot c s = if slot == s then c else commands s
 
 -- what a FIS that comes up is to the device's history, where the port refuses nothing of it
@@ -140,14 +139,14 @@ IsHeard past _ = Unit {0}
 
 -- the queued command of a slot goes out
 pub record QueuesOne (commands : ℕ
-    → Command) (slot : ℕ) (past : History) (k : Ledger) : Type 0 where
+    → SlotCommand) (slot : ℕ) (past : History) (k : Ledger) : Type 0 where
   -- it fits the ledger
-  pub fits : FitsRequest k (Queue (commands slot))
-  pub same : Same commands (Sent slot ∷ past) (asks k (Queue (commands slot)) k.failed)
+  pub fits : FitsRequest k (Queue (commands slot).command)
+  pub same : Same commands (Sent slot ∷ past) (asks k (Queue (commands slot).command) k.failed)
 
 -- another command of a slot goes out
 pub record AsksOne (commands : ℕ
-    → Command) (slot : ℕ) (request : Request) (past : History) (k : Ledger) : Type 0 where
+    → SlotCommand) (slot : ℕ) (request : Request) (past : History) (k : Ledger) : Type 0 where
   pub fits : FitsRequest k request
   pub same : Same commands (Sent slot ∷ past) (asks k request k.failed)
 
@@ -155,37 +154,38 @@ pub record AsksOne (commands : ℕ
 -- event.
 pub record SameGoesOn : Type 0 where
   -- the device is to sign, after it was plugged in or reset, and nothing is issued
-  pub opens : (commands : ℕ → Command) (past : History) (k : Ledger)
-      → ((s : ℕ) → (commands s).tag ≡ s)
+  pub opens : (commands : ℕ → SlotCommand) (past : History) (k : Ledger)
+      → ((s : ℕ) → (commands s).command.tag ≡ s)
       → ((s : ℕ) → issued s past ≡ None) → k.failed ≡ false → IsIdle k → k.awaited ≡ Signs ∷ []
       → k.pages ≡ []
       → Same commands past k
   -- a command is issued in a slot that is free
   pub issues : (commands : ℕ
-      → Command) (slot : ℕ) (c : Command) (t : Transfer) (past : History) (k : Ledger)
-      → issued slot past ≡ None → c.tag ≡ slot → Same commands past k
+      → SlotCommand) (slot : ℕ) (c : SlotCommand) (t : Transfer) (past : History) (k : Ledger)
+      → issued slot past ≡ None → c.command.tag ≡ slot → c.since ≤ length k.writes
+      → Same commands past k
       → Same (with_command commands slot c) (Issued slot t ∷ past) k
   -- a queued command goes out for the first time, once the device signed and while no other waits
   -- for its answer
-  pub queues : (commands : ℕ → Command) (slot : ℕ) (t : Transfer) (past : History) (k : Ledger)
+  pub queues : (commands : ℕ → SlotCommand) (slot : ℕ) (t : Transfer) (past : History) (k : Ledger)
       → issued slot past ≡ Some t → is_queued t.work.kind ≡ true → is_sent slot past ≡ false
       → k.awaited ≢ Signs ∷ []
       → NothingWaits past → Same commands past k → QueuesOne commands slot past k
   -- another command goes out, while no queued one is issued, after the device signed and while none
   -- waits for its answer
   pub asks_other : (commands : ℕ
-      → Command) (slot : ℕ) (t : Transfer) (request : Request) (past : History) (k : Ledger)
+      → SlotCommand) (slot : ℕ) (t : Transfer) (request : Request) (past : History) (k : Ledger)
       → issued slot past ≡ Some t → is_queued t.work.kind ≡ false → is_sent slot past ≡ false
       → IsAlone request
       → ((s : ℕ) → NoneQueued (issued s past)) → k.awaited ≢ Signs ∷ [] → NothingWaits past
       → Same commands past k
       → AsksOne commands slot request past k
   -- a FIS of the disk comes
-  pub takes : (commands : ℕ → Command) (fis : Result Fis FisFault) (past : History) (k : Ledger)
+  pub takes : (commands : ℕ → SlotCommand) (fis : Result Fis FisFault) (past : History) (k : Ledger)
       → IsRight k fis
       → IsHeard past fis → Same commands past k
       → Same commands (told fis ++ past) (listens_up k fis)
   -- Data goes out that was asked for
-  pub gives : (commands : ℕ → Command) (bytes : List ℕ) (past : History) (k : Ledger)
+  pub gives : (commands : ℕ → SlotCommand) (bytes : List ℕ) (past : History) (k : Ledger)
       → FitsData k.moving bytes
       → Same commands past k → Same commands (Carried bytes ∷ past) (takes_data k k.moving bytes)

@@ -2,7 +2,7 @@
 -- the error that the disk reports. That error is the last that comes up, and from then on the disk
 -- is in its error mode and rests, until its log is read or it is reset (Serial ATA 3.x, 13.6,
 -- native command queuing, on errors; ACS-3, READ LOG EXT and the NCQ Command Error log).
-use Rattle.std.specs.Prelude.{ℕ, ◌≡◌, ◌⊎◌, ◌++◌, true, List, [], ◌∷◌, Result, Ok}
+use Rattle.std.specs.Prelude.{ℕ, ◌≡◌, ◌≤◌, ◌⊎◌, ◌++◌, true, List, [], ◌∷◌, length, Result, Ok}
 use Rattle.fis_view.specs.Seen.{seen}
 use Rattle.fis_view.specs.declared.view.Fis.{Fis}
 use Rattle.fis_view.specs.declared.view.Fis.TheVariants as view
@@ -10,7 +10,7 @@ use Rattle.fis_view.specs.declared.view.FisFault.{FisFault}
 use Rattle.disk_model.specs.declared.plan.DiskPlan.{DiskPlan}
 use Rattle.disk_model.specs.declared.request.Request.{Request}
 use Rattle.disk_model.specs.declared.request.Request.TheVariants as asked
-use Rattle.disk_model.specs.Anew.{IsClear, IsLinkedOn}
+use Rattle.disk_model.specs.Anew.{IsCarefulSince, IsClear, IsLinkedOn}
 use Rattle.disk_model.specs.Ends.{Rests, reports}
 use Rattle.disk_model.specs.Histories.{Happening, Plugged, Received, Sent}
 use Rattle.disk_model.specs.Ledger.{IsSize, Ledger, ledger}
@@ -58,6 +58,11 @@ pub record IsErred (k : Ledger) : Type 0 where
   pub rests : Rests k
   pub failed : k.failed ≡ true
 
+-- it is so since an error, and no write ended
+pub record IsErredSince (followed disk : List Happening) : Type 0 where
+  pub now : IsErred (ledger disk)
+  pub writes : (ledger disk).writes ≡ (ledger followed).writes
+
 -- no error was reported; or one was, which comes up last, and the disk is in its error mode since
 pub data IsWatchedTo (base disk host : List Happening) (down stale up : List (List ℕ))
     : Type 0 where
@@ -65,7 +70,7 @@ pub data IsWatchedTo (base disk host : List Happening) (down stale up : List (Li
   Erred : (followed later : List Happening) (error : List ℕ) (below before : List (List ℕ))
       → disk ≡ followed ++ Sent error ∷ later → up ≡ before ++ error ∷ []
       → reports (seen error) ≡ true → IsLinkedOn base followed host below stale before
-      → IsErred (ledger disk) → IsWatchedTo base disk host down stale up
+      → IsErredSince followed disk → IsWatchedTo base disk host down stale up
 
 -- At the disk's end the first list happened since the base, at the host's end the second. The third
 -- is on its way to the disk; the fourth the disk sent before both began anew, and the fifth since.
@@ -113,3 +118,11 @@ pub record WatchesOn : Type 0 where
       → IsWatched base disk host down [] (bytes ∷ up)
       → IsLastError base disk down up bytes
       ⊎ IsWatched base disk (host ++ Sent bytes ∷ []) down [] up
+
+-- What the FISes tell at the host's end of writes is never behind what they tell at the disk's.
+abbrev pub WatchedIsAhead : Type 0
+WatchedIsAhead =
+    (plan : DiskPlan) (sectors : ℕ) (base disk host : List Happening)
+    (down stale up : List (List ℕ)) → IsSize plan sectors → IsDiskRun plan sectors disk
+    → IsWatched base disk host down stale up → IsCarefulSince base host
+    → length (ledger disk).writes ≤ length (ledger host).writes

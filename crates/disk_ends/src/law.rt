@@ -25,7 +25,7 @@ ghost use Rattle.disk_ends.specs.Phases.{WatchesWhatIsFine};
 ghost use Rattle.disk_ends.specs.Same.{CommandsKeep, DataFills, IssuesKeep, SetupsStart};
 ghost use Rattle.disk_ends.specs.Steps.{ActivatesKeep, DataDown, DataUp, SetupsGoOn};
 ghost use Rattle.disk_ends.specs.Together.{SameGoesOn};
-ghost use Rattle.disk_ends.specs.Watched.{WatchesOn};
+ghost use Rattle.disk_ends.specs.Watched.{WatchedIsAhead, WatchesOn};
 
 /// A command that is issued in a slot whose tag is free, and then goes out, is one that the ledger
 /// has as outstanding with nothing filled; those of other slots stand as they stood.
@@ -175,9 +175,11 @@ pub fn reports_are_honest_later()
 
 /// A disk to which a host gives nothing but commands and Data is watched up to the error that it
 /// reports: that comes up last, and from then on the disk is in its error mode and rests. So it is
-/// watched on at each FIS of which the host port reports nothing wrong.
+/// watched on at each FIS of which the host port reports nothing wrong. What FISes tell the host of
+/// writes is never behind what they tell the disk.
 pub fn disks_are_watched_to_their_errors()
     ensures goes_on { WatchesOn }
+    ensures ahead { WatchedIsAhead }
     ensures takes { WatchesWhatIsFine }
 {}
 

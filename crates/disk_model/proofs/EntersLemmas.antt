@@ -270,7 +270,7 @@ unfolding with_up AreRight
 all_free_up l [] tag right f = f
 all_free_up l (b ∷ up) tag right f = all_free_up (listens l (Sent b)) up tag right.1 (free_up l b tag right.0 f)
 
-all_writes_up : (l : Ledger) (up : List (List ℕ)) → AreRight l up → (with_up l up).writes ≡ l.writes
+pub all_writes_up : (l : Ledger) (up : List (List ℕ)) → AreRight l up → (with_up l up).writes ≡ l.writes
 unfolding with_up AreRight
 all_writes_up l [] right = refl
 all_writes_up l (b ∷ up) right = all_writes_up (listens l (Sent b)) up right.1 ∙ writes_up l b right.0

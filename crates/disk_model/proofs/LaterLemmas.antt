@@ -325,11 +325,10 @@ tells_by before since careful =
             (mapped (λ (x : ReadOut). record x { before = l.writes ++ x.before }) k.reads at r there);
         command = refl;
         bytes = refl;
+        had = refl;
       };
-      writes = λ at w there. record {
-        at = length l.writes + at;
-        ended = ap (λ (x : Ledger). slice_get x.writes (length l.writes + at)) a.is ∙ behind l.writes k.writes at w there;
-      };
+      writes = λ at w there.
+          ap (λ (x : Ledger). slice_get x.writes (length l.writes + at)) a.is ∙ behind l.writes k.writes at w there;
     }
 
 pub later_tells_of_all : LaterTellsOfAll

@@ -16,12 +16,13 @@ use Rattle.disk_model.specs.Histories.{Happening, Received, Sent, Plugged}
 use Rattle.disk_model.specs.Requests.{request_of}
 use Rattle.disk_model.specs.Ledger.{Accepts, Ledger, Moving, Written, activates, answers, asks, awaits, empty, ends, has_error, ledger, ledger_after, listens, listens_down, listens_up, mixes, moves, refuses, restarts, sends_data, sets_up, starts_moving, takes_data}
 use Rattle.disk_model.specs.Anew.{WritesStay}
+use Rattle.disk_model.specs.Ends.{with_down}
 use Rattle.disk_model.proofs.AnewLemmas.{after_more}
 use Rattle.disk_model.proofs.CrossLemmas.{with_bytes}
 
-record GoesOn (l x : Ledger) : Type 0 where
-  later : List Written
-  same : x.writes ≡ l.writes ++ later
+pub record GoesOn (l x : Ledger) : Type 0 where
+  pub later : List Written
+  pub same : x.writes ≡ l.writes ++ later
 
 stays : (l x : Ledger) → x.writes ≡ l.writes → GoesOn l x
 stays l x same = record { later = []; same = same ∙ sym (append-nil l.writes) }
@@ -131,6 +132,17 @@ all l [] = stays l l refl
 all l (e ∷ history) =
     let first : GoesOn l (listens l e) = one l e in
     let rest : GoesOn (listens l e) (ledger_after (listens l e) history) = all (listens l e) history in
+    record {
+      later = first.later ++ rest.later;
+      same = rest.same ∙ ap (λ (ws : List Written). ws ++ rest.later) first.same ∙ append_assoc l.writes first.later rest.later;
+    }
+
+pub down_stays : (l : Ledger) (down : List (List ℕ)) → GoesOn l (with_down l down)
+unfolding with_down
+down_stays l [] = stays l l refl
+down_stays l (bytes ∷ down) =
+    let first : GoesOn l (listens l (Received bytes)) = one l (Received bytes) in
+    let rest : GoesOn (listens l (Received bytes)) (with_down (listens l (Received bytes)) down) = down_stays (listens l (Received bytes)) down in
     record {
       later = first.later ++ rest.later;
       same = rest.same ∙ ap (λ (ws : List Written). ws ++ rest.later) first.same ∙ append_assoc l.writes first.later rest.later;

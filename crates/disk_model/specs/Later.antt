@@ -1,7 +1,7 @@
 -- A disk that is plugged in again: the writes of earlier connections stay on its medium, and what
 -- both ends tell of the later connection is what they tell of the first one of a new disk, but for
 -- the reads and writes that ended before (Serial ATA 3.x, 13.6, native command queuing).
-use Rattle.std.specs.Prelude.{ℕ, ◌≡◌, List, [], ◌∷◌, ◌++◌, Some, Result, slice_get}
+use Rattle.std.specs.Prelude.{ℕ, ◌≡◌, ◌+◌, List, [], ◌∷◌, ◌++◌, length, Some, Result, slice_get}
 use Rattle.fis_view.specs.declared.view.Fis.{Fis}
 use Rattle.fis_view.specs.declared.view.FisFault.{FisFault}
 use Rattle.disk_model.specs.Anew.{IsCarefulSince, IsLinkedOn}
@@ -15,17 +15,14 @@ LaterIsLinked =
     (before disk host : List Happening) (down up : List (List ℕ)) → IsLinked disk host down up
     → IsLinkedOn (before ++ Plugged ∷ []) (before ++ disk) (before ++ host) down [] up
 
--- a read that ended is there in the whole history, with its command and its bytes
+-- A read that ended is there in the whole history, with its command and its bytes. It had the writes of before, too.
 pub record IsReadThere (before given : List Happening) (r : ReadOut) : Type 0 where
   pub at : ℕ
   pub read : ReadOut
   pub ended : slice_get (ledger (before ++ given)).reads at ≡ Some read
   pub command : read.command ≡ r.command
   pub bytes : read.bytes ≡ r.bytes
-
-pub record IsWriteThere (before given : List Happening) (w : Written) : Type 0 where
-  pub at : ℕ
-  pub ended : slice_get (ledger (before ++ given)).writes at ≡ Some w
+  pub had : read.before ≡ (ledger before).writes ++ r.before
 
 -- what is told since a plugging tells of the whole history
 pub record TellsOfAll (before given : List Happening) : Type 0 where
@@ -35,8 +32,9 @@ pub record TellsOfAll (before given : List Happening) : Type 0 where
   pub unanswered : (ledger (before ++ given)).unanswered ≡ (ledger given).unanswered
   pub reads : (at : ℕ) (r : ReadOut) → slice_get (ledger given).reads at ≡ Some r
       → IsReadThere before given r
+  -- writes come after those of before
   pub writes : (at : ℕ) (w : Written) → slice_get (ledger given).writes at ≡ Some w
-      → IsWriteThere before given w
+      → slice_get (ledger (before ++ given)).writes (length (ledger before).writes + at) ≡ Some w
 
 abbrev pub LaterTellsOfAll : Type 0
 LaterTellsOfAll =

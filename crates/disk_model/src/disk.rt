@@ -84,10 +84,10 @@ pub enum DiskError {
     /// The number of sectors is not 1 to 65,536, or the chunk is no multiple of 512 from 512 to
     /// 8,192.
     #[error("bad size")]
-    BadSize,
+    BadSize = 1,
     /// The allocator refused memory for the sectors.
     #[error("out of memory")]
-    OutOfMemory,
+    OutOfMemory = 2,
 }
 
 impl From<AllocError> for DiskError {

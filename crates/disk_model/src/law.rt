@@ -6,6 +6,8 @@ ghost use Rattle.std.specs.Prelude.{◌≡◌, All};
 ghost use Rattle.disk_model.specs.Anew.{BeginsAnew, EndsTellTheSameAnew, LinkedSinceNew};
 ghost use Rattle.disk_model.specs.Anew.{RestingIsSilent, RestsUntil, WritesStay};
 ghost use Rattle.disk_model.specs.Ends.{EndsTellTheSame};
+ghost use Rattle.disk_model.specs.Fronts.{BeforeIsFront, HostIsAhead};
+ghost use Rattle.disk_model.specs.Last.{LieOn, ShowsTheLast};
 ghost use Rattle.disk_model.specs.Later.{LaterIsLinked, LaterTellsOfAll};
 ghost use Rattle.disk_model.specs.Laws.{AfterEachRun, AnswersRight, AtEachSending, ErrsRight, MovesRight, SilentRight};
 ghost use Rattle.disk_model.specs.Ledger.{AnswersOne, IsRead, ledger, medium_with};
@@ -103,4 +105,19 @@ pub fn later_connections_tell_of_all()
 /// on, each stands at its place and each other byte is as it was.
 pub fn data_lies_where_it_is_put()
     ensures { LieWherePut }
+{}
+
+/// The writes that had ended when a disk started a read are the first ones of all writes that end,
+/// so that their number alone says which of them the read brings. What FISes tell at the host's end
+/// of writes is never behind what they tell at the disk's.
+pub fn reads_have_the_first_writes()
+    ensures before { BeforeIsFront }
+    ensures ahead { HostIsAhead }
+{}
+
+/// A byte of the medium is that of the last write which has it, whatever came before that write; and
+/// each write that ended in a run of a disk lies on its medium.
+pub fn media_show_the_last_write()
+    ensures shows { ShowsTheLast }
+    ensures lie { AfterEachRun (λ plan sectors history. LieOn sectors (ledger history).writes) }
 {}

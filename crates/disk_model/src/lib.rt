@@ -12,7 +12,8 @@
 //! run tie the disk to it: [`medium_is_of_ended_writes`], [`reads_are_of_their_start`],
 //! [`setups_name_what_moves`], [`answers_each_command_once`], [`answers_commands_in_order`],
 //! [`errors_are_of_their_command`] and [`is_silent_where_nothing_is_owed`]. The law
-//! [`ends_tell_the_same`] carries them over the link to whoever listens at its other end.
+//! [`ends_tell_the_same`] carries them over the link to whoever listens at its other end. Which
+//! writes a read brings is [`reads_have_the_first_writes`] and [`media_show_the_last_write`].
 #![tactic(auto)]
 
 mod answer;
@@ -32,8 +33,9 @@ pub use disk::{Disk, DiskError};
 pub use law::{
     answers_commands_in_order, answers_each_command_once, data_lies_where_it_is_put,
     disks_begin_anew, ends_tell_the_same, ends_tell_the_same_anew, errors_are_of_their_command,
-    is_silent_where_nothing_is_owed, later_connections_tell_of_all, medium_is_of_ended_writes,
-    reads_are_of_their_start, setups_name_what_moves,
+    is_silent_where_nothing_is_owed, later_connections_tell_of_all, media_show_the_last_write,
+    medium_is_of_ended_writes, reads_are_of_their_start, reads_have_the_first_writes,
+    setups_name_what_moves,
 };
 pub use plan::{DiskPlan, Order};
 pub use scripted::Scripted;

@@ -1,5 +1,5 @@
 -- A device is set aside at each stage of slot 30, and driver and disk begin anew.
-use Rattle.std.proofs.Common.{◌≡◌, ◌≢◌, ℕ, ◌<◌, Bool, true, false, cond, eqb, List, [], ◌∷◌, refl, sym, ◌∙◌, ap, subst, inl, inr, arith, Option, Some, None}
+use Rattle.std.proofs.Common.{◌≡◌, ◌≢◌, ℕ, ◌<◌, Bool, true, false, cond, eqb, List, [], ◌∷◌, length, refl, sym, ◌∙◌, ap, subst, inl, inr, arith, Option, Some, None}
 use Rattle.std.specs.Prelude.{◌⊎◌, ◌&&◌, ◌||◌, if◌then◌else◌, not}
 use Rattle.std.specs.Option.{option_map}
 use Rattle.std.proofs.lemmas.Bool.{cases_Bool, eq-eqb, false≢true, true≢false}
@@ -36,7 +36,7 @@ use Rattle.hba_driver.specs.Slot30.{IsApart30, IsAt30, IsSent30, LogSent, Off, R
 use Rattle.hba_driver.specs.Tended.{AreTended, Awaits, IsAtStage, IsLiveAt, IsReleasing, IsTended, IsTendedBy, Logs, Releases}
 use Rattle.hba_driver.proofs.ApartPushes.{alone_issue, is_alone}
 use Rattle.driver_ends.proofs.TogetherBegins.{log_begins_served, reset_begins_served}
-use Rattle.driver_ends.proofs.TurnLemmas.{no_issue, plain}
+use Rattle.driver_ends.proofs.TurnLemmas.{no_issue, plain_since}
 use Rattle.driver_ends.specs.Apart.{AsideAt, LogBegins, ResetBegins, ServesFrom}
 
 -- ---- set aside
@@ -92,8 +92,9 @@ pub reset_begins : ResetBegins
 reset_begins n h base touches below sound served at owes =
     let ways = released_tended n h at (at.apart refl).plan in
     record {
-      commands = plain;
-      on = reset_begins_served n h base plain touches below sound served (tended_by n h Off touches below sound served at refl ways.0) ways.1 (at.apart refl).resetting
+      commands = plain_since (length (ledger base).writes);
+      counted = λ s. refl;
+      on = reset_begins_served n h base (plain_since (length (ledger base).writes)) touches below sound served (tended_by n h Off touches below sound served at refl ways.0) ways.1 (at.apart refl).resetting
           (λ s. free_at n s h (own_issue (view_of n h.port).slots s) refl (λ i there. taken s i there)) (λ s. refl) owes;
     }
   where
@@ -188,8 +189,9 @@ module _ (n : ℕ) (h : Host) (touches : Touches) (below : n < 15) (sound : IsSo
   serves_log base page owes =
       let plan : ReadsLog n h.driver.plan = (at.apart refl).plan in
       record {
-        commands = plain;
-        on = log_begins_served n h base plan.file page plain touches below sound served (tended_by n h LogSent touches below sound served at refl (Logs plan.file plan.file plan.device plan.path)) plan.path (at.apart refl).resetting
+        commands = plain_since (length (ledger base).writes);
+        counted = λ s. refl;
+        on = log_begins_served n h base plan.file page (plain_since (length (ledger base).writes)) touches below sound served (tended_by n h LogSent touches below sound served at refl (Logs plan.file plan.file plan.device plan.path)) plan.path (at.apart refl).resetting
             awaited sent_agrees (at.apart refl).context waited (λ s. refl) owes;
       }
 

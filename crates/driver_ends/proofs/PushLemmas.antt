@@ -25,7 +25,6 @@ use Rattle.slots.specs.Slots.{context_of}
 use Rattle.hba_fbs.specs.Tables.{prds_of, sound_command}
 use Rattle.hba_fbs.specs.Taking.{is_running}
 use Rattle.hba_fbs.specs.Views.{Port, last_command, view_of}
-use Rattle.disk_model.specs.declared.request.Command.{Command}
 use Rattle.disk_model.specs.declared.request.Request.TheVariants.{Queue}
 use Rattle.disk_model.specs.Ends.{IsCareful}
 use Rattle.disk_model.specs.Histories.{Happening, Received}
@@ -50,6 +49,7 @@ use Rattle.disk_ends.specs.Joined.{IsAskedBy}
 use Rattle.disk_ends.specs.Together.{NoneQueued}
 use Rattle.disk_ends.proofs.ElsewhereLemmas.{others_leave_device}
 use Rattle.disk_ends.proofs.HostedLemmas.{hosted_is_kept}
+use Rattle.disk_ends.specs.Same.{SlotCommand}
 use Rattle.hba_driver.specs.declared.request.Work as driver_work
 use Rattle.hba_driver.specs.declared.request.Work.TheVariants as work
 use Rattle.hba_driver.specs.Drivers.{Driver, Entry, entry_at}
@@ -173,19 +173,19 @@ out_told old touches dev slot command sound served goes last =
     }
 
 -- the command of a slot asks for what the slot's command is, or for one that is not queued while no queued one is issued
-pub record IsOrderOf (slot : ℕ) (command : issued_command.Command) (given : List Happening) (commands : ℕ → Command) (past : History) (t : Transfer) : Type 0 where
+pub record IsOrderOf (slot : ℕ) (command : issued_command.Command) (given : List Happening) (commands : ℕ → SlotCommand) (past : History) (t : Transfer) : Type 0 where
   pub control : is_control t.work.kind ≡ false
   pub cfis : seen command.cfis ≡ Ok (view.RegH2D command.cfis)
   pub long : length command.cfis ≡ 20
   pub signed : HasSigned given
-  pub queued : is_queued t.work.kind ≡ true → request_of command.cfis ≡ Queue (commands slot)
+  pub queued : is_queued t.work.kind ≡ true → request_of command.cfis ≡ Queue (commands slot).command
   pub other : is_queued t.work.kind ≡ false → IsAlone (request_of command.cfis) × ((s : ℕ) → NoneQueued (issued s past))
 
 pub none_queued : (o : Option Transfer) → ((u : Transfer) → o ≡ Some u → is_queued u.work.kind ≡ false) → NoneQueued o
 none_queued None h = tt
 none_queued (Some u) h = h u refl
 
-module _ (n : ℕ) (old : Host) (given : List Happening) (commands : ℕ → Command) (touches : Touches) (below : n < 15) (h : IsServedHonestly n old given commands touches)
+module _ (n : ℕ) (old : Host) (given : List Happening) (commands : ℕ → SlotCommand) (touches : Touches) (below : n < 15) (h : IsServedHonestly n old given commands touches)
     (slot : ℕ) (command : issued_command.Command) (o : OutTold old touches n slot command) where
   -- what is issued in the same slot is the same
   same_kind : (s : ℕ) (u : Transfer) → issued s (own n touches) ≡ Some u → slot ≡ s → is_queued o.transfer.work.kind ≡ false → is_queued u.work.kind ≡ false
@@ -264,7 +264,7 @@ pub out_data : (n offset len : ℕ) (old : Host) (command : issued_command.Comma
 unfolding GoesOut
 out_data n offset len old command goes = record { context = goes.0; now = goes.1; asked = goes.2; long = goes.3 }
 
-data_frame : (n offset len : ℕ) (old : Host) (given : List Happening) (commands : ℕ → Command) (touches : Touches) → n < 15 → IsServedHonestly n old given commands touches → IsHost (shared_by old) → (command : issued_command.Command) (f : Stamped)
+data_frame : (n offset len : ℕ) (old : Host) (given : List Happening) (commands : ℕ → SlotCommand) (touches : Touches) → n < 15 → IsServedHonestly n old given commands touches → IsHost (shared_by old) → (command : issued_command.Command) (f : Stamped)
     → GoesOut old.port (Data n offset len command) → f.bytes ≡ data_fis n (gathered (prds_of old.memory command) offset len old.memory.client) → IsFrame f.bytes
 data_frame n offset len old given commands touches below h sound command f goes is =
     let joined = (hosted_is_kept n (shared_by old) given commands (own n touches) below h.hosted).joined in
@@ -291,7 +291,7 @@ given_here n f port = ap (λ (b : Bool). if b then Received (marked f.bytes 0) �
 pub given_elsewhere : (n dev : ℕ) (f : Stamped) → slice_index f.bytes 1 % 16 ≡ dev → n ≢ dev → given_to n (Some f) ≡ []
 given_elsewhere n dev f port other = ap (λ (b : Bool). if b then Received (marked f.bytes 0) ∷ [] else []) (ne_eqb (slice_index f.bytes 1 % 16) n (λ e. other (sym e ∙ port)))
 
-module _ (n : ℕ) (old : Host) (frame : Option Stamped) (new : Host) (given : List Happening) (commands : ℕ → Command) (touches : Touches) (below : n < 15)
+module _ (n : ℕ) (old : Host) (frame : Option Stamped) (new : Host) (given : List Happening) (commands : ℕ → SlotCommand) (touches : Touches) (below : n < 15)
     (h : IsServedHonestly n old given commands touches) (does : event.Does (shared_by old) (event.Gave frame) (shared_by new)) (sound : IsHost (shared_by old)) where
   -- what the host has of the disk after this went out
   abbrev Goes : Outgoing → Type 0

@@ -5,7 +5,6 @@ use Rattle.std.proofs.lemmas.Bool.{true≢false}
 use Rattle.slots.specs.Slots.{own_issue}
 use Rattle.slots.specs.declared.table.Context.{Context}
 use Rattle.hba_fbs.specs.Views.{view_of}
-use Rattle.disk_model.specs.declared.request.Command.{Command}
 use Rattle.disk_model.specs.Histories.{Happening, Plugged}
 use Rattle.disk_model.specs.Ledger.{Reply, ShowsPage, Signs, ledger}
 use Rattle.disk_model.proofs.AnewLemmas.{begins_anew}
@@ -18,6 +17,7 @@ use Rattle.disk_ends.specs.Anew as anew
 use Rattle.disk_ends.proofs.AnewJoins.{hosted_since_new, opens_after, opens_signing}
 use Rattle.disk_ends.proofs.HeardLemmas.{IsThere, there_by}
 use Rattle.disk_ends.proofs.HostedLemmas.{no_context}
+use Rattle.disk_ends.specs.Same.{SlotCommand}
 use Rattle.hba_driver.specs.declared.path.Path.{Path}
 use Rattle.hba_driver.specs.declared.path.Recovery.{Recovery}
 use Rattle.hba_driver.specs.declared.path.Recovery.TheVariants.{Log, Reset}
@@ -69,8 +69,8 @@ served_since_flush n h given commands touches below off served = record {
   resets = λ set. absurd (true≢false (sym set ∙ off));
 }
 
-module _ (n : ℕ) (h : Host) (before : List Happening) (commands : ℕ → Command) (touches : Touches) (below : n < 15) (sound : IsSoundHost h) (served : IsServed h.driver (shared_by h) touches) (steady : IsSteady n h.driver)
-    (unasked : IsAskedOf n h.driver.plan → ⊥) (off : (view_of n h.port).state.resetting ≡ false) (unsigned : Rattle.hba_driver.specs.Steady.HasSignature n h → ⊥) (tags : (s : ℕ) → (commands s).tag ≡ s) where
+module _ (n : ℕ) (h : Host) (before : List Happening) (commands : ℕ → SlotCommand) (touches : Touches) (below : n < 15) (sound : IsSoundHost h) (served : IsServed h.driver (shared_by h) touches) (steady : IsSteady n h.driver)
+    (unasked : IsAskedOf n h.driver.plan → ⊥) (off : (view_of n h.port).state.resetting ≡ false) (unsigned : Rattle.hba_driver.specs.Steady.HasSignature n h → ⊥) (tags : (s : ℕ) → (commands s).command.tag ≡ s) where
   none : (s : ℕ) (t : Transfer) → issued s (own n touches) ≡ Some t → ⊥
   none s t here = by_issue (served.issues n s t here).from
     where
@@ -101,7 +101,7 @@ module _ (n : ℕ) (h : Host) (before : List Happening) (commands : ℕ → Comm
       }
 
 pub flush_opens_on : FlushOpensOn
-flush_opens_on n old a new run before touches below flush sound served =
+flush_opens_on n old a new run before commands touches below flush sound served =
     let d : Does old (Ticked a) new = after old (Ticked a) new run in
     let steady = flush_steady n old a new d flush in
     let serves : RunServes old new (Ticked a ∷ []) run touches = turns_serve.runs old new (Ticked a ∷ []) run sound touches served in
@@ -110,6 +110,8 @@ flush_opens_on n old a new run before touches below flush sound served =
       serves = serves;
       on = begins_plugged n new before plain (touches_after touches (shared_by old) (shared_by new) (events_over old new (Ticked a ∷ []) run) serves.runs) below (sound_turn old (Ticked a) new d sound) serves.last steady.0 steady.1 (flush_unreset n old a new (omega (arith, below)) d flush)
           (flush_row n old a new (omega (arith, below)) d sound flush) (λ s. refl);
+      counted = λ s t here. absurd (none n new before plain (touches_after touches (shared_by old) (shared_by new) (events_over old new (Ticked a ∷ []) run) serves.runs) below (sound_turn old (Ticked a) new d sound) serves.last steady.0 steady.1 (flush_unreset n old a new (omega (arith, below)) d flush)
+          (flush_row n old a new (omega (arith, below)) d sound flush) (λ s. refl) s t here);
     }
 
 -- ---- after a software reset

@@ -16,7 +16,6 @@ use Rattle.slots.specs.Work.{is_queued}
 use Rattle.slots.specs.declared.work.Work.{Work}
 use Rattle.hba_fbs.specs.Sending.{Order, resets}
 use Rattle.hba_fbs.specs.Views.{Port}
-use Rattle.disk_model.specs.declared.request.Command.{Command}
 use Rattle.disk_model.specs.declared.request.Request.TheVariants.{Queue}
 use Rattle.disk_model.specs.Anew.{IsCarefulSince, IsClear}
 use Rattle.disk_model.specs.Ends.{Fits, FitsAll}
@@ -54,6 +53,7 @@ use Rattle.hba_driver.proofs.TendedLemmas.{at_stage}
 use Rattle.hba_driver.proofs.TendedTurns.{issued_live}
 use Rattle.driver_ends.specs.Steady.{HasSigned}
 use Rattle.disk_ends.specs.Watched.{IsPlain, IsPlainRequest}
+use Rattle.disk_ends.specs.Same.{SlotCommand}
 use Rattle.driver_ends.specs.Together.{IsServedOn}
 use Rattle.driver_ends.proofs.FisLemmas.{flush_is, identify_control, identify_is, identify_kind, request_asks, request_control, request_kind}
 use Rattle.driver_ends.proofs.PushLemmas.{IsOrderOf, OutTold, flush_of, none_queued}
@@ -108,12 +108,12 @@ signed_since base given bytes old new was is =
     signed_down (ledger given) (seen bytes) fits was (sym (ap (λ (l : Ledger). l.awaited) (ledger_more empty given (Received bytes))) ∙ is)
 
 -- nothing moved where both began anew
-pub base_clear : (n : ℕ) (base : List Happening) (host : event.Host) (given : List Happening) (commands : ℕ → Command) (past : History) → IsHostedOn n base host given commands past → IsClear (ledger base)
+pub base_clear : (n : ℕ) (base : List Happening) (host : event.Host) (given : List Happening) (commands : ℕ → SlotCommand) (past : History) → IsHostedOn n base host given commands past → IsClear (ledger base)
 base_clear n base host given commands past (anew.opens h c p opening) = opening.clear
 base_clear n base host given commands past (anew.stays old new g c p keeps hosted) = base_clear n base old g c p hosted
 base_clear n base host given commands past (anew.signs old new bytes report g c p sound plain framed from_n well right hosted) = base_clear n base old g c p hosted
 base_clear n base host given commands past (anew.hears old new bytes report g c p sound plain framed from_n well right short hosted) = base_clear n base old g c p hosted
-base_clear n base host given commands past (anew.issues old new value g c next p sound chosen does tags names hosted) = base_clear n base old g c p hosted
+base_clear n base host given commands past (anew.issues old new value g c next p sound chosen does tags names counted hosted) = base_clear n base old g c p hosted
 base_clear n base host given commands past (anew.sends old new frame slot command f t g c p sound framed does out here queued cfis request signed hosted) = base_clear n base old g c p hosted
 base_clear n base host given commands past (anew.asks old new frame slot command f t g c p sound framed does out here not_queued control cfis one none signed hosted) = base_clear n base old g c p hosted
 base_clear n base host given commands past (anew.gives old new frame offset len command g c p sound framed does out hosted) = base_clear n base old g c p hosted
@@ -164,7 +164,7 @@ stage_identify n p is to = ap (λ (s : Stage). stage_fields p.dev s) is ∙ ap (
 -- ---- the command that goes out
 
 -- it asks for what the slot's command is, or for another that is plain; it begins no reset; and slot 30 holds nothing that went out before
-pub record IsOrderOn (n slot : ℕ) (old : Host) (command : issued_command.Command) (given : List Happening) (commands : ℕ → Command) (past : History) (t : Transfer) : Type 0 where
+pub record IsOrderOn (n slot : ℕ) (old : Host) (command : issued_command.Command) (given : List Happening) (commands : ℕ → SlotCommand) (past : History) (t : Transfer) : Type 0 where
   pub order : IsOrderOf slot command given commands past t
   pub plain : IsPlainRequest (request_of command.cfis)
   pub still : resets command.cfis ≡ false
@@ -177,7 +177,7 @@ releasing_begun AssertReset h = h
 releasing_begun ReleaseReset h = tt
 releasing_begun AwaitReset h = tt
 
-module _ (n : ℕ) (base : List Happening) (old : Host) (given : List Happening) (commands : ℕ → Command) (touches : Touches) (below : n < 15) (sound : IsHost (shared_by old)) (h : IsServedOn n base old given commands touches)
+module _ (n : ℕ) (base : List Happening) (old : Host) (given : List Happening) (commands : ℕ → SlotCommand) (touches : Touches) (below : n < 15) (sound : IsHost (shared_by old)) (h : IsServedOn n base old given commands touches)
     (slot : ℕ) (command : issued_command.Command) (goes : GoesOut old.port (Order n slot command)) (o : OutTold old touches n slot command) where
   is_unsent : is_sent slot (own n touches) ≡ false
   is_unsent =

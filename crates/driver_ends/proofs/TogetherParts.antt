@@ -3,7 +3,6 @@ use Rattle.std.proofs.Common.{◌≡◌, ℕ, ◌<◌, List, refl, sym, ◌∙�
 use Rattle.std.specs.Option.{option_map}
 use Rattle.slots.specs.Slots.{issue_at, own_issue}
 use Rattle.hba_fbs.specs.Views.{view_of}
-use Rattle.disk_model.specs.declared.request.Command.{Command}
 use Rattle.disk_model.specs.Histories.{Happening}
 use Rattle.hba_laws.specs.Agreement.{IsHistoryOf, work_of_transfer}
 use Rattle.hba_laws.specs.Client.{Touches, own}
@@ -11,6 +10,7 @@ use Rattle.hba_laws.specs.History.{Transfer, issued}
 use Rattle.hba_laws.proofs.ViewLemmas.{own_in}
 use Rattle.disk_ends.proofs.HeardLemmas.{IsThere, there_by}
 use Rattle.disk_ends.proofs.HostedLemmas.{no_context}
+use Rattle.disk_ends.specs.Same.{SlotCommand}
 use Rattle.hba_driver.specs.declared.path.Recovery.TheVariants.{Reset}
 use Rattle.hba_driver.specs.declared.plan.Device.TheVariants.{Ready}
 use Rattle.hba_driver.specs.Drivers.{device_at}
@@ -25,7 +25,7 @@ use Rattle.driver_ends.proofs.TogetherBegins.{no_context_at}
 use Rattle.driver_ends.proofs.TogetherTurns.{calm_tends, calm_turn}
 use Rattle.driver_ends.proofs.TurnLemmas.{no_issue, no_transfer}
 
-module _ (n : ℕ) (base : List Happening) (old : Host) (given : List Happening) (commands : ℕ → Command) (touches : Touches) (below : n < 15) (h : IsServedOn n base old given commands touches)
+module _ (n : ℕ) (base : List Happening) (old : Host) (given : List Happening) (commands : ℕ → SlotCommand) (touches : Touches) (below : n < 15) (h : IsServedOn n base old given commands touches)
     (unready : device_at old.driver.plan n ≡ Ready → ⊥) where
   told : IsHistoryOf n (shared_by old) (own n touches)
   told = h.served.told n (omega (arith, below))

@@ -16,7 +16,6 @@ use Rattle.slots.specs.declared.work.Work.{Work}
 use Rattle.hba_fbs.specs.Sending.{Data, Gives, Nothing, Order, Outgoing, Unreadable, data_fis, gathered, outgoing, view_sent}
 use Rattle.hba_fbs.specs.Tables.{prds_of}
 use Rattle.hba_fbs.specs.Views.{DeviceView, view_of}
-use Rattle.disk_model.specs.declared.request.Command.{Command}
 use Rattle.disk_model.specs.Anew.{IsCarefulSince}
 use Rattle.disk_model.specs.Histories.{Happening, Received}
 use Rattle.disk_model.specs.Ledger.{Moving, ledger}
@@ -48,6 +47,7 @@ use Rattle.hba_driver.proofs.TurnLemmas.{sound_shared}
 use Rattle.driver_ends.specs.Kept.{given_to}
 use Rattle.driver_ends.specs.Steady.{HasSigned}
 use Rattle.disk_ends.specs.Watched.{GavePlain, IsPlain}
+use Rattle.disk_ends.specs.Same.{SlotCommand}
 use Rattle.driver_ends.specs.Together.{IsServedOn, PushesServeOn}
 use Rattle.driver_ends.proofs.PushLemmas.{HasLast, IsOrderOf, OutData, OutTold, frame_by, given_cases, given_elsewhere, given_here, out_data, out_last, out_told, short_frame}
 use Rattle.driver_ends.proofs.ResetLemmas.{sent_state}
@@ -67,7 +67,7 @@ record DataOut (n : ℕ) (given : List Happening) (frame bytes : List ℕ) : Typ
   pub current : Moving
   pub moving : (ledger given).moving ≡ Some current
 
-data_out : (n : ℕ) (base : List Happening) (offset len : ℕ) (old : Host) (given : List Happening) (commands : ℕ → Command) (touches : Touches) → n < 15 → IsServedOn n base old given commands touches → IsHost (shared_by old)
+data_out : (n : ℕ) (base : List Happening) (offset len : ℕ) (old : Host) (given : List Happening) (commands : ℕ → SlotCommand) (touches : Touches) → n < 15 → IsServedOn n base old given commands touches → IsHost (shared_by old)
     → (command : issued_command.Command) (frame : List ℕ) → GoesOut old.port (Data n offset len command) → frame ≡ data_fis n (gathered (prds_of old.memory command) offset len old.memory.client)
     → DataOut n given frame (gathered (prds_of old.memory command) offset len old.memory.client)
 data_out n base offset len old given commands touches below h sound command frame goes is =
@@ -95,7 +95,7 @@ data_out n base offset len old given commands touches below h sound command fram
 
 -- ---- a frame goes out
 
-module _ (n : ℕ) (base : List Happening) (old : Host) (frame : Option Stamped) (new : Host) (given : List Happening) (commands : ℕ → Command) (touches : Touches) (below : n < 15)
+module _ (n : ℕ) (base : List Happening) (old : Host) (frame : Option Stamped) (new : Host) (given : List Happening) (commands : ℕ → SlotCommand) (touches : Touches) (below : n < 15)
     (h : IsServedOn n base old given commands touches) (does : event.Does (shared_by old) (event.Gave frame) (shared_by new)) (sound : IsHost (shared_by old)) where
   -- what the host has of the disk after this went out
   record Goes (o : Outgoing) : Type 0 where
@@ -262,5 +262,6 @@ pushes_go_on_on n base old frame new run given commands touches below h =
               let same : given ++ given_to n frame ≡ given = ap (λ (xs : List Happening). given ++ xs) (g.none (sym g.state ∙ set)) ∙ append-nil given in
               (subst (λ (x : Driver). IsAtStage n IsReleasing x.plan) (sym d.driver) was.0, same ∙ was.1);
         };
+        counted = λ s t here. inl (was_there n s (touched_by_out (shared_by old) (outgoing old.port old.memory)) touches t none here, refl);
       };
     }

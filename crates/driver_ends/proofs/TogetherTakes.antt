@@ -1,5 +1,5 @@
 -- A FIS of a disk is taken, or ignored, and the driver goes on to serve the disk from where both began anew.
-use Rattle.std.proofs.Common.{◌≡◌, ℕ, ◌<◌, Bool, true, false, List, [], ◌∷◌, ◌++◌, sym, ◌∙◌, ap, subst, inl, inr, arith, None}
+use Rattle.std.proofs.Common.{refl, ◌≡◌, ℕ, ◌<◌, Bool, true, false, List, [], ◌∷◌, ◌++◌, sym, ◌∙◌, ap, subst, inl, inr, arith, None}
 use Rattle.std.specs.Prelude.{◌⊎◌, Result, Ok, if◌then◌else◌}
 use Rattle.std.proofs.lemmas.Bool.{true≢false}
 use Rattle.fis_view.specs.Frames.{marked}
@@ -8,7 +8,6 @@ use Rattle.host_memory.specs.Memory.{Memory}
 use Rattle.hba_fbs.specs.Taking.{admitted, heard_now, port_of}
 use Rattle.hba_fbs.specs.Views.{DeviceView, Port, view_of}
 use Rattle.hba_fbs.specs.declared.report.TakeReport.{TakeReport}
-use Rattle.disk_model.specs.declared.request.Command.{Command}
 use Rattle.disk_model.specs.Ends.{IsRight}
 use Rattle.disk_model.specs.Histories.{Happening, Sent}
 use Rattle.disk_model.specs.Ledger.{ledger}
@@ -27,6 +26,7 @@ use Rattle.disk_ends.proofs.AnewJoins.{hosted_on_is_kept}
 use Rattle.disk_ends.proofs.HeardLemmas.{heard_as_told}
 use Rattle.disk_ends.proofs.MarkedLemmas.{marks_tell_nothing}
 use Rattle.disk_ends.proofs.SignsLemmas.{IsSigned, signature_is_none, signed}
+use Rattle.disk_ends.specs.Same.{SlotCommand}
 use Rattle.hba_driver.specs.Drivers.{Driver, device_at, entry_at}
 use Rattle.hba_driver.specs.Events.{shared_by}
 use Rattle.hba_driver.specs.HostTurns.{Does, DoesAll, Host, Took}
@@ -48,12 +48,12 @@ use Rattle.driver_ends.proofs.TurnLemmas.{after}
 
 -- ---- what each frame leaves
 
-module _ (n : ℕ) (base : List Happening) (old : Host) (frame : List ℕ) (report : TakeReport) (new : Host) (run : DoesAll old (Took frame report ∷ []) new) (given : List Happening) (commands : ℕ → Command) (touches : Touches)
+module _ (n : ℕ) (base : List Happening) (old : Host) (frame : List ℕ) (report : TakeReport) (new : Host) (run : DoesAll old (Took frame report ∷ []) new) (given : List Happening) (commands : ℕ → SlotCommand) (touches : Touches)
     (h : IsServedOn n base old given commands touches) where
   -- with what the host has of the disk then
   kept_on : (more : List Happening) → IsHostedOn n base (shared_by new) more commands (own n (touched (shared_by old) (event.Took frame report) ++ touches)) → (HasSigned given → HasSigned more)
       → (IsFine (device_at old.driver.plan n) → HasSignature n new → HasSigned more) → (IsAtStage n IsReleasing old.driver.plan → IsUnreset n new → HasSigned more)
-      → ((view_of n new.port).state.resetting ≡ true → IsAtStage n IsReleasing old.driver.plan × (more ≡ base)) → ServesOnAnew n base old (Took frame report) new run more touches
+      → ((view_of n new.port).state.resetting ≡ true → IsAtStage n IsReleasing old.driver.plan × (more ≡ base)) → ServesOnAnew n base old (Took frame report) new run given more commands touches
   kept_on more hosted signed row ended resets =
       let d : Does old (Took frame report) new = after old (Took frame report) new run in
       let serves : RunServes old new (Took frame report ∷ []) run touches = turns_serve.runs old new (Took frame report ∷ []) run h.sound touches h.served in
@@ -76,6 +76,7 @@ module _ (n : ℕ) (base : List Happening) (old : Host) (frame : List ℕ) (repo
               (h.begun (subst (λ (x : Driver). IsAtStage n IsBegun x.plan) d.driver there) t (was_there n 30 (touched (shared_by old) (event.Took frame report)) touches t (took_none (shared_by old) frame) here));
           resets = λ set. let was = resets set in (subst (λ (x : Driver). IsAtStage n IsReleasing x.plan) (sym d.driver) was.0, was.1);
         };
+        counted = λ s t here. inl (was_there n s (touched (shared_by old) (event.Took frame report)) touches t (took_none (shared_by old) frame) here, refl);
       }
 
 -- ---- a FIS that is right

@@ -1,5 +1,5 @@
 -- The driver goes on to serve a disk over a calm turn, from where both began anew, and begins to there.
-use Rattle.std.proofs.Common.{◌≡◌, ◌≢◌, ℕ, zero, suc, ◌^◌, ◌<◌, ◌⊎◌, Bool, true, false, List, [], ◌∷◌, ◌++◌, refl, sym, ◌∙◌, ap, subst, inl, inr, arith, Option, Some, None}
+use Rattle.std.proofs.Common.{◌≡◌, ◌≢◌, ℕ, zero, suc, ◌^◌, ◌<◌, ◌⊎◌, Bool, true, false, List, [], ◌∷◌, ◌++◌, refl, sym, ◌∙◌, ap, subst, inl, inr, arith, Option, Some, None, length}
 use Rattle.std.specs.Prelude.{if◌then◌else◌, ◌==◌}
 use Rattle.std.proofs.lemmas.Bool.{ne_eqb}
 use Rattle.host_memory.specs.Memory.{Memory}
@@ -10,8 +10,8 @@ use Rattle.hba_fbs.specs.declared.registers.Registers.{Registers}
 use Rattle.hba_fbs.specs.Issuing.{asked, view_issued}
 use Rattle.hba_fbs.specs.Views.{DeviceView, view_of}
 use Rattle.hba_fbs.specs.Writing.{view_after}
-use Rattle.disk_model.specs.declared.request.Command.{Command}
 use Rattle.disk_model.specs.Histories.{Happening}
+use Rattle.disk_model.specs.Ledger.{Ledger, ledger}
 use Rattle.hba_laws.specs.Client.{Touches, own}
 use Rattle.hba_laws.specs.Delivering.{history_after, touched, touches_after}
 use Rattle.hba_laws.specs.History.{History}
@@ -27,6 +27,7 @@ use Rattle.disk_ends.specs.Together.{is_sent}
 use Rattle.disk_ends.proofs.AnewJoins.{hosted_on_is_kept}
 use Rattle.disk_ends.proofs.CalmOn.{calm_leaves_together}
 use Rattle.disk_ends.proofs.ElsewhereLemmas.{others_leave_device}
+use Rattle.disk_ends.specs.Same.{SlotCommand}
 use Rattle.hba_driver.specs.Drivers.{entry_at}
 use Rattle.hba_driver.specs.Events.{events_over, shared_by}
 use Rattle.hba_driver.specs.HostTurns.{DoesAll, Host, HostTurn, Took, Pushed, Ticked, Submitted, Polled, Put}
@@ -42,14 +43,14 @@ use Rattle.hba_driver.proofs.TendedTurns.{stepless_slot, turn_tended}
 use Rattle.driver_ends.specs.Kept.{IsCalmTurn}
 use Rattle.driver_ends.specs.Together.{CalmTurnsKeepOn, IsServedOn, ServesOnAnew}
 use Rattle.driver_ends.proofs.AwayLemmas.{AreAway, CalmEnds, beside_away, calm_ends}
-use Rattle.driver_ends.proofs.TurnLemmas.{after, command_in, named_then, tag_in}
+use Rattle.driver_ends.proofs.TurnLemmas.{after, command_in, named_then, tag_in, told_by}
 
 -- ---- calm runs
 
-pub calm_runs_on : (n : ℕ) (base : List Happening) (old new : event.Host) (events : List HostEvent) (run : Runs old events new) (given : List Happening) (commands next : ℕ → Command) (past : History) → n < 15 → AreHosts old new events run
-    → AreCalm n commands old new events run next → IsHostedOn n base old given commands past → IsHostedOn n base new given next (history_after n past old new events run)
+pub calm_runs_on : (n : ℕ) (base : List Happening) (old new : event.Host) (events : List HostEvent) (run : Runs old events new) (given : List Happening) (commands next : ℕ → SlotCommand) (past : History) → n < 15 → AreHosts old new events run
+    → AreCalm n (ledger given) commands old new events run next → IsHostedOn n base old given commands past → IsHostedOn n base new given next (history_after n past old new events run)
 calm_runs_on n base old new [] run given commands next past below hosts calm hosted =
-    subst (λ (h : event.Host). IsHostedOn n base h given next past) (sym run) (subst (λ (f : ℕ → Command). IsHostedOn n base old given f past) (sym calm) hosted)
+    subst (λ (h : event.Host). IsHostedOn n base h given next past) (sym run) (subst (λ (f : ℕ → SlotCommand). IsHostedOn n base old given f past) (sym calm) hosted)
 calm_runs_on n base old new (e ∷ events) run given commands next past below hosts calm hosted =
     calm_runs_on n base run.0 new events run.2 given calm.0 next (own n (touched old e) ++ past) below hosts.1 calm.2
     (calm_leaves_together n base old run.0 e given commands calm.0 past below hosts.0 run.1 calm.1 hosted)
@@ -59,43 +60,43 @@ issued_state : (registers : Registers) (memory : Memory) (value : ℕ) (v : Devi
 issued_state registers memory value v true = refl
 issued_state registers memory value v false = refl
 
-written_state : (n value : ℕ) (old mid : event.Host) (commands next : ℕ → Command) (register : Register) → n < 16 → event.Does old (event.Wrote register value) mid → WritesIssues n old commands register value next
+written_state : (n value : ℕ) (k : Ledger) (old mid : event.Host) (commands next : ℕ → SlotCommand) (register : Register) → n < 16 → event.Does old (event.Wrote register value) mid → WritesIssues n k old commands register value next
     → (view_of n mid.port).state.resetting ≡ (view_of n old.port).state.resetting
 unfolding view_after
-written_state n value old mid commands next Ci small does is =
+written_state n value k old mid commands next Ci small does is =
     ap (λ (v : DeviceView). v.state.resetting) (does.1.views n small) ∙ issued_state old.port.registers old.memory value (view_of n old.port) (n == old.port.registers.chosen)
-written_state n value old mid commands next Clb small does is = absurd is
-written_state n value old mid commands next Clbu small does is = absurd is
-written_state n value old mid commands next Fb small does is = absurd is
-written_state n value old mid commands next Fbu small does is = absurd is
-written_state n value old mid commands next Is small does is = absurd is
-written_state n value old mid commands next Ie small does is = absurd is
-written_state n value old mid commands next Cmd small does is = absurd is
-written_state n value old mid commands next Tfd small does is = absurd is
-written_state n value old mid commands next Sig small does is = absurd is
-written_state n value old mid commands next Serr small does is = absurd is
-written_state n value old mid commands next Sact small does is = absurd is
-written_state n value old mid commands next Sntf small does is = absurd is
-written_state n value old mid commands next Fbs small does is = absurd is
+written_state n value k old mid commands next Clb small does is = absurd is
+written_state n value k old mid commands next Clbu small does is = absurd is
+written_state n value k old mid commands next Fb small does is = absurd is
+written_state n value k old mid commands next Fbu small does is = absurd is
+written_state n value k old mid commands next Is small does is = absurd is
+written_state n value k old mid commands next Ie small does is = absurd is
+written_state n value k old mid commands next Cmd small does is = absurd is
+written_state n value k old mid commands next Tfd small does is = absurd is
+written_state n value k old mid commands next Sig small does is = absurd is
+written_state n value k old mid commands next Serr small does is = absurd is
+written_state n value k old mid commands next Sact small does is = absurd is
+written_state n value k old mid commands next Sntf small does is = absurd is
+written_state n value k old mid commands next Fbs small does is = absurd is
 
-issues_state : (n : ℕ) (old mid : event.Host) (commands next : ℕ → Command) (e : HostEvent) → n < 16 → event.Does old e mid → IssuesFor n old commands e next → (view_of n mid.port).state.resetting ≡ (view_of n old.port).state.resetting
-issues_state n old mid commands next (event.Wrote register value) small does is = written_state n value old mid commands next register small does is
-issues_state n old mid commands next (event.Took frame report) small does is = absurd is
-issues_state n old mid commands next (event.Flushed dev) small does is = absurd is
-issues_state n old mid commands next (event.Gave frame) small does is = absurd is
-issues_state n old mid commands next (event.Stored structure) small does is = absurd is
-issues_state n old mid commands next (event.Rewrote dev row) small does is = absurd is
-issues_state n old mid commands next (event.Put at bytes) small does is = absurd is
+issues_state : (n : ℕ) (k : Ledger) (old mid : event.Host) (commands next : ℕ → SlotCommand) (e : HostEvent) → n < 16 → event.Does old e mid → IssuesFor n k old commands e next → (view_of n mid.port).state.resetting ≡ (view_of n old.port).state.resetting
+issues_state n k old mid commands next (event.Wrote register value) small does is = written_state n value k old mid commands next register small does is
+issues_state n k old mid commands next (event.Took frame report) small does is = absurd is
+issues_state n k old mid commands next (event.Flushed dev) small does is = absurd is
+issues_state n k old mid commands next (event.Gave frame) small does is = absurd is
+issues_state n k old mid commands next (event.Stored structure) small does is = absurd is
+issues_state n k old mid commands next (event.Rewrote dev row) small does is = absurd is
+issues_state n k old mid commands next (event.Put at bytes) small does is = absurd is
 
-one_state : (n : ℕ) (old mid : event.Host) (commands next : ℕ → Command) (e : HostEvent) → n < 16 → event.Does old e mid → IsCalm n old commands e next → (view_of n mid.port).state.resetting ≡ (view_of n old.port).state.resetting
-one_state n old mid commands next e small does (inl away) =
+one_state : (n : ℕ) (k : Ledger) (old mid : event.Host) (commands next : ℕ → SlotCommand) (e : HostEvent) → n < 16 → event.Does old e mid → IsCalm n k old commands e next → (view_of n mid.port).state.resetting ≡ (view_of n old.port).state.resetting
+one_state n k old mid commands next e small does (inl away) =
     let left : LeavesDevice n old e mid = others_leave_device n old mid e small does away.0 in ap (λ (v : DeviceView). v.state.resetting) left.view
-one_state n old mid commands next e small does (inr is) = issues_state n old mid commands next e small does is
+one_state n k old mid commands next e small does (inr is) = issues_state n k old mid commands next e small does is
 
-calm_state : (n : ℕ) (old new : event.Host) (events : List HostEvent) (run : Runs old events new) (commands next : ℕ → Command) → n < 16 → AreCalm n commands old new events run next → (view_of n new.port).state.resetting ≡ (view_of n old.port).state.resetting
-calm_state n old new [] run commands next small calm = ap (λ (h : event.Host). (view_of n h.port).state.resetting) run
-calm_state n old new (e ∷ events) run commands next small calm =
-    calm_state n run.0 new events run.2 calm.0 next small calm.2 ∙ one_state n old run.0 commands calm.0 e small run.1 calm.1
+calm_state : (n : ℕ) (k : Ledger) (old new : event.Host) (events : List HostEvent) (run : Runs old events new) (commands next : ℕ → SlotCommand) → n < 16 → AreCalm n k commands old new events run next → (view_of n new.port).state.resetting ≡ (view_of n old.port).state.resetting
+calm_state n k old new [] run commands next small calm = ap (λ (h : event.Host). (view_of n h.port).state.resetting) run
+calm_state n k old new (e ∷ events) run commands next small calm =
+    calm_state n k run.0 new events run.2 calm.0 next small calm.2 ∙ one_state n k old run.0 commands calm.0 e small run.1 calm.1
 
 -- ---- what is issued in another slot leaves slot 30
 
@@ -133,23 +134,23 @@ sent_away n slot old new (e ∷ events) run past small other away is =
 
 -- ---- a calm turn
 
-module _ (n : ℕ) (base : List Happening) (old : Host) (turn : HostTurn) (new : Host) (run : DoesAll old (turn ∷ []) new) (given : List Happening) (commands : ℕ → Command) (touches : Touches) (below : n < 15)
+module _ (n : ℕ) (base : List Happening) (old : Host) (turn : HostTurn) (new : Host) (run : DoesAll old (turn ∷ []) new) (given : List Happening) (commands : ℕ → SlotCommand) (touches : Touches) (below : n < 15)
     (h : IsServedOn n base old given commands touches) where
   abbrev serves : RunServes old new (turn ∷ []) run touches
   serves = turns_serve.runs old new (turn ∷ []) run h.sound touches h.served
 
   -- the events of the turn are none of the disk's, or issue for it
   goes_on : (slot : ℕ) → AreAway n slot (shared_by old) (shared_by new) (events_over old new (turn ∷ []) run) (turns_serve.runs old new (turn ∷ []) run h.sound touches h.served).runs
-      → TendsOn n old turn new → IsTended n new.driver → (IsSteplessTurn old turn → slot ≢ 30) → (HasSignature n new → HasSignature n old) → ServesOnAnew n base old turn new run given touches
+      → TendsOn n old turn new → IsTended n new.driver → (IsSteplessTurn old turn → slot ≢ 30) → (HasSignature n new → HasSignature n old) → ServesOnAnew n base old turn new run given given commands touches
   goes_on slot away tends tended other rows =
       let small : n < 16 = omega (arith, below) in
-      let c : Command = command_in slot (entry_at new.driver.entries slot) in
-      let tags : (s : ℕ) → (commands s).tag ≡ s = (hosted_on_is_kept n base (shared_by old) given commands (own n touches) below h.hosted).joined.same.tags in
-      let ends : CalmEnds n slot (command_in slot (entry_at new.driver.entries slot)) commands (shared_by old) (shared_by new) (events_over old new (turn ∷ []) run) serves.runs touches =
-      calm_ends n slot (command_in slot (entry_at new.driver.entries slot)) (tag_in slot (entry_at new.driver.entries slot)) commands (shared_by old) (shared_by new) (events_over old new (turn ∷ []) run) serves.runs touches small tags away in
+      let c : SlotCommand = told_by (length (ledger given).writes) (command_in slot (entry_at new.driver.entries slot)) in
+      let tags : (s : ℕ) → (commands s).command.tag ≡ s = (hosted_on_is_kept n base (shared_by old) given commands (own n touches) below h.hosted).joined.same.tags in
+      let ends : CalmEnds n slot (ledger given) (told_by (length (ledger given).writes) (command_in slot (entry_at new.driver.entries slot))) commands (shared_by old) (shared_by new) (events_over old new (turn ∷ []) run) serves.runs touches =
+      calm_ends n slot (ledger given) (told_by (length (ledger given).writes) (command_in slot (entry_at new.driver.entries slot))) (tag_in slot (entry_at new.driver.entries slot)) (omega arith) commands (shared_by old) (shared_by new) (events_over old new (turn ∷ []) run) serves.runs touches small tags away in
       let hosted : IsHostedOn n base (shared_by new) given ends.next (history_after n (own n touches) (shared_by old) (shared_by new) (events_over old new (turn ∷ []) run) serves.runs) =
       calm_runs_on n base (shared_by old) (shared_by new) (events_over old new (turn ∷ []) run) serves.runs given commands ends.next (own n touches) below serves.sound.hosts ends.calm h.hosted in
-      let state : (view_of n new.port).state.resetting ≡ (view_of n old.port).state.resetting = calm_state n (shared_by old) (shared_by new) (events_over old new (turn ∷ []) run) serves.runs commands ends.next small ends.calm in
+      let state : (view_of n new.port).state.resetting ≡ (view_of n old.port).state.resetting = calm_state n (ledger given) (shared_by old) (shared_by new) (events_over old new (turn ∷ []) run) serves.runs commands ends.next small ends.calm in
       record {
         next = ends.next;
         serves = serves;
@@ -158,7 +159,7 @@ module _ (n : ℕ) (base : List Happening) (old : Host) (turn : HostTurn) (new :
           served = serves.last;
           hosted = subst (λ (p : History). IsHostedOn n base (shared_by new) given ends.next p) (sym (histories_are_parts n touches (shared_by old) (shared_by new) (events_over old new (turn ∷ []) run) serves.runs)) hosted;
           tended = tended;
-          named = named_then n old turn new (after old turn new run) commands ends.next touches (touches_after touches (shared_by old) (shared_by new) (events_over old new (turn ∷ []) run) serves.runs) below slot h.served serves.last.bounded.slots h.named ends.fresh;
+          named = named_then n old turn new (after old turn new run) commands ends.next touches (touches_after touches (shared_by old) (shared_by new) (events_over old new (turn ∷ []) run) serves.runs) below slot (length (ledger given).writes) h.served serves.last.bounded.slots h.named ends.fresh;
           signed = λ asked. elim (tends.asks asked) [
             | inl was ↦ h.signed was
             | inr more ↦ elim more [ inl shows ↦ h.row shows.0 shows.1 | inr over ↦ h.ended over.0 over.1 ]
@@ -174,13 +175,17 @@ module _ (n : ℕ) (base : List Happening) (old : Host) (turn : HostTurn) (new :
               let was = h.resets (sym state ∙ set) in
               (tends.awaiting was.0 (sym state ∙ set), was.1);
         };
+        counted = λ s t here. elim (ends.fresh s t here) [
+          | inl fresh ↦ inr (ap (λ (x : SlotCommand). x.since) fresh.1)
+          | inr was ↦ inl was
+        ];
       }
 
 apart_31 : ◌≢◌ {A = ℕ} 31 30
 apart_31 is = omega (arith, is)
 
-pub calm_turn : (n : ℕ) (base : List Happening) (old : Host) (turn : HostTurn) (new : Host) (run : DoesAll old (turn ∷ []) new) (given : List Happening) (commands : ℕ → Command) (touches : Touches) → n < 15
-    → IsCalmTurn n old turn → TendsOn n old turn new → IsTended n new.driver → IsServedOn n base old given commands touches → ServesOnAnew n base old turn new run given touches
+pub calm_turn : (n : ℕ) (base : List Happening) (old : Host) (turn : HostTurn) (new : Host) (run : DoesAll old (turn ∷ []) new) (given : List Happening) (commands : ℕ → SlotCommand) (touches : Touches) → n < 15
+    → IsCalmTurn n old turn → TendsOn n old turn new → IsTended n new.driver → IsServedOn n base old given commands touches → ServesOnAnew n base old turn new run given given commands touches
 calm_turn n base old (Took frame report) new run given commands touches below calm tends tended h =
     let d = after old (Took frame report) new run in
     goes_on n base old (Took frame report) new run given commands touches below h 31 (inl calm, tt) tends tended (λ t. apart_31)
@@ -215,7 +220,7 @@ steady_of n old (Submitted dev request ticket) calm = tt
 steady_of n old (Polled c) calm = tt
 steady_of n old (Put at bytes) calm = tt
 
-pub calm_tends : (n : ℕ) (base : List Happening) (old : Host) (turn : HostTurn) (new : Host) → DoesAll old (turn ∷ []) new → (given : List Happening) (commands : ℕ → Command) (touches : Touches) → n < 15 → IsCalmTurn n old turn
+pub calm_tends : (n : ℕ) (base : List Happening) (old : Host) (turn : HostTurn) (new : Host) → DoesAll old (turn ∷ []) new → (given : List Happening) (commands : ℕ → SlotCommand) (touches : Touches) → n < 15 → IsCalmTurn n old turn
     → IsServedOn n base old given commands touches → TendsOn n old turn new
 calm_tends n base old turn new run given commands touches below calm h = turn_tended n old turn new (omega (arith, below)) (after old turn new run) (steady_of n old turn calm) h.tended
 

@@ -1,10 +1,11 @@
 -- The driver goes on to serve a disk honestly over a calm turn, and begins to in the tick that flushes it.
-use Rattle.std.proofs.Common.{◌≡◌, ℕ, ◌+◌, ◌<◌, true, false, List, [], ◌∷◌, length, refl, sym, ◌∙◌, ap, subst, inl, inr, arith, Option, Some, None}
+use Rattle.std.proofs.Common.{◌≡◌, ℕ, ◌+◌, ◌<◌, true, false, List, [], ◌∷◌, length, refl, sym, ◌∙◌, ap, subst, inl, inr, arith, Option, Some, None, ◌≤◌}
 use Rattle.std.specs.Option.{option_map}
 use Rattle.slots.specs.Slots.{Issue, own_issue}
 use Rattle.hba_fbs.specs.Views.{view_of}
 use Rattle.disk_model.specs.declared.request.Command.{Command}
 use Rattle.disk_model.specs.Histories.{Happening, Plugged}
+use Rattle.disk_model.specs.Ledger.{ledger}
 use Rattle.hba_laws.specs.Agreement.{IsHistoryOf, work_of_issue, work_of_transfer}
 use Rattle.hba_laws.specs.Client.{Touches, own}
 use Rattle.hba_laws.specs.Delivering.{history_after, touches_after}
@@ -15,6 +16,7 @@ use Rattle.hba_laws.proofs.StandLemmas.{some_inj}
 use Rattle.disk_ends.specs.Hosted.{IsHosted, plugged}
 use Rattle.disk_ends.proofs.CalmLemmas.{calm_runs_keep}
 use Rattle.disk_ends.proofs.HostedLemmas.{hosted_is_kept}
+use Rattle.disk_ends.specs.Same.{SlotCommand}
 use Rattle.hba_driver.specs.Drivers.{Driver, Entry, entry_at, rephased}
 use Rattle.hba_driver.specs.Events.{IsSoundHost, events_over, opening_host, shared_by}
 use Rattle.hba_driver.specs.HostTurns.{Does, DoesAll, Host, HostTurn, Took, Pushed, Ticked, Submitted, Polled, Put, sight_in}
@@ -79,6 +81,10 @@ kept_entry old t new does s x e here there = by_turn t does
 
 -- ---- the commands of the slots
 
+-- so many writes have ended as it is issued
+abbrev pub told_by : ℕ → Command → SlotCommand
+told_by since c = record { command = c; since = since }
+
 abbrev pub command_in : ℕ → Option Entry → Command
 command_in slot None = record { write = false; tag = slot; lba = 0; count = 0 }
 command_in slot (Some e) = command_of slot e
@@ -87,38 +93,38 @@ pub tag_in : (slot : ℕ) (o : Option Entry) → (command_in slot o).tag ≡ slo
 tag_in slot None = refl
 tag_in slot (Some e) = refl
 
-module _ (n : ℕ) (old : Host) (turn : HostTurn) (new : Host) (does : Does old turn new) (commands next : ℕ → Command) (before later : Touches) (below : n < 15) where
+module _ (n : ℕ) (old : Host) (turn : HostTurn) (new : Host) (does : Does old turn new) (commands next : ℕ → SlotCommand) (before later : Touches) (below : n < 15) where
   -- a request that was issued before
   still_named : IsServed old.driver (shared_by old) before → length new.driver.entries ≡ 30 → AreNamed n old.driver commands before → (s : ℕ) (t : Transfer) (e : Entry) → issued s (own n before) ≡ Some t → entry_at new.driver.entries s ≡ Some e
-      → is_queued e.head.work ≡ true → commands s ≡ command_of s e
+      → is_queued e.head.work ≡ true → (commands s).command ≡ command_of s e
   still_named served long named s t e was there queued = by_issue (served.issues n s t was).from
     where
       low : s < 30
       low = in_slots new.driver.entries s e long there
 
-      of_entry : (x : Entry) → entry_at old.driver.entries s ≡ Some x → commands s ≡ command_of s e
+      of_entry : (x : Entry) → entry_at old.driver.entries s ≡ Some x → (commands s).command ≡ command_of s e
       of_entry x here =
           let same : e ≡ rephased e.head.phase x = kept_entry old turn new does s x e here there in
           let work : e.head.work ≡ x.head.work = ap (λ (y : Entry). y.head.work) same in
           named s t x was here (sym (ap is_queued work) ∙ queued) ∙ sym (ap (command_of s) same)
 
-      by_issue : From old.driver n s t → commands s ≡ command_of s e
+      by_issue : From old.driver n s t → (commands s).command ≡ command_of s e
       by_issue (inl r) = of_entry r.entry r.stands
       by_issue (inr (inl i)) = absurd (omega (arith, low, i.slot))
       by_issue (inr (inr o)) = absurd (omega (arith, low, o.slot))
 
-  pub named_then : (slot : ℕ) → IsServed old.driver (shared_by old) before → length new.driver.entries ≡ 30 → AreNamed n old.driver commands before
-      → IsNewOrOld slot (command_in slot (entry_at new.driver.entries slot)) commands next (own n before) (own n later) → AreNamed n new.driver next later
-  named_then slot served long named fresh s t e here there queued = elim (fresh s t here) [
+  pub named_then : (slot since : ℕ) → IsServed old.driver (shared_by old) before → length new.driver.entries ≡ 30 → AreNamed n old.driver commands before
+      → IsNewOrOld slot (told_by since (command_in slot (entry_at new.driver.entries slot))) commands next (own n before) (own n later) → AreNamed n new.driver next later
+  named_then slot since served long named fresh s t e here there queued = elim (fresh s t here) [
     | inl new_one ↦
         let at : entry_at new.driver.entries slot ≡ Some e = subst (λ (k : ℕ). entry_at new.driver.entries k ≡ Some e) new_one.0 there in
-        new_one.1 ∙ ap (command_in slot) at ∙ sym (ap (λ (k : ℕ). command_of k e) new_one.0)
-    | inr was ↦ was.1 ∙ still_named served long named s t e was.0 there queued
+        ap (λ (c : SlotCommand). c.command) new_one.1 ∙ ap (command_in slot) at ∙ sym (ap (λ (k : ℕ). command_of k e) new_one.0)
+    | inr was ↦ ap (λ (c : SlotCommand). c.command) was.1 ∙ still_named served long named s t e was.0 there queued
   ]
 
 -- ---- a calm turn
 
-module _ (n : ℕ) (old : Host) (turn : HostTurn) (new : Host) (run : DoesAll old (turn ∷ []) new) (given : List Happening) (commands : ℕ → Command) (touches : Touches) (below : n < 15)
+module _ (n : ℕ) (old : Host) (turn : HostTurn) (new : Host) (run : DoesAll old (turn ∷ []) new) (given : List Happening) (commands : ℕ → SlotCommand) (touches : Touches) (below : n < 15)
     (h : IsServedHonestly n old given commands touches) where
   does : Does old turn new
   does = after old turn new run
@@ -136,10 +142,10 @@ module _ (n : ℕ) (old : Host) (turn : HostTurn) (new : Host) (run : DoesAll ol
   goes_on : (slot : ℕ) → AreAway n slot (shared_by old) (shared_by new) (events_over old new (turn ∷ []) run) serves.runs → IsSteady n new.driver → IsAskedSigned n new given → IsRowSigned n new given → ServesOn n old turn new run given touches
   unfolding does serves es later
   goes_on slot away steady signed row =
-      let c : Command = command_in slot (entry_at new.driver.entries slot) in
-      let tags : (s : ℕ) → (commands s).tag ≡ s = (hosted_is_kept n (shared_by old) given commands (own n touches) below h.hosted).joined.same.tags in
-      let ends : CalmEnds n slot c commands (shared_by old) (shared_by new) (events_over old new (turn ∷ []) run) serves.runs touches =
-      calm_ends n slot c (tag_in slot (entry_at new.driver.entries slot)) commands (shared_by old) (shared_by new) (events_over old new (turn ∷ []) run) serves.runs touches (omega (arith, below)) tags away in
+      let c : SlotCommand = told_by (length (ledger given).writes) (command_in slot (entry_at new.driver.entries slot)) in
+      let tags : (s : ℕ) → (commands s).command.tag ≡ s = (hosted_is_kept n (shared_by old) given commands (own n touches) below h.hosted).joined.same.tags in
+      let ends : CalmEnds n slot (ledger given) c commands (shared_by old) (shared_by new) (events_over old new (turn ∷ []) run) serves.runs touches =
+      calm_ends n slot (ledger given) c (tag_in slot (entry_at new.driver.entries slot)) (omega arith) commands (shared_by old) (shared_by new) (events_over old new (turn ∷ []) run) serves.runs touches (omega (arith, below)) tags away in
       let hosted : IsHosted n (shared_by new) given ends.next (history_after n (own n touches) (shared_by old) (shared_by new) (events_over old new (turn ∷ []) run) serves.runs) =
       calm_runs_keep n (shared_by old) (shared_by new) (events_over old new (turn ∷ []) run) serves.runs given commands ends.next (own n touches) below serves.sound.hosts ends.calm h.hosted in
       record {
@@ -150,7 +156,7 @@ module _ (n : ℕ) (old : Host) (turn : HostTurn) (new : Host) (run : DoesAll ol
           served = serves.last;
           hosted = subst (λ (p : History). IsHosted n (shared_by new) given ends.next p) (sym (histories_are_parts n touches (shared_by old) (shared_by new) (events_over old new (turn ∷ []) run) serves.runs)) hosted;
           steady = steady;
-          named = named_then n old turn new does commands ends.next touches later below slot h.served serves.last.bounded.slots h.named ends.fresh;
+          named = named_then n old turn new does commands ends.next touches later below slot (length (ledger given).writes) h.served serves.last.bounded.slots h.named ends.fresh;
           signed = signed;
           row = row;
         };
@@ -160,7 +166,7 @@ module _ (n : ℕ) (old : Host) (turn : HostTurn) (new : Host) (run : DoesAll ol
   asks_same : new.driver.plan ≡ old.driver.plan → IsAskedSigned n new given
   asks_same is asked = h.signed (subst (λ p. IsAskedOf n p) is asked)
 
-calm_turn : (n : ℕ) (old : Host) (turn : HostTurn) (new : Host) (run : DoesAll old (turn ∷ []) new) (given : List Happening) (commands : ℕ → Command) (touches : Touches) → n < 15
+calm_turn : (n : ℕ) (old : Host) (turn : HostTurn) (new : Host) (run : DoesAll old (turn ∷ []) new) (given : List Happening) (commands : ℕ → SlotCommand) (touches : Touches) → n < 15
     → IsCalmTurn n old turn → IsServedHonestly n old given commands touches → ServesOn n old turn new run given touches
 unfolding serves
 calm_turn n old (Took frame report) new run given commands touches below calm h =
@@ -205,10 +211,34 @@ pub no_transfer : (o : Option Transfer) → ((t : Transfer) → o ≡ Some t →
 no_transfer None h = refl
 no_transfer (Some t) h = absurd (h t refl)
 
-abbrev pub plain : ℕ → Command
-plain s = record { write = false; tag = s; lba = 0; count = 0 }
+-- any command, by its tag
+abbrev pub plain_since : ℕ → ℕ → SlotCommand
+plain_since since s = told_by since (record { write = false; tag = s; lba = 0; count = 0 })
 
-begins : (n : ℕ) (h : Host) (commands : ℕ → Command) (touches : Touches) → n < 15 → IsSoundHost h → IsServed h.driver (shared_by h) touches → IsSteady n h.driver → (IsAskedOf n h.driver.plan → ⊥) → (HasSignature n h → ⊥) → ((s : ℕ) → (commands s).tag ≡ s)
+abbrev pub plain : ℕ → SlotCommand
+plain = plain_since 0
+
+-- nor in a slot of requests in which none stands
+pub none_in_slot : (n slot : ℕ) (h : Host) (touches : Touches) → slot < 30 → entry_at h.driver.entries slot ≡ None
+    → IsServed h.driver (shared_by h) touches → (t : Transfer) → issued slot (own n touches) ≡ Some t → ⊥
+none_in_slot n slot h touches low free served t here = by_issue (served.issues n slot t here).from
+  where
+    by_issue : From h.driver n slot t → ⊥
+    by_issue (inl r) = none_some r.entry (sym free ∙ r.stands)
+    by_issue (inr (inl i)) = omega (arith, low, i.slot)
+    by_issue (inr (inr o)) = omega (arith, low, o.slot)
+
+-- nothing is issued of a device that is asked for nothing
+pub none_issued : (n : ℕ) (h : Host) (touches : Touches) → n < 15 → IsServed h.driver (shared_by h) touches → IsSteady n h.driver
+    → (IsAskedOf n h.driver.plan → ⊥) → (s : ℕ) (t : Transfer) → issued s (own n touches) ≡ Some t → ⊥
+none_issued n h touches below served steady unasked s t here = by_issue (served.issues n s t here).from
+  where
+    by_issue : From h.driver n s t → ⊥
+    by_issue (inl r) = unasked (inl (steady.requests.ready s r.entry (record { stands = r.stands; of_dev = r.of_dev; unended = issued_unended r.entry r.goes })))
+    by_issue (inr (inl i)) = unasked (inr (i.path, (i.goes, i.of_dev)))
+    by_issue (inr (inr o)) = omega (arith, below, o.of_dev)
+
+begins : (n : ℕ) (h : Host) (commands : ℕ → SlotCommand) (touches : Touches) → n < 15 → IsSoundHost h → IsServed h.driver (shared_by h) touches → IsSteady n h.driver → (IsAskedOf n h.driver.plan → ⊥) → (HasSignature n h → ⊥) → ((s : ℕ) → (commands s).command.tag ≡ s)
     → IsServedHonestly n h (Plugged ∷ []) commands touches
 begins n h commands touches below sound served steady unasked unsigned tags = record {
   sound = sound;
@@ -224,12 +254,7 @@ begins n h commands touches below sound served steady unasked unsigned tags = re
     told = served.told n (omega (arith, below))
 
     none : (s : ℕ) (t : Transfer) → issued s (own n touches) ≡ Some t → ⊥
-    none s t here = by_issue (served.issues n s t here).from
-      where
-        by_issue : From h.driver n s t → ⊥
-        by_issue (inl r) = unasked (inl (steady.requests.ready s r.entry (record { stands = r.stands; of_dev = r.of_dev; unended = issued_unended r.entry r.goes })))
-        by_issue (inr (inl i)) = unasked (inr (i.path, (i.goes, i.of_dev)))
-        by_issue (inr (inr o)) = omega (arith, below, o.of_dev)
+    none = none_issued n h touches below served steady unasked
 
 pub opens_honestly : OpensHonestly
 opens_honestly n given len commands below size tags =

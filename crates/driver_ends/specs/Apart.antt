@@ -5,15 +5,15 @@
 -- Cited: where a host is with a device that recovers (`hba_driver`, specs/Slot30.antt), a device of
 -- which no queued command can be done (`disk_ends`, specs/Aside.antt), and a driver that serves a
 -- disk from where both began anew (specs/Together.antt).
-use Rattle.std.specs.Prelude.{ℕ, ◌≡◌, ◌<◌, false, List, [], ◌∷◌}
+use Rattle.std.specs.Prelude.{ℕ, ◌≡◌, ◌<◌, false, List, [], ◌∷◌, length}
 use Rattle.slots.specs.Slots.{Issue, own_issue}
 use Rattle.hba_fbs.specs.Views.{view_of}
-use Rattle.disk_model.specs.declared.request.Command.{Command}
 use Rattle.disk_model.specs.Anew.{OwesOnly}
 use Rattle.disk_model.specs.Histories.{Happening}
 use Rattle.disk_model.specs.Ledger.{ShowsPage, Signs, Wanted, ledger}
 use Rattle.hba_laws.specs.Client.{Touches, own}
 use Rattle.disk_ends.specs.Aside.{IsAside}
+use Rattle.disk_ends.specs.Same.{SlotCommand}
 use Rattle.hba_driver.specs.Events.{IsSoundHost, shared_by}
 use Rattle.hba_driver.specs.HostTurns.{Host}
 use Rattle.hba_driver.specs.Served.{IsServed}
@@ -27,9 +27,11 @@ AsideAt =
     → IsServed h.driver (shared_by h) touches → IsAt30 n stage h
     → IsAside n (shared_by h) (own n touches)
 
--- from here on the driver serves the disk, with some commands of the slots
+-- From here on the driver serves the disk, with some commands of the slots. Those are counted from
+-- the writes on that have ended by now.
 pub record ServesFrom (n : ℕ) (base : List Happening) (h : Host) (touches : Touches) : Type 0 where
-  pub commands : ℕ → Command
+  pub commands : ℕ → SlotCommand
+  pub counted : (s : ℕ) → (commands s).since ≡ length (ledger base).writes
   pub on : IsServedOn n base h base commands touches
 
 -- READ LOG EXT went out, and came to a disk that owes nothing but the page.

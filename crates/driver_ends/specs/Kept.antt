@@ -12,7 +12,6 @@ use Rattle.fis_view.specs.Seen.{seen}
 use Rattle.host_memory.specs.Memory.{is_memory_size}
 use Rattle.hba_fbs.specs.declared.report.TakeReport.{TakeReport}
 use Rattle.hba_fbs.specs.Taking.{port_of}
-use Rattle.disk_model.specs.declared.request.Command.{Command}
 use Rattle.disk_model.specs.Ends.{IsRight}
 use Rattle.disk_model.specs.Histories.{Happening, Plugged, Received, Sent}
 use Rattle.disk_model.specs.Ledger.{ledger}
@@ -21,6 +20,7 @@ use Rattle.hba_laws.specs.Delivering.{touches_after}
 use Rattle.disk_ends.specs.Heard.{IsTakenWell}
 use Rattle.disk_ends.specs.Hosted.{IsHosted}
 use Rattle.disk_ends.specs.Joined.{IsShort}
+use Rattle.disk_ends.specs.Same.{SlotCommand}
 use Rattle.hba_driver.specs.Events.{IsSoundHost, events_over, opening_host, shared_by}
 use Rattle.hba_driver.specs.HostTurns.{DoesAll, Host, HostTurn, Pushed}
 use Rattle.hba_driver.specs.HostTurns.{Ticked, Took}
@@ -32,7 +32,7 @@ use Rattle.driver_ends.specs.Steady.{AreNamed, IsAskedSigned, IsRowSigned}
 
 -- the host, with what it gave to disk n and heard of it since it flushed it (as the disk sees it),
 -- the commands of its slots, and all that touched its port and memory
-pub record IsServedHonestly (n : ℕ) (h : Host) (given : List Happening) (commands : ℕ → Command)
+pub record IsServedHonestly (n : ℕ) (h : Host) (given : List Happening) (commands : ℕ → SlotCommand)
     (touches : Touches) : Type 0 where
   pub sound : IsSoundHost h
   pub served : IsServed h.driver (shared_by h) touches
@@ -45,7 +45,7 @@ pub record IsServedHonestly (n : ℕ) (h : Host) (given : List Happening) (comma
 -- so it is after a turn, with some commands of the slots
 pub record ServesOn (n : ℕ) (old : Host) (turn : HostTurn) (new : Host)
     (run : DoesAll old (turn ∷ []) new) (given : List Happening) (touches : Touches) : Type 0 where
-  pub next : ℕ → Command
+  pub next : ℕ → SlotCommand
   pub serves : RunServes old new (turn ∷ []) run touches
   pub honestly : IsServedHonestly n new given next
       (touches_after touches (shared_by old) (shared_by new)
@@ -56,8 +56,8 @@ pub record ServesOn (n : ℕ) (old : Host) (turn : HostTurn) (new : Host)
 -- As the host opens nothing was given to any disk.
 abbrev pub OpensHonestly : Type 0
 OpensHonestly =
-    (n given len : ℕ) (commands : ℕ → Command) → n < 15 → is_memory_size len ≡ true
-    → ((s : ℕ) → (commands s).tag ≡ s)
+    (n given len : ℕ) (commands : ℕ → SlotCommand) → n < 15 → is_memory_size len ≡ true
+    → ((s : ℕ) → (commands s).command.tag ≡ s)
     → IsServedHonestly n (opening_host given len) (Plugged ∷ []) commands []
 
 -- In the tick that flushes the disk it begins anew: nothing of it is issued, and all that happened
@@ -80,7 +80,7 @@ IsCalmTurn n old turn = Unit {0}
 abbrev pub CalmTurnsKeep : Type 0
 CalmTurnsKeep =
     (n : ℕ) (old : Host) (turn : HostTurn) (new : Host) (run : DoesAll old (turn ∷ []) new)
-    (given : List Happening) (commands : ℕ → Command) (touches : Touches) → n < 15
+    (given : List Happening) (commands : ℕ → SlotCommand) (touches : Touches) → n < 15
     → IsCalmTurn n old turn → IsServedHonestly n old given commands touches
     → ServesOn n old turn new run given touches
 
@@ -90,7 +90,7 @@ abbrev pub TakesKeep : Type 0
 TakesKeep =
     (n : ℕ) (old : Host) (plain : List ℕ) (report : TakeReport) (new : Host)
     (run : DoesAll old (Took (marked plain n) report ∷ []) new)
-    (given : List Happening) (commands : ℕ → Command) (touches : Touches) → n < 15
+    (given : List Happening) (commands : ℕ → SlotCommand) (touches : Touches) → n < 15
     → IsFrame plain → port_of (marked plain n) ≡ n
     → IsTakenWell (shared_by old) (marked plain n) report (shared_by new)
     → IsRight (ledger given) (seen plain) → IsShort (seen plain)
@@ -108,7 +108,7 @@ abbrev pub PushesGoOn : Type 0
 PushesGoOn =
     (n : ℕ) (old : Host) (frame : Option Stamped) (new : Host)
     (run : DoesAll old (Pushed frame ∷ []) new)
-    (given : List Happening) (commands : ℕ → Command) (touches : Touches) → n < 15
+    (given : List Happening) (commands : ℕ → SlotCommand) (touches : Touches) → n < 15
     → IsServedHonestly n old given commands touches
     → ServesOn n old (Pushed frame) new run (given ++ given_to n frame) touches
 
@@ -117,7 +117,7 @@ abbrev pub PushesKeep : Type 0
 PushesKeep =
     (n : ℕ) (old : Host) (frame : Option Stamped) (new : Host)
     (run : DoesAll old (Pushed frame ∷ []) new)
-    (given : List Happening) (commands : ℕ → Command) (touches : Touches) → n < 15
+    (given : List Happening) (commands : ℕ → SlotCommand) (touches : Touches) → n < 15
     → ((f : Stamped) → frame ≡ Some f → IsFrame f.bytes)
     → IsServedHonestly n old given commands touches
     → ServesOn n old (Pushed frame) new run (given ++ given_to n frame) touches

@@ -7,6 +7,7 @@ use Rattle.disk_model.specs.Histories.{Happening}
 use Rattle.disk_model.specs.Ledger.{Signs, ledger}
 use Rattle.hba_laws.specs.Client.{Touches, own}
 use Rattle.hba_laws.specs.History.{Transfer, issued}
+use Rattle.disk_ends.specs.Same.{SlotCommand}
 use Rattle.hba_driver.specs.declared.request.Work.{Work}
 use Rattle.hba_driver.specs.declared.request.Work.TheVariants as work
 use Rattle.hba_driver.specs.Drivers.{Driver, Entry, entry_at}
@@ -31,11 +32,11 @@ command_of slot e = record {
 }
 
 -- the command of a slot is that of the queued request that is issued there
-abbrev pub AreNamed : ℕ → Driver → (ℕ → Command) → Touches → Type 0
+abbrev pub AreNamed : ℕ → Driver → (ℕ → SlotCommand) → Touches → Type 0
 AreNamed n d commands touches =
     (s : ℕ) (t : Transfer) (e : Entry) → issued s (own n touches) ≡ Some t
     → entry_at d.entries s ≡ Some e → is_queued e.head.work ≡ true
-    → commands s ≡ command_of s e
+    → (commands s).command ≡ command_of s e
 
 -- ---- signatures
 

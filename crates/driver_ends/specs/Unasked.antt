@@ -9,13 +9,13 @@ use Rattle.fis_view.specs.Frames.{IsFrame, Stamped, marked}
 use Rattle.fis_view.specs.Seen.{seen}
 use Rattle.hba_fbs.specs.declared.report.TakeReport.{TakeReport}
 use Rattle.hba_fbs.specs.Taking.{port_of}
-use Rattle.disk_model.specs.declared.request.Command.{Command}
 use Rattle.disk_model.specs.Anew.{IsClear}
 use Rattle.disk_model.specs.Ends.{IsRight}
 use Rattle.disk_model.specs.Histories.{Happening, Plugged, Sent}
 use Rattle.disk_model.specs.Ledger.{Ledger, Signs, ledger}
 use Rattle.hba_laws.specs.Client.{Touches}
 use Rattle.disk_ends.specs.Files.{IsOfDisk}
+use Rattle.disk_ends.specs.Same.{SlotCommand}
 use Rattle.hba_driver.specs.declared.plan.Device.TheVariants.{Absent}
 use Rattle.hba_driver.specs.Drivers.{device_at}
 use Rattle.hba_driver.specs.HostTurns.{Does, Host, HostTurn, Pushed, Took}
@@ -55,7 +55,7 @@ pub record StaysUnasked (n : ℕ) : Type 0 where
       → IsRight (ledger given) (seen plain) → IsOfDisk (seen plain) → IsUnasked n old given
       → IsUnasked n new (given ++ Sent plain ∷ [])
   pub pushes : (base : List Happening) (old : Host) (frame : Option Stamped) (new : Host)
-      (given : List Happening) (commands : ℕ → Command) (touches : Touches) → n < 15
+      (given : List Happening) (commands : ℕ → SlotCommand) (touches : Touches) → n < 15
       → Does old (Pushed frame) new → IsServedOn n base old given commands touches
       → IsUnasked n old given → IsUnasked n new (given ++ given_to n frame)
 
@@ -67,7 +67,7 @@ EachStaysUnasked = (n : ℕ) → StaysUnasked n
 abbrev pub FaultsSetAside : Type 0
 FaultsSetAside =
     (n : ℕ) (base : List Happening) (old : Host) (plain : List ℕ) (report : TakeReport) (new : Host)
-    (given : List Happening) (commands : ℕ → Command) (touches : Touches) → n < 15
+    (given : List Happening) (commands : ℕ → SlotCommand) (touches : Touches) → n < 15
     → IsFrame plain → port_of (marked plain n) ≡ n → Does old (Took (marked plain n) report) new
     → IsRight (ledger given) (seen plain) → IsOfDisk (seen plain)
     → IsServedOn n base old given commands touches → IsUnasked n old given

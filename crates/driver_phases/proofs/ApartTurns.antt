@@ -18,7 +18,7 @@ use Rattle.hba_driver.specs.HostTurns.{Does, DoesAll, Host, HostTurn, Polled, Pu
 use Rattle.hba_driver.specs.Slot30.{Asks, Cleared, Clears, Faulty, Goes30, IsAt30, IsNext30, IsOn30, LogSent, Off, On, Sets, Stage30, TicksOn30}
 use Rattle.hba_driver.specs.Slot30.{Turns30, sent30}
 use Rattle.hba_driver.proofs.ServedLemmas.{turns_serve}
-use Rattle.driver_phases.specs.Ends.{Apart, EndsAfter, IsBesideTurn, IsRunning, IsSetAside}
+use Rattle.driver_phases.specs.Ends.{Apart, AreFloors, EndsAfter, IsBesideTurn, IsRunning, IsSetAside}
 use Rattle.driver_phases.specs.Stages.{Fits, Leans}
 use Rattle.driver_phases.proofs.ApartDriver.{MayBe30, leads, requests, resets}
 use Rattle.driver_phases.proofs.ApartLines.{Comes30, IsFit, IsGiven, Line30, LogRead, ResetDone, comes_on, given_on, may_come, request30, takes_on}
@@ -155,31 +155,31 @@ does_one old new turn run = subst (λ (h : Host). Does old turn h) (sym run.2) r
 
 module _ (n : ℕ) (plan : DiskPlan) (sectors : ℕ) where
   after_aside : (old : Host) (turn : HostTurn) (new : Host) (run : DoesAll old (turn ∷ []) new) (disk : List Happening)
-      (down up : List (List ℕ)) (touches : Touches) → IsRunning plan sectors disk touches old → IsSetAside n new disk down up
-      → EndsAfter n old turn new run disk down up touches
-  after_aside old turn new run disk down up touches runs a = record {
+      (down up : List (List ℕ)) (floors : ℕ → ℕ) (touches : Touches) → IsRunning plan sectors disk touches old → IsSetAside n new disk down up
+      → AreFloors floors disk → EndsAfter n old turn new run disk down up floors touches
+  after_aside old turn new run disk down up floors touches runs a are = record {
     serves = turns_serve.runs old new (turn ∷ []) run runs.on.sound touches runs.on.served;
-    ends = Apart a;
+    ends = Apart a are;
   }
 
   pub beside_aside : (old : Host) (turn : HostTurn) (new : Host) (run : DoesAll old (turn ∷ []) new) (disk : List Happening)
-      (down up : List (List ℕ)) (touches : Touches) → n < 15 → IsRunning plan sectors disk touches old → IsBesideTurn n old turn
-      → IsSetAside n old disk down up → EndsAfter n old turn new run disk down up touches
-  beside_aside old turn new run disk down up touches below runs beside a =
-      after_aside old turn new run disk down up touches runs
-      (aside_beside n touches old turn new below runs.on (does_one old new turn run) disk down up beside a)
+      (down up : List (List ℕ)) (floors : ℕ → ℕ) (touches : Touches) → n < 15 → IsRunning plan sectors disk touches old → IsBesideTurn n old turn
+      → IsSetAside n old disk down up → AreFloors floors disk → EndsAfter n old turn new run disk down up floors touches
+  beside_aside old turn new run disk down up floors touches below runs beside a are =
+      after_aside old turn new run disk down up floors touches runs
+      (aside_beside n touches old turn new below runs.on (does_one old new turn run) disk down up beside a) are
 
   pub gives_aside : (old : Host) (frame : Stamped) (new : Host) (run : DoesAll old (Pushed (Some frame) ∷ []) new) (disk : List Happening)
-      (down up : List (List ℕ)) (touches : Touches) → n < 15 → IsRunning plan sectors disk touches old → frame.stamp.port ≡ n
-      → IsSetAside n old disk down up → EndsAfter n old (Pushed (Some frame)) new run disk (down ++ marked frame.bytes 0 ∷ []) up touches
-  gives_aside old frame new run disk down up touches below runs port a =
-      after_aside old (Pushed (Some frame)) new run disk (down ++ marked frame.bytes 0 ∷ []) up touches runs
-      (aside_gives n touches old frame new below runs.on (does_one old new (Pushed (Some frame)) run) disk down up port a)
+      (down up : List (List ℕ)) (floors : ℕ → ℕ) (touches : Touches) → n < 15 → IsRunning plan sectors disk touches old → frame.stamp.port ≡ n
+      → IsSetAside n old disk down up → AreFloors floors disk → EndsAfter n old (Pushed (Some frame)) new run disk (down ++ marked frame.bytes 0 ∷ []) up floors touches
+  gives_aside old frame new run disk down up floors touches below runs port a are =
+      after_aside old (Pushed (Some frame)) new run disk (down ++ marked frame.bytes 0 ∷ []) up floors touches runs
+      (aside_gives n touches old frame new below runs.on (does_one old new (Pushed (Some frame)) run) disk down up port a) are
 
   pub takes_aside : (old : Host) (bytes : List ℕ) (report : TakeReport) (new : Host) (run : DoesAll old (Took (marked bytes n) report ∷ []) new)
-      (disk : List Happening) (down up : List (List ℕ)) (touches : Touches) → n < 15 → IsRunning plan sectors disk touches old → IsFrame bytes
+      (disk : List Happening) (down up : List (List ℕ)) (floors : ℕ → ℕ) (touches : Touches) → n < 15 → IsRunning plan sectors disk touches old → IsFrame bytes
       → port_of (marked bytes n) ≡ n → IsSetAside n old disk down (bytes ∷ up)
-      → EndsAfter n old (Took (marked bytes n) report) new run disk down up touches
-  takes_aside old bytes report new run disk down up touches below runs framed port a =
-      after_aside old (Took (marked bytes n) report) new run disk down up touches runs
-      (aside_takes n touches old bytes report new below runs.on (does_one old new (Took (marked bytes n) report) run) disk down up framed port a)
+      → AreFloors floors disk → EndsAfter n old (Took (marked bytes n) report) new run disk down up floors touches
+  takes_aside old bytes report new run disk down up floors touches below runs framed port a are =
+      after_aside old (Took (marked bytes n) report) new run disk down up floors touches runs
+      (aside_takes n touches old bytes report new below runs.on (does_one old new (Took (marked bytes n) report) run) disk down up framed port a) are

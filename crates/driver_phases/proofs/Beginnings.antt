@@ -1,11 +1,10 @@
 -- Where a disk and its host are together: from the flush of the disk on, as its error log was asked for, and as a software reset of it ended.
-use Rattle.std.proofs.Common.{◌≡◌, ℕ, ◌<◌, ◌≤◌, ◌⊎◌, true, false, List, [], ◌∷◌, ◌++◌, refl, sym, ◌∙◌, ap, subst, inl, inr, None}
+use Rattle.std.proofs.Common.{◌≡◌, ℕ, ◌<◌, ◌≤◌, ◌⊎◌, true, false, List, [], ◌∷◌, ◌++◌, refl, sym, ◌∙◌, ap, subst, inl, inr, None, length, arith}
 use Rattle.std.proofs.lemmas.List.{append-nil}
 use Rattle.hba_fbs.specs.Views.{DeviceView, view_of}
-use Rattle.disk_model.specs.declared.request.Command.{Command}
 use Rattle.disk_model.specs.Anew.{OwesOnly}
 use Rattle.disk_model.specs.Histories.{Happening, Plugged, Received, Sent}
-use Rattle.disk_model.specs.Ledger.{Ledger, ShowsPage, Signs, Wanted, ledger}
+use Rattle.disk_model.specs.Ledger.{Ledger, ShowsPage, Signs, Wanted, ledger, ledger_after}
 use Rattle.disk_model.proofs.AnewLemmas.{begins_anew}
 use Rattle.hba_laws.specs.Client.{Touches, own}
 use Rattle.hba_laws.specs.History.{History}
@@ -38,8 +37,9 @@ use Rattle.driver_ends.specs.Steady.{HasSigned}
 use Rattle.driver_ends.specs.Together.{IsServedOn}
 use Rattle.driver_ends.proofs.ApartBegins.{log_begins, reset_begins}
 use Rattle.driver_ends.proofs.UnaskedLemmas.{stays_unasked}
-use Rattle.driver_phases.specs.Ends.{FlushBegins, IsTogether, Resetting, Steady, Together}
+use Rattle.driver_phases.specs.Ends.{AreFloors, AreReached, FlushBegins, IsTogether, Resetting, Steady, Together, no_floors}
 use Rattle.driver_phases.proofs.WorkedLemmas.{log_worked, reset_worked, steady_worked}
+use Rattle.disk_ends.specs.Same.{SlotCommand}
 
 -- ---- a flush
 
@@ -54,9 +54,19 @@ sent_not g bytes is = let bad : Sent bytes ≡ Plugged = more_not g (Sent bytes)
 received_not : (g : List Happening) (bytes : List ℕ) → g ++ Received bytes ∷ [] ≡ Plugged ∷ [] → ⊥
 received_not g bytes is = let bad : Received bytes ≡ Plugged = more_not g (Received bytes) is in cc
 
+-- a new disk has ended no write
+none_written : length (ledger (Plugged ∷ [])).writes ≡ 0
+unfolding ledger_after
+none_written = refl
+
+none_counted : (since : ℕ) (g : List Happening) (k : Ledger) → g ≡ Plugged ∷ [] → since ≤ length (ledger g).writes → since ≤ length k.writes
+none_counted since g k is low =
+    let none : length (ledger g).writes ≡ 0 = ap (λ (h : List Happening). length (ledger h).writes) is ∙ none_written in
+    omega (arith, low, none)
+
 -- a host of a disk that did nothing since it was plugged in began with that, whatever it did before
 module _ (n : ℕ) (before : List Happening) where
-  hosted_plugged : (host : event.Host) (given : List Happening) (commands : ℕ → Command) (past : History) → IsHosted n host given commands past
+  hosted_plugged : (host : event.Host) (given : List Happening) (commands : ℕ → SlotCommand) (past : History) → IsHosted n host given commands past
       → given ≡ Plugged ∷ [] → IsHostedOn n (before ++ Plugged ∷ []) host (before ++ Plugged ∷ []) commands past
   hosted_plugged host given commands past (since_new.plugged h c p history none tags) is =
       anew.opens h c p (opens_signing n h c p (ledger (before ++ Plugged ∷ [])) history none tags (begins_anew.plugged before))
@@ -64,8 +74,9 @@ module _ (n : ℕ) (before : List Happening) where
       anew.stays old new (before ++ Plugged ∷ []) c p
       (record { slots = ap (λ (v : DeviceView). v.slots) same; block = ap (λ (v : DeviceView). v.state.block) same })
       (hosted_plugged old g c p hosted is)
-  hosted_plugged host given commands past (since_new.issues old new value g c next p sound chosen does tags names hosted) is =
-      anew.issues old new value (before ++ Plugged ∷ []) c next p sound chosen does tags names (hosted_plugged old g c p hosted is)
+  hosted_plugged host given commands past (since_new.issues old new value g c next p sound chosen does tags names counted hosted) is =
+      anew.issues old new value (before ++ Plugged ∷ []) c next p sound chosen does tags names
+      (λ s some. none_counted (next s).since g (ledger (before ++ Plugged ∷ [])) is (counted s some)) (hosted_plugged old g c p hosted is)
   hosted_plugged host given commands past (since_new.hears old new bytes report g c p sound plain framed from_n well right short hosted) is =
       absurd (sent_not g bytes is)
   hosted_plugged host given commands past
@@ -80,7 +91,7 @@ module _ (n : ℕ) (before : List Happening) where
 unsigned : HasSigned (Plugged ∷ []) → ⊥
 unsigned signed = signed (begins_anew.plugged []).awaited
 
-module _ (n : ℕ) (h : Host) (before : List Happening) (commands : ℕ → Command) (touches : Touches) (below : n < 15)
+module _ (n : ℕ) (h : Host) (before : List Happening) (commands : ℕ → SlotCommand) (touches : Touches) (below : n < 15)
     (served : IsServedHonestly n h (Plugged ∷ []) commands touches)
     (off : IsUnreset n h) (opened : 7 ≤ h.driver.plan.opened) (well : (view_of n h.port).fault ≡ None) where
   flush_served : IsServedOn n (before ++ Plugged ∷ []) h (before ++ Plugged ∷ []) commands touches
@@ -97,7 +108,7 @@ module _ (n : ℕ) (h : Host) (before : List Happening) (commands : ℕ → Comm
     resets = λ set. let bad : true ≡ false = sym set ∙ off in cc;
   }
 
-  flush_together : IsTogether n h (before ++ Plugged ∷ []) [] [] touches
+  flush_together : IsTogether n h (before ++ Plugged ∷ []) [] [] no_floors touches
   flush_together =
       let owes : OwesOnly (ledger (before ++ Plugged ∷ [])) (Signs ∷ []) [] = begins_anew.plugged before in
       record {
@@ -110,6 +121,9 @@ module _ (n : ℕ) (h : Host) (before : List Happening) (commands : ℕ → Comm
         on_time = Steady refl off (λ same there. steady_not n h.driver.plan IsReleasing served.steady.plan (λ k. k) there);
         watched = watches_on.begins (before ++ Plugged ∷ []) [] owes.clear;
         served = flush_served;
+        told = λ s. omega arith;
+        entered = λ s. omega arith;
+        reached = λ s t here. omega arith;
         begun = both_have_begun.signs (ledger (before ++ Plugged ∷ [])) owes;
         owes = inl owes;
         opened = opened;
@@ -129,8 +143,13 @@ flush_begins n h before commands touches below served off opened well =
 recovering_not : (way : Recovery) (d : Device) → d ≡ Recovering way → d ≡ Ready → ⊥
 recovering_not way d is ready = let bad : Recovering way ≡ Ready = sym is ∙ ready in cc
 
-module _ (n : ℕ) (h : Host) (disk : List Happening) (touches : Touches) (below : n < 15) (on : IsOn30 touches h) where
-  log_together : (page : Wanted) → IsAt30 n LogSent h → OwesOnly (ledger disk) (ShowsPage ∷ []) (page ∷ []) → IsTogether n h disk [] [] touches
+module _ (n : ℕ) (h : Host) (disk : List Happening) (floors : ℕ → ℕ) (touches : Touches) (below : n < 15) (on : IsOn30 touches h)
+    (are : AreFloors floors disk) where
+  -- each command is counted from the writes on that have ended by now
+  counted : (commands : ℕ → SlotCommand) → ((s : ℕ) → (commands s).since ≡ length (ledger disk).writes) → AreReached floors commands (own n touches)
+  counted commands since s t here = subst (λ (m : ℕ). floors s ≤ m) (sym (since s)) (are s)
+
+  log_together : (page : Wanted) → IsAt30 n LogSent h → OwesOnly (ledger disk) (ShowsPage ∷ []) (page ∷ []) → IsTogether n h disk [] [] floors touches
   log_together page at owes =
       let apart : IsApart30 n LogSent h = at.apart refl in
       let plan : ReadsLog n h.driver.plan = apart.plan in
@@ -145,6 +164,9 @@ module _ (n : ℕ) (h : Host) (disk : List Happening) (touches : Touches) (below
         on_time = Steady refl apart.resetting (λ same there. stage_is n (ReadLog plan.file) true h.driver.plan IsReleasing plan.path there);
         watched = watches_on.begins disk [] owes.clear;
         served = serves.on;
+        told = are;
+        entered = are;
+        reached = counted serves.commands serves.counted;
         begun = both_have_begun.shows (ledger disk) page owes;
         owes = inr (page, owes);
         opened = at.opened;
@@ -163,7 +185,7 @@ module _ (n : ℕ) (h : Host) (disk : List Happening) (touches : Touches) (below
   releasing (inr r) = ((record { dev = n; stage = AwaitReset; asked = false }, (r.path, (refl, tt))), r.device)
 
   reset_together : (old : Ledger) (up : List (List ℕ)) → IsAt30 n Off h → BothBegin old (ledger disk) (Signs ∷ []) [] [] up
-      → IsTogether n h disk [] up touches
+      → IsTogether n h disk [] up floors touches
   reset_together old up at both =
       let apart : IsApart30 n Off h = at.apart refl in
       let way = releasing apart.plan in
@@ -179,6 +201,9 @@ module _ (n : ℕ) (h : Host) (disk : List Happening) (touches : Touches) (below
         on_time = Resetting both.quiet refl owes way.0;
         watched = watches_on.begins disk up owes.clear;
         served = serves.on;
+        told = are;
+        entered = are;
+        reached = counted serves.commands serves.counted;
         begun = both_have_begun.signs (ledger disk) owes;
         owes = inl owes;
         opened = at.opened;
@@ -189,17 +214,17 @@ module _ (n : ℕ) (h : Host) (disk : List Happening) (touches : Touches) (below
         worked = reset_worked n h disk disk at;
       }
 
-pub log_begins_together : (n : ℕ) (h : Host) (disk : List Happening) (old : Ledger) (page : Wanted) (down up : List (List ℕ)) (touches : Touches)
-    → n < 15 → IsOn30 touches h
-    → IsAt30 n LogSent h → BothBegin old (ledger disk) (ShowsPage ∷ []) (page ∷ []) down up → up ≡ [] → IsTogether n h disk down up touches
-log_begins_together n h disk old page down up touches below on at both silent =
-    subst (λ (xs : List (List ℕ)). IsTogether n h disk xs up touches) (sym both.empty)
-    (subst (λ (xs : List (List ℕ)). IsTogether n h disk [] xs touches) (sym silent) (log_together n h disk touches below on page at both.owes))
+pub log_begins_together : (n : ℕ) (h : Host) (disk : List Happening) (old : Ledger) (page : Wanted) (down up : List (List ℕ)) (floors : ℕ → ℕ) (touches : Touches)
+    → n < 15 → IsOn30 touches h → AreFloors floors disk
+    → IsAt30 n LogSent h → BothBegin old (ledger disk) (ShowsPage ∷ []) (page ∷ []) down up → up ≡ [] → IsTogether n h disk down up floors touches
+log_begins_together n h disk old page down up floors touches below on are at both silent =
+    subst (λ (xs : List (List ℕ)). IsTogether n h disk xs up floors touches) (sym both.empty)
+    (subst (λ (xs : List (List ℕ)). IsTogether n h disk [] xs floors touches) (sym silent) (log_together n h disk floors touches below on are page at both.owes))
 
-pub reset_begins_together : (n : ℕ) (h : Host) (disk : List Happening) (old : Ledger) (down up : List (List ℕ)) (touches : Touches) → n < 15
-    → IsOn30 touches h
-    → IsAt30 n Off h → BothBegin old (ledger disk) (Signs ∷ []) [] down up → IsTogether n h disk down up touches
-reset_begins_together n h disk old down up touches below on at both =
-    subst (λ (xs : List (List ℕ)). IsTogether n h disk xs up touches) (sym both.empty)
-    (reset_together n h disk touches below on old up at
+pub reset_begins_together : (n : ℕ) (h : Host) (disk : List Happening) (old : Ledger) (down up : List (List ℕ)) (floors : ℕ → ℕ) (touches : Touches) → n < 15
+    → IsOn30 touches h → AreFloors floors disk
+    → IsAt30 n Off h → BothBegin old (ledger disk) (Signs ∷ []) [] down up → IsTogether n h disk down up floors touches
+reset_begins_together n h disk old down up floors touches below on are at both =
+    subst (λ (xs : List (List ℕ)). IsTogether n h disk xs up floors touches) (sym both.empty)
+    (reset_together n h disk floors touches below on are old up at
     (subst (λ (xs : List (List ℕ)). BothBegin old (ledger disk) (Signs ∷ []) [] xs up) both.empty both))

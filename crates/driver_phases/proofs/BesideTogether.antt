@@ -5,7 +5,6 @@ use Rattle.std.proofs.lemmas.List.{append-nil}
 use Rattle.fis_view.specs.Frames.{Stamped}
 use Rattle.hba_fbs.specs.Views.{view_of}
 use Rattle.disk_model.specs.declared.plan.DiskPlan.{DiskPlan}
-use Rattle.disk_model.specs.declared.request.Command.{Command}
 use Rattle.disk_model.specs.Anew.{OwesOnly}
 use Rattle.disk_model.specs.Histories.{Happening}
 use Rattle.disk_model.specs.Ledger.{Accepts, Finishes, Ledger, Refuses, Reply, ShowsPage, Signs, Wanted, ledger}
@@ -52,6 +51,8 @@ use Rattle.driver_phases.proofs.GivenLemmas.{none_to_other}
 use Rattle.driver_phases.proofs.ResetAside.{reset_sets_aside}
 use Rattle.driver_phases.proofs.WorkedLemmas.{IsWorked, same_worked}
 use Rattle.driver_phases.proofs.Unfaulted.{IsTurnUnfaulted, opened_stays, tick_goes, turn_unfaulted}
+use Rattle.driver_phases.proofs.FloorLemmas.{reached_on}
+use Rattle.disk_ends.specs.Same.{SlotCommand}
 
 -- ---- where the signature alone is to come
 
@@ -73,7 +74,7 @@ page_waits past k is (Replies reply idle awaits mine none) = absurd (of_page rep
 page_waits past k is (Shows idle awaits most waits) = waits.waited
 page_waits past k is (Pages page idle awaits one waits) = cc
 
-module _ (n : ℕ) (base given : List Happening) (h : Host) (commands : ℕ → Command) (touches : Touches) (below : n < 15)
+module _ (n : ℕ) (base given : List Happening) (h : Host) (commands : ℕ → SlotCommand) (touches : Touches) (below : n < 15)
     (s : IsServedOn n base h given commands touches) (same : given ≡ base) (page : Wanted)
     (owes : OwesOnly (ledger base) (ShowsPage ∷ []) (page ∷ [])) where
   -- its command is issued
@@ -127,7 +128,7 @@ steady_of n old (Polled c) calm = tt
 steady_of n old (Put at bytes) calm = tt
 
 module _ (n : ℕ) (old : Host) (turn : HostTurn) (new : Host) (run : DoesAll old (turn ∷ []) new) (disk : List Happening)
-    (down up : List (List ℕ)) (touches : Touches) (below : n < 15) (t : IsTogether n old disk down up touches) where
+    (down up : List (List ℕ)) (floors : ℕ → ℕ) (touches : Touches) (below : n < 15) (t : IsTogether n old disk down up floors touches) where
   does : Does old turn new
   does = after old turn new run
 
@@ -166,7 +167,7 @@ module _ (n : ℕ) (old : Host) (turn : HostTurn) (new : Host) (run : DoesAll ol
 
   -- ---- the device is served on
 
-  module _ (steady : IsSteadyTurn n old turn) (s : ServesOnAnew n t.base old turn new run t.given touches) where
+  module _ (steady : IsSteadyTurn n old turn) (s : ServesOnAnew n t.base old turn new run t.given t.given t.commands touches) where
     on_time : IsOnTime n old t.base t.given t.stale → IsOnTime n new t.base t.given t.stale
     on_time (Steady none unreset away) =
         Steady none (elim (cases_Bool (view_of n new.port).state.resetting) [
@@ -178,7 +179,7 @@ module _ (n : ℕ) (old : Host) (turn : HostTurn) (new : Host) (run : DoesAll ol
     -- with this task file, while it is not ready
     stays_together : IsTurnUnfaulted n turn → IsUnasked n new t.given → HasFineFile n (shared_by new) t.base t.given
         → (t.given ≡ t.base → device_at new.driver.plan n ≡ Ready → ⊥) → IsWorked n new t.base t.given
-        → EndsAfter n old turn new run disk down up touches
+        → EndsAfter n old turn new run disk down up floors touches
     stays_together unfaulted unasked file unready worked = record {
       serves = s.serves;
       ends = Together (record {
@@ -191,6 +192,11 @@ module _ (n : ℕ) (old : Host) (turn : HostTurn) (new : Host) (run : DoesAll ol
         on_time = on_time t.on_time;
         watched = t.watched;
         served = s.on;
+        told = t.told;
+        entered = t.entered;
+        reached =
+            reached_on floors t.commands s.next t.given (own n touches) (own n (touches_after touches (shared_by old) (shared_by new)
+            (events_over old new (turn ∷ []) run) s.serves.runs)) t.told s.counted t.reached;
         begun = t.begun;
         owes = t.owes;
         opened = opened_stays old turn new does t.opened;
@@ -204,7 +210,7 @@ module _ (n : ℕ) (old : Host) (turn : HostTurn) (new : Host) (run : DoesAll ol
 
   -- ---- a calm turn
 
-  module _ (calm : IsCalmTurn n old turn) (s : ServesOnAnew n t.base old turn new run t.given touches) where
+  module _ (calm : IsCalmTurn n old turn) (s : ServesOnAnew n t.base old turn new run t.given t.given t.commands touches) where
     events : EventsAway n old new turn run s.serves.runs
     events = events_away n old turn new run s.serves.runs t.served.sound t.served.served.bounded calm
 
@@ -250,7 +256,7 @@ module _ (n : ℕ) (old : Host) (turn : HostTurn) (new : Host) (run : DoesAll ol
     still_file (inr fine) =
         inr (file_away n events.slot (shared_by old) (shared_by new) (events_over old new (turn ∷ []) run) s.serves.runs small events.away fine)
 
-    calm_together : IsTurnUnfaulted n turn → EndsAfter n old turn new run disk down up touches
+    calm_together : IsTurnUnfaulted n turn → EndsAfter n old turn new run disk down up floors touches
     calm_together unfaulted =
         stays_together (steady_of n old turn calm) s unfaulted
         ((stays_unasked n).calm old turn new t.given does calm t.served.tended t.unasked) (still_file t.file) still_unready calm_worked
@@ -297,9 +303,9 @@ module _ (n : ℕ) (old : Host) (turn : HostTurn) (new : Host) (run : DoesAll ol
 -- ---- turns beside the link
 
 reset_apart : (n : ℕ) (old : Host) (turn : HostTurn) (new : Host) (run : DoesAll old (turn ∷ []) new) (disk : List Happening)
-    (down up : List (List ℕ)) (touches : Touches) → n < 15 → (t : IsTogether n old disk down up touches) → IsOn30 touches old → Does old turn new
+    (down up : List (List ℕ)) (floors : ℕ → ℕ) (touches : Touches) → n < 15 → (t : IsTogether n old disk down up floors touches) → IsOn30 touches old → Does old turn new
     → IsResetTurn n old turn → OnLine Loose (ledger disk) down up → IsSetAside n new disk down up
-reset_apart n old (Ticked acted) new run disk down up touches below t on done issues line = record {
+reset_apart n old (Ticked acted) new run disk down up floors touches below t on done issues line = record {
   stage = Sets;
   line = Loose;
   at = reset_sets_aside n t.base old acted new t.given t.commands touches below done issues on t.served t.well;
@@ -307,28 +313,28 @@ reset_apart n old (Ticked acted) new run disk down up touches below t on done is
   leans = tt;
   on = line;
 }
-reset_apart n old (Took frame report) new run disk down up touches below t on done issues line = absurd issues
-reset_apart n old (Pushed frame) new run disk down up touches below t on done issues line = absurd issues
-reset_apart n old (Submitted dev request ticket) new run disk down up touches below t on done issues line = absurd issues
-reset_apart n old (Polled completion) new run disk down up touches below t on done issues line = absurd issues
-reset_apart n old (Put at bytes) new run disk down up touches below t on done issues line = absurd issues
+reset_apart n old (Took frame report) new run disk down up floors touches below t on done issues line = absurd issues
+reset_apart n old (Pushed frame) new run disk down up floors touches below t on done issues line = absurd issues
+reset_apart n old (Submitted dev request ticket) new run disk down up floors touches below t on done issues line = absurd issues
+reset_apart n old (Polled completion) new run disk down up floors touches below t on done issues line = absurd issues
+reset_apart n old (Put at bytes) new run disk down up floors touches below t on done issues line = absurd issues
 
 module _ (n : ℕ) (plan : DiskPlan) (sectors : ℕ) (old : Host) (turn : HostTurn) (new : Host) (run : DoesAll old (turn ∷ []) new)
-    (disk : List Happening) (down up : List (List ℕ)) (touches : Touches) (below : n < 15) (running : IsRunning plan sectors disk touches old)
-    (t : IsTogether n old disk down up touches) where
-  pub calm_ends_together : IsCalmTurn n old turn → IsTurnUnfaulted n turn → EndsAfter n old turn new run disk down up touches
+    (disk : List Happening) (down up : List (List ℕ)) (floors : ℕ → ℕ) (touches : Touches) (below : n < 15) (running : IsRunning plan sectors disk touches old)
+    (t : IsTogether n old disk down up floors touches) where
+  pub calm_ends_together : IsCalmTurn n old turn → IsTurnUnfaulted n turn → EndsAfter n old turn new run disk down up floors touches
   calm_ends_together calm unfaulted = elim (calm_turns_go_on n t.base old turn new run t.given t.commands touches below calm t.served) [
-    | inl s ↦ calm_together n old turn new run disk down up touches below t calm s unfaulted
+    | inl s ↦ calm_together n old turn new run disk down up floors touches below t calm s unfaulted
     | inr resets ↦ record {
       serves = turns_serve.runs old new (turn ∷ []) run t.served.sound touches t.served.served;
-      ends = Apart (reset_apart n old turn new run disk down up touches below t running.on (after old turn new run) resets.issues
-          (loose n old turn new run disk down up touches below t plan sectors running calm resets));
+      ends = Apart (reset_apart n old turn new run disk down up floors touches below t running.on (after old turn new run) resets.issues
+          (loose n old turn new run disk down up floors touches below t plan sectors running calm resets)) t.entered;
     }
   ]
 
 -- nothing goes out to the disk
 module _ (n : ℕ) (old : Host) (frame : Option Stamped) (new : Host) (run : DoesAll old (Pushed frame ∷ []) new) (disk : List Happening)
-    (down up : List (List ℕ)) (touches : Touches) (below : n < 15) (t : IsTogether n old disk down up touches) (none : given_to n frame ≡ []) where
+    (down up : List (List ℕ)) (floors : ℕ → ℕ) (touches : Touches) (below : n < 15) (t : IsTogether n old disk down up floors touches) (none : given_to n frame ≡ []) where
   pushes : Does old (Pushed frame) new
   pushes = after old (Pushed frame) new run
 
@@ -342,35 +348,35 @@ module _ (n : ℕ) (old : Host) (frame : Option Stamped) (new : Host) (run : Doe
   push_worked : IsWorked n new t.base t.given
   push_worked = same_worked n old new t.base t.given (plan_same old (Pushed frame) new pushes tt) t.worked
 
-  pub push_ends_together : EndsAfter n old (Pushed frame) new run disk down up touches
+  pub push_ends_together : EndsAfter n old (Pushed frame) new run disk down up floors touches
   push_ends_together =
-      let g : GivesOnAnew n t.base old frame new run t.given touches =
+      let g : GivesOnAnew n t.base old frame new run t.given t.commands touches =
       pushes_go_on_on n t.base old frame new run t.given t.commands touches below t.served in
-      let s : ServesOnAnew n t.base old (Pushed frame) new run t.given touches =
-      subst (λ (xs : List Happening). ServesOnAnew n t.base old (Pushed frame) new run xs touches) given_none g.on in
-      stays_together n old (Pushed frame) new run disk down up touches below t tt s tt
+      let s : ServesOnAnew n t.base old (Pushed frame) new run t.given t.given t.commands touches =
+      subst (λ (xs : List Happening). ServesOnAnew n t.base old (Pushed frame) new run t.given xs t.commands touches) given_none g.on in
+      stays_together n old (Pushed frame) new run disk down up floors touches below t tt s tt
       (subst (λ (xs : List Happening). IsUnasked n new xs) given_none
       ((stays_unasked n).pushes t.base old frame new t.given t.commands touches below pushes t.served t.unasked))
       (left_file t.file)
       (λ same ready. t.unready same (sym (ap (λ (p : Plan). device_at p n) (plan_same old (Pushed frame) new pushes tt)) ∙ ready)) push_worked
 
-module _ (n : ℕ) (plan : DiskPlan) (sectors : ℕ) (old : Host) (new : Host) (disk : List Happening) (down up : List (List ℕ)) (touches : Touches)
-    (below : n < 15) (running : IsRunning plan sectors disk touches old) (t : IsTogether n old disk down up touches) where
+module _ (n : ℕ) (plan : DiskPlan) (sectors : ℕ) (old : Host) (new : Host) (disk : List Happening) (down up : List (List ℕ)) (floors : ℕ → ℕ) (touches : Touches)
+    (below : n < 15) (running : IsRunning plan sectors disk touches old) (t : IsTogether n old disk down up floors touches) where
   pub together_beside : (turn : HostTurn) (run : DoesAll old (turn ∷ []) new) → IsBesideTurn n old turn
-      → EndsAfter n old turn new run disk down up touches
+      → EndsAfter n old turn new run disk down up floors touches
   together_beside (Took frame report) run beside =
-      calm_ends_together n plan sectors old (Took frame report) new run disk down up touches below running t (λ e. beside (sym e))
+      calm_ends_together n plan sectors old (Took frame report) new run disk down up floors touches below running t (λ e. beside (sym e))
       (λ at. absurd (beside at))
-  together_beside (Pushed None) run beside = push_ends_together n old None new run disk down up touches below t refl
+  together_beside (Pushed None) run beside = push_ends_together n old None new run disk down up floors touches below t refl
   together_beside (Pushed (Some frame)) run beside =
-      push_ends_together n old (Some frame) new run disk down up touches below t
+      push_ends_together n old (Some frame) new run disk down up floors touches below t
       (none_to_other n old touches frame new t.served.sound t.served.served (after old (Pushed (Some frame)) new run) beside)
   together_beside (Ticked acted) run beside =
-      calm_ends_together n plan sectors old (Ticked acted) new run disk down up touches below running t
+      calm_ends_together n plan sectors old (Ticked acted) new run disk down up floors touches below running t
       (tick_goes n old running.on.going t.served.sound t.well beside) tt
   together_beside (Submitted dev request ticket) run beside =
-      calm_ends_together n plan sectors old (Submitted dev request ticket) new run disk down up touches below running t tt tt
+      calm_ends_together n plan sectors old (Submitted dev request ticket) new run disk down up floors touches below running t tt tt
   together_beside (Polled completion) run beside =
-      calm_ends_together n plan sectors old (Polled completion) new run disk down up touches below running t tt tt
+      calm_ends_together n plan sectors old (Polled completion) new run disk down up floors touches below running t tt tt
   together_beside (Put at bytes) run beside =
-      calm_ends_together n plan sectors old (Put at bytes) new run disk down up touches below running t tt tt
+      calm_ends_together n plan sectors old (Put at bytes) new run disk down up floors touches below running t tt tt

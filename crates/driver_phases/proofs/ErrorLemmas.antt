@@ -55,6 +55,7 @@ use Rattle.driver_ends.specs.Together.{IsServedOn}
 use Rattle.driver_ends.specs.Unasked.{IsUnasked, OwesSignature}
 use Rattle.driver_ends.proofs.UnaskedLemmas.{IsItsSignature, signs_only}
 use Rattle.driver_phases.specs.Ends.{IsOnTime, IsRunning, IsTogether, Resetting, Steady}
+use Rattle.disk_ends.specs.Same.{SlotCommand}
 
 -- ---- what is told at both ends
 
@@ -291,7 +292,7 @@ report_ignored old frame report new does is =
 -- ---- the driver does not look for a device that reports an error
 
 -- the host of a served disk is careful since both began anew
-pub careful_on : (n : ℕ) (base : List Happening) (h : Host) (given : List Happening) (commands : ℕ → Command) (touches : Touches) → n < 15
+pub careful_on : (n : ℕ) (base : List Happening) (h : Host) (given : List Happening) (commands : ℕ → SlotCommand) (touches : Touches) → n < 15
     → IsServedOn n base h given commands touches → IsCarefulSince base given
 careful_on n base h given commands touches below served =
     let kept : IsKeptOn n base (shared_by h) given commands (own n touches) =
@@ -299,7 +300,7 @@ careful_on n base h given commands touches below served =
     kept.careful
 
 pub sought_is_unasked : (plan : DiskPlan) (sectors : ℕ) (base disk given : List Happening) (down up : List (List ℕ)) (bytes : List ℕ) (n : ℕ)
-    (h : Host) (commands : ℕ → Command) (touches : Touches) → n < 15 → IsSize plan sectors → IsDiskRun plan sectors disk
+    (h : Host) (commands : ℕ → SlotCommand) (touches : Touches) → n < 15 → IsSize plan sectors → IsDiskRun plan sectors disk
     → IsWatched base disk given down [] (bytes ∷ up) → reports (seen bytes) ≡ true → IsServedOn n base h given commands touches
     → IsUnasked n h given → detects n h.driver.plan.asked h.driver.plan.order ≡ false
 sought_is_unasked plan sectors base disk given down up bytes n h commands touches below size run w fails served unasked =
@@ -313,12 +314,12 @@ sought_is_unasked plan sectors base disk given down up bytes n h commands touche
 
 -- ---- while both are together
 
-pub together_hears : (n : ℕ) (plan : DiskPlan) (sectors : ℕ) (disk : List Happening) (down up : List (List ℕ)) (touches : Touches) (h : Host)
-    → IsRunning plan sectors disk touches h → IsTogether n h disk down up touches → IsHearing n h
-together_hears n plan sectors disk down up touches h runs t = record { starts = runs.starts t.opened; goes = runs.on.going.faultless; well = t.well }
+pub together_hears : (n : ℕ) (plan : DiskPlan) (sectors : ℕ) (disk : List Happening) (down up : List (List ℕ)) (floors : ℕ → ℕ) (touches : Touches) (h : Host)
+    → IsRunning plan sectors disk touches h → IsTogether n h disk down up floors touches → IsHearing n h
+together_hears n plan sectors disk down up floors touches h runs t = record { starts = runs.starts t.opened; goes = runs.on.going.faultless; well = t.well }
 
 -- until its signature comes, the device is in its software reset
-pub is_resetting : (n : ℕ) (base : List Happening) (h : Host) (given : List Happening) (commands : ℕ → Command) (touches : Touches)
+pub is_resetting : (n : ℕ) (base : List Happening) (h : Host) (given : List Happening) (commands : ℕ → SlotCommand) (touches : Touches)
     → IsServedOn n base h given commands touches → given ≡ base → OwesOnly (ledger base) (Signs ∷ []) [] → IsAtStage n IsReleasing h.driver.plan
     → (view_of n h.port).state.resetting ≡ true
 is_resetting n base h given commands touches served same owes at = elim (cases_Bool (view_of n h.port).state.resetting) [
@@ -326,7 +327,7 @@ is_resetting n base h given commands touches served same owes at = elim (cases_B
   | inr off ↦ absurd (served.ended at off (given_owes base given same owes).awaited)
 ]
 
-module _ (n : ℕ) (h : Host) (base given : List Happening) (commands : ℕ → Command) (touches : Touches) (bytes : List ℕ) (below : n < 15)
+module _ (n : ℕ) (h : Host) (base given : List Happening) (commands : ℕ → SlotCommand) (touches : Touches) (bytes : List ℕ) (below : n < 15)
     (framed : IsFrame bytes) (from : port_of (marked bytes n) ≡ n) (hearing : IsHearing n h)
     (served : IsServedOn n base h given commands touches) where
   -- the port ignores what the disk sent before both began anew

@@ -30,6 +30,7 @@ use Rattle.driver_phases.specs.Ends.{EndsAfter, IsOnTime, IsTogether, Resetting,
 use Rattle.driver_phases.proofs.GivenLemmas.{given_its}
 use Rattle.driver_phases.proofs.WorkedLemmas.{more_worked}
 use Rattle.driver_phases.proofs.Unfaulted.{opened_stays, turn_unfaulted}
+use Rattle.driver_phases.proofs.FloorLemmas.{floors_more, reached_on}
 
 -- what a careful host gives first fits what both ends tell where they begin
 first_fits : (base : List Happening) (bytes : List ℕ) → IsCarefulSince base (base ++ Received bytes ∷ []) → Fits (ledger base) (seen bytes)
@@ -40,7 +41,7 @@ first_fits base bytes careful =
     fits.0
 
 module _ (n : ℕ) (old : Host) (frame : Stamped) (new : Host) (run : DoesAll old (Pushed (Some frame) ∷ []) new) (disk : List Happening)
-    (down up : List (List ℕ)) (touches : Touches) (below : n < 15) (its : frame.stamp.port ≡ n) (t : IsTogether n old disk down up touches) where
+    (down up : List (List ℕ)) (floors : ℕ → ℕ) (touches : Touches) (below : n < 15) (its : frame.stamp.port ≡ n) (t : IsTogether n old disk down up floors touches) where
   pushes : Does old (Pushed (Some frame)) new
   pushes = after old (Pushed (Some frame)) new run
 
@@ -50,14 +51,14 @@ module _ (n : ℕ) (old : Host) (frame : Stamped) (new : Host) (run : DoesAll ol
   given_is : given_to n (Some frame) ≡ Received (marked frame.bytes 0) ∷ []
   given_is = given_its n old touches frame new t.served.sound t.served.served pushes its
 
-  gives : GivesOnAnew n t.base old (Some frame) new run t.given touches
+  gives : GivesOnAnew n t.base old (Some frame) new run t.given t.commands touches
   gives = pushes_go_on_on n t.base old (Some frame) new run t.given t.commands touches below t.served
 
   plain : IsPlain (seen (marked frame.bytes 0))
   plain = let all : GavePlain (Received (marked frame.bytes 0) ∷ []) = subst GavePlain given_is gives.plain in all.0
 
-  s : ServesOnAnew n t.base old (Pushed (Some frame)) new run (t.given ++ Received (marked frame.bytes 0) ∷ []) touches
-  s = subst (λ (xs : List Happening). ServesOnAnew n t.base old (Pushed (Some frame)) new run (t.given ++ xs) touches) given_is gives.on
+  s : ServesOnAnew n t.base old (Pushed (Some frame)) new run t.given (t.given ++ Received (marked frame.bytes 0) ∷ []) t.commands touches
+  s = subst (λ (xs : List Happening). ServesOnAnew n t.base old (Pushed (Some frame)) new run t.given (t.given ++ xs) t.commands touches) given_is gives.on
 
   -- something was given or heard before
   begun : t.given ≡ t.base → ⊥
@@ -90,7 +91,7 @@ module _ (n : ℕ) (old : Host) (frame : Stamped) (new : Host) (run : DoesAll ol
   file (inl same) = absurd (begun same)
   file (inr fine) = inr (files_are_left.gives n (shared_by old) (shared_by new) (Some frame) (pushes.gives, pushes.memory) fine)
 
-  pub together_gives : EndsAfter n old (Pushed (Some frame)) new run disk (down ++ marked frame.bytes 0 ∷ []) up touches
+  pub together_gives : EndsAfter n old (Pushed (Some frame)) new run disk (down ++ marked frame.bytes 0 ∷ []) up floors touches
   together_gives = record {
     serves = s.serves;
     ends = Together (record {
@@ -103,6 +104,11 @@ module _ (n : ℕ) (old : Host) (frame : Stamped) (new : Host) (run : DoesAll ol
       on_time = on_time t.on_time;
       watched = watches_on.gives t.base disk t.given down t.stale t.later (marked frame.bytes 0) plain t.watched;
       served = s.on;
+      told = floors_more floors t.given (Received (marked frame.bytes 0) ∷ []) t.told;
+      entered = t.entered;
+      reached =
+          reached_on floors t.commands s.next t.given (own n touches) (own n (touches_after touches (shared_by old) (shared_by new)
+          (events_over old new (Pushed (Some frame) ∷ []) run) s.serves.runs)) t.told s.counted t.reached;
       begun = t.begun;
       owes = t.owes;
       opened = opened_stays old (Pushed (Some frame)) new pushes t.opened;

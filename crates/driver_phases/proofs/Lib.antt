@@ -15,3 +15,4 @@ pub mod ApartLines
 pub mod ApartDriver
 pub mod ApartTurns
 pub mod EndLemmas
+pub mod FloorLemmas

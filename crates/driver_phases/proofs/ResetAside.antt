@@ -4,7 +4,6 @@ use Rattle.std.specs.Prelude.{is_some}
 use Rattle.std.proofs.lemmas.Bool.{cases_Bool, true≢false}
 use Rattle.slots.specs.Slots.{Issue, issue_at}
 use Rattle.hba_fbs.specs.Views.{view_of}
-use Rattle.disk_model.specs.declared.request.Command.{Command}
 use Rattle.disk_model.specs.Histories.{Happening}
 use Rattle.hba_laws.specs.Client.{Touches}
 use Rattle.hba_driver.specs.declared.path.Stage.{Stage}
@@ -36,6 +35,7 @@ use Rattle.hba_driver.proofs.TickingLemmas.{free_slot}
 use Rattle.driver_ends.specs.Together.{IsServedOn, ResetsAt}
 use Rattle.driver_ends.proofs.TogetherParts.{calm_turns_go_on}
 use Rattle.driver_phases.specs.Resets.{ResetSetsAside}
+use Rattle.disk_ends.specs.Same.{SlotCommand}
 
 assert_given : (n : ℕ) → stage_fields n AssertReset ≡ Some (control n 4)
 unfolding stage_fields
@@ -57,7 +57,7 @@ never n plan (Identifies device works) there = stage_is n Identify true plan IsS
 never n plan (Logs before file device works) there = stage_is n (ReadLog file) true plan IsSetting works there
 never n plan (Spoilt device free) there = unworked n plan IsSetting free there
 
-module _ (n : ℕ) (base : List Happening) (old : Host) (acted : Bool) (new : Host) (given : List Happening) (commands : ℕ → Command)
+module _ (n : ℕ) (base : List Happening) (old : Host) (acted : Bool) (new : Host) (given : List Happening) (commands : ℕ → SlotCommand)
     (touches : Touches) (below : n < 15) (does : Does old (Ticked acted) new) (is : IsResetTurn n old (Ticked acted)) (on : IsOn30 touches old)
     (h : IsServedOn n base old given commands touches) (well : (view_of n old.port).fault ≡ None) where
   run : DoesAll old (Ticked acted ∷ []) new

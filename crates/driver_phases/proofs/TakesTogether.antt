@@ -30,7 +30,7 @@ use Rattle.disk_ends.proofs.SignsLemmas.{view_signed}
 use Rattle.disk_ends.proofs.WatchedLemmas.{watches_on}
 use Rattle.hba_driver.specs.declared.plan.Device.TheVariants.{Ready}
 use Rattle.hba_driver.specs.Drivers.{Driver, device_at}
-use Rattle.hba_driver.specs.Events.{shared_by}
+use Rattle.hba_driver.specs.Events.{events_over, shared_by}
 use Rattle.hba_driver.specs.HostTurns.{Does, DoesAll, Host, Took}
 use Rattle.hba_driver.specs.Orders.{control_port}
 use Rattle.hba_driver.specs.Slot30.{Faulty, IsAt30}
@@ -51,6 +51,8 @@ use Rattle.driver_phases.proofs.ErrorLemmas.{sought_is_unasked, stale_ignored, t
 use Rattle.driver_phases.proofs.StaleLemmas.{by_stale}
 use Rattle.driver_phases.proofs.Unfaulted.{not_stopped}
 use Rattle.driver_phases.proofs.WorkedLemmas.{same_worked}
+use Rattle.driver_phases.proofs.FloorLemmas.{floors_more, reached_on}
+use Rattle.hba_laws.specs.Delivering.{touches_after}
 
 -- ---- one thing of before less is on its way
 
@@ -73,9 +75,9 @@ shown n old frame report new port does heard =
     subst (λ (m : ℕ). (view_of m new.port).fault ≡ report.fault) port (ap (λ (v : DeviceView). v.fault) hears.own ∙ sym told)
 
 module _ (n : ℕ) (plan : DiskPlan) (sectors : ℕ) (old : Host) (bytes : List ℕ) (report : TakeReport) (new : Host)
-    (run : DoesAll old (Took (marked bytes n) report ∷ []) new) (disk : List Happening) (down up : List (List ℕ)) (touches : Touches) (below : n < 15)
+    (run : DoesAll old (Took (marked bytes n) report ∷ []) new) (disk : List Happening) (down up : List (List ℕ)) (floors : ℕ → ℕ) (touches : Touches) (below : n < 15)
     (runs : IsRunning plan sectors disk touches old) (framed : IsFrame bytes) (port : port_of (marked bytes n) ≡ n)
-    (g : IsTogether n old disk down (bytes ∷ up) touches) where
+    (g : IsTogether n old disk down (bytes ∷ up) floors touches) where
   abbrev does : Does old (Took (marked bytes n) report) new
   does = after old (Took (marked bytes n) report) new run
 
@@ -83,7 +85,7 @@ module _ (n : ℕ) (plan : DiskPlan) (sectors : ℕ) (old : Host) (bytes : List 
   takes = record { ignored = does.ignored; heard = does.heard }
 
   abbrev Goal : Type 0
-  Goal = EndsAfter n old (Took (marked bytes n) report) new run disk down up touches
+  Goal = EndsAfter n old (Took (marked bytes n) report) new run disk down up floors touches
 
   opened_new : 7 ≤ new.driver.plan.opened
   opened_new = subst (λ (d : Driver). 7 ≤ d.plan.opened) (sym does.driver) g.opened
@@ -92,7 +94,7 @@ module _ (n : ℕ) (plan : DiskPlan) (sectors : ℕ) (old : Host) (bytes : List 
   ready_was ready = subst (λ (d : Driver). device_at d.plan n ≡ Ready) does.driver ready
 
   hearing : IsHearing n old
-  hearing = together_hears n plan sectors disk down (bytes ∷ up) touches old runs g
+  hearing = together_hears n plan sectors disk down (bytes ∷ up) floors touches old runs g
 
   -- ---- it is of before
 
@@ -105,7 +107,7 @@ module _ (n : ℕ) (plan : DiskPlan) (sectors : ℕ) (old : Host) (bytes : List 
 
     thrown_takes : Goal
     thrown_takes =
-        let on : ServesOnAnew n g.base old (Took (marked bytes n) report) new run g.given touches =
+        let on : ServesOnAnew n g.base old (Took (marked bytes n) report) new run g.given g.given g.commands touches =
         ignored_keep_on n g.base old (marked bytes n) report new run g.given g.commands touches below thrown g.served in
         let same : new.port ≡ old.port = (does.ignored thrown).port in
         record {
@@ -122,6 +124,11 @@ module _ (n : ℕ) (plan : DiskPlan) (sectors : ℕ) (old : Host) (bytes : List 
                 watches_on.drops g.base disk g.given down rest g.later bytes
                 (subst (λ (xs : List (List ℕ)). IsWatched g.base disk g.given down xs g.later) is g.watched);
             served = on.on;
+            told = g.told;
+            entered = g.entered;
+            reached =
+                reached_on floors g.commands on.next g.given (own n touches) (own n (touches_after touches (shared_by old) (shared_by new)
+                (events_over old new (Took (marked bytes n) report ∷ []) run) on.serves.runs)) g.told on.counted g.reached;
             begun = g.begun;
             owes = g.owes;
             opened = opened_new;
@@ -191,7 +198,7 @@ module _ (n : ℕ) (plan : DiskPlan) (sectors : ℕ) (old : Host) (bytes : List 
       not_begun same = not_yet n g.base below (shared_by old) g.given g.commands (own n touches) (Sent bytes) g.served.hosted same
 
       fine_takes : IsRight (ledger g.given) (seen bytes) → report.fault ≡ None → IsUnreset n new
-          → ServesOnAnew n g.base old (Took (marked bytes n) report) new run (g.given ++ Sent bytes ∷ []) touches → Goal
+          → ServesOnAnew n g.base old (Took (marked bytes n) report) new run g.given (g.given ++ Sent bytes ∷ []) g.commands touches → Goal
       fine_takes right fault off on = record {
         serves = on.serves;
         ends = Together (record {
@@ -207,6 +214,11 @@ module _ (n : ℕ) (plan : DiskPlan) (sectors : ℕ) (old : Host) (bytes : List 
             | inr still ↦ still
           ];
           served = on.on;
+          told = floors_more floors g.given (Sent bytes ∷ []) g.told;
+          entered = g.entered;
+          reached =
+              reached_on floors g.commands on.next g.given (own n touches) (own n (touches_after touches (shared_by old) (shared_by new)
+              (events_over old new (Took (marked bytes n) report ∷ []) run) on.serves.runs)) g.told on.counted g.reached;
           begun = g.begun;
           owes = g.owes;
           opened = opened_new;
@@ -229,7 +241,7 @@ module _ (n : ℕ) (plan : DiskPlan) (sectors : ℕ) (old : Host) (bytes : List 
         aside : IsSetAside n new disk down up → Goal
         aside set = record {
           serves = turns_serve.runs old new (Took (marked bytes n) report ∷ []) run g.served.sound touches g.served.served;
-          ends = Apart set;
+          ends = Apart set g.entered;
         }
 
         failed_at : reports (seen bytes) ≡ true → IsAt30 n Faulty new
@@ -345,8 +357,8 @@ module _ (n : ℕ) (plan : DiskPlan) (sectors : ℕ) (old : Host) (bytes : List 
   ]
 
 pub together_takes : (n : ℕ) (plan : DiskPlan) (sectors : ℕ) (old : Host) (bytes : List ℕ) (report : TakeReport) (new : Host)
-    (run : DoesAll old (Took (marked bytes n) report ∷ []) new) (disk : List Happening) (down up : List (List ℕ)) (touches : Touches) → n < 15
-    → IsRunning plan sectors disk touches old → IsFrame bytes → port_of (marked bytes n) ≡ n → IsTogether n old disk down (bytes ∷ up) touches
-    → EndsAfter n old (Took (marked bytes n) report) new run disk down up touches
-together_takes n plan sectors old bytes report new run disk down up touches below runs framed port g =
-    together_then n plan sectors old bytes report new run disk down up touches below runs framed port g
+    (run : DoesAll old (Took (marked bytes n) report ∷ []) new) (disk : List Happening) (down up : List (List ℕ)) (floors : ℕ → ℕ) (touches : Touches) → n < 15
+    → IsRunning plan sectors disk touches old → IsFrame bytes → port_of (marked bytes n) ≡ n → IsTogether n old disk down (bytes ∷ up) floors touches
+    → EndsAfter n old (Took (marked bytes n) report) new run disk down up floors touches
+together_takes n plan sectors old bytes report new run disk down up floors touches below runs framed port g =
+    together_then n plan sectors old bytes report new run disk down up floors touches below runs framed port g

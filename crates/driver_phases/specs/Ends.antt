@@ -10,7 +10,8 @@
 -- that serves a disk (`driver_ends`, specs/Together.antt, Unasked.antt); where a host is with a
 -- device that recovers (`hba_driver`, specs/Slot30.antt); how that and the line fit each other
 -- (specs/Stages.antt).
-use Rattle.std.specs.Prelude.{ℕ, ◌≡◌, ◌≢◌, ◌<◌, ◌≤◌, ◌⊎◌, ◌++◌, true, List, [], ◌∷◌, None, Some}
+use Rattle.std.specs.Prelude.{ℕ, ◌≡◌, ◌≢◌, ◌<◌, ◌≤◌, ◌⊎◌, ◌++◌, ◌==◌, if◌then◌else◌, true}
+use Rattle.std.specs.Prelude.{List, [], ◌∷◌, length, None, Some}
 use Rattle.fis_view.specs.Frames.{IsFrame, Stamped, marked}
 use Rattle.slots.specs.Slots.{has_bit}
 use Rattle.slots.specs.Work as moved
@@ -25,11 +26,12 @@ use Rattle.disk_model.specs.Ledger.{IsSize, ShowsPage, Signs, Wanted, ledger}
 use Rattle.disk_model.specs.Runs.{IsDiskRun}
 use Rattle.hba_laws.specs.Client.{Touches, own}
 use Rattle.hba_laws.specs.Delivering.{touches_after}
-use Rattle.hba_laws.specs.History.{Transfer, filled, issued}
+use Rattle.hba_laws.specs.History.{History, Transfer, filled, issued}
 use Rattle.disk_ends.specs.Files.{IsBegun}
 use Rattle.disk_ends.specs.Honest.{IsDoneHonestly}
 use Rattle.disk_ends.specs.Line.{Line, NoneSigns, OnLine}
 use Rattle.disk_ends.specs.Outcomes.{HasFineFile}
+use Rattle.disk_ends.specs.Same.{SlotCommand}
 use Rattle.disk_ends.specs.Watched.{IsWatched}
 use Rattle.hba_driver.specs.declared.path.Recovery.{Recovery}
 use Rattle.hba_driver.specs.declared.plan.Device.TheVariants.{Ready, Recovering}
@@ -48,6 +50,29 @@ use Rattle.driver_ends.specs.Together.{IsServedOn}
 use Rattle.driver_ends.specs.Unasked.{IsUnasked}
 use Rattle.driver_phases.specs.Stages.{Fits, Leans}
 
+-- ---- what had ended when a request was submitted
+
+-- For each slot, how many writes of the disk had ended when the request that stands there was
+-- submitted: no more than these.
+abbrev pub AreFloors : (ℕ → ℕ) → List Happening → Type 0
+AreFloors floors happened = (s : ℕ) → floors s ≤ length (ledger happened).writes
+
+-- the command that is issued in a slot is counted from no fewer
+abbrev pub AreReached : (ℕ → ℕ) → (ℕ → SlotCommand) → History → Type 0
+AreReached floors commands past =
+    (s : ℕ) (t : Transfer) → issued s past ≡ Some t → floors s ≤ (commands s).since
+
+abbrev pub no_floors : ℕ → ℕ
+no_floors s = 0
+
+-- one for a single slot
+abbrev pub floor_at : (slot floor : ℕ) → ℕ → ℕ
+floor_at slot floor s = if slot == s then floor else 0
+
+-- the queued command of a request, counted from so many writes on
+abbrev pub since_floor : ℕ → Command → SlotCommand
+since_floor floor c = record { command = c; since = floor }
+
 -- ---- together
 
 -- Whether the device is in the software reset with whose end both began anew.
@@ -64,11 +89,11 @@ pub data IsOnTime (n : ℕ) (h : Host) (base given : List Happening) (stale : Li
 -- The disk did all this, and the lists are on their way to it and to the host, which serves it from
 -- where both began anew.
 pub record IsTogether (n : ℕ) (h : Host) (disk : List Happening) (down up : List (List ℕ))
-    (touches : Touches) : Type 0 where
+    (floors : ℕ → ℕ) (touches : Touches) : Type 0 where
   -- what happened up to where both began anew, and all that happened at the host's end
   pub base : List Happening
   pub given : List Happening
-  pub commands : ℕ → Command
+  pub commands : ℕ → SlotCommand
   -- what of before is still on its way up, and what was sent since
   pub stale : List (List ℕ)
   pub later : List (List ℕ)
@@ -76,6 +101,10 @@ pub record IsTogether (n : ℕ) (h : Host) (disk : List Happening) (down up : Li
   pub on_time : IsOnTime n h base given stale
   pub watched : IsWatched base disk given down stale later
   pub served : IsServedOn n base h given commands touches
+  -- the requests of the slots were submitted after no more writes than there are, at either end
+  pub told : AreFloors floors given
+  pub entered : AreFloors floors disk
+  pub reached : AreReached floors commands (own n touches)
   pub begun : IsBegun (ledger base)
   -- the signature alone was to come then, or the page of the log alone
   pub owes : OwesOnly (ledger base) (Signs ∷ []) []
@@ -105,16 +134,16 @@ pub record IsSetAside (n : ℕ) (h : Host) (disk : List Happening) (down up : Li
 -- ---- either
 
 pub data AreEnds (n : ℕ) (h : Host) (disk : List Happening) (down up : List (List ℕ))
-    (touches : Touches) : Type 0 where
-  Together : IsTogether n h disk down up touches → AreEnds n h disk down up touches
-  Apart : IsSetAside n h disk down up → AreEnds n h disk down up touches
+    (floors : ℕ → ℕ) (touches : Touches) : Type 0 where
+  Together : IsTogether n h disk down up floors touches → AreEnds n h disk down up floors touches
+  Apart : IsSetAside n h disk down up → AreFloors floors disk → AreEnds n h disk down up floors touches
 
 -- so it is after a turn of the host
 pub record EndsAfter (n : ℕ) (old : Host) (turn : HostTurn) (new : Host)
     (run : DoesAll old (turn ∷ []) new) (disk : List Happening) (down up : List (List ℕ))
-    (touches : Touches) : Type 0 where
+    (floors : ℕ → ℕ) (touches : Touches) : Type 0 where
   pub serves : RunServes old new (turn ∷ []) run touches
-  pub ends : AreEnds n new disk down up
+  pub ends : AreEnds n new disk down up floors
       (touches_after touches (shared_by old) (shared_by new) (events_over old new (turn ∷ []) run)
       serves.runs)
 
@@ -142,55 +171,75 @@ pub record IsRunning (plan : DiskPlan) (sectors : ℕ) (disk : List Happening) (
 -- Both ends begin where the host flushed the disk, which did nothing since it was plugged in.
 abbrev pub FlushBegins : Type 0
 FlushBegins =
-    (n : ℕ) (h : Host) (before : List Happening) (commands : ℕ → Command) (touches : Touches)
+    (n : ℕ) (h : Host) (before : List Happening) (commands : ℕ → SlotCommand) (touches : Touches)
     → n < 15 → IsServedHonestly n h (Plugged ∷ []) commands touches → IsUnreset n h
     → 7 ≤ h.driver.plan.opened → (view_of n h.port).fault ≡ None
-    → AreEnds n h (before ++ Plugged ∷ []) [] [] touches
+    → AreEnds n h (before ++ Plugged ∷ []) [] [] no_floors touches
 
 -- They go on over each turn of the host: one of which nothing goes over the link, one in which the
 -- host gives a FIS to the disk, and one in which it takes the next one.
 pub record TurnsLeaveEnds (n : ℕ) (plan : DiskPlan) (sectors : ℕ) : Type 0 where
   pub beside : (old : Host) (turn : HostTurn) (new : Host) (run : DoesAll old (turn ∷ []) new)
-      (disk : List Happening) (down up : List (List ℕ)) (touches : Touches) → n < 15
+      (disk : List Happening) (down up : List (List ℕ)) (floors : ℕ → ℕ) (touches : Touches)
+      → n < 15
       → IsRunning plan sectors disk touches old → IsBesideTurn n old turn
-      → AreEnds n old disk down up touches → EndsAfter n old turn new run disk down up touches
+      → AreEnds n old disk down up floors touches → EndsAfter n old turn new run disk down up floors touches
   pub gives : (old : Host) (frame : Stamped) (new : Host)
       (run : DoesAll old (Pushed (Some frame) ∷ []) new)
-      (disk : List Happening) (down up : List (List ℕ)) (touches : Touches) → n < 15
+      (disk : List Happening) (down up : List (List ℕ)) (floors : ℕ → ℕ) (touches : Touches)
+      → n < 15
       → IsRunning plan sectors disk touches old → frame.stamp.port ≡ n
-      → AreEnds n old disk down up touches
+      → AreEnds n old disk down up floors touches
       → EndsAfter n old (Pushed (Some frame)) new run disk (down ++ marked frame.bytes 0 ∷ []) up
-      touches
+      floors touches
   pub takes : (old : Host) (bytes : List ℕ) (report : TakeReport) (new : Host)
       (run : DoesAll old (Took (marked bytes n) report ∷ []) new)
-      (disk : List Happening) (down up : List (List ℕ)) (touches : Touches) → n < 15
+      (disk : List Happening) (down up : List (List ℕ)) (floors : ℕ → ℕ) (touches : Touches)
+      → n < 15
       → IsRunning plan sectors disk touches old → IsFrame bytes → port_of (marked bytes n) ≡ n
-      → AreEnds n old disk down (bytes ∷ up) touches
-      → EndsAfter n old (Took (marked bytes n) report) new run disk down up touches
+      → AreEnds n old disk down (bytes ∷ up) floors touches
+      → EndsAfter n old (Took (marked bytes n) report) new run disk down up floors touches
 
 -- And over each step of the disk.
 pub record DisksLeaveEnds (n : ℕ) (plan : DiskPlan) (sectors : ℕ) : Type 0 where
   pub comes : (h : Host) (disk : List Happening) (back up : List (List ℕ)) (bytes : List ℕ)
-      (touches : Touches) → n < 15 → IsRunning plan sectors disk touches h
-      → AreEnds n h disk (bytes ∷ back) up touches
-      → AreEnds n h (disk ++ Received bytes ∷ []) back up touches
+      (floors : ℕ → ℕ) (touches : Touches) → n < 15 → IsRunning plan sectors disk touches h
+      → AreEnds n h disk (bytes ∷ back) up floors touches
+      → AreEnds n h (disk ++ Received bytes ∷ []) back up floors touches
   pub sends : (h : Host) (disk : List Happening) (down up : List (List ℕ)) (bytes : List ℕ)
-      (touches : Touches) → n < 15 → IsRunning plan sectors (disk ++ Sent bytes ∷ []) touches h
-      → AreEnds n h disk down up touches
-      → AreEnds n h (disk ++ Sent bytes ∷ []) down (up ++ bytes ∷ []) touches
+      (floors : ℕ → ℕ) (touches : Touches) → n < 15 → IsRunning plan sectors (disk ++ Sent bytes ∷ []) touches h
+      → AreEnds n h disk down up floors touches
+      → AreEnds n h (disk ++ Sent bytes ∷ []) down (up ++ bytes ∷ []) floors touches
 
--- What a report says is done of a request was done honestly, by all that the disk did.
+-- Where nothing of the device is issued in a slot the floor there may be any that the disk reached.
+abbrev pub MayRise : (n : ℕ) (floors next : ℕ → ℕ) (disk : List Happening) (touches : Touches)
+    → Type 0
+MayRise n floors next disk touches =
+    (s : ℕ) → (next s ≡ floors s)
+    ⊎ (((t : Transfer) → issued s (own n touches) ≡ Some t → ⊥)
+    × (next s ≤ length (ledger disk).writes))
+
+abbrev pub FloorsRise : Type 0
+FloorsRise =
+    (n : ℕ) (plan : DiskPlan) (sectors : ℕ) (h : Host) (disk : List Happening)
+    (down up : List (List ℕ)) (floors next : ℕ → ℕ) (touches : Touches) → n < 15
+    → IsRunning plan sectors disk touches h → MayRise n floors next disk touches
+    → AreEnds n h disk down up floors touches → AreEnds n h disk down up next touches
+
+-- What a report says is done of a request was done honestly, by all that the disk did, and after the
+-- writes that had ended when it was submitted.
 abbrev pub EachEndIsHonest : Type 0
 EachEndIsHonest =
     (n : ℕ) (plan : DiskPlan) (sectors : ℕ) (h : Host) (bytes : List ℕ) (report : TakeReport)
-    (new : Host) (disk : List Happening) (down up : List (List ℕ)) (touches : Touches) → n < 15
+    (new : Host) (disk : List Happening) (down up : List (List ℕ)) (floors : ℕ → ℕ) (touches : Touches)
+    → n < 15
     → IsRunning plan sectors disk touches h → IsFrame bytes → port_of (marked bytes n) ≡ n
-    → Does h (Took (marked bytes n) report) new → AreEnds n h disk down (bytes ∷ up) touches
+    → Does h (Took (marked bytes n) report) new → AreEnds n h disk down (bytes ∷ up) floors touches
     → (s : ℕ) (e : Entry) (t : Transfer) → s < 30 → entry_at h.driver.entries s ≡ Some e
     → is_queued e.head.work ≡ true → issued s (own n touches) ≡ Some t
     → moved.is_queued t.work.kind ≡ true → has_bit report.done s ≡ true
-    → IsDoneHonestly sectors (command_of s e) (filled s (own n touches)) t.work.len (ledger disk)
-    (ledger disk)
+    → IsDoneHonestly sectors (since_floor (floors s) (command_of s e)) (filled s (own n touches))
+    t.work.len (ledger disk) (ledger disk)
 
 abbrev pub EndsGoOn : Type 0
 EndsGoOn =

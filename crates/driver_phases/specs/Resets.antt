@@ -6,9 +6,9 @@
 -- specs/Slot30.antt).
 use Rattle.std.specs.Prelude.{ℕ, ◌≡◌, ◌<◌, Bool, List, None}
 use Rattle.hba_fbs.specs.Views.{view_of}
-use Rattle.disk_model.specs.declared.request.Command.{Command}
 use Rattle.disk_model.specs.Histories.{Happening}
 use Rattle.hba_laws.specs.Client.{Touches}
+use Rattle.disk_ends.specs.Same.{SlotCommand}
 use Rattle.hba_driver.specs.HostTurns.{Does, Host, Ticked}
 use Rattle.hba_driver.specs.Slot30.{IsAt30, IsOn30, Sets}
 use Rattle.hba_driver.specs.Tended.{IsResetTurn}
@@ -17,7 +17,7 @@ use Rattle.driver_ends.specs.Together.{IsServedOn}
 abbrev pub ResetSetsAside : Type 0
 ResetSetsAside =
     (n : ℕ) (base : List Happening) (old : Host) (acted : Bool) (new : Host)
-    (given : List Happening) (commands : ℕ → Command) (touches : Touches) → n < 15
+    (given : List Happening) (commands : ℕ → SlotCommand) (touches : Touches) → n < 15
     → Does old (Ticked acted) new → IsResetTurn n old (Ticked acted)
     → IsOn30 touches old → IsServedOn n base old given commands touches
     → (view_of n old.port).fault ≡ None → IsAt30 n Sets new

@@ -7,7 +7,6 @@ use Rattle.slots.specs.Work.{is_queued}
 use Rattle.slots.specs.declared.work.Work.{Work}
 use Rattle.hba_fbs.specs.declared.report.TakeReport.{TakeReport}
 use Rattle.hba_fbs.specs.Taking.{port_of}
-use Rattle.disk_model.specs.declared.request.Command.{Command}
 use Rattle.disk_model.specs.Ledger.{Ledger}
 use Rattle.hba_laws.specs.Client.{IsReading, Touches, own}
 use Rattle.hba_laws.specs.Delivering.{by_device, event_taken, completes_now, touched}
@@ -20,6 +19,7 @@ use Rattle.hba_driver.specs.HostTurns.{Host}
 use Rattle.disk_ends.specs.Honest.{BroughtSectors}
 use Rattle.disk_ends.proofs.TogetherLemmas.{no_end, not_pio}
 use Rattle.pm_world.specs.Brought.{IsBrought}
+use Rattle.disk_ends.specs.Same.{SlotCommand}
 
 -- what completes a queued command fills nothing
 fills_nothing : (s : ℕ) (e : Event) (past : History) (w : Work) → is_queued w.kind ≡ true → completes s e past w ≡ true
@@ -35,7 +35,7 @@ fills_nothing s (event.Named mask) past w queued done = refl
 fills_nothing s event.Emptied past w queued done = refl
 
 -- so the FIS by which it is done leaves what is filled
-leaves_filled : (m s : ℕ) (o : Option Event) (touches : Touches) (w : Work) → is_queued w.kind ≡ true
+pub leaves_filled : (m s : ℕ) (o : Option Event) (touches : Touches) (w : Work) → is_queued w.kind ≡ true
     → match_some o false (λ e. completes s e (own m touches) w) ≡ true
     → filled s (own m (by_device m o ++ touches)) ≡ filled s (own m touches)
 leaves_filled m s None touches w queued done = refl
@@ -44,7 +44,7 @@ leaves_filled m s (Some e) touches w queued done =
     ∙ fills_nothing s e (own m touches) w queued done
 
 -- where the sectors of a read that is done stand
-pub brought_there : (sectors n : ℕ) (old new : Host) (bytes : List ℕ) (report : TakeReport) (touches : Touches) (c : Command) (k : Ledger) (slot : ℕ) (t : Transfer)
+pub brought_there : (sectors n : ℕ) (old new : Host) (bytes : List ℕ) (report : TakeReport) (touches : Touches) (c : SlotCommand) (k : Ledger) (slot : ℕ) (t : Transfer)
     → port_of bytes ≡ n → slot < 32 → IsReading n slot t touches → is_queued t.work.kind ≡ true → has_bit report.done slot ≡ true
     → TookDelivers old touches bytes report new → BroughtSectors sectors c (filled slot (own n touches)) t.work.len k
     → IsBrought sectors c t new.memory k
@@ -64,6 +64,7 @@ brought_there sectors n old new bytes report touches c k slot t port_is low read
       read = brought.read;
       ended = brought.ended;
       command = brought.command;
+      since = brought.since;
       stands = λ i less.
           let p : IsAtItsPlace (port_of bytes) slot i t (touched (shared_by old) (host_event.Took bytes report) ++ touches) new.memory =
           delivers.placed slot i t low named its less in

@@ -13,7 +13,8 @@ use Rattle.hba_fbs.specs.Taking.{admitted, heard_now, ignores, port_of}
 use Rattle.slots.specs.declared.answer.Answered.{Answered}
 use Rattle.slots.specs.declared.answer.Answered.TheVariants as answered
 use Rattle.slots.specs.Slots.{holds, issue_at, match_some}
-use Rattle.disk_model.specs.declared.request.Command.{Command}
+use Rattle.disk_ends.specs.Same.{SlotCommand}
+use Rattle.disk_model.specs.Ledger.{empty}
 use Rattle.hba_laws.specs.Client.{Touches, own}
 use Rattle.hba_laws.specs.Delivering.{by_device, event_heard, event_of, event_of_answer, event_of_block, event_taken, is_control_issue, touched_by_out, touches_after}
 use Rattle.hba_laws.specs.History as event
@@ -140,13 +141,13 @@ module _ (old : Host) (acted : Bool) (new : Host) (does : Does old (Ticked acted
       below : e.head.dev < 16
       below = let dev : e.head.dev < 15 = (served.bounded.entries s e here).dev in omega (arith, dev)
 
-      command : Command
-      command = record { write = false; tag = slot_in old; lba = 0; count = 0 }
+      command : ℕ → SlotCommand
+      command k = record { command = record { write = false; tag = k; lba = 0; count = 0 }; since = 0 }
 
-      ends : CalmEnds e.head.dev (slot_in old) command (λ (k : ℕ). record { write = false; tag = k; lba = 0; count = 0 }) (shared_by old) (shared_by new)
+      ends : CalmEnds e.head.dev (slot_in old) empty (command (slot_in old)) command (shared_by old) (shared_by new)
           (events_over old new (Ticked acted ∷ []) (new, does, refl)) serves.runs touches
       ends =
-          calm_ends e.head.dev (slot_in old) command refl (λ (k : ℕ). record { write = false; tag = k; lba = 0; count = 0 }) (shared_by old) (shared_by new)
+          calm_ends e.head.dev (slot_in old) empty (command (slot_in old)) refl (omega arith) command (shared_by old) (shared_by new)
           (events_over old new (Ticked acted ∷ []) (new, does, refl)) serves.runs touches below (λ k. refl)
           (beside_away e.head.dev (slot_in old) (shared_by old) (shared_by new) (events_over old new (Ticked acted ∷ []) (new, does, refl)) serves.runs
           (tick_beside e.head.dev old acted new (new, does, refl) sound served.bounded

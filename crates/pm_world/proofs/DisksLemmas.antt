@@ -1,5 +1,5 @@
 -- What a FIS of a disk that the host of a world takes reports as done ended honestly.
-use Rattle.std.proofs.Common.{◌≡◌, ◌≢◌, ◌==◌, ℕ, ◌*◌, ◌<◌, Bool, true, false, List, [], ◌∷◌, ◌++◌, refl, sym, ap, subst, ◌∙◌, inl, inr}
+use Rattle.std.proofs.Common.{◌≡◌, ◌≢◌, ◌==◌, ℕ, ◌*◌, ◌<◌, Bool, true, false, List, [], ◌∷◌, ◌++◌, refl, sym, ap, subst, ◌∙◌, inl, inr, ◌≤◌, length}
 use Rattle.std.proofs.Common.{Option, Some, None, Ok, arith}
 use Rattle.std.specs.Prelude.{◌⊎◌, if◌then◌else◌, IsSomeAnd}
 use Rattle.std.specs.Option.{option_map}
@@ -22,7 +22,7 @@ use Rattle.disk_model.specs.Chunks.{sectors_at}
 use Rattle.disk_model.specs.Disks.{Moment}
 use Rattle.disk_model.specs.Disks as disks
 use Rattle.disk_model.specs.Histories.{DiskOf, Happening, Plugged, Received, Sent}
-use Rattle.disk_model.specs.Ledger.{IsSize, ledger, medium_with}
+use Rattle.disk_model.specs.Ledger.{IsSize, Written, ledger, medium_with}
 use Rattle.disk_model.specs.Runs.{IsDiskRun, moment}
 use Rattle.disk_model.specs.Runs as runs
 use Rattle.disk_model.specs.Units.{StandsFor, plan_of}
@@ -54,10 +54,16 @@ use Rattle.pm_world.specs.Rules.{Rule}
 use Rattle.pm_world.specs.declared.step.Step.{Step}
 use Rattle.pm_world.specs.declared.step.Answer.TheVariants as answer
 use Rattle.pm_world.specs.Brought.{IsBrought, StandsThere}
+use Rattle.pm_world.specs.ReadBack.{IsPart}
 use Rattle.pm_world.specs.Ended.{EndsHonestly, ReadsSectors, StandsAt, WritesSectors}
 use Rattle.pm_world.proofs.BroughtLemmas.{brought_there}
 use Rattle.pm_world.proofs.TookLemmas.{host_takes, plain_frame}
 use Rattle.pm_world.proofs.TouchedLemmas.{touched_delivers, touched_served, touched_sound}
+use Rattle.disk_model.specs.Fronts.{IsFront}
+use Rattle.disk_model.specs.Anew.{StayWritten}
+use Rattle.disk_model.proofs.FrontLemmas.{before_is_front}
+use Rattle.disk_model.proofs.WrittenLemmas.{writes_stay}
+use Rattle.driver_phases.specs.Ends.{since_floor}
 
 -- ## The disk's run
 
@@ -92,11 +98,11 @@ from_opening plan sectors events run = run
 
 -- ## What is issued
 
-record IsIssued (s : ℕ) (past : History) : Type 0 where
-  transfer : Transfer
-  is : issued s past ≡ Some transfer
+pub record IsIssued (s : ℕ) (past : History) : Type 0 where
+  pub transfer : Transfer
+  pub is : issued s past ≡ Some transfer
 
-issued_of_done : (s : ℕ) (host : event.Host) (frame : List ℕ) (past : History) → completes_now s host frame past ≡ true → IsIssued s past
+pub issued_of_done : (s : ℕ) (host : event.Host) (frame : List ℕ) (past : History) → completes_now s host frame past ≡ true → IsIssued s past
 issued_of_done s host frame past done = by_issued (issued s past) refl done
   where
     by_issued : (o : Option Transfer) → issued s past ≡ o
@@ -107,10 +113,11 @@ issued_of_done s host frame past done = by_issued (issued s past) refl done
 same_entry : (e f : Entry) → Some e ≡ Some f → e ≡ f
 same_entry e f h = cc h
 
-record IsRequestAt (d : Driver) (n s : ℕ) (t : Transfer) (e : Entry) : Type 0 where
-  table : t.table ≡ e.prds
+pub record IsRequestAt (d : Driver) (n s : ℕ) (t : Transfer) (e : Entry) : Type 0 where
+  pub table : t.table ≡ e.prds
+  pub of_dev : e.head.dev ≡ n
 
-request_at : (d : Driver) (n s : ℕ) (t : Transfer) (e : Entry) → s < 30 → entry_at d.entries s ≡ Some e → IsIssueOf d n s t → IsRequestAt d n s t e
+pub request_at : (d : Driver) (n s : ℕ) (t : Transfer) (e : Entry) → s < 30 → entry_at d.entries s ≡ Some e → IsIssueOf d n s t → IsRequestAt d n s t e
 request_at d n s t e low is issue = by_from issue.from
   where
     by_from : IsRequest d n s t ⊎ (IsStep d n s t ⊎ IsOrdered d n s t) → IsRequestAt d n s t e
@@ -118,12 +125,13 @@ request_at d n s t e low is issue = by_from issue.from
         let same : r.entry ≡ e = same_entry r.entry e (sym r.stands ∙ is) in
         record {
           table = r.table ∙ ap (λ (x : Entry). x.prds) same;
+          of_dev = ap (λ (x : Entry). x.head.dev) (sym same) ∙ r.of_dev;
         }
     by_from (inr (inl step)) = let at : s ≡ 30 = step.slot in absurd (omega (arith, at, low))
     by_from (inr (inr order)) = let at : s ≡ 31 = order.slot in absurd (omega (arith, at, low))
 
 -- its command is one that was issued there
-has_command : (n s : ℕ) (h : Host) (past : History) (t : Transfer) → IsHost (shared_by h) → issued s past ≡ Some t
+pub has_command : (n s : ℕ) (h : Host) (past : History) (t : Transfer) → IsHost (shared_by h) → issued s past ≡ Some t
     → option_map work_of_transfer (issued s past) ≡ option_map work_of_issue (own_issue (view_of n h.port).slots s)
     → (command : written.Command) × (last_command h.port.commands s ≡ Some command)
 has_command n s h past t sound is agrees = by_command (last_command h.port.commands s) refl
@@ -139,17 +147,17 @@ has_command n s h past t sound is agrees = by_command (last_command h.port.comma
 
 -- ## What a request moves
 
-record MovesAll (t : Transfer) (head : Head) (reads : Bool) : Type 0 where
-  queued : moved.is_queued t.work.kind ≡ true
-  way : moved.is_read t.work.kind ≡ reads
-  len : t.work.len ≡ 512 * head.sectors
+pub record MovesAll (t : Transfer) (head : Head) (reads : Bool) : Type 0 where
+  pub queued : moved.is_queued t.work.kind ≡ true
+  pub way : moved.is_read t.work.kind ≡ reads
+  pub len : t.work.len ≡ 512 * head.sectors
 
 some_sectors : (k : ℕ) → 0 < k → (if k == 0 then 65536 else k) ≡ k
 some_sectors k less =
     let other : k ≢ 0 = λ e. absurd (omega (arith, e, less)) in
     ap (λ (b : Bool). if b then 65536 else k) (ne_eqb k 0 other)
 
-read_moves : (s : ℕ) (head : Head) (t : Transfer) → head.work ≡ Read → 0 < head.sectors → t.work ≡ work_of (request_of (request_fields s head))
+pub read_moves : (s : ℕ) (head : Head) (t : Transfer) → head.work ≡ Read → 0 < head.sectors → t.work ≡ work_of (request_of (request_fields s head))
     → MovesAll t head true
 unfolding request_fields work_of
 read_moves s head t is some work =
@@ -171,11 +179,34 @@ write_moves s head t is some work =
       len = ap (λ (w : Work). w.len) work_is ∙ ap (λ (k : ℕ). 512 * k) (some_sectors head.sectors some);
     }
 
+-- ## Writes of a part of a history
+
+pub part_front : (part whole : List Happening) → IsPart part whole → IsFront (ledger part).writes (ledger whole).writes
+part_front part whole p =
+    let stay : StayWritten part p.later = writes_stay part p.later in
+    record { later = stay.later; same = ap (λ (xs : List Happening). (ledger xs).writes) p.is ∙ stay.same }
+
+-- of two fronts of a list the shorter one is a front of the other
+front_by : (a b c : List Written) (x y : List Written) → c ≡ a ++ x → c ≡ b ++ y → length a ≤ length b → IsFront a b
+front_by [] b c x y first second short = record { later = b; same = refl }
+front_by (w ∷ a) [] c x y first second short = absurd (omega (arith, short))
+front_by (w ∷ a) (v ∷ b) [] x y first second short = cc first
+front_by (w ∷ a) (v ∷ b) (u ∷ c) x y first second short =
+    let one : u ≡ w = cc first in
+    let other : u ≡ v = cc second in
+    let rest : c ≡ a ++ x = cc first in
+    let more : c ≡ b ++ y = cc second in
+    let f : IsFront a b = front_by a b c x y rest more (omega (arith, short)) in
+    record { later = f.later; same = ap (λ (z : Written). z ∷ b) (sym other ∙ one) ∙ ap (λ (zs : List Written). w ∷ zs) f.same }
+
+front_since : (a b whole : List Written) → IsFront a whole → IsFront b whole → length a ≤ length b → IsFront a b
+front_since a b whole f g short = front_by a b whole f.later g.later f.same g.same short
+
 -- ## A FIS that the host takes of the disk
 
 module _ (n len : ℕ) (below : n < 15) (right : is_memory_size len ≡ true) (plan : DiskPlan) (sectors : ℕ) (size : IsSize plan sectors) (turns : List HostTurn)
     (now : Places) (i : IsNow now) (disk : List Happening) (run : IsDiskRun plan sectors disk) (down later : List (List ℕ)) (plain : List ℕ)
-    (h : HasEnds n len turns now.host disk down (plain ∷ later)) (s : Step) (conn number : ℕ) (report : TakeReport) (new : Places)
+    (floors : ℕ → ℕ) (h : HasEnds n len floors turns now.host disk down (plain ∷ later)) (s : Step) (conn number : ℕ) (report : TakeReport) (new : Places)
     (rule : Rule now s (Ok (answer.Took n conn number (marked plain n) report)) new) (at_port : port_of (marked plain n) ≡ n) where
   tooks : Tooks now.host (marked plain n) report new.host
   tooks = host_takes now new s n conn number (marked plain n) report rule
@@ -217,10 +248,10 @@ module _ (n len : ℕ) (below : n < 15) (right : is_memory_size len ≡ true) (p
     some : 0 < e.head.sectors
     some = ((served.bounded.entries slot e is).size queued).some
 
-    honest : moved.is_queued issue.transfer.work.kind ≡ true → IsDoneHonestly sectors (command_of slot e) (filled slot (own n h.touches))
-        issue.transfer.work.len (ledger disk) (ledger disk)
+    honest : moved.is_queued issue.transfer.work.kind ≡ true → IsDoneHonestly sectors
+        (since_floor (floors slot) (command_of slot e)) (filled slot (own n h.touches)) issue.transfer.work.len (ledger disk) (ledger disk)
     honest is_queued =
-        each_end_is_honest n plan sectors now.host plain report new.host disk down later h.touches below
+        each_end_is_honest n plan sectors now.host plain report new.host disk down later floors h.touches below
         (running len right plan sectors size disk run turns now i h.touches h.touched) (plain_frame plain n tooks.framed) at_port tooks h.ends slot e
         issue.transfer low is queued issue.is is_queued done
 
@@ -228,43 +259,51 @@ module _ (n len : ℕ) (below : n < 15) (right : is_memory_size len ≡ true) (p
     stands_at xs memory i there =
         subst (λ (prds : List Prd). StandsAt xs prds memory i) request.table (record { inside = there.inside; is = there.is })
 
-    reads : e.head.work ≡ Read → ReadsSectors sectors slot e disk new.host.memory
-    reads read =
-        let m : MovesAll issue.transfer e.head true = read_moves slot e.head issue.transfer read some built in
-        let way : (command_of slot e).write ≡ false =
-        ap (λ (w : asked.Work). (command_of slot (record e { head = record e.head { work = w } })).write) read in
-        let b : IsBrought sectors (command_of slot e) issue.transfer new.host.memory (ledger disk) =
-        brought_there sectors n now.host new.host (marked plain n) report h.touches (command_of slot e) (ledger disk) slot issue.transfer at_port low_slot
-        (record { is = issue.is; reads = m.way }) m.queued done delivers ((honest m.queued).reads way) in
-        record {
-          at = b.at;
-          read = b.read;
-          ended = b.ended;
-          command = record {
-            tag = ap (λ (c : Command). c.tag) b.command;
-            lba = ap (λ (c : Command). c.lba) b.command;
-            count = ap (λ (c : Command). c.count) b.command;
-          };
-          brought = λ i less.
-              stands_at (sectors_at (medium_with sectors b.read.before) e.head.lba e.head.sectors) new.host.memory i
-              (b.stands i (subst (λ (k : ℕ). i < k) (sym m.len) less));
-        }
+    pub of_device : e.head.dev ≡ n
+    of_device = request.of_dev
 
-    writes : e.head.work ≡ Write → WritesSectors slot e disk (filled slot (own n h.touches))
-    writes write =
-        let m : MovesAll issue.transfer e.head false = write_moves slot e.head issue.transfer write some built in
-        let way : (command_of slot e).write ≡ true =
-        ap (λ (w : asked.Work). (command_of slot (record e { head = record e.head { work = w } })).write) write in
-        let w : IsOnMedium (command_of slot e) (filled slot (own n h.touches)) issue.transfer.work.len (ledger disk) = (honest m.queued).writes way in
-        record {
-          at = w.at;
-          written = w.written;
-          entered = w.entered;
-          tag = w.tag;
-          place = w.place;
-          long = w.long;
-          bytes = λ i less. (w.bytes i (subst (λ (k : ℕ). i < k) (sym m.len) less)).0;
-        }
+    module _ (submitted : List Happening) (later_of : IsPart submitted disk) (floor : floors slot ≡ length (ledger submitted).writes) where
+      reads : e.head.work ≡ Read → ReadsSectors sectors slot e submitted disk new.host.memory
+      reads read =
+          let m : MovesAll issue.transfer e.head true = read_moves slot e.head issue.transfer read some built in
+          let way : (command_of slot e).write ≡ false =
+          ap (λ (w : asked.Work). (command_of slot (record e { head = record e.head { work = w } })).write) read in
+          let b : IsBrought sectors (since_floor (floors slot) (command_of slot e)) issue.transfer new.host.memory (ledger disk) =
+          brought_there sectors n now.host new.host (marked plain n) report h.touches (since_floor (floors slot) (command_of slot e)) (ledger disk) slot issue.transfer at_port low_slot
+          (record { is = issue.is; reads = m.way }) m.queued done delivers ((honest m.queued).reads way) in
+          record {
+            at = b.at;
+            read = b.read;
+            ended = b.ended;
+            command = record {
+              tag = ap (λ (c : Command). c.tag) b.command;
+              lba = ap (λ (c : Command). c.lba) b.command;
+              count = ap (λ (c : Command). c.count) b.command;
+            };
+            since = front_since (ledger submitted).writes b.read.before (ledger disk).writes (part_front submitted disk later_of) (before_is_front disk b.at b.read b.ended)
+                (subst (λ (m : ℕ). m ≤ length b.read.before) floor b.since);
+            until = before_is_front disk b.at b.read b.ended;
+            brought = λ i less.
+                stands_at (sectors_at (medium_with sectors b.read.before) e.head.lba e.head.sectors) new.host.memory i
+                (b.stands i (subst (λ (k : ℕ). i < k) (sym m.len) less));
+          }
 
-    pub ends_honestly : EndsHonestly sectors slot e disk (filled slot (own n h.touches)) new.host.memory
-    ends_honestly = record { reads = reads; writes = writes }
+      writes : e.head.work ≡ Write → WritesSectors slot e submitted disk (filled slot (own n h.touches))
+      writes write =
+          let m : MovesAll issue.transfer e.head false = write_moves slot e.head issue.transfer write some built in
+          let way : (command_of slot e).write ≡ true =
+          ap (λ (w : asked.Work). (command_of slot (record e { head = record e.head { work = w } })).write) write in
+          let w : IsOnMedium (since_floor (floors slot) (command_of slot e)) (filled slot (own n h.touches)) issue.transfer.work.len (ledger disk) = (honest m.queued).writes way in
+          record {
+            at = w.at;
+            written = w.written;
+            entered = w.entered;
+            since = subst (λ (m : ℕ). m ≤ w.at) floor w.since;
+            tag = w.tag;
+            place = w.place;
+            long = w.long;
+            bytes = λ i less. (w.bytes i (subst (λ (k : ℕ). i < k) (sym m.len) less)).0;
+          }
+
+      pub ends_honestly : EndsHonestly sectors slot e submitted disk (filled slot (own n h.touches)) new.host.memory
+      ends_honestly = record { reads = reads; writes = writes }

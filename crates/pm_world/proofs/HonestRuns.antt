@@ -1,7 +1,7 @@
 -- Honest disks on each connection, over whole runs of a world.
-use Rattle.std.proofs.Common.{◌≡◌, ◌≢◌, ◌==◌, ℕ, ◌<◌, Bool, true, false, List, [], ◌∷◌, ◌++◌, append_assoc, length, refl, sym, ap, subst, ◌∙◌}
+use Rattle.std.proofs.Common.{◌≡◌, ◌≢◌, ◌==◌, ℕ, ◌<◌, Bool, true, false, List, [], ◌∷◌, ◌++◌, append_assoc, length, refl, sym, ap, subst, ◌∙◌, ◌+◌, ◌≤◌, length-append, inl, inr, Some}
 use Rattle.std.proofs.Common.{Ok, arith}
-use Rattle.std.specs.Prelude.{MatchBool, slice_get}
+use Rattle.std.specs.Prelude.{MatchBool, if◌then◌else◌, slice_get}
 use Rattle.std.proofs.lemmas.Bool.{eq-eqb, eqb-true, true≢false}
 use Rattle.std.proofs.lemmas.Option.{slice_get_within}
 use Rattle.fis_view.specs.Frames.{marked}
@@ -17,10 +17,10 @@ use Rattle.disk_model.specs.Runs.{IsDiskRun}
 use Rattle.disk_model.specs.Units.{plan_of}
 use Rattle.hba_driver.specs.HostTurns.{HostTurn}
 use Rattle.disk_ends.proofs.FollowedLemmas.{run_to}
-use Rattle.pm_world.specs.Disks.{DiskRun, HonestDisks, IsNewDisk, TookHonestly, host_turns}
+use Rattle.pm_world.specs.Disks.{Before, DiskRun, EndedSince, HonestDisks, IsLeftAlone, IsNewDisk, Since, WasSubmitted, disk_history, host_turns}
 use Rattle.pm_world.specs.Places.{IsOrderly, Places, is_config, new_world}
 use Rattle.pm_world.specs.Rules.{Rule, Run}
-use Rattle.pm_world.specs.Runs.{over}
+use Rattle.pm_world.specs.Runs.{IsStepOf, over}
 use Rattle.pm_world.specs.Touched.{AreTouched}
 use Rattle.pm_world.specs.Turns.{turn_of}
 use Rattle.pm_world.specs.Units.{MaySendAll, happens}
@@ -31,12 +31,13 @@ use Rattle.pm_world.specs.declared.step.Answer.TheVariants as answer
 use Rattle.pm_world.specs.declared.step.Config.{Config}
 use Rattle.pm_world.specs.declared.step.Step.{Step}
 use Rattle.pm_world.specs.declared.step.Step.TheVariants as step
-use Rattle.pm_world.proofs.AnewLemmas.{now_at, ordered_after, ordered_on}
+use Rattle.pm_world.proofs.AnewLemmas.{OrderedNow, now_at, order_run, ordered_after, ordered_on}
 use Rattle.pm_world.proofs.Delivery.{sized}
-use Rattle.pm_world.proofs.DisksLemmas.{ends_honestly, from_opening, lived_run, may_run}
+use Rattle.pm_world.specs.ReadBack.{IsPart}
+use Rattle.pm_world.proofs.DisksLemmas.{ends_honestly, from_opening, lived_run, may_run, of_device, part_front}
 use Rattle.pm_world.proofs.EachLemmas.{Each}
 use Rattle.pm_world.proofs.EarlyLemmas.{ComesShut, comes_shut}
-use Rattle.pm_world.proofs.EndsRuns.{IsServing, Serving, Stage, Waiting, its_port, run_opens}
+use Rattle.pm_world.proofs.EndsRuns.{IsServing, Serving, Stage, Waiting, its_port, left_parts, run_opens, serving_rises, serving_run}
 use Rattle.pm_world.proofs.EndsSteps.{HasEnds}
 use Rattle.pm_world.proofs.FineLemmas.{further}
 use Rattle.pm_world.proofs.Law.{run_append}
@@ -46,6 +47,20 @@ use Rattle.pm_world.proofs.ShutLemmas.{IsNoneOf}
 use Rattle.pm_world.proofs.Units.{units_lived_on}
 use Rattle.pm_world.proofs.WaitingLemmas.{IsWaiting, came_waiting}
 use Rattle.pm_world.proofs.WireLemmas.{wires_go_on}
+use Rattle.std.proofs.lemmas.List.{append-nil}
+use Rattle.slots.specs.Slots.{has_bit}
+use Rattle.disk_model.specs.Fronts.{IsFront}
+use Rattle.disk_model.specs.Ledger.{Written, ledger}
+use Rattle.hba_driver.specs.Drivers.{Entry, entry_at, rephased}
+use Rattle.hba_driver.specs.Orders.{is_queued}
+use Rattle.hba_driver.specs.Submits.{new_entry}
+use Rattle.hba_driver.specs.declared.slot.Phase.TheVariants.{Waits}
+use Rattle.hba_driver.specs.declared.request.Request.{Request}
+use Rattle.hba_driver.specs.declared.request.Ticket.{Ticket}
+use Rattle.driver_phases.specs.Ends.{AreFloors, floor_at, no_floors}
+use Rattle.hba_driver.proofs.AcceptLemmas as accept
+use Rattle.pm_world.proofs.ReportedLemmas.{StoodIn, SubmittedIn, later_of, renamed, step_stood, submitted_over}
+use Rattle.pm_world.proofs.LineLemmas.{IsNow}
 
 -- ## The next FIS
 
@@ -155,52 +170,265 @@ module _ (config : Config) (units : List Unit) (n sectors : ℕ) (plan : DiskPla
   within : n < length units
   within = slice_get_within units n (Disk disk.disk) disk.there
 
-  stage : Stage config units fits n below plan sectors disk.size before first_run within right d.conn now since turns
-  stage =
-      run_opens config units fits n below plan sectors disk.size before first_run within right d.conn (d.first ++ step.Came n ∷ [])
-      (d.told ++ answer.Came n d.conn ∷ []) d.run.0
-      (further config units fits n below d.first d.told d.out d.made (step.Came n) (answer.Came n d.conn) d.run.0 d.run.1) came (first_turns ++ came_turns)
-      (ordered_on config units fits n below plan sectors disk.size before first_run d.first d.told d.out d.made first_turns
+  -- the world after the plugging
+  orders : OrderedNow config units fits n below plan sectors disk.size before first_run (first_turns ++ came_turns) d.run.0
+  orders =
+      ordered_on config units fits n below plan sectors disk.size before first_run d.first d.told d.out d.made first_turns
       (ordered_after config units fits n below plan sectors disk.size before first_run d.first d.told d.out d.made) (step.Came n) (answer.Came n d.conn)
-      d.run.0 d.run.1)
-      (subst (IsWaiting n d.conn d.run.0) (sym came_told) (came_waiting n d.conn d.run.0 comes.off)) comes.waits d.steps d.answers now d.run.2 d.left whole_run
+      d.run.0 d.run.1
+
+  made_came : Run (new_world config units) (d.first ++ step.Came n ∷ []) (d.told ++ answer.Came n d.conn ∷ []) d.run.0
+  made_came = further config units fits n below d.first d.told d.out d.made (step.Came n) (answer.Came n d.conn) d.run.0 d.run.1
+
+  waiting : IsWaiting n d.conn d.run.0 came
+  waiting = subst (IsWaiting n d.conn d.run.0) (sym came_told) (came_waiting n d.conn d.run.0 comes.off)
+
+  abbrev At : (floors : ℕ → ℕ) → Places → List Happening → List HostTurn → Type 0
+  At floors w happened ts = Stage config units fits n below plan sectors disk.size before first_run within right d.conn floors w happened ts
+
+  -- from the plugging on, over some of its steps
+  opens_over : (floors : ℕ → ℕ) (steps : List Step) (answers : List Answer) (new : Places) (run : Run d.run.0 steps answers new) → IsLeftAlone n steps
+      → IsDiskRun plan sectors (before ++ (came ++ over (happens n) d.run.0 steps answers new run)) → AreFloors floors (before ++ came)
+      → At floors new (came ++ over (happens n) d.run.0 steps answers new run)
+      ((first_turns ++ came_turns) ++ over turn_of d.run.0 steps answers new run)
+  opens_over floors steps answers new run alone whole are =
+      run_opens config units fits n below plan sectors disk.size before first_run within right d.conn floors (d.first ++ step.Came n ∷ []) (d.told ++ answer.Came n d.conn ∷ []) d.run.0 made_came came (first_turns ++ came_turns) orders
+      waiting comes.waits steps answers new run alone whole are
+
+  -- ## Where a request was submitted
+
+  -- it was, after this; and with a floor at that the disk and the host go on
+  record HasSubmit (slot : ℕ) (e : Entry) : Type 0 where
+    submit_before : List Happening
+    submitted : WasSubmitted config units n now d e submit_before
+    part : IsPart submit_before (before ++ since)
+    stage : At (floor_at slot (length (ledger submit_before).writes)) now since turns
+
+  part_floor : (slot : ℕ) (part whole : List Happening) → IsPart part whole → AreFloors (floor_at slot (length (ledger part).writes)) whole
+  part_floor slot part whole p s = by_slot (slot == s)
+    where
+      by_slot : (b : Bool) → (if b then length (ledger part).writes else 0) ≤ length (ledger whole).writes
+      by_slot true =
+          let f : IsFront (ledger part).writes (ledger whole).writes = part_front part whole p in
+          let long : length (ledger whole).writes ≡ length (ledger part).writes + length f.later = ap length f.same ∙ length-append (ledger part).writes f.later in
+          omega (arith, long)
+      by_slot false = omega arith
+
+  none_floor : (happened : List Happening) → AreFloors no_floors happened
+  none_floor happened s = omega arith
+
+  module _ (slot : ℕ) (low : slot < 30) (e : Entry) (dev_is : e.head.dev ≡ n) (stands : entry_at now.host.driver.entries slot ≡ Some e) where
+    its_dev : (dev : ℕ) (request : Request) (ticket : Ticket) (x : Entry) → x.head.dev ≡ n → new_entry ticket.0 dev request ≡ rephased Waits x → dev ≡ n
+    its_dev dev request ticket x at is = ap (λ (y : Entry). y.head.dev) is ∙ at
+
+    -- before the disk was plugged in
+    by_first : StoodIn d.run.0.host slot e → HasSubmit slot e
+    by_first stood = elim (step_stood d.out (step.Came n) (answer.Came n d.conn) d.run.0 d.run.1 slot stood.entry stood.here) [
+      | inl earlier ↦ elim (submitted_over (new_world config units) d.first d.told d.out d.made slot earlier.entry earlier.here) [
+        | inl none ↦ absurd (accept.none_here slot none.entry none.here)
+        | inr i ↦ of_first i (i.is ∙ earlier.same ∙ stood.same)
+      ]
+      | inr fresh ↦ absurd fresh
+    ]
+      where
+        of_first : {x : Entry} (i : SubmittedIn (new_world config units) d.out d.first d.told d.made slot x)
+            → new_entry i.ticket.0 i.dev i.request ≡ rephased Waits e → HasSubmit slot e
+        of_first i is =
+            let dev : i.dev ≡ n = its_dev i.dev i.request i.ticket e dev_is is in
+            let its : IsStepOf (step.Submit n i.request) (answer.Submitted i.ticket) (new_world config units) d.out d.first d.told d.made =
+            renamed (step.Submit i.dev i.request) (step.Submit n i.request) (answer.Submitted i.ticket) (answer.Submitted i.ticket) (new_world config units)
+            d.out d.first d.told d.made (ap (λ (m : ℕ). step.Submit m i.request) dev) refl i.its in
+            let done : List Happening = over (happens n) (new_world config units) i.its.before i.its.told i.its.at i.its.came in
+            let more : List Happening = happens n i.its.at (step.Submit i.dev i.request) (answer.Submitted i.ticket) i.its.next
+            ++ over (happens n) i.its.next i.its.after i.its.later d.out i.its.went in
+            let first_part : IsPart done (before ++ came) = record {
+              later = more ++ came;
+              is = ap (λ (xs : List Happening). xs ++ came) (i.happened n) ∙ append_assoc done more came;
+            } in
+            record {
+              submit_before = done;
+              submitted = Before i.ticket i.request its (subst (λ (m : ℕ). new_entry i.ticket.0 m i.request ≡ rephased Waits e) dev is);
+              part = record {
+                later = more ++ since;
+                is = ap (λ (xs : List Happening). xs ++ since) (i.happened n) ∙ append_assoc done more since;
+              };
+              stage =
+                  opens_over (floor_at slot (length (ledger done).writes)) d.steps d.answers now d.run.2 d.left whole_run
+                  (part_floor slot done (before ++ came) first_part);
+            }
+
+    -- or since
+    by_later : SubmittedIn d.run.0 now d.steps d.answers d.run.2 slot (rephased Waits e) → HasSubmit slot e
+    by_later i = record {
+      submit_before = done;
+      submitted = Since i.ticket i.request its (subst (λ (m : ℕ). new_entry i.ticket.0 m i.request ≡ rephased Waits e) dev i.is);
+      part = whole_part;
+      stage =
+          subst (λ (ts : List HostTurn). At floors now since ts) turns_is
+          (subst (λ (xs : List Happening). At floors now xs (at_turns ++ more_turns)) since_is (goes_on first_stage));
+    }
+      where
+        dev : i.dev ≡ n
+        dev = its_dev i.dev i.request i.ticket e dev_is i.is
+
+        in_run : IsStepOf (step.Submit n i.request) (answer.Submitted i.ticket) d.run.0 now d.steps d.answers d.run.2
+        in_run =
+            renamed (step.Submit i.dev i.request) (step.Submit n i.request) (answer.Submitted i.ticket) (answer.Submitted i.ticket) d.run.0 now d.steps
+            d.answers d.run.2 (ap (λ (m : ℕ). step.Submit m i.request) dev) refl i.its
+
+        its : IsStepOf (step.Submit n i.request) (answer.Submitted i.ticket) d.out now (step.Came n ∷ d.steps) (answer.Came n d.conn ∷ d.answers) d.run
+        its =
+            later_of (step.Submit n i.request) (answer.Submitted i.ticket) (step.Came n) (answer.Came n d.conn) d.steps d.answers d.out now d.run
+            (renamed (step.Submit i.dev i.request) (step.Submit n i.request) (answer.Submitted i.ticket) (answer.Submitted i.ticket) d.run.0 now d.steps
+            d.answers d.run.2 (ap (λ (m : ℕ). step.Submit m i.request) dev) refl i.its)
+
+        so_far : List Happening
+        so_far = over (happens n) d.run.0 i.its.before i.its.told i.its.at i.its.came
+
+        more : List Happening
+        more = happens n i.its.at (step.Submit i.dev i.request) (answer.Submitted i.ticket) i.its.next
+            ++ over (happens n) i.its.next i.its.after i.its.later now i.its.went
+
+        at_turns : List HostTurn
+        at_turns = (first_turns ++ came_turns) ++ over turn_of d.run.0 i.its.before i.its.told i.its.at i.its.came
+
+        more_turns : List HostTurn
+        more_turns = turn_of i.its.at (step.Submit i.dev i.request) (answer.Submitted i.ticket) i.its.next
+            ++ over turn_of i.its.next i.its.after i.its.later now i.its.went
+
+        done : List Happening
+        done = before ++ (came ++ so_far)
+
+        floors : ℕ → ℕ
+        floors = floor_at slot (length (ledger done).writes)
+
+        since_is : (came ++ so_far) ++ more ≡ since
+        since_is = append_assoc came so_far more ∙ ap (λ (xs : List Happening). came ++ xs) (sym (i.happened n))
+
+        turns_is : at_turns ++ more_turns ≡ turns
+        turns_is =
+            append_assoc (first_turns ++ came_turns) (over turn_of d.run.0 i.its.before i.its.told i.its.at i.its.came) more_turns
+            ∙ ap (λ (ts : List HostTurn). (first_turns ++ came_turns) ++ ts) (sym i.turns)
+
+        whole_part : IsPart done (before ++ since)
+        whole_part = record {
+          later = more;
+          is = ap (λ (xs : List Happening). before ++ xs) (sym since_is) ∙ sym (append_assoc before (came ++ so_far) more);
+        }
+
+        alone : IsLeftAlone n i.its.before × IsLeftAlone n (step.Submit i.dev i.request ∷ i.its.after)
+        alone = left_parts n i.its.before (step.Submit i.dev i.request ∷ i.its.after) (subst (IsLeftAlone n) i.its.steps_are d.left)
+
+        rest_run : IsDiskRun plan sectors (before ++ ((came ++ so_far) ++ more))
+        rest_run = subst (λ (xs : List Happening). IsDiskRun plan sectors (before ++ xs)) (sym since_is) whole_run
+
+        first_stage : At no_floors i.its.at (came ++ so_far) at_turns
+        first_stage =
+            opens_over no_floors i.its.before i.its.told i.its.at i.its.came alone.0
+            (run_to plan sectors (before ++ since) (before ++ (came ++ so_far)) more whole_part.is whole_run) (none_floor (before ++ came))
+
+        made : Run (new_world config units) ((d.first ++ step.Came n ∷ []) ++ i.its.before) ((d.told ++ answer.Came n d.conn ∷ []) ++ i.its.told) i.its.at
+        made = run_append (new_world config units) d.run.0 i.its.at (d.first ++ step.Came n ∷ []) (d.told ++ answer.Came n d.conn ∷ []) i.its.before i.its.told
+            made_came i.its.came
+
+        own_floor : AreFloors floors (before ++ (came ++ so_far))
+        own_floor = part_floor slot done done (record { later = []; is = sym (append-nil done) })
+
+        goes_on : At no_floors i.its.at (came ++ so_far) at_turns → At floors now ((came ++ so_far) ++ more) (at_turns ++ more_turns)
+        goes_on (Serving h) =
+            Serving (serving_run config units fits n below plan sectors disk.size before first_run within right d.conn floors ((d.first ++ step.Came n ∷ []) ++ i.its.before) ((d.told ++ answer.Came n d.conn ∷ []) ++ i.its.told) i.its.at made
+            (came ++ so_far) at_turns
+            (serving_rises config units fits n below plan sectors disk.size before first_run within right d.conn no_floors floors ((d.first ++ step.Came n ∷ []) ++ i.its.before) ((d.told ++ answer.Came n d.conn ∷ []) ++ i.its.told) i.its.at made
+            (came ++ so_far) at_turns (run_to plan sectors (before ++ since) done more whole_part.is whole_run) slot low i.free (λ m other. ap (λ (b : Bool). if b then length (ledger done).writes else 0) other) (own_floor slot) h)
+            (step.Submit i.dev i.request ∷ i.its.after) (answer.Submitted i.ticket ∷ i.its.later) now (i.its.next, i.its.rule, i.its.went) alone.1 rest_run)
+        goes_on (Waiting still waits) =
+            run_opens config units fits n below plan sectors disk.size before first_run within right d.conn floors ((d.first ++ step.Came n ∷ []) ++ i.its.before) ((d.told ++ answer.Came n d.conn ∷ []) ++ i.its.told) i.its.at made
+            (came ++ so_far) at_turns
+            (order_run config units fits n below plan sectors disk.size before first_run (d.first ++ step.Came n ∷ []) (d.told ++ answer.Came n d.conn ∷ [])
+            d.run.0 made_came (first_turns ++ came_turns) orders i.its.before i.its.told i.its.at i.its.came)
+            still waits (step.Submit i.dev i.request ∷ i.its.after) (answer.Submitted i.ticket ∷ i.its.later) now (i.its.next, i.its.rule, i.its.went) alone.1
+            rest_run own_floor
+
+    has_submit : HasSubmit slot e
+    has_submit = elim (submitted_over d.run.0 d.steps d.answers now d.run.2 slot e stands) [ inl stood ↦ by_first stood | inr i ↦ by_later i ]
+
+  plain_stage : At no_floors now since turns
+  plain_stage = opens_over no_floors d.steps d.answers now d.run.2 d.left whole_run (none_floor (before ++ came))
 
   module _ (s : Step) (port conn number : ℕ) (bytes : List ℕ) (report : TakeReport) (new : Places)
       (rule : Rule now s (Ok (answer.Took port conn number bytes report)) new) (here : (port == n) ≡ true) (same : conn ≡ d.conn) where
-    -- the ends go on so far
-    served : IsServing config units fits n below plan sectors disk.size before first_run within right d.conn now since turns
-        → TookHonestly config units n sectors now d report new
-    served h =
-        let k : IsNextOf n d.conn port conn bytes h.ends.up =
-        taken_next n d.conn below now new s port conn number bytes report h.ends.down h.ends.up h.opens.firm.orderly rule here h.ends.exact.wire in
-        let its : Rule now s (Ok (answer.Took n conn number (marked k.plain n) report)) new =
-        subst (λ (m : ℕ). Rule now s (Ok (answer.Took m conn number (marked k.plain n) report)) new) k.port_is
-        (subst (λ (b : List ℕ). Rule now s (Ok (answer.Took port conn number b report)) new) k.marks rule) in
-        let at_port : port_of (marked k.plain n) ≡ n =
-        (its_port config units fits n below plan sectors disk.size before first_run within right d.conn all_steps all_answers now all_run s
-        (answer.Took n conn number (marked k.plain n) report) new its).0 in
-        let both : HasEnds n config.memory turns now.host (before ++ since) h.ends.down (k.plain ∷ k.later) =
-        subst (HasEnds n config.memory turns now.host (before ++ since) h.ends.down) k.is h.ends.both in
-        record {
-          touches = both.touches;
-          touched = subst (λ (ts : List HostTurn). AreTouched config.memory ts now.host both.touches) turns_are both.touched;
-          done = λ slot e low is queued done.
-              ends_honestly n config.memory below right plan sectors disk.size turns now (now_at config units fits all_steps all_answers now all_run)
-              (before ++ since) whole_run h.ends.down k.later k.plain both s conn number report new its at_port slot e low is queued done;
-        }
-
     -- nothing of it is on the host's link before
     never_waiting : IsWaiting n d.conn now since → ⊥
     never_waiting waits =
         let m = rule_moves now s (answer.Took port conn number bytes report) new waits.off.orderly rule in
         (subst (Each (IsNoneOf n d.conn)) m.2.upward waits.off.up).0 (m.1.port_is ∙ eqb-true port n here) (m.1.conn_is ∙ same)
 
-    took : Stage config units fits n below plan sectors disk.size before first_run within right d.conn now since turns
-        → TookHonestly config units n sectors now d report new
-    took (Waiting waits) = absurd (never_waiting waits)
-    took (Serving h) = served h
+    serving : (floors : ℕ → ℕ) → At floors now since turns → IsServing config units fits n below plan sectors disk.size before first_run within right d.conn floors now since turns
+    serving floors (Waiting waits still) = absurd (never_waiting waits)
+    serving floors (Serving h) = h
+
+    module _ (floors : ℕ → ℕ) (h : IsServing config units fits n below plan sectors disk.size before first_run within right d.conn floors now since turns) where
+      next : IsNextOf n d.conn port conn bytes h.ends.up
+      next = taken_next n d.conn below now new s port conn number bytes report h.ends.down h.ends.up h.opens.firm.orderly rule here h.ends.exact.wire
+
+      its : Rule now s (Ok (answer.Took n conn number (marked next.plain n) report)) new
+      its =
+          subst (λ (m : ℕ). Rule now s (Ok (answer.Took m conn number (marked next.plain n) report)) new) next.port_is
+          (subst (λ (b : List ℕ). Rule now s (Ok (answer.Took port conn number b report)) new) next.marks rule)
+
+      at_port : port_of (marked next.plain n) ≡ n
+      at_port =
+          (its_port config units fits n below plan sectors disk.size before first_run within right d.conn all_steps all_answers now all_run s
+          (answer.Took n conn number (marked next.plain n) report) new its).0
+
+      both : HasEnds n config.memory floors turns now.host (before ++ since) h.ends.down (next.plain ∷ next.later)
+      both = subst (HasEnds n config.memory floors turns now.host (before ++ since) h.ends.down) next.is h.ends.both
+
+      is_now : IsNow now
+      is_now = now_at config units fits all_steps all_answers now all_run
+
+    -- the request's device is that of the FIS
+    dev_of : (slot : ℕ) (e : Entry) → slot < 30 → entry_at now.host.driver.entries slot ≡ Some e → is_queued e.head.work ≡ true
+        → has_bit report.done slot ≡ true → e.head.dev ≡ n
+    dev_of slot e low is queued done =
+        let h : IsServing config units fits n below plan sectors disk.size before first_run within right d.conn no_floors now since turns = serving no_floors plain_stage in
+        of_device n config.memory below right plan sectors disk.size turns now (is_now no_floors h) (before ++ since) whole_run h.ends.down
+        (next no_floors h).later (next no_floors h).plain no_floors (both no_floors h) s conn number report new (its no_floors h) (at_port no_floors h) slot e
+        low is queued done
+
+    ended : (slot : ℕ) (e : Entry) → slot < 30 → entry_at now.host.driver.entries slot ≡ Some e → is_queued e.head.work ≡ true
+        → has_bit report.done slot ≡ true → EndedSince config units n now d sectors slot e new.host.memory
+    ended slot e low is queued done =
+        let submit : HasSubmit slot e = has_submit slot low e (dev_of slot e low is queued done) is in
+        let floors : ℕ → ℕ = floor_at slot (length (ledger submit.submit_before).writes) in
+        let h : IsServing config units fits n below plan sectors disk.size before first_run within right d.conn (floor_at slot (length (ledger submit.submit_before).writes)) now since turns =
+        serving (floor_at slot (length (ledger submit.submit_before).writes)) submit.stage in
+        let own_floor : floor_at slot (length (ledger submit.submit_before).writes) slot ≡ length (ledger submit.submit_before).writes =
+        ap (λ (b : Bool). if b then length (ledger submit.submit_before).writes else 0) (eq-eqb slot slot refl) in
+        record {
+          before = submit.submit_before;
+          submitted = submit.submitted;
+          touches = (both (floor_at slot (length (ledger submit.submit_before).writes)) h).touches;
+          touched =
+              subst (λ (ts : List HostTurn). AreTouched config.memory ts now.host
+              (both (floor_at slot (length (ledger submit.submit_before).writes)) h).touches) turns_are
+              (both (floor_at slot (length (ledger submit.submit_before).writes)) h).touched;
+          ends =
+              ends_honestly n config.memory below right plan sectors disk.size turns now
+              (is_now (floor_at slot (length (ledger submit.submit_before).writes)) h) (before ++ since) whole_run h.ends.down
+              (next (floor_at slot (length (ledger submit.submit_before).writes)) h).later
+              (next (floor_at slot (length (ledger submit.submit_before).writes)) h).plain
+              (floor_at slot (length (ledger submit.submit_before).writes)) (both (floor_at slot (length (ledger submit.submit_before).writes)) h) s conn
+              number report new (its (floor_at slot (length (ledger submit.submit_before).writes)) h)
+              (at_port (floor_at slot (length (ledger submit.submit_before).writes)) h) slot e low is queued done submit.submit_before submit.part own_floor;
+        }
 
 pub disks_are_honest : HonestDisks
 disks_are_honest config units n sectors plan fits below disk now d s port conn number bytes report new rule here same =
-    took config units n sectors plan fits below disk now d s port conn number bytes report new rule here same
-    (stage config units n sectors plan fits below disk now d)
+    record { done = ended config units n sectors plan fits below disk now d s port conn number bytes report new rule here same }
+
+-- the history of such a disk is a run of it
+pub disk_runs : (config : Config) (units : List Unit) (n sectors : ℕ) (plan : DiskPlan) → is_config config (length units) ≡ true → n < 15
+    → IsNewDisk units n plan sectors → (now : Places) (d : DiskRun config units n now)
+    → IsDiskRun plan sectors (disk_history config units n now d)
+disk_runs config units n sectors plan fits below disk now d = whole_run config units n sectors plan fits below disk now d

@@ -40,6 +40,7 @@ use Rattle.pm_world.specs.Wired.{for_port}
 use Rattle.pm_world.proofs.FrameLemmas.{pushes_frame}
 use Rattle.pm_world.proofs.GivenLemmas.{HasGiven, host_gives}
 use Rattle.pm_world.proofs.WireLemmas.{drop_front}
+use Rattle.disk_ends.specs.Same.{SlotCommand}
 
 -- ## The host
 
@@ -56,7 +57,7 @@ drivers_serve = record { starts = opens_honestly; opens = flush_opens; calm = ca
 
 -- it serves disk n honestly, after these turns, with these FISes of the disk since it was plugged in
 pub record HostOn (n len : ℕ) (turns : List HostTurn) (h : Host) (given : List Happening) : Type 0 where
-  pub commands : ℕ → Command
+  pub commands : ℕ → SlotCommand
   pub touches : Touches
   pub serves : IsServedHonestly n h given commands touches
   pub touched : AreTouched len turns h touches

@@ -19,13 +19,6 @@ use Rattle.pm_world.proofs.LinksPass.{keeps_links}
 use Rattle.pm_world.proofs.Tickets.{keeps_tickets}
 use Rattle.pm_world.proofs.Recorded.{tells_removals}
 use Rattle.pm_world.proofs.Truth.{tells_truth}
-use Rattle.pm_world.proofs.GoingLemmas as ports_go_on_law
-use Rattle.pm_world.proofs.LineLemmas as one_order_law
-use Rattle.pm_world.proofs.KeepingLemmas as ports_keep_law
-use Rattle.pm_world.proofs.FollowLemmas as connections_follow_law
-use Rattle.pm_world.proofs.HonestRuns as honest_disks_law
-use Rattle.pm_world.proofs.PolledLemmas as honest_polls_law
-use Rattle.pm_world.proofs.OrderTurns as none_is_stale_law
 
 pub obeys : (old : Places) (steps : List Step) (answers : List Answer) (new : Places) → IsOrderly old → AreLawful old steps answers new
 obeys old steps answers new orderly run = record {
@@ -45,13 +38,6 @@ obeys old steps answers new orderly run = record {
   tickets = keeps_tickets old steps answers new run;
   isolates = isolates old steps answers new run;
   truth = tells_truth old steps answers new run;
-  ports_go_on = ports_go_on_law.ports_go_on;
-  one_order = one_order_law.one_order_at_a_time;
-  ports_keep = ports_keep_law.ports_keep;
-  connections_follow = connections_follow_law.connections_follow;
-  honest_disks = honest_disks_law.disks_are_honest;
-  honest_polls = honest_polls_law.honest_polls;
-  none_is_stale = none_is_stale_law.none_is_stale;
 }
 
 -- one step is a run

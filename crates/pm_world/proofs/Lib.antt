@@ -69,6 +69,8 @@ pub mod AnewLemmas
 pub mod EndsRuns
 pub mod HonestRuns
 pub mod PolledLemmas
+pub mod ReadBackLemmas
+pub mod ReachedLemmas
 pub mod Laws
 pub mod Polling
 pub mod Doing

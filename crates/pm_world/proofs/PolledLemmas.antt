@@ -16,6 +16,9 @@ use Rattle.disk_model.specs.Chunks.{sectors_at}
 use Rattle.disk_model.specs.Ledger.{medium_with}
 use Rattle.hba_laws.specs.Client.{Touches, own}
 use Rattle.hba_laws.specs.Delivering.{by_device, completes_now, event_taken}
+use Rattle.hba_laws.specs.Delivering.{touched as touched_by}
+use Rattle.hba_laws.specs.Hosts as host_event
+use Rattle.hba_laws.specs.Sound.{IsHost}
 use Rattle.hba_laws.specs.History as event
 use Rattle.hba_laws.specs.History.{Event, History, Transfer, completes, filled, issued, unless}
 use Rattle.hba_driver.specs.declared.request.Completion.{Completion}
@@ -25,12 +28,15 @@ use Rattle.hba_driver.specs.declared.request.Ticket.{Ticket}
 use Rattle.hba_driver.specs.declared.request.Work.TheVariants.{Read, Write}
 use Rattle.hba_driver.specs.declared.slot.Phase.{Phase}
 use Rattle.hba_driver.specs.declared.slot.Phase.TheVariants.{Waits, Issued, Ended}
-use Rattle.hba_driver.specs.Delivered.{TookDelivers}
+use Rattle.hba_driver.specs.Delivered.{IsAtItsPlace, TookDelivers}
 use Rattle.hba_driver.specs.Drivers.{Driver, Entry, entry_at, is_read, rephased}
 use Rattle.hba_driver.specs.Events.{IsSoundHost, shared_by}
 use Rattle.hba_driver.specs.HostTurns.{DoesAll, HostTurn, Polled, Pushed, Put, Submitted, Ticked, Took, Tooks, polled_in}
 use Rattle.hba_driver.specs.Laws.{AreOnce, ends_as, gives}
-use Rattle.hba_driver.specs.Orders.{is_queued}
+use Rattle.hba_driver.specs.Orders.{is_queued, request_fields}
+use Rattle.hba_driver.specs.Served.{IsServed}
+use Rattle.hba_commands.specs.Requests.{request_of, work_of}
+use Rattle.host_memory.specs.declared.table.Prd.{Prd}
 use Rattle.hba_driver.specs.Requests.{is_mismatch}
 use Rattle.hba_driver.specs.Submits.{new_entry}
 use Rattle.hba_driver.proofs.AcceptLemmas as accept
@@ -42,7 +48,7 @@ use Rattle.hba_driver.proofs.StandLemmas.{in_slots}
 use Rattle.hba_driver.proofs.SubmitLemmas.{is_taken}
 use Rattle.pm_world.specs.Places.{Places, is_config, new_world}
 use Rattle.pm_world.specs.Rules.{Rule, Run}
-use Rattle.pm_world.specs.Runs.{over}
+use Rattle.pm_world.specs.Runs.{IsStepOf, over}
 use Rattle.pm_world.specs.Turns.{turn_of}
 use Rattle.pm_world.specs.declared.step.Config.{Config}
 use Rattle.pm_world.specs.declared.step.Step.{Step}
@@ -50,19 +56,21 @@ use Rattle.pm_world.specs.declared.step.Step.TheVariants as step
 use Rattle.pm_world.specs.declared.step.Answer.{Answer}
 use Rattle.pm_world.specs.declared.step.Answer.TheVariants as answer
 use Rattle.pm_world.proofs.Delivery.{sized}
+use Rattle.pm_world.proofs.DisksLemmas.{IsIssued, IsRequestAt, MovesAll, has_command, issued_of_done, read_moves, request_at}
 use Rattle.pm_world.proofs.HostFold.{does-append, run_does}
 use Rattle.pm_world.proofs.Risen.{AllRisen, opening_risen, run_rises}
-use Rattle.pm_world.specs.Disks.{DiskRun, IsNewDisk, TookHonestly, disk_history, host_turns}
+use Rattle.pm_world.specs.Disks.{Before, DiskRun, EndedSince, IsNewDisk, Since, TookHonestly, WasSubmitted, disk_history, host_turns}
 use Rattle.pm_world.specs.Ended.{EndsHonestly, ReadsSectors, StandsAt, WritesSectors}
-use Rattle.pm_world.specs.Polled.{EndedHonestly, HonestPolls, IsPolledHonestly, IsReportedIn, IsStepOf}
-use Rattle.pm_world.specs.Touched.{AreTouched}
+use Rattle.pm_world.specs.Polled.{HonestPolls, IsFilledAt, IsPolledHonestly, IsReportedIn}
+use Rattle.pm_world.specs.Touched.{AreTouched, opens}
+use Rattle.pm_world.proofs.BroughtLemmas.{leaves_filled}
 use Rattle.pm_world.proofs.CalmLemmas.{IsFreed}
 use Rattle.pm_world.proofs.ClientLemmas.{bytes_stay, came_next}
 use Rattle.pm_world.proofs.FirstLemmas.{ComesRisen, comes_risen}
 use Rattle.pm_world.proofs.HonestRuns.{disks_are_honest}
 use Rattle.pm_world.proofs.ReportedLemmas.{SubmittedIn, TookIn, is_take, renamed, stand_over, submitted_over, way_over}
 use Rattle.pm_world.proofs.TookLemmas.{host_takes}
-use Rattle.pm_world.proofs.TouchedLemmas.{touched_delivers, touched_sound}
+use Rattle.pm_world.proofs.TouchedLemmas.{GoesTouched, touched_delivers, touched_over, touched_served, touched_sound}
 
 -- ## A ticket is polled once
 
@@ -217,7 +225,7 @@ module _ (config : Config) (units : List Unit) (fits : is_config config (length 
       by_case (inl none) = absurd none
       by_case (inr is) = is
 
-  submitted : SubmittedIn (new_world config units) told.took.at told.took.before told.took.told told.took.came (rephased Waits facts.entry)
+  submitted : SubmittedIn (new_world config units) told.took.at told.took.before told.took.told told.took.came c.slot (rephased Waits facts.entry)
   submitted = elim (submitted_over (new_world config units) told.took.before told.took.told told.took.at told.took.came c.slot
       (rephased Issued (rephased Waits facts.entry)) told.issued) [
         | inl stood ↦ accept.none_here c.slot stood.entry stood.here
@@ -295,10 +303,7 @@ module _ (config : Config) (units : List Unit) (fits : is_config config (length 
   whole = matched submitted.request
       (is_taken submitted.its.at.host.driver submitted.its.at.host.memory submitted.dev submitted.request submitted.its.rule.0.accepted).matched
 
-  module _ (sectors : ℕ) (happened : List Happening) (turns : List HostTurn) (touches : Touches)
-      (touched : AreTouched config.memory turns told.took.at.host touches)
-      (ends : EndsHonestly sectors c.slot (rephased Issued (new_entry c.ticket.0 submitted.dev submitted.request)) happened
-      (filled c.slot (own submitted.dev touches)) told.took.next.host.memory) where
+  module _ (turns : List HostTurn) (touches : Touches) (touched : AreTouched config.memory turns told.took.at.host touches) where
     came : AreTouched config.memory (turns ++ Took told.bytes told.report ∷ []) told.took.next.host
         (by_device (port_of told.bytes) (event_taken (shared_by told.took.at.host) told.bytes) ++ touches)
     came = came_next config.memory right turns told.took.at.host touches touched (Took told.bytes told.report) told.took.next.host tooks
@@ -321,59 +326,170 @@ module _ (config : Config) (units : List Unit) (fits : is_config config (length 
     ungiven = not_given more c c.slot (rephased Issued (new_entry c.ticket.0 submitted.dev submitted.request)) refl
         (each_run_keeps told.took.next.host (more ++ Polled c ∷ []) new.host polls sound_next.requests).polled
 
-    moved : submitted.request.work ≡ Read → (bytes : List ℕ) (i : ℕ) → i < 512 * submitted.request.sectors
-        → StandsAt bytes submitted.request.prds.items told.took.next.host.memory i → StandsAt bytes submitted.request.prds.items now.host.memory i
-    moved reads bytes i less p =
-        let long : length now.host.memory.client ≡ length told.took.next.host.memory.client = as_long told.took.next.host more now.host goes_on sound_next in
-        let stays : slice_index now.host.memory.client (place submitted.request.prds.items i - client_start)
-        ≡ slice_index told.took.next.host.memory.client (place submitted.request.prds.items i - client_start) =
+    to_poll : submitted.request.work ≡ Read → (i : ℕ) → i < 512 * submitted.request.sectors
+        → LiesInClient (length told.took.next.host.memory.client) (place submitted.request.prds.items i) 1
+        → slice_index now.host.memory.client (place submitted.request.prds.items i - client_start)
+        ≡ slice_index told.took.next.host.memory.client (place submitted.request.prds.items i - client_start)
+    to_poll reads i less inside =
         bytes_stay config.memory right more (turns ++ Took told.bytes told.report ∷ []) told.took.next.host now.host
         (by_device (port_of told.bytes) (event_taken (shared_by told.took.at.host) told.bytes) ++ touches) came goes_on c.slot
         (rephased Issued (new_entry c.ticket.0 submitted.dev submitted.request)) at_next (ap is_read reads) refl freed ungiven i
-        (subst (λ (k : ℕ). i < k) (sym whole) less) p.inside in
+        (subst (λ (k : ℕ). i < k) (sym whole) less) inside
+
+    still_inside : (i : ℕ) → LiesInClient (length told.took.next.host.memory.client) (place submitted.request.prds.items i) 1
+        → LiesInClient (length now.host.memory.client) (place submitted.request.prds.items i) 1
+    still_inside i inside =
+        let long : length now.host.memory.client ≡ length told.took.next.host.memory.client = as_long told.took.next.host more now.host goes_on sound_next in
+        subst (λ (k : ℕ). LiesInClient k (place submitted.request.prds.items i) 1) (sym long) inside
+
+    moved : submitted.request.work ≡ Read → (bytes : List ℕ) (i : ℕ) → i < 512 * submitted.request.sectors
+        → StandsAt bytes submitted.request.prds.items told.took.next.host.memory i → StandsAt bytes submitted.request.prds.items now.host.memory i
+    moved reads bytes i less p =
+        record { inside = still_inside i p.inside; is = p.is ∙ ap Some (sym (to_poll reads i less p.inside)) }
+
+    -- ## What was filled, whatever the device is
+
+    abbrev entry : Entry
+    entry = rephased Issued (new_entry c.ticket.0 submitted.dev submitted.request)
+
+    sound_at : IsSoundHost told.took.at.host
+    sound_at = touched_sound config.memory turns told.took.at.host touches right touched
+
+    served_at : IsServed told.took.at.host.driver (shared_by told.took.at.host) touches
+    served_at = touched_served config.memory turns told.took.at.host touches right touched
+
+    is_host : IsHost (shared_by told.took.at.host)
+    is_host = record { port = sound_at.ruled.rules; slots = sound_at.ruled.table; errors = sound_at.ruled.faults; memory = sound_at.memory }
+
+    completed : completes_now c.slot (shared_by told.took.at.host) told.bytes (own (port_of told.bytes) touches) ≡ true
+    completed = sym (delivers.reported.done c.slot (omega (arith, low))) ∙ told.done
+
+    issue : IsIssued c.slot (own submitted.dev touches)
+    issue =
+        subst (λ (m : ℕ). IsIssued c.slot (own m touches)) from_dev
+        (issued_of_done c.slot (shared_by told.took.at.host) told.bytes (own (port_of told.bytes) touches) completed)
+
+    request : IsRequestAt told.took.at.host.driver submitted.dev c.slot issue.transfer entry
+    request =
+        request_at told.took.at.host.driver submitted.dev c.slot issue.transfer entry low at_report (served_at.issues submitted.dev c.slot issue.transfer issue.is)
+
+    below_16 : submitted.dev < 16
+    below_16 = omega (arith, below)
+
+    built : issue.transfer.work ≡ work_of (request_of (request_fields c.slot entry.head))
+    built =
+        let k = has_command submitted.dev c.slot told.took.at.host (own submitted.dev touches) issue.transfer is_host issue.is
+        ((served_at.told submitted.dev below_16).issued c.slot) in
+        ((served_at.fises submitted.dev c.slot issue.transfer k.0 issue.is k.1).of_request entry low at_report).work
+
+    filled_at : submitted.request.work ≡ Read → (i : ℕ) → i < 512 * submitted.request.sectors
+        → IsFilledAt submitted.dev c.slot i submitted.request.prds.items touches now.host.memory
+    filled_at reads i less =
+        let some : 0 < submitted.request.sectors = ((served_at.bounded.entries c.slot entry at_report).size (ap is_queued reads)).some in
+        let m : MovesAll issue.transfer entry.head true = read_moves c.slot entry.head issue.transfer reads some built in
+        let there : issued c.slot (own (port_of told.bytes) touches) ≡ Some issue.transfer =
+        subst (λ (n : ℕ). issued c.slot (own n touches) ≡ Some issue.transfer) (sym from_dev) issue.is in
+        let p : IsAtItsPlace (port_of told.bytes) c.slot i issue.transfer (touched_by (shared_by told.took.at.host) (host_event.Took told.bytes told.report) ++ touches)
+        told.took.next.host.memory =
+        delivers.placed c.slot i issue.transfer (omega (arith, low)) told.done (record { is = there; reads = m.way })
+        (subst (λ (k : ℕ). i < k) (sym m.len) less) in
+        let left = leaves_filled (port_of told.bytes) c.slot (event_taken (shared_by told.took.at.host) told.bytes) touches issue.transfer.work m.queued
+        (by_transfer issue.transfer there completed) in
+        let inside : LiesInClient (length told.took.next.host.memory.client) (place submitted.request.prds.items i) 1 =
+        subst (λ (l : List Prd). LiesInClient (length told.took.next.host.memory.client) (place l i) 1) request.table p.inside in
         record {
-          inside = subst (λ (k : ℕ). LiesInClient k (place submitted.request.prds.items i) 1) (sym long) p.inside;
-          is = p.is ∙ ap Some (sym stays);
+          byte = p.byte;
+          is_filled = sym (ap (λ (n : ℕ). filled c.slot (own n touches) i) from_dev) ∙ sym (ap (λ (f : ℕ → Option ℕ). f i) left) ∙ p.is_filled;
+          inside = still_inside i inside;
+          stands = to_poll reads i less inside
+              ∙ subst (λ (l : List Prd). slice_index told.took.next.host.memory.client (place l i - client_start) ≡ p.byte) request.table p.stands;
         }
+      where
+        by_transfer : (t : Transfer) → issued c.slot (own (port_of told.bytes) touches) ≡ Some t
+            → completes_now c.slot (shared_by told.took.at.host) told.bytes (own (port_of told.bytes) touches) ≡ true
+            → match_some (event_taken (shared_by told.took.at.host) told.bytes) false (λ e. completes c.slot e (own (port_of told.bytes) touches) t.work) ≡ true
+        by_transfer t is now =
+            sym (ap (λ (o : Option Transfer). match_some o false
+            (λ u. match_some (event_taken (shared_by told.took.at.host) told.bytes) false (λ e. completes c.slot e (own (port_of told.bytes) touches) u.work))) is)
+            ∙ now
 
-    read_ends : submitted.request.work ≡ Read
-        → ReadsSectors sectors c.slot (new_entry c.ticket.0 submitted.dev submitted.request) happened now.host.memory
-    read_ends reads =
-        let r : ReadsSectors sectors c.slot (rephased Issued (new_entry c.ticket.0 submitted.dev submitted.request)) happened told.took.next.host.memory =
-        ends.reads reads in
-        record {
-          at = r.at;
-          read = r.read;
-          ended = r.ended;
-          command = record { tag = r.command.tag; lba = r.command.lba; count = r.command.count };
-          brought = λ i less.
-              moved reads (sectors_at (medium_with sectors r.read.before) submitted.request.lba submitted.request.sectors) i less (r.brought i less);
-        }
+    -- ## Where the request ended honestly
 
-    write_ends : submitted.request.work ≡ Write
-        → WritesSectors c.slot (new_entry c.ticket.0 submitted.dev submitted.request) happened (filled c.slot (own submitted.dev touches))
-    write_ends writes =
-        let w : WritesSectors c.slot (rephased Issued (new_entry c.ticket.0 submitted.dev submitted.request)) happened (filled c.slot (own submitted.dev touches)) =
-        ends.writes writes in
-        record { at = w.at; written = w.written; entered = w.entered; tag = w.tag; place = w.place; long = w.long; bytes = w.bytes }
+    module _ (sectors : ℕ) (before happened : List Happening)
+        (ends : EndsHonestly sectors c.slot (rephased Issued (new_entry c.ticket.0 submitted.dev submitted.request)) before happened
+        (filled c.slot (own submitted.dev touches)) told.took.next.host.memory) where
+      read_ends : submitted.request.work ≡ Read
+          → ReadsSectors sectors c.slot (new_entry c.ticket.0 submitted.dev submitted.request) before happened now.host.memory
+      read_ends reads =
+          let r : ReadsSectors sectors c.slot (rephased Issued (new_entry c.ticket.0 submitted.dev submitted.request)) before happened
+          told.took.next.host.memory =
+          ends.reads reads in
+          record {
+            at = r.at;
+            read = r.read;
+            ended = r.ended;
+            command = record { tag = r.command.tag; lba = r.command.lba; count = r.command.count };
+            since = r.since;
+            until = r.until;
+            brought = λ i less.
+                moved reads (sectors_at (medium_with sectors r.read.before) submitted.request.lba submitted.request.sectors) i less (r.brought i less);
+          }
 
-    stay_honest : EndedHonestly config submitted.dev sectors c.slot c.ticket submitted.request happened turns told.took.at now
-    stay_honest = record { touches = touches; touched = touched; ends = record { reads = read_ends; writes = write_ends } }
+      write_ends : submitted.request.work ≡ Write
+          → WritesSectors c.slot (new_entry c.ticket.0 submitted.dev submitted.request) before happened (filled c.slot (own submitted.dev touches))
+      write_ends writes =
+          let w : WritesSectors c.slot (rephased Issued (new_entry c.ticket.0 submitted.dev submitted.request)) before happened
+          (filled c.slot (own submitted.dev touches)) =
+          ends.writes writes in
+          record { at = w.at; written = w.written; entered = w.entered; since = w.since; tag = w.tag; place = w.place; long = w.long; bytes = w.bytes }
+
+      stay_honest : EndsHonestly sectors c.slot (new_entry c.ticket.0 submitted.dev submitted.request) before happened
+          (filled c.slot (own submitted.dev touches)) now.host.memory
+      stay_honest = record { reads = read_ends; writes = write_ends }
 
   -- ## Where its device is a disk
 
+  -- an entry that is issued was submitted as the one that waits was
+  as_given : (d : DiskRun config units submitted.dev told.took.at) (before : List Happening)
+      → WasSubmitted config units submitted.dev told.took.at d (rephased Issued (new_entry c.ticket.0 submitted.dev submitted.request)) before
+      → WasSubmitted config units submitted.dev told.took.at d (new_entry c.ticket.0 submitted.dev submitted.request) before
+  as_given d before (Before ticket request i is) = Before ticket request i is
+  as_given d before (Since ticket request i is) = Since ticket request i is
+
   module _ (sectors : ℕ) (plan : DiskPlan) (disk : IsNewDisk units submitted.dev plan sectors) (queued : is_queued submitted.request.work ≡ true) where
-    ended_honestly : (d : DiskRun config units submitted.dev told.took.at) → told.conn ≡ d.conn → EndedHonestly config submitted.dev sectors c.slot c.ticket
-        submitted.request (disk_history config units submitted.dev told.took.at d) (host_turns config units submitted.dev told.took.at d) told.took.at now
+    ended_honestly : (d : DiskRun config units submitted.dev told.took.at) → told.conn ≡ d.conn
+        → EndedSince config units submitted.dev told.took.at d sectors c.slot (new_entry c.ticket.0 submitted.dev submitted.request) now.host.memory
     ended_honestly d same =
         let first : TookHonestly config units submitted.dev sectors told.took.at d told.report told.took.next =
         disks_are_honest config units submitted.dev sectors plan fits below disk told.took.at d step.HostTake submitted.dev told.conn told.number told.bytes
         told.report told.took.next took.rule (eq-eqb submitted.dev submitted.dev refl) same in
-        stay_honest sectors (disk_history config units submitted.dev told.took.at d) (host_turns config units submitted.dev told.took.at d) first.touches
-        first.touched (first.done c.slot (rephased Issued (new_entry c.ticket.0 submitted.dev submitted.request)) low at_report queued told.done)
+        let e : EndedSince config units submitted.dev told.took.at d sectors c.slot
+        (rephased Issued (new_entry c.ticket.0 submitted.dev submitted.request)) told.took.next.host.memory =
+        first.done c.slot (rephased Issued (new_entry c.ticket.0 submitted.dev submitted.request)) low at_report queued told.done in
+        record {
+          before = e.before;
+          submitted = as_given d e.before e.submitted;
+          touches = e.touches;
+          touched = e.touched;
+          ends = stay_honest (host_turns config units submitted.dev told.took.at d) e.touches e.touched sectors e.before
+              (disk_history config units submitted.dev told.took.at d) e.ends;
+        }
+
+  abbrev turns_up : List HostTurn
+  turns_up = over turn_of (new_world config units) told.took.before told.took.told told.took.at told.took.came
+
+  touched_up : GoesTouched config.memory (over turn_of (new_world config units) told.took.before told.took.told told.took.at told.took.came) told.took.at.host
+  touched_up = touched_over config.memory right [] (over turn_of (new_world config units) told.took.before told.took.told told.took.at told.took.came)
+      (new_world config units).host told.took.at.host [] opens (run_does (new_world config units) told.took.before told.took.told told.took.at told.took.came)
 
   pub polled_honestly : IsPolledHonestly config units now steps answers run c
-  polled_honestly = record { reported = reported; honest = ended_honestly }
+  polled_honestly = record {
+    reported = reported;
+    touches = touched_up.touches;
+    touched = touched_up.touched;
+    placed = filled_at turns_up touched_up.touches touched_up.touched;
+    honest = ended_honestly;
+  }
 
 pub honest_polls : HonestPolls
 honest_polls config units fits steps answers now run c new rule done = polled_honestly config units fits steps answers now run c new rule done

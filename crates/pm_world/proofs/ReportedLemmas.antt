@@ -1,5 +1,5 @@
 -- Where in a run of a world a request was submitted, and where it was reported to be done.
-use Rattle.std.proofs.Common.{◌≡◌, ◌==◌, ℕ, true, List, [], ◌∷◌, ◌++◌, drop, length, map, refl, sym, ap, subst, ◌∙◌, inl, inr}
+use Rattle.std.proofs.Common.{◌≡◌, ◌==◌, ℕ, true, List, [], ◌∷◌, ◌++◌, drop, length, map, refl, sym, ap, subst, ◌∙◌, inl, inr, append_assoc}
 use Rattle.std.proofs.Common.{Some, Ok}
 use Rattle.std.specs.Prelude.{◌⊎◌}
 use Rattle.std.proofs.lemmas.Bool.{and_parts, eqb-true, false≢true}
@@ -25,7 +25,9 @@ use Rattle.pm_world.specs.declared.step.Answer.{Answer}
 use Rattle.pm_world.specs.declared.step.Answer.TheVariants as answer
 use Rattle.pm_world.proofs.HostFold.{rule_does}
 use Rattle.pm_world.proofs.Steps.{at_both, at_device}
-use Rattle.pm_world.specs.Polled.{IsStepOf}
+use Rattle.pm_world.specs.Runs.{IsStepOf, Telling, over}
+use Rattle.pm_world.specs.Units.{happens}
+use Rattle.hba_driver.proofs.HistoryLemmas.{free_other}
 
 -- ## Steps of a run
 
@@ -46,7 +48,7 @@ first_of s a steps answers old new run = record {
   worlds = refl;
 }
 
-abbrev later_of : (t : Step) (b : Answer) (s : Step) (a : Answer) (steps : List Step) (answers : List Answer) (old new : Places)
+abbrev pub later_of : (t : Step) (b : Answer) (s : Step) (a : Answer) (steps : List Step) (answers : List Answer) (old new : Places)
     (run : Run old (s ∷ steps) (a ∷ answers) new) → IsStepOf t b run.0 new steps answers run.2 → IsStepOf t b old new (s ∷ steps) (a ∷ answers) run
 later_of t b s a steps answers old new run i = record {
   before = s ∷ i.before;
@@ -283,13 +285,17 @@ calm_stood (t ∷ turns) old new run calm slot f here =
     not_fresh (Polled c) e is fresh = fresh
     not_fresh (Put at bytes) e is fresh = fresh
 
+-- nothing stands in the slot
+abbrev pub IsFreeSlot : ℕ → Host → Type 0
+IsFreeSlot slot h = (x : Entry) → entry_at h.driver.entries slot ≡ Some x → ⊥
+
 -- the step took the request
 abbrev SubmitsAt : Places → Step → Answer → ℕ → Entry → Type 0
 SubmitsAt old (step.Submit dev request) (answer.Submitted ticket) slot f =
-    (ticket.0 ≡ f.head.ticket) × (new_entry ticket.0 dev request ≡ f)
+    (ticket.0 ≡ f.head.ticket) × (new_entry ticket.0 dev request ≡ f) × IsFreeSlot slot old.host
 SubmitsAt old s a slot f = ⊥
 
-step_stood : (old : Places) (s : Step) (a : Answer) (new : Places) → Rule old s (Ok a) new → (slot : ℕ) (f : Entry)
+pub step_stood : (old : Places) (s : Step) (a : Answer) (new : Places) → Rule old s (Ok a) new → (slot : ℕ) (f : Entry)
     → entry_at new.host.driver.entries slot ≡ Some f → StoodIn old.host slot f ⊎ SubmitsAt old s a slot f
 step_stood old s (answer.Took port conn number bytes report) new rule slot f here =
     let does = rule_does old s (answer.Took port conn number bytes report) new rule in
@@ -302,51 +308,75 @@ step_stood old (step.Submit dev request) (answer.Submitted ticket) new rule slot
       | inl stood ↦ inl (record { entry = stood.entry; here = stood.here; same = ap (rephased Waits) (sym stood.on.same) })
       | inr fresh ↦
           let is : new_entry ticket.0 dev request ≡ f = ap (λ (k : ℕ). new_entry k dev request) rule.0.taken.next ∙ fresh.1 in
-          inr (ap (λ (x : Entry). x.head.ticket) is, is)
+          inr (
+            ap (λ (x : Entry). x.head.ticket) is,
+            is,
+            λ x there. free_other old.host.driver old.host.memory dev request rule.0.accepted slot x there fresh.0,
+          )
     ]
 step_stood old s a new rule slot f here =
     inl (calm_stood (turn_of old s a new) old.host new.host (rule_does old s a new rule) (calm_turns old s a new tt) slot f here)
 
-pub record SubmittedIn (old new : Places) (steps : List Step) (answers : List Answer) (run : Run old steps answers new) (e : Entry) : Type 0 where
-  pub ticket : Ticket
-  pub dev : ℕ
-  pub request : Request
-  pub its : IsStepOf (step.Submit dev request) (answer.Submitted ticket) old new steps answers run
-  pub is : new_entry ticket.0 dev request ≡ e
+-- what is told over a run that has this step
+abbrev pub IsToldAt : {A : Type 0} → Telling A → (s : Step) (a : Answer) (old new : Places) (steps : List Step) (answers : List Answer)
+    (run : Run old steps answers new) → IsStepOf s a old new steps answers run → Type 0
+IsToldAt tell s a old new steps answers run i =
+    over tell old steps answers new run
+    ≡ over tell old i.before i.told i.at i.came ++ (tell i.at s a i.next ++ over tell i.next i.after i.later new i.went)
+
+pub record SubmittedIn (old new : Places) (steps : List Step) (answers : List Answer) (run : Run old steps answers new) (slot : ℕ) (e : Entry) : Type 0
+  where
+    pub ticket : Ticket
+    pub dev : ℕ
+    pub request : Request
+    pub its : IsStepOf (step.Submit dev request) (answer.Submitted ticket) old new steps answers run
+    pub is : new_entry ticket.0 dev request ≡ e
+    pub free : IsFreeSlot slot its.at.host
+    pub turns : IsToldAt turn_of (step.Submit dev request) (answer.Submitted ticket) old new steps answers run its
+    pub happened : (n : ℕ) → IsToldAt (happens n) (step.Submit dev request) (answer.Submitted ticket) old new steps answers run its
 
 submitted_first : (s : Step) (a : Answer) (steps : List Step) (answers : List Answer) (old new : Places) (run : Run old (s ∷ steps) (a ∷ answers) new) (slot : ℕ)
-    (f : Entry) → SubmitsAt old s a slot f → SubmittedIn old new (s ∷ steps) (a ∷ answers) run (rephased Waits f)
+    (f : Entry) → SubmitsAt old s a slot f → SubmittedIn old new (s ∷ steps) (a ∷ answers) run slot (rephased Waits f)
 submitted_first (step.Submit dev request) (answer.Submitted ticket) steps answers old new run slot f is = record {
   ticket = ticket;
   dev = dev;
   request = request;
   its = first_of (step.Submit dev request) (answer.Submitted ticket) steps answers old new run;
   is = ap (rephased Waits) is.1;
+  free = is.2;
+  turns = refl;
+  happened = λ n. refl;
 }
 submitted_first s a steps answers old new run slot f is = absurd is
 
-submitted_later : (s : Step) (a : Answer) (steps : List Step) (answers : List Answer) (old new : Places) (run : Run old (s ∷ steps) (a ∷ answers) new) (e : Entry)
-    → SubmittedIn run.0 new steps answers run.2 e → SubmittedIn old new (s ∷ steps) (a ∷ answers) run e
-submitted_later s a steps answers old new run e i = record {
+told_later : {A : Type 0} (first whole before rest : List A) → whole ≡ before ++ rest → first ++ whole ≡ (first ++ before) ++ rest
+told_later {A} first whole before rest is = ap (λ (xs : List A). first ++ xs) is ∙ sym (append_assoc first before rest)
+
+submitted_later : (s : Step) (a : Answer) (steps : List Step) (answers : List Answer) (old new : Places) (run : Run old (s ∷ steps) (a ∷ answers) new) (slot : ℕ)
+    (e : Entry) → SubmittedIn run.0 new steps answers run.2 slot e → SubmittedIn old new (s ∷ steps) (a ∷ answers) run slot e
+submitted_later s a steps answers old new run slot e i = record {
   ticket = i.ticket;
   dev = i.dev;
   request = i.request;
   its = later_of (step.Submit i.dev i.request) (answer.Submitted i.ticket) s a steps answers old new run i.its;
   is = i.is;
+  free = i.free;
+  turns = told_later (turn_of old s a run.0) _ _ _ i.turns;
+  happened = λ n. told_later (happens n old s a run.0) _ _ _ (i.happened n);
 }
 
 pub submitted_over : (old : Places) (steps : List Step) (answers : List Answer) (new : Places) (run : Run old steps answers new) (slot : ℕ) (f : Entry)
-    → entry_at new.host.driver.entries slot ≡ Some f → StoodIn old.host slot f ⊎ SubmittedIn old new steps answers run (rephased Waits f)
+    → entry_at new.host.driver.entries slot ≡ Some f → StoodIn old.host slot f ⊎ SubmittedIn old new steps answers run slot (rephased Waits f)
 submitted_over old [] [] new run slot f here =
     inl (subst (λ (x : Places). StoodIn x.host slot f) run (record { entry = f; here = here; same = refl }))
 submitted_over old [] (a ∷ answers) new run slot f here = absurd run
 submitted_over old (s ∷ steps) [] new run slot f here = absurd run
 submitted_over old (s ∷ steps) (a ∷ answers) new run slot f here = elim (submitted_over run.0 steps answers new run.2 slot f here) [
-  | inr later ↦ inr (submitted_later s a steps answers old new run (rephased Waits f) later)
+  | inr later ↦ inr (submitted_later s a steps answers old new run slot (rephased Waits f) later)
   | inl from ↦ elim (step_stood old s a run.0 run.1 slot from.entry from.here) [
     | inl stood ↦ inl (record { entry = stood.entry; here = stood.here; same = stood.same ∙ from.same })
     | inr fresh ↦
-        inr (subst (λ (x : Entry). SubmittedIn old new (s ∷ steps) (a ∷ answers) run x) from.same
+        inr (subst (λ (x : Entry). SubmittedIn old new (s ∷ steps) (a ∷ answers) run slot x) from.same
         (submitted_first s a steps answers old new run slot from.entry fresh))
   ]
 ]

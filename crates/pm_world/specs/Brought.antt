@@ -1,14 +1,14 @@
 -- Where a read's bytes stand when it is done: in the client memory of a world's host, each at its
 -- place, they are the disk's sectors (ACS-3, READ FPDMA QUEUED; AHCI 1.3.1, 4.2.3.3, Physical
 -- Region Descriptor Table). What a host delivers is cited of `hba_driver` (specs/Delivered.antt).
-use Rattle.std.specs.Prelude.{ℕ, ◌≡◌, ◌-◌, ◌<◌, List, length, Some}
+use Rattle.std.specs.Prelude.{ℕ, ◌≡◌, ◌-◌, ◌<◌, ◌≤◌, List, length, Some}
 use Rattle.std.specs.Prelude.{slice_get, slice_index}
 use Rattle.host_memory.specs.Memory.{Memory, client_start}
 use Rattle.host_memory.specs.Place.{LiesInClient, place}
-use Rattle.disk_model.specs.declared.request.Command.{Command}
 use Rattle.disk_model.specs.Chunks.{sectors_at}
 use Rattle.disk_model.specs.Ledger.{Ledger, ReadOut, medium_with}
 use Rattle.hba_laws.specs.History.{Transfer}
+use Rattle.disk_ends.specs.Same.{SlotCommand}
 
 -- byte i of these stands in client memory, where the PRDs of the transfer say
 pub record StandsThere (bytes : List ℕ) (t : Transfer) (memory : Memory) (i : ℕ) : Type 0 where
@@ -16,11 +16,13 @@ pub record StandsThere (bytes : List ℕ) (t : Transfer) (memory : Memory) (i : 
   pub is : slice_get bytes i ≡ Some (slice_index memory.client (place t.table i - client_start))
 
 -- Client memory has the sectors of a read, as they were when the disk started it.
-pub record IsBrought (sectors : ℕ) (c : Command) (t : Transfer) (memory : Memory) (given : Ledger)
+pub record IsBrought (sectors : ℕ) (c : SlotCommand) (t : Transfer) (memory : Memory) (given : Ledger)
     : Type 0 where
   pub at : ℕ
   pub read : ReadOut
   pub ended : slice_get given.reads at ≡ Some read
-  pub command : read.command ≡ c
+  pub command : read.command ≡ c.command
+  pub since : c.since ≤ length read.before
   pub stands : (i : ℕ) → i < t.work.len
-      → StandsThere (sectors_at (medium_with sectors read.before) c.lba c.count) t memory i
+      → StandsThere (sectors_at (medium_with sectors read.before) c.command.lba c.command.count)
+      t memory i

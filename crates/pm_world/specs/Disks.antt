@@ -12,6 +12,7 @@
 use Rattle.std.specs.Prelude.{ℕ, ◌≡◌, ◌<◌, ◌==◌, ◌++◌, true, false, List, [], ◌∷◌, length}
 use Rattle.std.specs.Prelude.{slice_get, Some, Ok}
 use Rattle.std.specs.List.{list_any}
+use Rattle.host_memory.specs.Memory.{Memory}
 use Rattle.slots.specs.Slots.{has_bit}
 use Rattle.hba_fbs.specs.declared.report.TakeReport.{TakeReport}
 use Rattle.disk_model.specs.declared.plan.DiskPlan.{DiskPlan}
@@ -23,14 +24,17 @@ use Rattle.disk_model.specs.Ledger.{IsSize}
 use Rattle.disk_model.specs.Runs.{DiskStandsFor}
 use Rattle.hba_laws.specs.Client.{Touches, own}
 use Rattle.hba_laws.specs.History.{filled}
-use Rattle.hba_driver.specs.Drivers.{Entry, entry_at}
+use Rattle.hba_driver.specs.declared.request.Request.{Request}
+use Rattle.hba_driver.specs.declared.request.Ticket.{Ticket}
+use Rattle.hba_driver.specs.declared.slot.Phase.TheVariants.{Waits}
+use Rattle.hba_driver.specs.Drivers.{Entry, entry_at, rephased}
 use Rattle.hba_driver.specs.HostTurns.{HostTurn}
 use Rattle.hba_driver.specs.Orders.{is_queued}
 use Rattle.pm_world.specs.Wired.{injects, unplugs}
 use Rattle.pm_world.specs.Units.{happens}
 use Rattle.pm_world.specs.Places.{Places, is_config, new_world}
 use Rattle.pm_world.specs.Rules.{Rule, Run}
-use Rattle.pm_world.specs.Runs.{over}
+use Rattle.pm_world.specs.Runs.{IsStepOf, over}
 use Rattle.pm_world.specs.Turns.{turn_of}
 use Rattle.pm_world.specs.declared.step.Config.{Config}
 use Rattle.pm_world.specs.declared.step.Step.{Step}
@@ -39,6 +43,7 @@ use Rattle.pm_world.specs.declared.step.Answer.{Answer}
 use Rattle.pm_world.specs.declared.step.Answer.TheVariants as answer
 use Rattle.pm_world.specs.Ended.{EndsHonestly}
 use Rattle.pm_world.specs.Touched.{AreTouched}
+use Rattle.hba_driver.specs.Submits.{new_entry}
 
 -- ---- the disk and its run
 
@@ -81,18 +86,40 @@ module _ (config : Config) (units : List Unit) (n : ℕ) (now : Places)
   host_turns = over turn_of (new_world config units) d.first d.told d.out d.made
       ++ over turn_of d.out (step.Came n ∷ d.steps) (answer.Came n d.conn ∷ d.answers) now d.run
 
+  -- The request of an entry was submitted in this run, before the disk was plugged in or since. The
+  -- list is what had happened to the disk by then.
+  pub data WasSubmitted (e : Entry) : List Happening → Type 0 where
+    Before : (ticket : Ticket) (request : Request)
+        → (i : IsStepOf (step.Submit n request) (answer.Submitted ticket) (new_world config units)
+        d.out d.first d.told d.made)
+        → new_entry ticket.0 n request ≡ rephased Waits e
+        → WasSubmitted e (over (happens n) (new_world config units) i.before i.told i.at i.came)
+    Since : (ticket : Ticket) (request : Request)
+        → (i : IsStepOf (step.Submit n request) (answer.Submitted ticket) d.out now
+        (step.Came n ∷ d.steps) (answer.Came n d.conn ∷ d.answers) d.run)
+        → new_entry ticket.0 n request ≡ rephased Waits e
+        → WasSubmitted e (over (happens n) (new_world config units) d.first d.told d.out d.made
+        ++ over (happens n) d.out i.before i.told i.at i.came)
+
+  -- The request of the entry in slot s was submitted in this run, and ended honestly since then, by
+  -- all that happened to the disk since the world was made, and by what was touched at the host
+  -- since its opening.
+  pub record EndedSince (sectors s : ℕ) (e : Entry) (memory : Memory) : Type 0 where
+    pub before : List Happening
+    pub submitted : WasSubmitted e before
+    pub touches : Touches
+    pub touched : AreTouched config.memory host_turns now.host touches
+    pub ends : EndsHonestly sectors s e before disk_history (filled s (own n touches)) memory
+
 -- ---- the law
 
--- What was touched at the host since its opening; and each queued request that the report says is
--- done ended honestly, by all that happened to the disk since the world was made.
+-- Each queued request that the report says is done ended honestly, since it was submitted in this
+-- run.
 pub record TookHonestly (config : Config) (units : List Unit) (n sectors : ℕ) (now : Places)
     (d : DiskRun config units n now) (report : TakeReport) (new : Places) : Type 0 where
-  pub touches : Touches
-  pub touched : AreTouched config.memory (host_turns config units n now d) now.host touches
   pub done : (s : ℕ) (e : Entry) → s < 30 → entry_at now.host.driver.entries s ≡ Some e
       → is_queued e.head.work ≡ true → has_bit report.done s ≡ true
-      → EndsHonestly sectors s e (disk_history config units n now d) (filled s (own n touches))
-      new.host.memory
+      → EndedSince config units n now d sectors s e new.host.memory
 
 -- At each FIS of this connection that the host takes, whatever the disk and the other devices do.
 abbrev pub HonestDisks : Type 0

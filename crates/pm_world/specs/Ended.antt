@@ -2,13 +2,14 @@
 -- when the disk started it, and a write is on the medium (ACS-3, READ FPDMA QUEUED and WRITE FPDMA
 -- QUEUED; AHCI 1.3.1, 4.2.3.3, Physical Region Descriptor Table). The ledger of FISes is that of
 -- `disk_model` (specs/Ledger.antt), entries are those of `hba_driver` (specs/Drivers.antt).
-use Rattle.std.specs.Prelude.{ℕ, ◌≡◌, ◌-◌, ◌*◌, ◌<◌, List, length, slice_get}
+use Rattle.std.specs.Prelude.{ℕ, ◌≡◌, ◌-◌, ◌*◌, ◌<◌, ◌≤◌, List, length, slice_get}
 use Rattle.std.specs.Prelude.{slice_index, Option, Some}
 use Rattle.host_memory.specs.Memory.{Memory, client_start}
 use Rattle.host_memory.specs.Place.{LiesInClient, place}
 use Rattle.host_memory.specs.declared.table.Prd.{Prd}
 use Rattle.disk_model.specs.declared.request.Command.{Command}
 use Rattle.disk_model.specs.Chunks.{sectors_at}
+use Rattle.disk_model.specs.Fronts.{IsFront}
 use Rattle.disk_model.specs.Histories.{Happening}
 use Rattle.disk_model.specs.Ledger.{ReadOut, Written, ledger, medium_with}
 use Rattle.hba_driver.specs.declared.request.Work.TheVariants.{Read, Write}
@@ -27,31 +28,36 @@ pub record IsCommandOf (s : ℕ) (head : Head) (c : Command) : Type 0 where
   pub count : c.count ≡ head.sectors
 
 -- A read that the disk ended: its bytes stand in client memory, each at its place, and are its
--- sectors of the medium, as the writes that had ended when the disk started it left them.
-pub record ReadsSectors (sectors s : ℕ) (e : Entry) (happened : List Happening)
+-- sectors of the medium, as the writes that had ended when the disk started it left them. Those are
+-- the first ones of all that ended by now, with all that had ended when the request was submitted.
+pub record ReadsSectors (sectors s : ℕ) (e : Entry) (submitted happened : List Happening)
     (memory : Memory) : Type 0 where
   pub at : ℕ
   pub read : ReadOut
   pub ended : slice_get (ledger happened).reads at ≡ Some read
   pub command : IsCommandOf s e.head read.command
+  pub since : IsFront (ledger submitted).writes read.before
+  pub until : IsFront read.before (ledger happened).writes
   pub brought : (i : ℕ) → i < 512 * e.head.sectors
       → StandsAt (sectors_at (medium_with sectors read.before) e.head.lba e.head.sectors) e.prds
       memory i
 
 -- A write that the disk entered on its medium: in its sectors, with just the bytes of its transfer
--- that went over.
-pub record WritesSectors (s : ℕ) (e : Entry) (happened : List Happening) (filled : ℕ → Option ℕ)
-    : Type 0 where
+-- that went over, behind all writes that had ended when the request was submitted.
+pub record WritesSectors (s : ℕ) (e : Entry) (submitted happened : List Happening)
+    (filled : ℕ → Option ℕ) : Type 0 where
   pub at : ℕ
   pub written : Written
   pub entered : slice_get (ledger happened).writes at ≡ Some written
+  pub since : length (ledger submitted).writes ≤ at
   pub tag : written.tag ≡ s
   pub place : written.at ≡ 512 * e.head.lba
   pub long : length written.bytes ≡ 512 * e.head.sectors
   pub bytes : (i : ℕ) → i < 512 * e.head.sectors → filled i ≡ slice_get written.bytes i
 
--- the request of an entry ended honestly, by what happened to the disk
-pub record EndsHonestly (sectors s : ℕ) (e : Entry) (happened : List Happening)
+-- the request of an entry ended honestly, by what had happened to the disk when it was submitted,
+-- and by now
+pub record EndsHonestly (sectors s : ℕ) (e : Entry) (submitted happened : List Happening)
     (filled : ℕ → Option ℕ) (memory : Memory) : Type 0 where
-  pub reads : e.head.work ≡ Read → ReadsSectors sectors s e happened memory
-  pub writes : e.head.work ≡ Write → WritesSectors s e happened filled
+  pub reads : e.head.work ≡ Read → ReadsSectors sectors s e submitted happened memory
+  pub writes : e.head.work ≡ Write → WritesSectors s e submitted happened filled

@@ -21,13 +21,6 @@ use Rattle.pm_world.specs.Turns.{AreOfTheirPorts, HostIsFold}
 use Rattle.pm_world.specs.declared.step.Step.{Step}
 use Rattle.pm_world.specs.declared.step.Answer.{Answer}
 use Rattle.pm_world.specs.Units.{UnitsLiveOn, UnitsLivedOn}
-use Rattle.pm_world.specs.GoingOn.{PortsGoOn}
-use Rattle.pm_world.specs.Line.{OneOrderAtATime}
-use Rattle.pm_world.specs.Keeping.{PortsKeep}
-use Rattle.pm_world.specs.Connections.{ConnectionsFollow}
-use Rattle.pm_world.specs.Disks.{HonestDisks}
-use Rattle.pm_world.specs.Polled.{HonestPolls}
-use Rattle.pm_world.specs.Stale.{NoneIsStale}
 
 -- ---- what was taken
 
@@ -70,13 +63,6 @@ pub record ObeysLaws (old : Places) (steps : List Step) (answers : List Answer)
   pub tickets : KeepsTickets old steps answers new run
   pub isolates : Isolates old steps answers new run
   pub truth : TellsTruth old steps answers new run
-  pub ports_go_on : PortsGoOn
-  pub one_order : OneOrderAtATime
-  pub ports_keep : PortsKeep
-  pub connections_follow : ConnectionsFollow
-  pub honest_disks : HonestDisks
-  pub honest_polls : HonestPolls
-  pub none_is_stale : NoneIsStale
 
 -- They hold of each run of these steps with these answers.
 abbrev pub AreLawful : (old : Places) → (steps : List Step) → (answers : List Answer)

@@ -27,4 +27,5 @@ pub mod Stale
 pub mod Connections
 pub mod Resting
 pub mod Polled
+pub mod ReadBack
 pub mod Laws

@@ -1,8 +1,8 @@
 -- What is said over a whole run, step by step, and of the runs that lead to a world.
-use Rattle.std.specs.Prelude.{◌≡◌, true, List, [], ◌∷◌, ◌++◌, length}
+use Rattle.std.specs.Prelude.{◌≡◌, true, List, [], ◌∷◌, ◌++◌, length, Ok}
 use Rattle.disk_model.specs.declared.unit.Unit.{Unit}
 use Rattle.pm_world.specs.Places.{Places, is_config, new_world}
-use Rattle.pm_world.specs.Rules.{Run}
+use Rattle.pm_world.specs.Rules.{Rule, Run}
 use Rattle.pm_world.specs.declared.step.Config.{Config}
 use Rattle.pm_world.specs.declared.step.Step.{Step}
 use Rattle.pm_world.specs.declared.step.Answer.{Answer}
@@ -27,6 +27,15 @@ AtEach Holds old (s ∷ steps) [] new run = Prim.Unit {0}
 AtEach Holds old (s ∷ steps) (a ∷ answers) new run =
     Holds old a × AtEach Holds run.0 steps answers new run.2
 
+-- a run leads from a new world to here
+pub record IsReached (now : Places) : Type 0 where
+  pub config : Config
+  pub units : List Unit
+  pub fits : is_config config (length units) ≡ true
+  pub steps : List Step
+  pub answers : List Answer
+  pub run : Run (new_world config units) steps answers now
+
 -- what holds whichever run from a new world leads to here
 abbrev pub AfterEveryRun : (now : Places)
     → ((config : Config) → (units : List Unit) → (before : List Step) → (told : List Answer)
@@ -35,3 +44,29 @@ AfterEveryRun now Holds =
     (config : Config) (units : List Unit) → is_config config (length units) ≡ true
     → (before : List Step) (told : List Answer)
     (made : Run (new_world config units) before told now) → Holds config units before told made
+
+-- ---- steps of a run
+
+-- the world before a step
+abbrev pub world_before : Telling Places
+world_before old s a new = old ∷ []
+
+-- The step is one of a run: what the run does before it, the step itself with its answer, and what
+-- the run does after it.
+pub record IsStepOf (s : Step) (a : Answer) (old new : Places) (steps : List Step)
+    (answers : List Answer) (run : Run old steps answers new) : Type 0 where
+  pub before : List Step
+  pub told : List Answer
+  pub after : List Step
+  pub later : List Answer
+  pub steps_are : steps ≡ before ++ s ∷ after
+  pub answers_are : answers ≡ told ++ a ∷ later
+  pub at : Places
+  pub next : Places
+  pub came : Run old before told at
+  pub rule : Rule at s (Ok a) next
+  pub went : Run next after later new
+  -- over the worlds of the run
+  pub worlds : over world_before old steps answers new run
+      ≡ over world_before old before told at came
+      ++ at ∷ over world_before next after later new went

@@ -9,6 +9,7 @@
 mod counts;
 mod host;
 mod link;
+mod machine;
 mod passing;
 mod seat;
 mod step;
@@ -19,6 +20,7 @@ pub use counts::{ConnCount, Counts};
 pub use step::{Answer, Config, Step, StepError, WorldError};
 pub use theorems::{
     connections_follow, disks_are_honest, none_is_stale, one_order_at_a_time, ordered_is_not_stale,
-    polled_is_honest, ports_go_on, ports_keep_to_one, ports_rest_at_a_flush, wires_go_on,
+    polled_is_honest, ports_go_on, ports_keep_to_one, ports_rest_at_a_flush, reads_bring_writes,
+    wires_go_on,
 };
 pub use world::World;

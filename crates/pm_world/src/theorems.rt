@@ -7,5 +7,5 @@ mod orders;
 
 pub use connections::{connections_follow, ports_rest_at_a_flush};
 pub use control::{one_order_at_a_time, ports_go_on};
-pub use ends::{disks_are_honest, polled_is_honest, wires_go_on};
+pub use ends::{disks_are_honest, polled_is_honest, reads_bring_writes, wires_go_on};
 pub use orders::{none_is_stale, ordered_is_not_stale, ports_keep_to_one};

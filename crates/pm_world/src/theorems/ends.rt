@@ -2,6 +2,7 @@
 
 ghost use Rattle.pm_world.specs.Disks.{HonestDisks};
 ghost use Rattle.pm_world.specs.Polled.{HonestPolls};
+ghost use Rattle.pm_world.specs.ReadBack.{ReadsBringWrites, WritesStayThere};
 ghost use Rattle.pm_world.specs.Wire.{DroppedNeverComes, PluggedIsOnWire, UnitWiresGoOn, WiresGoOn};
 
 /// What each step of a world does on the wire of one device, whatever the device sends: the host
@@ -30,4 +31,11 @@ pub fn disks_are_honest()
 /// of the medium, as they were when the disk started it; a write is on the medium.
 pub fn polled_is_honest()
     ensures { HonestPolls }
+{}
+
+/// A read that was submitted after a write had ended brings the bytes that went over for the write,
+/// where no later write has them. They stay on the medium likewise, whatever happens to the disk.
+pub fn reads_bring_writes()
+    ensures reads { ReadsBringWrites }
+    ensures stay { WritesStayThere }
 {}

@@ -1,8 +1,21 @@
-use Rattle.pm_world.proofs.Openings.{nothing_falls, nothing_stands}
+use Rattle.std.proofs.Common.{◌≡◌, ◌↔◌, Bool, true, false, refl, [], Ok, Err}
+use Rattle.std.specs.Prelude.{Result, length}
+use Rattle.pm_world.specs.Places.{Places, is_config}
+use Rattle.pm_world.specs.declared.step.WorldError.{WorldError}
+use Rattle.pm_world.specs.declared.step.WorldError.TheVariants.{BadConfig}
 use Rattle.pm_world.proofs.world.World.new.Goals as goal
 
-pub returns-clause-nothing_stands : goal.returns-clause-nothing_stands
-returns-clause-nothing_stands c = λ n k. rw (c.in_ok-seats.ensures, c.in_ok-upward.ensures, c.new-multiplier.ensures) (nothing_stands c.args.config c.args.units.items n k)
+-- what was made has a configuration that fits
+fits_made : (b : Bool) (r : Result Places WorldError) (w : Places) → (r ≡ Err BadConfig) ↔ (b ≡ false) → r ≡ Ok w → b ≡ true
+fits_made true r w iff is = refl
+fits_made false r w iff is = let bad : r ≡ Err BadConfig = iff.1 refl in absurd (cc (bad, is))
 
-pub returns-clause-nothing_falls : goal.returns-clause-nothing_falls
-returns-clause-nothing_falls c = λ n. rw (c.in_ok-seats.ensures, c.new-multiplier.ensures) (nothing_falls c.args.config c.args.units.items n)
+pub invariant_of-result : goal.invariant_of-result
+invariant_of-result c = record {
+  config = c.args.config;
+  units = c.args.units.items;
+  fits = fits_made (is_config c.args.config (length c.args.units.items)) c.new.result c.in_ok-machine.machine c.new.ensures.bad_config c.in_ok-machine.was;
+  steps = [];
+  answers = [];
+  run = c.in_ok-machine.ensures.ok;
+}

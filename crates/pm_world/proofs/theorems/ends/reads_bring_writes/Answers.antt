@@ -1,0 +1,8 @@
+use Rattle.pm_world.proofs.ReadBackLemmas.{reads_bring_writes, writes_stay_there}
+use Rattle.pm_world.proofs.theorems.ends.reads_bring_writes.Goals as goal
+
+pub returns-clause-reads : goal.returns-clause-reads
+returns-clause-reads c = reads_bring_writes
+
+pub returns-clause-stay : goal.returns-clause-stay
+returns-clause-stay c = writes_stay_there

@@ -1,0 +1,61 @@
+-- What a write is to later requests and to the medium (ACS-3, READ FPDMA QUEUED and WRITE FPDMA QUEUED): a read that was
+-- submitted once the write had ended brings the bytes of the write, and they stay on the medium, until a later write has
+-- them.
+--
+-- Cited: requests that ended honestly since they were submitted (specs/Disks.antt, Ended.antt); which writes have a byte
+-- of a medium is of `disk_model` (specs/Last.antt).
+use Rattle.std.specs.Prelude.{ℕ, ◌≡◌, ◌+◌, ◌-◌, ◌*◌, ◌<◌, ◌++◌, suc, true, drop, List, length, slice_get, slice_index, Some}
+use Rattle.host_memory.specs.Memory.{Memory, client_start}
+use Rattle.host_memory.specs.Place.{place}
+use Rattle.disk_model.specs.declared.plan.DiskPlan.{DiskPlan}
+use Rattle.disk_model.specs.declared.unit.Unit.{Unit}
+use Rattle.disk_model.specs.Histories.{Happening}
+use Rattle.disk_model.specs.Last.{NoneCovers}
+use Rattle.disk_model.specs.Ledger.{ledger}
+use Rattle.disk_model.specs.Runs.{IsDiskRun, moment}
+use Rattle.hba_laws.specs.Client.{own}
+use Rattle.hba_laws.specs.History.{filled}
+use Rattle.hba_driver.specs.declared.request.Work.TheVariants.{Read, Write}
+use Rattle.hba_driver.specs.Drivers.{Entry}
+use Rattle.pm_world.specs.Disks.{DiskRun, EndedSince, IsNewDisk, disk_history}
+use Rattle.pm_world.specs.Ended.{ReadsSectors, WritesSectors}
+use Rattle.pm_world.specs.Places.{Places, is_config}
+use Rattle.pm_world.specs.declared.step.Config.{Config}
+
+-- what happened first of all this
+pub record IsPart (part whole : List Happening) : Type 0 where
+  pub later : List Happening
+  pub is : whole ≡ part ++ later
+
+-- byte i of the sectors of a read is byte j of those of a write
+pub record IsOneByte (read write : Entry) (i j : ℕ) : Type 0 where
+  pub of_read : i < 512 * read.head.sectors
+  pub of_write : j < 512 * write.head.sectors
+  pub same : 512 * read.head.lba + i ≡ 512 * write.head.lba + j
+
+-- A read that was submitted after all by which a write had ended: of each byte that both have, and that no write has which
+-- ended after that one and before the read began, client memory has at the read's place what went over for the write.
+abbrev pub ReadsBringWrites : Type 0
+ReadsBringWrites =
+    (config : Config) (units : List Unit) (n sectors : ℕ) (plan : DiskPlan)
+    → is_config config (length units) ≡ true → n < 15 → IsNewDisk units n plan sectors
+    → (was now : Places) (d : DiskRun config units n was) (f : DiskRun config units n now) (s t : ℕ) (write read : Entry)
+    (m l : Memory) (writes : write.head.work ≡ Write) (reads : read.head.work ≡ Read)
+    (w : EndedSince config units n was d sectors s write m) (r : EndedSince config units n now f sectors t read l)
+    → IsPart (disk_history config units n was d) r.before
+    → (i j : ℕ) → IsOneByte read write i j
+    → NoneCovers (512 * read.head.lba + i) (drop (suc (w.ends.writes writes).at) (r.ends.reads reads).read.before)
+    → filled s (own n w.touches) j ≡ Some (slice_index l.client (place read.prds i - client_start))
+
+-- A write that ended stays on the medium, whatever happens to the disk from there on: each byte of it is there, but for
+-- those of later writes.
+abbrev pub WritesStayThere : Type 0
+WritesStayThere =
+    (config : Config) (units : List Unit) (n sectors : ℕ) (plan : DiskPlan)
+    → IsNewDisk units n plan sectors
+    → (was : Places) (d : DiskRun config units n was) (s : ℕ) (write : Entry) (m : Memory) (writes : write.head.work ≡ Write)
+    (w : EndedSince config units n was d sectors s write m)
+    → (history : List Happening) → IsDiskRun plan sectors history → IsPart (disk_history config units n was d) history
+    → (j : ℕ) → j < 512 * write.head.sectors
+    → NoneCovers (512 * write.head.lba + j) (drop (suc (w.ends.writes writes).at) (ledger history).writes)
+    → slice_get (moment plan sectors history).medium (512 * write.head.lba + j) ≡ filled s (own n w.touches) j
