@@ -1,9 +1,7 @@
 //! What no clause says: values from outside, that calls succeed, and what refused memory leaves.
 
-mod blocked;
 mod dropping;
 mod echo;
-mod faulting;
 mod found;
 mod going;
 mod memory;
@@ -13,5 +11,4 @@ mod rig;
 mod running;
 mod sizes;
 mod steps;
-mod submitting;
 mod writing;

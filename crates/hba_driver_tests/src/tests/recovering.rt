@@ -10,62 +10,6 @@ use super::steps::{Step, assert_steps};
 use hba_driver::{Driver, Outcome, SubmitError};
 use std::test::Fail;
 
-/// The device of port 2 tells of an error.
-const ERRED: &[u8] = &[0xA1, 0x42, 0x41, 0x40, 0, 0, 0, 0];
-
-/// Two reads of device 0, and then four of device 2, whose sector 8 is bad. Device 0 stands still until the error of
-/// device 2 is there.
-static FAILS_ONE: [Step; 16] = [
-    Plugs(0, Unit::Disk),
-    Plugs(2, Unit::BadDisk(8)),
-    Settles,
-    Reads(0, 0, 0x10_1000, Ok(1)),
-    Reads(0, 1, 0x10_2000, Ok(2)),
-    Reads(2, 8, 0x10_3000, Ok(3)),
-    Reads(2, 9, 0x10_4000, Ok(4)),
-    Reads(2, 10, 0x10_5000, Ok(5)),
-    Reads(2, 11, 0x10_6000, Ok(6)),
-    Until(Some(0), ERRED),
-    Faults([0x4000_0000, 0x2_0004]),
-    Ticks(true),
-    Faults([0, 0]),
-    Flushes(2, Err(SubmitError::Recovering)),
-    Flushes(0, Err(SubmitError::QueueBusy)),
-    Settles,
-];
-
-const UNREADABLE: Outcome = Outcome::DeviceError {
-    status: 0x41,
-    error: 0x40,
-};
-
-/// The error log is in the driver's buffer, and the requests of device 2 end as it says; those of device 0 are done, and
-/// their sectors are where they belong.
-static IS_NAMED: [Step; 17] = [
-    Holds(0x10_0000, [2, 0, 0x41, 0x40]),
-    Holds(0x10_0004, [8, 0, 0, 0x40]),
-    Holds(0x10_01FC, [0, 0, 0, 0x35]),
-    Commands(2, 0x2F, 1),
-    Resets(2, 0),
-    Holds(0x10_1000, [0, 1, 2, 3]),
-    Holds(0x10_2000, [1, 2, 3, 4]),
-    Polls(1, 0, Outcome::Done),
-    Polls(2, 1, Outcome::Done),
-    Polls(3, 2, UNREADABLE),
-    Polls(4, 3, Outcome::Aborted),
-    Polls(5, 4, Outcome::Aborted),
-    Polls(6, 5, Outcome::Aborted),
-    PollsNone,
-    Flushes(2, Ok(7)),
-    Settles,
-    Polls(7, 0, Outcome::Done),
-];
-
-#[test]
-fn log_names_the_request(rt: HostRuntime) -> Result<(), Fail> {
-    assert_steps(&rt, rt.alloc(), Driver::new(), 3, &[&FAILS_ONE, &IS_NAMED])
-}
-
 /// Identify data with a queue of 32 in word 75, and queued commands in word 76.
 const QUEUED: &[(usize, u8)] = &[(150, 31), (153, 1)];
 

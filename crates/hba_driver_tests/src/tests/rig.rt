@@ -21,8 +21,6 @@ pub(super) enum Unit {
     Made,
     /// A disk of 256 sectors.
     Disk,
-    /// The same with this bad sector.
-    BadDisk(u32),
 }
 
 /// Host port and driver, multiplier and devices.
@@ -118,17 +116,10 @@ fn serve(alloc: Global, pm: &mut Multiplier, n: u8, disk: &mut Disk) -> Result<b
 
 /// The disk that a unit is, if it is one.
 fn disk_of(alloc: Global, unit: Unit) -> Result<Option<Disk>, Fail> {
-    let mut plan = DiskPlan::plain();
-    match unit {
-        Unit::Made => return Ok(None),
-        Unit::Disk => {}
-        Unit::BadDisk(sector) => {
-            if !plan.bad.is_full() {
-                plan.bad.push(sector);
-            }
-        }
+    if matches!(unit, Unit::Made) {
+        return Ok(None);
     }
-    let mut disk = Disk::new(alloc, 256, plan)?;
+    let mut disk = Disk::new(alloc, 256, DiskPlan::plain())?;
     disk.plugged(alloc)?;
     Ok(Some(disk))
 }

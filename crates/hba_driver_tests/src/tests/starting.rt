@@ -1,10 +1,8 @@
 //! From nothing to devices that take requests.
 
-use super::rig::Unit;
 use super::steps::Step::{
-    Comes, ComesPage, Commands, Flushes, Gives, Hears, Holds, IsUsed, Issues, Opens, Plugs,
-    PlugsDisks, Polls, PollsNone, Puts, Reads, Sent, Sets, Settles, Status, Submits, Ticks, Took,
-    Writes,
+    Flushes, Gives, Hears, Holds, IsUsed, Issues, Opens, PlugsDisks, Polls, PollsNone, Puts, Reads,
+    Sent, Sets, Settles, Status, Submits, Ticks, Took, Writes,
 };
 use super::steps::{Step, assert_steps};
 use hba_driver::{Driver, Outcome, SubmitError, Work};
@@ -190,29 +188,7 @@ fn requests_are_done(rt: HostRuntime) -> Result<(), Fail> {
     assert_steps(&rt, rt.alloc(), Driver::new(), 1, &steps)
 }
 
-/// Each of fifteen disks takes requests, and no other port has a device.
-#[test]
-fn fifteen_disks_come_up(rt: HostRuntime) -> Result<(), Fail> {
-    let mut given = [PlugsDisks(15); 16];
-    let mut ended = [Settles; 16];
-    for dev in 0..15_u8 {
-        given[dev as usize + 1] = Flushes(dev, Ok(u32::from(dev) + 1));
-        ended[dev as usize + 1] = Polls(u32::from(dev) + 1, dev, Outcome::Done);
-    }
-    let none = [
-        Flushes(15, Err(SubmitError::NoDevice)),
-        Flushes(16, Err(SubmitError::NoDevice)),
-        Flushes(255, Err(SubmitError::NoDevice)),
-    ];
-    let driver = Driver::with_next_ticket(0);
-    assert_steps(&rt, rt.alloc(), driver, 15, &[&given, &none, &ended])
-}
-
-/// The signature of a device for packets.
-const PACKET: &[u8] = &[
-    0x34, 0x40, 0x50, 1, 1, 0x14, 0xEB, 0, 0, 0, 0, 0, 1, 0, 0, 0, 0, 0, 0, 0,
-];
-/// That of an ATA device.
+/// The signature of an ATA device.
 pub(super) const ATA: &[u8] = &[
     0x34, 0x40, 0x50, 1, 1, 0, 0, 0, 0, 0, 0, 0, 1, 0, 0, 0, 0, 0, 0, 0,
 ];
@@ -220,41 +196,6 @@ pub(super) const ATA: &[u8] = &[
 pub(super) const PIO: &[u8] = &[
     0x5F, 0x60, 0x58, 0, 0, 0, 0, 0, 0, 0, 0, 0, 0, 0, 0, 0x50, 0, 2, 0, 0,
 ];
-
-/// Identify data with a queue of 32 in word 75, and no queued commands in word 76.
-const UNQUEUED: &[(usize, u8)] = &[(150, 31), (152, 6)];
-
-/// A device with another signature is never identified; one without queued commands takes no request. The disk behind them
-/// goes on.
-static OTHERS: [Step; 22] = [
-    Plugs(0, Unit::Made),
-    Plugs(1, Unit::Made),
-    Comes(0, PACKET),
-    Comes(1, ATA),
-    Plugs(2, Unit::Disk),
-    Settles,
-    Commands(0, 0xEC, 0),
-    Flushes(0, Err(SubmitError::NoDevice)),
-    Commands(1, 0xEC, 1),
-    Flushes(1, Err(SubmitError::NoDevice)),
-    Commands(2, 0xEC, 0),
-    Flushes(2, Err(SubmitError::NoDevice)),
-    Comes(1, PIO),
-    ComesPage(1, UNQUEUED),
-    Commands(0, 0xEC, 0),
-    Flushes(0, Err(SubmitError::NoDevice)),
-    Commands(1, 0xEC, 1),
-    Flushes(1, Err(SubmitError::NoDevice)),
-    Commands(2, 0xEC, 1),
-    Flushes(2, Ok(1)),
-    Settles,
-    Polls(1, 0, Outcome::Done),
-];
-
-#[test]
-fn others_go_on(rt: HostRuntime) -> Result<(), Fail> {
-    assert_steps(&rt, rt.alloc(), Driver::new(), 3, &[&OTHERS])
-}
 
 /// The notification of the multiplier.
 const NOTICE: &[u8] = &[0xA1, 0xCF, 0x50, 0, 0, 0, 0, 0];

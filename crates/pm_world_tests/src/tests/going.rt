@@ -118,20 +118,3 @@ fn a_device_goes_and_comes_again(rt: HostRuntime) -> Result<(), Fail> {
     ];
     plays(&rt, rt.alloc(), 2, &steps)
 }
-
-/// A removal that finds the presence link full waits.
-const WAITS_FOR_ROOM: &[(Act, Told)] = &[
-    (Act::Gone(1), Told::Stopped(StepError::NotThere)),
-    (Act::Came(1), Told::Came(1, 1)),
-    (Act::Gone(1), Told::Blocked),
-    (Act::PmPresence(1), Told::Presence(1)),
-    (Act::Gone(1), Told::Gone(1, 1)),
-    (Act::Came(1), Told::Blocked),
-    (Act::PmPresence(1), Told::Presence(1)),
-    (Act::Came(1), Told::Came(1, 2)),
-];
-
-#[test]
-fn a_removal_waits_for_room(rt: HostRuntime) -> Result<(), Fail> {
-    plays(&rt, rt.alloc(), 2, &[Rows(WAITS_FOR_ROOM)])
-}

@@ -209,20 +209,6 @@ pub(super) fn disks(alloc: Global, count: u8) -> Result<Vec<Unit>, AllocError> {
     Ok(units)
 }
 
-/// The plan of a disk of which one sector cannot be read.
-fn bad_plan(sector: u32) -> DiskPlan {
-    let mut plan = DiskPlan::plain();
-    plan.bad.push(sector);
-    plan
-}
-
-/// So many disks and one more, of which one sector cannot be read.
-fn disks_and_bad(alloc: Global, count: u8, sector: u32) -> Result<Vec<Unit>, AllocError> {
-    let mut units = disks(alloc, count)?;
-    units.push(disk(alloc, bad_plan(sector))?)?;
-    Ok(units)
-}
-
 /// A world of so many disks.
 pub(super) fn world_of(alloc: Global, config: Config, count: u8) -> Result<World, WorldError> {
     World::new(alloc, config, disks(alloc, count)?)
@@ -235,11 +221,6 @@ fn config(ports: u8, capacity: usize) -> Config {
         capacity,
         memory: MEMORY,
     }
-}
-
-/// A world of two disks and a third, of which one sector cannot be read.
-fn world_with_bad(alloc: Global, sector: u32) -> Result<World, WorldError> {
-    World::new(alloc, config(3, 1), disks_and_bad(alloc, 2, sector)?)
 }
 
 /// A world of so many disks, with links of this capacity.
@@ -318,12 +299,6 @@ impl Rig {
     pub(super) fn new(alloc: Global, ports: u8, capacity: usize) -> Result<Rig, WorldError> {
         let world = world(alloc, ports, capacity)?;
         Ok(Rig::of(alloc, world, ports, None))
-    }
-
-    /// Of two disks and a third, of which one sector cannot be read. None is plugged in.
-    pub(super) fn with_bad(alloc: Global, sector: u32) -> Result<Rig, WorldError> {
-        let world = world_with_bad(alloc, sector)?;
-        Ok(Rig::of(alloc, world, 3, None))
     }
 
     /// Of three disks, none of which is plugged in, with an echo that follows.
@@ -451,22 +426,6 @@ impl Rig {
         true
     }
 
-    /// What is told of a request.
-    pub(super) fn submits(
-        &mut self,
-        request: (u8, Work, u64, u16),
-        entries: &[(u32, u32)],
-    ) -> Told {
-        let mut made = submit(self.alloc, request, entries);
-        if made.is_err() {
-            made = submit(self.alloc, request, entries);
-        }
-        match made {
-            Ok(step) => self.gives(&step),
-            Err(_) => Told::Stopped(StepError::OutOfMemory),
-        }
-    }
-
     /// What the last answer told of bytes.
     pub(super) fn bytes(&self) -> Option<&[u8]> {
         let bytes = self.bytes.as_ref()?;
@@ -508,15 +467,6 @@ impl Rig {
 
     pub(super) fn has_unit(&self, n: u8) -> bool {
         self.world.unit(n).is_some()
-    }
-
-    /// Whether so many bytes of memory, from this address on, are this one.
-    pub(super) fn holds(&self, at: u32, count: u32, byte: u8) -> bool {
-        let mut holds = true;
-        for i in 0..count {
-            holds &= byte_at(&self.world, at.wrapping_add(i)) == Some(byte);
-        }
-        holds
     }
 
     /// Whether the bytes from this address on are this sector of a disk, as it opens: each is one more than the one before.
