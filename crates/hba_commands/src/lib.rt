@@ -13,6 +13,3 @@ pub use command::Command;
 pub use header::pmp;
 pub use laws::commands_are_of_their_bytes;
 pub use write::write_command;
-
-#[cfg(test)]
-mod tests;

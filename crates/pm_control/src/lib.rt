@@ -8,6 +8,3 @@ mod request;
 
 pub use control::PmControl;
 pub use laws::commands_are_answered;
-
-#[cfg(test)]
-mod tests;

@@ -9,6 +9,3 @@
 mod port;
 
 pub use port::{GoneError, Offered, Port, PortError};
-
-#[cfg(test)]
-mod tests;

@@ -12,6 +12,3 @@ mod interrupts;
 pub use cause::{DeviceCause, PortCause};
 pub use errors::{FbsBits, PortErrors};
 pub use interrupts::Interrupts;
-
-#[cfg(test)]
-mod tests;

@@ -10,6 +10,3 @@ pub use area::{Posted, RxArea};
 
 /// The bytes of a received area: 16 rows of 256 bytes (AHCI 1.3.1, 4.2.1 and 9.3, FIS-based switching).
 pub const RX_AREA: usize = 4096;
-
-#[cfg(test)]
-mod tests;

@@ -2,8 +2,8 @@
 
 ghost use Rattle.std.specs.Prelude.{◌<◌, ◌≡◌};
 
-use crate::{PmControl, commands_are_answered};
 use fis_view::{Frame, FrameError, Stamp};
+use pm_control::{PmControl, commands_are_answered};
 use pm_registers::{
     CONTROL_PORT, GSCR_ENABLED, GSCR_MASK, GSCR_SUMMARY, PSCR_CONTROL, PSCR_ERROR, PmRegisters,
     RegisterError,

@@ -4,9 +4,9 @@
 
 use super::rows::{ROWS, Row};
 use super::{LIST, fields, write};
-use crate::{Command, pmp};
 use byteorder::{ByteOrder, LittleEndian};
 use fis_view::H2dFields;
+use hba_commands::{Command, pmp};
 use host_memory::{HostMemory, Prd, total_of};
 use slots::{Kind, Work};
 use std::alloc::{AllocError, Global};

@@ -1,8 +1,8 @@
 //! Commands of each kind, and each reason for which one is bad.
 
 use super::{LIST, fields, write};
-use crate::Command;
 use fis_view::H2dFields;
+use hba_commands::Command;
 use host_memory::{HostMemory, Prd};
 use slots::{Kind, Work};
 use std::process::Abort;

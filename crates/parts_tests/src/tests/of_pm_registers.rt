@@ -2,7 +2,7 @@
 
 ghost use Rattle.std.specs.Prelude.{◌<◌, ◌≡◌};
 
-use crate::{
+use pm_registers::{
     CONTROL_PORT, DET_MASK, DET_OFFLINE, FEATURE_NOTIFICATION, GSCR_ENABLED, GSCR_MASK,
     GSCR_SUMMARY, PSCR_CONTROL, PSCR_ERROR, PSCR_STATUS, PmRegisters, RegisterError, SERROR_F,
     SERROR_N, SERROR_X, STATUS_ESTABLISHED, registers_follow_calls,

@@ -5,8 +5,8 @@ mod vectors;
 ghost use Rattle.std.specs.Prelude.{◌↔◌, All, IsTrue};
 ghost use Rattle.host_memory.specs.Writing.{CanBeWritten};
 
-use crate::{Command, commands_are_of_their_bytes, pmp, write_command};
 use fis_view::H2dFields;
+use hba_commands::{Command, commands_are_of_their_bytes, pmp, write_command};
 use host_memory::{HostMemory, Prd};
 use slots::{Kind, Work};
 use std::process::Abort;

@@ -3,8 +3,8 @@
 ghost use Rattle.std.specs.Prelude.{◌≡◌, ◌<◌, length};
 ghost use Rattle.rx_area.specs.Area.{after_post};
 
-use crate::{Posted, RX_AREA, RxArea};
 use fis_view::Fis;
+use rx_area::{Posted, RX_AREA, RxArea};
 use std::test::Fail;
 
 /// The bytes that were lent end as the area leaves them.

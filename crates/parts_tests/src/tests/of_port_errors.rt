@@ -1,7 +1,7 @@
 //! What no clause says: values from outside, and that the calls answer them.
 
-use crate::{DeviceCause, FbsBits, Interrupts, PortCause, PortErrors};
 use bitflags::Flags;
+use port_errors::{DeviceCause, FbsBits, Interrupts, PortCause, PortErrors};
 
 /// The interrupt bits of each cause, as PxIS shows them.
 #[test]

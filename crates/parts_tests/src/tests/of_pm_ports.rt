@@ -1,7 +1,7 @@
 //! What no clause says: values from outside, and that calls succeed.
 
-use crate::{GoneError, Offered, Port, PortError};
 use fis_view::{Frame, Stamp};
+use pm_ports::{GoneError, Offered, Port, PortError};
 use std::alloc::Global;
 use std::test::Fail;
 

@@ -1,0 +1,10 @@
+//! What no clause says: values from outside, and that calls answer and succeed.
+//!
+//! A module has the name of the crate that it tests, with a word behind it, since a module and a library need different names.
+
+mod of_hba_commands;
+mod of_pm_control;
+mod of_pm_ports;
+mod of_pm_registers;
+mod of_port_errors;
+mod of_rx_area;
