@@ -25,7 +25,7 @@ use Rattle.hba_fbs.specs.Offsets.{register_at}
 use Rattle.hba_fbs.specs.Sending.{Outgoing, outgoing}
 use Rattle.hba_fbs.specs.Sending as out
 use Rattle.hba_fbs.specs.Tables.{is_sound}
-use Rattle.hba_fbs.specs.Taking.{admitted, heard, heard_now, heard_report, heard_view, ignores, place_of, port_of, told_bytes, wrote_by}
+use Rattle.hba_fbs.specs.Taking.{admitted, heard, heard_now, heard_report, heard_view, ignores, place_of, port_of, wrote_by}
 use Rattle.hba_fbs.specs.Views.{DeviceView, Port, last_command, view_of}
 use Rattle.hba_fbs.specs.Writing.{commands_after, refusal_of, write_refusal}
 use Rattle.hba_laws.proofs.OutgoingLemmas.{data_is_own}
@@ -53,7 +53,7 @@ awaited_as n old new view commands h = record {
 -- ---- a frame is taken
 
 -- bytes went to slot 30, so they are IDENTIFY data
-here_identity : (port : Port) (o : Option Wrote) → is_identify (last_command port.commands 30) ≡ true → is_identity port (told_bytes o) ≡ false → is_here o ≡ false
+here_identity : (port : Port) (o : Option Wrote) → is_identify (last_command port.commands 30) ≡ true → is_identity port o ≡ false → is_here o ≡ false
 here_identity port None command none = refl
 here_identity port (Some wrote) command none = by_test (wrote.slot == 30) refl
   where
@@ -72,7 +72,7 @@ stays_admitted : (dev : ℕ) (view : DeviceView) (sound : Bool) (o : Option Fis)
 stays_admitted dev view sound None none short = short
 stays_admitted dev view sound (Some fis) none short = stays_heard view.slots view.state sound fis none short
 
-told_wrote : (dev : ℕ) (fis : Option Fis) (h : Heard) → (heard_report dev (place_of fis) h).wrote ≡ told_bytes (wrote_by h.happening)
+told_wrote : (dev : ℕ) (fis : Option Fis) (h : Heard) → (heard_report dev (place_of fis) h).wrote ≡ wrote_by h.happening
 unfolding heard_report
 told_wrote dev fis h = refl
 
@@ -95,7 +95,7 @@ awaited_took n old new frame report does none h = by_ignored (ignores (port_of f
               let view : DeviceView = view_of (port_of frame) old.port in
               let sound : Bool = is_sound old.memory old.port.commands view.slots in
               let brought : is_identity old.port report.wrote ≡ false = last_false (port_of frame == n) (is_identity old.port report.wrote) none (eq-eqb (port_of frame) n (sym same)) in
-              let wrote : report.wrote ≡ told_bytes (wrote_by (heard_now old.port old.memory (port_of frame) fis).happening) = ap (λ (r : TakeReport). r.wrote) takes.reports ∙ told_wrote (port_of frame) fis (heard_now old.port old.memory (port_of frame) fis) in
+              let wrote : report.wrote ≡ wrote_by (heard_now old.port old.memory (port_of frame) fis).happening = ap (λ (r : TakeReport). r.wrote) takes.reports ∙ told_wrote (port_of frame) fis (heard_now old.port old.memory (port_of frame) fis) in
               let away : is_here (wrote_by (heard_now old.port old.memory (port_of frame) fis).happening) ≡ false =
               here_identity old.port (wrote_by (heard_now old.port old.memory (port_of frame) fis).happening) h.command (ap (is_identity old.port) (sym wrote) ∙ brought) in
               let short : IsShort view.slots = subst (λ (k : ℕ). IsShort (view_of k old.port).slots) same h.own in

@@ -12,6 +12,7 @@ use Rattle.slots.specs.declared.work.Kind.TheVariants.{QueuedRead, QueuedWrite, 
 use Rattle.slots.specs.declared.work.Kind.TheVariants.{Control}
 use Rattle.hba_commands.specs.Requests.{kind_of, request_at}
 use Rattle.hba_commands.specs.declared.command.Command.{Command}
+use Rattle.hba_fbs.specs.declared.report.Wrote.{Wrote}
 use Rattle.hba_fbs.specs.Taking.{port_of}
 use Rattle.hba_fbs.specs.Views.{Port, last_command}
 use Rattle.hba_driver.specs.declared.plan.Device.TheVariants.{Ready}
@@ -28,10 +29,10 @@ is_identify None = false
 is_identify (Some command) =
     match_some (request_at command.cfis) false (λ request. request.c && request.command == 0xEC)
 
--- bytes were written for such a command: their slot, the number of the first and how many they are
-abbrev pub is_identity : Port → Option (ℕ × ℕ × ℕ) → Bool
+-- bytes were written for such a command
+abbrev pub is_identity : Port → Option Wrote → Bool
 is_identity port None = false
-is_identity port (Some wrote) = is_identify (last_command port.commands wrote.0)
+is_identity port (Some wrote) = is_identify (last_command port.commands wrote.slot)
 
 -- IDENTIFY data of device n are accepted: a FIS of it of which the port wrote bytes for an
 -- IDENTIFY DEVICE

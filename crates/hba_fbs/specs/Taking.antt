@@ -114,11 +114,6 @@ wrote_by (happening.PioSetUp count to_host) = None
 wrote_by happening.Activated = None
 wrote_by (happening.Carried wrote finishes) = Some wrote
 
--- their slot, the number of the first and how many they are
-abbrev pub told_bytes : Option Wrote → Option (ℕ × ℕ × ℕ)
-told_bytes None = None
-told_bytes (Some wrote) = Some (wrote.slot, wrote.offset, wrote.len)
-
 unfoldable pub heard_report : ℕ → Posted → Heard → TakeReport
 heard_report dev at h = record {
   dev = dev;
@@ -126,7 +121,7 @@ heard_report dev at h = record {
   posted = at;
   fault = device_cause h.fault;
   stopped = port_cause h.fault;
-  wrote = told_bytes (wrote_by h.happening);
+  wrote = wrote_by h.happening;
   done = h.done;
 }
 

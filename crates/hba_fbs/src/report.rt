@@ -1,7 +1,7 @@
 //! What taking a FIS did.
 
 ghost use Rattle.std.specs.Prelude.{◌≡◌};
-ghost use Rattle.hba_fbs.specs.Taking.{device_cause as device_cause_of, heard_report, ignored_report, port_cause as port_cause_of, told_bytes as told_bytes_of, wrote_by};
+ghost use Rattle.hba_fbs.specs.Taking.{device_cause as device_cause_of, heard_report, ignored_report, port_cause as port_cause_of, wrote_by};
 
 use crate::hearing::{Fault, Happening, Heard};
 use port_errors::{DeviceCause, PortCause};
@@ -31,9 +31,8 @@ pub struct TakeReport {
     pub fault: Option<DeviceCause>,
     /// Why the port is stopped since.
     pub stopped: Option<PortCause>,
-    /// The bytes that it brought to client memory: their slot, the number of the first of them in
-    /// the slot's transfer, and how many they are.
-    pub wrote: Option<(u8, u32, u32)>,
+    /// The bytes that it brought to client memory.
+    pub wrote: Option<Wrote>,
     /// The slots that became free, as a mask.
     pub done: u32,
 }
@@ -57,11 +56,11 @@ fn port_cause(fault: Option<Fault>) -> Option<PortCause>
     }
 }
 
-fn told_bytes(happening: Happening) -> Option<(u8, u32, u32)>
-    ensures { result ≡ told_bytes_of (wrote_by happening) }
+fn brought(happening: Happening) -> Option<Wrote>
+    ensures { result ≡ wrote_by happening }
 {
     match happening {
-        Happening::Carried(wrote, _) => Some((wrote.slot, wrote.offset, wrote.len)),
+        Happening::Carried(wrote, _) => Some(wrote),
         Happening::Nothing
         | Happening::Answered(_)
         | Happening::Named(_)
@@ -98,7 +97,7 @@ impl TakeReport {
             posted,
             fault: device_cause(heard.fault),
             stopped: port_cause(heard.fault),
-            wrote: told_bytes(heard.happening),
+            wrote: brought(heard.happening),
             done: heard.done,
         }
     }

@@ -3,7 +3,7 @@
 use super::rig::Rig;
 use super::steps::Sent::{Answer, Eight, Four, Sector};
 use super::steps::Step::{Carries, Holds, Issues, Refuses, Shows, Takes, Tells, Writes};
-use super::steps::{done, fault, ignored, reads, stopping, told, without_bytes};
+use super::steps::{done, fault, ignored, reads, sector_at, stopping, told, without_bytes};
 use super::taking::setup;
 use hba_fbs::WriteError;
 use port_errors::DeviceCause;
@@ -101,13 +101,13 @@ fn others_go_on(rt: HostRuntime) -> Result<(), Fail> {
     let wrong = rig.first_failing(
         &rt,
         &[
-            Carries(0, 0x10, (0, 0, 512)),
+            Carries(0, 0x10, sector_at(0, 0)),
             Takes(Eight(error(2))),
             Writes(0x40, 0x0403),
             Shows(0x34, 0x11),
-            Carries(4, 0x40, (4, 0, 512)),
-            Carries(0, 0x11, (0, 512, 512)),
-            Carries(4, 0x41, (4, 512, 512)),
+            Carries(4, 0x40, sector_at(4, 0)),
+            Carries(0, 0x11, sector_at(0, 512)),
+            Carries(4, 0x41, sector_at(4, 512)),
             Tells(
                 Eight([0xA1, 0, 0x50, 0, 0x15, 0, 0, 0]),
                 done(0, Posted::Bits, 1),

@@ -6,7 +6,7 @@ use super::rig::Rig;
 use super::sending::command;
 use super::taking::{answer, counting, data, issue, prd, reset, setup, unknown};
 use fis_view::{Frame, FrameError, Stamp};
-use hba_fbs::{TakeReport, WriteError};
+use hba_fbs::{TakeReport, WriteError, Wrote};
 use port_errors::{DeviceCause, PortCause};
 use rx_area::Posted;
 use std::alloc::AllocError;
@@ -48,7 +48,7 @@ pub(super) enum Step {
     /// A FIS is taken, and this is told of it.
     Tells(Sent, TakeReport),
     /// A sector of Data of a device, all of whose bytes are this one, is taken and goes to these bytes of a slot.
-    Carries(u8, u8, (u8, u32, u32)),
+    Carries(u8, u8, Wrote),
     /// So many bytes, from this address of the client area on, are this one.
     Holds(usize, usize, u8),
     /// The byte at this address of the structure area is this one.
@@ -118,8 +118,17 @@ pub(super) fn fault(dev: u8, posted: Posted, cause: DeviceCause) -> TakeReport {
     }
 }
 
+/// A sector's bytes of a slot, from this number on.
+pub(super) fn sector_at(slot: u8, offset: u32) -> Wrote {
+    Wrote {
+        slot,
+        offset,
+        len: 512,
+    }
+}
+
 /// What is told of Data that goes to these bytes of a slot.
-pub(super) fn wrote(dev: u8, bytes: (u8, u32, u32)) -> TakeReport {
+pub(super) fn wrote(dev: u8, bytes: Wrote) -> TakeReport {
     TakeReport {
         wrote: Some(bytes),
         ..told(dev, Posted::Nothing)

@@ -6,7 +6,7 @@ use super::steps::Sent::{Answer, Counting, Eight, Four, Sector, Setup, Twenty, U
 use super::steps::Step::{
     Carries, Holds, IsResetting, Posts, Reads, Resets, Shows, Takes, Tells, Writes,
 };
-use super::steps::{done, fault, ignored, reads, stopping, told, without_bytes, wrote};
+use super::steps::{done, fault, ignored, reads, sector_at, stopping, told, without_bytes, wrote};
 use fis_view::{FrameError, H2dFields};
 use hba_fbs::TakeReport;
 use host_memory::Prd;
@@ -115,7 +115,7 @@ fn read_is_done_once(rt: HostRuntime) -> Result<(), Fail> {
             Tells(Setup(3, true, 5, 0, 512), told(3, Posted::Setup)),
             Posts(0x1300, 0x41),
             Posts(0x1301, 0x23),
-            Tells(Counting, wrote(3, (5, 0, 512))),
+            Tells(Counting, wrote(3, sector_at(5, 0))),
             Holds(0x112B, 1, 0x2B),
             Holds(0x112C, 1, 0),
             Holds(0x2000, 1, 0x2C),
@@ -144,14 +144,14 @@ fn reads_cross(rt: HostRuntime) -> Result<(), Fail> {
             Reads(9, 2, 0x10_3000),
             Takes(Setup(0, true, 0, 0, 1024)),
             Takes(Setup(4, true, 1, 0, 1024)),
-            Carries(0, 0x11, (0, 0, 512)),
-            Carries(4, 0x44, (1, 0, 512)),
-            Carries(0, 0x12, (0, 512, 512)),
-            Carries(4, 0x45, (1, 512, 512)),
+            Carries(0, 0x11, sector_at(0, 0)),
+            Carries(4, 0x44, sector_at(1, 0)),
+            Carries(0, 0x12, sector_at(0, 512)),
+            Carries(4, 0x45, sector_at(1, 512)),
             Takes(Setup(9, true, 2, 512, 512)),
-            Carries(9, 0x99, (2, 512, 512)),
+            Carries(9, 0x99, sector_at(2, 512)),
             Takes(Setup(9, true, 2, 0, 512)),
-            Carries(9, 0x90, (2, 0, 512)),
+            Carries(9, 0x90, sector_at(2, 0)),
             Holds(0x1000, 512, 0x11),
             Holds(0x1200, 512, 0x12),
             Holds(0x2000, 512, 0x44),
