@@ -39,6 +39,15 @@ fn finds_memory_that_is_there(rt: HostRuntime) {
     }
 }
 
+/// A structure area alone is no memory, nor are odd sizes and those past the limits.
+#[test]
+fn refuses_sizes(rt: HostRuntime) {
+    for len in [0, 1_048_576, 2_097_150, 2_097_153, 16_777_217, 16_777_218] {
+        let error = HostMemory::new(rt.alloc(), len).err();
+        assert_eq!(rt; error, Some(MemoryError::BadSize));
+    }
+}
+
 #[test]
 fn puts_client_bytes(rt: HostRuntime) -> Result<(), Fail> {
     let mut memory = HostMemory::new(rt.alloc(), 0x20_0000)?;

@@ -1,7 +1,7 @@
 //! Signature and reads.
 
 use super::scripted::STAMP;
-use disk_model::{Device, Disk, DiskPlan, Unit};
+use disk_model::{Device, Disk, DiskError, DiskPlan, Unit};
 use fis_view::{Frame, H2dFields, h2d};
 use std::alloc::{AllocError, Global};
 use std::process::Abort;
@@ -125,6 +125,15 @@ fn signature_when_plugged_and_after_a_reset(rt: HostRuntime) -> Result<(), Fail>
     sends(&rt, alloc, &mut unit, SIGNATURE)?;
     give(alloc, &mut unit, &reset(false))?;
     is_silent(&rt, alloc, &mut unit)
+}
+
+/// A disk has a sector at least, and 65,536 at most.
+#[test]
+fn sizes_that_no_disk_has(rt: HostRuntime) {
+    for sectors in [0, 65_537, u32::MAX] {
+        let error = Disk::new(rt.alloc(), sectors, DiskPlan::plain()).err();
+        assert_eq!(rt; error, Some(DiskError::BadSize));
+    }
 }
 
 #[test]

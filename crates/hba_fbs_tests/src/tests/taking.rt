@@ -173,6 +173,39 @@ fn reads_cross(rt: HostRuntime) -> Result<(), Fail> {
     Ok(())
 }
 
+/// A Set Device Bits FIS that names all tags is done with the two whole reads of its device, and with nothing else: no free
+/// slot, and no read of another device.
+#[test]
+fn all_tags_are_named(rt: HostRuntime) -> Result<(), Fail> {
+    let mut rig = Rig::started(rt.alloc())?;
+    let bits = [0xA1, 4, 0x50, 0, 0xFF, 0xFF, 0xFF, 0xFF];
+    let wrong = rig.first_failing(
+        &rt,
+        &[
+            Reads(9, 2, 0x10_3000),
+            Takes(Setup(9, true, 2, 0, 1024)),
+            Carries(9, 0x90, sector_at(2, 0)),
+            Carries(9, 0x91, sector_at(2, 512)),
+            Reads(4, 1, 0x10_1000),
+            Takes(Setup(4, true, 1, 0, 1024)),
+            Carries(4, 0x40, sector_at(1, 0)),
+            Carries(4, 0x41, sector_at(1, 512)),
+            Reads(4, 6, 0x10_2000),
+            Takes(Setup(4, true, 6, 0, 1024)),
+            Carries(4, 0x42, sector_at(6, 0)),
+            Carries(4, 0x43, sector_at(6, 512)),
+            Shows(0x34, 0x46),
+            Tells(Eight(bits), done(4, Posted::Bits, 0x42)),
+            Shows(0x34, 4),
+            Shows(0x40, 0xF401),
+            Tells(Eight(bits), told(4, Posted::Bits)),
+            Shows(0x34, 4),
+        ],
+    )?;
+    assert_eq!(rt; wrong, None);
+    Ok(())
+}
+
 /// The bytes of a FIS of an unknown type.
 pub(super) fn unknown(dev: u8) -> [u8; 64] {
     let mut fis = [0; 64];
