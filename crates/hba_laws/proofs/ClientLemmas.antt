@@ -79,7 +79,7 @@ has_table memory commands own c i now host at sound =
     ∙ sym (ap (λ o. is_some (match_some (receiving_slot o) None (sound_command memory commands own))) now) ∙ sound)
 
 -- nothing is wrong with its PRDs
-no_fault : (outside : Bool) (fault : Option PrdError) (overlap : Bool)
+pub no_fault : (outside : Bool) (fault : Option PrdError) (overlap : Bool)
     → is_none (cond outside (Some OutsideStructure) (option_or fault (cond overlap (Some Overlap) None))) ≡ true → (fault ≡ None) × (overlap ≡ false)
 no_fault true fault overlap e = absurd (false≢true e)
 no_fault false (Some f) overlap e = absurd (false≢true e)
@@ -98,7 +98,7 @@ put_byte old at bytes k room low high =
 
 -- ---- one event
 
-below_16 : (n : ℕ) → n % 16 < 16
+pub below_16 : (n : ℕ) → n % 16 < 16
 below_16 n = omega arith
 
 module _ (old : Host) (host : IsHost old) (past : Touches) (n : ℕ) (told : IsHistoryOf n old (own n past)) where
@@ -273,7 +273,7 @@ module _ (old : Host) (host : IsHost old) (past : Touches) (hist : AreHistoriesO
   write_within _ value w = w
 
   -- a frame goes out
-  context_below : (n : ℕ) (c : Context) → context_of old.port.slots n ≡ Some c → n < 16
+  pub context_below : (n : ℕ) (c : Context) → context_of old.port.slots n ≡ Some c → n < 16
   context_below n c now = elim (cases_lt n 16) [
     | inl lt ↦ lt
     | inr ge ↦

@@ -25,3 +25,5 @@ pub mod SpareLemmas
 pub mod ReadLemmas
 pub mod KeepingLemmas
 pub mod CauseLemmas
+pub mod SentLemmas
+pub mod GatherLemmas

@@ -276,7 +276,7 @@ data_reads old past n tables e = tt
 below_16 : (n : ℕ) → n % 16 < 16
 below_16 n = omega arith
 
-event_reads : (old : Host) (past : Touches) → HaveTables old past → (event : HostEvent) → IsReadAsIssued past old event
+pub event_reads : (old : Host) (past : Touches) → HaveTables old past → (event : HostEvent) → IsReadAsIssued past old event
 event_reads old past tables (Took frame report) = by_event (event_taken old frame)
   where
     by_event : (o : Option Event) → MatchOption o (Unit {0}) (DataReadsAsIssued old (own (port_of frame) past))

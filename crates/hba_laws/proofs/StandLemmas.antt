@@ -23,7 +23,7 @@ the None e = absurd (false≢true e)
 the (Some a) e = (a, refl)
 
 -- a byte filled by this, or before
-filled_cases : (from : ℕ) (bytes : List ℕ) (old : ℕ → Option ℕ) (i b : ℕ) → filled_from from bytes old i ≡ Some b
+pub filled_cases : (from : ℕ) (bytes : List ℕ) (old : ℕ → Option ℕ) (i b : ℕ) → filled_from from bytes old i ≡ Some b
     → ((from ≤ i) × (i < from + length bytes) × (slice_get bytes (i - from) ≡ Some b)) ⊎ (((j : ℕ) → j < length bytes → i ≢ from + j) × (old i ≡ Some b))
 filled_cases from bytes old i b e = by_test (nat_le from i && nat_lt i (from + length bytes)) refl e
   where
@@ -190,11 +190,11 @@ module _ (opening : ℕ → ℕ) (past : Touches) (n s i b : ℕ) (t : Transfer)
   by_device dev (Named mask) kept within f = other_any (Named mask) (λ x. x) (eqb dev n) f
   by_device dev Emptied kept within f = other_any Emptied (λ x. x) (eqb dev n) f
 
-kept_before : (past : Touches) (dev : ℕ) (e : Event) → IsKept (By dev e ∷ past) → IsKept past
+pub kept_before : (past : Touches) (dev : ℕ) (e : Event) → IsKept (By dev e ∷ past) → IsKept past
 kept_before past dev (Carried bytes) kept = kept.1
 kept_before past dev _ kept = kept
 
-within_before : (past : Touches) (dev : ℕ) (e : Event) → AreWithin (By dev e ∷ past) → AreWithin past
+pub within_before : (past : Touches) (dev : ℕ) (e : Event) → AreWithin (By dev e ∷ past) → AreWithin past
 within_before past dev (Carried bytes) within = within.1
 within_before past dev _ within = within
 

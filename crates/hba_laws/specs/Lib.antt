@@ -7,5 +7,6 @@ pub mod History
 pub mod Client
 pub mod Agreement
 pub mod Delivering
+pub mod Sent
 pub mod Keeping
 pub mod Causes

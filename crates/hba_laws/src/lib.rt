@@ -10,9 +10,11 @@ mod delivering;
 mod devices;
 mod sound;
 mod tables;
+mod writes;
 
 pub use causes::causes_stay;
 pub use delivering::delivers;
 pub use devices::isolated;
 pub use sound::stays_sound;
 pub use tables::tables_stay;
+pub use writes::writes_are_gathered;
