@@ -27,7 +27,7 @@ use Rattle.hba_driver.proofs.SubmitLemmas.{none_conflict}
 -- ---- places
 
 -- of two tables that share no byte
-other_places : (ps qs : List Prd) (i j : ℕ) → share_with ps qs ≡ false → i < total_of ps → j < total_of qs → place ps i ≡ place qs j → ⊥
+pub other_places : (ps qs : List Prd) (i j : ℕ) → share_with ps qs ≡ false → i < total_of ps → j < total_of qs → place ps i ≡ place qs j → ⊥
 other_places ps qs i j none below below_other same =
     true≢false (sym (share_with-true ps qs (record { i = i; j = j; below = below; below_other = below_other; one_place = same })) ∙ none)
 
@@ -37,7 +37,7 @@ one_place ps qs i j is apart below below_other same =
     let other : total_of qs ≡ total_of ps = sym (ap total_of is) in
     place_injective ps i j (apart_from_overlap ps apart) below (omega (arith, other, below_other)) (same ∙ sym (ap (λ (l : List Prd). place l j) is))
 
-some_same : {A : Type 0} (a b : A) → Some a ≡ Some b → a ≡ b
+pub some_same : {A : Type 0} (a b : A) → Some a ≡ Some b → a ≡ b
 some_same a b h = cc
 
 read_or : (a b : Bool) → a ≡ true → (a || b) ≡ true
@@ -46,7 +46,7 @@ read_or false b h = absurd (false≢true h)
 
 -- ---- reads that are issued are apart
 
-none_in : (t : Transfer) (i : ℕ) → t.table ≡ [] → i < total_of t.table → ⊥
+pub none_in : (t : Transfer) (i : ℕ) → t.table ≡ [] → i < total_of t.table → ⊥
 none_in t i is below =
     let none : total_of t.table ≡ 0 = ap total_of is in
     omega (arith, none, below)
@@ -74,7 +74,7 @@ module _ (d : Driver) (past : Touches) (issues : IssuesAreRequests d past) (boun
   ]
 
   -- the driver's buffer is apart from requests
-  request_beside : (n s m r i j : ℕ) (t u : Transfer) → IsStep d n s t → IsRequest d m r u → i < total_of t.table → j < total_of u.table → place t.table i ≡ place u.table j → ⊥
+  pub request_beside : (n s m r i j : ℕ) (t u : Transfer) → IsStep d n s t → IsRequest d m r u → i < total_of t.table → j < total_of u.table → place t.table i ≡ place u.table j → ⊥
   request_beside n s m r i j t u a b below below_other same =
       let none : share_with t.table u.table ≡ false =
       ap (λ (l : List Prd). share_with l u.table) a.table ∙ ap (λ (l : List Prd). share_with (prds_with (reads_page a.path.stage)) l) b.table
@@ -135,7 +135,7 @@ module _ (d : Driver) (past : Touches) (issues : IssuesAreRequests d past) (boun
         or_parts (share_bytes at len client_start 512) (list_any (is_used_by at len) d.entries)
         (and_false (nat_lt 0 len) (share_bytes at len client_start 512 || list_any (is_used_by at len) d.entries) (some_bytes k h) unused)
 
-    in_none : (n s i : ℕ) (t : Transfer) → From d n s t → i < total_of t.table → is_in at len (place t.table i) ≡ true → ⊥
+    pub in_none : (n s i : ℕ) (t : Transfer) → From d n s t → i < total_of t.table → is_in at len (place t.table i) ≡ true → ⊥
     in_none n s i t (inr (inr a)) below h = none_in t i a.table below
     in_none n s i t (inr (inl a)) below h = by_stage (reads_page a.path.stage) a.table
       where

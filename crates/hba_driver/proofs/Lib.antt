@@ -72,3 +72,4 @@ pub mod ApartTakes
 pub mod ApartArmed
 pub mod ApartFiles
 pub mod SetsLemmas
+pub mod HeldLemmas

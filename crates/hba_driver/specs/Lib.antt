@@ -12,6 +12,7 @@ pub mod Laws
 pub mod Faults
 pub mod Events
 pub mod Served
+pub mod Held
 pub mod Delivered
 pub mod Accepted
 pub mod Done

@@ -6,6 +6,7 @@ ghost use Rattle.hba_driver.specs.Accepted.{WritesAreAccepted};
 ghost use Rattle.hba_driver.specs.Done.{DoneIsTrue};
 ghost use Rattle.hba_driver.specs.Events.{EachRunTells, HostsAreSound, TurnsAreEvents};
 ghost use Rattle.hba_driver.specs.Faults.{ErrorsAreNamed};
+ghost use Rattle.hba_driver.specs.Held.{TurnsHoldWrites};
 ghost use Rattle.hba_driver.specs.Known.{DevicesAreKnown};
 ghost use Rattle.hba_driver.specs.Reported.{DoneWasReported};
 ghost use Rattle.hba_driver.specs.Laws.{CommandsStand, DoneIsFree, EachRunKeeps, TicksKeep, TicksServe};
@@ -152,4 +153,12 @@ pub fn absent_before()
 /// that sets SRST, and no request of the device waits or is issued. It does nothing when it runs.
 pub fn resets_are_issued()
     ensures { EachResetIsDriven }
+{}
+
+/// Over each turn of the host, from any sound one whose events so far serve what is issued: where Data
+/// comes or goes, the writes that are issued lie beside the reads that are, and what a client puts spares
+/// their places. So what went out of a write stands there as long as it is issued. It does nothing when
+/// it runs.
+pub fn writes_are_held()
+    ensures { TurnsHoldWrites }
 {}
