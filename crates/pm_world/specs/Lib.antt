@@ -1,4 +1,5 @@
 pub mod Places
+pub mod Hops
 pub mod Rules
 pub mod Runs
 pub mod Traffic

@@ -7,6 +7,7 @@
 #![tactic(auto)]
 
 mod counts;
+mod hop;
 mod host;
 mod link;
 mod machine;
@@ -17,6 +18,7 @@ mod theorems;
 mod world;
 
 pub use counts::{ConnCount, Counts};
+pub use hop::Hop;
 pub use step::{Answer, Config, Step, StepError, WorldError};
 pub use theorems::{
     connections_follow, disks_are_honest, none_is_stale, one_order_at_a_time, ordered_is_not_stale,

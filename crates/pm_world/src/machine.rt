@@ -1,13 +1,16 @@
 ghost use Rattle.std.specs.Prelude.{◌≡◌, ◌↔◌, ℕ, false, List, [], ◌∷◌, Ok};
 ghost use Rattle.std.specs.Prelude.{IfErr, IfOk, OnErr, length, map, take, slice_get, option_copied, option_map};
+ghost use Rattle.circular_buffer.specs.Buffer.{last_item};
 ghost use Rattle.pm_world.specs.Laws.{AreLawful};
 ghost use Rattle.pm_world.specs.Downward.{falling_to};
+ghost use Rattle.pm_world.specs.Hops.{frames_on};
 ghost use Rattle.pm_world.specs.Places.{opening, new_world, is_config};
 ghost use Rattle.pm_world.specs.Rules.{Rule, Run, Stops, no_refusal, port_refusal, refusal};
 ghost use Rattle.pm_world.specs.Traffic.{transit};
 ghost use Rattle.pm_world.specs.declared.step.Answer.{Answer};
 ghost use Rattle.pm_world.specs.declared.step.Step.TheVariants as step;
 
+use crate::hop::Hop;
 use crate::host::Host;
 use crate::link::Link;
 use crate::passing;
@@ -350,6 +353,42 @@ impl Machine {
         ensures { result.now ≡ self.now.multiplier }
     {
         &self.multiplier
+    }
+
+    /// The frame that leaves a link next, if one is on it.
+    pub fn oldest_on(&self, hop: Hop) -> Option<&Frame>
+        ensures { option_copied result ≡ slice_get (frames_on hop self.now) 0 }
+    {
+        match hop {
+            Hop::HostToPm => self.downward.oldest(),
+            Hop::PmToHost => self.upward.oldest(),
+            Hop::DeviceToPm(n) => match self.seats.get(n as usize) {
+                None => None,
+                Some(seat) => seat.up().oldest(),
+            },
+            Hop::PmToDevice(n) => match self.seats.get(n as usize) {
+                None => None,
+                Some(seat) => seat.down().oldest(),
+            },
+        }
+    }
+
+    /// The frame that entered a link last, if one is on it.
+    pub fn newest_on(&self, hop: Hop) -> Option<&Frame>
+        ensures { option_copied result ≡ last_item (frames_on hop self.now) }
+    {
+        match hop {
+            Hop::HostToPm => self.downward.newest(),
+            Hop::PmToHost => self.upward.newest(),
+            Hop::DeviceToPm(n) => match self.seats.get(n as usize) {
+                None => None,
+                Some(seat) => seat.up().newest(),
+            },
+            Hop::PmToDevice(n) => match self.seats.get(n as usize) {
+                None => None,
+                Some(seat) => seat.down().newest(),
+            },
+        }
     }
 
     /// The unit at port `n`, if there is such a port.

@@ -56,6 +56,20 @@ impl Seat {
         })
     }
 
+    /// The link from the device.
+    pub fn up(&self) -> &Link
+        ensures { result.now ≡ self.now.up }
+    {
+        &self.up
+    }
+
+    /// The link to the device.
+    pub fn down(&self) -> &Link
+        ensures { result.now ≡ self.now.down }
+    {
+        &self.down
+    }
+
     /// The unit.
     pub fn unit(&self) -> &Unit
         ensures { result.now ≡ self.now.unit }

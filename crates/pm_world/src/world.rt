@@ -1,16 +1,20 @@
 ghost use Rattle.std.specs.Prelude.{◌≡◌, ◌↔◌, ℕ, false, List, [], ◌∷◌};
 ghost use Rattle.std.specs.Prelude.{IfErr, IfOk, OnErr, length, take, slice_get, option_copied, option_map};
+ghost use Rattle.circular_buffer.specs.Buffer.{last_item};
 ghost use Rattle.pm_world.specs.Laws.{AreLawful};
 ghost use Rattle.pm_world.specs.Downward.{falling_to};
+ghost use Rattle.pm_world.specs.Hops.{frames_on};
 ghost use Rattle.pm_world.specs.Places.{new_world, is_config};
 ghost use Rattle.pm_world.specs.Rules.{Rule, Run, Stops};
 ghost use Rattle.pm_world.specs.Runs.{IsReached};
 ghost use Rattle.pm_world.specs.Traffic.{transit};
 ghost use Rattle.pm_world.specs.declared.step.Answer.{Answer};
 
+use crate::hop::Hop;
 use crate::machine::Machine;
 use crate::step::{Answer, Config, Step, StepError, WorldError};
 use disk_model::Unit;
+use fis_view::Frame;
 use hba_fbs::HostPort;
 use host_memory::HostMemory;
 use multiplier::Multiplier;
@@ -95,6 +99,20 @@ impl World {
         ensures { result.now ≡ self.now.multiplier }
     {
         self.machine.multiplier()
+    }
+
+    /// The frame that leaves a link next, if one is on it.
+    pub fn oldest_on(&self, hop: Hop) -> Option<&Frame>
+        ensures { option_copied result ≡ slice_get (frames_on hop self.now) 0 }
+    {
+        self.machine.oldest_on(hop)
+    }
+
+    /// The frame that entered a link last, if one is on it.
+    pub fn newest_on(&self, hop: Hop) -> Option<&Frame>
+        ensures { option_copied result ≡ last_item (frames_on hop self.now) }
+    {
+        self.machine.newest_on(hop)
     }
 
     /// The unit at port `n`, if there is such a port.
