@@ -1,18 +1,21 @@
 -- A read that was submitted once a write had ended brings its bytes, and they stay on the medium.
 use Rattle.std.proofs.Common.{◌≡◌, ◌*◌, ℕ, zero, suc, ◌+◌, ◌-◌, ◌<◌, ◌≤◌, true, List, [], ◌∷◌, ◌++◌, All, append_assoc, drop, length, length-append, take, refl, ap, subst, sym, ◌∙◌, arith}
 use Rattle.std.proofs.Common.{Option, Some, None}
-use Rattle.std.specs.Prelude.{slice_get, slice_index}
+use Rattle.std.specs.Prelude.{IsSomeAnd, MatchOption, slice_get, slice_index}
 use Rattle.std.proofs.lemmas.Option.{slice_get_within}
 use Rattle.host_memory.specs.Memory.{Memory, client_start}
 use Rattle.host_memory.specs.Place.{place}
 use Rattle.disk_model.specs.declared.plan.DiskPlan.{DiskPlan}
 use Rattle.disk_model.specs.declared.unit.Unit.{Unit}
+use Rattle.disk_model.specs.declared.unit.Unit.TheVariants.{Disk, Scripted}
+use Rattle.disk_model.specs.Disks.{DiskValue, Moment}
+use Rattle.disk_model.specs.Units.{StandsFor, plan_of}
 use Rattle.disk_model.specs.Chunks.{sectors_at}
 use Rattle.disk_model.specs.Fronts.{IsFront}
-use Rattle.disk_model.specs.Histories.{Happening}
+use Rattle.disk_model.specs.Histories.{DiskOf, Happening}
 use Rattle.disk_model.specs.Last.{LieOn, Lies, NoneCovers}
 use Rattle.disk_model.specs.Ledger.{IsSize, Written, ledger, medium_with}
-use Rattle.disk_model.specs.Runs.{IsDiskRun, moment}
+use Rattle.disk_model.specs.Runs.{DiskStandsFor, IsDiskRun, moment}
 use Rattle.disk_model.proofs.LastLemmas.{lie_on, shows_the_last}
 use Rattle.disk_model.proofs.LawLemmas.{agrees}
 use Rattle.pm_world.proofs.DisksLemmas.{part_front}
@@ -22,8 +25,14 @@ use Rattle.hba_driver.specs.declared.request.Work.TheVariants.{Read, Write}
 use Rattle.hba_driver.specs.Drivers.{Entry}
 use Rattle.pm_world.specs.Disks.{DiskRun, EndedSince, IsNewDisk, disk_history}
 use Rattle.pm_world.specs.Ended.{ReadsSectors, StandsAt, WritesSectors}
-use Rattle.pm_world.specs.Places.{Places, is_config}
-use Rattle.pm_world.specs.ReadBack.{IsOneByte, IsPart, ReadsBringWrites, WritesStayThere}
+use Rattle.pm_world.specs.Places.{Place, Places, is_config}
+use Rattle.pm_world.specs.Rules.{Run}
+use Rattle.pm_world.specs.Runs.{over}
+use Rattle.pm_world.specs.Units.{LivesOn, happens}
+use Rattle.pm_world.specs.declared.step.Answer.TheVariants as answer
+use Rattle.pm_world.specs.declared.step.Step.TheVariants as step
+use Rattle.pm_world.proofs.Units.{units_live_on, units_lived_on}
+use Rattle.pm_world.specs.ReadBack.{DisksHaveWrites, IsOneByte, IsPart, ReadsBringWrites, Shows, WritesStayThere}
 use Rattle.pm_world.specs.declared.step.Config.{Config}
 use Rattle.pm_world.proofs.HonestRuns.{disk_runs}
 
@@ -134,3 +143,49 @@ writes_stay_there config units n sectors plan disk was d s write m writes w hist
     there : slice_get (ledger history).writes x.at ≡ Some x.written
     there = in_front (ledger (disk_history config units n was d)).writes (ledger history).writes x.at x.written
         (part_front (disk_history config units n was d) history part) x.entered
+
+-- ## In a later world
+
+same_plan : (p q : DiskPlan) (k l : ℕ) → DiskOf p k ≡ DiskOf q l → (p ≡ q) × (k ≡ l)
+same_plan p q k l is = (cc is, cc is)
+
+pub disks_have_writes : DisksHaveWrites
+disks_have_writes config units n sectors plan fits disk was d s write m writes w steps answers now run j below none =
+    by_places (slice_get was.devices n) (slice_get now.devices n) lived (units_live_on was steps answers now run n)
+  where
+    before : List Happening
+    before = disk_history config units n was d
+
+    later : List Happening
+    later = over (happens n) was steps answers now run
+
+    lived : IsSomeAnd (slice_get was.devices n) (λ place. LivesOn (Disk disk.disk) (disk_history config units n was d) place.unit)
+    lived =
+        units_lived_on d.out (step.Came n ∷ d.steps) (answer.Came n d.conn ∷ d.answers) was d.run config units fits d.first d.told d.made n (Disk disk.disk)
+        disk.there
+
+    on_disk : (x : DiskValue) → DiskStandsFor x (disk_history config units n was d ++ over (happens n) was steps answers now run) → x.plan ≡ plan
+        → x.sectors ≡ sectors → slice_get x.now.medium (512 * write.head.lba + j) ≡ filled s (own n w.touches) j
+    on_disk x stands plan_is sectors_are =
+        let first : IsDiskRun plan x.sectors (before ++ later) = subst (λ (p : DiskPlan). IsDiskRun p x.sectors (before ++ later)) plan_is stands.run in
+        let whole : IsDiskRun plan sectors (before ++ later) = subst (λ (k : ℕ). IsDiskRun plan k (before ++ later)) sectors_are first in
+        let is : x.now ≡ moment plan sectors (before ++ later) =
+        stands.now ∙ ap (λ (p : DiskPlan). moment p x.sectors (before ++ later)) plan_is ∙ ap (λ (k : ℕ). moment plan k (before ++ later)) sectors_are in
+        ap (λ (t : Moment). slice_get t.medium (512 * write.head.lba + j)) is
+        ∙ writes_stay_there config units n sectors plan disk was d s write m writes w (before ++ later) whole (record { later = later; is = refl }) j below none
+
+    by_unit : (u : Unit) → StandsFor u (disk_history config units n was d ++ over (happens n) was steps answers now run)
+        → plan_of u ≡ DiskOf disk.disk.plan disk.disk.sectors
+        → Shows (512 * write.head.lba + j) (filled s (own n w.touches) j) u
+    by_unit (Disk x) stands is =
+        let same = same_plan x.plan disk.disk.plan x.sectors disk.disk.sectors is in
+        on_disk x stands (same.0 ∙ disk.plan_is) (same.1 ∙ disk.sectors_are)
+    by_unit (Scripted reading) stands is = absurd (cc is)
+
+    by_places : (o p : Option Place) → IsSomeAnd o (λ place. LivesOn (Disk disk.disk) (disk_history config units n was d) place.unit)
+        → MatchOption o (p ≡ None) (λ a. IsSomeAnd p (λ b. LivesOn a.unit (over (happens n) was steps answers now run) b.unit))
+        → IsSomeAnd p (λ place. Shows (512 * write.head.lba + j) (filled s (own n w.touches) j) place.unit)
+    by_places None p lived lives = absurd lived
+    by_places (Some a) None lived lives = absurd lives
+    by_places (Some a) (Some b) lived lives =
+        by_unit b.unit (lives.stands_for (disk_history config units n was d) (lived.stands_for [] disk.fresh)) (lives.plan ∙ lived.plan)

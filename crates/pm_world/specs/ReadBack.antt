@@ -4,11 +4,13 @@
 --
 -- Cited: requests that ended honestly since they were submitted (specs/Disks.antt, Ended.antt); which writes have a byte
 -- of a medium is of `disk_model` (specs/Last.antt).
-use Rattle.std.specs.Prelude.{ℕ, ◌≡◌, ◌+◌, ◌-◌, ◌*◌, ◌<◌, ◌++◌, suc, true, drop, List, length, slice_get, slice_index, Some}
+use Rattle.std.specs.Prelude.{ℕ, ◌≡◌, ◌+◌, ◌-◌, ◌*◌, ◌<◌, ◌++◌, suc, true, drop, List, length, slice_get, slice_index}
+use Rattle.std.specs.Prelude.{IsSomeAnd, Option, Some}
 use Rattle.host_memory.specs.Memory.{Memory, client_start}
 use Rattle.host_memory.specs.Place.{place}
 use Rattle.disk_model.specs.declared.plan.DiskPlan.{DiskPlan}
 use Rattle.disk_model.specs.declared.unit.Unit.{Unit}
+use Rattle.disk_model.specs.declared.unit.Unit.TheVariants.{Disk, Scripted}
 use Rattle.disk_model.specs.Histories.{Happening}
 use Rattle.disk_model.specs.Last.{NoneCovers}
 use Rattle.disk_model.specs.Ledger.{ledger}
@@ -20,6 +22,11 @@ use Rattle.hba_driver.specs.Drivers.{Entry}
 use Rattle.pm_world.specs.Disks.{DiskRun, EndedSince, IsNewDisk, disk_history}
 use Rattle.pm_world.specs.Ended.{ReadsSectors, WritesSectors}
 use Rattle.pm_world.specs.Places.{Places, is_config}
+use Rattle.pm_world.specs.Rules.{Run}
+use Rattle.pm_world.specs.Runs.{over}
+use Rattle.pm_world.specs.Units.{happens}
+use Rattle.pm_world.specs.declared.step.Answer.{Answer}
+use Rattle.pm_world.specs.declared.step.Step.{Step}
 use Rattle.pm_world.specs.declared.step.Config.{Config}
 
 -- what happened first of all this
@@ -59,3 +66,24 @@ WritesStayThere =
     → (j : ℕ) → j < 512 * write.head.sectors
     → NoneCovers (512 * write.head.lba + j) (drop (suc (w.ends.writes writes).at) (ledger history).writes)
     → slice_get (moment plan sectors history).medium (512 * write.head.lba + j) ≡ filled s (own n w.touches) j
+
+-- the unit is a disk, and byte i of its medium is this one
+abbrev pub Shows : (i : ℕ) → (byte : Option ℕ) → Unit → Type 0
+Shows i byte (Disk disk) = slice_get disk.now.medium i ≡ byte
+Shows i byte (Scripted reading) = ⊥
+
+-- So it is in each world to which steps lead from there: the disk at that port has the bytes of the write on its medium,
+-- but for those of later writes.
+abbrev pub DisksHaveWrites : Type 0
+DisksHaveWrites =
+    (config : Config) (units : List Unit) (n sectors : ℕ) (plan : DiskPlan)
+    → is_config config (length units) ≡ true → IsNewDisk units n plan sectors
+    → (was : Places) (d : DiskRun config units n was) (s : ℕ) (write : Entry) (m : Memory) (writes : write.head.work ≡ Write)
+    (w : EndedSince config units n was d sectors s write m)
+    → (steps : List Step) (answers : List Answer) (now : Places) (run : Run was steps answers now)
+    → (j : ℕ) → j < 512 * write.head.sectors
+    → NoneCovers (512 * write.head.lba + j)
+    (drop (suc (w.ends.writes writes).at)
+    (ledger (disk_history config units n was d ++ over (happens n) was steps answers now run)).writes)
+    → IsSomeAnd (slice_get now.devices n) (λ place.
+    Shows (512 * write.head.lba + j) (filled s (own n w.touches) j) place.unit)

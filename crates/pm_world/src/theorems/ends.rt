@@ -2,7 +2,7 @@
 
 ghost use Rattle.pm_world.specs.Disks.{HonestDisks};
 ghost use Rattle.pm_world.specs.Polled.{HonestPolls};
-ghost use Rattle.pm_world.specs.ReadBack.{ReadsBringWrites, WritesStayThere};
+ghost use Rattle.pm_world.specs.ReadBack.{DisksHaveWrites, ReadsBringWrites, WritesStayThere};
 ghost use Rattle.pm_world.specs.Wire.{DroppedNeverComes, PluggedIsOnWire, UnitWiresGoOn, WiresGoOn};
 
 /// What each step of a world does on the wire of one device, whatever the device sends: the host
@@ -34,8 +34,10 @@ pub fn polled_is_honest()
 {}
 
 /// A read that was submitted after a write had ended brings the bytes that went over for the write,
-/// where no later write has them. They stay on the medium likewise, whatever happens to the disk.
+/// where no later write has them. They stay on the medium likewise, whatever happens to the disk, and
+/// there the disk has them in each world to which steps lead.
 pub fn reads_bring_writes()
     ensures reads { ReadsBringWrites }
     ensures stay { WritesStayThere }
+    ensures medium { DisksHaveWrites }
 {}

@@ -1,4 +1,4 @@
-use Rattle.pm_world.proofs.ReadBackLemmas.{reads_bring_writes, writes_stay_there}
+use Rattle.pm_world.proofs.ReadBackLemmas.{disks_have_writes, reads_bring_writes, writes_stay_there}
 use Rattle.pm_world.proofs.theorems.ends.reads_bring_writes.Goals as goal
 
 pub returns-clause-reads : goal.returns-clause-reads
@@ -6,3 +6,6 @@ returns-clause-reads c = reads_bring_writes
 
 pub returns-clause-stay : goal.returns-clause-stay
 returns-clause-stay c = writes_stay_there
+
+pub returns-clause-medium : goal.returns-clause-medium
+returns-clause-medium c = disks_have_writes
