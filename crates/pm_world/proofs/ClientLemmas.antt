@@ -1,4 +1,5 @@
--- The bytes of a read that began, and of which nothing is issued any more, stay in client memory until it is polled.
+-- The bytes of a request stay in client memory over a turn in which no read is issued in its slot; so those of a read that began,
+-- and of which nothing is issued any more, stay until it is polled.
 use Rattle.std.proofs.Common.{◌≡◌, ◌&&◌, ◌||◌, nat_lt, ℕ, ◌+◌, ◌-◌, ◌<◌, ◌≤◌, Bool, true, false, List, [], ◌∷◌, ◌++◌, length, refl, sym, ap, subst, ◌∙◌, inl, inr, arith}
 use Rattle.std.proofs.Common.{Option, Some, None}
 use Rattle.std.specs.Prelude.{◌⊎◌, slice_index}
@@ -21,6 +22,7 @@ use Rattle.hba_laws.specs.History as event
 use Rattle.hba_laws.specs.History.{Event, Transfer, issued}
 use Rattle.hba_laws.proofs.StandLemmas.{filling_is, if_there}
 use Rattle.slots.specs.Slots.{match_some}
+use Rattle.slots.specs.Work.{is_read as is_reading}
 use Rattle.hba_driver.specs.Delivered.{zero_at}
 use Rattle.hba_driver.specs.Drivers.{Entry, entry_at, is_read, waits_in}
 use Rattle.hba_driver.specs.Effects.{buffer_prd, prds_with}
@@ -46,23 +48,27 @@ other_places : (ps qs : List Prd) (i j : ℕ) → share_with ps qs ≡ false →
 other_places ps qs i j none below below_other same =
     true≢false (sym (share_with-true ps qs (record { i = i; j = j; below = below; below_other = below_other; one_place = same })) ∙ none)
 
-read_or : (a b : Bool) → a ≡ true → (a || b) ≡ true
-read_or true b h = refl
-read_or false b h = absurd (false≢true h)
+or_read : (a b : Bool) → b ≡ true → (a || b) ≡ true
+or_read true b h = refl
+or_read false b h = h
 
-same_entry : (e f : Entry) → Some e ≡ Some f → e ≡ f
+pub same_entry : (e f : Entry) → Some e ≡ Some f → e ≡ f
 same_entry e f h = cc
 
 beside_by : (b : Bool) (prds : List Prd) → share_with (buffer_prd ∷ []) prds ≡ false → share_with (prds_with b) prds ≡ false
 beside_by true prds h = h
 beside_by false prds h = refl
 
+-- no read is issued in the slot of a device
+abbrev pub IsUnread : (n s : ℕ) → Touches → Type 0
+IsUnread n s touches = (t : Transfer) → issued s (own n touches) ≡ Some t → is_reading t.work.kind ≡ true → ⊥
+
 module _ (h : Host) (touches : Touches) (sound : IsSoundHost h) (served : IsServed h.driver (shared_by h) touches) (s : ℕ) (e : Entry)
-    (here : entry_at h.driver.entries s ≡ Some e) (reads : is_read e.head.work ≡ true) (freed : IsFreed e.head.dev s touches)
-    (i : ℕ) (below : i < total_of e.prds) where
-  -- what is issued lies elsewhere
-  elsewhere : (n r j : ℕ) (t : Transfer) → issued r (own n touches) ≡ Some t → j < t.work.len → place e.prds i ≡ place t.table j → ⊥
-  elsewhere n r j t is less same = by_from issue.from
+    (here : entry_at h.driver.entries s ≡ Some e) (unread : IsUnread e.head.dev s touches) (i : ℕ) (below : i < total_of e.prds) where
+  -- reads that are issued lie elsewhere
+  elsewhere : (n r j : ℕ) (t : Transfer) → issued r (own n touches) ≡ Some t → is_reading t.work.kind ≡ true → j < t.work.len
+      → place e.prds i ≡ place t.table j → ⊥
+  elsewhere n r j t is reads less same = by_from issue.from
     where
       issue : IsIssueOf h.driver n r t
       issue = served.issues n r t is
@@ -75,10 +81,10 @@ module _ (h : Host) (touches : Touches) (sound : IsSoundHost h) (served : IsServ
         | inl one ↦
             let entry : q.entry ≡ e = same_entry q.entry e (sym q.stands ∙ ap (entry_at h.driver.entries) (sym one) ∙ here) in
             let dev : n ≡ e.head.dev = sym q.of_dev ∙ ap (λ (x : Entry). x.head.dev) entry in
-            freed t (subst (λ (m : ℕ). issued s (own m touches) ≡ Some t) dev (subst (λ (k : ℕ). issued k (own n touches) ≡ Some t) (sym one) is))
+            unread t (subst (λ (m : ℕ). issued s (own m touches) ≡ Some t) dev (subst (λ (k : ℕ). issued k (own n touches) ≡ Some t) (sym one) is)) reads
         | inr other ↦
             let none : share_with e.prds q.entry.prds ≡ false =
-            sound.requests.apart s r e q.entry here q.stands other (read_or (is_read e.head.work) (is_read q.entry.head.work) reads) in
+            sound.requests.apart s r e q.entry here q.stands other (or_read (is_read e.head.work) (is_read q.entry.head.work) (q.reads reads)) in
             other_places e.prds t.table i j (ap (share_with e.prds) q.table ∙ none) below in_table same
       ]
       by_from (inr (inl step)) =
@@ -102,7 +108,7 @@ module _ (h : Host) (touches : Touches) (sound : IsSoundHost h) (served : IsServ
           let p = filling_is (own m touches) f is in
           let q = if_there (filling (own m touches)) (FillsWithin (length bytes)) f is within.fills in
           written_elsewhere f.transfer.table f.from bytes (client zero_at touches) (place e.prds i) (λ j less at.
-          elsewhere m f.slot (f.from + j) f.transfer p.is_issued (omega (arith, q.fits, less)) at)
+          elsewhere m f.slot (f.from + j) f.transfer p.is_issued q.reads (omega (arith, q.fits, less)) at)
 
   event_leaves : (m : ℕ) (o : Option Event) → AreWithin (by_device m o ++ touches)
       → client zero_at (by_device m o ++ touches) (place e.prds i) ≡ client zero_at touches (place e.prds i)
@@ -184,13 +190,12 @@ module _ (len : ℕ) (right : is_memory_size len ≡ true) where
     pub came_next : (turn : HostTurn) (new : Host) (does : Does old turn new) → AreTouched len (turns ++ turn ∷ []) new (later turn new does)
     came_next turn new does = goes turns turn old new touches (new, does, refl) (serves_next turn new does) came
 
-    module _ (s : ℕ) (e : Entry) (here : entry_at old.driver.entries s ≡ Some e) (reads : is_read e.head.work ≡ true) (freed : IsFreed e.head.dev s touches)
-        (i : ℕ) (below : i < total_of e.prds) (inside : LiesInClient (length old.memory.client) (place e.prds i) 1) where
+    module _ (s : ℕ) (e : Entry) (here : entry_at old.driver.entries s ≡ Some e) (unread : IsUnread e.head.dev s touches) (i : ℕ) (below : i < total_of e.prds) (inside : LiesInClient (length old.memory.client) (place e.prds i) 1) where
       took_stays : (frame : List ℕ) (report : TakeReport) (new : Host) → Does old (Took frame report) new → Stays (place e.prds i - client_start) old new
       took_stays frame report new does =
           kept_new.client (place e.prds i - client_start) room_new
           ∙ ap (client zero_at (by_device (port_of frame) (event_taken (shared_by old) frame) ++ touches)) at
-          ∙ event_leaves old touches (touched_sound len turns old touches right came) (touched_served len turns old touches right came) s e here reads freed i below
+          ∙ event_leaves old touches (touched_sound len turns old touches right came) (touched_served len turns old touches right came) s e here unread i below
           (port_of frame) (event_taken (shared_by old) frame) kept_new.within
           ∙ sym (ap (client zero_at touches) at)
           ∙ sym (kept.client (place e.prds i - client_start) room)
@@ -224,13 +229,13 @@ module _ (len : ℕ) (right : is_memory_size len ≡ true) where
             | inl before ↦ inl (put_before (place e.prds i) at inside.0 before)
             | inr least ↦ elim (cases_lt (place e.prds i) (at + length bytes)) [
               | inl less ↦
-                  absurd (not_put old touches (touched_sound len turns old touches right came) (touched_served len turns old touches right came) s e here reads freed
+                  absurd (not_put old touches (touched_sound len turns old touches right came) (touched_served len turns old touches right came) s e here unread
                   i below at (length bytes) does.unused least less)
               | inr past ↦ inr (put_after (place e.prds i) at (length bytes) does.inside.0 past)
             ]
           ]
 
-      turn_stays : (turn : HostTurn) (new : Host) → Does old turn new → Stays (place e.prds i - client_start) old new
+      pub turn_stays : (turn : HostTurn) (new : Host) → Does old turn new → Stays (place e.prds i - client_start) old new
       turn_stays (Took frame report) new does = took_stays frame report new does
       turn_stays (Pushed frame) new does = ap (λ (m : Memory). slice_index m.client (place e.prds i - client_start)) does.memory
       turn_stays (Ticked acted) new does = ap (λ (c : List ℕ). slice_index c (place e.prds i - client_start)) (tick_client old acted new does)
@@ -261,7 +266,7 @@ module _ (len : ℕ) (right : is_memory_size len ≡ true) where
             begun freed in
             let long : length run.0.memory.client ≡ length old.memory.client = as_long old (t ∷ []) run.0 (run.0, run.1, refl) sound_old in
             let first : Stays (place e.prds i - client_start) old run.0 =
-            turn_stays turns old touches came s e here reads freed i below inside t run.0 run.1 in
+            turn_stays turns old touches came s e here (λ u is reading. freed u is) i below inside t run.0 run.1 in
             let rest : Stays (place kept.entry.prds i - client_start) run.0 new =
             bytes_stay more (turns ++ t ∷ []) run.0 new (later turns old touches came t run.0 run.1) (came_next turns old touches came t run.0 run.1) run.2 s
             kept.entry kept.is reads_on (begun_later e kept.entry begun kept.on)

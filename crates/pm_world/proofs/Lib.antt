@@ -71,6 +71,7 @@ pub mod HonestRuns
 pub mod PolledLemmas
 pub mod ReadBackLemmas
 pub mod ReachedLemmas
+pub mod SubmittedLemmas
 pub mod Laws
 pub mod Polling
 pub mod Doing

@@ -29,4 +29,5 @@ pub mod Connections
 pub mod Resting
 pub mod Polled
 pub mod ReadBack
+pub mod Submitted
 pub mod Laws

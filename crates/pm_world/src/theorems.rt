@@ -1,10 +1,12 @@
 //! Laws of runs. The functions do nothing when they run.
 
+mod bytes;
 mod connections;
 mod control;
 mod ends;
 mod orders;
 
+pub use bytes::writes_are_as_submitted;
 pub use connections::{connections_follow, ports_rest_at_a_flush};
 pub use control::{one_order_at_a_time, ports_go_on};
 pub use ends::{disks_are_honest, polled_is_honest, reads_bring_writes, wires_go_on};

@@ -1,0 +1,8 @@
+use Rattle.pm_world.proofs.SubmittedLemmas.{sent_as_submitted, written_as_submitted}
+use Rattle.pm_world.proofs.theorems.bytes.writes_are_as_submitted.Goals as goal
+
+pub returns-clause-sent : goal.returns-clause-sent
+returns-clause-sent c = sent_as_submitted
+
+pub returns-clause-written : goal.returns-clause-written
+returns-clause-written c = written_as_submitted

@@ -1,0 +1,69 @@
+-- The bytes of a write are those with which it was submitted: what the host sent of it, and so what a
+-- disk has of it on its medium (AHCI 1.3.1, 4.2.3.3, Physical Region Descriptor Table, and 5.3, data
+-- transfer; Serial ATA 3.x, 10.5, Data FIS; ACS-3, WRITE FPDMA QUEUED).
+--
+-- Cited: where a request was submitted and reported, and requests that were polled (specs/Polled.antt);
+-- touches (specs/Touched.antt); requests that ended honestly (specs/Ended.antt, Disks.antt).
+use Rattle.std.specs.Prelude.{ℕ, ◌≡◌, ◌-◌, ◌*◌, ◌<◌, true, List, length, slice_index, Some, Ok}
+use Rattle.host_memory.specs.Memory.{Memory, client_start}
+use Rattle.host_memory.specs.Place.{LiesInClient, place}
+use Rattle.host_memory.specs.declared.table.Prd.{Prd}
+use Rattle.disk_model.specs.declared.plan.DiskPlan.{DiskPlan}
+use Rattle.disk_model.specs.declared.unit.Unit.{Unit}
+use Rattle.hba_laws.specs.Client.{Touches, own}
+use Rattle.hba_laws.specs.History.{filled}
+use Rattle.hba_driver.specs.declared.request.Completion.{Completion}
+use Rattle.hba_driver.specs.declared.request.Ticket.{Ticket}
+use Rattle.hba_driver.specs.declared.request.Work.TheVariants.{Write}
+use Rattle.hba_driver.specs.HostTurns.{HostTurn}
+use Rattle.hba_driver.specs.Orders.{is_queued}
+use Rattle.pm_world.specs.Places.{Places, is_config, new_world}
+use Rattle.pm_world.specs.Rules.{Run}
+use Rattle.pm_world.specs.declared.step.Config.{Config}
+use Rattle.pm_world.specs.declared.step.Step.{Step}
+use Rattle.pm_world.specs.declared.step.Answer.{Answer}
+use Rattle.pm_world.specs.Disks.{DiskRun, IsNewDisk}
+use Rattle.pm_world.specs.Ended.{StandsAt}
+use Rattle.pm_world.specs.Polled.{IsPolledHonestly, IsReportedIn}
+use Rattle.pm_world.specs.Touched.{AreTouched}
+
+-- this byte stands in client memory at the place of byte i of these PRDs
+pub record StandsThere (byte : ℕ) (prds : List Prd) (memory : Memory) (i : ℕ) : Type 0 where
+  pub inside : LiesInClient (length memory.client) (place prds i) 1
+  pub is : slice_index memory.client (place prds i - client_start) ≡ byte
+
+-- ---- what the host sent
+
+-- Of devices nothing is asked. Where a write was submitted in a run from a new world and reported to be
+-- done, each byte of it that went to its device is the one that stood in client memory at its place as
+-- it was submitted: whatever devices send, and whatever is put and submitted in between.
+abbrev pub SentAsSubmitted : Type 0
+SentAsSubmitted =
+    (config : Config) (units : List Unit) → is_config config (length units) ≡ true
+    → (steps : List Step) (answers : List Answer) (now : Places)
+    (run : Run (new_world config units) steps answers now) (ticket : Ticket) (slot : ℕ)
+    (r : IsReportedIn ticket slot (new_world config units) now steps answers run)
+    → r.request.work ≡ Write
+    → (turns : List HostTurn) (touches : Touches)
+    → AreTouched config.memory turns r.took.at.host touches
+    → (i byte : ℕ) → i < 512 * r.request.sectors → filled slot (own r.dev touches) i ≡ Some byte
+    → StandsThere byte r.request.prds.items r.submitted.at.host.memory i
+
+-- ---- what is on the medium
+
+-- A write that is polled as Done is on the medium of its disk with the bytes that stood in client memory
+-- at its places as it was submitted.
+abbrev pub WrittenAsSubmitted : Type 0
+WrittenAsSubmitted =
+    (config : Config) (units : List Unit) → is_config config (length units) ≡ true
+    → (steps : List Step) (answers : List Answer) (now : Places)
+    (run : Run (new_world config units) steps answers now) (completion : Completion)
+    (polled : IsPolledHonestly config units now steps answers run completion)
+    → (writes : polled.reported.request.work ≡ Write)
+    → (sectors : ℕ) (plan : DiskPlan) (disk : IsNewDisk units polled.reported.dev plan sectors)
+    (queued : is_queued polled.reported.request.work ≡ true)
+    (d : DiskRun config units polled.reported.dev polled.reported.took.at)
+    (same : polled.reported.conn ≡ d.conn)
+    → (i : ℕ) → i < 512 * polled.reported.request.sectors
+    → StandsAt ((polled.honest sectors plan disk queued d same).ends.writes writes).written.bytes
+    polled.reported.request.prds.items polled.reported.submitted.at.host.memory i
