@@ -32,7 +32,7 @@ use Rattle.hba_driver.specs.HostTurns.{Host}
 use Rattle.hba_driver.specs.Laws.{is_withdrawn}
 use Rattle.hba_driver.specs.Orders.{log_fields}
 use Rattle.hba_driver.specs.Served.{IsServed}
-use Rattle.hba_driver.specs.Slot30.{IsApart30, IsAt30, IsSent30, LogSent, Off, ReadsLog, Resets, Stage30, is_faulty}
+use Rattle.hba_driver.specs.Slot30.{IsApart30, IsAt30, IsSent30, IsUnsought, LogSent, Off, ReadsLog, Resets, Stage30, is_faulty}
 use Rattle.hba_driver.specs.Tended.{AreTended, Awaits, IsAtStage, IsLiveAt, IsReleasing, IsTended, IsTendedBy, Logs, Releases}
 use Rattle.hba_driver.proofs.ApartPushes.{alone_issue, is_alone}
 use Rattle.driver_ends.proofs.TogetherBegins.{log_begins_served, reset_begins_served}
@@ -59,7 +59,7 @@ not_live IsOut h k = false≢true k
 not_live Aside h k = false≢true h
 not_live (Ended o) h k = false≢true h
 
-module _ (n : ℕ) (h : Host) (stage : Stage30) (touches : Touches) (below : n < 15) (sound : IsSoundHost h) (served : IsServed h.driver (shared_by h) touches) (at : IsAt30 n stage h) (well : is_faulty stage ≡ false) where
+module _ (n : ℕ) (h : Host) (stage : Stage30) (touches : Touches) (below : n < 15) (sound : IsSoundHost h) (served : IsServed h.driver (shared_by h) touches) (at : IsAt30 n stage h) (off : IsUnsought n h) (well : is_faulty stage ≡ false) where
   abbrev apart : IsApart30 n stage h
   apart = at.apart well
 
@@ -68,7 +68,7 @@ module _ (n : ℕ) (h : Host) (stage : Stage30) (touches : Touches) (below : n <
 
   tended_by : IsTendedBy n h.driver.plan → IsTended n h.driver
   tended_by way = record {
-    plan = record { way = way; order = λ sought. absurd (true≢false (sym sought ∙ at.unsought)) };
+    plan = record { way = way; order = λ sought. absurd (true≢false (sym sought ∙ off)) };
     requests = record {
       ready = λ s e live. absurd (none_live s e live);
       alone = λ s r e f live other flush. absurd (none_live s e live);
@@ -89,18 +89,18 @@ free_at n s h None is none = is
 free_at n s h (Some i) is none = absurd (none i refl)
 
 pub reset_begins : ResetBegins
-reset_begins n h base touches below sound served at owes =
+reset_begins n h base touches below sound served at off owes =
     let ways = released_tended n h at (at.apart refl).plan in
     record {
       commands = plain_since (length (ledger base).writes);
       counted = λ s. refl;
-      on = reset_begins_served n h base (plain_since (length (ledger base).writes)) touches below sound served (tended_by n h Off touches below sound served at refl ways.0) ways.1 (at.apart refl).resetting
+      on = reset_begins_served n h base (plain_since (length (ledger base).writes)) touches below sound served (tended_by n h Off touches below sound served at off refl ways.0) ways.1 (at.apart refl).resetting
           (λ s. free_at n s h (own_issue (view_of n h.port).slots s) refl (λ i there. taken s i there)) (λ s. refl) owes;
     }
   where
     taken : (s : ℕ) (i : Issue) → own_issue (view_of n h.port).slots s ≡ Some i → ⊥
     taken s i there =
-        let here : own_issue (view_of n h.port).slots 30 ≡ Some i = subst (λ (k : ℕ). own_issue (view_of n h.port).slots k ≡ Some i) (thirty n h Off touches below sound served at refl s i there) there in
+        let here : own_issue (view_of n h.port).slots 30 ≡ Some i = subst (λ (k : ℕ). own_issue (view_of n h.port).slots k ≡ Some i) (thirty n h Off touches below sound served at off refl s i there) there in
         let bad : None ≡ Some i = sym (at.apart refl).slot ∙ here in cc
 
 -- ---- the log of an error
@@ -142,7 +142,7 @@ waits_by true false h k = refl
 waits_by true true h k = absurd (true≢false k)
 waits_by false a h k = absurd (false≢true h)
 
-module _ (n : ℕ) (h : Host) (touches : Touches) (below : n < 15) (sound : IsSoundHost h) (served : IsServed h.driver (shared_by h) touches) (at : IsAt30 n LogSent h) where
+module _ (n : ℕ) (h : Host) (touches : Touches) (below : n < 15) (sound : IsSoundHost h) (served : IsServed h.driver (shared_by h) touches) (at : IsAt30 n LogSent h) (off : IsUnsought n h) where
   abbrev slot : IsSent30 n (log_fields n) h.port
   slot = (at.apart refl).slot
 
@@ -160,7 +160,7 @@ module _ (n : ℕ) (h : Host) (touches : Touches) (below : n < 15) (sound : IsSo
 
   only : (s : ℕ) (i : Issue) → own_issue (view_of n h.port).slots s ≡ Some i → (s ≡ 30) × (i ≡ slot.issue)
   only s i there =
-      let same : s ≡ 30 = thirty n h LogSent touches below sound served at refl s i there in
+      let same : s ≡ 30 = thirty n h LogSent touches below sound served at off refl s i there in
       (same, some_inj i slot.issue (sym there ∙ ap (λ (k : ℕ). own_issue (view_of n h.port).slots k) same ∙ slot.issued))
 
   awaited : (s : ℕ) (i : Issue) → own_issue (view_of n h.port).slots s ≡ Some i → IsAwaited i
@@ -191,9 +191,9 @@ module _ (n : ℕ) (h : Host) (touches : Touches) (below : n < 15) (sound : IsSo
       record {
         commands = plain_since (length (ledger base).writes);
         counted = λ s. refl;
-        on = log_begins_served n h base plan.file page (plain_since (length (ledger base).writes)) touches below sound served (tended_by n h LogSent touches below sound served at refl (Logs plan.file plan.file plan.device plan.path)) plan.path (at.apart refl).resetting
+        on = log_begins_served n h base plan.file page (plain_since (length (ledger base).writes)) touches below sound served (tended_by n h LogSent touches below sound served at off refl (Logs plan.file plan.file plan.device plan.path)) plan.path (at.apart refl).resetting
             awaited sent_agrees (at.apart refl).context waited (λ s. refl) owes;
       }
 
 pub log_begins : LogBegins
-log_begins n h base page touches below sound served at owes = serves_log n h touches below sound served at base page owes
+log_begins n h base page touches below sound served at off owes = serves_log n h touches below sound served at off base page owes

@@ -94,13 +94,14 @@ faults_set_aside n base old plain report new given commands touches below framed
     let told : report.fault ≡ device_cause (heard_now old.port old.memory (port_of (marked plain n)) (admitted (port_of (marked plain n)) (seen (marked plain n)))).fault =
     ap (λ (r : TakeReport). r.fault) hears.reports ∙ report_fault (port_of (marked plain n)) old.port old.memory (admitted (port_of (marked plain n)) (seen (marked plain n))) in
     let shown : (view_of n new.port).fault ≡ report.fault = subst (λ (m : ℕ). (view_of m new.port).fault ≡ report.fault) port (ap (λ (v : DeviceView). v.fault) hears.own ∙ sym told) in
-    let running : old.port.registers.started ≡ true = runs old (marked plain n) old.port.registers.started refl heard_is in
-    record {
-      opened = subst (λ (d : Driver). 7 ≤ d.plan.opened) (sym does.driver) (opened old served.sound running);
-      unsought = ap (λ (d : Driver). detects n d.plan.asked d.plan.order) does.driver ∙ unsought told;
-      fault = ap is_some shown ∙ faulty;
-      apart = λ well. absurd (true≢false well);
-    }
+    let running : old.port.registers.started ≡ true = runs old (marked plain n) old.port.registers.started refl heard_is in (
+      record {
+        opened = subst (λ (d : Driver). 7 ≤ d.plan.opened) (sym does.driver) (opened old served.sound running);
+        fault = ap is_some shown ∙ faulty;
+        apart = λ well. absurd (true≢false well);
+      },
+      ap (λ (d : Driver). detects n d.plan.asked d.plan.order) does.driver ∙ unsought told,
+    )
   where
     frame_right : IsRight (ledger given) (seen (marked plain n))
     frame_right = (marks_tell_nothing (ledger given) plain n framed (omega (arith, below))).right right

@@ -17,7 +17,7 @@ use Rattle.disk_ends.specs.Same.{SlotCommand}
 use Rattle.hba_driver.specs.Events.{IsSoundHost, shared_by}
 use Rattle.hba_driver.specs.HostTurns.{Host}
 use Rattle.hba_driver.specs.Served.{IsServed}
-use Rattle.hba_driver.specs.Slot30.{IsAt30, LogSent, Off, Stage30}
+use Rattle.hba_driver.specs.Slot30.{IsAt30, IsUnsought, LogSent, Off, Stage30}
 use Rattle.driver_ends.specs.Together.{IsServedOn}
 
 -- At each stage no queued command of the device can be done.
@@ -39,6 +39,7 @@ abbrev pub LogBegins : Type 0
 LogBegins =
     (n : ℕ) (h : Host) (base : List Happening) (page : Wanted) (touches : Touches) → n < 15
     → IsSoundHost h → IsServed h.driver (shared_by h) touches → IsAt30 n LogSent h
+    → IsUnsought n h
     → OwesOnly (ledger base) (ShowsPage ∷ []) (page ∷ []) → ServesFrom n base h touches
 
 -- The FIS that clears SRST went out, and came to the disk, which owes nothing but its signature.
@@ -46,4 +47,5 @@ abbrev pub ResetBegins : Type 0
 ResetBegins =
     (n : ℕ) (h : Host) (base : List Happening) (touches : Touches) → n < 15
     → IsSoundHost h → IsServed h.driver (shared_by h) touches → IsAt30 n Off h
+    → IsUnsought n h
     → OwesOnly (ledger base) (Signs ∷ []) [] → ServesFrom n base h touches

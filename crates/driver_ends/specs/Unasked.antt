@@ -19,7 +19,7 @@ use Rattle.disk_ends.specs.Same.{SlotCommand}
 use Rattle.hba_driver.specs.declared.plan.Device.TheVariants.{Absent}
 use Rattle.hba_driver.specs.Drivers.{device_at}
 use Rattle.hba_driver.specs.HostTurns.{Does, Host, HostTurn, Pushed, Took}
-use Rattle.hba_driver.specs.Slot30.{Faulty, IsAt30, LogSent, Off}
+use Rattle.hba_driver.specs.Slot30.{Faulty, IsAt30, IsUnsought, LogSent, Off}
 use Rattle.hba_driver.specs.Tended.{IsTended}
 use Rattle.driver_ends.specs.Kept.{IsCalmTurn, given_to}
 use Rattle.driver_ends.specs.Together.{IsServedOn}
@@ -71,4 +71,4 @@ FaultsSetAside =
     → IsFrame plain → port_of (marked plain n) ≡ n → Does old (Took (marked plain n) report) new
     → IsRight (ledger given) (seen plain) → IsOfDisk (seen plain)
     → IsServedOn n base old given commands touches → IsUnasked n old given
-    → is_some report.fault ≡ true → IsAt30 n Faulty new
+    → is_some report.fault ≡ true → IsAt30 n Faulty new × IsUnsought n new

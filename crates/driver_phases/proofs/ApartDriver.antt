@@ -4,6 +4,7 @@ use Rattle.std.proofs.Common.{Some, None}
 use Rattle.std.specs.Prelude.{◌⊎◌, if◌then◌else◌, is_some, ◌%◌, ◌/◌, ◌==◌}
 use Rattle.std.specs.Option.{option_map, option_or}
 use Rattle.std.proofs.lemmas.Bool.{cases_eq, false≢true, le-ltb, true≢false}
+use Rattle.std.proofs.lemmas.Bool.Decides.{nat_tests}
 use Rattle.fis_view.specs.Built.{IsBuilt, h2d_given}
 use Rattle.fis_view.specs.Frames.{IsFrame, Stamped, marked}
 use Rattle.fis_view.specs.Table.{H2d, field}
@@ -32,9 +33,10 @@ use Rattle.hba_driver.specs.Effects.{ActsAll, clearing, effects_of}
 use Rattle.hba_driver.specs.HostTurns.{Does, Host, HostTurn, Polled, Pushed, Put, Submitted, Ticked, Took, sight_in}
 use Rattle.hba_driver.specs.Orders.{control, log_fields}
 use Rattle.hba_driver.specs.Sights.{file_shown}
-use Rattle.hba_driver.specs.Slot30.{Asks, Cleared, Clears, Faulty, IsAt30, IsCleared, IsLogged, IsNext30, IsOn30, LogSent, MayCome30, Off, On, Sets}
+use Rattle.hba_driver.specs.Slot30.{Asks, Cleared, Clears, Faulty, FindsNone, IsAt30, IsCleared, IsLogged, IsNext30, IsOn30, IsUnflushed, IsUnsought, LogSent}
+use Rattle.hba_driver.specs.Slot30.{MayCome30, Off, On, Sets}
 use Rattle.hba_driver.specs.Slot30.{Stage30, TakesOn30, TicksOn30, Turns30, fields30, is_faulty, sent30}
-use Rattle.hba_driver.specs.Steady.{IsCalmTick, IsClearTick, IsFine, IsFlushTick}
+use Rattle.hba_driver.specs.Steady.{IsCalmTick, IsClearTick, IsFine, IsFlushTick, detects}
 use Rattle.hba_driver.specs.Tended.{Awaits, Fine, Identifies, IsLiveAt, IsTended, IsTendedBy, Logs, Releases, Spoilt, TendsOn}
 use Rattle.hba_driver.specs.Ticks.{acted, after_tick, cleared_plan, done_ended, due, effects_due, from_reset, plan_after, recovering, seen, turn}
 use Rattle.hba_driver.specs.Turns.{control_news, control_seen, control_turn, early_due, fault_due, opening_due, plain_turn, restart_due, turn_of}
@@ -47,6 +49,7 @@ use Rattle.hba_driver.proofs.SteadyLemmas.{set_other}
 use Rattle.hba_driver.proofs.SteadyTurns.{calm_or_flush}
 use Rattle.hba_driver.proofs.TendedTurns.{turn_tended}
 use Rattle.hba_driver.proofs.Tick31Lemmas.{faulty_shown}
+use Rattle.hba_driver.proofs.UnsoughtLemmas.{stays_unsought}
 use Rattle.driver_ends.proofs.FisLemmas.{fields_read, request_by}
 use Rattle.driver_ends.proofs.PushLemmas.{frame_by}
 use Rattle.driver_phases.proofs.BesideLemmas.{IsUnticked, plan_same}
@@ -61,17 +64,37 @@ MayBe30 n stage old (Took frame report) = port_of frame ≡ n → MayCome30 stag
 MayBe30 n stage old (Ticked acts) = IsFlushTick n old → ⊥
 MayBe30 n stage old turn = Prim.Unit {0}
 
+-- a device that is not being looked for is not found to be gone
+finds_none : (n : ℕ) (old : Host) → IsUnsought n old → FindsNone n old → ⊥
+finds_none n old off found = false≢true (sym off ∙ ap (detects n old.driver.plan.asked) found.order ∙ own n)
+  where
+    own : (k : ℕ) → (k == k) ≡ true
+    own k = grind (arith, nat_tests)
+
+unflushed : (n : ℕ) (stage : Stage30) (old : Host) (turn : HostTurn) → MayBe30 n stage old turn → IsUnflushed n old turn
+unflushed n stage old (Ticked acts) may = may
+unflushed n stage old (Took frame report) may = tt
+unflushed n stage old (Pushed frame) may = tt
+unflushed n stage old (Submitted dev request ticket) may = tt
+unflushed n stage old (Polled completion) may = tt
+unflushed n stage old (Put at bytes) may = tt
+
+-- it is not being looked for after the turn
+pub still_off : (n : ℕ) (stage : Stage30) (old : Host) (turn : HostTurn) (new : Host) → Does old turn new → MayBe30 n stage old turn → IsUnsought n old
+    → IsUnsought n new
+still_off n stage old turn new does may off = stays_unsought n old turn new does (unflushed n stage old turn may) off
+
 pub leads : (n : ℕ) (past : Touches) (old : Host) (turn : HostTurn) (new : Host) (stage : Stage30) → n < 15 → IsOn30 past old → Does old turn new
-    → MayBe30 n stage old turn
+    → MayBe30 n stage old turn → IsUnsought n old
     → IsAt30 n stage old → Turns30 n stage turn new
-leads n past old (Took frame report) new stage low on does may at = (takes_lead n).turns past old frame report new stage low on.served does at may
-leads n past old (Pushed frame) new stage low on does may at = pushes_on n past old frame new stage low on.sound on.served does at
-leads n past old (Ticked acts) new stage low on does may at = (ticks_lead n).turns past old acts new stage low on does at may
-leads n past old (Submitted dev request ticket) new stage low on does may at =
+leads n past old (Took frame report) new stage low on does may off at = (takes_lead n).turns past old frame report new stage low on.served does at may
+leads n past old (Pushed frame) new stage low on does may off at = pushes_on n past old frame new stage low on.sound on.served does at
+leads n past old (Ticked acts) new stage low on does may off at = (ticks_lead n).turns past old acts new stage low on does at may (finds_none n old off)
+leads n past old (Submitted dev request ticket) new stage low on does may off at =
     record { next = stage; at = (stays_on n).submitted old dev request ticket new stage does at; is = refl }
-leads n past old (Polled completion) new stage low on does may at =
+leads n past old (Polled completion) new stage low on does may off at =
     record { next = stage; at = (stays_on n).polled old completion new stage does at; is = refl }
-leads n past old (Put at bytes) new stage low on does may is =
+leads n past old (Put at bytes) new stage low on does may off is =
     record { next = stage; at = (stays_on n).put old at bytes new stage does is; is = refl }
 
 -- ---- the plan of a turn that is no tick
@@ -360,11 +383,11 @@ not_live Aside gone lives = false≢true lives
 not_live (Ended o) gone lives = false≢true lives
 
 -- the device is to be reset, and slot 30 does not work on it
-spoilt_tended : (n : ℕ) (h : Host) → IsAt30 n Cleared h → device_at h.driver.plan n ≡ Recovering Reset → IsTended n h.driver
-spoilt_tended n h at device = record {
+spoilt_tended : (n : ℕ) (h : Host) → IsAt30 n Cleared h → IsUnsought n h → device_at h.driver.plan n ≡ Recovering Reset → IsTended n h.driver
+spoilt_tended n h at off device = record {
   plan = record {
     way = Spoilt device (at.apart refl).plan.away;
-    order = λ on. absurd (true≢false (sym on ∙ at.unsought));
+    order = λ on. absurd (true≢false (sym on ∙ off));
   };
   requests = record {
     ready = λ s e live. absurd (none s e live);
@@ -384,7 +407,7 @@ still_spoilt n p (Logs before file device works) c = absurd (c.away (record { de
 still_spoilt n p (Spoilt device free) c = device
 
 module _ (n : ℕ) (past : Touches) (old : Host) (acts : Bool) (new : Host) (low : n < 15) (on : IsOn30 past old) (does : Does old (Ticked acts) new)
-    (flush : IsFlushTick n old → ⊥) where
+    (flush : IsFlushTick n old → ⊥) (off : IsUnsought n old) where
   faulty_ticks : (next : Stage30) → IsAt30 n Faulty old → IsAt30 n next new → TicksOn30 Faulty next → GoesByReset n Faulty old
       → GoesByReset n next new
   faulty_ticks next at now (inl is) goes =
@@ -413,7 +436,7 @@ module _ (n : ℕ) (past : Touches) (old : Host) (acts : Bool) (new : Host) (low
       tends : TendsOn n old (Ticked acts) new
       tends =
           turn_tended n old (Ticked acts) new (omega (arith, low)) does (calm_tick n past old low on Cleared at acts new does flush refl)
-          (spoilt_tended n old at device)
+          (spoilt_tended n old at off device)
 
       by_next : TicksOn30 Cleared next → GoesByReset n next new
       by_next (inl is) =
@@ -442,16 +465,16 @@ module _ (n : ℕ) (past : Touches) (old : Host) (acts : Bool) (new : Host) (low
 
 -- a device that goes by its reset does so on
 pub resets : (n : ℕ) (past : Touches) (old : Host) (turn : HostTurn) (new : Host) (stage : Stage30) → n < 15 → IsOn30 past old → Does old turn new
-    → MayBe30 n stage old turn → IsAt30 n stage old → (t : Turns30 n stage turn new) → GoesByReset n stage old → GoesByReset n t.next new
-resets n past old (Took frame report) new stage low on does may at t goes =
+    → MayBe30 n stage old turn → IsUnsought n old → IsAt30 n stage old → (t : Turns30 n stage turn new) → GoesByReset n stage old → GoesByReset n t.next new
+resets n past old (Took frame report) new stage low on does may off at t goes =
     rests_on n old (Took frame report) new tt does stage t.next at t.is goes
-resets n past old (Pushed frame) new stage low on does may at t goes = rests_on n old (Pushed frame) new tt does stage t.next at t.is goes
-resets n past old (Ticked acts) new stage low on does may at t goes = ticks_go n past old acts new low on does may stage t.next at t.at t.is goes
-resets n past old (Submitted dev request ticket) new stage low on does may at t goes =
+resets n past old (Pushed frame) new stage low on does may off at t goes = rests_on n old (Pushed frame) new tt does stage t.next at t.is goes
+resets n past old (Ticked acts) new stage low on does may off at t goes = ticks_go n past old acts new low on does may off stage t.next at t.at t.is goes
+resets n past old (Submitted dev request ticket) new stage low on does may off at t goes =
     rests_on n old (Submitted dev request ticket) new tt does stage t.next at t.is goes
-resets n past old (Polled completion) new stage low on does may at t goes =
+resets n past old (Polled completion) new stage low on does may off at t goes =
     rests_on n old (Polled completion) new tt does stage t.next at t.is goes
-resets n past old (Put place bytes) new stage low on does may at t goes = rests_on n old (Put place bytes) new tt does stage t.next at t.is goes
+resets n past old (Put place bytes) new stage low on does may off at t goes = rests_on n old (Put place bytes) new tt does stage t.next at t.is goes
 
 -- ---- what slot 30 holds asks the disk for that
 

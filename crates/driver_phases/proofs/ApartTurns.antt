@@ -15,12 +15,12 @@ use Rattle.disk_ends.specs.Line.{Asked, BothBegin, GoesUp, IsTaken, Line, LinesG
 use Rattle.disk_ends.proofs.LineLemmas.{lines_go_on}
 use Rattle.disk_ends.proofs.MarkedFiles.{marks_ask_nothing}
 use Rattle.hba_driver.specs.HostTurns.{Does, DoesAll, Host, HostTurn, Polled, Pushed, Put, Submitted, Ticked, Took}
-use Rattle.hba_driver.specs.Slot30.{Asks, Cleared, Clears, Faulty, Goes30, IsAt30, IsNext30, IsOn30, LogSent, Off, On, Sets, Stage30, TicksOn30}
+use Rattle.hba_driver.specs.Slot30.{Asks, Cleared, Clears, Faulty, Goes30, IsAt30, IsNext30, IsOn30, IsUnsought, LogSent, Off, On, Sets, Stage30, TicksOn30}
 use Rattle.hba_driver.specs.Slot30.{Turns30, sent30}
 use Rattle.hba_driver.proofs.ServedLemmas.{turns_serve}
 use Rattle.driver_phases.specs.Ends.{Apart, AreFloors, EndsAfter, IsBesideTurn, IsRunning, IsSetAside}
 use Rattle.driver_phases.specs.Stages.{Fits, Leans}
-use Rattle.driver_phases.proofs.ApartDriver.{MayBe30, leads, requests, resets}
+use Rattle.driver_phases.proofs.ApartDriver.{MayBe30, leads, requests, resets, still_off}
 use Rattle.driver_phases.proofs.ApartLines.{Comes30, IsFit, IsGiven, Line30, LogRead, ResetDone, comes_on, given_on, may_come, request30, takes_on}
 use Rattle.driver_phases.proofs.ApartLines.{ticks_on}
 
@@ -29,9 +29,9 @@ use Rattle.driver_phases.proofs.ApartLines.{ticks_on}
 -- it stays set aside, or both begin anew
 pub data GoesAside (n : ℕ) (h : Host) (before after : List Happening) (down up : List (List ℕ)) : Type 0 where
   Stays : IsSetAside n h after down up → GoesAside n h before after down up
-  ByLog : (page : Wanted) → IsAt30 n LogSent h → BothBegin (ledger before) (ledger after) (ShowsPage ∷ []) (page ∷ []) down up → up ≡ []
+  ByLog : (page : Wanted) → IsAt30 n LogSent h → IsUnsought n h → BothBegin (ledger before) (ledger after) (ShowsPage ∷ []) (page ∷ []) down up → up ≡ []
       → GoesAside n h before after down up
-  ByReset : IsAt30 n Off h → BothBegin (ledger before) (ledger after) (Signs ∷ []) [] down up → GoesAside n h before after down up
+  ByReset : IsAt30 n Off h → IsUnsought n h → BothBegin (ledger before) (ledger after) (Signs ∷ []) [] down up → GoesAside n h before after down up
 
 lines : LinesGoOn
 lines = lines_go_on
@@ -69,20 +69,20 @@ beside_next n stage next old (Put at bytes) beside is = same_ticks stage next is
 -- ---- turns
 
 module _ (n : ℕ) (past : Touches) (old : Host) (turn : HostTurn) (new : Host) (below : n < 15) (on : IsOn30 past old) (does : Does old turn new) where
-  leans_on : (stage : Stage30) (line : Line) → MayBe30 n stage old turn → IsAt30 n stage old → (t : Turns30 n stage turn new)
+  leans_on : (stage : Stage30) (line : Line) → MayBe30 n stage old turn → IsUnsought n old → IsAt30 n stage old → (t : Turns30 n stage turn new)
       → Leans n line stage old → Leans n line t.next new
-  leans_on stage Loose may at t leans = resets n past old turn new stage below on does may at t leans
-  leans_on stage _ may at t leans = tt
+  leans_on stage Loose may off at t leans = resets n past old turn new stage below on does may off at t leans
+  leans_on stage _ may off at t leans = tt
 
   pub aside_beside : (disk : List Happening) (down up : List (List ℕ)) → IsBesideTurn n old turn → IsSetAside n old disk down up
       → IsSetAside n new disk down up
   aside_beside disk down up beside h =
       let may : MayBe30 n h.stage old turn = beside_may n h.stage old turn beside in
-      let t : Turns30 n h.stage turn new = leads n past old turn new h.stage below on does may h.at in
+      let t : Turns30 n h.stage turn new = leads n past old turn new h.stage below on does may h.off h.at in
       let fit : IsFit n h.line t.next new (ledger disk) down up =
       ticks_on lines n new (ledger disk) down up h.line h.stage t.next h.fits (beside_next n h.stage t.next old turn beside t.is)
-      (leans_on h.stage h.line may h.at t h.leans) in
-      record { stage = t.next; line = fit.at; at = t.at; fits = fit.fits; leans = fit.leans; on = fit.on h.on }
+      (leans_on h.stage h.line may h.off h.at t h.leans) in
+      record { stage = t.next; line = fit.at; at = t.at; off = still_off n h.stage old turn new does may h.off; fits = fit.fits; leans = fit.leans; on = fit.on h.on }
 
 -- the host gives the disk a FIS
 pub aside_gives : (n : ℕ) (past : Touches) (old : Host) (frame : Stamped) (new : Host) → n < 15 → IsOn30 past old
@@ -90,7 +90,7 @@ pub aside_gives : (n : ℕ) (past : Touches) (old : Host) (frame : Stamped) (new
     → IsSetAside n new disk (down ++ marked frame.bytes 0 ∷ []) up
 aside_gives n past old frame new below on does disk down up port h =
     let turn : HostTurn = Pushed (Some frame) in
-    let t : Turns30 n h.stage turn new = leads n past old turn new h.stage below on does tt h.at in
+    let t : Turns30 n h.stage turn new = leads n past old turn new h.stage below on does tt h.off h.at in
     let g : Goes30 n h.stage frame t.next = t.is.0 port in
     let asks : IsRequest (marked frame.bytes 0) (request30 h.stage) = requests n h.stage g.fields frame.bytes g.are g.built in
     let given : IsGiven n h.line h.stage new (ledger disk) (down ++ marked frame.bytes 0 ∷ []) up =
@@ -99,6 +99,7 @@ aside_gives n past old frame new below on does disk down up port h =
       stage = sent30 h.stage;
       line = given.at;
       at = subst (λ (x : Stage30). IsAt30 n x new) g.after t.at;
+      off = still_off n h.stage old turn new does tt h.off;
       fits = given.fits;
       leans = given.leans;
       on = given.on;
@@ -113,11 +114,11 @@ aside_takes n past old bytes report new below on does disk down up framed port h
     let taken : IsTaken h.line (ledger disk) down up bytes = lines.takes h.line (ledger disk) down up bytes h.on in
     let unsigned : signs (seen (marked bytes n)) ≡ false = (marks_ask_nothing bytes n framed (omega (arith, below))).signature ∙ taken.unsigned in
     let may : MayBe30 n h.stage old turn = λ here. may_come h.line h.stage (marked bytes n) taken.spoken h.fits unsigned in
-    let t : Turns30 n h.stage turn new = leads n past old turn new h.stage below on does may h.at in
+    let t : Turns30 n h.stage turn new = leads n past old turn new h.stage below on does may h.off h.at in
     let fit : IsFit n h.line t.next new (ledger disk) down up =
     takes_on lines n new (ledger disk) down up h.line h.stage t.next taken.spoken h.fits (t.is.0 port)
-    (leans_on n past old turn new below on does h.stage h.line may h.at t h.leans) in
-    record { stage = t.next; line = fit.at; at = t.at; fits = fit.fits; leans = fit.leans; on = fit.on taken.on }
+    (leans_on n past old turn new below on does h.stage h.line may h.off h.at t h.leans) in
+    record { stage = t.next; line = fit.at; at = t.at; off = still_off n h.stage old turn new does may h.off; fits = fit.fits; leans = fit.leans; on = fit.on taken.on }
 
 -- ---- steps of the disk
 
@@ -127,7 +128,7 @@ pub aside_sends : (n : ℕ) (plan : DiskPlan) (sectors : ℕ) (h : Host) (disk :
 aside_sends n plan sectors h disk down up bytes size run a =
     let goes : GoesUp a.line (ledger disk) (ledger (disk ++ Sent bytes ∷ [])) down up bytes =
     lines.sends plan sectors a.line disk down up bytes size run a.on in
-    record { stage = a.stage; line = a.line; at = a.at; fits = a.fits; leans = a.leans; on = goes.stands.on }
+    record { stage = a.stage; line = a.line; at = a.at; off = a.off; fits = a.fits; leans = a.leans; on = goes.stands.on }
 
 -- where READ LOG EXT went out, nothing of the disk is on its way
 asked_silent : (line : Line) (k : Ledger) (down up : List (List ℕ)) → Fits line LogSent → OnLine line k down up → up ≡ []
@@ -142,11 +143,11 @@ aside_comes n h disk back up bytes a =
   where
     by_case : Comes30 n a.stage h (ledger disk) (ledger (disk ++ Received bytes ∷ [])) back up
         → GoesAside n h disk (disk ++ Received bytes ∷ []) back up
-    by_case (Line30 line fits leans on) = Stays (record { stage = a.stage; line = line; at = a.at; fits = fits; leans = leans; on = on })
+    by_case (Line30 line fits leans on) = Stays (record { stage = a.stage; line = line; at = a.at; off = a.off; fits = fits; leans = leans; on = on })
     by_case (LogRead page stage both) =
-        ByLog page (subst (λ (x : Stage30). IsAt30 n x h) stage a.at) both
+        ByLog page (subst (λ (x : Stage30). IsAt30 n x h) stage a.at) a.off both
         (asked_silent a.line (ledger disk) (bytes ∷ back) up (subst (Fits a.line) stage a.fits) a.on)
-    by_case (ResetDone stage both) = ByReset (subst (λ (x : Stage30). IsAt30 n x h) stage a.at) both
+    by_case (ResetDone stage both) = ByReset (subst (λ (x : Stage30). IsAt30 n x h) stage a.at) a.off both
 
 -- ---- while a disk runs
 

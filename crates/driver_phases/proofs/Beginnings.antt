@@ -26,7 +26,7 @@ use Rattle.hba_driver.specs.declared.plan.Device.TheVariants.{Ready, Recovering}
 use Rattle.hba_driver.specs.Drivers.{device_at}
 use Rattle.hba_driver.specs.Events.{shared_by}
 use Rattle.hba_driver.specs.HostTurns.{Host}
-use Rattle.hba_driver.specs.Slot30.{IsApart30, IsAt30, IsOn30, LogSent, Off, ReadsLog, Resets}
+use Rattle.hba_driver.specs.Slot30.{IsApart30, IsAt30, IsOn30, IsUnsought, LogSent, Off, ReadsLog, Resets}
 use Rattle.hba_driver.specs.Tended.{IsAtStage, IsBegun, IsReleasing, IsUnreset}
 use Rattle.hba_driver.proofs.TendedLemmas.{stage_is}
 use Rattle.hba_driver.proofs.TendedTurns.{steady_tends}
@@ -149,11 +149,11 @@ module _ (n : ℕ) (h : Host) (disk : List Happening) (floors : ℕ → ℕ) (to
   counted : (commands : ℕ → SlotCommand) → ((s : ℕ) → (commands s).since ≡ length (ledger disk).writes) → AreReached floors commands (own n touches)
   counted commands since s t here = subst (λ (m : ℕ). floors s ≤ m) (sym (since s)) (are s)
 
-  log_together : (page : Wanted) → IsAt30 n LogSent h → OwesOnly (ledger disk) (ShowsPage ∷ []) (page ∷ []) → IsTogether n h disk [] [] floors touches
-  log_together page at owes =
+  log_together : (page : Wanted) → IsAt30 n LogSent h → IsUnsought n h → OwesOnly (ledger disk) (ShowsPage ∷ []) (page ∷ []) → IsTogether n h disk [] [] floors touches
+  log_together page at off owes =
       let apart : IsApart30 n LogSent h = at.apart refl in
       let plan : ReadsLog n h.driver.plan = apart.plan in
-      let serves : ServesFrom n disk h touches = log_begins n h disk page touches below on.sound on.served at owes in
+      let serves : ServesFrom n disk h touches = log_begins n h disk page touches below on.sound on.served at off owes in
       record {
         base = disk;
         given = disk;
@@ -184,12 +184,12 @@ module _ (n : ℕ) (h : Host) (disk : List Happening) (floors : ℕ → ℕ) (to
   releasing (inl r) = ((record { dev = n; stage = ReleaseReset; asked = true }, (r.path, (refl, tt))), r.device)
   releasing (inr r) = ((record { dev = n; stage = AwaitReset; asked = false }, (r.path, (refl, tt))), r.device)
 
-  reset_together : (old : Ledger) (up : List (List ℕ)) → IsAt30 n Off h → BothBegin old (ledger disk) (Signs ∷ []) [] [] up
+  reset_together : (old : Ledger) (up : List (List ℕ)) → IsAt30 n Off h → IsUnsought n h → BothBegin old (ledger disk) (Signs ∷ []) [] [] up
       → IsTogether n h disk [] up floors touches
-  reset_together old up at both =
+  reset_together old up at off both =
       let apart : IsApart30 n Off h = at.apart refl in
       let way = releasing apart.plan in
-      let serves : ServesFrom n disk h touches = reset_begins n h disk touches below on.sound on.served at both.owes in
+      let serves : ServesFrom n disk h touches = reset_begins n h disk touches below on.sound on.served at off both.owes in
       let owes : OwesOnly (ledger disk) (Signs ∷ []) [] = both.owes in
       record {
         base = disk;
@@ -216,15 +216,15 @@ module _ (n : ℕ) (h : Host) (disk : List Happening) (floors : ℕ → ℕ) (to
 
 pub log_begins_together : (n : ℕ) (h : Host) (disk : List Happening) (old : Ledger) (page : Wanted) (down up : List (List ℕ)) (floors : ℕ → ℕ) (touches : Touches)
     → n < 15 → IsOn30 touches h → AreFloors floors disk
-    → IsAt30 n LogSent h → BothBegin old (ledger disk) (ShowsPage ∷ []) (page ∷ []) down up → up ≡ [] → IsTogether n h disk down up floors touches
-log_begins_together n h disk old page down up floors touches below on are at both silent =
+    → IsAt30 n LogSent h → IsUnsought n h → BothBegin old (ledger disk) (ShowsPage ∷ []) (page ∷ []) down up → up ≡ [] → IsTogether n h disk down up floors touches
+log_begins_together n h disk old page down up floors touches below on are at off both silent =
     subst (λ (xs : List (List ℕ)). IsTogether n h disk xs up floors touches) (sym both.empty)
-    (subst (λ (xs : List (List ℕ)). IsTogether n h disk [] xs floors touches) (sym silent) (log_together n h disk floors touches below on are page at both.owes))
+    (subst (λ (xs : List (List ℕ)). IsTogether n h disk [] xs floors touches) (sym silent) (log_together n h disk floors touches below on are page at off both.owes))
 
 pub reset_begins_together : (n : ℕ) (h : Host) (disk : List Happening) (old : Ledger) (down up : List (List ℕ)) (floors : ℕ → ℕ) (touches : Touches) → n < 15
     → IsOn30 touches h → AreFloors floors disk
-    → IsAt30 n Off h → BothBegin old (ledger disk) (Signs ∷ []) [] down up → IsTogether n h disk down up floors touches
-reset_begins_together n h disk old down up floors touches below on are at both =
+    → IsAt30 n Off h → IsUnsought n h → BothBegin old (ledger disk) (Signs ∷ []) [] down up → IsTogether n h disk down up floors touches
+reset_begins_together n h disk old down up floors touches below on are at off both =
     subst (λ (xs : List (List ℕ)). IsTogether n h disk xs up floors touches) (sym both.empty)
-    (reset_together n h disk floors touches below on are old up at
+    (reset_together n h disk floors touches below on are old up at off
     (subst (λ (xs : List (List ℕ)). BothBegin old (ledger disk) (Signs ∷ []) [] xs up) both.empty both))

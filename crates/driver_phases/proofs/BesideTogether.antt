@@ -305,14 +305,9 @@ module _ (n : ℕ) (old : Host) (turn : HostTurn) (new : Host) (run : DoesAll ol
 reset_apart : (n : ℕ) (old : Host) (turn : HostTurn) (new : Host) (run : DoesAll old (turn ∷ []) new) (disk : List Happening)
     (down up : List (List ℕ)) (floors : ℕ → ℕ) (touches : Touches) → n < 15 → (t : IsTogether n old disk down up floors touches) → IsOn30 touches old → Does old turn new
     → IsResetTurn n old turn → OnLine Loose (ledger disk) down up → IsSetAside n new disk down up
-reset_apart n old (Ticked acted) new run disk down up floors touches below t on done issues line = record {
-  stage = Sets;
-  line = Loose;
-  at = reset_sets_aside n t.base old acted new t.given t.commands touches below done issues on t.served t.well;
-  fits = tt;
-  leans = tt;
-  on = line;
-}
+reset_apart n old (Ticked acted) new run disk down up floors touches below t on done issues line =
+    let set = reset_sets_aside n t.base old acted new t.given t.commands touches below done issues on t.served t.well in
+    record { stage = Sets; line = Loose; at = set.0; off = set.1; fits = tt; leans = tt; on = line }
 reset_apart n old (Took frame report) new run disk down up floors touches below t on done issues line = absurd issues
 reset_apart n old (Pushed frame) new run disk down up floors touches below t on done issues line = absurd issues
 reset_apart n old (Submitted dev request ticket) new run disk down up floors touches below t on done issues line = absurd issues

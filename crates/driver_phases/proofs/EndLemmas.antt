@@ -105,10 +105,10 @@ module _ (n : ℕ) (plan : DiskPlan) (sectors : ℕ) where
       → IsRunning plan sectors disk touches h → GoesAside n h disk (disk ++ Received bytes ∷ []) back up
       → AreFloors floors (disk ++ Received bytes ∷ []) → AreEnds n h (disk ++ Received bytes ∷ []) back up floors touches
   begins_by h disk back up bytes floors touches below runs (Stays a) are = Apart a are
-  begins_by h disk back up bytes floors touches below runs (ByLog page at both silent) are =
-      Together (log_begins_together n h (disk ++ Received bytes ∷ []) (ledger disk) page back up floors touches below runs.on are at both silent)
-  begins_by h disk back up bytes floors touches below runs (ByReset at both) are =
-      Together (reset_begins_together n h (disk ++ Received bytes ∷ []) (ledger disk) back up floors touches below runs.on are at both)
+  begins_by h disk back up bytes floors touches below runs (ByLog page at off both silent) are =
+      Together (log_begins_together n h (disk ++ Received bytes ∷ []) (ledger disk) page back up floors touches below runs.on are at off both silent)
+  begins_by h disk back up bytes floors touches below runs (ByReset at off both) are =
+      Together (reset_begins_together n h (disk ++ Received bytes ∷ []) (ledger disk) back up floors touches below runs.on are at off both)
 
   ends_come : (h : Host) (disk : List Happening) (back up : List (List ℕ)) (bytes : List ℕ) (floors : ℕ → ℕ) (touches : Touches) → n < 15
       → IsRunning plan sectors disk touches h

@@ -135,7 +135,6 @@ module _ (n : ℕ) (base : List Happening) (old : Host) (acted : Bool) (new : Ho
   set_aside : IsAt30 n Sets new
   set_aside = record {
     opened = opened_now;
-    unsought = driven.unsought;
     fault = ap is_some (issued.fault ∙ well);
     apart = λ w. record {
       plan = driven.plan;
@@ -148,4 +147,4 @@ module _ (n : ℕ) (base : List Happening) (old : Host) (acted : Bool) (new : Ho
 
 pub reset_sets_aside : ResetSetsAside
 reset_sets_aside n base old acted new given commands touches below does is on h well =
-    set_aside n base old acted new given commands touches below does is on h well
+    (set_aside n base old acted new given commands touches below does is on h well, (driven n base old acted new given commands touches below does is on h well).unsought)

@@ -33,7 +33,8 @@ use Rattle.hba_driver.specs.Drivers.{Driver, device_at}
 use Rattle.hba_driver.specs.Events.{events_over, shared_by}
 use Rattle.hba_driver.specs.HostTurns.{Does, DoesAll, Host, Took}
 use Rattle.hba_driver.specs.Orders.{control_port}
-use Rattle.hba_driver.specs.Slot30.{Faulty, IsAt30}
+use Rattle.hba_driver.specs.Slot30.{Faulty, IsAt30, IsUnsought}
+use Rattle.hba_driver.specs.Steady.{detects}
 use Rattle.hba_driver.specs.Tended.{IsAtStage, IsReleasing, IsUnreset}
 use Rattle.hba_driver.proofs.ApartTakes.{takes_lead}
 use Rattle.hba_driver.proofs.ServedLemmas.{turns_serve}
@@ -246,12 +247,15 @@ module _ (n : ℕ) (plan : DiskPlan) (sectors : ℕ) (old : Host) (bytes : List 
 
         failed_at : reports (seen bytes) ≡ true → IsAt30 n Faulty new
         failed_at fails =
-            (takes_lead n).begins old (marked bytes n) report new below g.served.sound does port
-            (sought_is_unasked plan sectors g.base disk g.given down up bytes n old g.commands touches below runs.size runs.run watched fails
-            g.served g.unasked)
-            (ap is_some g.well) (ap is_some fault_is ∙ faulty)
+            (takes_lead n).begins old (marked bytes n) report new below g.served.sound does port (ap is_some g.well) (ap is_some fault_is ∙ faulty)
 
-        loose_at : reports (seen bytes) ≡ false → IsAt30 n Faulty new
+        failed_off : reports (seen bytes) ≡ true → IsUnsought n new
+        failed_off fails =
+            ap (λ (d : Driver). detects n d.plan.asked d.plan.order) does.driver
+            ∙ sought_is_unasked plan sectors g.base disk g.given down up bytes n old g.commands touches below runs.size runs.run watched fails
+            g.served g.unasked
+
+        loose_at : reports (seen bytes) ≡ false → IsAt30 n Faulty new × IsUnsought n new
         loose_at fine = elim right_or [
           | inl fails ↦ absurd (true≢false (sym fails ∙ fine))
           | inr next ↦
@@ -269,8 +273,8 @@ module _ (n : ℕ) (plan : DiskPlan) (sectors : ℕ) (old : Host) (bytes : List 
         faulty_takes =
             let laws : LinesBegin = lines_begin in
             elim (laws.next plan sectors g.base disk g.given down up bytes well) [
-              | inl failed ↦ aside (record { stage = Faulty; line = Failed; at = failed_at failed.0; fits = tt; leans = tt; on = failed.1 })
-              | inr loose ↦ aside (record { stage = Faulty; line = Loose; at = loose_at loose.0; fits = tt; leans = by_reset loose.0; on = loose.1 })
+              | inl failed ↦ aside (record { stage = Faulty; line = Failed; at = failed_at failed.0; off = failed_off failed.0; fits = tt; leans = tt; on = failed.1 })
+              | inr loose ↦ aside (record { stage = Faulty; line = Loose; at = (loose_at loose.0).0; off = (loose_at loose.0).1; fits = tt; leans = by_reset loose.0; on = loose.1 })
             ]
 
     -- ---- in no software reset

@@ -41,7 +41,7 @@ use Rattle.hba_driver.specs.HostTurns.{Does, DoesAll, Host, HostTurn, Polled, Pu
 use Rattle.hba_driver.specs.HostTurns.{Ticked, Took}
 use Rattle.hba_driver.specs.Orders.{is_queued}
 use Rattle.hba_driver.specs.Served.{RunServes}
-use Rattle.hba_driver.specs.Slot30.{IsAt30, IsOn30, Stage30}
+use Rattle.hba_driver.specs.Slot30.{IsAt30, IsOn30, IsUnsought, Stage30}
 use Rattle.hba_driver.specs.Steady.{IsFlushTick}
 use Rattle.hba_driver.specs.Tended.{IsAtStage, IsReleasing, IsUnreset, IsUnworked}
 use Rattle.driver_ends.specs.Kept.{IsServedHonestly}
@@ -127,6 +127,8 @@ pub record IsSetAside (n : ℕ) (h : Host) (disk : List Happening) (down up : Li
   pub stage : Stage30
   pub line : Line
   pub at : IsAt30 n stage h
+  -- it is not being looked for
+  pub off : IsUnsought n h
   pub fits : Fits line stage
   pub leans : Leans n line stage h
   pub on : OnLine line (ledger disk) down up

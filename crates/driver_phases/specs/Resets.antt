@@ -10,7 +10,7 @@ use Rattle.disk_model.specs.Histories.{Happening}
 use Rattle.hba_laws.specs.Client.{Touches}
 use Rattle.disk_ends.specs.Same.{SlotCommand}
 use Rattle.hba_driver.specs.HostTurns.{Does, Host, Ticked}
-use Rattle.hba_driver.specs.Slot30.{IsAt30, IsOn30, Sets}
+use Rattle.hba_driver.specs.Slot30.{IsAt30, IsOn30, IsUnsought, Sets}
 use Rattle.hba_driver.specs.Tended.{IsResetTurn}
 use Rattle.driver_ends.specs.Together.{IsServedOn}
 
@@ -20,4 +20,4 @@ ResetSetsAside =
     (given : List Happening) (commands : ℕ → SlotCommand) (touches : Touches) → n < 15
     → Does old (Ticked acted) new → IsResetTurn n old (Ticked acted)
     → IsOn30 touches old → IsServedOn n base old given commands touches
-    → (view_of n old.port).fault ≡ None → IsAt30 n Sets new
+    → (view_of n old.port).fault ≡ None → IsAt30 n Sets new × IsUnsought n new

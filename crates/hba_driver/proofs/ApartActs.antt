@@ -1,7 +1,7 @@
 -- What an act leaves of the plan of a device that recovers.
 use Rattle.std.proofs.Common.{◌≡◌, ◌≢◌, ℕ, ◌⊎◌, ◌&&◌, Bool, true, false, nat_lt, List, refl, sym, ◌∙◌, ap, subst, inl, inr, Option, Some, None}
 use Rattle.std.specs.Prelude.{if◌then◌else◌, is_some, slice_index_or}
-use Rattle.std.proofs.lemmas.Bool.{cases_eq, eqb-true, false≢true, true≢false}
+use Rattle.std.proofs.lemmas.Bool.{cases_eq, false≢true, true≢false}
 use Rattle.fis_view.specs.declared.build.H2dFields.{H2dFields}
 use Rattle.slots.specs.Slots.{match_some}
 use Rattle.hba_fbs.specs.Views.{Port}
@@ -24,10 +24,10 @@ use Rattle.hba_driver.specs.Drivers.{Entry, device_at}
 use Rattle.hba_driver.specs.Orders.{control, log_fields}
 use Rattle.hba_driver.specs.Paths.{first_stage, stage_fields}
 use Rattle.hba_driver.specs.Slot30.{Asks, Cleared, Clears, Faulty, IsPlan30, IsSlot30, IsUnsent30, LogSent, Off, On, ReadsLog, Resets, Sets, Stage30, TicksOn30, is_faulty, is_resetting, path_of}
-use Rattle.hba_driver.specs.Steady.{IsCalmAct, detects}
+use Rattle.hba_driver.specs.Steady.{IsCalmAct}
 use Rattle.hba_driver.specs.Ticks.{from_reset, ordered, plan_after, recovering}
 use Rattle.hba_driver.specs.Turns.{is_ready}
-use Rattle.hba_driver.proofs.ApartPlans.{HasFields, Plans}
+use Rattle.hba_driver.proofs.ApartPlans.{HasFields, recovers}
 use Rattle.hba_driver.proofs.DueLemmas.{Due, MayStep, Waiting}
 use Rattle.hba_driver.proofs.SteadyLemmas.{DueOf, set_other}
 use Rattle.hba_driver.proofs.TickingLemmas.{unless_back, unless_other}
@@ -66,18 +66,6 @@ own_path n Clears p well h = inr (record { dev = n; stage = ReleaseReset; asked 
 own_path n Off p well (inl h) = inr (record { dev = n; stage = ReleaseReset; asked = true }, h.path, refl)
 own_path n Off p well (inr h) = inr (record { dev = n; stage = AwaitReset; asked = false }, h.path, refl)
 
-pub recovers : (n : ℕ) (stage : Stage30) (p : Plan) → is_faulty stage ≡ false → IsPlan30 n stage p → (way : Recovery) × (device_at p n ≡ Recovering way)
-recovers n Faulty p well h = absurd (true≢false well)
-recovers n Cleared p well h = (h.way, h.device)
-recovers n Asks p well h = (Log h.file, h.device)
-recovers n LogSent p well h = (Log h.file, h.device)
-recovers n Sets p well h = (Reset, h.device)
-recovers n On p well (inl h) = (Reset, h.device)
-recovers n On p well (inr h) = (Reset, h.device)
-recovers n Clears p well h = (Reset, h.device)
-recovers n Off p well (inl h) = (Reset, h.device)
-recovers n Off p well (inr h) = (Reset, h.device)
-
 same_stage : (x y : Path) → Some x ≡ Some y → (x.dev ≡ y.dev) × (x.stage ≡ y.stage) × (x.asked ≡ y.asked)
 same_stage x y h = let is : x ≡ y = some_inj x y h in (ap (λ (p : Path). p.dev) is, ap (λ (p : Path). p.stage) is, ap (λ (p : Path). p.asked) is)
 
@@ -112,7 +100,7 @@ pub record Begins30 (n : ℕ) (stage : Stage30) (r : Plan) (a : Option Act) : Ty
   pub next : Stage30
   pub follows : TicksOn30 stage next
   pub well : is_faulty next ≡ false
-  pub is : Plans n next r
+  pub is : IsPlan30 n next r
   pub fields : H2dFields
   pub given : stage_fields n step ≡ Some fields
   pub holds : (port : Port) → IsUnsent30 n fields port → IsSlot30 n next port
@@ -120,75 +108,57 @@ pub record Begins30 (n : ℕ) (stage : Stage30) (r : Plan) (a : Option Act) : Ty
 
 -- or not
 pub record Rests30 (n : ℕ) (stage : Stage30) (r : Plan) (a : Option Act) : Type 0 where
-  pub is : Plans n stage r
+  pub is : IsPlan30 n stage r
   pub none : (dev : ℕ) (step : Stage) → a ≡ Some (act.Steps dev step) → dev ≢ n
   -- no other device is given slot 30 while it works on this one
   pub free : (dev : ℕ) (step : Stage) → a ≡ Some (act.Steps dev step) → stage ≡ Cleared
 
-module _ (n : ℕ) (stage : Stage30) (v : Sight) (file : TaskFile) (q : Plan) (entries : List (Option Entry)) (well : is_faulty stage ≡ false) (h : Plans n stage q) where
+module _ (n : ℕ) (stage : Stage30) (v : Sight) (file : TaskFile) (q : Plan) (entries : List (Option Entry)) (well : is_faulty stage ≡ false) (h : IsPlan30 n stage q) where
   abbrev Result : Option Act → Plan → Type 0
   Result a r = Rests30 n stage r a ⊎ Begins30 n stage r a
 
   rests : (a : Option Act) (r : Plan) → ((dev : ℕ) (step : Stage) → a ≡ Some (act.Steps dev step) → ⊥) → device_at r n ≡ device_at q n → ((x : Path) → x.dev ≡ n → q.path ≡ Some x → r.path ≡ Some x) → ((x : Path) → x.dev ≡ n → r.path ≡ Some x → q.path ≡ Some x)
-      → (detects n r.asked r.order ≡ true → ⊥) → Result a r
-  rests a r none device keep from order = inl (record {
-    is = record { is = plan_by n stage q r device keep from h.is; order = order };
+      → Result a r
+  rests a r none device keep from = inl (record {
+    is = plan_by n stage q r device keep from h;
     none = λ dev step is. absurd (none dev step is);
     free = λ dev step is. absurd (none dev step is);
   })
 
-  -- an order that is out
-  detects_out : (asked : Bool) (order : Order) → order ≢ Clear n → detects n true order ≡ true → detects n asked order ≡ true
-  detects_out asked (Clear port) other on = absurd (other (ap Clear (eqb-true port n on)))
-  detects_out asked (Detect port) other on = on
-  detects_out asked ResetOn other on = on
-  detects_out asked ResetOff other on = on
-  detects_out asked AwaitSignature other on = on
-  detects_out asked CountPorts other on = on
-  detects_out asked SetMask other on = on
-  detects_out asked Enable other on = on
-  detects_out asked (Open port) other on = on
-  detects_out asked Scan other on = on
-  detects_out asked Watch other on = on
-  detects_out asked NoMultiplier other on = on
+  -- an order that is due
+  plainly : (order : Order) → Result (Some (act.Orders order)) (record q { asked = true })
+  plainly order = rests _ _ (λ dev step e. absurd (cc)) refl (λ x to here. here) (λ x to here. here)
 
-  out : (order : Order) → order ≢ Clear n → order ≡ q.order → detects n true q.order ≡ true → ⊥
-  out order other is on = h.order (detects_out q.asked q.order (λ e. other (is ∙ e)) on)
-
-  plainly : (order : Order) → order ≢ Clear n → order ≡ q.order → Result (Some (act.Orders order)) (record q { asked = true })
-  plainly order other is = rests _ _ (λ dev step e. absurd (cc)) refl (λ x to here. here) (λ x to here. here) (λ on. out order other is on)
-
-  orders : (order : Order) → order ≢ Clear n → order ≡ q.order → Result (Some (act.Orders order)) (ordered order q)
-  orders (Clear port) other is =
+  orders : (order : Order) → order ≢ Clear n → Result (Some (act.Orders order)) (ordered order q)
+  orders (Clear port) other =
       let far : n ≢ port = λ e. other (ap Clear (sym e)) in
       rests _ _ (λ dev step e. absurd (cc)) (set_other q.devices port n Absent far) (λ x to here. unless_other port q.path x (λ e. far (sym to ∙ e)) here) (λ x to here. unless_back port q.path x here)
-      (λ on. out (Clear port) other is on)
-  orders ResetOn other is = plainly ResetOn other is
-  orders ResetOff other is = plainly ResetOff other is
-  orders AwaitSignature other is = plainly AwaitSignature other is
-  orders CountPorts other is = plainly CountPorts other is
-  orders SetMask other is = plainly SetMask other is
-  orders Enable other is = plainly Enable other is
-  orders (Open port) other is = plainly (Open port) other is
-  orders Scan other is = plainly Scan other is
-  orders (Detect port) other is = plainly (Detect port) other is
-  orders Watch other is = plainly Watch other is
-  orders NoMultiplier other is = plainly NoMultiplier other is
+  orders ResetOn other = plainly ResetOn
+  orders ResetOff other = plainly ResetOff
+  orders AwaitSignature other = plainly AwaitSignature
+  orders CountPorts other = plainly CountPorts
+  orders SetMask other = plainly SetMask
+  orders Enable other = plainly Enable
+  orders (Open port) other = plainly (Open port)
+  orders Scan other = plainly Scan
+  orders (Detect port) other = plainly (Detect port)
+  orders Watch other = plainly Watch
+  orders NoMultiplier other = plainly NoMultiplier
 
   -- another device's fault is cleared
   clears : (b : Bool) (dev : ℕ) → n ≢ dev → Result (Some (act.Clears dev)) (if b then recovering dev file q else from_reset q)
   clears true dev other =
-      rests _ _ (λ d step e. absurd (cc)) (set_other q.devices dev n _ other) (λ x to here. unless_other dev q.path x (λ e. other (sym to ∙ e)) here) (λ x to here. unless_back dev q.path x here) h.order
-  clears false dev other = rests _ _ (λ d step e. absurd (cc)) refl (λ x to here. here) (λ x to here. here) (λ on. false≢true on)
+      rests _ _ (λ d step e. absurd (cc)) (set_other q.devices dev n _ other) (λ x to here. unless_other dev q.path x (λ e. other (sym to ∙ e)) here) (λ x to here. unless_back dev q.path x here)
+  clears false dev other = rests _ _ (λ d step e. absurd (cc)) refl (λ x to here. here) (λ x to here. here)
 
   abbrev given : ℕ → Stage → Plan
   given dev step = record q { path = Some (record { dev = dev; stage = step; asked = true }) }
 
   -- slot 30 begins to work on another device
   step_other : (dev : ℕ) (step : Stage) → dev ≢ n → MayStep q dev step → Result (Some (act.Steps dev step)) (given dev step)
-  step_other dev step other may = elim (own_path n stage q well h.is) [
+  step_other dev step other may = elim (own_path n stage q well h) [
     | inl is ↦ inl (record {
-      is = record { is = subst (λ (s : Stage30). IsPlan30 n s (given dev step)) (sym is) (cleared_given (subst (λ (s : Stage30). IsPlan30 n s q) is h.is)); order = h.order };
+      is = subst (λ (s : Stage30). IsPlan30 n s (given dev step)) (sym is) (cleared_given (subst (λ (s : Stage30). IsPlan30 n s q) is h));
       none = λ d t e. λ to. other (same_act dev d step t e ∙ to);
       free = λ d t e. is;
     })
@@ -212,7 +182,7 @@ module _ (n : ℕ) (stage : Stage30) (v : Sight) (file : TaskFile) (q : Plan) (e
     next = next;
     follows = follows;
     well = good;
-    is = record { is = is; order = h.order };
+    is = is;
     fields = fields;
     given = fields_is;
     holds = holds;
@@ -262,20 +232,20 @@ module _ (n : ℕ) (stage : Stage30) (v : Sight) (file : TaskFile) (q : Plan) (e
   steps dev step may due has = elim (cases_eq dev n) [
     | inl same ↦
         subst (λ (d : ℕ). Result (Some (act.Steps d step)) (given d step)) (sym same)
-        (step_own stage refl step h.is (subst (λ (d : ℕ). MayStep q d step) same may) (subst (λ (d : ℕ). DueOf v q (Some (act.Steps d step))) same due) (subst (λ (d : ℕ). HasFields (Some (act.Steps d step))) same has))
+        (step_own stage refl step h (subst (λ (d : ℕ). MayStep q d step) same may) (subst (λ (d : ℕ). DueOf v q (Some (act.Steps d step))) same due) (subst (λ (d : ℕ). HasFields (Some (act.Steps d step))) same has))
     | inr other ↦ step_other dev step other may
   ]
 
   pub act_plans : (a : Option Act) → IsCalmAct n a → DueOf v q a → Due v q entries a → HasFields a → Result a (match_some a q (λ x. plan_after x file q))
   unfolding plan_after
-  act_plans None calm of due has = rests None q (λ dev step e. absurd (cc)) refl (λ x to here. here) (λ x to here. here) h.order
-  act_plans (Some (act.Opens k)) calm of due has = rests _ _ (λ dev step e. absurd (cc)) refl (λ x to here. here) (λ x to here. here) h.order
+  act_plans None calm of due has = rests None q (λ dev step e. absurd (cc)) refl (λ x to here. here) (λ x to here. here)
+  act_plans (Some (act.Opens k)) calm of due has = rests _ _ (λ dev step e. absurd (cc)) refl (λ x to here. here) (λ x to here. here)
   act_plans (Some act.Stops) calm of due has = absurd calm
-  act_plans (Some (act.Restarts k)) calm of due has = rests _ _ (λ dev step e. absurd (cc)) refl (λ x to here. here) (λ x to here. here) h.order
+  act_plans (Some (act.Restarts k)) calm of due has = rests _ _ (λ dev step e. absurd (cc)) refl (λ x to here. here) (λ x to here. here)
   act_plans (Some (act.Clears dev)) calm of due has = clears (nat_lt dev 15) dev calm
-  act_plans (Some (act.Orders order)) calm of due has = orders order calm of
+  act_plans (Some (act.Orders order)) calm of due has = orders order calm
   act_plans (Some (act.Steps dev step)) calm of due has = steps dev step due of has
-  act_plans (Some (act.Issues slot dev queued)) calm of due has = rests _ _ (λ d step e. absurd (cc)) refl (λ x to here. here) (λ x to here. here) h.order
+  act_plans (Some (act.Issues slot dev queued)) calm of due has = rests _ _ (λ d step e. absurd (cc)) refl (λ x to here. here) (λ x to here. here)
 
   second : (a b : Bool) → (a && b) ≡ true → b ≡ true
   second true b e = e
@@ -284,6 +254,6 @@ module _ (n : ℕ) (stage : Stage30) (v : Sight) (file : TaskFile) (q : Plan) (e
   -- no request of it is issued
   pub not_issued : (slot dev : ℕ) → Waiting q entries slot dev → dev ≢ n
   not_issued slot dev w same =
-      let r = recovers n stage q well h.is in
+      let r = recovers n stage q well h in
       let ready : is_ready (device_at q w.entry.head.dev) ≡ true = second (Rattle.hba_driver.specs.Drivers.waits w.entry.head) _ w.may in
       false≢true (sym (ap is_ready (ap (device_at q) (w.of_dev ∙ same) ∙ r.1)) ∙ ready)

@@ -1,118 +1,112 @@
 -- What a tick leaves of the plan of a device that recovers.
-use Rattle.std.proofs.Common.{◌≡◌, ◌≢◌, ℕ, ◌+◌, ◌&&◌, Bool, true, false, nat_lt, List, get_or, refl, sym, ◌∙◌, ap, subst, inl, inr, Option, Some, None}
+use Rattle.std.proofs.Common.{◌≡◌, ◌≢◌, ℕ, zero, suc, ◌&&◌, Bool, true, false, nat_lt, List, [], ◌∷◌, get_or, set, refl, sym, ◌∙◌, ap, subst, inl, inr, Option, Some, None}
 use Rattle.std.specs.Prelude.{if◌then◌else◌, ◌==◌, not, is_some}
 use Rattle.std.specs.Option.{option_map, option_or}
-use Rattle.std.proofs.lemmas.Bool.{cases_eq, eq-eqb, false≢true, true≢false}
+use Rattle.std.proofs.lemmas.Bool.{cases_eq, true≢false}
 use Rattle.fis_view.specs.declared.build.H2dFields.{H2dFields}
 use Rattle.slots.specs.Slots.{has_bit, lowest_below, match_some}
 use Rattle.hba_driver.specs.declared.order.Order.{Order}
 use Rattle.hba_driver.specs.declared.order.Order.TheVariants.{ResetOn, ResetOff, AwaitSignature, CountPorts, SetMask, Enable, Open, Scan, Clear, Detect, Watch, NoMultiplier}
 use Rattle.hba_driver.specs.declared.path.Path.{Path}
+use Rattle.hba_driver.specs.declared.path.Recovery.{Recovery}
+use Rattle.hba_driver.specs.declared.path.Recovery.TheVariants.{Log, Reset}
 use Rattle.hba_driver.specs.declared.path.Stage.{Stage}
 use Rattle.hba_driver.specs.declared.path.Stage.TheVariants.{Identify, ReadLog, AssertReset, ReleaseReset, AwaitReset}
 use Rattle.hba_driver.specs.declared.plan.Device.{Device}
-use Rattle.hba_driver.specs.declared.plan.Device.TheVariants.{Absent}
+use Rattle.hba_driver.specs.declared.plan.Device.TheVariants.{Absent, Recovering}
 use Rattle.hba_driver.specs.declared.plan.Plan.{Plan}
 use Rattle.hba_driver.specs.declared.sight.Sight.{Sight}
 use Rattle.hba_driver.specs.declared.turn.Act.{Act}
 use Rattle.hba_driver.specs.declared.turn.Act.TheVariants as act
 use Rattle.hba_driver.specs.declared.turn.Turn.{Turn}
-use Rattle.hba_driver.specs.Drivers.{Entry, device_at, entry_at}
-use Rattle.hba_driver.specs.Orders.{next_order}
+use Rattle.hba_driver.specs.Drivers.{Entry, device_at, entry_at, with_device}
 use Rattle.hba_driver.specs.Paths.{next_stage, stage_fields}
 use Rattle.hba_driver.specs.Tended.{IsUnworked}
 use Rattle.hba_driver.specs.Slot30.{Asks, Cleared, Clears, Faulty, IsCleared, IsPlan30, LogSent, Off, On, ReadsLog, Resets, Sets, Stage30, is_faulty, path_of}
-use Rattle.hba_driver.specs.Steady.{detects}
-use Rattle.hba_driver.specs.Turns.{advanced, answered, control_news, control_seen, control_turn, detected, device_due, device_seen, early_due, found_of, is_back, is_due, is_idle, is_in_reset, issue_of, may_issue, met, met_order, met_path, met_stage, noted, order_due, path_answered, path_due, path_met, path_to, request_due, signed_order, stage_due, stage_for, step_of, turn_of, with_next}
-use Rattle.hba_driver.proofs.SteadyLemmas.{never, never_open, none_path, path_to_dev, same_path, set_other}
+use Rattle.hba_driver.specs.Turns.{advanced, answered, control_news, control_seen, control_turn, detected, device_due, device_seen, early_due, found_of, is_back, is_due, is_idle, is_in_reset, is_out, is_there, issue_of, may_issue, met, met_order, met_path, met_stage, noted, order_due, path_answered, path_due, path_met, path_to, request_due, stage_due, stage_for, step_of, turn_of, with_next}
+use Rattle.hba_driver.proofs.SteadyLemmas.{none_path, path_to_dev, same_path, set_other}
 use Rattle.hba_driver.proofs.StopLemmas.{either}
 
--- ---- slot 31 leaves a device that is not being looked for
+-- ---- slot 31 leaves a device that recovers, but where none is found at its port
 
 pub record Leaves (n : ℕ) (p q : Plan) : Type 0 where
   pub device : device_at q n ≡ device_at p n
   pub path : q.path ≡ p.path
-  pub order : detects n q.asked q.order ≡ true → ⊥
 
-module _ (n : ℕ) (v : Sight) (plan : Plan) (free : detects n plan.asked plan.order ≡ true → ⊥) where
-  leaves_same : Leaves n plan plan
-  leaves_same = record { device = refl; path = refl; order = free }
+beside : (n : ℕ) (p q : Plan) → q.devices ≡ p.devices → q.path ≡ p.path → Leaves n p q
+beside n p q devices path = record { device = ap (λ (ds : List Device). get_or ds n Absent) devices; path = path }
 
-  beside : (next : Plan) → next.devices ≡ plan.devices → next.path ≡ plan.path → (detects n next.asked next.order ≡ true → ⊥) → Leaves n plan next
-  beside next devices path order = record { device = ap (λ (ds : List Device). get_or ds n Absent) devices; path = path; order = order }
+-- one of a list that is set to what it is
+set_kept : (devices : List Device) (n : ℕ) → get_or (set devices n (get_or devices n Absent)) n Absent ≡ get_or devices n Absent
+set_kept [] n = refl
+set_kept (d ∷ devices) zero = refl
+set_kept (d ∷ devices) (suc n) = set_kept devices n
 
-  answers_order : (order : Order) → plan.order ≡ order → plan.asked ≡ true → Leaves n plan (with_next order (noted v order plan))
-  unfolding noted next_order
-  answers_order ResetOn is out = beside _ refl refl (λ on. false≢true on)
-  answers_order ResetOff is out = beside _ refl refl (λ on. false≢true on)
-  answers_order AwaitSignature is out = beside _ refl refl (λ on. false≢true on)
-  answers_order CountPorts is out = beside _ refl refl (λ on. false≢true on)
-  answers_order SetMask is out = beside _ refl refl (λ on. false≢true on)
-  answers_order Enable is out = beside _ refl refl (λ on. never_open n plan.ports 0 on)
-  answers_order (Open port) is out = beside _ refl refl (λ on. never_open n plan.ports (port + 1) on)
-  answers_order Scan is out = beside _ refl refl (λ on. never n v.answer 0 on)
-  answers_order (Clear port) is out = beside _ refl refl (λ on. free (subst (λ (o : Order). detects n plan.asked o ≡ true) (sym is) (subst (λ (b : Bool). detects n b (Clear port) ≡ true) (sym out) on)))
-  answers_order (Detect port) is out = elim (cases_eq port n) [
-    | inl same ↦ absurd (free (subst (λ (o : Order). detects n plan.asked o ≡ true) (sym is) (eq-eqb port n same)))
-    | inr other ↦ record { device = set_other plan.devices port n (detected v.answer) (λ e. other (sym e)); path = refl; order = λ on. never n plan.found (port + 1) on }
+-- an answer of PSCR[0] of the device shows that it is there
+abbrev pub IsFound : ℕ → Sight → Plan → Type 0
+IsFound n v plan = plan.order ≡ Detect n → (plan.asked && not (is_out v plan)) ≡ true → is_there v.answer ≡ true
+
+module _ (n : ℕ) (v : Sight) (plan : Plan) (way : Recovery) (recovers : device_at plan n ≡ Recovering way) (found : IsFound n v plan) where
+  recovers_on : is_there v.answer ≡ true → device_at (with_device n (detected v.answer (device_at plan n)) plan) n ≡ device_at plan n
+  recovers_on there = ap (λ (d : Device). get_or (set plan.devices n d) n Absent) same ∙ set_kept plan.devices n
+    where
+      same : detected v.answer (device_at plan n) ≡ device_at plan n
+      same = ap (detected v.answer) recovers ∙ ap (λ (b : Bool). if b then Recovering way else Absent) there ∙ sym recovers
+
+  answers_order : (order : Order) → plan.order ≡ order → (plan.asked && not (is_out v plan)) ≡ true → Leaves n plan (with_next order (noted v order plan))
+  unfolding noted
+  answers_order (Detect port) is came = elim (cases_eq port n) [
+    | inl same ↦ record {
+      device = subst (λ (k : ℕ). device_at (with_device k (detected v.answer (device_at plan k)) plan) n ≡ device_at plan n) (sym same) (recovers_on (found (is ∙ ap Detect same) came));
+      path = refl;
+    }
+    | inr other ↦ record { device = set_other plan.devices port n (detected v.answer (device_at plan port)) (λ e. other (sym e)); path = refl }
   ]
-  answers_order Watch is out = beside _ refl refl (λ on. false≢true on)
-  answers_order NoMultiplier is out = beside _ refl refl (λ on. false≢true on)
+  answers_order ResetOn is came = beside n plan _ refl refl
+  answers_order ResetOff is came = beside n plan _ refl refl
+  answers_order AwaitSignature is came = beside n plan _ refl refl
+  answers_order CountPorts is came = beside n plan _ refl refl
+  answers_order SetMask is came = beside n plan _ refl refl
+  answers_order Enable is came = beside n plan _ refl refl
+  answers_order (Open port) is came = beside n plan _ refl refl
+  answers_order Scan is came = beside n plan _ refl refl
+  answers_order (Clear port) is came = beside n plan _ refl refl
+  answers_order Watch is came = beside n plan _ refl refl
+  answers_order NoMultiplier is came = beside n plan _ refl refl
 
-  answers_if : (a out : Bool) → plan.asked ≡ a → Leaves n plan (if a && not out then with_next plan.order (noted v plan.order plan) else plan)
-  answers_if true false on = answers_order plan.order refl on
-  answers_if true true on = leaves_same
-  answers_if false out on = leaves_same
+  answers_if : (b : Bool) → (plan.asked && not (is_out v plan)) ≡ b → Leaves n plan (if b then with_next plan.order (noted v plan.order plan) else plan)
+  answers_if true came = answers_order plan.order refl came
+  answers_if false came = beside n plan plan refl refl
 
-  pub answered_leaves : Leaves n plan (answered v plan)
-  answered_leaves = answers_if plan.asked (Rattle.hba_driver.specs.Turns.is_out v plan) refl
+  answered_leaves : Leaves n plan (answered v plan)
+  answered_leaves = answers_if (plan.asked && not (is_out v plan)) refl
 
-  signed_never : detects n false (signed_order v) ≡ true → ⊥
-  signed_never on = by_test v.resetting (v.signature == 0x96690101) on
-    where
-      by_test : (b c : Bool) → detects n false (if b then AwaitSignature else if c then CountPorts else NoMultiplier) ≡ true → ⊥
-      by_test true c k = false≢true k
-      by_test false true k = false≢true k
-      by_test false false k = false≢true k
+met_leaves : (n : ℕ) (v : Sight) (plan : Plan) → Leaves n plan (met v plan)
+met_leaves n v plan = by_asked plan.asked
+  where
+    by_asked : (b : Bool) → Leaves n plan (if b then plan else record plan { order = met_order v plan.order })
+    by_asked true = beside n plan _ refl refl
+    by_asked false = beside n plan _ refl refl
 
-  met_never : (order : Order) → detects n false (met_order v order) ≡ true → detects n false order ≡ true
-  unfolding met_order
-  met_never AwaitSignature on = absurd (signed_never on)
-  met_never Watch on = by_test v.notified on
-    where
-      by_test : (b : Bool) → detects n false (if b then Scan else Watch) ≡ true → detects n false Watch ≡ true
-      by_test true k = k
-      by_test false k = k
-  met_never ResetOn on = on
-  met_never ResetOff on = on
-  met_never CountPorts on = on
-  met_never SetMask on = on
-  met_never Enable on = on
-  met_never (Open port) on = on
-  met_never Scan on = on
-  met_never (Clear port) on = on
-  met_never (Detect port) on = on
-  met_never NoMultiplier on = on
-
-  met_if : (a : Bool) → plan.asked ≡ a → Leaves n plan (if a then plan else record plan { order = met_order v plan.order })
-  met_if true is = leaves_same
-  met_if false is = beside _ refl refl (λ on. free (subst (λ (b : Bool). detects n b plan.order ≡ true) (sym is) (met_never plan.order (subst (λ (b : Bool). detects n b (met_order v plan.order) ≡ true) is on))))
-
-  pub met_leaves : Leaves n plan (met v plan)
-  met_leaves = met_if plan.asked refl
-
-pub control_leaves : (n : ℕ) (v : Sight) (plan : Plan) → (detects n plan.asked plan.order ≡ true → ⊥) → Leaves n plan (control_seen v plan)
-control_leaves n v plan free =
-    let first = answered_leaves n v plan free in
-    let second = met_leaves n v (answered v plan) first.order in
-    record { device = second.device ∙ first.device; path = second.path ∙ first.path; order = second.order }
+pub control_leaves : (n : ℕ) (v : Sight) (plan : Plan) (way : Recovery) → device_at plan n ≡ Recovering way → IsFound n v plan → Leaves n plan (control_seen v plan)
+control_leaves n v plan way recovers found =
+    let first : Leaves n plan (answered v plan) = answered_leaves n v plan way recovers found in
+    let second : Leaves n (answered v plan) (control_seen v plan) = met_leaves n v (answered v plan) in
+    record { device = second.device ∙ first.device; path = second.path ∙ first.path }
 
 -- ---- slot 30
 
--- what is so of the plan at a stage, and that the device is not being looked for
-pub record Plans (n : ℕ) (stage : Stage30) (p : Plan) : Type 0 where
-  pub is : IsPlan30 n stage p
-  pub order : detects n p.asked p.order ≡ true → ⊥
+pub recovers : (n : ℕ) (stage : Stage30) (p : Plan) → is_faulty stage ≡ false → IsPlan30 n stage p → (way : Recovery) × (device_at p n ≡ Recovering way)
+recovers n Faulty p well h = absurd (true≢false well)
+recovers n Cleared p well h = (h.way, h.device)
+recovers n Asks p well h = (Log h.file, h.device)
+recovers n LogSent p well h = (Log h.file, h.device)
+recovers n Sets p well h = (Reset, h.device)
+recovers n On p well (inl h) = (Reset, h.device)
+recovers n On p well (inr h) = (Reset, h.device)
+recovers n Clears p well h = (Reset, h.device)
+recovers n Off p well (inl h) = (Reset, h.device)
+recovers n Off p well (inr h) = (Reset, h.device)
 
 resets_as : (n : ℕ) (stage : Stage) (asked : Bool) (p q : Plan) → device_at q n ≡ device_at p n → q.path ≡ p.path → Resets n stage asked p → Resets n stage asked q
 resets_as n stage asked p q device path h = record { device = device ∙ h.device; path = path ∙ h.path }
@@ -145,19 +139,11 @@ found_device n v plan AssertReset dev other = refl
 found_device n v plan ReleaseReset dev other = refl
 found_device n v plan AwaitReset dev other = refl
 
-found_order : (n : ℕ) (v : Sight) (plan : Plan) (stage : Stage) (dev : ℕ) → detects n (found_of v stage dev plan).asked (found_of v stage dev plan).order ≡ detects n plan.asked plan.order
-unfolding found_of
-found_order n v plan Identify dev = refl
-found_order n v plan (ReadLog file) dev = refl
-found_order n v plan AssertReset dev = refl
-found_order n v plan ReleaseReset dev = refl
-found_order n v plan AwaitReset dev = refl
-
 met_dev : (v : Sight) (b : Bool) (path : Path) → (if b then path else record path { stage = met_stage v path.dev path.stage }).dev ≡ path.dev
 met_dev v true path = refl
 met_dev v false path = refl
 
-module _ (n : ℕ) (v : Sight) (c : Plan) (free : detects n c.asked c.order ≡ true → ⊥) where
+module _ (n : ℕ) (v : Sight) (c : Plan) where
   -- the path is another device's, or none
   away_met : (o : Option Path) → ((x : Path) → o ≡ Some x → x.dev ≢ n) → (x : Path) → option_map (met_path v) o ≡ Some x → x.dev ≢ n
   away_met None away x there to = none_path x there
@@ -166,24 +152,22 @@ module _ (n : ℕ) (v : Sight) (c : Plan) (free : detects n c.asked c.order ≡ 
   record Away (q : Plan) : Type 0 where
     pub device : device_at q n ≡ device_at c n
     pub away : IsUnworked n q
-    pub order : detects n q.asked q.order ≡ true → ⊥
 
   away_back : (path : Path) (b : Bool) → path.dev ≢ n → c.path ≡ Some path → Away (if b then advanced v path c else c)
-  away_back path false other here = record { device = refl; away = λ x there to. other (ap (λ (p : Path). p.dev) (same_path path x (sym here ∙ there)) ∙ to); order = free }
+  away_back path false other here = record { device = refl; away = λ x there to. other (ap (λ (p : Path). p.dev) (same_path path x (sym here ∙ there)) ∙ to) }
   away_back path true other here = record {
     device = found_device n v c path.stage path.dev other;
     away = λ x there to. other (sym (path_to_dev path.dev (next_stage path.stage) x there) ∙ to);
-    order = λ on. free (sym (found_order n v c path.stage path.dev) ∙ on);
   }
 
   away_answered : (o : Option Path) → c.path ≡ o → IsUnworked n c → Away (match_some o c (λ path. if is_back v path then advanced v path c else c))
-  away_answered None here away = record { device = refl; away = away; order = free }
+  away_answered None here away = record { device = refl; away = away }
   away_answered (Some path) here away = away_back path (is_back v path) (away path here) here
 
   seen_away : IsUnworked n c → Away (device_seen v c)
   seen_away away =
       let a = away_answered c.path refl away in
-      record { device = a.device; away = away_met (path_answered v c).path a.away; order = a.order }
+      record { device = a.device; away = away_met (path_answered v c).path a.away }
 
   -- the path is the device's
   seen_own : (path : Path) → c.path ≡ Some path → device_seen v c ≡ path_met v (if is_back v path then advanced v path c else c)
@@ -196,20 +180,19 @@ module _ (n : ℕ) (v : Sight) (c : Plan) (free : detects n c.asked c.order ≡ 
   back path here answered = seen_own path here ∙ ap (λ (b : Bool). path_met v (if b then advanced v path c else c)) answered
 
   -- its command is out
-  out_same : (stage : Stage) → has_bit v.issued 30 ≡ true → c.path ≡ path_of n stage true → (device_at (device_seen v c) n ≡ device_at c n) × ((device_seen v c).path ≡ c.path) × (detects n (device_seen v c).asked (device_seen v c).order ≡ true → ⊥)
+  out_same : (stage : Stage) → has_bit v.issued 30 ≡ true → c.path ≡ path_of n stage true → (device_at (device_seen v c) n ≡ device_at c n) × ((device_seen v c).path ≡ c.path)
   out_same stage on here =
       let path : Path = record { dev = n; stage = stage; asked = true } in
       let is : device_seen v c ≡ path_met v c = still path here (ap (λ (b : Bool). true && not b) on) in
-      (ap (λ (q : Plan). device_at q n) is, ap (λ (q : Plan). q.path) is ∙ ap (option_map (met_path v)) here ∙ sym here, λ k. free (sym (ap (λ (q : Plan). detects n q.asked q.order) is) ∙ k))
+      (ap (λ (q : Plan). device_at q n) is, ap (λ (q : Plan). q.path) is ∙ ap (option_map (met_path v)) here ∙ sym here)
 
   -- one more look at a path that is not asked
-  free_same : (stage : Stage) → met_stage v n stage ≡ stage → c.path ≡ path_of n stage false → (device_at (device_seen v c) n ≡ device_at c n) × ((device_seen v c).path ≡ c.path) × (detects n (device_seen v c).asked (device_seen v c).order ≡ true → ⊥)
+  free_same : (stage : Stage) → met_stage v n stage ≡ stage → c.path ≡ path_of n stage false → (device_at (device_seen v c) n ≡ device_at c n) × ((device_seen v c).path ≡ c.path)
   free_same stage met here =
       let path : Path = record { dev = n; stage = stage; asked = false } in
       let is : device_seen v c ≡ path_met v c = still path here refl in (
         ap (λ (q : Plan). device_at q n) is,
         ap (λ (q : Plan). q.path) is ∙ ap (option_map (met_path v)) here ∙ ap (λ (s : Stage). path_of n s false) met ∙ sym here,
-        λ k. free (sym (ap (λ (q : Plan). detects n q.asked q.order) is) ∙ k),
       )
 
   release_met : met_stage v n ReleaseReset ≡ ReleaseReset
@@ -220,35 +203,23 @@ module _ (n : ℕ) (v : Sight) (c : Plan) (free : detects n c.asked c.order ≡ 
   unfolding met_stage
   await_met on = ap (λ (b : Bool). if b then AwaitReset else Identify) on
 
-  asserted : (b : Bool) → is_back v (record { dev = n; stage = AssertReset; asked = true }) ≡ b → Resets n AssertReset true c → Plans n On (device_seen v c)
+  asserted : (b : Bool) → is_back v (record { dev = n; stage = AssertReset; asked = true }) ≡ b → Resets n AssertReset true c → IsPlan30 n On (device_seen v c)
   unfolding found_of next_stage met_stage
   asserted true over h =
       let is = back (record { dev = n; stage = AssertReset; asked = true }) h.path over in
-      record {
-        is = inr (record { device = ap (λ (q : Plan). device_at q n) is ∙ h.device; path = ap (λ (q : Plan). q.path) is });
-        order = λ k. free (sym (ap (λ (q : Plan). detects n q.asked q.order) is) ∙ k);
-      }
+      inr (record { device = ap (λ (q : Plan). device_at q n) is ∙ h.device; path = ap (λ (q : Plan). q.path) is })
   asserted false wait h =
       let is = still (record { dev = n; stage = AssertReset; asked = true }) h.path wait in
-      record {
-        is = inl (record { device = ap (λ (q : Plan). device_at q n) is ∙ h.device; path = ap (λ (q : Plan). q.path) is ∙ ap (option_map (met_path v)) h.path });
-        order = λ k. free (sym (ap (λ (q : Plan). detects n q.asked q.order) is) ∙ k);
-      }
+      inl (record { device = ap (λ (q : Plan). device_at q n) is ∙ h.device; path = ap (λ (q : Plan). q.path) is ∙ ap (option_map (met_path v)) h.path })
 
-  released : (b : Bool) → is_in_reset v n ≡ true → is_back v (record { dev = n; stage = ReleaseReset; asked = true }) ≡ b → Resets n ReleaseReset true c → Plans n Off (device_seen v c)
+  released : (b : Bool) → is_in_reset v n ≡ true → is_back v (record { dev = n; stage = ReleaseReset; asked = true }) ≡ b → Resets n ReleaseReset true c → IsPlan30 n Off (device_seen v c)
   unfolding found_of next_stage
   released true on over h =
       let is = back (record { dev = n; stage = ReleaseReset; asked = true }) h.path over in
-      record {
-        is = inr (record { device = ap (λ (q : Plan). device_at q n) is ∙ h.device; path = ap (λ (q : Plan). q.path) is ∙ ap (λ (s : Stage). path_of n s false) (await_met on) });
-        order = λ k. free (sym (ap (λ (q : Plan). detects n q.asked q.order) is) ∙ k);
-      }
+      inr (record { device = ap (λ (q : Plan). device_at q n) is ∙ h.device; path = ap (λ (q : Plan). q.path) is ∙ ap (λ (s : Stage). path_of n s false) (await_met on) })
   released false on wait h =
       let is = still (record { dev = n; stage = ReleaseReset; asked = true }) h.path wait in
-      record {
-        is = inl (record { device = ap (λ (q : Plan). device_at q n) is ∙ h.device; path = ap (λ (q : Plan). q.path) is ∙ ap (option_map (met_path v)) h.path });
-        order = λ k. free (sym (ap (λ (q : Plan). detects n q.asked q.order) is) ∙ k);
-      }
+      inl (record { device = ap (λ (q : Plan). device_at q n) is ∙ h.device; path = ap (λ (q : Plan). q.path) is ∙ ap (option_map (met_path v)) h.path })
 
 -- what slot 30 shows at a stage: the command that is not answered, and the reset that goes on
 abbrev pub Shows : ℕ → Stage30 → Sight → Type 0
@@ -259,38 +230,35 @@ Shows n Clears v = has_bit v.issued 30 ≡ true
 Shows n Off v = is_in_reset v n ≡ true
 Shows n stage v = Unit {0}
 
-plans_of : (n : ℕ) (stage : Stage30) (p q : Plan) → IsPlan30 n stage p → (device_at q n ≡ device_at p n) × (q.path ≡ p.path) × (detects n q.asked q.order ≡ true → ⊥) → Plans n stage q
-plans_of n stage p q h is = record { is = plan_as n stage p q is.0 is.1 h; order = is.2 }
+plan_of : (n : ℕ) (stage : Stage30) (p q : Plan) → IsPlan30 n stage p → (device_at q n ≡ device_at p n) × (q.path ≡ p.path) → IsPlan30 n stage q
+plan_of n stage p q h is = plan_as n stage p q is.0 is.1 h
 
-pub seen_plans : (n : ℕ) (stage : Stage30) (v : Sight) (c : Plan) → is_faulty stage ≡ false → Shows n stage v → Plans n stage c → Plans n stage (device_seen v c)
-seen_plans n Faulty v c well shows h = absurd (true≢false well)
-seen_plans n Cleared v c well shows h = let a = seen_away n v c h.order h.is.away in record { is = cleared_as n c (device_seen v c) a.device a.away h.is; order = a.order }
-seen_plans n Asks v c well shows h = plans_of n Asks c (device_seen v c) h.is (out_same n v c h.order (ReadLog h.is.file) shows h.is.path)
-seen_plans n LogSent v c well shows h = plans_of n LogSent c (device_seen v c) h.is (out_same n v c h.order (ReadLog h.is.file) shows h.is.path)
-seen_plans n Sets v c well shows h = plans_of n Sets c (device_seen v c) h.is (out_same n v c h.order AssertReset shows h.is.path)
-seen_plans n On v c well shows h = elim h.is [
-  | inl is ↦ asserted n v c h.order (is_back v (record { dev = n; stage = AssertReset; asked = true })) refl is
-  | inr is ↦ plans_of n On c (device_seen v c) (inr is) (free_same n v c h.order ReleaseReset (release_met n v c h.order) is.path)
-]
-seen_plans n Clears v c well shows h = plans_of n Clears c (device_seen v c) h.is (out_same n v c h.order ReleaseReset shows h.is.path)
-seen_plans n Off v c well shows h = elim h.is [
-  | inl is ↦ released n v c h.order (is_back v (record { dev = n; stage = ReleaseReset; asked = true })) shows refl is
-  | inr is ↦ plans_of n Off c (device_seen v c) (inr is) (free_same n v c h.order AwaitReset (await_met n v c h.order shows) is.path)
-]
+pub seen_plan : (n : ℕ) (stage : Stage30) (v : Sight) (c : Plan) → is_faulty stage ≡ false → Shows n stage v → IsPlan30 n stage c → IsPlan30 n stage (device_seen v c)
+seen_plan n Faulty v c well shows h = absurd (true≢false well)
+seen_plan n Cleared v c well shows h = let a = seen_away n v c h.away in cleared_as n c (device_seen v c) a.device a.away h
+seen_plan n Asks v c well shows h = plan_of n Asks c (device_seen v c) h (out_same n v c (ReadLog h.file) shows h.path)
+seen_plan n LogSent v c well shows h = plan_of n LogSent c (device_seen v c) h (out_same n v c (ReadLog h.file) shows h.path)
+seen_plan n Sets v c well shows h = plan_of n Sets c (device_seen v c) h (out_same n v c AssertReset shows h.path)
+seen_plan n On v c well shows (inl h) = asserted n v c (is_back v (record { dev = n; stage = AssertReset; asked = true })) refl h
+seen_plan n On v c well shows (inr h) = plan_of n On c (device_seen v c) (inr h) (free_same n v c ReleaseReset (release_met n v c) h.path)
+seen_plan n Clears v c well shows h = plan_of n Clears c (device_seen v c) h (out_same n v c ReleaseReset shows h.path)
+seen_plan n Off v c well shows (inl h) = released n v c (is_back v (record { dev = n; stage = ReleaseReset; asked = true })) shows refl h
+seen_plan n Off v c well shows (inr h) = plan_of n Off c (device_seen v c) (inr h) (free_same n v c AwaitReset (await_met n v c shows) h.path)
 
 -- ---- the turn
 
-turn_if : (n : ℕ) (stage : Stage30) (b : Bool) (t u : Turn) → Plans n stage t.plan → Plans n stage u.plan → Plans n stage (if b then t else u).plan
+turn_if : (n : ℕ) (stage : Stage30) (b : Bool) (t u : Turn) → IsPlan30 n stage t.plan → IsPlan30 n stage u.plan → IsPlan30 n stage (if b then t else u).plan
 turn_if n stage true t u h k = h
 turn_if n stage false t u h k = k
 
-pub turn_plans : (n : ℕ) (stage : Stage30) (v : Sight) (p : Plan) (entries : List (Option Entry)) → is_faulty stage ≡ false → Shows n stage v → Plans n stage p → Plans n stage (turn_of v p entries).plan
+pub turn_plan : (n : ℕ) (stage : Stage30) (v : Sight) (p : Plan) (entries : List (Option Entry)) → is_faulty stage ≡ false → Shows n stage v → IsFound n v p → IsPlan30 n stage p → IsPlan30 n stage (turn_of v p entries).plan
 unfolding turn_of
-turn_plans n stage v p entries well shows h =
-    let l = control_leaves n v p h.order in
-    let c : Plans n stage (control_seen v p) = plans_of n stage p (control_seen v p) h.is (l.device, l.path, l.order) in
+turn_plan n stage v p entries well shows found h =
+    let r = recovers n stage p well h in
+    let l : Leaves n p (control_seen v p) = control_leaves n v p r.0 r.1 found in
+    let c : IsPlan30 n stage (control_seen v p) = plan_of n stage p (control_seen v p) h (l.device, l.path) in
     turn_if n stage (is_some (early_due v p)) _ _ h
-    (turn_if n stage (is_idle (control_seen v p).order) _ _ c (turn_if n stage (is_some (order_due (control_seen v p))) _ _ c (seen_plans n stage v (control_seen v p) well shows c)))
+    (turn_if n stage (is_idle (control_seen v p).order) _ _ c (turn_if n stage (is_some (order_due (control_seen v p))) _ _ c (seen_plan n stage v (control_seen v p) well shows c)))
 
 -- ---- what a stage issues has fields
 

@@ -44,7 +44,6 @@ use Rattle.hba_driver.specs.Laws.{is_withdrawn}
 use Rattle.hba_driver.specs.Orders.{control, log_fields}
 use Rattle.hba_driver.specs.Served.{IsOrdered, IsRequest, IsServed, IsStep}
 use Rattle.hba_driver.specs.Slot30.{Asks, Cleared, Clears, Faulty, IsAlone30, IsAt30, IsFree30, IsPlan30, IsSlot30, IsUnsent30, LogSent, Off, On, PushesOn30, Sets, Stage30, StaysOn30, Turns30, fields30, is_faulty, is_resetting, sent30}
-use Rattle.hba_driver.specs.Steady.{detects}
 use Rattle.hba_driver.specs.Submits.{after_submit, next_slot as place_for, new_entry}
 use Rattle.hba_driver.proofs.HistoryLemmas.{PollFacts, freed as polled_is, poll_facts}
 use Rattle.hba_driver.proofs.Push31Lemmas.{third_bit}
@@ -75,18 +74,16 @@ slot_same n Off p q view last is = ap (λ (v : DeviceView). own_issue v.slots 30
 -- the driver's side of a stage
 pub record IsDriven30 (n : ℕ) (stage : Stage30) (d : Driver) : Type 0 where
   pub opened : 7 ≤ d.plan.opened
-  pub unsought : detects n d.plan.asked d.plan.order ≡ false
   pub plan : is_faulty stage ≡ false → IsPlan30 n stage d.plan
   pub withdrawn : is_faulty stage ≡ false → (s : ℕ) (e : Entry) → entry_at d.entries s ≡ Some e → e.head.dev ≡ n → is_withdrawn e.head ≡ true
 
 pub driven_at : (n : ℕ) (stage : Stage30) (h : Host) → IsAt30 n stage h → IsDriven30 n stage h.driver
-driven_at n stage h at = record { opened = at.opened; unsought = at.unsought; plan = λ well. (at.apart well).plan; withdrawn = λ well. (at.apart well).withdrawn }
+driven_at n stage h at = record { opened = at.opened; plan = λ well. (at.apart well).plan; withdrawn = λ well. (at.apart well).withdrawn }
 
 pub kept30 : (n : ℕ) (stage : Stage30) (old new : Host) → view_of n new.port ≡ view_of n old.port → (is_some (fields30 n stage) ≡ true → last_command new.port.commands 30 ≡ last_command old.port.commands 30)
     → IsDriven30 n stage new.driver → IsAt30 n stage old → IsAt30 n stage new
 kept30 n stage old new view last d at = record {
   opened = d.opened;
-  unsought = d.unsought;
   fault = ap (λ (v : DeviceView). is_some v.fault) view ∙ at.fault;
   apart = λ well. record {
     plan = d.plan well;
@@ -280,7 +277,6 @@ module _ (n : ℕ) (past : Touches) (old : Host) (new : Host) (stage : Stage30) 
       → (view_of n new.port).slots.context ≡ None → (view_of n new.port).state.resetting ≡ is_resetting next → IsAt30 n next new
   went_at next good well plan fault slot context resetting = record {
     opened = subst (λ (d : Driver). 7 ≤ d.plan.opened) (sym driver) at.opened;
-    unsought = ap (λ (d : Driver). detects n d.plan.asked d.plan.order) driver ∙ at.unsought;
     fault = fault ∙ sym good;
     apart = λ w. record {
       plan = subst (λ (d : Driver). IsPlan30 n next d.plan) (sym driver) plan;
@@ -420,7 +416,6 @@ same_port n stage old new port d at = kept30 n stage old new (ap (view_of n) por
 submit_driven : (n : ℕ) (stage : Stage30) (d : Driver) (memory : Memory) (dev : ℕ) (request : Request) → Rattle.hba_driver.specs.Submits.submit_refusal d memory dev request ≡ None → IsDriven30 n stage d → IsDriven30 n stage (after_submit d dev request)
 submit_driven n stage d memory dev request accepted h = record {
   opened = h.opened;
-  unsought = h.unsought;
   plan = h.plan;
   withdrawn = λ well s e there of_dev. elim (set_cases d.entries (place_for d) (Some (new_entry (d.given + 1) dev request)) s e there) [
     | inl at ↦
@@ -433,7 +428,6 @@ submit_driven n stage d memory dev request accepted h = record {
 poll_driven : (n : ℕ) (stage : Stage30) (d : Driver) (place : ℕ) → IsDriven30 n stage d → IsDriven30 n stage (record d { entries = set d.entries place None })
 poll_driven n stage d place h = record {
   opened = h.opened;
-  unsought = h.unsought;
   plan = h.plan;
   withdrawn = λ well s e there of_dev. elim (set_cases d.entries place None s e there) [
     | inl at ↦ let bad : None ≡ Some e = at.1 in cc

@@ -41,7 +41,6 @@ use Rattle.hba_driver.specs.HostTurns.{Does, Host, Took}
 use Rattle.hba_driver.specs.Orders.{control}
 use Rattle.hba_driver.specs.Served.{IsServed}
 use Rattle.hba_driver.specs.Slot30.{Asks, Cleared, Clears, Faulty, IsAt30, IsSlot30, LogSent, MayCome30, Off, On, Sets, Stage30, TakesLead30, TakesOn30, Turns30, is_faulty, is_resetting}
-use Rattle.hba_driver.specs.Steady.{detects}
 use Rattle.hba_driver.proofs.ApartPushes.{IsDriven30, alone_issue, control_kind, driven_at, kept30}
 use Rattle.hba_driver.proofs.StopLemmas.{either}
 
@@ -231,12 +230,11 @@ module _ (n : ℕ) (past : Touches) (old : Host) (frame : List ℕ) (report : Ta
         (heard_stays (view_of (port_of frame) old.port) (subst (λ (k : ℕ). (view_of k old.port).slots.context ≡ None) (sym own) (at.apart well).context) (subst (λ (k : ℕ). (view_of k old.port).state.resetting ≡ false) (sym own) reset)
         (subst (λ (k : ℕ). IsIdle (view_of k old.port).slots) (sym own) idle) (port_of frame) _ _)) in
         elim (cases_Bool (is_some (view_of n new.port).fault)) [
-          | inl failed ↦ record { next = Faulty; now = record { opened = driven.opened; unsought = driven.unsought; fault = failed; apart = λ w. absurd (true≢false w) }; is = off }
+          | inl failed ↦ record { next = Faulty; now = record { opened = driven.opened; fault = failed; apart = λ w. absurd (true≢false w) }; is = off }
           | inr fine ↦ record {
             next = stage;
             now = record {
               opened = driven.opened;
-              unsought = driven.unsought;
               fault = fine ∙ sym well;
               apart = λ w. record { plan = driven.plan w; slot = slot new.port stays.issue commands_same; context = stays.context; resetting = stays.resetting ∙ sym none; withdrawn = driven.withdrawn w };
             };
@@ -291,11 +289,10 @@ module _ (n : ℕ) (past : Touches) (old : Host) (frame : List ℕ) (report : Ta
 
 -- ---- the first fault
 
-begins : (n : ℕ) (old : Host) (frame : List ℕ) (report : TakeReport) (new : Host) → IsSoundHost old → Does old (Took frame report) new → detects n old.driver.plan.asked old.driver.plan.order ≡ false
+begins : (n : ℕ) (old : Host) (frame : List ℕ) (report : TakeReport) (new : Host) → IsSoundHost old → Does old (Took frame report) new
     → is_some (view_of n old.port).fault ≡ false → is_some (view_of n new.port).fault ≡ true → IsAt30 n Faulty new
-begins n old frame report new sound does unsought well failed = record {
+begins n old frame report new sound does well failed = record {
   opened = subst (λ (d : Driver). 7 ≤ d.plan.opened) (sym does.driver) opened;
-  unsought = ap (λ (d : Driver). detects n d.plan.asked d.plan.order) does.driver ∙ unsought;
   fault = failed;
   apart = λ w. absurd (true≢false w);
 }
@@ -313,5 +310,5 @@ begins n old frame report new sound does unsought well failed = record {
 pub takes_lead : (n : ℕ) → TakesLead30 n
 takes_lead n = record {
   turns = λ past old frame report new stage low served does at may. took_turn n past old frame report new stage low served does at may;
-  begins = λ old frame report new low sound does own unsought well failed. begins n old frame report new sound does unsought well failed;
+  begins = λ old frame report new low sound does own well failed. begins n old frame report new sound does well failed;
 }

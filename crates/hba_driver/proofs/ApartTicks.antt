@@ -30,14 +30,14 @@ use Rattle.hba_driver.specs.HostTurns.{Does, Host, Ticked, sight_in}
 use Rattle.hba_driver.specs.Laws.{Goes, is_withdrawn}
 use Rattle.hba_driver.specs.Paths.{reads_page, recovery, stage_fields}
 use Rattle.hba_driver.specs.Sights.{file_shown, sight_of}
-use Rattle.hba_driver.specs.Slot30.{Asks, Cleared, Clears, Faulty, IsApart30, IsAt30, IsOn30, IsSlot30, LogSent, Off, On, Sets, Stage30, TicksLead30, TicksOn30, Turns30, IsLogged, fields30, is_faulty, is_resetting}
-use Rattle.hba_driver.specs.Steady.{IsCalmAct, IsFlushTick, detects}
+use Rattle.hba_driver.specs.Slot30.{Asks, Cleared, Clears, Faulty, FindsNone, IsApart30, IsAt30, IsOn30, IsPlan30, IsSlot30, LogSent, Off, On, Sets, Stage30, TicksLead30, TicksOn30, Turns30, IsLogged, fields30, is_faulty, is_resetting}
+use Rattle.hba_driver.specs.Steady.{IsCalmAct, IsFlushTick}
 use Rattle.hba_driver.specs.Ticks.{acted, after_tick, cleared_plan, done_ended, due, effects_due, from_reset, plan_after, recovering, seen, turn}
-use Rattle.hba_driver.specs.Turns.{control_news, control_seen, control_turn, early_due, fault_due, is_in_reset, plain_turn, restart_due, turn_of}
+use Rattle.hba_driver.specs.Turns.{control_news, control_seen, control_turn, early_due, fault_due, is_in_reset, is_there, plain_turn, restart_due, turn_of}
 use Rattle.hba_driver.proofs.ActLemmas.{here_act}
 use Rattle.hba_driver.proofs.ApartActs.{Begins30, Rests30, act_plans, not_issued}
 use Rattle.hba_driver.proofs.ApartFiles.{clearing_chosen, file_error}
-use Rattle.hba_driver.proofs.ApartPlans.{Plans, Shows, fields_turn, turn_plans}
+use Rattle.hba_driver.proofs.ApartPlans.{IsFound, Shows, fields_turn, turn_plan}
 use Rattle.hba_driver.proofs.ApartPushes.{IsDriven30, kept30}
 use Rattle.hba_driver.proofs.ApartViews.{Issues30, clearing_own_view, clearing_view, issuing_view, order_view, sending_view, step30}
 use Rattle.hba_driver.proofs.AwaitLemmas.{here_effects}
@@ -88,14 +88,6 @@ reported (Some x) (Some c) dev is = cc
 -- a fault that is cleared stands
 pub cleared_faulty : (port : Port) (dev : ℕ) → Rattle.hba_driver.specs.Effects.IsRuled port → cleared_device port.errors ≡ Some dev → is_some (view_of dev port).fault ≡ true
 cleared_faulty port dev ruled is = (ruled.faults.reported_is_marked dev (reported port.errors.reported port.errors.port dev is)).1
-
-not_sought : (b : Bool) → (b ≡ true → ⊥) → b ≡ false
-not_sought true h = absurd (h refl)
-not_sought false h = refl
-
-sought_not : (b : Bool) → b ≡ false → b ≡ true → ⊥
-sought_not true h k = true≢false h
-sought_not false h k = false≢true k
 
 module _ (n : ℕ) (past : Touches) (h : Host) (low : n < 15) (on : IsOn30 past h) (stage : Stage30) (at : IsAt30 n stage h) (acts : Bool) (new : Host) (does : Does h (Ticked acts) new) (flush : IsFlushTick n h → ⊥) where
   abbrev v : Sight
@@ -155,13 +147,18 @@ module _ (n : ℕ) (past : Touches) (h : Host) (low : n < 15) (on : IsOn30 past 
 
   -- ---- a stage that is not the fault
 
-  module _ (well : is_faulty stage ≡ false) where
+  module _ (well : is_faulty stage ≡ false) (there : FindsNone n h → ⊥) where
     apart : IsApart30 n stage h
     apart = at.apart well
 
-    plans : Plans n stage q
-    plans = turn_plans n stage v h.driver.plan (done_ended v.issued h.driver.entries) well (shows stage refl well apart.slot)
-        (record { is = apart.plan; order = sought_not (detects n h.driver.plan.asked h.driver.plan.order) at.unsought })
+    found : IsFound n v h.driver.plan
+    found order came = elim (cases_Bool (is_there v.answer)) [
+      | inl is ↦ is
+      | inr none ↦ absurd (there (record { order = order; came = came; none = none }))
+    ]
+
+    plans : IsPlan30 n stage q
+    plans = turn_plan n stage v h.driver.plan (done_ended v.issued h.driver.entries) well (shows stage refl well apart.slot) found apart.plan
 
     served : Rattle.hba_driver.specs.Served.IsServed (seen v h.driver) (beside h.port h.memory) past
     served = seen_served h.port h.memory h.driver past (sound_beside h.port h.memory on.sound.ruled on.sound.memory) on.served
@@ -216,11 +213,10 @@ module _ (n : ℕ) (past : Touches) (h : Host) (low : n < 15) (on : IsOn30 past 
     unfolding after_tick
     plan_now = ap (λ (d : Driver). d.plan) does.driver ∙ acted_plan (due v h.driver) (file_shown new.port) (seen v h.driver)
 
-    driven_now : (next : Stage30) → Plans n next new.driver.plan → IsDriven30 n next new.driver
+    driven_now : (next : Stage30) → IsPlan30 n next new.driver.plan → IsDriven30 n next new.driver
     driven_now next p = record {
       opened = opened_now;
-      unsought = not_sought (detects n new.driver.plan.asked new.driver.plan.order) p.order;
-      plan = λ w. p.is;
+      plan = λ w. p;
       withdrawn = λ w. ticked_withdrawn n h acts new does apart.withdrawn;
     }
 
@@ -258,7 +254,6 @@ module _ (n : ℕ) (past : Touches) (h : Host) (low : n < 15) (on : IsOn30 past 
           next = b.next;
           at = record {
             opened = d.opened;
-            unsought = d.unsought;
             fault = ap is_some i.fault ∙ at.fault ∙ well ∙ sym b.well;
             apart = λ w. record {
               plan = d.plan w;
@@ -335,13 +330,6 @@ module _ (n : ℕ) (past : Touches) (h : Host) (low : n < 15) (on : IsOn30 past 
     may_clear : (c : Clearing30) → MayEnd (Some (act.Clears c.dev)) h.port
     may_clear c = subst (λ (x : Option Act). MayEnd x h.port) c.is (may_end h on.sound)
 
-    detects_if : (b : Bool) (dev : ℕ) → detects n (if b then recovering dev (file_shown new.port) h.driver.plan else from_reset h.driver.plan).asked (if b then recovering dev (file_shown new.port) h.driver.plan else from_reset h.driver.plan).order ≡ false
-    detects_if true dev = at.unsought
-    detects_if false dev = refl
-
-    unsought_now : (c : Clearing30) → detects n new.driver.plan.asked new.driver.plan.order ≡ false
-    unsought_now c = ap (λ (p : Plan). detects n p.asked p.order) (clears_plan c) ∙ detects_if (nat_lt c.dev 15) c.dev
-
     -- the device's own
     own_plan : (c : Clearing30) → c.dev ≡ n → new.driver.plan ≡ recovering n (file_shown new.port) h.driver.plan
     own_plan c same =
@@ -365,7 +353,6 @@ module _ (n : ℕ) (past : Touches) (h : Host) (low : n < 15) (on : IsOn30 past 
         let view = own_view c same in
         record {
           opened = opened_now;
-          unsought = unsought_now c;
           fault = ap (λ (w : DeviceView). is_some w.fault) view;
           apart = λ w. record {
             plan = record {
@@ -387,7 +374,6 @@ module _ (n : ℕ) (past : Touches) (h : Host) (low : n < 15) (on : IsOn30 past 
     clears_other : (c : Clearing30) → c.dev ≢ n → IsAt30 n stage new
     clears_other c other = record {
       opened = opened_now;
-      unsought = unsought_now c;
       fault = ap (λ (w : DeviceView). is_some w.fault) (other_view c other) ∙ at.fault;
       apart = λ w. absurd (true≢false (sym failed ∙ w));
     }
@@ -433,9 +419,9 @@ module _ (n : ℕ) (past : Touches) (h : Host) (low : n < 15) (on : IsOn30 past 
 
 pub ticks_lead : (n : ℕ) → TicksLead30 n
 ticks_lead n = record {
-  turns = λ past old acted new stage low on does at flush. elim (cases_Bool (is_faulty stage)) [
+  turns = λ past old acted new stage low on does at flush there. elim (cases_Bool (is_faulty stage)) [
     | inl failed ↦ tick_failed n past old low on stage at acted new does flush failed
-    | inr well ↦ tick_well n past old low on stage at acted new does flush well
+    | inr well ↦ tick_well n past old low on stage at acted new does flush well there
   ];
   logged = λ past old acted new file low on does at flush well device. logged_then n past old low on Faulty at acted new does flush refl file well device;
 }

@@ -29,7 +29,7 @@ use Rattle.hba_driver.specs.Drivers.{Driver, Entry, device_at, entry_at, is_issu
 use Rattle.hba_driver.specs.Orders.{order_fields}
 use Rattle.hba_driver.specs.Paths.{first_stage, next_stage, recovery, reset_if_there, stage_fields}
 use Rattle.hba_driver.specs.Ticks.{acted, after_tick, done_ended, entries_after, from_reset, is_aside_of, is_done, is_named_of, is_open, is_open_of, log_outcome, logged_ended, ordered, plan_after, recovering, removed, seen, stage_ended, turn, unless}
-use Rattle.hba_driver.specs.Turns.{advanced, answered, control_seen, detected, device_due, device_seen, early_due, fault_due, found_of, is_back, is_due, is_idle, is_in_reset, is_ready, issue_of, may_issue, met, met_order}
+use Rattle.hba_driver.specs.Turns.{advanced, answered, control_seen, detected, device_due, device_seen, early_due, fault_due, found_of, found_there, is_back, is_due, is_idle, is_in_reset, is_ready, is_there, issue_of, may_issue, met, met_order}
 use Rattle.hba_driver.specs.Turns.{met_path, met_stage, noted, opening_due, order_due, path_answered, path_due, path_to, request_due, restart_due, stage_due, stage_for, step_of, turn_of, with_next}
 use Rattle.hba_driver.proofs.DueLemmas.{Due, Waiting}
 use Rattle.hba_driver.proofs.LifeLemmas.{due_seen, entry_of_rephased}
@@ -83,18 +83,29 @@ if_new n false p q h k = k
 
 -- ---- slot 31
 
-detected_new : (status : ℕ) → is_trusted (detected status) ≡ false
-detected_new status = by_test (status % 16 == 3)
+shown_new : (device : Device) → is_trusted device ≡ false → is_trusted (found_there device) ≡ false
+shown_new (Recovering way) new = new
+shown_new Absent new = refl
+shown_new Starting new = refl
+shown_new Ready new = refl
+shown_new Unusable new = refl
+
+detected_new : (status : ℕ) (device : Device) → is_trusted device ≡ false → is_trusted (detected status device) ≡ false
+detected_new status device new = by_test (is_there status)
   where
-    by_test : (b : Bool) → is_trusted (if b then Starting else Absent) ≡ false
-    by_test true = refl
+    by_test : (b : Bool) → is_trusted (if b then found_there device else Absent) ≡ false
+    by_test true = shown_new device new
     by_test false = refl
 
 new_noted : (n : ℕ) (v : Sight) (order : Order) (plan : Plan) → IsNew n plan → IsNew n (noted v order plan)
 unfolding noted
 new_noted n v CountPorts plan h = record { device = h.device; path = h.path }
 new_noted n v Scan plan h = record { device = h.device; path = h.path }
-new_noted n v (Detect port) plan h = record { device = set_new plan.devices n port (detected v.answer) (λ same. detected_new v.answer) h.device; path = h.path }
+new_noted n v (Detect port) plan h = record {
+  device = set_new plan.devices n port (detected v.answer (device_at plan port))
+      (λ same. detected_new v.answer (device_at plan port) (subst (λ (k : ℕ). is_trusted (device_at plan k) ≡ false) (sym same) h.device)) h.device;
+  path = h.path;
+}
 new_noted n v order plan h = h
 
 path_noted : (v : Sight) (order : Order) (plan : Plan) → (noted v order plan).path ≡ plan.path

@@ -68,6 +68,7 @@ pub mod ApartPlans
 pub mod ApartActs
 pub mod ApartViews
 pub mod ApartTicks
+pub mod UnsoughtLemmas
 pub mod ApartTakes
 pub mod ApartArmed
 pub mod ApartFiles

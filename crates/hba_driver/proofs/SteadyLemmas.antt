@@ -26,7 +26,7 @@ use Rattle.hba_driver.specs.Orders.{next_order, open_from, order_fields, scan_fr
 use Rattle.hba_driver.specs.Paths.{first_stage, next_stage, stage_fields}
 use Rattle.hba_driver.specs.Steady.{IsAskedOf, IsCalmAct, IsFine, IsSteadyPlan, detects}
 use Rattle.hba_driver.specs.Ticks.{from_reset, ordered, plan_after, recovering, unless}
-use Rattle.hba_driver.specs.Turns.{advanced, answered, control_news, control_seen, control_turn, detected, device_due, device_seen, early_due, fault_due, found_of, is_back, is_due, is_idle, issue_of, may_issue, met, met_order, met_path, noted, opening_due, order_due, path_answered, path_due, path_met, path_to, request_due, restart_due, signed_order, stage_due, stage_for, step_of, turn_of, with_next}
+use Rattle.hba_driver.specs.Turns.{advanced, answered, control_news, control_seen, control_turn, detected, device_due, device_seen, early_due, fault_due, found_of, is_back, is_due, is_idle, is_there, issue_of, may_issue, met, met_order, met_path, noted, opening_due, order_due, path_answered, path_due, path_met, path_to, request_due, restart_due, signed_order, stage_due, stage_for, step_of, turn_of, with_next}
 
 -- ---- what goes on
 
@@ -88,8 +88,8 @@ fine_absent d is = subst IsFine (sym is) tt
 
 -- ---- slot 31
 
-detected_cases : (answer : ℕ) → (detected answer ≡ Starting) ⊎ (detected answer ≡ Absent)
-detected_cases answer = by_test (answer % 16 == 3)
+detected_cases : (answer : ℕ) (device : Device) → device ≡ Absent → (detected answer device ≡ Starting) ⊎ (detected answer device ≡ Absent)
+detected_cases answer device none = subst (λ (d : Device). (detected answer d ≡ Starting) ⊎ (detected answer d ≡ Absent)) (sym none) (by_test (is_there answer))
   where
     by_test : (b : Bool) → ((if b then Starting else Absent) ≡ Starting) ⊎ ((if b then Starting else Absent) ≡ Absent)
     by_test true = inl refl
@@ -116,8 +116,9 @@ module _ (n : ℕ) (signs : Type 0) (v : Sight) (plan : Plan) (h : IsSteadyPlan 
   unfolding noted next_order
   detected_here port is same =
       let none : device_at plan n ≡ Absent = h.order (subst (λ (o : Order). detects n plan.asked o ≡ true) (sym is) (equal_is port n same)) in
-      let now : (device_at (with_device port (detected v.answer) plan) n ≡ Starting) ⊎ (device_at (with_device port (detected v.answer) plan) n ≡ Absent) =
-      subst (λ (k : ℕ). (device_at (with_device k (detected v.answer) plan) n ≡ Starting) ⊎ (device_at (with_device k (detected v.answer) plan) n ≡ Absent)) (sym same) (set_cases_at plan.devices n v.answer) in
+      let now : (device_at (with_device port (detected v.answer (device_at plan port)) plan) n ≡ Starting) ⊎ (device_at (with_device port (detected v.answer (device_at plan port)) plan) n ≡ Absent) =
+      subst (λ (k : ℕ). (device_at (with_device k (detected v.answer (device_at plan k)) plan) n ≡ Starting) ⊎ (device_at (with_device k (detected v.answer (device_at plan k)) plan) n ≡ Absent)) (sym same)
+      (set_cases_at plan.devices n v.answer (device_at plan n) none) in
       record {
         steady = record {
           fine = elim now [ inl s ↦ subst IsFine (sym s) tt | inr a ↦ subst IsFine (sym a) tt ];
@@ -134,9 +135,10 @@ module _ (n : ℕ) (signs : Type 0) (v : Sight) (plan : Plan) (h : IsSteadyPlan 
       equal_is : (x y : ℕ) → x ≡ y → (x == y) ≡ true
       equal_is x y e = grind (arith, nat_tests)
 
-      set_cases_at : (devices : List Device) (n answer : ℕ) → (get_or (set devices n (detected answer)) n Absent ≡ Starting) ⊎ (get_or (set devices n (detected answer)) n Absent ≡ Absent)
-      set_cases_at devices n answer = elim (set_same devices n (detected answer)) [
-        | inl is ↦ elim (detected_cases answer) [ inl s ↦ inl (is ∙ s) | inr a ↦ inr (is ∙ a) ]
+      set_cases_at : (devices : List Device) (n answer : ℕ) (was : Device) → was ≡ Absent
+          → (get_or (set devices n (detected answer was)) n Absent ≡ Starting) ⊎ (get_or (set devices n (detected answer was)) n Absent ≡ Absent)
+      set_cases_at devices n answer was absent = elim (set_same devices n (detected answer was)) [
+        | inl is ↦ elim (detected_cases answer was absent) [ inl s ↦ inl (is ∙ s) | inr a ↦ inr (is ∙ a) ]
         | inr past ↦ inr past
       ]
 
@@ -157,7 +159,7 @@ module _ (n : ℕ) (signs : Type 0) (v : Sight) (plan : Plan) (h : IsSteadyPlan 
   answers_order (Clear port) is out = beside _ refl refl (λ on. subst (λ (o : Order). detects n plan.asked o ≡ true) (sym is) (subst (λ (b : Bool). detects n b (Clear port) ≡ true) (sym out) on))
   answers_order (Detect port) is out = elim (cases_eq port n) [
     | inl same ↦ detected_here port is same
-    | inr other ↦ keeps_beside n signs plan _ h (set_other plan.devices port n (detected v.answer) (λ e. other (sym e))) (λ x here to. here) (λ on. absurd (never n plan.found (port + 1) on))
+    | inr other ↦ keeps_beside n signs plan _ h (set_other plan.devices port n (detected v.answer (device_at plan port)) (λ e. other (sym e))) (λ x here to. here) (λ on. absurd (never n plan.found (port + 1) on))
   ]
   answers_order Watch is out = beside _ refl refl (λ on. absurd (false≢true on))
   answers_order NoMultiplier is out = beside _ refl refl (λ on. absurd (false≢true on))

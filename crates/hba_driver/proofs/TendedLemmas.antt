@@ -180,7 +180,7 @@ module _ (n : ℕ) (v : Sight) (plan : Plan) (h : IsUnsought n plan) where
   answers_order Scan is out = leaves_path n plan _ refl refl (λ on. never n v.answer 0 on)
   answers_order (Clear port) is out = leaves_path n plan _ refl refl (λ on. h (subst (λ (o : Order). detects n plan.asked o ≡ true) (sym is) (subst (λ (b : Bool). detects n b (Clear port) ≡ true) (sym out) on)))
   answers_order (Detect port) is out =
-      leaves_path n plan _ (get_or-set_other plan.devices port n (detected v.answer) Absent other) refl (λ on. never n plan.found (port + 1) on)
+      leaves_path n plan _ (get_or-set_other plan.devices port n (detected v.answer (device_at plan port)) Absent other) refl (λ on. never n plan.found (port + 1) on)
     where
       equal_is : (x y : ℕ) → x ≡ y → (x == y) ≡ true
       equal_is x y e = grind (arith, nat_tests)
@@ -207,7 +207,7 @@ module _ (n : ℕ) (v : Sight) (plan : Plan) (h : IsUnsought n plan) where
   met_leaves : Leaves n plan (met v plan)
   met_leaves = met_if plan.asked refl
 
-control_leaves : (n : ℕ) (v : Sight) (plan : Plan) → IsUnsought n plan → Leaves n plan (control_seen v plan)
+pub control_leaves : (n : ℕ) (v : Sight) (plan : Plan) → IsUnsought n plan → Leaves n plan (control_seen v plan)
 control_leaves n v plan h =
     let first : Leaves n plan (answered v plan) = answered_leaves n v plan h in
     leaves_then n plan (answered v plan) (control_seen v plan) first (met_leaves n v (answered v plan) first.unsought)
@@ -275,7 +275,7 @@ plainly_stepless plan (Some (act.Steps dev stage)) h = h
 plainly_stepless plan (Some (act.Issues slot dev queued)) h = tt
 
 -- an order that is out
-detects_out : (n : ℕ) (asked : Bool) (order : Order) → order ≢ Clear n → detects n true order ≡ true → detects n asked order ≡ true
+pub detects_out : (n : ℕ) (asked : Bool) (order : Order) → order ≢ Clear n → detects n true order ≡ true → detects n asked order ≡ true
 detects_out n asked (Clear port) other on = absurd (other (ap Clear (equal_of port n on)))
   where
     equal_of : (a b : ℕ) → (true && (a == b)) ≡ true → a ≡ b

@@ -2,7 +2,7 @@
 -- recovery, and 9.3, FIS-based Switching, on errors; Serial ATA 3.x, software reset; ACS-3, READ LOG
 -- EXT): its fault is cleared, and then its error log is read, or it is reset. Meanwhile no request of
 -- it waits or is issued.
-use Rattle.std.specs.Prelude.{ℕ, ◌≡◌, ◌≢◌, ◌<◌, ◌≤◌, ◌⊎◌, Bool, true, false, Option, Some, None}
+use Rattle.std.specs.Prelude.{ℕ, ◌≡◌, ◌≢◌, ◌<◌, ◌≤◌, ◌⊎◌, ◌&&◌, Bool, true, false, not, Option, Some, None}
 use Rattle.std.specs.Prelude.{List, is_some}
 use Rattle.fis_view.specs.Built.{IsBuilt, h2d_given}
 use Rattle.fis_view.specs.Frames.{Stamped}
@@ -20,6 +20,7 @@ use Rattle.hba_fbs.specs.Views.{Port, last_command, view_of}
 use Rattle.hba_laws.specs.Client.{Touches, own}
 use Rattle.hba_laws.specs.History.{Transfer, issued}
 use Rattle.host_memory.specs.Memory.{is_memory_size}
+use Rattle.hba_driver.specs.declared.order.Order.TheVariants.{Detect}
 use Rattle.hba_driver.specs.declared.path.Path.{Path}
 use Rattle.hba_driver.specs.declared.path.Recovery.{Recovery}
 use Rattle.hba_driver.specs.declared.path.Recovery.TheVariants.{Log, Reset}
@@ -35,13 +36,14 @@ use Rattle.hba_driver.specs.Drivers.{Entry, device_at, entry_at}
 use Rattle.hba_driver.specs.Events.{IsSoundHost, opening_host, shared_by}
 use Rattle.hba_driver.specs.Going.{GoesOn}
 use Rattle.hba_driver.specs.HostTurns.{Does, DoesAll, Host, HostTurn, Polled, Pushed, Put}
-use Rattle.hba_driver.specs.HostTurns.{Submitted, Ticked, Took}
+use Rattle.hba_driver.specs.HostTurns.{Submitted, Ticked, Took, sight_in}
 use Rattle.hba_driver.specs.Laws.{is_withdrawn}
 use Rattle.hba_driver.specs.Orders.{control, log_fields}
 use Rattle.hba_driver.specs.Served.{IsServed}
 use Rattle.hba_driver.specs.Sights.{file_shown}
 use Rattle.hba_driver.specs.Tended.{IsUnworked}
 use Rattle.hba_driver.specs.Steady.{IsFlushTick, detects}
+use Rattle.hba_driver.specs.Turns.{is_out, is_there}
 
 pub data Stage30 : Type 0 where
   -- the device has a fault, which the driver has not cleared
@@ -160,10 +162,9 @@ pub record IsApart30 (n : ℕ) (stage : Stage30) (h : Host) : Type 0 where
   pub withdrawn : (s : ℕ) (e : Entry) → entry_at h.driver.entries s ≡ Some e → e.head.dev ≡ n
       → is_withdrawn e.head ≡ true
 
--- The port is open, and the device is not being looked for.
+-- The port is open. The device may be looked for meanwhile: one that is found there recovers on.
 pub record IsAt30 (n : ℕ) (stage : Stage30) (h : Host) : Type 0 where
   pub opened : 7 ≤ h.driver.plan.opened
-  pub unsought : detects n h.driver.plan.asked h.driver.plan.order ≡ false
   pub fault : is_some (view_of n h.port).fault ≡ is_faulty stage
   pub apart : is_faulty stage ≡ false → IsApart30 n stage h
 
@@ -230,11 +231,17 @@ pub record IsLogged (n : ℕ) (old new : Host) (file : TaskFile) : Type 0 where
   pub shown : file ≡ file_shown new.port
   pub failed : has_bit (view_of n old.port).state.status 0 ≡ true
 
--- Ticks lead from stage to stage, but for one that flushes the device.
+-- a tick sees the answer of PSCR[0] of the device's port, by which none is there
+pub record FindsNone (n : ℕ) (old : Host) : Type 0 where
+  pub order : old.driver.plan.order ≡ Detect n
+  pub came : (old.driver.plan.asked && not (is_out (sight_in old) old.driver.plan)) ≡ true
+  pub none : is_there (sight_in old).answer ≡ false
+
+-- Ticks lead from stage to stage, but for one that flushes the device and one that finds none there.
 pub record TicksLead30 (n : ℕ) : Type 0 where
   pub turns : (past : Touches) (old : Host) (acted : Bool) (new : Host) (stage : Stage30) → n < 15
       → IsOn30 past old → Does old (Ticked acted) new → IsAt30 n stage old
-      → (IsFlushTick n old → ⊥) → Turns30 n stage (Ticked acted) new
+      → (IsFlushTick n old → ⊥) → (FindsNone n old → ⊥) → Turns30 n stage (Ticked acted) new
   pub logged : (past : Touches) (old : Host) (acted : Bool) (new : Host) (file : TaskFile) → n < 15
       → IsOn30 past old → Does old (Ticked acted) new → IsAt30 n Faulty old
       → (IsFlushTick n old → ⊥) → is_some (view_of n new.port).fault ≡ false
@@ -269,7 +276,6 @@ pub record TakesLead30 (n : ℕ) : Type 0 where
   -- a frame that gives the device its first fault begins this
   pub begins : (old : Host) (frame : List ℕ) (report : TakeReport) (new : Host) → n < 15
       → IsSoundHost old → Does old (Took frame report) new → port_of frame ≡ n
-      → detects n old.driver.plan.asked old.driver.plan.order ≡ false
       → is_some (view_of n old.port).fault ≡ false → is_some (view_of n new.port).fault ≡ true
       → IsAt30 n Faulty new
 
@@ -283,12 +289,26 @@ pub record StaysOn30 (n : ℕ) : Type 0 where
   pub put : (old : Host) (at : ℕ) (bytes : List ℕ) (new : Host) (stage : Stage30)
       → Does old (Put at bytes) new → IsAt30 n stage old → IsAt30 n stage new
 
+-- A device that is not being looked for is not until a tick flushes it. So no tick finds none there.
+abbrev pub IsUnsought : ℕ → Host → Type 0
+IsUnsought n h = detects n h.driver.plan.asked h.driver.plan.order ≡ false
+
+abbrev pub IsUnflushed : ℕ → Host → HostTurn → Type 0
+IsUnflushed n old (Ticked acted) = IsFlushTick n old → ⊥
+IsUnflushed n old turn = Unit {0}
+
+abbrev pub StaysUnsought : ℕ → Type 0
+StaysUnsought n =
+    (old : Host) (turn : HostTurn) (new : Host) → Does old turn new → IsUnflushed n old turn
+    → IsUnsought n old → IsUnsought n new
+
 pub record DeviceIsApart (n : ℕ) : Type 0 where
   pub alone : IsAlone30 n
   pub pushes : PushesOn30 n
   pub ticks : TicksLead30 n
   pub takes : TakesLead30 n
   pub stays : StaysOn30 n
+  pub unsought : StaysUnsought n
 
 abbrev pub EachIsApart : Type 0
 EachIsApart = (n : ℕ) → DeviceIsApart n

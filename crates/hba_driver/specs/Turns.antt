@@ -26,14 +26,24 @@ use Rattle.hba_driver.specs.Paths.{first_stage, next_stage, stage_fields}
 -- ---- slot 31: the multiplier
 
 -- SStatus.DET is 3: a device is there and communication is established
-abbrev pub detected : ℕ → Device
-detected status = if status % 16 == 3 then Starting else Absent
+abbrev pub is_there : ℕ → Bool
+is_there status = status % 16 == 3
+
+-- What is known of a device that is there: it starts, and is to send its signature. One that recovers from a fault is reset, or
+-- its log is read; its signature may have come before that, and does not come again.
+abbrev pub found_there : Device → Device
+found_there (Recovering way) = Recovering way
+found_there device = Starting
+
+-- so it is after the answer of PSCR[0] of its port, SStatus
+abbrev pub detected : ℕ → Device → Device
+detected status device = if is_there status then found_there device else Absent
 
 -- what the answer of an order tells
 unfoldable pub noted : Sight → Order → Plan → Plan
 noted v CountPorts plan = record plan { ports = v.answer % 16 }
 noted v Scan plan = record plan { found = v.answer }
-noted v (Detect port) plan = with_device port (detected v.answer) plan
+noted v (Detect port) plan = with_device port (detected v.answer (device_at plan port)) plan
 noted v order plan = plan
 
 abbrev pub with_next : Order → Plan → Plan

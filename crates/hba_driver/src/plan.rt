@@ -2,7 +2,7 @@
 
 ghost use Rattle.std.specs.Prelude.{◌≡◌, ◌<◌, length};
 ghost use Rattle.hba_driver.specs.Drivers.{IsOrder, IsSoundPlan, device_at, opening_plan, with_device as with_device_of};
-ghost use Rattle.hba_driver.specs.Turns.{answered as answered_by, awaits as awaits_of, control_news as control_news_of, control_seen as control_seen_by, detected as detected_by, is_out as is_out_of, is_ready as is_ready_of, met_order as met_order_by, noted as noted_by, signed_order as signed_order_by, with_next as with_next_of};
+ghost use Rattle.hba_driver.specs.Turns.{answered as answered_by, awaits as awaits_of, control_news as control_news_of, control_seen as control_seen_by, detected as detected_by, found_there as found_there_of, is_out as is_out_of, is_ready as is_ready_of, met_order as met_order_by, noted as noted_by, signed_order as signed_order_by, with_next as with_next_of};
 
 use crate::order::Order;
 use crate::path::{Path, Recovery};
@@ -59,15 +59,27 @@ impl Device {
             Device::Absent | Device::Starting | Device::Unusable | Device::Recovering(_) => false,
         }
     }
-}
 
-fn detected(status: u32) -> Device
-    ensures { result ≡ detected_by status }
-{
-    if status % 16 == 3 {
-        Device::Starting
-    } else {
-        Device::Absent
+    // It is there. One that recovers goes on: its signature may be gone, so it is not waited for.
+    fn found_there(self) -> Device
+        ensures { result ≡ found_there_of self }
+    {
+        match self {
+            Device::Recovering(way) => Device::Recovering(way),
+            Device::Absent | Device::Starting | Device::Ready | Device::Unusable =>
+                Device::Starting,
+        }
+    }
+
+    // What PSCR[0] of its port tells: SStatus.DET is 3 where a device is there.
+    fn detected(self, status: u32) -> Device
+        ensures { result ≡ detected_by status self }
+    {
+        if status % 16 == 3 {
+            self.found_there()
+        } else {
+            Device::Absent
+        }
     }
 }
 
@@ -126,7 +138,10 @@ impl Plan {
                 found: sight.answer,
                 ..self
             },
-            Order::Detect(port) => self.with_device(port, detected(sight.answer)),
+            Order::Detect(port) => {
+                let device = self.device(port).detected(sight.answer);
+                self.with_device(port, device)
+            }
             Order::ResetOn
             | Order::ResetOff
             | Order::AwaitSignature
