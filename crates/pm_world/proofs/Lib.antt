@@ -72,6 +72,7 @@ pub mod PolledLemmas
 pub mod ReadBackLemmas
 pub mod ReachedLemmas
 pub mod SubmittedLemmas
+pub mod ReadSubmittedLemmas
 pub mod Laws
 pub mod Polling
 pub mod Doing

@@ -1,11 +1,11 @@
 -- What went out of a write is what stood in client memory as it was submitted.
-use Rattle.std.proofs.Common.{◌≡◌, ◌==◌, ◌||◌, ℕ, ◌+◌, ◌*◌, ◌-◌, ◌<◌, ◌≤◌, Bool, true, false, not, List, [], ◌∷◌, ◌++◌, length, refl, sym, ap, subst, ◌∙◌, inl, inr, arith}
+use Rattle.std.proofs.Common.{◌≡◌, ◌==◌, ℕ, ◌+◌, ◌*◌, ◌-◌, ◌<◌, ◌≤◌, Bool, true, false, not, List, [], ◌∷◌, ◌++◌, length, refl, sym, ap, subst, ◌∙◌, inl, inr, arith}
 use Rattle.std.proofs.Common.{Option, Some, None}
 use Rattle.std.specs.Prelude.{◌⊎◌, nat_lt, slice_get, slice_index}
-use Rattle.std.proofs.lemmas.Bool.{cases_Bool, false≢true, or_parts, true≢false}
+use Rattle.std.proofs.lemmas.Bool.{false≢true, or_parts, true≢false}
 use Rattle.std.proofs.lemmas.Bool.Decides.{nat_tests}
 use Rattle.std.proofs.lemmas.Option.{slice_get-get_or}
-use Rattle.host_memory.specs.Memory.{Memory, client_start, is_memory_size}
+use Rattle.host_memory.specs.Memory.{client_start, is_memory_size}
 use Rattle.host_memory.specs.Place.{LiesInClient, place, total_of}
 use Rattle.host_memory.specs.declared.table.Prd.{Prd}
 use Rattle.host_memory.proofs.PlaceLemmas.{place_inside}
@@ -26,7 +26,7 @@ use Rattle.hba_driver.specs.declared.request.Work.{Work}
 use Rattle.hba_driver.specs.declared.request.Work.TheVariants.{Write}
 use Rattle.hba_driver.specs.declared.slot.Phase.TheVariants.{Waits, Issued}
 use Rattle.hba_driver.specs.Delivered.{TookDelivers, zero_at}
-use Rattle.hba_driver.specs.Drivers.{AreRequests, Driver, Entry, entry_at, is_read, rephased}
+use Rattle.hba_driver.specs.Drivers.{Driver, Entry, entry_at, is_read, rephased}
 use Rattle.hba_driver.specs.Events.{IsSoundHost, events_over, opening_host, shared_by}
 use Rattle.hba_driver.specs.HostTurns.{Does, DoesAll, Host, HostTurn, Polled, Pushed, Put, Submitted, Ticked, Took, Tooks}
 use Rattle.hba_driver.specs.Requests.{is_mismatch}
@@ -49,7 +49,6 @@ use Rattle.pm_world.specs.declared.step.Step.TheVariants as step
 use Rattle.pm_world.specs.declared.step.Answer.{Answer}
 use Rattle.pm_world.specs.declared.step.Answer.TheVariants as answer
 use Rattle.pm_world.specs.Disks.{EndedSince, host_turns}
-use Rattle.pm_world.specs.Ended.{WritesSectors}
 use Rattle.pm_world.specs.Polled.{IsReportedIn}
 use Rattle.pm_world.specs.Submitted.{SentAsSubmitted, StandsThere, WrittenAsSubmitted}
 use Rattle.pm_world.specs.Touched.{AreTouched, goes, opens}

@@ -3,28 +3,33 @@
 -- transfer; Serial ATA 3.x, 10.5, Data FIS; ACS-3, WRITE FPDMA QUEUED).
 --
 -- Cited: where a request was submitted and reported, and requests that were polled (specs/Polled.antt);
--- touches (specs/Touched.antt); requests that ended honestly (specs/Ended.antt, Disks.antt).
-use Rattle.std.specs.Prelude.{ℕ, ◌≡◌, ◌-◌, ◌*◌, ◌<◌, true, List, length, slice_index, Some, Ok}
+-- touches (specs/Touched.antt); requests that ended honestly (specs/Ended.antt, Disks.antt); which bytes a
+-- read and a write both have (specs/ReadBack.antt).
+use Rattle.std.specs.Prelude.{ℕ, ◌≡◌, ◌+◌, ◌-◌, ◌*◌, ◌<◌, suc, true, drop, List, length, slice_index, Some}
 use Rattle.host_memory.specs.Memory.{Memory, client_start}
 use Rattle.host_memory.specs.Place.{LiesInClient, place}
 use Rattle.host_memory.specs.declared.table.Prd.{Prd}
 use Rattle.disk_model.specs.declared.plan.DiskPlan.{DiskPlan}
 use Rattle.disk_model.specs.declared.unit.Unit.{Unit}
+use Rattle.disk_model.specs.Last.{NoneCovers}
 use Rattle.hba_laws.specs.Client.{Touches, own}
 use Rattle.hba_laws.specs.History.{filled}
 use Rattle.hba_driver.specs.declared.request.Completion.{Completion}
 use Rattle.hba_driver.specs.declared.request.Ticket.{Ticket}
-use Rattle.hba_driver.specs.declared.request.Work.TheVariants.{Write}
+use Rattle.hba_driver.specs.declared.request.Work.TheVariants.{Read, Write}
+use Rattle.hba_driver.specs.Drivers.{Entry}
 use Rattle.hba_driver.specs.HostTurns.{HostTurn}
 use Rattle.hba_driver.specs.Orders.{is_queued}
+use Rattle.hba_driver.specs.Submits.{new_entry}
 use Rattle.pm_world.specs.Places.{Places, is_config, new_world}
 use Rattle.pm_world.specs.Rules.{Run}
 use Rattle.pm_world.specs.declared.step.Config.{Config}
 use Rattle.pm_world.specs.declared.step.Step.{Step}
 use Rattle.pm_world.specs.declared.step.Answer.{Answer}
-use Rattle.pm_world.specs.Disks.{DiskRun, IsNewDisk}
+use Rattle.pm_world.specs.Disks.{DiskRun, EndedSince, IsNewDisk, disk_history}
 use Rattle.pm_world.specs.Ended.{StandsAt}
 use Rattle.pm_world.specs.Polled.{IsPolledHonestly, IsReportedIn}
+use Rattle.pm_world.specs.ReadBack.{IsOneByte, IsPart}
 use Rattle.pm_world.specs.Touched.{AreTouched}
 
 -- this byte stands in client memory at the place of byte i of these PRDs
@@ -67,3 +72,31 @@ WrittenAsSubmitted =
     → (i : ℕ) → i < 512 * polled.reported.request.sectors
     → StandsAt ((polled.honest sectors plan disk queued d same).ends.writes writes).written.bytes
     polled.reported.request.prds.items polled.reported.submitted.at.host.memory i
+
+-- ---- read after write
+
+-- A read that was submitted after all by which a write had ended that is polled as Done: of each byte that
+-- both have, and that no write has which ended after that one and before the read began, client memory has
+-- at the read's place what it had at the write's place as the write was submitted.
+abbrev pub ReadsBringSubmitted : Type 0
+ReadsBringSubmitted =
+    (config : Config) (units : List Unit) → is_config config (length units) ≡ true
+    → (steps : List Step) (answers : List Answer) (was : Places)
+    (run : Run (new_world config units) steps answers was) (completion : Completion)
+    (polled : IsPolledHonestly config units was steps answers run completion)
+    → (writes : polled.reported.request.work ≡ Write)
+    → (sectors : ℕ) (plan : DiskPlan) (disk : IsNewDisk units polled.reported.dev plan sectors)
+    (queued : is_queued polled.reported.request.work ≡ true)
+    (d : DiskRun config units polled.reported.dev polled.reported.took.at)
+    (same : polled.reported.conn ≡ d.conn)
+    → (now : Places) (f : DiskRun config units polled.reported.dev now) (t : ℕ) (read : Entry)
+    (l : Memory) (reads : read.head.work ≡ Read)
+    (r : EndedSince config units polled.reported.dev now f sectors t read l)
+    → IsPart (disk_history config units polled.reported.dev polled.reported.took.at d) r.before
+    → (i j : ℕ)
+    → IsOneByte read (new_entry completion.ticket.0 polled.reported.dev polled.reported.request) i j
+    → NoneCovers (512 * read.head.lba + i)
+    (drop (suc ((polled.honest sectors plan disk queued d same).ends.writes writes).at)
+    (r.ends.reads reads).read.before)
+    → StandsThere (slice_index l.client (place read.prds i - client_start))
+    polled.reported.request.prds.items polled.reported.submitted.at.host.memory j

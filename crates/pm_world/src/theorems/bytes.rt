@@ -1,13 +1,15 @@
 //! Laws of the bytes of requests in a world. The functions do nothing when they run.
 
-ghost use Rattle.pm_world.specs.Submitted.{SentAsSubmitted, WrittenAsSubmitted};
+ghost use Rattle.pm_world.specs.Submitted.{ReadsBringSubmitted, SentAsSubmitted, WrittenAsSubmitted};
 
 /// After every run from a new world, whatever the devices send: of a write that was submitted and that
 /// a FIS of its device reported as done, each byte that went to the device is the one that stood in
 /// client memory, at the place that the write's PRDs name, as it was submitted. So a write that a poll
 /// answers as done is on the medium of its disk with just these bytes, where the disk was left alone
-/// from its plugging as the connection of that FIS up to it.
+/// from its plugging as the connection of that FIS up to it. And a read that was submitted after such
+/// a write had ended brings these bytes, where no later write has them.
 pub fn writes_are_as_submitted()
     ensures sent { SentAsSubmitted }
     ensures written { WrittenAsSubmitted }
+    ensures read { ReadsBringSubmitted }
 {}

@@ -1,3 +1,4 @@
+use Rattle.pm_world.proofs.ReadSubmittedLemmas.{reads_bring_submitted}
 use Rattle.pm_world.proofs.SubmittedLemmas.{sent_as_submitted, written_as_submitted}
 use Rattle.pm_world.proofs.theorems.bytes.writes_are_as_submitted.Goals as goal
 
@@ -6,3 +7,6 @@ returns-clause-sent c = sent_as_submitted
 
 pub returns-clause-written : goal.returns-clause-written
 returns-clause-written c = written_as_submitted
+
+pub returns-clause-read : goal.returns-clause-read
+returns-clause-read c = reads_bring_submitted
