@@ -16,7 +16,8 @@ fn assert_decodes<R: Abort + AllocGlobal + Threads + Wait + Sync>(
 ) {
     let mut written = Vec::new(rt.alloc());
     let ended = serve(rt, rt.alloc(), &["decode"], input, &mut written);
-    assert_eq!(rt; (ended, written.as_slice()), (status, output.as_bytes()));
+    assert_eq!(rt; written.as_slice(), output.as_bytes());
+    assert_eq!(rt; ended, status, "{output}");
 }
 
 #[test]
