@@ -1,6 +1,6 @@
 -- The link of a disk that is set aside, at each happening at either end.
 use Rattle.std.proofs.Common.{◌≡◌, ℕ, Bool, true, false, List, [], ◌∷◌, ◌++◌, append_assoc, refl, sym, ap, subst, ◌∙◌, inl, inr, None, Ok, Err, Result}
-use Rattle.std.specs.Prelude.{◌⊎◌}
+use Rattle.std.specs.Prelude.{◌⊎◌, ◌&&◌, not, if◌then◌else◌}
 use Rattle.fis_view.specs.Seen.{seen}
 use Rattle.fis_view.specs.declared.view.Fis.{Fis}
 use Rattle.fis_view.specs.declared.view.Fis.TheVariants as view
@@ -14,7 +14,7 @@ use Rattle.disk_model.specs.Anew.{IsRequest}
 use Rattle.disk_model.specs.Ends.{Rests}
 use Rattle.disk_model.specs.Histories.{Happening, Received, Sent}
 use Rattle.disk_model.specs.Laws.{AnswersFirst, AnswersRight}
-use Rattle.disk_model.specs.Ledger.{IsSize, Ledger, LogOf, Reply, ShowsPage, Signs, Wanted, asks, awaits_page, given_up, ledger, listens, listens_down, mixes, restarts}
+use Rattle.disk_model.specs.Ledger.{IsSize, Ledger, LogOf, Reply, ShowsPage, Signs, Wanted, asks, awaits_page, given_up, ledger, listens, listens_down, mixes, reads_log, restarts}
 use Rattle.disk_model.specs.Runs.{IsDiskRun}
 use Rattle.disk_model.proofs.AnewLemmas.{resting_is_silent}
 use Rattle.disk_model.proofs.AnswerLaws.{answers_right}
@@ -112,6 +112,11 @@ alone_mixes k x (c ∷ cs) e = cc e
 abbrev logged : Ledger → Ledger
 logged k = record (awaits_page k (LogOf k.failure)) { failed = false; failure = None }
 
+reads_now : (k : Ledger) → IsErred k → asks k asked.ReadErrorLog k.failed ≡ logged k
+reads_now k erred =
+    ap (asks k asked.ReadErrorLog) erred.failed ∙ ap (λ (b : Bool). if b then k else reads_log k) erred.awake
+    ∙ alone_mixes k (logged k) k.outstanding erred.rests.outstanding
+
 log_begins : (k : Ledger) (back up : List (List ℕ)) → Rests k → back ≡ [] → up ≡ []
     → BothBegin k (logged k) (ShowsPage ∷ []) (LogOf k.failure ∷ []) back up
 log_begins k back up rests none silent = record {
@@ -125,11 +130,11 @@ log_begins k back up rests none silent = record {
   held = inl refl;
 }
 
-signed_begins : (k : Ledger) (back up : List (List ℕ)) → Rests k → k.failed ≡ false → back ≡ [] → NoneSigns up
+signed_begins : (k : Ledger) (back up : List (List ℕ)) → Rests k → k.in_reset ≡ true → back ≡ [] → NoneSigns up
     → BothBegin k (restarts k true) (Signs ∷ []) [] back up
-signed_begins k back up rests fine none quiet = record {
+signed_begins k back up rests inside none quiet = record {
   owes = record {
-    clear = record { failed = fine; outstanding = rests.outstanding; unanswered = rests.unanswered; moving = rests.moving };
+    clear = record { failed = ap (λ (b : Bool). not b && k.failed) inside; outstanding = rests.outstanding; unanswered = rests.unanswered; moving = rests.moving };
     awaited = ap (λ (xs : List Reply). xs ++ Signs ∷ []) rests.awaited;
     pages = rests.pages;
   };
@@ -139,7 +144,7 @@ signed_begins k back up rests fine none quiet = record {
 }
 
 abbrev held_ledger : Ledger → Ledger
-held_ledger k = record (given_up k false) { resetting = true }
+held_ledger k = record (given_up k true) { resetting = true; in_reset = true }
 
 held_rests : (k : Ledger) → Rests (held_ledger k)
 held_rests k = record { outstanding = refl; unanswered = refl; awaited = refl; pages = refl; moving = refl }
@@ -177,8 +182,7 @@ module _ (disk : List Happening) (front back up : List (List ℕ)) (bytes : List
       let at = one_behind mid o.log bytes back is in
       let q : IsRequest bytes asked.ReadErrorLog = subst (λ (x : List ℕ). IsRequest x asked.ReadErrorLog) (sym at.0) o.asks in
       let told : ledger (disk ++ Received bytes ∷ []) ≡ logged (ledger disk) =
-      told_now disk bytes asked.ReadErrorLog q
-      ∙ alone_mixes (ledger disk) (logged (ledger disk)) (ledger disk).outstanding o.erred.rests.outstanding in
+      told_now disk bytes asked.ReadErrorLog q ∙ reads_now (ledger disk) o.erred in
       inr (subst (λ (x : Ledger). BothBegin (ledger disk) x (ShowsPage ∷ []) (LogOf (ledger disk).failure ∷ []) back up) (sym told)
       (log_begins (ledger disk) back up o.erred.rests at.1 o.silent))
 
@@ -211,14 +215,14 @@ module _ (disk : List Happening) (front back up : List (List ℕ)) (bytes : List
       let at = one_behind mid o.on bytes back is in
       let told = held_told (subst (λ (x : List ℕ). IsRequest x (asked.Reset true)) (sym at.0) o.sets) in
       inr (subst (λ (x : Ledger). IsResting x back up) (sym told)
-      (record { rests = held_rests (ledger disk); fine = refl; held = refl; empty = at.1; quiet = o.quiet }))
+      (record { rests = held_rests (ledger disk); inside = refl; held = refl; empty = at.1; quiet = o.quiet }))
 
   both_set : (o : IsBoth (ledger disk) (front ++ bytes ∷ back) up) → bytes ≡ o.on → back ≡ o.off ∷ []
       → ComesTo Both (ledger disk) (ledger (disk ++ Received bytes ∷ [])) back up
   both_set o same is =
       let told = held_told (subst (λ (x : List ℕ). IsRequest x (asked.Reset true)) (sym same) o.sets) in
       inr (inl (subst (λ (x : Ledger). IsReleasing x back up) (sym told)
-      (record { rests = held_rests (ledger disk); fine = refl; held = refl; off = o.off; is = is; clears = o.clears; quiet = o.quiet })))
+      (record { rests = held_rests (ledger disk); inside = refl; held = refl; off = o.off; is = is; clears = o.clears; quiet = o.quiet })))
 
   both_cleared : (o : IsBoth (ledger disk) (front ++ bytes ∷ back) up) → (ledger disk).resetting ≡ false → bytes ≡ o.off → back ≡ []
       → ComesTo Both (ledger disk) (ledger (disk ++ Received bytes ∷ [])) back up
@@ -271,7 +275,7 @@ module _ (disk : List Happening) (front back up : List (List ℕ)) (bytes : List
       let q : IsRequest bytes (asked.Reset false) = subst (λ (x : List ℕ). IsRequest x (asked.Reset false)) (sym at.0) o.clears in
       let told : ledger (disk ++ Received bytes ∷ []) ≡ restarts (ledger disk) true =
       told_now disk bytes (asked.Reset false) q ∙ ap (restarts (ledger disk)) o.held in
-      subst (λ (x : Ledger). BothBegin (ledger disk) x (Signs ∷ []) [] back up) (sym told) (signed_begins (ledger disk) back up o.rests o.fine at.1 o.quiet)
+      subst (λ (x : Ledger). BothBegin (ledger disk) x (Signs ∷ []) [] back up) (sym told) (signed_begins (ledger disk) back up o.rests o.inside at.1 o.quiet)
 
 comes_by : (line : Line) (disk : List Happening) (front back up : List (List ℕ)) (bytes : List ℕ)
     → (front ≡ []) ⊎ ((ledger disk).resetting ≡ false) → OnLine line (ledger disk) (front ++ bytes ∷ back) up
@@ -389,12 +393,12 @@ takes_by Both k down up bytes o = record {
 takes_by Resting k down up bytes o = record {
   spoken = tt;
   unsigned = o.quiet.0;
-  on = record { rests = o.rests; fine = o.fine; held = o.held; empty = o.empty; quiet = o.quiet.1 };
+  on = record { rests = o.rests; inside = o.inside; held = o.held; empty = o.empty; quiet = o.quiet.1 };
 }
 takes_by Releasing k down up bytes o = record {
   spoken = tt;
   unsigned = o.quiet.0;
-  on = record { rests = o.rests; fine = o.fine; held = o.held; off = o.off; is = o.is; clears = o.clears; quiet = o.quiet.1 };
+  on = record { rests = o.rests; inside = o.inside; held = o.held; off = o.off; is = o.is; clears = o.clears; quiet = o.quiet.1 };
 }
 
 -- ## The host gives one
@@ -448,7 +452,7 @@ releases_by : (k : Ledger) (down up : List (List ℕ)) (bytes : List ℕ) → Is
     → IsReleasing k (down ++ bytes ∷ []) up
 releases_by k down up bytes q o = record {
   rests = o.rests;
-  fine = o.fine;
+  inside = o.inside;
   held = o.held;
   off = bytes;
   is = ap (λ (xs : List (List ℕ)). xs ++ bytes ∷ []) o.empty;

@@ -14,7 +14,7 @@ use Rattle.disk_model.specs.declared.request.Request.TheVariants.{Reset, Queue, 
 use Rattle.disk_model.specs.Chunks.{put}
 use Rattle.disk_model.specs.Ends.{Fits, FitsRequest, reports}
 use Rattle.disk_model.specs.Histories.{Happening, Received, Sent}
-use Rattle.disk_model.specs.Ledger.{Accepts, Finishes, IdentifyData, Ledger, LogOf, Moving, Refuses, Reply, ShowsPage, activates, answered, answers, asks, awaits, awaits_page, ends, has_error, ledger, listens_down, listens_up, mixes, moves, opens, refuses, sends_data, sets_up, starts_moving, takes_data}
+use Rattle.disk_model.specs.Ledger.{Accepts, Finishes, IdentifyData, Ledger, LogOf, Moving, Refuses, Reply, ShowsPage, activates, answered, answers, asks, awaits, awaits_page, ends, has_error, ledger, listens_down, listens_up, mixes, moves, opens, reads_log, refuses, sends_data, sets_up, starts_moving, takes_data}
 use Rattle.disk_model.specs.Requests.{request_of}
 use Rattle.disk_model.proofs.EndsLemmas.{ledger_push}
 use Rattle.disk_ends.specs.Line.{EachReply, IsNoSignature, IsUnsigned}
@@ -77,11 +77,19 @@ abbrev pub ResetsNot : Result Fis FisFault → Type 0
 ResetsNot (Ok (view.RegH2D f)) = IsNoReset (request_of f)
 ResetsNot _ = Unit {0}
 
-stays_asked : (k : Ledger) (r : Request) (failed : Bool) → IsNoReset r → Stays k (asks k r failed)
-stays_asked k (Reset on) failed still = absurd still
-stays_asked k ReadErrorLog failed still =
+stays_logged : (k : Ledger) → Stays k (reads_log k)
+stays_logged k =
     stays_mixed k (record (awaits_page k (LogOf k.failure)) { failed = false; failure = None }) k.outstanding
     (record { resetting = refl; unsigned = λ none. each_push IsNoSignature k.awaited ShowsPage none tt })
+
+stays_logged_or_not : (k : Ledger) (b : Bool) → Stays k (if b then k else reads_log k)
+stays_logged_or_not k true = stays_same k
+stays_logged_or_not k false = stays_logged k
+
+stays_asked : (k : Ledger) (r : Request) (failed : Bool) → IsNoReset r → Stays k (asks k r failed)
+stays_asked k (Reset on) failed still = absurd still
+stays_asked k ReadErrorLog false still = stays_logged k
+stays_asked k ReadErrorLog true still = stays_logged_or_not k k.in_reset
 stays_asked k (Queue c) false still = stays_opened k c (list_any (λ q. q.tag == c.tag) k.outstanding) refl
 stays_asked k Identify false still =
     stays_mixed k (awaits_page k IdentifyData) k.outstanding
@@ -218,7 +226,7 @@ stays_gone disk bytes = subst (Stays (ledger disk)) (sym (ledger_push disk (Sent
 -- ## The error mode
 
 errs_by : (k : Ledger) (e : ℕ) (b : Bool) → b ≡ true → IsErred (answers k e b)
-errs_by k e true is = record { rests = record { outstanding = refl; unanswered = refl; awaited = refl; pages = refl; moving = refl }; failed = refl }
+errs_by k e true is = record { rests = record { outstanding = refl; unanswered = refl; awaited = refl; pages = refl; moving = refl }; failed = refl; awake = refl }
 errs_by k e false is = cc is
 
 errs : (k : Ledger) (r : Result Fis FisFault) → reports r ≡ true → IsErred (listens_up k r)

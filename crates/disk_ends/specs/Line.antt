@@ -100,14 +100,14 @@ pub record IsBoth (k : Ledger) (down up : List (List ℕ)) : Type 0 where
 
 pub record IsResting (k : Ledger) (down up : List (List ℕ)) : Type 0 where
   pub rests : Rests k
-  pub fine : k.failed ≡ false
+  pub inside : k.in_reset ≡ true
   pub held : k.resetting ≡ true
   pub empty : down ≡ []
   pub quiet : NoneSigns up
 
 pub record IsReleasing (k : Ledger) (down up : List (List ℕ)) : Type 0 where
   pub rests : Rests k
-  pub fine : k.failed ≡ false
+  pub inside : k.in_reset ≡ true
   pub held : k.resetting ≡ true
   pub off : List ℕ
   pub is : down ≡ off ∷ []

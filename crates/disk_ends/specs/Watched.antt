@@ -2,7 +2,7 @@
 -- the error that the disk reports. That error is the last that comes up, and from then on the disk
 -- is in its error mode and rests, until its log is read or it is reset (Serial ATA 3.x, 13.6,
 -- native command queuing, on errors; ACS-3, READ LOG EXT and the NCQ Command Error log).
-use Rattle.std.specs.Prelude.{ℕ, ◌≡◌, ◌≤◌, ◌⊎◌, ◌++◌, true, List, [], ◌∷◌, length, Result, Ok}
+use Rattle.std.specs.Prelude.{ℕ, ◌≡◌, ◌≤◌, ◌⊎◌, ◌++◌, true, false, List, [], ◌∷◌, length, Result, Ok}
 use Rattle.fis_view.specs.Seen.{seen}
 use Rattle.fis_view.specs.declared.view.Fis.{Fis}
 use Rattle.fis_view.specs.declared.view.Fis.TheVariants as view
@@ -57,6 +57,8 @@ pub record IsPlainSince (base host : List Happening) : Type 0 where
 pub record IsErred (k : Ledger) : Type 0 where
   pub rests : Rests k
   pub failed : k.failed ≡ true
+  -- and SRST does not hold it in a reset
+  pub awake : k.in_reset ≡ false
 
 -- it is so since an error, and no write ended
 pub record IsErredSince (followed disk : List Happening) : Type 0 where

@@ -14,12 +14,12 @@ use Rattle.disk_model.specs.declared.answer.Answer.TheVariants.{Signature, Accep
 use Rattle.disk_model.specs.declared.answer.Page.{Page}
 use Rattle.disk_model.specs.declared.answer.Page.TheVariants.{ErrorLog, Identity}
 use Rattle.disk_model.specs.declared.answer.Fault.{Fault}
-use Rattle.disk_model.specs.declared.answer.Fault.TheVariants.{Mixed}
+use Rattle.disk_model.specs.declared.answer.Fault.TheVariants.{Failed, Held, Mixed}
 use Rattle.disk_model.specs.Requests.{Asks}
 use Rattle.disk_model.specs.Sendings.{Sending, Activates}
 use Rattle.disk_model.specs.Chunks.{chunks, chunk_from, chunk_count, sends_left, asks_for, sectors_at}
-use Rattle.disk_model.specs.Disks.{Moment, Started, Writing, received, refused}
-use Rattle.disk_model.specs.Ledger.{Ledger, Moving, Written, ReadOut, IsRead, Failure, Wanted, LogOf, IdentifyData, Reply, Signs, Accepts, Finishes, Refuses, ShowsPage, asks, given_up, refuses, awaits, medium_with}
+use Rattle.disk_model.specs.Disks.{Moment, Started, Writing, is_held, logged, received, refused}
+use Rattle.disk_model.specs.Ledger.{Ledger, Moving, Written, ReadOut, IsRead, Failure, Wanted, LogOf, IdentifyData, Reply, Signs, Accepts, Finishes, Refuses, ShowsPage, asks, given_up, reads_log, refuses, awaits, medium_with}
 use Rattle.disk_model.proofs.PlaceLemmas.{from_front, from_back}
 use Rattle.disk_model.proofs.GeometryLemmas.{moved_sectors}
 use Rattle.disk_model.proofs.SetupLemmas.{AreSetUp}
@@ -114,6 +114,7 @@ pub record Agrees (plan : DiskPlan) (sectors : ℕ) (m : Moment) (l : Ledger) : 
   pub moving : Moves plan sectors m.medium m.queued m.owed m.started m.writing l.moving
   pub failure : IsNoted plan sectors m.fault l.failure
   pub resetting : l.resetting ≡ m.resetting
+  pub in_reset : l.in_reset ≡ is_held m.fault
   pub awaited : l.awaited ≡ replies m.owed
   pub pages : AreWanted plan sectors (pages_of m.owed) l.pages
 
@@ -132,6 +133,7 @@ shown m k = record {
   failed = is_some m.fault;
   failure = k.failure;
   resetting = m.resetting;
+  in_reset = is_held m.fault;
   awaited = replies m.owed;
   pages = k.pages;
   unanswered = ended_tags m.owed;
@@ -159,6 +161,7 @@ ledger_is plan sectors m l a = λ i. record (shown m (beside l)) {
   outstanding = a.outstanding i;
   failed = a.failed i;
   resetting = a.resetting i;
+  in_reset = a.in_reset i;
   awaited = a.awaited i;
   unanswered = a.unanswered i;
 }
@@ -202,7 +205,7 @@ pub gives_up : (plan : DiskPlan) (sectors : ℕ) (m : Moment) (l : Ledger) → A
     → (fault : Option Fault) (fl : Option Failure) (resetting : Bool) (owed : List Answer)
     → IsNoted plan sectors fault fl → ended_tags owed ≡ [] → pages_of owed ≡ []
     → Agrees plan sectors (at m.medium [] fault resetting owed None None)
-    (record (given_up l (is_some fault)) { failure = fl; resetting = resetting; awaited = replies owed })
+    (record (given_up l (is_some fault)) { failure = fl; resetting = resetting; in_reset = is_held fault; awaited = replies owed })
 gives_up plan sectors m l a fault fl resetting owed is none no_page = record {
   outstanding = refl;
   failed = refl;
@@ -215,6 +218,7 @@ gives_up plan sectors m l a fault fl resetting owed is none no_page = record {
   moving = tt;
   failure = is;
   resetting = refl;
+  in_reset = refl;
   awaited = refl;
   pages = rw no_page tt;
 }
@@ -277,6 +281,7 @@ ledger_with m l x = record l {
   failed = is_some x.fault;
   failure = x.failure;
   resetting = x.resetting;
+  in_reset = is_held x.fault;
   awaited = l.awaited ++ x.reply ∷ [];
   pages = x.pages;
 }
@@ -300,6 +305,7 @@ owes_more plan sectors m l x a queue is =
       moving = moves_on plan sectors m.medium m.queued x.commands m.owed x.answers m.started m.writing l.moving a.moving is.quiet;
       failure = is.noted;
       resetting = refl;
+      in_reset = refl;
       awaited = ap (λ (xs : List Reply). xs ++ x.reply ∷ []) a.awaited ∙ sym (replies_more m.owed x.answers x.reply is.one);
       pages = is.pages;
     }
@@ -405,18 +411,44 @@ step_queue plan sectors m k queued c false e some tag a =
       quiet = λ t h. refl;
     })
 
+-- the log is read, where SRST is not set
+step_log : (plan : DiskPlan) (sectors : ℕ) (m : Moment) (k : Beside) (queued : List Command) (fault : Option Fault)
+    → is_held fault ≡ false → Stands plan sectors (with_queue m queued fault m.resetting) k
+    → let n = with_queue m queued fault m.resetting in
+    Agrees plan sectors (logged n queued) (reads_log (shown n k))
+step_log plan sectors m k [] None awake a = shows_page plan sectors _ _ None None (ErrorLog None) (LogOf k.failure) a refl tt a.failure
+step_log plan sectors m k [] (Some Held) awake a = cc awake
+step_log plan sectors m k [] (Some Mixed) awake a = shows_page plan sectors _ _ None None (ErrorLog (Some Mixed)) (LogOf k.failure) a refl tt a.failure
+step_log plan sectors m k [] (Some (Failed tag error lba)) awake a =
+    shows_page plan sectors _ _ None None (ErrorLog (Some (Failed tag error lba))) (LogOf k.failure) a refl tt a.failure
+step_log plan sectors m k (q ∷ qs) fault awake a = mixed plan sectors _ _ a
+
+-- what was noted while SRST was set
+released : (plan : DiskPlan) (sectors : ℕ) (o : Option Failure) → IsNoted plan sectors (Some Held) o → IsNoted plan sectors None o
+released plan sectors None is = tt
+released plan sectors (Some f) is = absurd is
+
 pub step_request : (plan : DiskPlan) (sectors : ℕ) (m : Moment) (k : Beside) (queued : List Command) (fault : Option Fault)
     (resetting : Bool) (r : Request) → Asks r → Stands plan sectors (with_queue m queued fault resetting) k
     → let n = with_queue m queued fault resetting in
     Agrees plan sectors (received n r fault) (asks (shown n k) r (is_some fault))
 step_request plan sectors m k queued fault resetting (Reset true) good a =
-    gives_up plan sectors _ _ a None None true [] tt refl refl
-step_request plan sectors m k queued fault true (Reset false) good a =
-    answers_so plan sectors _ _ (answering fault k.failure false (Signature ∷ []) Signs k.pages) a refl refl a.failure refl refl refl refl
+    gives_up plan sectors _ _ a (Some Held) None true [] tt refl refl
+step_request plan sectors m k queued None true (Reset false) good a =
+    answers_so plan sectors _ _ (answering None k.failure false (Signature ∷ []) Signs k.pages) a refl refl a.failure refl refl refl refl
+step_request plan sectors m k queued (Some Held) true (Reset false) good a =
+    answers_so plan sectors _ _ (answering None k.failure false (Signature ∷ []) Signs k.pages) a refl refl (released plan sectors k.failure a.failure) refl refl refl refl
+step_request plan sectors m k queued (Some Mixed) true (Reset false) good a =
+    answers_so plan sectors _ _ (answering (Some Mixed) k.failure false (Signature ∷ []) Signs k.pages) a refl refl a.failure refl refl refl refl
+step_request plan sectors m k queued (Some (Failed tag error lba)) true (Reset false) good a =
+    answers_so plan sectors _ _ (answering (Some (Failed tag error lba)) k.failure false (Signature ∷ []) Signs k.pages) a refl refl a.failure refl refl refl refl
 step_request plan sectors m k queued fault false (Reset false) good a = a
-step_request plan sectors m k [] fault resetting ReadErrorLog good a =
-    shows_page plan sectors _ _ None None (ErrorLog fault) (LogOf k.failure) a refl tt a.failure
-step_request plan sectors m k (q ∷ qs) fault resetting ReadErrorLog good a = mixed plan sectors _ _ a
+step_request plan sectors m k queued (Some Held) resetting ReadErrorLog good a = a
+step_request plan sectors m k queued None resetting ReadErrorLog good a = step_log plan sectors (record m { resetting = resetting }) k queued None refl a
+step_request plan sectors m k queued (Some Mixed) resetting ReadErrorLog good a =
+    step_log plan sectors (record m { resetting = resetting }) k queued (Some Mixed) refl a
+step_request plan sectors m k queued (Some (Failed tag error lba)) resetting ReadErrorLog good a =
+    step_log plan sectors (record m { resetting = resetting }) k queued (Some (Failed tag error lba)) refl a
 step_request plan sectors m k queued None resetting (Queue c) good a =
     step_queue plan sectors (record m { resetting = resetting }) k queued c _ refl good.0 good.1 a
 step_request plan sectors m k queued (Some f) resetting (Queue c) good a = a

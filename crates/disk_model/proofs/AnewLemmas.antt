@@ -1,5 +1,6 @@
 -- Where both ends of a disk's link may begin anew, and what they tell from then on.
 use Rattle.std.proofs.Common.{◌≡◌, ℕ, ◌-◌, Bool, true, false, List, [], ◌∷◌, ◌++◌, append_assoc, Option, Some, None, Ok, Err, Result, drop, refl, ap, sym, subst, ◌∙◌}
+use Rattle.std.specs.Prelude.{if◌then◌else◌}
 use Rattle.std.proofs.lemmas.List.{append_cancel_left, append-nil}
 use Rattle.fis_view.specs.Table.{Bits, Error, field}
 use Rattle.fis_view.specs.Seen.{seen}
@@ -20,7 +21,7 @@ use Rattle.disk_model.specs.Histories.{Happening, Received, Sent, Plugged}
 use Rattle.disk_model.specs.Requests.{request_of}
 use Rattle.disk_model.specs.Disks.{Started, Writing, opening, pick_turn, picked, turn}
 use Rattle.disk_model.specs.Runs.{IsDiskRun, IsTurn, moment}
-use Rattle.disk_model.specs.Ledger.{IsSize, Ledger, LogOf, Moving, Reply, ShowsPage, Signs, Wanted, answers, asks, awaits, awaits_page, given_up, has_error, ledger, ledger_after, listens, listens_down, listens_up, mixes, takes_data}
+use Rattle.disk_model.specs.Ledger.{IsSize, Ledger, LogOf, Moving, Reply, ShowsPage, Signs, Wanted, answers, asks, awaits, awaits_page, given_up, has_error, ledger, ledger_after, listens, listens_down, listens_up, mixes, reads_log, takes_data}
 use Rattle.disk_model.specs.Ends.{FitsAll, Rests, reports, with_down, with_up, AreRight}
 use Rattle.disk_model.specs.Ends as link
 use Rattle.disk_model.specs.Anew.{AreUnheard, BeginsAnew, EndsTellTheSameAnew, IsCarefulSince, IsClear, IsLinkedOn, IsPassed, IsRequest, IsUnheard, LinkedSinceNew, OwesOnly, RestingIsSilent, RestsUntil}
@@ -44,10 +45,10 @@ after_more l (e ∷ history) more = after_more (listens l e) history more
 
 -- ## A reset
 
-abbrev held_ledger : Ledger → Ledger
-held_ledger l = record (given_up l false) { resetting = true }
+abbrev pub held_ledger : Ledger → Ledger
+held_ledger l = record (given_up l true) { resetting = true; in_reset = true }
 
-held_is : (before : List Happening) (on : List ℕ) → IsRequest on (Reset true) → ledger (before ++ Received on ∷ []) ≡ held_ledger (ledger before)
+pub held_is : (before : List Happening) (on : List ℕ) → IsRequest on (Reset true) → ledger (before ++ Received on ∷ []) ≡ held_ledger (ledger before)
 held_is before on q = ledger_push before (Received on) ∙ request_told (ledger before) on (Reset true) q
 
 held_rests : (l : Ledger) → Rests (held_ledger l)
@@ -56,13 +57,17 @@ held_rests l = record { outstanding = refl; unanswered = refl; awaited = refl; p
 signs_owed : (l : Ledger) (resetting : Bool) → OwesOnly (awaits (record (given_up l false) { resetting = resetting }) Signs) (Signs ∷ []) []
 signs_owed l resetting = record { clear = record { failed = refl; outstanding = refl; unanswered = refl; moving = refl }; awaited = refl; pages = refl }
 
+pub held_signs : (history : List Happening) (l : Ledger) (off : List ℕ) → ledger history ≡ held_ledger l → IsRequest off (Reset false)
+    → OwesOnly (ledger (history ++ Received off ∷ [])) (Signs ∷ []) []
+held_signs history l off is clear =
+    let now : ledger (history ++ Received off ∷ []) ≡ asks (held_ledger l) (Reset false) true =
+    ledger_push history (Received off)
+    ∙ request_told (ledger history) off (Reset false) clear
+    ∙ ap (λ (x : Ledger). asks x (Reset false) x.failed) is in
+    subst (λ (x : Ledger). OwesOnly x (Signs ∷ []) []) (sym now) (signs_owed l false)
+
 reset_owes : (before : List Happening) (on off : List ℕ) → IsRequest on (Reset true) → IsRequest off (Reset false) → OwesOnly (ledger ((before ++ Received on ∷ []) ++ Received off ∷ [])) (Signs ∷ []) []
-reset_owes before on off set clear =
-    let now : ledger ((before ++ Received on ∷ []) ++ Received off ∷ []) ≡ asks (held_ledger (ledger before)) (Reset false) false =
-    ledger_push (before ++ Received on ∷ []) (Received off)
-    ∙ request_told (ledger (before ++ Received on ∷ [])) off (Reset false) clear
-    ∙ ap (λ (x : Ledger). asks x (Reset false) x.failed) (held_is before on set) in
-    subst (λ (x : Ledger). OwesOnly x (Signs ∷ []) []) (sym now) (signs_owed (ledger before) false)
+reset_owes before on off set clear = held_signs (before ++ Received on ∷ []) (ledger before) off (held_is before on set) clear
 
 plugged_owes : (before : List Happening) → OwesOnly (ledger (before ++ Plugged ∷ [])) (Signs ∷ []) []
 plugged_owes before =
@@ -73,10 +78,11 @@ plugged_owes before =
 
 record HasFailed (l : Ledger) : Type 0 where
   failed : l.failed ≡ true
+  awake : l.in_reset ≡ false
   rests : Rests l
 
 fails_by : (l : Ledger) (e : ℕ) (b : Bool) → b ≡ true → HasFailed (answers l e b)
-fails_by l e true is = record { failed = refl; rests = record { outstanding = refl; unanswered = refl; awaited = refl; pages = refl; moving = refl } }
+fails_by l e true is = record { failed = refl; awake = refl; rests = record { outstanding = refl; unanswered = refl; awaited = refl; pages = refl; moving = refl } }
 fails_by l e false is = cc is
 
 fails : (l : Ledger) (r : Result Fis FisFault) → reports r ≡ true → HasFailed (listens_up l r)
@@ -146,6 +152,11 @@ logged_owes l rests = record {
   pages = ap (λ (xs : List Wanted). xs ++ LogOf l.failure ∷ []) rests.pages;
 }
 
+reads_now : (l : Ledger) → HasFailed l → asks l ReadErrorLog l.failed ≡ logged_ledger l
+reads_now l now =
+    ap (asks l ReadErrorLog) now.failed ∙ ap (λ (b : Bool). if b then l else reads_log l) now.awake
+    ∙ alone_mixes l (logged_ledger l) l.outstanding now.rests.outstanding
+
 log_owes : (before between : List Happening) (error log : List ℕ) → reports (seen error) ≡ true → AreUnheard between → IsRequest log ReadErrorLog → OwesOnly (ledger (((before ++ Sent error ∷ []) ++ between) ++ Received log ∷ [])) (ShowsPage ∷ []) (LogOf (ledger (before ++ Sent error ∷ [])).failure ∷ [])
 log_owes before between error log is none q =
     let l : Ledger = ledger (before ++ Sent error ∷ []) in
@@ -154,7 +165,7 @@ log_owes before between error log is none q =
     ledger_push ((before ++ Sent error ∷ []) ++ between) (Received log)
     ∙ request_told (ledger ((before ++ Sent error ∷ []) ++ between)) log ReadErrorLog q
     ∙ ap (λ (x : Ledger). asks x ReadErrorLog x.failed) (still before between error is none)
-    ∙ alone_mixes l (logged_ledger l) l.outstanding rests.outstanding in
+    ∙ reads_now l (failed_now before error is) in
     subst (λ (x : Ledger). OwesOnly x (ShowsPage ∷ []) (LogOf l.failure ∷ [])) (sym now) (logged_owes l rests)
 
 pub begins_anew : BeginsAnew

@@ -176,7 +176,7 @@ mixes_none l x (c ∷ cs) e = cc e
 pub asks_fits : (l : Ledger) (r : Request) → l.failed ≡ false → FitsRequest l r → asks l r l.failed ≡ alone l r
 asks_fits l (Reset on) failed fits = absurd fits
 asks_fits l (Queue c) failed fits = opens_free l c failed fits.0.outstanding
-asks_fits l ReadErrorLog failed fits = mixes_none l (alone l ReadErrorLog) l.outstanding fits.outstanding
+asks_fits l ReadErrorLog failed fits = ap (asks l ReadErrorLog) failed ∙ mixes_none l (alone l ReadErrorLog) l.outstanding fits.outstanding
 asks_fits l Identify failed fits = ap (asks l Identify) failed ∙ mixes_none l (alone l Identify) l.outstanding fits.outstanding
 asks_fits l Flush failed fits = ap (asks l Flush) failed ∙ mixes_none l (alone l Flush) l.outstanding fits.outstanding
 asks_fits l Other failed fits = ap (asks l Other) failed ∙ mixes_none l (alone l Other) l.outstanding fits.outstanding

@@ -7,7 +7,7 @@ use Rattle.disk_model.specs.declared.request.Command.{Command}
 use Rattle.disk_model.specs.declared.answer.Answer.{Answer}
 use Rattle.disk_model.specs.declared.answer.Answer.TheVariants.{Signature, Accepted, Finished, Refused, Ended, PageFollows, PageData}
 use Rattle.disk_model.specs.declared.answer.Fault.{Fault}
-use Rattle.disk_model.specs.declared.answer.Fault.TheVariants.{Mixed, Failed}
+use Rattle.disk_model.specs.declared.answer.Fault.TheVariants.{Held, Mixed, Failed}
 use Rattle.disk_model.specs.declared.answer.Page.{Page}
 use Rattle.disk_model.specs.declared.answer.Page.TheVariants.{ErrorLog, Identity}
 use Rattle.disk_model.specs.Histories.{Happening, Sent}
@@ -35,6 +35,10 @@ mixed_log : error_log (Some Mixed) ≡ error_log None
 unfolding error_log
 mixed_log = refl
 
+held_log : error_log (Some Held) ≡ error_log None
+unfolding error_log
+held_log = refl
+
 log_by : (plan : DiskPlan) (sectors : ℕ) (fault : Option Fault) (failure : Option Failure) (later : List Wanted)
     (bytes : List ℕ) → IsNoted plan sectors fault failure → bytes ≡ error_log fault
     → IsPage plan sectors (LogOf failure ∷ later) bytes
@@ -42,6 +46,8 @@ log_by plan sectors None None later bytes noted is = is
 log_by plan sectors None (Some f) later bytes noted is = absurd noted
 log_by plan sectors (Some Mixed) None later bytes noted is = is ∙ mixed_log
 log_by plan sectors (Some Mixed) (Some f) later bytes noted is = absurd noted
+log_by plan sectors (Some Held) None later bytes noted is = is ∙ held_log
+log_by plan sectors (Some Held) (Some f) later bytes noted is = absurd noted
 log_by plan sectors (Some (Failed tag error lba)) None later bytes noted is = absurd noted
 log_by plan sectors (Some (Failed tag error lba)) (Some f) later bytes (c, turn, tags, fails, same) is =
     let told : LogsNext plan sectors (Some c) error bytes = (lba, fails, is ∙ ap (λ t. error_log (Some (Failed t error lba))) tags) in
@@ -86,6 +92,7 @@ fails_by : (plan : DiskPlan) (sectors : ℕ) (c : Command) (f : Fault) (error : 
     → FailsNext plan sectors (Some c) error
 fails_by plan sectors c (Failed tag e lba) error is same = (lba, subst (λ n. Fails plan sectors c n lba) (sym same) is.1)
 fails_by plan sectors c Mixed error is same = absurd is
+fails_by plan sectors c Held error is same = absurd is
 
 error_by : (plan : DiskPlan) (sectors : ℕ) (l : Ledger) (queued : List Command) (c : Command) (f : Fault) (b : List ℕ)
     → l.outstanding ≡ queued → picked plan.order queued ≡ Some c → fault_of plan sectors c ≡ Some f → l.moving ≡ None

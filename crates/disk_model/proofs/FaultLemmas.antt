@@ -5,7 +5,7 @@ use Rattle.std.proofs.lemmas.Bool.{ltb-true, ltb-false}
 use Rattle.disk_model.specs.declared.plan.DiskPlan.{DiskPlan}
 use Rattle.disk_model.specs.declared.request.Command.{Command}
 use Rattle.disk_model.specs.declared.answer.Fault.{Fault}
-use Rattle.disk_model.specs.declared.answer.Fault.TheVariants.{Mixed, Failed}
+use Rattle.disk_model.specs.declared.answer.Fault.TheVariants.{Held, Mixed, Failed}
 use Rattle.disk_model.specs.declared.answer.Page.{Page}
 use Rattle.disk_model.specs.declared.answer.Page.TheVariants.{ErrorLog, Identity}
 use Rattle.disk_model.specs.Chunks.{fault_of, first_bad, error_of}
@@ -18,6 +18,7 @@ use Rattle.disk_model.specs.Laws.{Fails, CanBeDone}
 abbrev pub FaultIs : DiskPlan → ℕ → Command → Fault → Type 0
 FaultIs plan sectors c (Failed tag error lba) = (tag ≡ c.tag) × Fails plan sectors c error lba
 FaultIs plan sectors c Mixed = ⊥
+FaultIs plan sectors c Held = ⊥
 
 fault_by : (plan : DiskPlan) (sectors : ℕ) (c : Command) (f : Fault) (past write : Bool) (bad : Option ℕ)
     → nat_lt sectors (c.lba + c.count) ≡ past → c.write ≡ write → first_bad c plan.bad.items ≡ bad
@@ -62,12 +63,14 @@ error_small plan sectors c error lba (inr h) = omega (arith, h.error_is)
 pub fault_small : (plan : DiskPlan) (sectors : ℕ) (c : Command) (f : Fault) → FaultIs plan sectors c f → error_of f < 256
 fault_small plan sectors c (Failed tag error lba) is = error_small plan sectors c error lba is.1
 fault_small plan sectors c Mixed is = absurd is
+fault_small plan sectors c Held is = absurd is
 
 -- ## What is noted of it
 
 abbrev pub IsNoted : DiskPlan → ℕ → Option Fault → Option Failure → Type 0
 IsNoted plan sectors None None = Unit {0}
 IsNoted plan sectors (Some Mixed) None = Unit {0}
+IsNoted plan sectors (Some Held) None = Unit {0}
 IsNoted plan sectors (Some (Failed tag error lba)) (Some f) = (c : Command) × (picked plan.order f.among ≡ Some c) × (tag ≡ c.tag) × Fails plan sectors c error lba × (f.error ≡ error)
 IsNoted plan sectors _ _ = ⊥
 
@@ -76,6 +79,7 @@ pub noted : (plan : DiskPlan) (sectors : ℕ) (c : Command) (f : Fault) (among :
     (Some (record { error = error; among = among }))
 noted plan sectors c (Failed tag e lba) among error turn is same = (c, turn, is.0, is.1, same)
 noted plan sectors c Mixed among error turn is same = absurd is
+noted plan sectors c Held among error turn is same = absurd is
 
 -- ## Pages
 

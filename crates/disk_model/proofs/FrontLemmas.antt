@@ -14,7 +14,7 @@ use Rattle.disk_model.specs.declared.request.Request.{Request}
 use Rattle.disk_model.specs.declared.request.Request.TheVariants.{Reset, Queue, ReadErrorLog, Identify, Flush, Other}
 use Rattle.disk_model.specs.Histories.{Happening, Received, Sent, Plugged}
 use Rattle.disk_model.specs.Requests.{request_of}
-use Rattle.disk_model.specs.Ledger.{Accepts, Ledger, Moving, ReadOut, Written, activates, answers, asks, awaits, empty, ends, has_error, ledger, ledger_after, listens, listens_down, listens_up, mixes, moves, refuses, restarts, sends_data, sets_up, starts_moving, takes_data}
+use Rattle.disk_model.specs.Ledger.{Accepts, Ledger, Moving, ReadOut, Written, activates, answers, asks, awaits, empty, ends, has_error, ledger, ledger_after, listens, listens_down, listens_up, mixes, moves, reads_log, refuses, restarts, sends_data, sets_up, starts_moving, takes_data}
 use Rattle.disk_model.proofs.CrossLemmas.{with_bytes}
 use Rattle.disk_model.specs.Ends.{with_down}
 use Rattle.disk_model.specs.Fronts.{BeforeIsFront, HostIsAhead, IsFront}
@@ -74,10 +74,15 @@ restarted : (l : Ledger) (b : Bool) → AreFronts l → AreFronts (restarts l b)
 restarted l true f = record { reads = f.reads; moving = f.moving }
 restarted l false f = f
 
+read_or_not : (l : Ledger) (b : Bool) → AreFronts l → AreFronts (if b then l else reads_log l)
+read_or_not l true f = f
+read_or_not l false f = mixed l _ l.outstanding f (record { reads = f.reads; moving = f.moving })
+
 asked : (l : Ledger) (r : Request) (failed : Bool) → AreFronts l → AreFronts (asks l r failed)
 asked l (Reset true) failed f = record { reads = f.reads; moving = tt }
 asked l (Reset false) failed f = restarted l l.resetting f
-asked l ReadErrorLog failed f = mixed l _ l.outstanding f (record { reads = f.reads; moving = f.moving })
+asked l ReadErrorLog false f = mixed l _ l.outstanding f (record { reads = f.reads; moving = f.moving })
+asked l ReadErrorLog true f = read_or_not l l.in_reset f
 asked l (Queue c) false f = opened_or_not l c (list_any (λ q. q.tag == c.tag) l.outstanding) f
 asked l Flush false f = mixed l _ l.outstanding f (record { reads = f.reads; moving = f.moving })
 asked l Identify false f = mixed l _ l.outstanding f (record { reads = f.reads; moving = f.moving })

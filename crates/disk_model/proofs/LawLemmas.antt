@@ -110,6 +110,7 @@ opens_agreeing plan sectors = record {
   moving = tt;
   failure = tt;
   resetting = refl;
+  in_reset = refl;
   awaited = refl;
   pages = tt;
 }

@@ -55,6 +55,7 @@ answer_left plan sectors m k a later left are g = record {
   moving = moves_left plan sectors m.medium m.queued a later m.started m.writing k.moving g.moving;
   failure = g.failure;
   resetting = refl;
+  in_reset = refl;
   awaited = refl;
   pages = are;
 }

@@ -11,6 +11,7 @@ use Rattle.disk_model.specs.declared.plan.Order.TheVariants.{Oldest, Newest}
 use Rattle.disk_model.specs.declared.request.Command.{Command}
 use Rattle.disk_model.specs.declared.answer.Answer.{Answer}
 use Rattle.disk_model.specs.declared.answer.Fault.{Fault}
+use Rattle.disk_model.specs.declared.answer.Fault.TheVariants.{Failed, Held, Mixed}
 use Rattle.disk_model.specs.Sendings.{Sending, Carries}
 use Rattle.disk_model.specs.Chunks.{chunks, chunk_from, chunk_count, sends_left, sectors_at, fault_of, error_of}
 use Rattle.disk_model.specs.Disks.{Moment, Started, Writing, turn, read_turn, write_turn, begun, starts, pick_turn, picked, went}
@@ -120,6 +121,7 @@ write_asks plan sectors m k w v Fresh b sized r held a may =
       );
       failure = a.failure;
       resetting = refl;
+      in_reset = refl;
       awaited = refl;
       pages = a.pages;
     }))
@@ -150,6 +152,7 @@ write_asks plan sectors m k w v SetUp b sized r held a may =
       );
       failure = a.failure;
       resetting = refl;
+      in_reset = refl;
       awaited = refl;
       pages = a.pages;
     }))
@@ -239,6 +242,7 @@ start_of plan sectors m k c false b sized is here inside a may =
       );
       failure = a.failure;
       resetting = refl;
+      in_reset = refl;
       awaited = refl;
       pages = a.pages;
     }))
@@ -281,6 +285,7 @@ start_of plan sectors m k c true b sized is here inside a may =
       );
       failure = a.failure;
       resetting = refl;
+      in_reset = refl;
       awaited = refl;
       pages = a.pages;
     })
@@ -289,13 +294,15 @@ begin_of : (plan : DiskPlan) (sectors : ℕ) (m : Moment) (k : Beside) (c : Comm
     → IsSized plan sectors → fault_of plan sectors c ≡ bad → picked plan.order m.queued ≡ Some c → IsIn m.queued c
     → Stands plan sectors (idle m) (along k None) → IsTurn (begun plan (idle m) c bad) b
     → Follows plan sectors (idle m) (along k None) (begun plan (idle m) c bad) b
-begin_of plan sectors m k c (Some f) b sized is turn here a may =
-    let error = error_tells (error_of f) b may in
-    let fault = fault_is plan sectors c f is in
-    let told = error_field_tells (error_of f) b (fault_small plan sectors c f fault) may in
+begin_of plan sectors m k c (Some Held) b sized is turn here a may = absurd (fault_is plan sectors c Held is)
+begin_of plan sectors m k c (Some Mixed) b sized is turn here a may = absurd (fault_is plan sectors c Mixed is)
+begin_of plan sectors m k c (Some (Failed tag e lba)) b sized is turn here a may =
+    let error = error_tells (error_of (Failed tag e lba)) b may in
+    let fault = fault_is plan sectors c (Failed tag e lba) is in
+    let told = error_field_tells (error_of (Failed tag e lba)) b (fault_small plan sectors c (Failed tag e lba) fault) may in
     let failure : Failure = record { error = field Bits Error b; among = m.queued } in
-    rw (may.viewed, error) (gives_up plan sectors _ _ a (Some f) (Some failure) m.resetting []
-    (noted plan sectors c f m.queued (field Bits Error b) turn fault told) refl refl)
+    rw (may.viewed, error) (gives_up plan sectors _ _ a (Some (Failed tag e lba)) (Some failure) m.resetting []
+    (noted plan sectors c (Failed tag e lba) m.queued (field Bits Error b) turn fault told) refl refl)
 begin_of plan sectors m k c None b sized is turn here a may =
     start_of plan sectors m k c c.write b sized refl here (can_be_done plan sectors c is).inside a may
 

@@ -89,6 +89,7 @@ store_last plan sectors m k w v bytes sized asking fits one a =
       moving = tt;
       failure = a.failure;
       resetting = refl;
+      in_reset = refl;
       awaited = sym (replies_same m.owed owes refl);
       pages = rw (pages_same m.owed owes refl) a.pages;
     })
@@ -137,6 +138,7 @@ store_more plan sectors m k w v bytes sized asking fits other held named a =
       );
       failure = a.failure;
       resetting = refl;
+      in_reset = refl;
       awaited = refl;
       pages = a.pages;
     })

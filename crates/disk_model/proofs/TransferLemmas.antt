@@ -232,6 +232,7 @@ read_sets_up plan sectors m k c sends v left b sized r held a may =
       );
       failure = a.failure;
       resetting = refl;
+      in_reset = refl;
       awaited = refl;
       pages = a.pages;
     })
@@ -294,6 +295,7 @@ read_ends plan sectors m k s v left later sized sending one none a =
       moving = tt;
       failure = a.failure;
       resetting = refl;
+      in_reset = refl;
       awaited = refl;
       pages = a.pages;
     })
@@ -350,6 +352,7 @@ read_goes_on plan sectors m k s v left x later sized sending other next held nam
       );
       failure = a.failure;
       resetting = refl;
+      in_reset = refl;
       awaited = refl;
       pages = a.pages;
     })

@@ -14,7 +14,7 @@ use Rattle.disk_model.specs.declared.request.Request.{Request}
 use Rattle.disk_model.specs.declared.request.Request.TheVariants.{Reset, Queue, ReadErrorLog, Identify, Flush, Other}
 use Rattle.disk_model.specs.Histories.{Happening, Received, Sent, Plugged}
 use Rattle.disk_model.specs.Requests.{request_of}
-use Rattle.disk_model.specs.Ledger.{Accepts, Ledger, Moving, Written, activates, answers, asks, awaits, empty, ends, has_error, ledger, ledger_after, listens, listens_down, listens_up, mixes, moves, refuses, restarts, sends_data, sets_up, starts_moving, takes_data}
+use Rattle.disk_model.specs.Ledger.{Accepts, Ledger, Moving, Written, activates, answers, asks, awaits, empty, ends, has_error, ledger, ledger_after, listens, listens_down, listens_up, mixes, moves, reads_log, refuses, restarts, sends_data, sets_up, starts_moving, takes_data}
 use Rattle.disk_model.specs.Anew.{WritesStay}
 use Rattle.disk_model.specs.Ends.{with_down}
 use Rattle.disk_model.proofs.AnewLemmas.{after_more}
@@ -41,10 +41,15 @@ restarted : (l : Ledger) (b : Bool) → (restarts l b).writes ≡ l.writes
 restarted l true = refl
 restarted l false = refl
 
+read_or_not : (l : Ledger) (b : Bool) → (if b then l else reads_log l).writes ≡ l.writes
+read_or_not l true = refl
+read_or_not l false = mixed l _ l.outstanding refl
+
 asked : (l : Ledger) (r : Request) (failed : Bool) → (asks l r failed).writes ≡ l.writes
 asked l (Reset true) failed = refl
 asked l (Reset false) failed = restarted l l.resetting
-asked l ReadErrorLog failed = mixed l _ l.outstanding refl
+asked l ReadErrorLog false = mixed l _ l.outstanding refl
+asked l ReadErrorLog true = read_or_not l l.in_reset
 asked l (Queue c) false = opened_or_not l c (list_any (λ q. q.tag == c.tag) l.outstanding)
 asked l Flush false = mixed l _ l.outstanding refl
 asked l Identify false = mixed l _ l.outstanding refl

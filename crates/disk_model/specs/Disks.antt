@@ -14,7 +14,7 @@ use Rattle.disk_model.specs.declared.answer.Answer.TheVariants.{Signature, Accep
 use Rattle.disk_model.specs.declared.answer.Page.{Page}
 use Rattle.disk_model.specs.declared.answer.Page.TheVariants.{ErrorLog, Identity}
 use Rattle.disk_model.specs.declared.answer.Fault.{Fault}
-use Rattle.disk_model.specs.declared.answer.Fault.TheVariants.{Mixed}
+use Rattle.disk_model.specs.declared.answer.Fault.TheVariants.{Held, Mixed}
 use Rattle.disk_model.specs.declared.plan.DiskPlan.{DiskPlan}
 use Rattle.disk_model.specs.declared.plan.Order.{Order}
 use Rattle.disk_model.specs.declared.plan.Order.TheVariants.{Oldest, Newest}
@@ -159,15 +159,21 @@ logged m (c ∷ cs) = refused m (c ∷ cs)
 abbrev pub queues : Moment → Command → Moment
 queues m c = (if list_any (λ q. q.tag == c.tag) m.queued then refused m m.queued else record m { queued = m.queued ++ c ∷ []; owed = m.owed ++ Accepted ∷ [] })
 
+-- whether SRST holds the disk in its software reset
+abbrev pub is_held : Option Fault → Bool
+is_held (Some Held) = true
+is_held _ = false
+
+-- SRST is cleared: the software reset ends
 abbrev pub restarted : Moment → Bool → Moment
-restarted m true = owes (record m { resetting = false }) Signature
+restarted m true = owes (record m { resetting = false; fault = if is_held m.fault then None else m.fault }) Signature
 restarted m false = m
 
--- In the error mode nothing but a reset and the log is heard.
+-- In a software reset nothing but SRST is heard, in the error mode nothing but SRST and the log.
 abbrev pub received : Moment → Request → Option Fault → Moment
-received m (Reset true) mode = record (cleared m) { resetting = true }
+received m (Reset true) mode = record (cleared m) { resetting = true; fault = Some Held }
 received m (Reset false) mode = restarted m m.resetting
-received m ReadErrorLog mode = logged m m.queued
+received m ReadErrorLog mode = if is_held mode then m else logged m m.queued
 received m (Queue c) None = queues m c
 received m Flush None = flushed m m.queued
 received m Identify None = identified m m.queued

@@ -81,12 +81,15 @@ pub data Wanted : Type 0 where
 pub record Ledger : Type 0 where
   -- the commands that were queued and have not ended
   pub outstanding : List Command
-  -- whether all of them were given up for an error, and no log and no reset came since
+  -- whether all of them were given up for an error or for SRST, so that no command is heard; what ends it is the log, but
+  -- for SRST, and a reset that ended
   pub failed : Bool
   -- the error for which they were, where a Set Device Bits FIS reported it
   pub failure : Option Failure
   -- whether SRST is set
   pub resetting : Bool
+  -- whether that holds the disk in its software reset, since it was not plugged in after SRST was set
+  pub in_reset : Bool
   -- what the commands and resets that came are still to be answered with, in their order
   pub awaited : List Reply
   -- the pages that were asked for and did not come, in order
@@ -99,13 +102,13 @@ pub record Ledger : Type 0 where
   pub reads : List ReadOut
 
 abbrev pub empty : Ledger
-empty = record { outstanding = []; failed = false; failure = None; resetting = false; awaited = []; pages = []; unanswered = []; moving = None; writes = []; reads = [] }
+empty = record { outstanding = []; failed = false; failure = None; resetting = false; in_reset = false; awaited = []; pages = []; unanswered = []; moving = None; writes = []; reads = [] }
 
 -- ## What the host sends
 
 -- nothing is outstanding, and nothing is to be answered
 abbrev pub given_up : Ledger → Bool → Ledger
-given_up l failed = record l { outstanding = []; failed = failed; failure = None; awaited = []; pages = []; unanswered = []; moving = None }
+given_up l failed = record l { outstanding = []; failed = failed; failure = None; in_reset = false; awaited = []; pages = []; unanswered = []; moving = None }
 
 -- one more answer is awaited
 abbrev pub awaits : Ledger → Reply → Ledger
@@ -126,16 +129,21 @@ refuses l = mixes l (awaits l Refuses) l.outstanding
 abbrev pub opens : Ledger → Command → Ledger
 opens l c = (if list_any (λ q. q.tag == c.tag) l.outstanding then refuses l else awaits (record l { outstanding = l.outstanding ++ c ∷ [] }) Accepts)
 
--- SRST is cleared
+-- SRST is cleared: the software reset ends
 abbrev pub restarts : Ledger → Bool → Ledger
-restarts l true = awaits (record l { resetting = false }) Signs
+restarts l true = awaits (record l { failed = not l.in_reset && l.failed; resetting = false; in_reset = false }) Signs
 restarts l false = l
 
--- after an error a command is not heard, but for the log
+-- the log is read, which ends the error mode
+abbrev pub reads_log : Ledger → Ledger
+reads_log l = mixes l (record (awaits_page l (LogOf l.failure)) { failed = false; failure = None }) l.outstanding
+
+-- in a software reset no command is heard, after an error none but the log
 abbrev pub asks : Ledger → Request → Bool → Ledger
-asks l (Reset true) failed = record (given_up l false) { resetting = true }
+asks l (Reset true) failed = record (given_up l true) { resetting = true; in_reset = true }
 asks l (Reset false) failed = restarts l l.resetting
-asks l ReadErrorLog failed = mixes l (record (awaits_page l (LogOf l.failure)) { failed = false; failure = None }) l.outstanding
+asks l ReadErrorLog false = reads_log l
+asks l ReadErrorLog true = if l.in_reset then l else reads_log l
 asks l (Queue c) false = opens l c
 asks l Flush false = mixes l (awaits l Finishes) l.outstanding
 asks l Identify false = mixes l (awaits_page l IdentifyData) l.outstanding

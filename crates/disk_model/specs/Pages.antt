@@ -2,7 +2,7 @@
 use Rattle.std.specs.Prelude.{ℕ, ◌-◌, ◌/◌, ◌%◌, List, [], ◌∷◌, ◌++◌, length, replicate, sum, Option, Some, None}
 use Rattle.std.specs.Int.{to_le_bytes, w64}
 use Rattle.disk_model.specs.declared.answer.Fault.{Fault}
-use Rattle.disk_model.specs.declared.answer.Fault.TheVariants.{Mixed, Failed}
+use Rattle.disk_model.specs.declared.answer.Fault.TheVariants.{Held, Mixed, Failed}
 use Rattle.disk_model.specs.declared.answer.Page.{Page}
 use Rattle.disk_model.specs.declared.answer.Page.TheVariants as page
 
@@ -21,6 +21,7 @@ abbrev pub error_head : Option Fault → List ℕ
 error_head (Some (Failed tag error lba)) =
     tag ∷ 0 ∷ 0x41 ∷ error ∷ lba % 256 ∷ lba / 256 % 256 ∷ lba / 65536 % 256 ∷ 0x40 ∷ lba / 16777216 % 256 ∷ lba / 4294967296 % 256 ∷ lba / 1099511627776 % 256 ∷ 0 ∷ 0 ∷ 0 ∷ []
 error_head (Some Mixed) = 0x80 ∷ []
+error_head (Some Held) = 0x80 ∷ []
 error_head None = 0x80 ∷ []
 
 -- the log: its last byte is the checksum

@@ -11,9 +11,11 @@ use fis_view::{
 };
 use std::alloc::{AllocError, Global};
 
-/// Why the disk is in its error mode.
+/// Why the disk takes no command: it is in its error mode, or in a software reset.
 #[derive(Clone, Copy, Debug)]
 pub enum Fault {
+    /// SRST is set, and the disk was not plugged in since.
+    Held,
     /// Queued commands were mixed with others, or a tag was queued twice.
     Mixed,
     /// The command with this tag failed, with this error, at this sector.
@@ -168,7 +170,7 @@ pub fn report_frame(alloc: Global, fault: Fault, stamp: Stamp) -> Result<Frame, 
     ensures stamp { IfOk result (λ f. f.stamp ≡ stamp) }
 {
     let error = match fault {
-        Fault::Mixed => 0,
+        Fault::Held | Fault::Mixed => 0,
         Fault::Failed(_, error, _) => error,
     };
     bits_frame(alloc, 0x41, error, 0, stamp)

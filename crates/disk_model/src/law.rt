@@ -7,6 +7,7 @@ ghost use Rattle.disk_model.specs.Anew.{BeginsAnew, EndsTellTheSameAnew, LinkedS
 ghost use Rattle.disk_model.specs.Anew.{RestingIsSilent, RestsUntil, WritesStay};
 ghost use Rattle.disk_model.specs.Ends.{EndsTellTheSame};
 ghost use Rattle.disk_model.specs.Fronts.{BeforeIsFront, HostIsAhead};
+ghost use Rattle.disk_model.specs.InReset.{TakesNoCommand};
 ghost use Rattle.disk_model.specs.Last.{LieOn, ShowsTheLast};
 ghost use Rattle.disk_model.specs.Later.{LaterIsLinked, LaterTellsOfAll};
 ghost use Rattle.disk_model.specs.Laws.{AfterEachRun, AnswersRight, AtEachSending, ErrsRight, MovesRight, SilentRight};
@@ -83,6 +84,13 @@ pub fn disks_begin_anew()
     ensures begins { BeginsAnew }
     ensures rests { RestsUntil }
     ensures silent { RestingIsSilent }
+{}
+
+/// In every run of a disk, from the FIS that sets SRST on, and as long as none clears it and the disk is not plugged in, it
+/// sends nothing and takes no command: it is what it was as SRST was set, whatever comes. As SRST is cleared it owes its
+/// signature, and nothing else.
+pub fn disks_in_reset_take_no_command()
+    ensures { TakesNoCommand }
 {}
 
 /// From where both ends begin anew they tell the same again, as long as the disk reports no error:

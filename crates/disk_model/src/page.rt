@@ -68,7 +68,7 @@ fn error_log_page(alloc: Global, fault: Option<Fault>) -> Result<Vec<u8>, AllocE
             page.extend_from_slice(&failure(tag, error, lba))?;
         }
         // NQ alone: no queued command failed
-        Some(Fault::Mixed) | None => page.extend_from_slice(&[0x80])?,
+        Some(Fault::Held | Fault::Mixed) | None => page.extend_from_slice(&[0x80])?,
     }
     fill(&mut page, 511)?;
     let last = checksum_of(&page);

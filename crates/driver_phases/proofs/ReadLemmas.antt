@@ -22,7 +22,7 @@ use Rattle.disk_model.specs.Histories.{Happening, Plugged, Received, Sent}
 use Rattle.disk_model.specs.Laws.{ActivatesRight, MovesRight}
 use Rattle.disk_model.specs.Ledger.{Accepts, IsSize, Ledger, Moving, ReadOut, Refuses, activates, answers, asks, awaits, empty, ends, has_error}
 use Rattle.disk_model.specs.Ledger.{ledger, ledger_after, listens}
-use Rattle.disk_model.specs.Ledger.{listens_down, listens_up, mixes, moves, refuses, restarts, sends_data, sets_up, starts_moving, takes_data}
+use Rattle.disk_model.specs.Ledger.{listens_down, listens_up, mixes, moves, reads_log, refuses, restarts, sends_data, sets_up, starts_moving, takes_data}
 use Rattle.disk_model.specs.Requests.{request_of}
 use Rattle.disk_model.specs.Runs.{IsDiskRun}
 use Rattle.disk_model.proofs.AnewLemmas.{ends_agree_anew}
@@ -63,10 +63,15 @@ keep_opens : (l : Ledger) (c : Command) (b : Bool) → IsAsked l.moving
 keep_opens l c true a = keep_refuses l a
 keep_opens l c false a = record { reads = refl; asks = a }
 
+keep_logs : (l : Ledger) (b : Bool) → IsAsked l.moving → KeepsReads l (if b then l else reads_log l)
+keep_logs l true a = keep_same l a
+keep_logs l false a = keep_mixes l _ l.outstanding (record { reads = refl; asks = a })
+
 keep_asks : (l : Ledger) (r : Request) (failed : Bool) → IsAsked l.moving → KeepsReads l (asks l r failed)
 keep_asks l (asked.Reset true) failed a = record { reads = refl; asks = tt }
 keep_asks l (asked.Reset false) failed a = keep_restarts l l.resetting a
-keep_asks l asked.ReadErrorLog failed a = keep_mixes l _ l.outstanding (record { reads = refl; asks = a })
+keep_asks l asked.ReadErrorLog false a = keep_mixes l _ l.outstanding (record { reads = refl; asks = a })
+keep_asks l asked.ReadErrorLog true a = keep_logs l l.in_reset a
 keep_asks l (asked.Queue c) false a = keep_opens l c (list_any (λ q. q.tag == c.tag) l.outstanding) a
 keep_asks l asked.Flush false a = keep_mixes l _ l.outstanding (record { reads = refl; asks = a })
 keep_asks l asked.Identify false a = keep_mixes l _ l.outstanding (record { reads = refl; asks = a })

@@ -1,7 +1,7 @@
 //! What a disk makes of what it receives.
 
 ghost use Rattle.std.specs.Prelude.{◌≡◌, ◌<◌, ◌++◌, ◌∷◌, [], None, OnErr, OnOk};
-ghost use Rattle.disk_model.specs.Disks.{cleared, data_taken, flushed, identified, logged, owes, owes_alone, owes_page, queues, received, refused, with_now};
+ghost use Rattle.disk_model.specs.Disks.{cleared, data_taken, flushed, identified, is_held as is_held_by, logged, owes, owes_alone, owes_page, queues, received, refused, with_now};
 ghost use Rattle.disk_model.specs.Insides.{WantsRoom};
 ghost use Rattle.disk_model.specs.Requests.{Asks};
 
@@ -10,6 +10,13 @@ use crate::answer::{Answer, Fault, Page};
 use crate::chunk::Chunk;
 use crate::request::{Command, Request};
 use std::alloc::AllocError;
+
+/// Whether SRST holds the disk in its software reset.
+fn is_held(fault: Option<Fault>) -> bool
+    ensures { result ≡ is_held_by fault }
+{
+    matches!(fault, Some(Fault::Held))
+}
 
 impl Disk {
     /// Drops all that a reset drops.
@@ -135,8 +142,8 @@ impl Disk {
         Ok(())
     }
 
-    /// Hears what a Register FIS asks for. In the error mode a command other than the log is
-    /// dropped.
+    /// Hears what a Register FIS asks for. In a software reset each command is dropped, in the error
+    /// mode each but the log.
     pub(super) fn receive(&mut self, request: Request) -> Result<(), AllocError>
         requires { Asks request }
         ensures ok { OnOk result (
@@ -149,15 +156,20 @@ impl Disk {
             Request::Reset(true) => {
                 self.clear();
                 self.resetting = true;
+                self.fault = Some(Fault::Held);
                 Ok(())
             }
             Request::Reset(false) => {
                 if self.resetting {
                     self.owe(Answer::Signature)?;
                     self.resetting = false;
+                    if is_held(self.fault) {
+                        self.fault = None;
+                    }
                 }
                 Ok(())
             }
+            Request::ReadErrorLog if is_held(self.fault) => Ok(()),
             Request::ReadErrorLog => self.read_error_log(),
             _ if self.fault.is_some() => Ok(()),
             Request::Queue(command) => self.enqueue(command),

@@ -127,6 +127,47 @@ fn signature_when_plugged_and_after_a_reset(rt: HostRuntime) -> Result<(), Fail>
     is_silent(&rt, alloc, &mut unit)
 }
 
+/// As long as SRST is set no command has an answer, the log neither; then the signature goes alone, and commands are heard.
+#[test]
+fn takes_no_command_in_reset(rt: HostRuntime) -> Result<(), Fail> {
+    let alloc = rt.alloc();
+    let mut disk = Disk::new(alloc, 16, DiskPlan::plain())?;
+    let commands = [
+        read(1, 8, 1),
+        write(2, 4, 1),
+        command(0xEC, 0, 0, 0),
+        command(0xEA, 0, 0, 0),
+        command(0x2F, 0, 0x10, 1),
+        command(0x25, 0, 0, 1),
+        reset(true),
+        read(1, 8, 1),
+    ];
+    give(alloc, &mut disk, &reset(true))?;
+    for fields in &commands {
+        give(alloc, &mut disk, fields)?;
+        is_silent(&rt, alloc, &mut disk)?;
+    }
+    give(alloc, &mut disk, &reset(false))?;
+    sends(&rt, alloc, &mut disk, SIGNATURE)?;
+    is_silent(&rt, alloc, &mut disk)?;
+    give(alloc, &mut disk, &read(1, 8, 1))?;
+    sends(&rt, alloc, &mut disk, ACCEPTED)
+}
+
+/// To be plugged in ends a reset; SRST that is cleared later still has its signature.
+#[test]
+fn plugging_ends_a_reset(rt: HostRuntime) -> Result<(), Fail> {
+    let alloc = rt.alloc();
+    let mut disk = Disk::new(alloc, 16, DiskPlan::plain())?;
+    give(alloc, &mut disk, &reset(true))?;
+    disk.plugged(alloc)?;
+    sends(&rt, alloc, &mut disk, SIGNATURE)?;
+    give(alloc, &mut disk, &read(1, 8, 1))?;
+    sends(&rt, alloc, &mut disk, ACCEPTED)?;
+    give(alloc, &mut disk, &reset(false))?;
+    sends(&rt, alloc, &mut disk, SIGNATURE)
+}
+
 /// A disk has a sector at least, and 65,536 at most.
 #[test]
 fn sizes_that_no_disk_has(rt: HostRuntime) {
