@@ -60,7 +60,7 @@ other_by : (n dev : ℕ) (o : Option Event) (past : History) → dev ≢ n → o
 other_by n dev None past ne = refl
 other_by n dev (Some x) past ne = ap (λ b. cond b (x ∷ []) [] ++ past) (ne_eqb dev n ne)
 
-other_one : (n dev : ℕ) (x : Event) (past : History) → dev ≢ n → own n (By dev x ∷ []) ++ past ≡ past
+pub other_one : (n dev : ℕ) (x : Event) (past : History) → dev ≢ n → own n (By dev x ∷ []) ++ past ≡ past
 other_one n dev x past ne = ap (λ b. cond b (x ∷ []) [] ++ past) (ne_eqb dev n ne)
 
 -- ---- what goes out

@@ -69,7 +69,7 @@ fis_alike own state sound (view.PioSetup f) h = refl
 fis_alike own state sound (view.Payload f) h = data_alike own state sound (length f - 4) h
 fis_alike own state sound (view.Unknown f) h = refl
 
-heard_alike : (n : ℕ) (v : DeviceView) (sound : Bool) (fis : Option Fis) → is_some (port_cause (heard n v sound fis).fault) ≡ false → heard n v sound fis ≡ heard n v true fis
+pub heard_alike : (n : ℕ) (v : DeviceView) (sound : Bool) (fis : Option Fis) → is_some (port_cause (heard n v sound fis).fault) ≡ false → heard n v sound fis ≡ heard n v true fis
 heard_alike n v sound None h = refl
 heard_alike n v sound (Some fis) h = fis_alike v.slots v.state sound fis h
 
@@ -335,8 +335,8 @@ step_by n old new (Stored structure) lt is next runs does fb none = stored n old
 step_by n old new (Rewrote dev row) lt is next runs does fb none = cleared n old new dev row lt is runs does
 step_by n old new (Put at bytes) lt is next runs does fb none = put n old new at bytes does
 
-step : (n : ℕ) (old new : Host) (event : HostEvent) → n < 16 → IsHost old → IsHost new → Does old event new → is_port_event old event ≡ false → part_of n new ≡ part_after_all n (part_of n old) (own_events n old event)
-step n old new event lt is next does none =
+pub own_step : (n : ℕ) (old new : Host) (event : HostEvent) → n < 16 → IsHost old → IsHost new → Does old event new → is_port_event old event ≡ false → part_of n new ≡ part_after_all n (part_of n old) (own_events n old event)
+own_step n old new event lt is next does none =
     let parts = or_parts (not (is_running old.port)) (stops old event) none in
     let runs : is_running old.port ≡ true = not-false (is_running old.port) parts.0 in
     step_by n old new event lt is next runs does (fb_kept old new event does (stays_put old new event is runs does)) parts.1
@@ -355,7 +355,7 @@ fold_over n lt old new (event ∷ events) run hosts devices =
     let rest : List OwnEvent = own_over n run.0 new events run.2 in
     let next : IsHost run.0 = first_host run.0 new events run.2 hosts.1 in
     fold_over n lt run.0 new events run.2 hosts.1 devices.1
-    ∙ ap (λ (p : DevicePart). part_after_all n p rest) (step n old run.0 event lt hosts.0 next run.1 devices.0) ∙ sym (after_append n (part_of n old) own rest)
+    ∙ ap (λ (p : DevicePart). part_after_all n p rest) (own_step n old run.0 event lt hosts.0 next run.1 devices.0) ∙ sym (after_append n (part_of n old) own rest)
 
 pub fold_of_own : IsFoldOfOwn
 fold_of_own n lt old new events run = fold_over n lt old new events run.run run.hosts run.devices

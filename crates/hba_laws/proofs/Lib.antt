@@ -27,3 +27,4 @@ pub mod KeepingLemmas
 pub mod CauseLemmas
 pub mod SentLemmas
 pub mod GatherLemmas
+pub mod AlikeLemmas

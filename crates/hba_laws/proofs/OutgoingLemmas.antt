@@ -262,3 +262,12 @@ order_filled port n slot long owns h =
     let test : ℕ → Bool = λ s. holds (may_go (ready_devices port) (faulty_devices port) port.slots) (issue_at port.slots s) in
     let is = lowest_is test 32 slot h in
     ap (λ (x : Option Issue). is_some x) (own_at n port.slots slot (omega (arith, is.below)) ∙ owned_same n (issue_at port.slots slot) owns) ∙ owns_some n (issue_at port.slots slot) owns
+
+-- and it is what the device owns there
+pub order_stands : (port : Port) (n slot : ℕ) → length port.slots.issues ≡ 32 → Owns n (issue_at port.slots slot) → next_to_send port ≡ Some slot
+    → own_issue (slots_of n port.slots) slot ≡ issue_at port.slots slot
+unfolding next_to_send
+order_stands port n slot long owns h =
+    let test : ℕ → Bool = λ s. holds (may_go (ready_devices port) (faulty_devices port) port.slots) (issue_at port.slots s) in
+    let is = lowest_is test 32 slot h in
+    own_at n port.slots slot (omega (arith, is.below)) ∙ owned_same n (issue_at port.slots slot) owns

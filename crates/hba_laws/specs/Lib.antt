@@ -10,3 +10,4 @@ pub mod Delivering
 pub mod Sent
 pub mod Keeping
 pub mod Causes
+pub mod Alike

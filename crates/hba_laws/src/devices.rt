@@ -1,5 +1,6 @@
 //! The devices behind a port.
 
+ghost use Rattle.hba_laws.specs.Alike.{HistoriesByOwn, OwnFillAlike};
 ghost use Rattle.hba_laws.specs.Isolation.{AreAlike, GoesByOwn, IsFoldOfOwn};
 
 /// A law, which does nothing when it runs. Isolation: over every list of events none of which is an
@@ -7,9 +8,12 @@ ghost use Rattle.hba_laws.specs.Isolation.{AreAlike, GoesByOwn, IsFoldOfOwn};
 /// others send, fail or lose: its view, the commands of its slots and its row of the received area. Its
 /// own events are the frames that come from it and go to it, the commands that are issued for it, the
 /// clearing of its error by PxFBS.DEC, its flushes and writes of its row. What goes to it is told by
-/// what belongs to it.
+/// what belongs to it. The same holds of bytes: its history, and so what each byte of its slots is filled with, is told by
+/// its own events, the PRDs of the commands that are issued for it and the bytes that go to it.
 pub fn isolated()
     ensures fold { IsFoldOfOwn }
     ensures alike { AreAlike }
     ensures goes { GoesByOwn }
+    ensures told { HistoriesByOwn }
+    ensures filled { OwnFillAlike }
 {}
