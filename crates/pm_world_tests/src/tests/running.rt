@@ -96,3 +96,24 @@ fn no_steps(rt: HostRuntime) -> Result<(), Fail> {
     );
     Ok(())
 }
+
+/// Whether a run answers each of the steps.
+fn answers_all(rig: &mut Rig, steps: &[Step]) -> bool {
+    match rig.runs(steps) {
+        Ok(answers) => answers.len() == steps.len(),
+        Err(_) => false,
+    }
+}
+
+/// A run may have more than a thousand steps.
+#[test]
+fn a_long_run(rt: HostRuntime) -> Result<(), Fail> {
+    let alloc = rt.alloc();
+    let mut steps = Vec::new(alloc);
+    for _ in 0..1001 {
+        add_all(alloc, &mut steps, &[Act::Tick])?;
+    }
+    let mut rig = Rig::new(alloc, 1, 1)?;
+    all_held(&rt, &[answers_all(&mut rig, &steps)]);
+    Ok(())
+}
