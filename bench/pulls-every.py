@@ -11,10 +11,10 @@ def opening_bytes(sector, count):
 
 
 class Request:
-    """One request: its work, its sectors, and the places of its bytes."""
+    """One request: its work, its sectors, the places of its bytes, and whether its sector can not be read."""
 
-    def __init__(self, work, port, sector=0, places=()):
-        self.work, self.port, self.sector, self.places = work, port, sector, places
+    def __init__(self, work, port, sector=0, places=(), bad=False):
+        self.work, self.port, self.sector, self.places, self.bad = work, port, sector, places, bad
         self.length = sum(length for _, length in places)
         self.put = bytes((7 * i + 1) % 251 + 1 for i in range(self.length)) if work == "write" else None
 
@@ -50,10 +50,6 @@ class Scene:
         return [line for one in self.requests for line in one.lines()]
 
 
-def sector_at(place, sector):
-    return [(place, 512 * sector)]
-
-
 MARK = 0x101000
 BESIDE = Request("read", 1, 4, [(0x10a000, 512)])
 DONE = {"done"}
@@ -65,7 +61,7 @@ SCENES = [
           [Request("write", 0, 8, [(MARK, 300), (0x103000, 724)]), BESIDE]),
     Scene("flush", 2, 4, 0, [], [Request("flush", 0), BESIDE]),
     Scene("error-and-log", 2, 4, 0, ["disk 0 sectors 16 bad 9"],
-          [Request("read", 0, 8, [(MARK, 512)]), Request("read", 0, 9, [(0x102000, 512)]),
+          [Request("read", 0, 8, [(MARK, 512)]), Request("read", 0, 9, [(0x102000, 512)], bad=True),
            Request("read", 0, 10, [(0x103000, 512)]), BESIDE],
           ends=[{"done", "aborted", "removed"}, {"device-error 41 40", "removed"}, {"aborted", "removed"}, DONE]),
     Scene("reset", 2, 4, 0, [],
@@ -136,7 +132,7 @@ def tail(scene, comes):
     size = scene.last - START
     lines = ["settle 1"] + ["poll"] * (len(scene.requests) + 1) + [f"show {START:x} {size}"]
     if comes:
-        sectors = [one for one in scene.requests if one.port == scene.pulled and one.places and one.sector != 9]
+        sectors = [one for one in scene.requests if one.port == scene.pulled and one.places and not one.bad]
         for number, one in enumerate(sectors or [Request("read", scene.pulled, 2, [(0, 512)])]):
             lines += [f"read {scene.pulled} {one.sector} {one.length // 512} {scene.last + 8192 * number:x}:{one.length}",
                       "settle 1000", "poll", f"show {scene.last + 8192 * number:x} {one.length}"]
