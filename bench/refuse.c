@@ -1,7 +1,8 @@
 /* Stands between a program and the C library's malloc, realloc, read and write, as a library that is loaded first
- * (LD_PRELOAD), and has one of these calls fail. The environment says which, counted from 1:
+ * (LD_PRELOAD), and has some of these calls fail. The environment says which, counted from 1:
  *
  *     REFUSE_MEMORY=N   the Nth call of malloc or realloc gets no memory
+ *     REFUSE_FROM=N     nor does any call after it
  *     FAIL_READ=N       the Nth read of standard input fails
  *     FAIL_WRITE=N      the Nth write to standard output fails
  *     SHORT_READ=N      the Nth read of several bytes of standard input gets one; N 0: each
@@ -19,12 +20,12 @@
 extern void *__libc_malloc(size_t);
 extern void *__libc_realloc(void *, size_t);
 
-enum { MEMORY, READ, WRITE, SHORT_READ, SHORT_WRITE, KINDS };
+enum { MEMORY, MEMORY_FROM, READ, WRITE, SHORT_READ, SHORT_WRITE, KINDS };
 
-static const char *const NAMES[KINDS] = {"REFUSE_MEMORY", "FAIL_READ", "FAIL_WRITE", "SHORT_READ", "SHORT_WRITE"};
+static const char *const NAMES[KINDS] = {"REFUSE_MEMORY", "REFUSE_FROM", "FAIL_READ", "FAIL_WRITE", "SHORT_READ", "SHORT_WRITE"};
 
 /* The number of the call that is to be met, or -1 where none is. */
-static long wanted[KINDS] = {-1, -1, -1, -1, -1};
+static long wanted[KINDS] = {-1, -1, -1, -1, -1, -1};
 
 /* How many calls came. */
 static atomic_long came[KINDS];
@@ -46,7 +47,15 @@ static int is_met(int kind)
     if (wanted[kind] < 0)
         return 0;
     long number = atomic_fetch_add(&came[kind], 1) + 1;
-    return wanted[kind] == 0 || wanted[kind] == number;
+    return wanted[kind] == 0 || wanted[kind] == number || (kind == MEMORY_FROM && wanted[kind] < number);
+}
+
+static int gets_memory(void)
+{
+    if (!is_met(MEMORY) && !is_met(MEMORY_FROM))
+        return 1;
+    errno = ENOMEM;
+    return 0;
 }
 
 static void say(const char *text, int length)
@@ -70,20 +79,12 @@ __attribute__((destructor)) static void end(void)
 
 void *malloc(size_t size)
 {
-    if (is_met(MEMORY)) {
-        errno = ENOMEM;
-        return NULL;
-    }
-    return __libc_malloc(size);
+    return gets_memory() ? __libc_malloc(size) : NULL;
 }
 
 void *realloc(void *block, size_t size)
 {
-    if (is_met(MEMORY)) {
-        errno = ENOMEM;
-        return NULL;
-    }
-    return __libc_realloc(block, size);
+    return gets_memory() ? __libc_realloc(block, size) : NULL;
 }
 
 static ssize_t failed(void)
