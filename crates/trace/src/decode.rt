@@ -5,9 +5,9 @@ ghost use Rattle.fis_view.specs.Frames.{is_frame};
 ghost use Rattle.fis_view.specs.Seen.{frame_of, seen};
 
 use crate::failure::Failure;
-use crate::fis_text::FisText;
 use crate::hex_text::{HexError, bytes_of};
 use crate::input::is_skipped;
+use fis_text::FisText;
 use fis_view::{Fis, FisFault, is_frame_length};
 use std::alloc::Global;
 use std::io::Write;

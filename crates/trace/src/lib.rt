@@ -8,7 +8,6 @@
 mod command_line;
 mod decode;
 mod failure;
-mod fis_text;
 mod hex_text;
 mod input;
 mod program;

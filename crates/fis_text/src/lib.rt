@@ -1,4 +1,5 @@
 //! A FIS as one line of words.
+#![tactic(auto)]
 
 use fis_view::{DmaSetup, Fis, PioSetup, RegD2H, RegH2D, SetBits};
 use std::fmt;

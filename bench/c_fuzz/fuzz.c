@@ -1,0 +1,168 @@
+/*
+ * Makes calls from bytes, in any order, and looks after each that answers and lengths are what the header says.
+ *
+ *     fuzz SECONDS [FILE..]
+ *
+ * Plays each file, and then for so many seconds lists of calls that a generator makes. Status 1 where an answer is none
+ * that the header allows; the input lies in fuzz-failed then. Build it with the sanitizers.
+ */
+#include <stdio.h>
+#include <stdlib.h>
+#include <string.h>
+#include <time.h>
+#include "gefsunk.h"
+
+enum { LONGEST = 4096 };
+
+static const uint8_t *input;
+static size_t left;
+
+static uint8_t next(void) {
+    if (left == 0) return 0;
+    left--;
+    return *input++;
+}
+
+/* A FIS: one of the usual types and lengths, or any bytes. Its storage ends where it ends, so that a sanitizer sees. */
+static uint8_t *fis_of(size_t *len) {
+    static const uint8_t types[8] = {0x27, 0x34, 0xA1, 0x39, 0x41, 0x5F, 0x46, 0x00};
+    static const uint8_t lengths[8] = {20, 20, 8, 4, 28, 20, 132, 64};
+    uint8_t kind = next(), *fis;
+    size_t at;
+    *len = kind & 0x80 ? next() : lengths[kind & 7];
+    fis = malloc(*len ? *len : 1);
+    if (!fis) exit(2);
+    for (at = 0; at < *len; at++) fis[at] = next();
+    if (!(kind & 0x80)) fis[0] = types[kind & 7];
+    if (kind & 0x40 && *len > 2) {
+        fis[1] = 0x8F;
+        fis[2] = 0xE8;
+    }
+    return fis;
+}
+
+static int allowed(gef_status status, uint32_t answers) {
+    return (unsigned)status < 32 && (answers >> status & 1);
+}
+
+#define BIT(status) (1u << (status))
+
+/* One call; 0 where its answer is none that the header allows. */
+static int call(gef_pm *pm, int *is_open) {
+    static uint8_t room[GEF_FIS_ROOM];
+    char text[GEF_TEXT_ROOM];
+    uint8_t what = next(), port = next() & 0x1F, from = 0xFF;
+    uint32_t value, closed = *is_open ? 0 : BIT(GEF_CLOSED), open = *is_open ? ~0u : 0;
+    size_t len = 0, room_len = next() & 1 ? sizeof room : next();
+    gef_status status = GEF_OK;
+    uint8_t *fis;
+    switch (what % 12) {
+    case 0:
+        status = gef_pm_new(pm, port);
+        if (*is_open) return status == GEF_OPEN;
+        *is_open = status == GEF_OK;
+        return allowed(status, BIT(GEF_OK) | BIT(GEF_BAD_PORTS)) && (status == GEF_OK) == (port >= 1 && port <= 15);
+    case 1:
+        if (port & 0x1C) return 1;
+        status = gef_pm_free(pm);
+        if (status != (*is_open ? GEF_OK : GEF_CLOSED)) return 0;
+        *is_open = 0;
+        return 1;
+    case 2:
+        status = gef_pm_plug(pm, port);
+        return allowed(status, closed | (open & (BIT(GEF_OK) | BIT(GEF_NO_PORT) | BIT(GEF_ALREADY_THERE))));
+    case 3:
+        status = gef_pm_unplug(pm, port);
+        return allowed(status, closed | (open & (BIT(GEF_OK) | BIT(GEF_NO_PORT) | BIT(GEF_NOT_THERE))));
+    case 4:
+    case 5:
+        fis = fis_of(&len);
+        status = gef_pm_from_host(pm, fis, len);
+        free(fis);
+        return allowed(status, closed | (open & (BIT(GEF_OK) | BIT(GEF_BAD_LENGTH) | BIT(GEF_FULL) | BIT(GEF_DROPPED))));
+    case 6:
+    case 7:
+        fis = fis_of(&len);
+        status = gef_pm_from_device(pm, port, fis, len);
+        free(fis);
+        return allowed(status, closed | (open & (BIT(GEF_OK) | BIT(GEF_NO_PORT) | BIT(GEF_NOT_THERE) | BIT(GEF_BAD_LENGTH)
+                                                 | BIT(GEF_FULL) | BIT(GEF_DROPPED))));
+    case 8:
+        status = gef_pm_to_host(pm, room, room_len, &len, &from);
+        if (status == GEF_OK && (len < 4 || len > room_len || from != (room[1] & 15))) return 0;
+        return allowed(status, closed | (open & (BIT(GEF_OK) | BIT(GEF_TOO_SHORT) | BIT(GEF_NOTHING))));
+    case 9:
+        status = gef_pm_to_device(pm, port, room, room_len, &len);
+        if (status == GEF_OK && (len < 4 || len > room_len || room[1] & 15)) return 0;
+        return allowed(status, closed | (open & (BIT(GEF_OK) | BIT(GEF_NO_PORT) | BIT(GEF_TOO_SHORT) | BIT(GEF_NOTHING))));
+    case 10:
+        status = gef_pm_read(pm, port & 15, next(), &value);
+        return allowed(status, closed | (open & (BIT(GEF_OK) | BIT(GEF_NO_PORT) | BIT(GEF_NO_REGISTER))));
+    default:
+        fis = fis_of(&len);
+        room_len = room_len > sizeof text ? sizeof text : room_len;
+        status = gef_fis_text(fis, len, text, room_len);
+        free(fis);
+        if (room_len && strlen(text) >= room_len) return 0;
+        return allowed(status, BIT(GEF_OK) | BIT(GEF_BAD_LENGTH) | BIT(GEF_WRONG_LENGTH) | BIT(GEF_TOO_SHORT))
+            && (status != GEF_TOO_SHORT || room_len < GEF_TEXT_ROOM);
+    }
+}
+
+/* Plays a list of calls; 0 where one answers what it may not. */
+static int play(const uint8_t *bytes, size_t len) {
+    gef_pm pm = GEF_PM_CLOSED;
+    int is_open = 0, fits = 1;
+    input = bytes;
+    left = len;
+    while (left && fits) fits = call(&pm, &is_open);
+    gef_pm_free(&pm);
+    return fits;
+}
+
+static int play_file(const char *name) {
+    static uint8_t bytes[LONGEST];
+    FILE *file = fopen(name, "rb");
+    size_t len;
+    if (!file) {
+        perror(name);
+        return 0;
+    }
+    len = fread(bytes, 1, sizeof bytes, file);
+    fclose(file);
+    if (play(bytes, len)) return 1;
+    printf("%s: an answer that the header does not allow\n", name);
+    return 0;
+}
+
+int main(int count, char **words) {
+    static uint8_t bytes[LONGEST];
+    uint32_t state = 2463534242u;
+    unsigned long lists = 0;
+    time_t end;
+    int word;
+    FILE *file;
+    if (count < 2) return 2;
+    for (word = 2; word < count; word++)
+        if (!play_file(words[word])) return 1;
+    end = time(0) + atoi(words[1]);
+    while (time(0) < end) {
+        size_t len, at;
+        state ^= state << 13, state ^= state >> 17, state ^= state << 5;
+        len = state % LONGEST;
+        for (at = 0; at < len; at++) {
+            state ^= state << 13, state ^= state >> 17, state ^= state << 5;
+            bytes[at] = (uint8_t)(state >> 24);
+        }
+        if (len > 3) bytes[0] = 0, bytes[1] = (uint8_t)(1 + bytes[1] % 15);
+        lists++;
+        if (!play(bytes, len)) {
+            file = fopen("fuzz-failed", "wb");
+            if (file) fwrite(bytes, 1, len, file), fclose(file);
+            printf("list %lu: an answer that the header does not allow; see fuzz-failed\n", lists);
+            return 1;
+        }
+    }
+    printf("%lu lists of calls\n", lists);
+    return 0;
+}

@@ -1,0 +1,91 @@
+/*
+ * The side of the library that is C: each call tests its pointers for null, and passes on to the export that is proved
+ * (crates/gefsunk). Nothing else is done here. The texts of the answers stand here, since no export can return a pointer.
+ */
+#include "gefsunk.h"
+
+/* A slice is a pointer and a length. */
+uint32_t gefsunk_fis_text(const uint8_t *fis, size_t len, uint8_t *room, size_t room_len, size_t *text_len);
+uint32_t gefsunk_pm_new(gef_pm *pm, uint8_t ports);
+uint32_t gefsunk_pm_free(gef_pm *pm);
+uint32_t gefsunk_pm_plug(gef_pm *pm, uint8_t port);
+uint32_t gefsunk_pm_unplug(gef_pm *pm, uint8_t port);
+uint32_t gefsunk_pm_from_host(gef_pm *pm, const uint8_t *fis, size_t len);
+uint32_t gefsunk_pm_from_device(gef_pm *pm, uint8_t port, const uint8_t *fis, size_t len);
+uint32_t gefsunk_pm_to_host(gef_pm *pm, uint8_t *fis, size_t room, size_t *len, uint8_t *port);
+uint32_t gefsunk_pm_to_device(gef_pm *pm, uint8_t port, uint8_t *fis, size_t room, size_t *len);
+uint32_t gefsunk_pm_read(gef_pm *pm, uint8_t port, uint16_t number, uint32_t *value);
+uint32_t gefsunk_pm_dropped(gef_pm *pm, uint32_t *count);
+
+const char *gef_status_text(gef_status status) {
+    switch (status) {
+    case GEF_OK: return "done";
+    case GEF_NULL: return "a pointer is null";
+    case GEF_CLOSED: return "the handle is not open";
+    case GEF_OPEN: return "the handle is open already";
+    case GEF_NO_MEMORY: return "out of memory";
+    case GEF_BAD_PORTS: return "a port multiplier has 1 to 15 ports";
+    case GEF_NO_PORT: return "no such port";
+    case GEF_BAD_LENGTH: return "no FIS has so many bytes";
+    case GEF_WRONG_LENGTH: return "no FIS of this type has so many bytes";
+    case GEF_TOO_SHORT: return "the room is too short";
+    case GEF_NOTHING: return "nothing to give";
+    case GEF_FULL: return "another FIS waits there";
+    case GEF_DROPPED: return "nobody takes the FIS";
+    case GEF_ALREADY_THERE: return "a device is there";
+    case GEF_NOT_THERE: return "no device is there";
+    case GEF_NO_REGISTER: return "no such register";
+    case GEF_SPENT: return "the port takes no further device";
+    }
+    return "no such answer";
+}
+
+gef_status gef_fis_text(const uint8_t *fis, size_t len, char *text, size_t room) {
+    size_t written = 0;
+    gef_status status;
+    if (!fis || !text) return GEF_NULL;
+    if (room == 0) return GEF_TOO_SHORT;
+    status = (gef_status)gefsunk_fis_text(fis, len, (uint8_t *)text, room - 1, &written);
+    text[status == GEF_OK ? written : 0] = 0;
+    return status;
+}
+
+gef_status gef_pm_new(gef_pm *pm, uint8_t ports) {
+    return pm ? (gef_status)gefsunk_pm_new(pm, ports) : GEF_NULL;
+}
+
+gef_status gef_pm_free(gef_pm *pm) {
+    return pm ? (gef_status)gefsunk_pm_free(pm) : GEF_NULL;
+}
+
+gef_status gef_pm_plug(gef_pm *pm, uint8_t port) {
+    return pm ? (gef_status)gefsunk_pm_plug(pm, port) : GEF_NULL;
+}
+
+gef_status gef_pm_unplug(gef_pm *pm, uint8_t port) {
+    return pm ? (gef_status)gefsunk_pm_unplug(pm, port) : GEF_NULL;
+}
+
+gef_status gef_pm_from_host(gef_pm *pm, const uint8_t *fis, size_t len) {
+    return pm && fis ? (gef_status)gefsunk_pm_from_host(pm, fis, len) : GEF_NULL;
+}
+
+gef_status gef_pm_from_device(gef_pm *pm, uint8_t port, const uint8_t *fis, size_t len) {
+    return pm && fis ? (gef_status)gefsunk_pm_from_device(pm, port, fis, len) : GEF_NULL;
+}
+
+gef_status gef_pm_to_host(gef_pm *pm, uint8_t *fis, size_t room, size_t *len, uint8_t *port) {
+    return pm && fis && len && port ? (gef_status)gefsunk_pm_to_host(pm, fis, room, len, port) : GEF_NULL;
+}
+
+gef_status gef_pm_to_device(gef_pm *pm, uint8_t port, uint8_t *fis, size_t room, size_t *len) {
+    return pm && fis && len ? (gef_status)gefsunk_pm_to_device(pm, port, fis, room, len) : GEF_NULL;
+}
+
+gef_status gef_pm_read(gef_pm *pm, uint8_t port, uint16_t number, uint32_t *value) {
+    return pm && value ? (gef_status)gefsunk_pm_read(pm, port, number, value) : GEF_NULL;
+}
+
+gef_status gef_pm_dropped(gef_pm *pm, uint32_t *count) {
+    return pm && count ? (gef_status)gefsunk_pm_dropped(pm, count) : GEF_NULL;
+}

@@ -1,0 +1,5 @@
+pub mod Exports
+pub mod Handles
+pub mod Pms
+pub mod Statuses
+pub mod Texts

@@ -1,0 +1,23 @@
+-- The number that C has for each answer.
+use Rattle.std.specs.Prelude.{ℕ, ◌==◌, if◌then◌else◌}
+use Rattle.gefsunk.specs.declared.status.Status.{Status}
+use Rattle.gefsunk.specs.declared.status.Status.TheVariants as status
+
+abbrev pub status_of : ℕ → Status
+status_of n =
+    if n == 0 then status.Done
+    else if n == 2 then status.Closed
+    else if n == 3 then status.Open
+    else if n == 4 then status.NoMemory
+    else if n == 5 then status.BadPorts
+    else if n == 6 then status.NoPort
+    else if n == 7 then status.BadLength
+    else if n == 8 then status.WrongLength
+    else if n == 9 then status.TooShort
+    else if n == 10 then status.Nothing
+    else if n == 11 then status.Full
+    else if n == 12 then status.Dropped
+    else if n == 13 then status.AlreadyThere
+    else if n == 14 then status.NotThere
+    else if n == 15 then status.NoRegister
+    else status.Spent

@@ -1,0 +1,119 @@
+//! What C holds of a multiplier: a struct in storage of its own, with a pointer to a value that this library owns.
+//!
+//! Pointers are met in four small functions alone, [`Loose::of`], [`Held::from_loose`], [`Held::into_box`] and
+//! [`Held::nothing`], each of which is proved by hand. All others are proved from their contracts.
+
+ghost use Rattle.std.specs.Prelude.{◌≡◌, ◌==◌, MatchOption, None, Option, Some, is_some, true};
+ghost use Rattle.gefsunk.specs.declared.pm.Pm.{Pm};
+
+use crate::pm::Pm;
+use std::alloc::Global;
+use std::marker::Model;
+use std::mem;
+
+/// The mark of a handle that is open: the letters PMUX. Another value, as 0, is a handle that is closed.
+pub const OPEN: u32 = 0x5055_4D58;
+
+/// A box as its pointer.
+struct Loose<T> {
+    at: *mut T,
+    ghost value: { T },
+}
+
+impl<T> Model for Loose<T> {
+    ghost use Rattle.gefsunk.specs.Handles.{boxed};
+
+    ghost also_owns = { λ l. boxed T.row l.at l.value };
+}
+
+impl<T: Drop> Loose<T> {
+    fn of(value: Box<T>) -> Loose<T>
+        ensures { result.value ≡ value.value }
+    {
+        let at = Box::into_raw(value);
+        Loose { at }
+    }
+}
+
+/// The pointer of a box that C keeps, or one to nothing.
+#[repr(C)]
+#[derive(Drop)]
+pub struct Held {
+    at: *mut u8,
+    pub ghost value: { Option Pm },
+}
+
+impl Model for Held {
+    ghost use Rattle.gefsunk.specs.Handles.{owned};
+    ghost use Rattle.gefsunk.specs.contracts.pm.Pm as kept;
+
+    ghost also_owns = { λ h. owned kept.the_row h.at h.value };
+}
+
+impl Held {
+    fn from_loose(loose: Loose<Pm>) -> Held
+        ensures { result.value ≡ Some loose.value }
+    {
+        let Loose { at } = loose;
+        Held { at: at as *mut u8 }
+    }
+
+    fn into_box(self, alloc: Global) -> Box<Pm>
+        requires { is_some self.value ≡ true }
+        ensures { self.value ≡ Some result.value }
+    {
+        let Held { at } = self;
+        unsafe { Box::from_raw(alloc, at as *mut Pm) }
+    }
+
+    fn nothing() -> Held
+        ensures { result.value ≡ None }
+    {
+        Held {
+            at: std::ptr::null_mut(),
+        }
+    }
+}
+
+/// A handle, as C has it in its own storage. It is open where its mark says so, and then has a multiplier.
+#[repr(C)]
+#[derive(Drop)]
+pub struct PmHandle {
+    mark: u32,
+    pub held: Held,
+    ghost agrees: { (mark == 1347767640) ≡ is_some held.value },
+}
+
+impl PmHandle {
+    /// A handle of no multiplier.
+    pub fn closed() -> PmHandle
+        ensures { result.held.value ≡ None }
+    {
+        PmHandle {
+            mark: 0,
+            held: Held::nothing(),
+        }
+    }
+
+    /// The handle of a multiplier.
+    pub fn open(pm: Box<Pm>) -> PmHandle
+        ensures { result.held.value ≡ Some pm.value }
+    {
+        PmHandle {
+            mark: OPEN,
+            held: Held::from_loose(Loose::of(pm)),
+        }
+    }
+
+    /// Takes the multiplier, and leaves the handle closed.
+    pub fn take(&mut self, alloc: Global) -> Option<Box<Pm>>
+        ensures taken { MatchOption result (self.old.held.value ≡ None) (λ pm. self.old.held.value ≡ Some pm.value) }
+        ensures closed { self.new.held.value ≡ None }
+    {
+        if self.mark != OPEN {
+            return None;
+        }
+        let old = mem::replace(self, PmHandle::closed());
+        Some(old.held.into_box(alloc))
+    }
+}

@@ -1,0 +1,50 @@
+//! A FIS as text, without a handle.
+
+ghost use Rattle.std.specs.Prelude.{◌≡◌, ◌≤◌, IsTrue, length};
+ghost use Rattle.gefsunk.specs.Texts.{TextRule};
+
+use crate::status::Status;
+use arrayvec::ArrayString;
+use fis_text::FisText;
+use fis_view::{Fis, is_frame_length};
+use std::fmt::Write;
+
+/// Room for the longest line.
+const LONGEST_LINE: usize = 160;
+
+/// Copies the text into the room. It is told whether the room was long enough.
+fn copied(text: &[u8], room: &mut [u8]) -> bool
+    ensures room { length room.new ≡ length room.old }
+    ensures fits { IsTrue result → length text.now ≤ length room.old }
+{
+    match room.get_mut(..text.len()) {
+        Some(place) => {
+            place.copy_from_slice(text);
+            true
+        }
+        None => false,
+    }
+}
+
+/// Writes the words of a FIS, with no 0 behind them, and their number. Where they do not fit, or the bytes are no FIS,
+/// nothing is written.
+pub fn fis_text(fis: &[u8], room: &mut [u8], len: &mut usize) -> Status
+    ensures { TextRule fis.now result (length room.old) len.old len.new }
+{
+    if !is_frame_length(fis) {
+        return Status::BadLength;
+    }
+    let Ok(view) = Fis::of(fis) else {
+        return Status::WrongLength;
+    };
+    let mut line = ArrayString::<LONGEST_LINE>::new();
+    if write!(line, "{}", FisText(view)).is_err() {
+        return Status::TooShort;
+    }
+    let text = line.as_str().as_bytes();
+    if !copied(text, room) {
+        return Status::TooShort;
+    }
+    *len = text.len();
+    Status::Done
+}
