@@ -2,7 +2,8 @@
 //!
 //! `pm_trace decode` prints each frame in words, `pm_trace run` plays a scenario on a world of devices, a
 //! port multiplier and a host, and `pm_trace threads` has each of these work in a thread of its own.
-//! Nothing is ever written to standard error; the exit status says how a run ended.
+//! The input may also be a file that the command line names. Standard error says why an input or a command line is refused;
+//! the exit status says how a run ended.
 #![tactic(auto)]
 
 use std::alloc::Global;

@@ -2,17 +2,19 @@
 
 ghost use Rattle.std.specs.Prelude.{◌≤◌};
 
-use crate::failure::Failure;
 use crate::scenario::value_within;
 use clap::error::ErrorKind;
 use clap::{Arg, ArgAction, ArgMatches, Command, Error};
 use pm_threads::MAX_TURNS;
-use std::alloc::Global;
+use std::alloc::{AllocError, Global};
 use std::convert::AsStr;
+use std::fmt;
 
 /// What the program is asked to do.
 #[derive(Clone, Copy, Debug, PartialEq, Eq)]
 pub enum Mode {
+    /// Say what the program does.
+    Help,
     /// This, in one thread, which waits for no other.
     Alone(Task),
     /// Run the scenario of the input in threads.
@@ -24,8 +26,65 @@ pub enum Mode {
 pub enum Task {
     /// Print each frame of the input in words.
     Decode,
-    /// Play the scenario of the input, one step at a time.
-    Run,
+    /// Play the scenario of the input, one step at a time, and write so much of what moves.
+    Run(Watch),
+}
+
+/// What is written of the steps of a run.
+#[derive(Clone, Copy, Debug, PartialEq, Eq)]
+pub struct Watch {
+    /// Whether anything is.
+    pub is_on: bool,
+    /// The port whose steps are, 15 for the control port; None where those of all are.
+    pub port: Option<u8>,
+    /// Whether only faults, drops and removals are.
+    pub is_faults: bool,
+    /// The number of the first step that is.
+    pub from: u64,
+    /// Whether all output is JSON, an object a line.
+    pub is_json: bool,
+}
+
+impl Watch {
+    /// The steps that the words after `run` ask for.
+    fn of(given: &ArgMatches<'_>) -> Result<Watch, Misuse> {
+        let is_json = given.get_flag("json");
+        let mut watch = Watch {
+            is_on: given.get_flag("trace") || is_json,
+            port: None,
+            is_faults: false,
+            from: 1,
+            is_json,
+        };
+        for only in given.get_strs("only").unwrap_or(&[]) {
+            watch.narrow(only)?;
+        }
+        if let Some(text) = given.get_str("from") {
+            watch.is_on = true;
+            watch.from = match value_within(text.as_bytes(), 10, 0, u64::MAX) {
+                Ok(from) => from,
+                Err(_) => return Err(Misuse::From),
+            };
+        }
+        Ok(watch)
+    }
+
+    /// Only those that one more `--only` names.
+    fn narrow(&mut self, only: &str) -> Result<(), Misuse> {
+        self.is_on = true;
+        if only == "faults" {
+            self.is_faults = true;
+            return Ok(());
+        }
+        let Some(port) = only.strip_prefix("port=") else {
+            return Err(Misuse::Only);
+        };
+        match value_within(port.as_bytes(), 10, 0, 15) {
+            Ok(port) => self.port = Some(port as u8),
+            Err(_) => return Err(Misuse::Only),
+        }
+        Ok(())
+    }
 }
 
 /// How many turns each thread of a run has at most.
@@ -35,47 +94,108 @@ pub struct Turns {
     pub ghost has_count: { (1 ≤ count) × (count ≤ 16777216) },
 }
 
+/// What the words after the program's name ask for, and from where the input comes: a file, or standard input where none is
+/// named.
+#[derive(Debug, Drop)]
+pub struct Call<'a> {
+    pub mode: Mode,
+    pub file: Option<&'a str>,
+}
+
+/// Why the words are refused.
+#[derive(Debug, Drop)]
+pub enum Misuse {
+    /// One is not known, is missing, or stands where it may not.
+    Words(Error),
+    /// `--`, which ends the options of other programs.
+    Dashes,
+    /// What `--turns` gives is no number of turns.
+    Turns,
+    /// What `--only` gives is nothing that steps are chosen by.
+    Only,
+    /// What `--from` gives is no number.
+    From,
+    /// The allocator refused memory.
+    OutOfMemory,
+}
+
+impl fmt::Display for Misuse {
+    fn fmt<W: fmt::Write>(&self, f: &mut fmt::Formatter<W>) -> fmt::Result {
+        match self {
+            Misuse::Words(error) => write!(f, "{error}"),
+            Misuse::Dashes => f.write_str("error: `--` is no word of pm_trace"),
+            Misuse::Turns => f.write_str(
+                "error: --turns wants a decimal number from 1 to 16777216",
+            ),
+            Misuse::Only => f.write_str("error: --only wants port=N, N from 0 to 15, or faults"),
+            Misuse::From => f.write_str("error: --from wants the number of a step, in decimal"),
+            Misuse::OutOfMemory => f.write_str("error: out of memory"),
+        }
+    }
+}
+
+impl From<Error> for Misuse {
+    fn from(error: Error) -> Misuse {
+        if error.kind() == ErrorKind::OutOfMemory {
+            return Misuse::OutOfMemory;
+        }
+        Misuse::Words(error)
+    }
+}
+
+impl From<AllocError> for Misuse {
+    fn from(_: AllocError) -> Misuse {
+        Misuse::OutOfMemory
+    }
+}
+
 impl Turns {
     /// The turns of a run of which the command line says none.
     const MOST: Turns = Turns { count: MAX_TURNS };
 
-    /// The turns that the words after `threads` ask for; None where what they give is no number of turns.
-    fn of(given: &ArgMatches<'_>) -> Option<Turns> {
+    /// The turns that the words after `threads` ask for.
+    fn of(given: &ArgMatches<'_>) -> Result<Turns, Misuse> {
         let Some(text) = given.get_str("turns") else {
-            return Some(Turns::MOST);
+            return Ok(Turns::MOST);
         };
         match value_within(text.as_bytes(), 10, 1, MAX_TURNS) {
-            Ok(count) => Some(Turns { count }),
-            Err(_) => None,
+            Ok(count) => Ok(Turns { count }),
+            Err(_) => Err(Misuse::Turns),
         }
     }
 }
 
-impl Mode {
-    /// The mode that the words after the program's name ask for: `decode`, `run`, or `threads`, which may
-    /// say `--turns N`. Anything else, other options and `--help` too, is refused.
-    pub fn of<S: AsStr>(alloc: Global, words: &[S]) -> Result<Mode, Failure> {
-        match parsed(alloc, words) {
-            Ok(Some(mode)) => Ok(mode),
-            Err(error) if error.kind() == ErrorKind::OutOfMemory => Err(Failure::OutOfMemory),
-            Ok(None) | Err(_) => Err(Failure::CommandLine),
+impl<'a> Call<'a> {
+    /// What the words after the program's name ask for. No word at all asks for help.
+    pub fn of<S: AsStr>(alloc: Global, words: &'a [S]) -> Result<Call<'a>, Misuse> {
+        if words.is_empty() {
+            return Ok(Call::help());
+        }
+        let matches = command(alloc)?.try_get_matches_from(words)?;
+        if words.iter().any(|word| word.as_str() == "--") {
+            return Err(Misuse::Dashes);
+        }
+        let Some((name, given)) = matches.subcommand() else {
+            return Ok(Call::help());
+        };
+        if given.get_flag("help") {
+            return Ok(Call::help());
+        }
+        let mode = match name {
+            "decode" => Mode::Alone(Task::Decode),
+            "run" => Mode::Alone(Task::Run(Watch::of(given)?)),
+            _ => Mode::Threads(Turns::of(given)?),
+        };
+        let file = given.get_str("file");
+        Ok(Call { mode, file })
+    }
+
+    fn help() -> Call<'a> {
+        Call {
+            mode: Mode::Help,
+            file: None,
         }
     }
-}
-
-fn parsed<S: AsStr>(alloc: Global, words: &[S]) -> Result<Option<Mode>, Error> {
-    let matches = command(alloc)?.try_get_matches_from(words)?;
-    // The word that ends the options of other programs is none of this one's.
-    if words.iter().any(|word| word.as_str() == "--") {
-        return Ok(None);
-    }
-    let mode = match matches.subcommand() {
-        Some(("decode", _)) => Some(Mode::Alone(Task::Decode)),
-        Some(("run", _)) => Some(Mode::Alone(Task::Run)),
-        Some(("threads", given)) => Turns::of(given).map(Mode::Threads),
-        _ => None,
-    };
-    Ok(mode)
 }
 
 /// The words that there are.
@@ -83,17 +203,48 @@ fn command<'a>(alloc: Global) -> Result<Command<'a>, Error> {
     let turns = Arg::new(alloc, "turns")
         .long("turns")
         .action(ArgAction::Set);
-    let threads = Command::new(alloc, "threads")
-        .disable_help_flag(true)
-        .arg(turns)?;
-    let decode = Command::new(alloc, "decode").disable_help_flag(true);
-    let run = Command::new(alloc, "run").disable_help_flag(true);
     let command = Command::new(alloc, "pm_trace")
         .no_binary_name(true)
         .disable_help_flag(true)
         .disable_help_subcommand(true)
-        .subcommand(decode)?
-        .subcommand(run)?
-        .subcommand(threads)?;
+        .arg(help(alloc))?
+        .subcommand(mode_words(alloc, "decode")?)?
+        .subcommand(run_words(alloc)?)?
+        .subcommand(mode_words(alloc, "threads")?.arg(turns)?)?;
     Ok(command)
+}
+
+/// The words of a mode that each mode has: its file, and `--help`.
+fn mode_words<'a>(alloc: Global, name: &'a str) -> Result<Command<'a>, Error> {
+    let file = Arg::new(alloc, "file").action(ArgAction::Set);
+    let command = Command::new(alloc, name)
+        .disable_help_flag(true)
+        .arg(help(alloc))?
+        .arg(file)?;
+    Ok(command)
+}
+
+/// The words of `run`.
+fn run_words<'a>(alloc: Global) -> Result<Command<'a>, Error> {
+    let command = mode_words(alloc, "run")?
+        .arg(flag(alloc, "trace"))?
+        .arg(flag(alloc, "json"))?
+        .arg(
+            Arg::new(alloc, "only")
+                .long("only")
+                .action(ArgAction::Append),
+        )?
+        .arg(Arg::new(alloc, "from").long("from").action(ArgAction::Set))?;
+    Ok(command)
+}
+
+fn flag<'a>(alloc: Global, name: &'a str) -> Arg<'a> {
+    Arg::new(alloc, name).long(name).action(ArgAction::SetTrue)
+}
+
+fn help<'a>(alloc: Global) -> Arg<'a> {
+    Arg::new(alloc, "help")
+        .long("help")
+        .short('h')
+        .action(ArgAction::SetTrue)
 }

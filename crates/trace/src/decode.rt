@@ -5,12 +5,14 @@ ghost use Rattle.fis_view.specs.Frames.{is_frame};
 ghost use Rattle.fis_view.specs.Seen.{frame_of, seen};
 
 use crate::failure::Failure;
-use crate::hex_text::{HexError, bytes_of};
-use crate::input::is_skipped;
+use crate::hex_text::{HexError, bytes_of, hex_fault};
+use crate::input::{is_skipped, without_return};
+use crate::note::WordOf;
 use fis_text::FisText;
 use fis_view::{Fis, FisFault, is_frame_length};
 use std::alloc::Global;
-use std::io::Write;
+use std::fmt;
+use std::io::{Eprint, Write};
 use thiserror::Error;
 
 /// Why a line is no frame that can be told in words.
@@ -40,31 +42,79 @@ impl From<FisFault> for DecodeError {
     }
 }
 
-/// Writes a line for each line of the input that is neither empty nor a comment.
-pub fn decode<W: Write>(alloc: Global, input: &[u8], out: &mut W) -> Result<(), Failure> {
-    for line in input.split(|byte| *byte == b'\n') {
-        if !is_skipped(line) {
-            decode_line(alloc, line, out)?;
+/// Writes a line for each line of the input that is neither empty nor a comment. Standard error is told of each line that is
+/// no frame, by its number, and why.
+pub fn decode<E: Eprint, W: Write>(
+    errors: &E,
+    alloc: Global,
+    input: &[u8],
+    out: &mut W,
+) -> Result<(), Failure> {
+    let mut line = 0usize;
+    for text in input.split(|byte| *byte == b'\n') {
+        line = line.saturating_add(1);
+        let text = without_return(text);
+        if is_skipped(text) {
+            continue;
+        }
+        if let Some(error) = decode_line(alloc, text, out)? {
+            // Where standard error is closed, the answer on standard output is as ever.
+            let _unheard = errors.eprintln(LineNote { line, text, error });
         }
     }
     Ok(())
 }
 
-fn decode_line<W: Write>(alloc: Global, line: &[u8], out: &mut W) -> Result<(), Failure> {
-    let bytes = match bytes_of(alloc, line) {
+/// Writes what one line means, and gives the reason where it is no frame.
+fn decode_line<W: Write>(
+    alloc: Global,
+    text: &[u8],
+    out: &mut W,
+) -> Result<Option<DecodeError>, Failure> {
+    let bytes = match bytes_of(alloc, text) {
         Ok(bytes) => bytes,
-        Err(HexError::BadHex) => return Ok(writeln!(out, "{}", DecodeError::BadHex)?),
+        Err(HexError::BadHex) => return refuse(DecodeError::BadHex, out),
         Err(HexError::OutOfMemory) => return Err(Failure::OutOfMemory),
     };
     match fis_of(&bytes) {
-        Ok(fis) => writeln!(out, "{}", FisText(fis))?,
-        Err(error) => writeln!(out, "{error}")?,
+        Ok(fis) => {
+            writeln!(out, "{}", FisText(fis))?;
+            Ok(None)
+        }
+        Err(error) => refuse(error, out),
     }
-    Ok(())
+}
+
+fn refuse<W: Write>(error: DecodeError, out: &mut W) -> Result<Option<DecodeError>, Failure> {
+    writeln!(out, "{error}")?;
+    Ok(Some(error))
+}
+
+/// A line that is no frame, and why.
+#[derive(Debug, Drop)]
+struct LineNote<'a> {
+    line: usize,
+    text: &'a [u8],
+    error: DecodeError,
+}
+
+impl fmt::Display for LineNote<'_> {
+    fn fmt<W: fmt::Write>(&self, f: &mut fmt::Formatter<W>) -> fmt::Result {
+        write!(f, "line {}: {}", self.line, self.error)?;
+        match self.error {
+            DecodeError::BadHex => {
+                let (word, wanted) = hex_fault(self.text, 1);
+                let text = self.text;
+                write!(f, "{}", WordOf { text, word, wanted })
+            }
+            DecodeError::BadLength => f.write_str(": wanted 4 to 8196 bytes, a multiple of 4"),
+            DecodeError::WrongLength => f.write_str(": no FIS of this type has so many bytes"),
+        }
+    }
 }
 
 /// The FIS that the bytes are.
-fn fis_of(bytes: &[u8]) -> Result<Fis<'_>, DecodeError>
+pub fn fis_of(bytes: &[u8]) -> Result<Fis<'_>, DecodeError>
     ensures whole { IfOk result (λ fis. frame_of fis ≡ bytes.now) }
     ensures bad_length { (result ≡ Err DecodeError.BadLength) ↔ (is_frame bytes.now ≡ false) }
     ensures wrong_length { result ≡ Err DecodeError.WrongLength → seen bytes.now ≡ Err FisFault.WrongLength }

@@ -2,6 +2,7 @@
 
 ghost use Rattle.std.specs.Prelude.{◌≡◌};
 
+use crate::wanted::Wanted;
 use std::alloc::AllocError;
 use std::io;
 use thiserror::Error;
@@ -11,7 +12,19 @@ use thiserror::Error;
 pub enum Failure {
     /// A line of the input is refused. Lines count from 1.
     #[error("line {line}: {refusal}")]
-    Line { line: usize, refusal: Refusal },
+    Line {
+        line: usize,
+        refusal: Refusal,
+        /// The word for which it is refused, counted from 1; 0 is the line as a whole.
+        word: usize,
+        /// What should stand there.
+        wanted: Wanted,
+    },
+    /// What was printed is not what this line expected, counted from 1, or nothing more was printed.
+    #[error("line {line}: expect")]
+    Unexpected {
+        line: usize,
+    },
     /// The words of the command line are none that the program knows.
     #[error("command line refused")]
     CommandLine,
@@ -58,6 +71,7 @@ impl Failure {
             Failure::CommandLine => 2,
             Failure::OutOfMemory => 3,
             Failure::ReadOrWrite => 4,
+            Failure::Unexpected { .. } => 6,
         }
     }
 }

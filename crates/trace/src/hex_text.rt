@@ -5,6 +5,7 @@ ghost use Rattle.hex.specs.Hex.{decode_of, pair_value};
 ghost use Rattle.trace.specs.Text.{without_blanks};
 
 use crate::input::is_blank;
+use crate::wanted::Wanted;
 use std::alloc::{AllocError, Global};
 use thiserror::Error;
 
@@ -39,6 +40,24 @@ pub fn bytes_of(alloc: Global, text: &[u8]) -> Result<Vec<u8>, HexError>
         Err(HexError::OutOfMemory) if !spells_bytes(text) => Err(HexError::BadHex),
         bytes => bytes,
     }
+}
+
+/// The word for which digits are no bytes, where the words of this text count from this number on, and what was
+/// wanted: the first word that has another character, else the last, as a digit is missing.
+pub fn hex_fault(text: &[u8], first: usize) -> (usize, Wanted) {
+    let mut word = first;
+    let mut last = first;
+    for part in text.split(|byte| is_blank(*byte)) {
+        if part.is_empty() {
+            continue;
+        }
+        if !part.iter().all(|byte| byte.is_ascii_hexdigit()) {
+            return (word, Wanted::Digits);
+        }
+        last = word;
+        word = word.saturating_add(1);
+    }
+    (last, Wanted::EvenDigits)
 }
 
 // The bytes that the digits spell. Each is decoded into its place, in room for just as many, for which memory is asked

@@ -4,6 +4,7 @@ ghost use Rattle.std.specs.Prelude.{◌≡◌, ◌≤◌, IfSome};
 ghost use Rattle.trace.specs.Text.{is_blank};
 
 use crate::failure::{Failure, Refusal};
+use crate::wanted::Wanted;
 use std::alloc::Global;
 use std::io::Read;
 
@@ -25,6 +26,8 @@ pub fn read_input<R: Read + Drop>(alloc: Global, reader: R) -> Result<Vec<u8>, F
         Some(line) => Err(Failure::Line {
             line,
             refusal: Refusal::Size,
+            word: 0,
+            wanted: Wanted::Size,
         }),
         None => Ok(input),
     }
@@ -53,6 +56,22 @@ pub fn without_line_feed(line: &[u8]) -> &[u8] {
         [text @ .., b'\n'] => text,
         _ => line,
     }
+}
+
+/// The line without a carriage return that ends it.
+pub fn without_return(line: &[u8]) -> &[u8] {
+    match line {
+        [text @ .., b'\r'] => text,
+        _ => line,
+    }
+}
+
+/// The line of this number, counted from 1; an empty one where there are not so many.
+pub fn line_of(input: &[u8], number: usize) -> &[u8] {
+    let line = input
+        .split(|byte| *byte == b'\n')
+        .nth(number.saturating_sub(1));
+    without_return(line.unwrap_or(&[]))
 }
 
 /// Whether a line says nothing: its first byte is `#`, or it has only blanks.

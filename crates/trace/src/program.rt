@@ -3,35 +3,142 @@
 ghost use Rattle.std.specs.Prelude.{◌≡◌, ◌≤◌, ◌⊎◌, IfErr};
 ghost use Rattle.trace.specs.Statuses.{status_of};
 
-use crate::command_line::{Mode, Task, Turns};
+use crate::command_line::{Call, Misuse, Mode, Task, Turns};
 use crate::decode::decode;
 use crate::failure::Failure;
+use crate::help::HELP;
 use crate::input::read_input;
+use crate::note::{Note, Shown};
 use crate::scenario;
-use std::alloc::Global;
+use std::alloc::{AllocError, Global};
 use std::convert::AsStr;
-use std::io::{BufWriter, Read, Write};
+use std::fmt::Display;
+use std::io::{BufWriter, Eprint, Read, Write};
+use std::rt::Files;
 use std::sync::Wait;
 use std::thread::Threads;
+use std::{fmt, fs};
 
 /// Does what the words after the program's name ask for, and gives the exit status: 0 done, 1 the
 /// input is refused, 2 the command line is refused, 3 memory was refused, 4 a read or a write failed, 5
-/// the turns of the threads are spent. The whole input is read before anything is written. A run that ends
-/// with 3 or 4 has written the beginning of what it would have written.
-pub fn serve<H: Threads + Wait + Sync, S: AsStr, R: Read + Drop, W: Write + Drop>(
+/// the turns of the threads are spent, 6 something else was printed than a line expects. The whole input is
+/// read before anything is written. A run that ends with 3 or 4 has written the beginning of what it would
+/// have written. Standard error says for what the input or the command line is refused.
+pub fn serve<H: Threads + Wait + Sync + Files + Eprint, S: AsStr, R: Read + Drop, W: Write + Drop>(
     rt: &H,
     alloc: Global,
     words: &[S],
     reader: R,
     writer: W,
 ) -> u8
-    ensures { result ≤ 5 }
+    ensures { result ≤ 6 }
 {
-    match Mode::of(alloc, words) {
-        Ok(Mode::Alone(task)) => work(alloc, task, reader, writer),
-        Ok(Mode::Threads(turns)) => work_in_threads(rt, alloc, turns, reader, writer),
-        Err(failure) => refuse(alloc, failure, writer),
+    let call = match Call::of(alloc, words) {
+        Ok(call) => call,
+        Err(misuse) => return refuse_words(rt, alloc, misuse, writer),
+    };
+    match call.mode {
+        Mode::Help => show_help(alloc, writer),
+        Mode::Alone(task) => work(rt, alloc, task, call.file, reader, writer),
+        Mode::Threads(turns) => work_in_threads(rt, alloc, turns, call.file, reader, writer),
     }
+}
+
+/// Reads the whole input: this file, or else standard input. Standard error is told why it is not taken.
+fn read_from<H: Files + Eprint, R: Read + Drop>(
+    rt: &H,
+    alloc: Global,
+    file: Option<&str>,
+    reader: R,
+) -> Result<Vec<u8>, Failure> {
+    let read = match file {
+        Some(path) => read_file(rt, alloc, path),
+        None => read_input(alloc, reader),
+    };
+    if let Err(failure) = &read {
+        tell_of_input(rt, *failure, file);
+    }
+    read
+}
+
+fn read_file<H: Files>(rt: &H, alloc: Global, path: &str) -> Result<Vec<u8>, Failure> {
+    read_input(alloc, fs::open(rt, path)?)
+}
+
+/// Tells standard error why the input is not taken.
+fn tell_of_input<E: Eprint>(errors: &E, failure: Failure, file: Option<&str>) {
+    match (failure, file) {
+        (Failure::ReadOrWrite, Some(path)) => {
+            let path = Shown(path.as_bytes());
+            tell(errors, Unread { path });
+        }
+        (failure, _) => tell(errors, Note::of(failure, &[])),
+    }
+}
+
+/// A file that cannot be read.
+#[derive(Debug, Drop)]
+struct Unread<'a> {
+    path: Shown<'a>,
+}
+
+impl fmt::Display for Unread<'_> {
+    fn fmt<W: fmt::Write>(&self, f: &mut fmt::Formatter<W>) -> fmt::Result {
+        write!(f, "error: the file '{}' cannot be read", self.path)
+    }
+}
+
+/// Writes what the program does.
+fn show_help<W: Write + Drop>(alloc: Global, writer: W) -> u8
+    ensures { result ≤ 6 }
+{
+    let Ok(mut out) = BufWriter::new(alloc, writer) else {
+        return Failure::OutOfMemory.status();
+    };
+    let written = match write!(out, "{HELP}") {
+        Ok(()) => Ok(()),
+        Err(error) => Err(Failure::from(error)),
+    };
+    close(out, written)
+}
+
+/// Tells standard error. Where it is closed, nobody hears it, and all else is as ever.
+fn tell<E: Eprint, D: Display + Drop>(errors: &E, said: D) {
+    let _unheard = errors.eprintln(said);
+}
+
+/// Tells standard error why a run ends, where it was not told yet.
+fn tell_of<E: Eprint>(errors: &E, failure: Failure, input: &[u8]) {
+    match failure {
+        Failure::Unexpected { .. } => {}
+        failure => tell(errors, Note::of(failure, input)),
+    }
+}
+
+/// Refuses the command line, and says why on standard error.
+fn refuse_words<E: Eprint, W: Write + Drop>(
+    errors: &E,
+    alloc: Global,
+    misuse: Misuse,
+    writer: W,
+) -> u8
+    ensures { result ≤ 6 }
+{
+    let failure = match (&misuse, words_note(alloc, &misuse)) {
+        (Misuse::OutOfMemory, _) | (_, Err(_)) => Failure::OutOfMemory,
+        (_, Ok(note)) => {
+            tell(errors, note);
+            Failure::CommandLine
+        }
+    };
+    refuse(alloc, failure, writer)
+}
+
+/// Why the command line is refused, in one line.
+fn words_note(alloc: Global, misuse: &Misuse) -> Result<String, AllocError> {
+    let text = format!(in alloc; "{misuse}")?;
+    let first = text.as_str().split('\n').next().unwrap_or("error");
+    format!(in alloc; "{first}; --help has all words")
 }
 
 /// Writes the words of a refusal, if it has any, and gives its exit status.
@@ -44,51 +151,72 @@ pub fn refuse<W: Write + Drop>(alloc: Global, failure: Failure, writer: W) -> u8
     }
 }
 
-/// Does the task, and gives the exit status.
-fn work<R: Read + Drop, W: Write + Drop>(alloc: Global, task: Task, reader: R, writer: W) -> u8
-    ensures { result ≤ 4 }
+/// Does the task, which waits for no other thread, and gives the exit status.
+fn work<H: Files + Eprint, R: Read + Drop, W: Write + Drop>(
+    rt: &H,
+    alloc: Global,
+    task: Task,
+    file: Option<&str>,
+    reader: R,
+    writer: W,
+) -> u8
+    ensures { result ≤ 6 }
 {
     let Ok(mut out) = BufWriter::new(alloc, writer) else {
         return Failure::OutOfMemory.status();
     };
-    let done = match read_input(alloc, reader) {
-        Ok(input) => play(alloc, task, &input, &mut out),
-        Err(failure) => Err(failure),
+    let input = match read_from(rt, alloc, file, reader) {
+        Ok(input) => input,
+        Err(failure) => return close(out, Err(failure)),
     };
+    let done = play(rt, alloc, task, &input, &mut out);
+    if let Err(failure) = &done {
+        tell_of(rt, *failure, &input);
+    }
     close(out, done)
 }
 
-fn play<W: Write>(alloc: Global, task: Task, input: &[u8], out: &mut W) -> Result<(), Failure> {
+fn play<E: Eprint, W: Write>(
+    errors: &E,
+    alloc: Global,
+    task: Task,
+    input: &[u8],
+    out: &mut W,
+) -> Result<(), Failure> {
     match task {
-        Task::Decode => decode(alloc, input, out),
-        Task::Run => scenario::play(alloc, input, out),
+        Task::Decode => decode(errors, alloc, input, out),
+        Task::Run(watch) => scenario::play(errors, alloc, watch, input, out),
     }
 }
 
 /// Runs the scenario of the input in threads, each of which has so many turns at most, and gives the exit
 /// status.
-fn work_in_threads<H: Threads + Wait + Sync, R: Read + Drop, W: Write + Drop>(
+fn work_in_threads<H: Threads + Wait + Sync + Files + Eprint, R: Read + Drop, W: Write + Drop>(
     rt: &H,
     alloc: Global,
     turns: Turns,
+    file: Option<&str>,
     reader: R,
     writer: W,
 ) -> u8
-    ensures { result ≤ 5 }
+    ensures { result ≤ 6 }
 {
     let Ok(mut out) = BufWriter::new(alloc, writer) else {
         return Failure::OutOfMemory.status();
     };
-    let played = match read_input(alloc, reader) {
-        Ok(input) => scenario::play_threads(rt, alloc, turns, &input, &mut out),
-        Err(failure) => Err(failure),
+    let input = match read_from(rt, alloc, file, reader) {
+        Ok(input) => input,
+        Err(failure) => return close(out, Err(failure)),
     };
-    match played {
+    match scenario::play_threads(rt, alloc, turns, &input, &mut out) {
         Ok(ending) => match close(out, Ok(())) {
             0 => ending.status(),
             status => status,
         },
-        Err(failure) => close(out, Err(failure)),
+        Err(failure) => {
+            tell_of(rt, failure, &input);
+            close(out, Err(failure))
+        }
     }
 }
 
@@ -97,7 +225,7 @@ fn work_in_threads<H: Threads + Wait + Sync, R: Read + Drop, W: Write + Drop>(
 fn close<W: Write + Drop>(mut out: BufWriter<W>, done: Result<(), Failure>) -> u8
     ensures done { result ≡ 0 → done ≡ Ok tt }
     ensures failed { IfErr done (λ failure. (result ≡ status_of failure) ⊎ (result ≡ 4)) }
-    ensures status { result ≤ 4 }
+    ensures status { result ≤ 6 }
 {
     let written = match done {
         Ok(()) | Err(Failure::OutOfMemory) => out.flush(),

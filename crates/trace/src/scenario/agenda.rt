@@ -7,7 +7,7 @@ ghost use Rattle.trace.specs.Agendas.{is_fitting_entry};
 
 use crate::command_line::Turns;
 use crate::failure::Failure;
-use crate::input::is_skipped;
+use crate::input::{is_skipped, without_return};
 use crate::scenario::opening::{Opening, Sizes};
 use crate::scenario::parse::{Common, Entry, Setting, View};
 use crate::scenario::words::Words;
@@ -22,6 +22,7 @@ pub fn read_agenda(alloc: Global, input: &[u8]) -> Result<Agenda, Failure> {
     let mut number = 0usize;
     for text in input.split(|byte| *byte == b'\n') {
         number = number.saturating_add(1);
+        let text = without_return(text);
         if !is_skipped(text) {
             reading.read_line(alloc, Words::of(number, text))?;
         }

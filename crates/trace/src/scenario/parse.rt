@@ -6,10 +6,12 @@ ghost use Rattle.trace.specs.Agendas.{is_fitting_entry, names_up_to, puts_outsid
 use crate::failure::{Failure, Refusal};
 use crate::scenario::opening::{Opening, Shape, Sizes};
 use crate::scenario::words::Words;
+use crate::wanted::{Keyword, Quantity, Wanted};
 use arrayvec::ArrayVec;
 use disk_model::{DiskPlan, Order};
 use fis_view::Bytes;
 use hba_driver::{Request, Work};
+use hba_fbs::Register;
 use pm_world::Step;
 use std::alloc::Global;
 
@@ -62,6 +64,10 @@ pub enum Action {
     Settle(u64),
     /// To see which devices are faulty, and what stopped the port.
     Faults,
+    /// To see all registers of the host port.
+    Registers,
+    /// To see this register of it.
+    Register(Register),
     /// To see what is shown.
     See(View),
 }
@@ -86,7 +92,9 @@ impl Setting {
         opening: &Opening,
     ) -> Result<Option<Setting>, Failure> {
         let setting = match name {
-            b"ports" if opening.is_begun() => return Err(words.refused(Refusal::Order)),
+            b"ports" if opening.is_begun() => {
+                return Err(words.refused(Refusal::Order, Wanted::PortsFirst));
+            }
             b"ports" => Setting::Ports(sizes(words)?),
             b"disk" => disk(words, opening)?,
             b"script" => script(alloc, words, opening)?,
@@ -111,9 +119,11 @@ impl Action {
             b"inject" => Action::Step(inject(alloc, words)?),
             b"step" => Action::Step(step(words)?),
             b"poll" => Action::Step(Step::Poll),
-            b"settle" => Action::Settle(words.number(1, MOST_ROUNDS)?),
+            b"settle" => Action::Settle(words.number(Quantity::Rounds, 1, MOST_ROUNDS)?),
             b"faults" => Action::Faults,
-            _ => match Common::read(alloc, name, words, sizes, LAST_NAME)? {
+            b"regs" => Action::Registers,
+            b"reg" => Action::Register(register(words)?),
+            _ => match Common::read(alloc, name, words, sizes, LAST_NAME, Wanted::RunLine)? {
                 Common::Submit(device, request) => Action::Step(Step::Submit(device, request)),
                 Common::Put(at, bytes) => Action::Step(Step::Put(at, bytes)),
                 Common::See(view) => Action::See(view),
@@ -139,12 +149,15 @@ impl Entry {
         let last = sizes.ports - 1;
         let entry = match name {
             b"barrier" => Entry::Barrier,
-            b"pull" => Entry::Pull(words.port(last)?, words.number(0, LARGEST)? as u32),
-            _ => Entry::Common(Common::read(alloc, name, words, sizes, last)?),
+            b"pull" => Entry::Pull(
+                words.port(last)?,
+                words.number(Quantity::Fises, 0, LARGEST)? as u32,
+            ),
+            _ => Entry::Common(Common::read(alloc, name, words, sizes, last, Wanted::ThreadsLine)?),
         };
         words.end()?;
         if entry.puts_outside(sizes) {
-            return Err(words.refused(Refusal::Range));
+            return Err(words.refused_at(2, Refusal::Range, Wanted::ClientArea));
         }
         Ok(entry)
     }
@@ -169,6 +182,7 @@ impl Common {
         words: &mut Words<'_>,
         sizes: Sizes,
         last: u8,
+        known: Wanted,
     ) -> Result<Common, Failure>
         ensures { IfOk result (λ common. names_up_to last common ≡ true) }
     {
@@ -179,8 +193,10 @@ impl Common {
             b"put" => Common::Put(words.address()?, words.bytes(alloc)?),
             b"show" => Common::See(memory(words, sizes)?),
             b"counts" => Common::See(View::Counts),
-            b"ports" | b"disk" | b"script" => return Err(words.refused(Refusal::Order)),
-            _ => return Err(words.refused(Refusal::Command)),
+            b"ports" | b"disk" | b"script" => {
+                return Err(words.refused(Refusal::Order, Wanted::Earlier));
+            }
+            _ => return Err(words.refused(Refusal::Command, known)),
         };
         Ok(common)
     }
@@ -188,11 +204,11 @@ impl Common {
 
 /// The words after `ports`.
 fn sizes(words: &mut Words<'_>) -> Result<Sizes, Failure> {
-    let ports = words.number(1, 15)? as u8;
-    words.keyword(b"capacity")?;
-    let capacity = words.number(1, 64)? as u8;
-    words.keyword(b"memory")?;
-    let memory = words.number(2, 16)? as u8;
+    let ports = words.number(Quantity::Ports, 1, 15)? as u8;
+    words.keyword(Keyword::Capacity)?;
+    let capacity = words.number(Quantity::Capacity, 1, 64)? as u8;
+    words.keyword(Keyword::Memory)?;
+    let memory = words.number(Quantity::Memory, 2, 16)? as u8;
     Ok(Sizes {
         ports,
         capacity,
@@ -204,11 +220,11 @@ fn sizes(words: &mut Words<'_>) -> Result<Sizes, Failure> {
 fn disk(words: &mut Words<'_>, opening: &Opening) -> Result<Setting, Failure> {
     let port = words.port(LAST_NAME)?;
     if opening.has_disk(port) || opening.has_script(port) {
-        return Err(words.refused(Refusal::Order));
+        return Err(words.refused(Refusal::Order, Wanted::FreePort));
     }
     has_port(words, opening, port)?;
-    words.keyword(b"sectors")?;
-    let sectors = words.number(1, 65_536)? as u32;
+    words.keyword(Keyword::Sectors)?;
+    let sectors = words.number(Quantity::Sectors, 1, 65_536)? as u32;
     let plan = DiskPlan {
         order: order(words)?,
         chunk: chunk(words)?,
@@ -226,7 +242,7 @@ fn order(words: &mut Words<'_>) -> Result<Order, Failure> {
     match words.next_word() {
         Some(b"oldest") => Ok(Order::Oldest),
         Some(b"newest") => Ok(Order::Newest),
-        _ => Err(words.refused(Refusal::Number)),
+        _ => Err(words.refused(Refusal::Number, Wanted::Order)),
     }
 }
 
@@ -237,9 +253,9 @@ fn chunk(words: &mut Words<'_>) -> Result<u16, Failure>
     if !words.takes(b"chunk") {
         return Ok(8192);
     }
-    let chunk = words.number(512, 8192)? as u16;
+    let chunk = words.number(Quantity::Chunk, 512, 8192)? as u16;
     if chunk % 512 != 0 {
-        return Err(words.refused(Refusal::Range));
+        return Err(words.refused(Refusal::Range, Wanted::WholeSectors));
     }
     Ok(chunk)
 }
@@ -251,9 +267,9 @@ fn bad_sectors(words: &mut Words<'_>) -> Result<ArrayVec<u32, 16>, Failure> {
         if !words.takes(b"bad") {
             break;
         }
-        let sector = words.number(0, LARGEST)? as u32;
+        let sector = words.number(Quantity::BadSector, 0, LARGEST)? as u32;
         if sectors.try_push(sector).is_err() {
-            return Err(words.refused(Refusal::Range));
+            return Err(words.refused(Refusal::Range, Wanted::FewerBad));
         }
     }
     Ok(sectors)
@@ -261,8 +277,10 @@ fn bad_sectors(words: &mut Words<'_>) -> Result<ArrayVec<u32, 16>, Failure> {
 
 /// Sees that the world has this port.
 fn has_port(words: &Words<'_>, opening: &Opening, port: u8) -> Result<(), Failure> {
-    if port >= opening.sizes().ports {
-        return Err(words.refused(Refusal::Range));
+    let last = opening.sizes().ports - 1;
+    if port > last {
+        let wanted = Wanted::Number(Quantity::Port, 0, u64::from(last));
+        return Err(words.refused(Refusal::Range, wanted));
     }
     Ok(())
 }
@@ -271,7 +289,7 @@ fn has_port(words: &Words<'_>, opening: &Opening, port: u8) -> Result<(), Failur
 fn script(alloc: Global, words: &mut Words<'_>, opening: &Opening) -> Result<Setting, Failure> {
     let port = words.port(LAST_NAME)?;
     if opening.has_disk(port) {
-        return Err(words.refused(Refusal::Order));
+        return Err(words.refused(Refusal::Order, Wanted::FreePort));
     }
     has_port(words, opening, port)?;
     Ok(Setting::Script(port, words.bytes(alloc)?))
@@ -288,8 +306,8 @@ fn transfer(alloc: Global, work: Work, words: &mut Words<'_>, last: u8) -> Resul
     ensures { IfOk result (λ common. names_up_to last common ≡ true) }
 {
     let device = words.port(last)?;
-    let lba = words.number(0, u64::MAX)?;
-    let sectors = words.number(0, 65_535)? as u16;
+    let lba = words.number(Quantity::Lba, 0, u64::MAX)?;
+    let sectors = words.number(Quantity::Count, 0, 65_535)? as u16;
     let prds = words.prds(alloc)?;
     let request = Request {
         work,
@@ -317,18 +335,27 @@ fn flush(alloc: Global, words: &mut Words<'_>, last: u8) -> Result<Common, Failu
 /// The words after `show`: an address and how many bytes, which all lie in client memory.
 fn memory(words: &mut Words<'_>, sizes: Sizes) -> Result<View, Failure> {
     let at = words.address()?;
-    let count = words.number(0, LARGEST)? as u32;
+    let count = words.number(Quantity::Length, 0, LARGEST)? as u32;
     words.end()?;
     if !sizes.has_client(at, count as usize) {
-        return Err(words.refused(Refusal::Range));
+        return Err(words.refused_at(2, Refusal::Range, Wanted::ClientArea));
     }
     Ok(View::Memory(at, count))
+}
+
+/// The words after `reg`: the offset of a register among those of its port.
+fn register(words: &mut Words<'_>) -> Result<Register, Failure> {
+    let offset = words.address()?;
+    match Register::at(offset) {
+        Some(register) => Ok(register),
+        None => Err(words.refused(Refusal::Range, Wanted::Register)),
+    }
 }
 
 /// The words after `step`.
 fn step(words: &mut Words<'_>) -> Result<Step, Failure> {
     let Some(name) = words.next_word() else {
-        return Err(words.refused(Refusal::Number));
+        return Err(words.refused(Refusal::Number, Wanted::StepName));
     };
     match name {
         b"pmpresence" => Ok(Step::PmPresence(words.port(LAST_NAME)?)),
@@ -341,6 +368,6 @@ fn step(words: &mut Words<'_>) -> Result<Step, Failure> {
         b"hosttake" => Ok(Step::HostTake),
         b"tick" => Ok(Step::Tick),
         b"hostpush" => Ok(Step::HostPush),
-        _ => Err(words.refused(Refusal::Command)),
+        _ => Err(words.refused(Refusal::Command, Wanted::StepName)),
     }
 }

@@ -1,60 +1,104 @@
 //! A scenario as it goes on.
 
-use crate::failure::Failure;
+use crate::command_line::Watch;
+use crate::failure::{Failure, Refusal};
 use crate::input::is_skipped;
+use crate::scenario::lines::Lines;
 use crate::scenario::opening::{Opening, Sizes};
 use crate::scenario::parse::{Action, Setting};
-use crate::scenario::text::{Reply, write_faults, write_view};
+use crate::scenario::printer::{Expected, Printer};
+use crate::scenario::text::{Reply, print_faults, print_registers, print_view};
+use crate::scenario::tracer::{Sight, Tracer};
 use crate::scenario::words::Words;
+use crate::wanted::{Quantity, Wanted};
 use pm_world::{Answer, Counts, Step, StepError, World, WorldError};
 use std::alloc::Global;
-use std::io::Write;
+use std::io::{Eprint, Write};
 use std::mem;
 
 /// Plays the scenario line by line and writes what each line prints. A refused line ends it; the lines
-/// before have acted and printed.
-pub fn play<W: Write>(alloc: Global, input: &[u8], out: &mut W) -> Result<(), Failure> {
-    let mut scenario = Scenario::new(alloc);
-    let mut number = 0usize;
-    for text in input.split(|byte| *byte == b'\n') {
-        number = number.saturating_add(1);
-        if !is_skipped(text) {
-            scenario.play_line(alloc, Words::of(number, text), out)?;
-        }
+/// before have acted and printed. So does a line that prints something else than was expected; standard error is told of
+/// both.
+pub fn play<E: Eprint, W: Write>(
+    errors: &E,
+    alloc: Global,
+    watch: Watch,
+    input: &[u8],
+    out: &mut W,
+) -> Result<(), Failure> {
+    let mut printer = Printer::new(alloc, watch.is_json);
+    let mut scenario = Scenario::new(alloc, watch);
+    let played = scenario.play_lines(alloc, Lines::of(input), &mut printer, out);
+    if let (Err(Failure::Unexpected { .. }), Some(mismatch)) = (played, printer.mismatch()) {
+        // Where standard error is closed, the exit status still tells.
+        let _unheard = errors.eprintln(mismatch);
     }
-    scenario.end(alloc, out)
+    played
 }
 
 /// A scenario up to some line.
 #[derive(Drop)]
 struct Scenario {
+    watch: Watch,
     opening: Opening,
     /// The world and its counts, once it is built.
     scene: Option<Scene>,
 }
 
 impl Scenario {
-    fn new(alloc: Global) -> Scenario {
+    fn new(alloc: Global, watch: Watch) -> Scenario {
         Scenario {
+            watch,
             opening: Opening::new(alloc),
             scene: None,
         }
     }
 
-    /// Does what one line says.
+    /// Does what all lines say.
+    fn play_lines<'a, W: Write>(
+        &mut self,
+        alloc: Global,
+        mut lines: Lines<'a>,
+        printer: &mut Printer<'a>,
+        out: &mut W,
+    ) -> Result<(), Failure> {
+        for _ in 0..u64::MAX {
+            let Some((line, text)) = lines.next_line() else {
+                break;
+            };
+            if is_skipped(text) {
+                continue;
+            }
+            let mut words = Words::of(line, text);
+            match words.next_word().unwrap_or(&[]) {
+                b"expect" => {
+                    let text = words.text()?;
+                    printer.expect(Expected { line, text })?;
+                }
+                b"repeat" => begin_block(&mut lines, &mut words)?,
+                b"end" => end_block(&mut lines, &mut words)?,
+                name => self.play_line(alloc, name, words, printer, out)?,
+            }
+        }
+        self.end(alloc, printer, out)?;
+        printer.end()
+    }
+
+    /// Does what one line of this name says.
     fn play_line<W: Write>(
         &mut self,
         alloc: Global,
+        name: &[u8],
         mut words: Words<'_>,
+        printer: &mut Printer<'_>,
         out: &mut W,
     ) -> Result<(), Failure> {
-        let name = words.next_word().unwrap_or(&[]);
         if let Some(scene) = &mut self.scene {
-            return scene.play_line(alloc, name, words, out);
+            return scene.play_line(alloc, name, words, printer, out);
         }
         match Setting::read(alloc, name, &mut words, &self.opening)? {
             Some(setting) => Ok(self.opening.set(alloc, setting)?),
-            None => self.begin(alloc, name, words, out),
+            None => self.begin(alloc, name, words, printer, out),
         }
     }
 
@@ -66,10 +110,12 @@ impl Scenario {
         alloc: Global,
         name: &[u8],
         words: Words<'_>,
+        printer: &mut Printer<'_>,
         out: &mut W,
     ) -> Result<(), Failure> {
-        let mut scene = Scene::open(alloc, self.close_opening(alloc), out)?;
-        scene.play_line(alloc, name, words, out)?;
+        let opening = self.close_opening(alloc);
+        let mut scene = Scene::open(alloc, self.watch, opening, printer, out)?;
+        scene.play_line(alloc, name, words, printer, out)?;
         self.scene = Some(scene);
         Ok(())
     }
@@ -80,12 +126,45 @@ impl Scenario {
     }
 
     /// Builds the world if no line did.
-    fn end<W: Write>(&mut self, alloc: Global, out: &mut W) -> Result<(), Failure> {
+    fn end<W: Write>(
+        &mut self,
+        alloc: Global,
+        printer: &mut Printer<'_>,
+        out: &mut W,
+    ) -> Result<(), Failure> {
         if self.scene.is_none() {
-            self.scene = Some(Scene::open(alloc, self.close_opening(alloc), out)?);
+            let opening = self.close_opening(alloc);
+            self.scene = Some(Scene::open(alloc, self.watch, opening, printer, out)?);
         }
         Ok(())
     }
+}
+
+/// The most times that a block comes.
+const MOST_TIMES: u64 = 1_000_000;
+
+/// Does what a line `repeat` says.
+fn begin_block(lines: &mut Lines<'_>, words: &mut Words<'_>) -> Result<(), Failure> {
+    if lines.is_in_block() {
+        return Err(words.refused(Refusal::Order, Wanted::OneBlock));
+    }
+    let times = words.number(Quantity::Times, 1, MOST_TIMES)?;
+    words.end()?;
+    if !lines.has_end() {
+        return Err(words.refused_at(1, Refusal::Order, Wanted::End));
+    }
+    lines.begin_block(times);
+    Ok(())
+}
+
+/// Does what a line `end` says.
+fn end_block(lines: &mut Lines<'_>, words: &mut Words<'_>) -> Result<(), Failure> {
+    if !lines.is_in_block() {
+        return Err(words.refused(Refusal::Order, Wanted::Repeat));
+    }
+    words.end()?;
+    lines.end_block();
+    Ok(())
 }
 
 /// A world that is built, and what its answers have told so far.
@@ -94,11 +173,18 @@ struct Scene {
     world: World,
     sizes: Sizes,
     counts: Counts,
+    tracer: Tracer,
 }
 
 impl Scene {
     /// Builds the world and writes its sizes.
-    fn open<W: Write>(alloc: Global, opening: Opening, out: &mut W) -> Result<Scene, Failure> {
+    fn open<W: Write>(
+        alloc: Global,
+        watch: Watch,
+        opening: Opening,
+        printer: &mut Printer<'_>,
+        out: &mut W,
+    ) -> Result<Scene, Failure> {
         let sizes = opening.sizes();
         let units = opening.into_units(alloc)?;
         let world = match World::new(alloc, sizes.config(), units) {
@@ -106,11 +192,12 @@ impl Scene {
             Err(WorldError::OutOfMemory) => return Err(Failure::OutOfMemory),
             Err(WorldError::BadConfig) => unreachable!(),
         };
-        writeln!(out, "{}", Reply::World(sizes))?;
+        printer.print(alloc, &Reply::World(sizes), out)?;
         Ok(Scene {
             world,
             sizes,
             counts: Counts::new(alloc),
+            tracer: Tracer::new(watch),
         })
     }
 
@@ -120,37 +207,45 @@ impl Scene {
         alloc: Global,
         name: &[u8],
         mut words: Words<'_>,
+        printer: &mut Printer<'_>,
         out: &mut W,
     ) -> Result<(), Failure> {
-        match Action::read(alloc, name, &mut words, self.sizes)? {
-            Action::Step(step) => {
-                let reply = self.step(alloc, &step)?;
-                writeln!(out, "{reply}")?;
-            }
-            Action::Settle(rounds) => {
-                let reply = self.settle(alloc, rounds)?;
-                writeln!(out, "{reply}")?;
-            }
-            Action::Faults => write_faults(self.world.host(), out)?,
+        let reply = match Action::read(alloc, name, &mut words, self.sizes)? {
+            Action::Step(step) => self.step(alloc, &step, out)?,
+            Action::Settle(rounds) => self.settle(alloc, rounds, out)?,
+            Action::Register(register) => Reply::register(self.world.host(), register),
+            Action::Faults => return print_faults(alloc, self.world.host(), printer, out),
+            Action::Registers => return print_registers(alloc, self.world.host(), printer, out),
             Action::See(view) => {
-                write_view(alloc, view, self.world.memory(), self.counts.rows(), out)?;
+                let (memory, counts) = (self.world.memory(), self.counts.rows());
+                return print_view(alloc, view, memory, counts, printer, out);
             }
-        }
-        Ok(())
+        };
+        printer.print(alloc, &reply, out)
     }
 
     /// Does one step, and gives what is printed of it.
-    fn step(&mut self, alloc: Global, step: &Step) -> Result<Reply, Failure> {
-        match self.act(alloc, step)? {
+    fn step<W: Write>(
+        &mut self,
+        alloc: Global,
+        step: &Step,
+        out: &mut W,
+    ) -> Result<Reply, Failure> {
+        match self.act(alloc, step, out)? {
             Ok(answer) => Ok(Reply::of(alloc, &answer)?),
             Err(error) => Ok(Reply::Refused(error)),
         }
     }
 
     /// Does rounds, at most so many, up to the first in which no step did anything.
-    fn settle(&mut self, alloc: Global, rounds: u64) -> Result<Reply, Failure> {
+    fn settle<W: Write>(
+        &mut self,
+        alloc: Global,
+        rounds: u64,
+        out: &mut W,
+    ) -> Result<Reply, Failure> {
         for _ in 0..rounds {
-            if !self.round(alloc)? {
+            if !self.round(alloc, out)? {
                 return Ok(Reply::Settled);
             }
         }
@@ -159,31 +254,66 @@ impl Scene {
 
     /// Does the steps of a round: those of each device and its port, upwards, and then those of the
     /// multiplier and the host. Says whether one of them did something.
-    fn round(&mut self, alloc: Global) -> Result<bool, Failure> {
+    fn round<W: Write>(&mut self, alloc: Global, out: &mut W) -> Result<bool, Failure> {
         let mut is_moved = false;
         for n in 0..self.sizes.ports {
-            is_moved |= self.moves(alloc, &Step::PmPresence(n))?;
-            is_moved |= self.moves(alloc, &Step::DiskTake(n))?;
-            is_moved |= self.moves(alloc, &Step::DiskSend(n))?;
-            is_moved |= self.moves(alloc, &Step::PmFromDevice(n))?;
-            is_moved |= self.moves(alloc, &Step::PmDown(n))?;
+            is_moved |= self.moves(alloc, &Step::PmPresence(n), out)?;
+            is_moved |= self.moves(alloc, &Step::DiskTake(n), out)?;
+            is_moved |= self.moves(alloc, &Step::DiskSend(n), out)?;
+            is_moved |= self.moves(alloc, &Step::PmFromDevice(n), out)?;
+            is_moved |= self.moves(alloc, &Step::PmDown(n), out)?;
         }
-        is_moved |= self.moves(alloc, &Step::PmFromHost)?;
-        is_moved |= self.moves(alloc, &Step::PmUp)?;
-        is_moved |= self.moves(alloc, &Step::HostTake)?;
-        is_moved |= self.moves(alloc, &Step::Tick)?;
-        is_moved |= self.moves(alloc, &Step::HostPush)?;
+        is_moved |= self.moves(alloc, &Step::PmFromHost, out)?;
+        is_moved |= self.moves(alloc, &Step::PmUp, out)?;
+        is_moved |= self.moves(alloc, &Step::HostTake, out)?;
+        is_moved |= self.moves(alloc, &Step::Tick, out)?;
+        is_moved |= self.moves(alloc, &Step::HostPush, out)?;
         Ok(is_moved)
     }
 
     /// Does one step, and says whether it was neither idle nor blocked.
-    fn moves(&mut self, alloc: Global, step: &Step) -> Result<bool, Failure> {
-        let answer = self.act(alloc, step)?;
+    fn moves<W: Write>(
+        &mut self,
+        alloc: Global,
+        step: &Step,
+        out: &mut W,
+    ) -> Result<bool, Failure> {
+        let answer = self.act(alloc, step, out)?;
         Ok(!matches!(answer, Ok(Answer::Idle | Answer::Blocked)))
     }
 
-    /// Does one step and counts its answer. Want of memory ends the scenario.
-    fn act(&mut self, alloc: Global, step: &Step) -> Result<Result<Answer, StepError>, Failure> {
+    /// Does one step and counts its answer, and writes what it did where the run is traced. Want of memory ends the scenario.
+    fn act<W: Write>(
+        &mut self,
+        alloc: Global,
+        step: &Step,
+        out: &mut W,
+    ) -> Result<Result<Answer, StepError>, Failure> {
+        if self.tracer.is_on() {
+            return self.act_in_sight(alloc, step, out);
+        }
+        self.count(alloc, step)
+    }
+
+    /// Does one step, counts its answer, and writes what it did.
+    // A function clears all its locals when it is called: a step that is not traced is not to pay for what is seen of it.
+    #[inline(never)]
+    fn act_in_sight<W: Write>(
+        &mut self,
+        alloc: Global,
+        step: &Step,
+        out: &mut W,
+    ) -> Result<Result<Answer, StepError>, Failure> {
+        let sight = Sight::of(alloc, &self.world, step)?;
+        let acted = self.count(alloc, step)?;
+        if let Ok(answer) = &acted {
+            self.tracer.note(&self.world, step, &sight, answer, out)?;
+        }
+        Ok(acted)
+    }
+
+    /// Does one step and counts its answer.
+    fn count(&mut self, alloc: Global, step: &Step) -> Result<Result<Answer, StepError>, Failure> {
         match self.world.step(alloc, step) {
             Ok(answer) => {
                 self.counts.note(&answer)?;

@@ -3,10 +3,12 @@
 use crate::failure::Failure;
 use crate::scenario::opening::Sizes;
 use crate::scenario::parse::View;
+use crate::scenario::printer::Printer;
 use hba_driver::{Completion, Outcome, SubmitError, Ticket};
-use hba_fbs::HostPort;
+use hba_fbs::{HostPort, Register};
 use host_memory::{CLIENT_START, HostMemory};
 use pm_world::{Answer, ConnCount, StepError};
+use port_errors::{DeviceCause, PortCause};
 use std::alloc::{AllocError, Global};
 use std::fmt;
 use std::io::Write;
@@ -56,6 +58,18 @@ pub enum Reply {
     },
     /// How many frames of a connection were sent and taken.
     Count(ConnCount),
+    /// The first cause of a faulty device.
+    Fault {
+        dev: u8,
+        cause: DeviceCause,
+    },
+    /// What stopped the host port.
+    PortFault(PortCause),
+    /// What a register of the host port shows.
+    Register {
+        register: Register,
+        value: u32,
+    },
 }
 
 /// A frame of a connection, its bytes as digits.
@@ -115,6 +129,12 @@ impl Reply {
         Ok(reply)
     }
 
+    /// What a register of a host port shows.
+    pub fn register(port: &HostPort, register: Register) -> Reply {
+        let value = port.read(register.offset()).unwrap_or(0);
+        Reply::Register { register, value }
+    }
+
     /// So many bytes of client memory, from this address on, as far as they lie in it.
     fn shown(alloc: Global, memory: &HostMemory, at: u32, count: u32) -> Result<Reply, AllocError> {
         let start = at.saturating_sub(CLIENT_START) as usize;
@@ -125,36 +145,60 @@ impl Reply {
     }
 }
 
-/// Writes the causes that a host port keeps: a line for each faulty device, upwards, and then one for what stopped the
-/// port. It writes nothing where nothing went wrong.
-pub fn write_faults<W: Write>(port: &HostPort, out: &mut W) -> Result<(), Failure> {
+/// Prints the causes that a host port keeps: a line for each faulty device, upwards, and then one for what stopped the
+/// port. It prints nothing where nothing went wrong.
+pub fn print_faults<W: Write>(
+    alloc: Global,
+    port: &HostPort,
+    printer: &mut Printer<'_>,
+    out: &mut W,
+) -> Result<(), Failure> {
     for dev in 0..16_u8 {
         if let Some(cause) = port.cause(dev) {
-            writeln!(out, "device {dev} cause {}", cause as u8)?;
+            printer.print(alloc, &Reply::Fault { dev, cause }, out)?;
         }
     }
     if let Some(cause) = port.port_cause() {
-        writeln!(out, "port-cause {}", cause as u8)?;
+        printer.print(alloc, &Reply::PortFault(cause), out)?;
     }
     Ok(())
 }
 
-/// Writes what a line asks to see of this memory and these counts.
-pub fn write_view<W: Write>(
+/// Prints all registers of a host port, in the order of their offsets.
+pub fn print_registers<W: Write>(
+    alloc: Global,
+    port: &HostPort,
+    printer: &mut Printer<'_>,
+    out: &mut W,
+) -> Result<(), Failure> {
+    for offset in 0..=LAST_REGISTER {
+        if let Some(register) = Register::at(offset) {
+            printer.print(alloc, &Reply::register(port, register), out)?;
+        }
+    }
+    Ok(())
+}
+
+/// The offset of the last register of a port.
+const LAST_REGISTER: u32 = 0x40;
+
+/// Prints what a line asks to see of this memory and these counts.
+pub fn print_view<W: Write>(
     alloc: Global,
     view: View,
     memory: &HostMemory,
     counts: &[ConnCount],
+    printer: &mut Printer<'_>,
     out: &mut W,
 ) -> Result<(), Failure> {
     match view {
         View::Memory(at, count) => {
             let reply = Reply::shown(alloc, memory, at, count)?;
-            writeln!(out, "{reply}")?;
+            printer.print(alloc, &reply, out)?;
         }
         View::Counts => {
             for count in counts {
-                writeln!(out, "{}", Reply::Count(*count))?;
+                printer.print(alloc, &Reply::Count(*count), out)?;
             }
         }
     }
@@ -196,12 +240,48 @@ impl fmt::Display for Reply {
                 }
             }
             Reply::Put => write!(f, "put"),
+            seen => seen.write_seen(f),
+        }
+    }
+}
+
+impl Reply {
+    /// Writes what a line asked to see.
+    fn write_seen<W: fmt::Write>(&self, f: &mut fmt::Formatter<W>) -> fmt::Result {
+        match self {
             Reply::Shown { at, digits } => write!(f, "{at:x} {digits}"),
             Reply::Count(count) => {
                 write!(f, "port {} conn {}", count.port, count.conn)?;
                 write!(f, " sent {} taken {}", count.sent, count.taken)
             }
+            Reply::Fault { dev, cause } => write!(f, "device {dev} cause {}", *cause as u8),
+            Reply::PortFault(cause) => write!(f, "port-cause {}", *cause as u8),
+            Reply::Register { register, value } => {
+                let name = name_of(*register);
+                write!(f, "reg {:02x} {name} {value:08x}", register.offset())
+            }
+            _ => Ok(()),
         }
+    }
+}
+
+/// The name of a register in the standard, without the prefix Px.
+pub fn name_of(register: Register) -> &'static str {
+    match register {
+        Register::Clb => "clb",
+        Register::Clbu => "clbu",
+        Register::Fb => "fb",
+        Register::Fbu => "fbu",
+        Register::Is => "is",
+        Register::Ie => "ie",
+        Register::Cmd => "cmd",
+        Register::Tfd => "tfd",
+        Register::Sig => "sig",
+        Register::Serr => "serr",
+        Register::Sact => "sact",
+        Register::Ci => "ci",
+        Register::Sntf => "sntf",
+        Register::Fbs => "fbs",
     }
 }
 
@@ -210,7 +290,8 @@ fn write_refused<W: fmt::Write>(error: SubmitError, f: &mut fmt::Formatter<W>) -
     write!(f, "submit refused {number} {error:?}")
 }
 
-fn write_outcome<W: fmt::Write>(outcome: Outcome, f: &mut fmt::Formatter<W>) -> fmt::Result {
+/// Writes how a request ended.
+pub fn write_outcome<W: fmt::Write>(outcome: Outcome, f: &mut fmt::Formatter<W>) -> fmt::Result {
     match outcome {
         Outcome::Done => write!(f, "done"),
         Outcome::DeviceError { status, error } => write!(

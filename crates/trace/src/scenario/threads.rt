@@ -9,7 +9,8 @@ use crate::failure::Failure;
 use crate::scenario::agenda::read_agenda;
 use crate::scenario::opening::Sizes;
 use crate::scenario::parse::View;
-use crate::scenario::text::{Reply, write_view};
+use crate::scenario::printer::Printer;
+use crate::scenario::text::{Reply, print_view};
 use pm_threads::{
     CloseError, Gate, GateShut, Links, LinksError, RunError, Setup, Summary, close, run_threads,
 };
@@ -116,8 +117,16 @@ fn write_summary<W: Write>(
         let result = *result;
         writeln!(out, "{}", Reply::Request { number, result })?;
     }
+    let mut printer = Printer::new(alloc, false);
     for view in views {
-        write_view(alloc, *view, &summary.memory, &summary.counts, out)?;
+        print_view(
+            alloc,
+            *view,
+            &summary.memory,
+            &summary.counts,
+            &mut printer,
+            out,
+        )?;
     }
     Ok(())
 }

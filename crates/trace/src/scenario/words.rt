@@ -3,8 +3,9 @@
 ghost use Rattle.std.specs.Prelude.{◌≡◌, ◌≤◌, IfOk};
 
 use crate::failure::{Failure, Refusal};
-use crate::hex_text::{HexError, bytes_of};
+use crate::hex_text::{HexError, bytes_of, hex_fault};
 use crate::input::is_blank;
+use crate::wanted::{Keyword, Quantity, Wanted};
 use fis_view::Bytes;
 use host_memory::Prd;
 use std::alloc::Global;
@@ -13,25 +14,39 @@ use std::alloc::Global;
 #[derive(Drop)]
 pub struct Words<'a> {
     line: usize,
+    /// The number of the word that was asked for last, counted from 1.
+    asked: usize,
     rest: &'a [u8],
 }
 
 impl<'a> Words<'a> {
     /// The words of this text, which is the line of this number.
     pub fn of(line: usize, text: &'a [u8]) -> Words<'a> {
-        Words { line, rest: text }
+        Words {
+            line,
+            asked: 0,
+            rest: text,
+        }
     }
 
-    /// The line as refused for this reason.
-    pub fn refused(&self, refusal: Refusal) -> Failure {
+    /// The line as refused for the word that was asked for last, where this was wanted.
+    pub fn refused(&self, refusal: Refusal, wanted: Wanted) -> Failure {
+        self.refused_at(self.asked, refusal, wanted)
+    }
+
+    /// The line as refused for the word of this number, where this was wanted.
+    pub fn refused_at(&self, word: usize, refusal: Refusal, wanted: Wanted) -> Failure {
         Failure::Line {
             line: self.line,
             refusal,
+            word,
+            wanted,
         }
     }
 
     /// The next word, if there is one more.
     pub fn next_word(&mut self) -> Option<&'a [u8]> {
+        self.asked = self.asked.saturating_add(1);
         let start = self.rest.iter().position(|byte| !is_blank(*byte))?;
         let text = &self.rest[start..];
         let end = text.iter().position(|byte| is_blank(*byte));
@@ -42,45 +57,39 @@ impl<'a> Words<'a> {
 
     /// The next word as a number within these limits. A word that is missing, or that has anything but
     /// digits, is `number`; one outside the limits is `range`.
-    pub fn number(&mut self, least: u64, most: u64) -> Result<u64, Failure>
+    pub fn number(&mut self, what: Quantity, least: u64, most: u64) -> Result<u64, Failure>
         ensures within { IfOk result (λ n. (least ≤ n) × (n ≤ most)) }
     {
+        let wanted = Wanted::Number(what, least, most);
         let Some(word) = self.next_word() else {
-            return Err(self.refused(Refusal::Number));
+            return Err(self.refused(Refusal::Number, wanted));
         };
-        self.value(word, 10, least, most)
-    }
-
-    /// What a word spells in this base, within these limits.
-    fn value(&self, word: &[u8], base: u8, least: u64, most: u64) -> Result<u64, Failure>
-        ensures within { IfOk result (λ n. (least ≤ n) × (n ≤ most)) }
-    {
-        match value_within(word, base, least, most) {
+        match value_within(word, 10, least, most) {
             Ok(value) => Ok(value),
-            Err(refusal) => Err(self.refused(refusal)),
+            Err(refusal) => Err(self.refused(refusal, wanted)),
         }
     }
 
     /// The next word as an address, in hexadecimal.
     pub fn address(&mut self) -> Result<u32, Failure> {
         let Some(word) = self.next_word() else {
-            return Err(self.refused(Refusal::Number));
+            return Err(self.refused(Refusal::Number, Wanted::Address));
         };
-        Ok(self.value(word, 16, 0, 0xFFFF_FFFF)? as u32)
+        match value_within(word, 16, 0, 0xFFFF_FFFF) {
+            Ok(value) => Ok(value as u32),
+            Err(refusal) => Err(self.refused(refusal, Wanted::Address)),
+        }
     }
 
     /// The next word as an address and a number of bytes, with a colon between them.
     pub fn prd(&mut self) -> Result<Prd, Failure> {
         let Some(word) = self.next_word() else {
-            return Err(self.refused(Refusal::Number));
+            return Err(self.refused(Refusal::Number, Wanted::Place));
         };
-        let Some(colon) = word.iter().position(|byte| *byte == b':') else {
-            return Err(self.refused(Refusal::Number));
-        };
-        let (address, rest) = word.split_at(colon);
-        let address = self.value(address, 16, 0, 0xFFFF_FFFF)? as u32;
-        let bytes = self.value(rest.get(1..).unwrap_or(&[]), 10, 0, 0xFFFF_FFFF)? as u32;
-        Ok(Prd { address, bytes })
+        match prd_of(word) {
+            Ok(prd) => Ok(prd),
+            Err(refusal) => Err(self.refused(refusal, Wanted::Place)),
+        }
     }
 
     /// All words that are left as such pairs, one at least.
@@ -105,22 +114,23 @@ impl<'a> Words<'a> {
     pub fn port(&mut self, last: u8) -> Result<u8, Failure>
         ensures within { IfOk result (λ n. n ≤ last) }
     {
-        Ok(self.number(0, u64::from(last))? as u8)
+        Ok(self.number(Quantity::Port, 0, u64::from(last))? as u8)
     }
 
     /// Takes the next word, which must be this one.
-    pub fn keyword(&mut self, keyword: &[u8]) -> Result<(), Failure> {
+    pub fn keyword(&mut self, keyword: Keyword) -> Result<(), Failure> {
         match self.next_word() {
-            Some(word) if word == keyword => Ok(()),
-            _ => Err(self.refused(Refusal::Number)),
+            Some(word) if word == keyword.bytes() => Ok(()),
+            _ => Err(self.refused(Refusal::Number, Wanted::Keyword(keyword))),
         }
     }
 
     /// Takes the next word if it is this one, and says whether it was.
     pub fn takes(&mut self, keyword: &[u8]) -> bool {
-        let rest = self.rest;
+        let (asked, rest) = (self.asked, self.rest);
         let is_there = self.next_word() == Some(keyword);
         if !is_there {
+            self.asked = asked;
             self.rest = rest;
         }
         is_there
@@ -128,25 +138,51 @@ impl<'a> Words<'a> {
 
     /// All words that are left as the digits of bytes. No word at all is `number`.
     pub fn bytes(&mut self, alloc: Global) -> Result<Bytes, Failure> {
+        let first = self.asked.saturating_add(1);
         if self.is_at_end() {
-            return Err(self.refused(Refusal::Number));
+            return Err(self.refused_at(first, Refusal::Number, Wanted::Digits));
         }
         let bytes = match bytes_of(alloc, self.rest) {
             Ok(bytes) => bytes,
-            Err(HexError::BadHex) => return Err(self.refused(Refusal::Hex)),
+            Err(HexError::BadHex) => {
+                let (word, wanted) = hex_fault(self.rest, first);
+                return Err(self.refused_at(word, Refusal::Hex, wanted));
+            }
             Err(HexError::OutOfMemory) => return Err(Failure::OutOfMemory),
         };
         self.rest = &[];
         Ok(Bytes::from_vec(bytes))
     }
 
+    /// The rest of the line, in which there is a word.
+    pub fn text(&mut self) -> Result<&'a [u8], Failure> {
+        if self.is_at_end() {
+            let next = self.asked.saturating_add(1);
+            return Err(self.refused_at(next, Refusal::Number, Wanted::Text));
+        }
+        let text = self.rest;
+        self.rest = &[];
+        Ok(text)
+    }
+
     /// Sees that no word is left.
     pub fn end(&mut self) -> Result<(), Failure> {
         match self.next_word() {
             None => Ok(()),
-            Some(_) => Err(self.refused(Refusal::Number)),
+            Some(_) => Err(self.refused(Refusal::Number, Wanted::Nothing)),
         }
     }
+}
+
+/// An address in hexadecimal and a number of bytes in decimal, with a colon between them.
+fn prd_of(word: &[u8]) -> Result<Prd, Refusal> {
+    let Some(colon) = word.iter().position(|byte| *byte == b':') else {
+        return Err(Refusal::Number);
+    };
+    let (address, rest) = word.split_at(colon);
+    let address = value_within(address, 16, 0, 0xFFFF_FFFF)? as u32;
+    let bytes = value_within(rest.get(1..).unwrap_or(&[]), 10, 0, 0xFFFF_FFFF)? as u32;
+    Ok(Prd { address, bytes })
 }
 
 /// What a word spells in this base, 10 or 16. One that has anything but digits, or nothing, is `number`;

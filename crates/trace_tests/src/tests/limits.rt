@@ -1,14 +1,16 @@
 //! The longest input, which no file of a case is to have.
 
 use std::alloc::{AllocError, Global};
+use std::io::Eprint;
 use std::process::Abort;
+use std::rt::Files;
 use std::sync::Wait;
 use std::test::Fail;
 use std::thread::Threads;
 use trace::{LONGEST_INPUT, serve};
 
 /// Sees that `decode` of this input writes this and ends so.
-fn assert_decodes<R: Abort + AllocGlobal + Threads + Wait + Sync>(
+fn assert_decodes<R: Abort + AllocGlobal + Threads + Wait + Sync + Files + Eprint>(
     rt: &R,
     input: &[u8],
     status: u8,
