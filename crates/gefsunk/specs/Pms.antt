@@ -1,6 +1,6 @@
 -- What the calls on a multiplier do, by the rules of the multiplier (Serial ATA 3.x, 16.3). C has no word for stamps: a
 -- FIS of the host has none, and one of a device has the connection that its port counted.
-use Rattle.std.specs.Prelude.{◌≡◌, ◌≢◌, ℕ, ◌+◌, ◌<◌, ◌==◌, if◌then◌else◌, min, true, false, List, replicate, slice_index, slice_set, Option, Some, None, Result, Ok, Err, MatchResult, is_some}
+use Rattle.std.specs.Prelude.{◌≡◌, ◌≢◌, ℕ, ◌+◌, ◌<◌, ◌==◌, if◌then◌else◌, min, true, false, List, replicate, slice_index, slice_set, Some, None, Result, Ok, Err}
 use Rattle.fis_view.specs.Frames.{Stamped, is_frame}
 use Rattle.fis_view.specs.declared.frame.Stamp.{Stamp}
 use Rattle.fis_view.specs.declared.frame.FrameError.{FrameError}

@@ -25,7 +25,7 @@ use denote.Triple.Walked.{Stays, stay_dropped, walk_of}
 use mir.MapTy.{inst_fn}
 use mir.Raw.{raw as bare}
 use mir.Syntax.{a_type, impl, tcons, tnil, dcons, dnil}
-use mir.Val.{Val, vptr}
+use mir.Val.{Val}
 use prog.Wp.{WpFn}
 use types.ByLocal.{alloc_all, pass_all, free_all, look_at, get, sets, lands_as}
 use types.Kit.{‵, raw, ◌⊛◌, some, later, ◌$◌, ◌∵◌, !, qed, by, move, keep, drop, split, join, fsplit, fjoin, fpack, pick, suffices, use0, use1, await, feq_l}
@@ -45,7 +45,7 @@ use Rattle.std_heap.proofs.GlobalAllocator.TheImpl.Met.{passed}
 use Rattle.std_heap.specs.contracts.Global as heap
 use Rattle.std_heap.specs.contracts.GlobalAllocator.TheImpl.{ghosts, dict}
 use Rattle.std_heap.specs.declared.Global.{Global}
-use Rattle.gefsunk.proofs.HeldSteps.{Loose, word, loose_in}
+use Rattle.gefsunk.proofs.HeldSteps.{word, loose_in}
 use Rattle.gefsunk.specs.contracts.handle.Loose.of.{ended, clauses}
 use Rattle.gefsunk.specs.contracts.handle.Loose.of.Key.{name as #self}
 use Rattle.gefsunk.proofs.handle.Loose.of.Statement.{statement}
