@@ -387,9 +387,10 @@ fn write_report<W: fmt::Write>(
     if report.ignored {
         return f.write_str("; taken by nobody");
     }
-    if let Some((slot, offset, len)) = report.wrote {
-        let mask = bit_of(slot);
-        write!(f, "; bytes {offset} to {} of ", offset.saturating_add(len))?;
+    if let Some(wrote) = report.wrote {
+        let mask = bit_of(wrote.slot);
+        let end = wrote.offset.saturating_add(wrote.len);
+        write!(f, "; bytes {} to {end} of ", wrote.offset)?;
         write!(f, "{}", SlotList { mask, tickets })?;
     }
     if report.done != 0 {
