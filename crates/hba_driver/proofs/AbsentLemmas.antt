@@ -5,7 +5,7 @@ use Rattle.std.proofs.lemmas.Bool.{cases_eq, eq-eqb}
 use Rattle.std.proofs.lemmas.List.{get_or-set_other}
 use Rattle.slots.specs.Slots.{match_some}
 use Rattle.hba_driver.specs.declared.order.Order.{Order}
-use Rattle.hba_driver.specs.declared.order.Order.TheVariants.{ResetOn, ResetOff, AwaitSignature, CountPorts, SetMask, Enable, Open, Scan, Clear, Detect, Watch, NoMultiplier}
+use Rattle.hba_driver.specs.declared.order.Order.TheVariants.{ResetOn, ResetOff, AwaitSignature, CountPorts, SetMask, Enable, Open, Scan, Clear, Detect, Watch}
 use Rattle.hba_driver.specs.declared.path.Path.{Path}
 use Rattle.hba_driver.specs.declared.path.Recovery.TheVariants.{Reset}
 use Rattle.hba_driver.specs.declared.path.Stage.{Stage}
@@ -24,7 +24,7 @@ use Rattle.hba_driver.specs.HostTurns.{Does, Host, HostTurn, Polled, Pushed, Put
 use Rattle.hba_driver.specs.Sights.{file_shown}
 use Rattle.hba_driver.specs.Steady.{IsCalmAct, IsSteadyTurn, detects}
 use Rattle.hba_driver.specs.Ticks.{after_tick, done_ended, from_reset, ordered, plan_after, recovering, seen, turn}
-use Rattle.hba_driver.specs.Turns.{advanced, answered, control_news, control_seen, control_turn, device_seen, early_due, found_of, is_back, is_idle, is_out, met_order, noted, order_due, plain_turn, turn_of, with_next}
+use Rattle.hba_driver.specs.Turns.{advanced, answered, control_news, control_seen, control_turn, device_seen, early_due, found_of, is_back, is_out, met_order, noted, order_due, plain_turn, turn_of, with_next}
 use Rattle.hba_driver.proofs.HistoryLemmas.{PollFacts, freed, poll_facts}
 use Rattle.hba_driver.proofs.SteadyTurns.{acted_plan}
 
@@ -66,7 +66,6 @@ module _ (n : ℕ) (v : Sight) (p : Plan) (sought : IsSoughtAbsent n p) where
   noted_was Scan is h = h
   noted_was (Clear port) is h = h
   noted_was Watch is h = h
-  noted_was NoMultiplier is h = h
 
   answered_if : (b : Bool) → WasAbsent n p (if b then with_next p.order (noted v p.order p) else p)
   answered_if true h = noted_was p.order refl h
@@ -126,7 +125,6 @@ ordered_was n p (Open port) other h = h
 ordered_was n p Scan other h = h
 ordered_was n p (Detect port) other h = h
 ordered_was n p Watch other h = h
-ordered_was n p NoMultiplier other h = h
 
 module _ (n : ℕ) (file : TaskFile) where
   act_was : (p : Plan) (a : Option Act) → IsCalmAct n a → WasAbsent n p (match_some a p (λ x. plan_after x file p))
@@ -154,9 +152,8 @@ module _ (n : ℕ) (file : TaskFile) where
 
   control_turn_was : (v : Sight) (p r : Plan) (news : Bool) (entries : List (Option Entry)) → WasAbsent n p r → TurnWas p (control_turn v news r entries)
   control_turn_was v p r news entries was =
-      turn_if p (is_idle r.order) (plain_turn r None news) _ (plain_was p r None news was)
-      (turn_if p (is_some (order_due r)) (plain_turn r (order_due r) news) _ (plain_was p r (order_due r) news was)
-      (λ calm h. was (device_was n v r (act_was (device_seen v r) _ calm h))))
+      turn_if p (is_some (order_due r)) (plain_turn r (order_due r) news) _ (plain_was p r (order_due r) news was)
+      (λ calm h. was (device_was n v r (act_was (device_seen v r) _ calm h)))
 
   whole_was : (v : Sight) (p : Plan) (entries : List (Option Entry)) → IsSoughtAbsent n p → TurnWas p (turn_of v p entries)
   unfolding turn_of

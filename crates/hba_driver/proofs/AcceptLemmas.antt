@@ -24,7 +24,7 @@ use Rattle.hba_laws.proofs.StandLemmas.{some_inj}
 use Rattle.hba_driver.specs.declared.effect.Effect.{Effect}
 use Rattle.hba_driver.specs.declared.effect.Effect.TheVariants as effect
 use Rattle.hba_driver.specs.declared.order.Order.{Order}
-use Rattle.hba_driver.specs.declared.order.Order.TheVariants.{ResetOn, ResetOff, AwaitSignature, CountPorts, SetMask, Enable, Open, Scan, Clear, Detect, Watch, NoMultiplier}
+use Rattle.hba_driver.specs.declared.order.Order.TheVariants.{ResetOn, ResetOff, AwaitSignature, CountPorts, SetMask, Enable, Open, Scan, Clear, Detect, Watch}
 use Rattle.hba_driver.specs.declared.path.Stage.{Stage}
 use Rattle.hba_driver.specs.declared.path.Stage.TheVariants.{Identify, ReadLog, AssertReset, ReleaseReset, AwaitReset}
 use Rattle.hba_driver.specs.declared.sight.Sight.{Sight}
@@ -111,7 +111,6 @@ orderly Scan f h = orderly_by _ f (record { to = refl; proper = refl }) h
 orderly (Clear port) f h = orderly_by _ f (record { to = refl; proper = refl }) h
 orderly (Detect port) f h = orderly_by _ f (record { to = refl; proper = refl }) h
 orderly Watch f h = orderly_none f h
-orderly NoMultiplier f h = orderly_none f h
 
 abbrev command_effects : Option H2dFields → List Effect
 command_effects o = match_some o [] (λ f. sending 31 control_port f false)
@@ -150,7 +149,6 @@ order_taken Enable old new before after up none free acts = command_taken (order
 order_taken (Open port) old new before after up none free acts = command_taken (order_fields (Open port)) old new before after (orderly (Open port)) up none free acts
 order_taken (Detect port) old new before after up none free acts = command_taken (order_fields (Detect port)) old new before after (orderly (Detect port)) up none free acts
 order_taken Watch old new before after up none free acts = command_taken (order_fields Watch) old new before after (orderly Watch) up none free acts
-order_taken NoMultiplier old new before after up none free acts = command_taken (order_fields NoMultiplier) old new before after (orderly NoMultiplier) up none free acts
 order_taken Scan old new before after up none free acts =
     let s = sntf_step old acts.0 before acts.1 up acts.2 in
     let c : Taken (command_effects (order_fields Scan)) acts.0 acts.1 new after acts.4 =

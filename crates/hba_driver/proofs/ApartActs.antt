@@ -7,7 +7,7 @@ use Rattle.slots.specs.Slots.{match_some}
 use Rattle.hba_fbs.specs.Views.{Port}
 use Rattle.hba_laws.proofs.StandLemmas.{some_inj}
 use Rattle.hba_driver.specs.declared.order.Order.{Order}
-use Rattle.hba_driver.specs.declared.order.Order.TheVariants.{ResetOn, ResetOff, AwaitSignature, CountPorts, SetMask, Enable, Open, Scan, Clear, Detect, Watch, NoMultiplier}
+use Rattle.hba_driver.specs.declared.order.Order.TheVariants.{ResetOn, ResetOff, AwaitSignature, CountPorts, SetMask, Enable, Open, Scan, Clear, Detect, Watch}
 use Rattle.hba_driver.specs.declared.path.Path.{Path}
 use Rattle.hba_driver.specs.declared.path.Recovery.{Recovery}
 use Rattle.hba_driver.specs.declared.path.Recovery.TheVariants.{Log, Reset}
@@ -143,7 +143,6 @@ module _ (n : ℕ) (stage : Stage30) (v : Sight) (file : TaskFile) (q : Plan) (e
   orders Scan other = plainly Scan
   orders (Detect port) other = plainly (Detect port)
   orders Watch other = plainly Watch
-  orders NoMultiplier other = plainly NoMultiplier
 
   -- another device's fault is cleared
   clears : (b : Bool) (dev : ℕ) → n ≢ dev → Result (Some (act.Clears dev)) (if b then recovering dev file q else from_reset q)

@@ -6,7 +6,7 @@ use Rattle.std.proofs.lemmas.Bool.{cases_eq, true≢false}
 use Rattle.fis_view.specs.declared.build.H2dFields.{H2dFields}
 use Rattle.slots.specs.Slots.{has_bit, lowest_below, match_some}
 use Rattle.hba_driver.specs.declared.order.Order.{Order}
-use Rattle.hba_driver.specs.declared.order.Order.TheVariants.{ResetOn, ResetOff, AwaitSignature, CountPorts, SetMask, Enable, Open, Scan, Clear, Detect, Watch, NoMultiplier}
+use Rattle.hba_driver.specs.declared.order.Order.TheVariants.{ResetOn, ResetOff, AwaitSignature, CountPorts, SetMask, Enable, Open, Scan, Clear, Detect, Watch}
 use Rattle.hba_driver.specs.declared.path.Path.{Path}
 use Rattle.hba_driver.specs.declared.path.Recovery.{Recovery}
 use Rattle.hba_driver.specs.declared.path.Recovery.TheVariants.{Log, Reset}
@@ -23,7 +23,7 @@ use Rattle.hba_driver.specs.Drivers.{Entry, device_at, entry_at, with_device}
 use Rattle.hba_driver.specs.Paths.{next_stage, stage_fields}
 use Rattle.hba_driver.specs.Tended.{IsUnworked}
 use Rattle.hba_driver.specs.Slot30.{Asks, Cleared, Clears, Faulty, IsCleared, IsPlan30, LogSent, Off, On, ReadsLog, Resets, Sets, Stage30, is_faulty, path_of}
-use Rattle.hba_driver.specs.Turns.{advanced, answered, control_news, control_seen, control_turn, detected, device_due, device_seen, early_due, found_of, is_back, is_due, is_idle, is_in_reset, is_out, is_there, issue_of, may_issue, met, met_order, met_path, met_stage, noted, order_due, path_answered, path_due, path_met, path_to, request_due, stage_due, stage_for, step_of, turn_of, with_next}
+use Rattle.hba_driver.specs.Turns.{advanced, answered, control_news, control_seen, control_turn, detected, device_due, device_seen, early_due, found_of, is_back, is_due, is_in_reset, is_out, is_there, issue_of, may_issue, met, met_order, met_path, met_stage, noted, order_due, path_answered, path_due, path_met, path_to, request_due, stage_due, stage_for, step_of, turn_of, with_next}
 use Rattle.hba_driver.proofs.SteadyLemmas.{none_path, path_to_dev, same_path, set_other}
 use Rattle.hba_driver.proofs.StopLemmas.{either}
 
@@ -72,7 +72,6 @@ module _ (n : ℕ) (v : Sight) (plan : Plan) (way : Recovery) (recovers : device
   answers_order Scan is came = beside n plan _ refl refl
   answers_order (Clear port) is came = beside n plan _ refl refl
   answers_order Watch is came = beside n plan _ refl refl
-  answers_order NoMultiplier is came = beside n plan _ refl refl
 
   answers_if : (b : Bool) → (plan.asked && not (is_out v plan)) ≡ b → Leaves n plan (if b then with_next plan.order (noted v plan.order plan) else plan)
   answers_if true came = answers_order plan.order refl came
@@ -258,7 +257,7 @@ turn_plan n stage v p entries well shows found h =
     let l : Leaves n p (control_seen v p) = control_leaves n v p r.0 r.1 found in
     let c : IsPlan30 n stage (control_seen v p) = plan_of n stage p (control_seen v p) h (l.device, l.path) in
     turn_if n stage (is_some (early_due v p)) _ _ h
-    (turn_if n stage (is_idle (control_seen v p).order) _ _ c (turn_if n stage (is_some (order_due (control_seen v p))) _ _ c (seen_plan n stage v (control_seen v p) well shows c)))
+    (turn_if n stage (is_some (order_due (control_seen v p))) _ _ c (seen_plan n stage v (control_seen v p) well shows c))
 
 -- ---- what a stage issues has fields
 
@@ -330,6 +329,5 @@ pub fields_turn : (v : Sight) (p : Plan) (entries : List (Option Entry)) → Has
 unfolding turn_of
 fields_turn v p entries =
     fields_if (is_some (early_due v p)) _ _ (fields_early v p)
-    (fields_if (is_idle (control_seen v p).order) _ _ tt
     (fields_if (is_some (order_due (control_seen v p))) _ _ (fields_order (control_seen v p))
-    (fields_or _ _ (fields_device v (device_seen v (control_seen v p))) (fields_request (device_seen v (control_seen v p)) entries))))
+    (fields_or _ _ (fields_device v (device_seen v (control_seen v p))) (fields_request (device_seen v (control_seen v p)) entries)))

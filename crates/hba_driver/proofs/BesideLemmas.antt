@@ -21,7 +21,7 @@ use Rattle.hba_laws.specs.Hosts.{HostEvent, Runs}
 use Rattle.hba_driver.specs.declared.effect.Effect.{Effect}
 use Rattle.hba_driver.specs.declared.effect.Effect.TheVariants as effect
 use Rattle.hba_driver.specs.declared.order.Order.{Order}
-use Rattle.hba_driver.specs.declared.order.Order.TheVariants.{ResetOn, ResetOff, AwaitSignature, CountPorts, SetMask, Enable, Open, Scan, Clear, Detect, Watch, NoMultiplier}
+use Rattle.hba_driver.specs.declared.order.Order.TheVariants.{ResetOn, ResetOff, AwaitSignature, CountPorts, SetMask, Enable, Open, Scan, Clear, Detect, Watch}
 use Rattle.hba_driver.specs.declared.sight.Sight.{Sight}
 use Rattle.hba_driver.specs.declared.turn.Act.{Act}
 use Rattle.hba_driver.specs.declared.turn.Act.TheVariants as act
@@ -174,7 +174,6 @@ calm_order n Enable old new before after c other on acts h = calm_command n 31 1
 calm_order n (Open port) old new before after c other on acts h = calm_command n 31 15 (order_fields (Open port)) false old new before after c small port_small on acts h
 calm_order n (Detect port) old new before after c other on acts h = calm_command n 31 15 (order_fields (Detect port)) false old new before after c small port_small on acts h
 calm_order n Watch old new before after c other on acts h = calm_command n 31 15 (order_fields Watch) false old new before after c small port_small on acts h
-calm_order n NoMultiplier old new before after c other on acts h = calm_command n 31 15 (order_fields NoMultiplier) false old new before after c small port_small on acts h
 calm_order n Scan old new before after c other on acts h =
     let place = place_effect (effect.Writes px_sntf 32768) old acts.0 before acts.1 refl acts.2 in
     let rest : (k : event.Host) → Calm n 31 (events_of_effects (match_some (order_fields Scan) [] (λ f. sending 31 control_port f false)) acts.0 acts.1 new after acts.4) c k =

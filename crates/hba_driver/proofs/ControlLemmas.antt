@@ -37,7 +37,7 @@ use Rattle.hba_laws.proofs.IsolationLemmas.{fold_of_own}
 use Rattle.hba_laws.proofs.StandLemmas.{some_inj}
 use Rattle.hba_driver.specs.declared.effect.Effect.TheVariants as effect
 use Rattle.hba_driver.specs.declared.order.Order.{Order}
-use Rattle.hba_driver.specs.declared.order.Order.TheVariants.{ResetOn, ResetOff, AwaitSignature, CountPorts, SetMask, Enable, Open, Scan, Clear, Detect, Watch, NoMultiplier}
+use Rattle.hba_driver.specs.declared.order.Order.TheVariants.{ResetOn, ResetOff, AwaitSignature, CountPorts, SetMask, Enable, Open, Scan, Clear, Detect, Watch}
 use Rattle.hba_driver.specs.Effects.{Acts, ActsAll, IsRuled, clearing, is_effect, issuing, order_effects, sending, table_of}
 use Rattle.hba_driver.specs.Orders.{order_fields}
 use Rattle.hba_driver.specs.Slot31.{IsLow}
@@ -379,7 +379,6 @@ proper31 Scan f h = proper_by _ f (record { to = refl; proper = refl }) h
 proper31 (Clear port) f h = proper_by _ f (record { to = refl; proper = refl }) h
 proper31 (Detect port) f h = proper_by _ f (record { to = refl; proper = refl }) h
 proper31 Watch f h = proper_none f h
-proper31 NoMultiplier f h = proper_none f h
 
 no_bit : (n slot : ℕ) → n ≡ 0 → has_bit n slot ≡ false
 no_bit n slot h = ap (λ (k : ℕ). has_bit k slot) h ∙ ap (λ (k : ℕ). k == 1) (bit_at-zero slot)

@@ -21,7 +21,7 @@ use Rattle.hba_driver.specs.declared.turn.Turn.{Turn}
 use Rattle.hba_driver.specs.Drivers.{Entry, IsPath, entry_at, waits}
 use Rattle.hba_driver.specs.Orders.{is_queued, order_fields}
 use Rattle.hba_driver.specs.Paths.{next_stage, stage_fields}
-use Rattle.hba_driver.specs.Turns.{advanced, answered, control_news, control_seen, control_turn, device_due, device_seen, early_due, fault_due, found_of, is_back, is_due, is_idle, issue_of, may_issue, met, met_order, met_path, noted, order_due, path_answered, path_due, path_met, path_to, request_due, stage_due, stage_for, step_of, turn_of, with_next}
+use Rattle.hba_driver.specs.Turns.{advanced, answered, control_news, control_seen, control_turn, device_due, device_seen, early_due, fault_due, found_of, is_back, is_due, issue_of, may_issue, met, met_order, met_path, noted, order_due, path_answered, path_due, path_met, path_to, request_due, stage_due, stage_for, step_of, turn_of, with_next}
 
 -- ---- what is due
 
@@ -145,8 +145,7 @@ due_device v plan entries = due_or v _ (request_due plan entries) plan entries (
 
 due_control : (v : Sight) (news : Bool) (plan : Plan) (entries : List (Option Entry)) → Due v (control_turn v news plan entries).plan entries (control_turn v news plan entries).act
 due_control v news plan entries =
-    if_due v (is_idle plan.order) _ _ entries tt
-    (if_due v (is_some (order_due plan)) _ _ entries (due_order v plan.asked (order_fields plan.order) plan.order plan entries refl) (due_device v (device_seen v plan) entries))
+    if_due v (is_some (order_due plan)) _ _ entries (due_order v plan.asked (order_fields plan.order) plan.order plan entries refl) (due_device v (device_seen v plan) entries)
 
 pub due_turn : (v : Sight) (plan : Plan) (entries : List (Option Entry)) → Due v (turn_of v plan entries).plan entries (turn_of v plan entries).act
 unfolding turn_of
@@ -315,7 +314,7 @@ turn_if v false p t u h k = k
 
 goes_control_turn : (v : Sight) (news : Bool) (plan : Plan) (entries : List (Option Entry)) → PlanGoes v plan (control_turn v news plan entries).plan
 goes_control_turn v news plan entries =
-    turn_if v (is_idle plan.order) plan _ _ (goes_same v plan) (turn_if v (is_some (order_due plan)) plan _ _ (goes_same v plan) (goes_device v plan))
+    turn_if v (is_some (order_due plan)) plan _ _ (goes_same v plan) (goes_device v plan)
 
 pub goes_turn : (v : Sight) (plan : Plan) (entries : List (Option Entry)) → PlanGoes v plan (turn_of v plan entries).plan
 unfolding turn_of

@@ -7,7 +7,7 @@ use Rattle.hba_driver.specs.declared.effect.Effect.{Effect}
 use Rattle.host_memory.specs.Memory.{Memory}
 use Rattle.hba_fbs.specs.Views.{Port}
 use Rattle.hba_driver.specs.declared.order.Order.{Order}
-use Rattle.hba_driver.specs.declared.order.Order.TheVariants.{ResetOn, ResetOff, AwaitSignature, CountPorts, SetMask, Enable, Open, Scan, Clear, Detect, Watch, NoMultiplier}
+use Rattle.hba_driver.specs.declared.order.Order.TheVariants.{ResetOn, ResetOff, AwaitSignature, CountPorts, SetMask, Enable, Open, Scan, Clear, Detect, Watch}
 use Rattle.hba_driver.specs.declared.path.Stage.{Stage}
 use Rattle.hba_driver.specs.declared.path.Stage.TheVariants.{Identify, ReadLog, AssertReset, ReleaseReset, AwaitReset}
 use Rattle.hba_driver.specs.Effects.{ActsAll, effects_of, is_effect, issuing, opening_write, opening_writes, order_effects, restart_write, restart_writes, stage_effects}
@@ -22,7 +22,6 @@ pub no_effects : (order : Order) → order_fields order ≡ None → order_effec
 unfolding order_fields order_effects
 no_effects AwaitSignature h = refl
 no_effects Watch h = refl
-no_effects NoMultiplier h = refl
 no_effects ResetOn h = cc
 no_effects ResetOff h = cc
 no_effects CountPorts h = cc
@@ -92,7 +91,6 @@ order_possible Scan h = refl
 order_possible (Clear port) h = rw (below_is port 0 h) refl
 order_possible (Detect port) h = refl
 order_possible Watch h = refl
-order_possible NoMultiplier h = refl
 
 pub act_possible : (a : Act) → IsAct a → list_all is_effect (effects_of a) ≡ true
 unfolding effects_of

@@ -29,7 +29,7 @@ use Rattle.hba_driver.specs.Drivers.{Driver, Entry, device_at, entry_at, is_issu
 use Rattle.hba_driver.specs.Orders.{order_fields}
 use Rattle.hba_driver.specs.Paths.{first_stage, next_stage, recovery, reset_if_there, stage_fields}
 use Rattle.hba_driver.specs.Ticks.{acted, after_tick, done_ended, entries_after, from_reset, is_aside_of, is_done, is_named_of, is_open, is_open_of, log_outcome, logged_ended, ordered, plan_after, recovering, removed, seen, stage_ended, turn, unless}
-use Rattle.hba_driver.specs.Turns.{advanced, answered, control_seen, detected, device_due, device_seen, early_due, fault_due, found_of, found_there, is_back, is_due, is_idle, is_in_reset, is_ready, is_there, issue_of, may_issue, met, met_order}
+use Rattle.hba_driver.specs.Turns.{advanced, answered, control_seen, detected, device_due, device_seen, early_due, fault_due, found_of, found_there, is_back, is_due, is_in_reset, is_ready, is_there, issue_of, may_issue, met, met_order}
 use Rattle.hba_driver.specs.Turns.{met_path, met_stage, noted, opening_due, order_due, path_answered, path_due, path_to, request_due, restart_due, stage_due, stage_for, step_of, turn_of, with_next}
 use Rattle.hba_driver.proofs.DueLemmas.{Due, Waiting}
 use Rattle.hba_driver.proofs.LifeLemmas.{due_seen, entry_of_rephased}
@@ -309,9 +309,8 @@ new_turn : (n : â„•) (v : Sight) (plan : Plan) (entries : List (Option Entry)) â
 unfolding turn_of
 new_turn n v plan entries back h =
     if_turn n (is_some (early_due v plan)) _ _ (record { plan = h; act = fits_early n v plan })
-    (if_turn n (is_idle (control_seen v plan).order) _ _ (record { plan = control; act = tt })
     (if_turn n (is_some (order_due (control_seen v plan))) _ _ (record { plan = control; act = fits_order n (control_seen v plan) })
-    (record { plan = device; act = fits_or n (device_due v (device_seen v (control_seen v plan))) _ (fits_slot n v (device_seen v (control_seen v plan)) device) (fits_request n (device_seen v (control_seen v plan)) entries) })))
+    (record { plan = device; act = fits_or n (device_due v (device_seen v (control_seen v plan))) _ (fits_slot n v (device_seen v (control_seen v plan)) device) (fits_request n (device_seen v (control_seen v plan)) entries) }))
   where
     control : IsNew n (control_seen v plan)
     control = new_control n v plan h

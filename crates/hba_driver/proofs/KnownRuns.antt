@@ -9,7 +9,7 @@ use Rattle.slots.specs.Slots.{Issue, has_bit, issue_at, match_some}
 use Rattle.hba_fbs.specs.Views.{Port}
 use Rattle.hba_laws.proofs.ViewLemmas.{own_in}
 use Rattle.hba_driver.specs.declared.order.Order.{Order}
-use Rattle.hba_driver.specs.declared.order.Order.TheVariants.{ResetOn, ResetOff, AwaitSignature, CountPorts, SetMask, Enable, Open, Scan, Clear, Detect, Watch, NoMultiplier}
+use Rattle.hba_driver.specs.declared.order.Order.TheVariants.{ResetOn, ResetOff, AwaitSignature, CountPorts, SetMask, Enable, Open, Scan, Clear, Detect, Watch}
 use Rattle.hba_driver.specs.declared.path.Path.{Path}
 use Rattle.hba_driver.specs.declared.path.Stage.{Stage}
 use Rattle.hba_driver.specs.declared.path.Stage.TheVariants.{Identify, ReadLog, AssertReset, ReleaseReset, AwaitReset}
@@ -32,7 +32,7 @@ use Rattle.hba_driver.specs.Paths.{next_stage, stage_fields}
 use Rattle.hba_driver.specs.Sights.{file_shown}
 use Rattle.hba_driver.specs.Submits.{after_poll, lowest_ended, new_entry, next_slot}
 use Rattle.hba_driver.specs.Ticks.{acted, after_tick, done_ended, due, effects, effects_due, from_reset, ordered, plan_after, recovering, seen, turn, unless}
-use Rattle.hba_driver.specs.Turns.{advanced, control_seen, device_seen, early_due, is_back, is_idle, met_path, met_stage, order_due, path_to, turn_of}
+use Rattle.hba_driver.specs.Turns.{advanced, control_seen, device_seen, early_due, is_back, met_path, met_stage, order_due, path_to, turn_of}
 use Rattle.hba_driver.proofs.ActLemmas.{here_act}
 use Rattle.hba_driver.proofs.PushedLemmas.{plain_at, request_known}
 use Rattle.hba_driver.proofs.DueLemmas.{Due, Runs, goes_turn, runs_turn}
@@ -99,9 +99,8 @@ path_turn : (v : Sight) (plan : Plan) (entries : List (Option Entry)) (p : Path)
 unfolding turn_of
 path_turn v plan entries p asked =
     turn_if (is_some (early_due v plan)) _ _ (λ o. o ≡ Some p → plan.path ≡ Some p) (λ e. e)
-    (turn_if (is_idle (control_seen v plan).order) _ _ (λ o. o ≡ Some p → plan.path ≡ Some p) (λ e. sym (path_control v plan) ∙ e)
     (turn_if (is_some (order_due (control_seen v plan))) _ _ (λ o. o ≡ Some p → plan.path ≡ Some p) (λ e. sym (path_control v plan) ∙ e)
-    (λ e. sym (path_control v plan) ∙ path_seen v (control_seen v plan) p asked e)))
+    (λ e. sym (path_control v plan) ∙ path_seen v (control_seen v plan) p asked e))
 
 -- a path that an act leaves was there, and is of no device that is cleared
 unless_was : (dev : ℕ) (o : Option Path) (p : Path) → unless dev o ≡ Some p → (o ≡ Some p) × (p.dev ≢ dev)
@@ -134,7 +133,6 @@ leaves_order (Open port) plan p e = (e, λ k same. absurd (cc))
 leaves_order Scan plan p e = (e, λ k same. absurd (cc))
 leaves_order (Detect port) plan p e = (e, λ k same. absurd (cc))
 leaves_order Watch plan p e = (e, λ k same. absurd (cc))
-leaves_order NoMultiplier plan p e = (e, λ k same. absurd (cc))
 
 leaves_clear : (dev : ℕ) (file : TaskFile) (plan : Plan) (p : Path) → p.dev < 15 → (if nat_lt dev 15 then recovering dev file plan else from_reset plan).path ≡ Some p → (plan.path ≡ Some p) × (p.dev ≢ dev)
 leaves_clear dev file plan p low e = by_test (nat_lt dev 15) refl e

@@ -20,7 +20,7 @@ use Rattle.hba_commands.specs.Writing.{total_if_usable}
 use Rattle.hba_driver.specs.declared.effect.Effect.{Effect}
 use Rattle.hba_driver.specs.declared.effect.Effect.TheVariants as effect
 use Rattle.hba_driver.specs.declared.order.Order.{Order}
-use Rattle.hba_driver.specs.declared.order.Order.TheVariants.{ResetOn, ResetOff, AwaitSignature, CountPorts, SetMask, Enable, Open, Scan, Clear, Detect, Watch, NoMultiplier}
+use Rattle.hba_driver.specs.declared.order.Order.TheVariants.{ResetOn, ResetOff, AwaitSignature, CountPorts, SetMask, Enable, Open, Scan, Clear, Detect, Watch}
 use Rattle.hba_driver.specs.declared.path.Path.{Path}
 use Rattle.hba_driver.specs.declared.path.Stage.{Stage}
 use Rattle.hba_driver.specs.declared.path.Stage.TheVariants.{Identify, ReadLog, AssertReset, ReleaseReset, AwaitReset}
@@ -39,7 +39,7 @@ use Rattle.hba_driver.specs.Submits.{after_poll, lowest_ended, next_slot}
 use Rattle.hba_driver.specs.Orders.{order_fields}
 use Rattle.hba_driver.specs.Paths.{next_stage, reads_page, stage_fields}
 use Rattle.hba_driver.specs.Ticks.{acted, after_tick, done_ended, due, effects, effects_due, ordered, plan_after, seen, unless}
-use Rattle.hba_driver.specs.Turns.{advanced, answered, control_seen, device_seen, early_due, is_back, is_idle, met_path, met_stage, noted, order_due, path_answered, path_to, turn_of}
+use Rattle.hba_driver.specs.Turns.{advanced, answered, control_seen, device_seen, early_due, is_back, met_path, met_stage, noted, order_due, path_answered, path_to, turn_of}
 use Rattle.hba_driver.proofs.EffectLemmas.{all_at}
 use Rattle.hba_driver.proofs.HistoryLemmas.{free_below}
 use Rattle.hba_driver.proofs.InsideLemmas.{as_long}
@@ -108,7 +108,7 @@ turn_back v plan entries =
     let q : Plan = control_seen v plan in
     let here : Back plan.path q.path = back_same plan.path q.path (control_path v plan) in
     either P (is_some (early_due v plan)) _ _ (back_same plan.path plan.path refl)
-    (either P (is_idle q.order) _ _ here (either P (is_some (order_due q)) _ _ here (back_by plan.path q.path (device_seen v q).path (control_path v plan) (device_back v q))))
+    (either P (is_some (order_due q)) _ _ here (back_by plan.path q.path (device_seen v q).path (control_path v plan) (device_back v q)))
 
 unless_back : (dev : ℕ) (o : Option Path) → Back o (unless dev o)
 unless_back dev None = λ x here out. none_there x here
@@ -209,7 +209,6 @@ spares_order Scan = refl
 spares_order (Clear port) = refl
 spares_order (Detect port) = refl
 spares_order Watch = refl
-spares_order NoMultiplier = refl
 
 spares_due : (a : Option Act) → Elsewhere a → list_all spares_page (effects_due a) ≡ true
 unfolding effects_of

@@ -31,7 +31,7 @@ use Rattle.hba_laws.proofs.StandLemmas.{some_inj}
 use Rattle.hba_laws.proofs.ViewLemmas.{at_same, held, is_own, own_freed, own_set}
 use Rattle.hba_laws.proofs.WithinLemmas.{the_transfer}
 use Rattle.hba_driver.specs.declared.order.Order.{Order}
-use Rattle.hba_driver.specs.declared.order.Order.TheVariants.{ResetOn, ResetOff, AwaitSignature, CountPorts, SetMask, Enable, Open, Scan, Clear, Detect, Watch, NoMultiplier}
+use Rattle.hba_driver.specs.declared.order.Order.TheVariants.{ResetOn, ResetOff, AwaitSignature, CountPorts, SetMask, Enable, Open, Scan, Clear, Detect, Watch}
 use Rattle.hba_driver.specs.Drivers.{Driver, IsPath}
 use Rattle.hba_driver.specs.HostTurns.{Does, Host, Pushed}
 use Rattle.hba_driver.specs.Orders.{order_fields}
@@ -65,7 +65,6 @@ control_is Scan f h = kind_by false _ f refl h
 control_is (Clear port) f h = kind_by false _ f refl h
 control_is (Detect port) f h = kind_by false _ f refl h
 control_is Watch f h = kind_none false f h
-control_is NoMultiplier f h = kind_none false f h
 
 -- none moves data
 abbrev pub IsPlain : H2dFields → Type 0
@@ -90,7 +89,6 @@ plain_is Scan f h = plain_by _ f refl h
 plain_is (Clear port) f h = plain_by _ f refl h
 plain_is (Detect port) f h = plain_by _ f refl h
 plain_is Watch f h = plain_none f h
-plain_is NoMultiplier f h = plain_none f h
 
 -- SRST is set in the first of both
 on_control : (order : Order) (f : H2dFields) → is_on order ≡ true → order_fields order ≡ Some f → f.control ≡ 4

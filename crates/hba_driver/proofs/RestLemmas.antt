@@ -6,7 +6,7 @@ use Rattle.std.proofs.lemmas.Bool.{or_parts, false≢true, true≢false, cases_B
 use Rattle.fis_view.specs.declared.build.H2dFields.{H2dFields}
 use Rattle.slots.specs.Slots.{has_bit, match_some}
 use Rattle.hba_driver.specs.declared.order.Order.{Order}
-use Rattle.hba_driver.specs.declared.order.Order.TheVariants.{ResetOn, ResetOff, AwaitSignature, CountPorts, SetMask, Enable, Open, Scan, Clear, Detect, Watch, NoMultiplier}
+use Rattle.hba_driver.specs.declared.order.Order.TheVariants.{ResetOn, ResetOff, AwaitSignature, CountPorts, SetMask, Enable, Open, Scan, Clear, Detect, Watch}
 use Rattle.hba_driver.specs.declared.path.Path.{Path}
 use Rattle.hba_driver.specs.declared.path.Stage.{Stage}
 use Rattle.hba_driver.specs.declared.path.Stage.TheVariants.{Identify, ReadLog, AssertReset, ReleaseReset}
@@ -22,7 +22,7 @@ use Rattle.hba_driver.specs.declared.turn.Turn.{Turn}
 use Rattle.hba_driver.specs.Drivers.{Driver, Entry}
 use Rattle.hba_driver.specs.Orders.{order_fields}
 use Rattle.hba_driver.specs.Ticks.{acts, any_done, done_ended, due, is_done, logged_ended, seen, turn}
-use Rattle.hba_driver.specs.Turns.{advanced, awaits, awaits_reset, control_news, control_seen, control_turn, device_news, device_seen, early_due, is_back, is_idle, is_in_reset, is_out, logged_by, met, met_order, met_path, met_stage, order_due, path_met, path_news, turn_of}
+use Rattle.hba_driver.specs.Turns.{advanced, awaits, awaits_reset, control_news, control_seen, control_turn, device_news, device_seen, early_due, is_back, is_in_reset, is_out, logged_by, met, met_order, met_path, met_stage, order_due, path_met, path_news, turn_of}
 use Rattle.hba_driver.proofs.ScanLemmas.{none_rephased}
 
 -- ---- slot 31
@@ -31,15 +31,14 @@ waits_on : (r : Bool) (o : Order) → not r ≡ false → (if r then AwaitSignat
 waits_on true o h = refl
 waits_on false o h = absurd (true≢false h)
 
--- there is no multiplier, or the order has nothing to issue
+-- the order has nothing to issue
 abbrev IsOver : Order → Type 0
-IsOver o = (is_idle o ≡ true) ⊎ (order_fields o ≡ None)
+IsOver o = order_fields o ≡ None
 
 watches : (n : Bool) → IsOver (if n then Scan else Watch) → (if n then Scan else Watch) ≡ Watch
 unfolding order_fields
 watches false h = refl
-watches true (inl h) = absurd (false≢true h)
-watches true (inr h) = cc
+watches true h = cc
 
 met_quiet : (v : Sight) (o : Order) → (awaits o && not v.resetting) ≡ false → IsOver (met_order v o) → met_order v o ≡ o
 unfolding met_order
@@ -54,7 +53,6 @@ met_quiet v (Open p) n h = refl
 met_quiet v Scan n h = refl
 met_quiet v (Clear p) n h = refl
 met_quiet v (Detect p) n h = refl
-met_quiet v NoMultiplier n h = refl
 
 not_due : (fields : Option H2dFields) (a : Act) → is_some (option_map (λ f. a) fields) ≡ false → fields ≡ None
 not_due None a h = refl
@@ -65,11 +63,10 @@ with_order o plan = record plan { order = o }
 
 -- nothing is due of the order of a plan
 abbrev NothingDue : Plan → Type 0
-NothingDue plan = (is_idle plan.order ≡ true) ⊎ (is_some (order_due plan) ≡ false)
+NothingDue plan = is_some (order_due plan) ≡ false
 
 over : (v : Sight) (plan : Plan) → plan.asked ≡ false → NothingDue (with_order (met_order v plan.order) plan) → IsOver (met_order v plan.order)
-over v plan a (inl h) = inl h
-over v plan a (inr h) = inr (not_due (order_fields (met_order v plan.order)) (act.Orders (met_order v plan.order)) (rw a at h))
+over v plan a h = not_due (order_fields (met_order v plan.order)) (act.Orders (met_order v plan.order)) (rw a at h)
 
 else_is : (b : Bool) (x y : Plan) → b ≡ false → (if b then x else y) ≡ y
 else_is true x y h = absurd (true≢false h)
@@ -161,13 +158,11 @@ if_rests false plan t u f g = g refl
 
 rest_control : (v : Sight) (plan : Plan) (entries : List (Option Entry)) → Rests plan (control_turn v (control_news v plan) (control_seen v plan) entries)
 rest_control v plan entries =
-    if_rests (is_idle (control_seen v plan).order) plan _ _
-    (λ idle a n. (control_quiet v plan n (inl idle), refl))
-    (λ busy. if_rests (is_some (order_due (control_seen v plan))) plan _ _
+    if_rests (is_some (order_due (control_seen v plan))) plan _ _
     (λ some a n. absurd (false≢true (rw a at some)))
     (λ none a n.
     let parts = or_parts (control_news v plan) (device_news v (control_seen v plan)) n in
-    (device_quiet v (control_seen v plan) parts.1 ∙ control_quiet v plan parts.0 (inr none), logged_quiet v (control_seen v plan).path parts.1)))
+    (device_quiet v (control_seen v plan) parts.1 ∙ control_quiet v plan parts.0 none, logged_quiet v (control_seen v plan).path parts.1))
 
 rest_turn : (v : Sight) (plan : Plan) (entries : List (Option Entry)) → Rests plan (turn_of v plan entries)
 unfolding turn_of

@@ -23,7 +23,7 @@ use Rattle.hba_fbs.specs.Views.{Port}
 use Rattle.hba_driver.specs.declared.effect.Effect.{Effect}
 use Rattle.hba_driver.specs.declared.effect.Effect.TheVariants as effect
 use Rattle.hba_driver.specs.declared.order.Order.{Order}
-use Rattle.hba_driver.specs.declared.order.Order.TheVariants.{ResetOn, ResetOff, AwaitSignature, CountPorts, SetMask, Enable, Open, Scan, Clear, Detect, Watch, NoMultiplier}
+use Rattle.hba_driver.specs.declared.order.Order.TheVariants.{ResetOn, ResetOff, AwaitSignature, CountPorts, SetMask, Enable, Open, Scan, Clear, Detect, Watch}
 use Rattle.hba_driver.specs.declared.path.Stage.{Stage}
 use Rattle.hba_driver.specs.declared.path.Stage.TheVariants.{Identify, ReadLog, AssertReset, ReleaseReset, AwaitReset}
 use Rattle.hba_driver.specs.declared.turn.Act.{Act}
@@ -126,7 +126,6 @@ spares_order n (Open port) other = refl
 spares_order n Scan other = refl
 spares_order n (Detect port) other = refl
 spares_order n Watch other = refl
-spares_order n NoMultiplier other = refl
 
 spares_stage : (n dev : ℕ) (stage : Stage) → list_all (spares n) (stage_effects dev stage) ≡ true
 unfolding stage_fields

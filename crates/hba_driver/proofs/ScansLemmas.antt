@@ -6,7 +6,7 @@ use Rattle.std.proofs.lemmas.Bool.Decides.{nat_tests}
 use Rattle.slots.specs.Slots.{has_bit, lowest_below, match_some}
 use Rattle.slots.proofs.MaskLemmas.{lowest_is}
 use Rattle.hba_driver.specs.declared.order.Order.{Order}
-use Rattle.hba_driver.specs.declared.order.Order.TheVariants.{ResetOn, AwaitSignature, CountPorts, Enable, Open, Scan, Clear, Detect, Watch, NoMultiplier}
+use Rattle.hba_driver.specs.declared.order.Order.TheVariants.{ResetOn, AwaitSignature, CountPorts, Enable, Open, Scan, Clear, Detect, Watch}
 use Rattle.hba_driver.specs.declared.path.TaskFile.{TaskFile}
 use Rattle.hba_driver.specs.declared.plan.Plan.{Plan}
 use Rattle.hba_driver.specs.declared.sight.Sight.{Sight}
@@ -37,14 +37,14 @@ met_comes : (v : Sight) (n : ℕ) (o : Order) → Comes n false (met_order v o) 
 unfolding met_order
 met_comes v n AwaitSignature =
     either (λ (x : Order). Comes n false x → false ≡ true) v.resetting AwaitSignature _ (λ h. h)
-    (either (λ (x : Order). Comes n false x → false ≡ true) (v.signature == 0x96690101) CountPorts NoMultiplier (λ h. h) (λ h. h))
+    (either (λ (x : Order). Comes n false x → false ≡ true) (v.answer == 0x96690101) CountPorts ResetOn (λ h. h) (λ h. h))
 met_comes v n Watch = either (λ (x : Order). Comes n false x → false ≡ true) v.notified Scan Watch (λ h. h) (λ h. h)
 met_comes v n o = λ h. h
 
 met_clear : (v : Sight) (found : ℕ) (o : Order) → IsClearOf o found → IsClearOf (met_order v o) found
 unfolding met_order
 met_clear v found AwaitSignature h =
-    either (λ (x : Order). IsClearOf x found) v.resetting AwaitSignature _ tt (either (λ (x : Order). IsClearOf x found) (v.signature == 0x96690101) CountPorts NoMultiplier tt tt)
+    either (λ (x : Order). IsClearOf x found) v.resetting AwaitSignature _ tt (either (λ (x : Order). IsClearOf x found) (v.answer == 0x96690101) CountPorts ResetOn tt tt)
 met_clear v found Watch h = either (λ (x : Order). IsClearOf x found) v.notified Scan Watch tt tt
 met_clear v found o h = h
 

@@ -7,7 +7,7 @@ use Rattle.std.proofs.lemmas.Bool.Decides.{nat_tests}
 use Rattle.std.proofs.lemmas.List.{get_or_past, get_or-set_same, length-set}
 use Rattle.hba_driver.specs.declared.effect.Effect.{Effect}
 use Rattle.hba_driver.specs.declared.order.Order.{Order}
-use Rattle.hba_driver.specs.declared.order.Order.TheVariants.{ResetOn, ResetOff, AwaitSignature, CountPorts, SetMask, Enable, Open, Scan, Clear, Detect, Watch, NoMultiplier}
+use Rattle.hba_driver.specs.declared.order.Order.TheVariants.{ResetOn, ResetOff, AwaitSignature, CountPorts, SetMask, Enable, Open, Scan, Clear, Detect, Watch}
 use Rattle.hba_driver.specs.declared.plan.Device.{Device}
 use Rattle.hba_driver.specs.declared.path.Stage.{Stage}
 use Rattle.hba_driver.specs.declared.path.Stage.TheVariants.{Identify, ReadLog, AssertReset, ReleaseReset, AwaitReset}
@@ -95,7 +95,6 @@ clears dev Scan h = absurd (false≢true h)
 clears dev (Clear port) h = ap Clear (equal_of port dev h)
 clears dev (Detect port) h = absurd (false≢true h)
 clears dev Watch h = absurd (false≢true h)
-clears dev NoMultiplier h = absurd (false≢true h)
 
 pub act_clears : (dev : ℕ) (a : Option Act) → list_any (flushes dev) (effects_due a) ≡ true → a ≡ Some (act.Orders (Clear dev))
 unfolding effects_of

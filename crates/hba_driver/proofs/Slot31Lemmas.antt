@@ -6,7 +6,7 @@ use Rattle.std.specs.Option.{option_map, option_or}
 use Rattle.slots.specs.Slots.{has_bit, lowest_below, match_some}
 use Rattle.fis_view.specs.declared.build.H2dFields.{H2dFields}
 use Rattle.hba_driver.specs.declared.order.Order.{Order}
-use Rattle.hba_driver.specs.declared.order.Order.TheVariants.{ResetOn, ResetOff, AwaitSignature, CountPorts, SetMask, Enable, Open, Scan, Clear, Detect, Watch, NoMultiplier}
+use Rattle.hba_driver.specs.declared.order.Order.TheVariants.{ResetOn, ResetOff, AwaitSignature, CountPorts, SetMask, Enable, Open, Scan, Clear, Detect, Watch}
 use Rattle.hba_driver.specs.declared.path.Path.{Path}
 use Rattle.hba_driver.specs.declared.path.Stage.{Stage}
 use Rattle.hba_driver.specs.declared.path.Stage.TheVariants.{Identify, ReadLog}
@@ -21,7 +21,7 @@ use Rattle.hba_driver.specs.Orders.{next_order, order_fields, scan_from}
 use Rattle.hba_driver.specs.Paths.{stage_fields}
 use Rattle.hba_driver.specs.Slot31.{is_off, is_on}
 use Rattle.hba_driver.specs.Ticks.{acted, after_tick, done_ended, due, from_reset, plan_after, recovering, seen}
-use Rattle.hba_driver.specs.Turns.{advanced, answered, control_news, control_seen, device_due, device_seen, device_turn, early_due, found_of, is_back, is_due, is_idle, issue_of, may_issue, met, met_order, noted, path_due, plain_turn, request_due, stage_due, stage_for, step_of, turn_of, with_next}
+use Rattle.hba_driver.specs.Turns.{advanced, answered, control_news, control_seen, device_due, device_seen, device_turn, early_due, found_of, is_back, is_due, issue_of, may_issue, met, met_order, noted, path_due, plain_turn, request_due, stage_due, stage_for, step_of, turn_of, with_next}
 use Rattle.hba_driver.specs.Going.{leaves_port}
 use Rattle.hba_driver.proofs.StopLemmas.{either}
 
@@ -132,7 +132,7 @@ module _ (v : Sight) (p : Plan) (entries : List (Option Entry)) where
   unfolding turn_of
   turn_seen =
       either Seen (is_some (early_due v p)) _ _ (Early (early_other v p) refl)
-      (either Seen (is_idle c.order) _ _ (Looked tt refl) (due_seen_by c.asked (order_fields c.order) refl refl))
+      (due_seen_by c.asked (order_fields c.order) refl refl)
 
 -- ---- what an act leaves of it
 
@@ -205,7 +205,7 @@ seen_unasked v p asked = ap (met v) first ∙ ap (λ (b : Bool). if b then p els
 
 pub met_off : (v : Sight) (o : Order) → is_off o ≡ false → is_off (met_order v o) ≡ false
 unfolding met_order
-met_off v AwaitSignature h = either (λ (o : Order). is_off o ≡ false) v.resetting AwaitSignature _ refl (either (λ (o : Order). is_off o ≡ false) (v.signature == 0x96690101) CountPorts NoMultiplier refl refl)
+met_off v AwaitSignature h = either (λ (o : Order). is_off o ≡ false) v.resetting AwaitSignature _ refl (either (λ (o : Order). is_off o ≡ false) (v.answer == 0x96690101) CountPorts ResetOn refl refl)
 met_off v Watch h = either (λ (o : Order). is_off o ≡ false) v.notified Scan Watch refl refl
 met_off v ResetOff h = absurd (true≢false h)
 met_off v o h = h
@@ -231,4 +231,3 @@ next_off ports found Scan h = scanned_off found 0
 next_off ports found (Clear port) h = refl
 next_off ports found (Detect port) h = scanned_off found (port + 1)
 next_off ports found Watch h = refl
-next_off ports found NoMultiplier h = refl

@@ -26,7 +26,7 @@ use Rattle.hba_fbs.specs.Views.{Port}
 use Rattle.hba_driver.specs.declared.effect.Effect.{Effect}
 use Rattle.hba_driver.specs.declared.effect.Effect.TheVariants as effect
 use Rattle.hba_driver.specs.declared.order.Order.{Order}
-use Rattle.hba_driver.specs.declared.order.Order.TheVariants.{ResetOn, ResetOff, AwaitSignature, CountPorts, SetMask, Enable, Open, Scan, Clear, Detect, Watch, NoMultiplier}
+use Rattle.hba_driver.specs.declared.order.Order.TheVariants.{ResetOn, ResetOff, AwaitSignature, CountPorts, SetMask, Enable, Open, Scan, Clear, Detect, Watch}
 use Rattle.hba_driver.specs.declared.turn.Act.{Act}
 use Rattle.hba_driver.specs.declared.turn.Act.TheVariants as act
 use Rattle.hba_driver.specs.Drivers.{AreRequests, Entry, entry_at}
@@ -177,7 +177,6 @@ late_order Scan = refl
 late_order (Clear port) = refl
 late_order (Detect port) = refl
 late_order Watch = refl
-late_order NoMultiplier = refl
 
 pub late_act : (a : Option Act) → list_all late (effects_due a) ≡ true
 unfolding effects_of

@@ -9,7 +9,7 @@ use Rattle.std.proofs.lemmas.List.{get_or_past, get_or-set_other, get_or-set_sam
 use Rattle.fis_view.specs.declared.build.H2dFields.{H2dFields}
 use Rattle.slots.specs.Slots.{lowest_below, match_some}
 use Rattle.hba_driver.specs.declared.order.Order.{Order}
-use Rattle.hba_driver.specs.declared.order.Order.TheVariants.{ResetOn, ResetOff, AwaitSignature, CountPorts, SetMask, Enable, Open, Scan, Clear, Detect, Watch, NoMultiplier}
+use Rattle.hba_driver.specs.declared.order.Order.TheVariants.{ResetOn, ResetOff, AwaitSignature, CountPorts, SetMask, Enable, Open, Scan, Clear, Detect, Watch}
 use Rattle.hba_driver.specs.declared.path.Path.{Path}
 use Rattle.hba_driver.specs.declared.path.Stage.{Stage}
 use Rattle.hba_driver.specs.declared.path.Stage.TheVariants.{Identify, ReadLog, AssertReset, ReleaseReset, AwaitReset}
@@ -26,7 +26,7 @@ use Rattle.hba_driver.specs.Orders.{next_order, open_from, order_fields, scan_fr
 use Rattle.hba_driver.specs.Paths.{first_stage, next_stage, stage_fields}
 use Rattle.hba_driver.specs.Steady.{IsAskedOf, IsCalmAct, IsFine, IsSteadyPlan, detects}
 use Rattle.hba_driver.specs.Ticks.{from_reset, ordered, plan_after, recovering, unless}
-use Rattle.hba_driver.specs.Turns.{advanced, answered, control_news, control_seen, control_turn, detected, device_due, device_seen, early_due, fault_due, found_of, is_back, is_due, is_idle, is_there, issue_of, may_issue, met, met_order, met_path, noted, opening_due, order_due, path_answered, path_due, path_met, path_to, request_due, restart_due, signed_order, stage_due, stage_for, step_of, turn_of, with_next}
+use Rattle.hba_driver.specs.Turns.{advanced, answered, control_news, control_seen, control_turn, detected, device_due, device_seen, early_due, fault_due, found_of, is_back, is_due, is_there, issue_of, may_issue, met, met_order, met_path, noted, opening_due, order_due, path_answered, path_due, path_met, path_to, request_due, restart_due, signed_order, stage_due, stage_for, step_of, turn_of, with_next}
 
 -- ---- what goes on
 
@@ -162,7 +162,6 @@ module _ (n : ℕ) (signs : Type 0) (v : Sight) (plan : Plan) (h : IsSteadyPlan 
     | inr other ↦ keeps_beside n signs plan _ h (set_other plan.devices port n (detected v.answer (device_at plan port)) (λ e. other (sym e))) (λ x here to. here) (λ on. absurd (never n plan.found (port + 1) on))
   ]
   answers_order Watch is out = beside _ refl refl (λ on. absurd (false≢true on))
-  answers_order NoMultiplier is out = beside _ refl refl (λ on. absurd (false≢true on))
 
   answers_if : (a out : Bool) → plan.asked ≡ a → PlanKeeps n signs plan (if a && not out then with_next plan.order (noted v plan.order plan) else plan)
   answers_if true false on = answers_order plan.order refl on
@@ -173,9 +172,9 @@ module _ (n : ℕ) (signs : Type 0) (v : Sight) (plan : Plan) (h : IsSteadyPlan 
   answered_keeps = answers_if plan.asked (Rattle.hba_driver.specs.Turns.is_out v plan) refl
 
   signed_never : detects n false (signed_order v) ≡ true → ⊥
-  signed_never on = by_test v.resetting (v.signature == 0x96690101) on
+  signed_never on = by_test v.resetting (v.answer == 0x96690101) on
     where
-      by_test : (b c : Bool) → detects n false (if b then AwaitSignature else if c then CountPorts else NoMultiplier) ≡ true → ⊥
+      by_test : (b c : Bool) → detects n false (if b then AwaitSignature else if c then CountPorts else ResetOn) ≡ true → ⊥
       by_test true c k = false≢true k
       by_test false true k = false≢true k
       by_test false false k = false≢true k
@@ -197,7 +196,6 @@ module _ (n : ℕ) (signs : Type 0) (v : Sight) (plan : Plan) (h : IsSteadyPlan 
   met_never Scan on = on
   met_never (Clear port) on = on
   met_never (Detect port) on = on
-  met_never NoMultiplier on = on
 
   met_if : (a : Bool) → plan.asked ≡ a → PlanKeeps n signs plan (if a then plan else record plan { order = met_order v plan.order })
   met_if true is = keeps_none n signs plan h
@@ -329,8 +327,7 @@ turn_if n signs false p t u h k = k
 
 control_turn_keeps : (n : ℕ) (signs : Type 0) (v : Sight) (news : Bool) (plan : Plan) (entries : List (Option Entry)) → IsSteadyPlan n plan → PlanKeeps n signs plan (control_turn v news plan entries).plan
 control_turn_keeps n signs v news plan entries h =
-    turn_if n signs (is_idle plan.order) plan _ _ (keeps_none n signs plan h)
-    (turn_if n signs (is_some (order_due plan)) plan _ _ (keeps_none n signs plan h) (device_keeps n signs v plan h))
+    turn_if n signs (is_some (order_due plan)) plan _ _ (keeps_none n signs plan h) (device_keeps n signs v plan h)
 
 pub turn_keeps : (n : ℕ) (signs : Type 0) (v : Sight) (plan : Plan) (entries : List (Option Entry)) → IsSteadyPlan n plan → PlanKeeps n signs plan (turn_of v plan entries).plan
 unfolding turn_of
@@ -425,7 +422,7 @@ unfolding device_due
 of_device v plan entries = of_or v plan _ _ (of_slot v plan plan.path refl) (of_request v plan entries)
 
 of_control : (v : Sight) (news : Bool) (plan : Plan) (entries : List (Option Entry)) → DueOf v (control_turn v news plan entries).plan (control_turn v news plan entries).act
-of_control v news plan entries = of_if v (is_idle plan.order) _ _ tt (of_if v (is_some (order_due plan)) _ _ (of_order v plan plan.asked) (of_device v (device_seen v plan) entries))
+of_control v news plan entries = of_if v (is_some (order_due plan)) _ _ (of_order v plan plan.asked) (of_device v (device_seen v plan) entries)
 
 pub of_turn : (v : Sight) (plan : Plan) (entries : List (Option Entry)) → DueOf v (turn_of v plan entries).plan (turn_of v plan entries).act
 unfolding turn_of
@@ -496,7 +493,6 @@ module _ (n : ℕ) (signs : Type 0) (v : Sight) (file : TaskFile) (plan : Plan) 
   detects_out asked (Open port) other on = on
   detects_out asked Scan other on = on
   detects_out asked Watch other on = on
-  detects_out asked NoMultiplier other on = on
 
   out : (order : Order) → order ≢ Clear n → order ≡ plan.order → detects n true plan.order ≡ true → detects n plan.asked plan.order ≡ true
   out order other is on = detects_out plan.asked plan.order (λ e. other (is ∙ e)) on
@@ -518,7 +514,6 @@ module _ (n : ℕ) (signs : Type 0) (v : Sight) (file : TaskFile) (plan : Plan) 
   ordered_keeps Scan other is = plainly Scan other is
   ordered_keeps (Detect port) other is = plainly (Detect port) other is
   ordered_keeps Watch other is = plainly Watch other is
-  ordered_keeps NoMultiplier other is = plainly NoMultiplier other is
 
   -- slot 30 begins to work on a device
   stepped : (dev : ℕ) (stage : Stage) → Plan

@@ -8,7 +8,7 @@ use Rattle.std.proofs.lemmas.List.{get_or-set_other}
 use Rattle.fis_view.specs.declared.build.H2dFields.{H2dFields}
 use Rattle.slots.specs.Slots.{lowest_below, match_some}
 use Rattle.hba_driver.specs.declared.order.Order.{Order}
-use Rattle.hba_driver.specs.declared.order.Order.TheVariants.{ResetOn, ResetOff, AwaitSignature, CountPorts, SetMask, Enable, Open, Scan, Clear, Detect, Watch, NoMultiplier}
+use Rattle.hba_driver.specs.declared.order.Order.TheVariants.{ResetOn, ResetOff, AwaitSignature, CountPorts, SetMask, Enable, Open, Scan, Clear, Detect, Watch}
 use Rattle.hba_driver.specs.declared.path.Path.{Path}
 use Rattle.hba_driver.specs.declared.path.Recovery.{Recovery}
 use Rattle.hba_driver.specs.declared.path.Recovery.TheVariants.{Log, Reset}
@@ -28,7 +28,7 @@ use Rattle.hba_driver.specs.Paths.{first_stage, next_stage, stage_fields}
 use Rattle.hba_driver.specs.Steady.{IsAskedOf, IsCalmAct, IsFine, IsSteadyPlan, detects}
 use Rattle.hba_driver.specs.Tended.{Awaits, Fine, Identifies, IsAskedOn, IsAsking, IsAtStage, IsBegun, IsReleasing, IsStepless, IsTendedBy, IsTendedPlan, IsUnworked, Logs, Releases, Spoilt, WorksOn}
 use Rattle.hba_driver.specs.Ticks.{from_reset, ordered, plan_after, recovering, unless}
-use Rattle.hba_driver.specs.Turns.{advanced, answered, control_news, control_seen, control_turn, detected, device_due, device_seen, device_turn, early_due, found_of, is_back, is_due, is_idle, is_in_reset, is_out, issue_of, may_issue, met, met_order, met_path, met_stage, noted, order_due, path_answered, path_due, path_met, path_to, plain_turn, request_due, signed_order, stage_due, stage_for, turn_of, with_next}
+use Rattle.hba_driver.specs.Turns.{advanced, answered, control_news, control_seen, control_turn, detected, device_due, device_seen, device_turn, early_due, found_of, is_back, is_due, is_in_reset, is_out, issue_of, may_issue, met, met_order, met_path, met_stage, noted, order_due, path_answered, path_due, path_met, path_to, plain_turn, request_due, signed_order, stage_due, stage_for, turn_of, with_next}
 use Rattle.hba_driver.proofs.SteadyLemmas.{DueOf, PlanKeeps, act_keeps, keeps_then, never, never_open, of_device, of_turn, set_same, turn_keeps, unless_here}
 
 -- ---- paths
@@ -141,9 +141,9 @@ leaves_if n false p q r h k = k
 -- ---- slot 31
 
 signed_never : (n : ℕ) (v : Sight) → detects n false (signed_order v) ≡ true → ⊥
-signed_never n v on = by_test v.resetting (v.signature == 0x96690101) on
+signed_never n v on = by_test v.resetting (v.answer == 0x96690101) on
   where
-    by_test : (b c : Bool) → detects n false (if b then AwaitSignature else if c then CountPorts else NoMultiplier) ≡ true → ⊥
+    by_test : (b c : Bool) → detects n false (if b then AwaitSignature else if c then CountPorts else ResetOn) ≡ true → ⊥
     by_test true c k = false≢true k
     by_test false true k = false≢true k
     by_test false false k = false≢true k
@@ -165,7 +165,6 @@ met_never n v (Open port) on = on
 met_never n v Scan on = on
 met_never n v (Clear port) on = on
 met_never n v (Detect port) on = on
-met_never n v NoMultiplier on = on
 
 module _ (n : ℕ) (v : Sight) (plan : Plan) (h : IsUnsought n plan) where
   answers_order : (order : Order) → plan.order ≡ order → plan.asked ≡ true → Leaves n plan (with_next order (noted v order plan))
@@ -188,7 +187,6 @@ module _ (n : ℕ) (v : Sight) (plan : Plan) (h : IsUnsought n plan) where
       other : n ≢ port
       other same = h (subst (λ (o : Order). detects n plan.asked o ≡ true) (sym is) (equal_is port n (sym same)))
   answers_order Watch is out = leaves_path n plan _ refl refl (λ on. false≢true on)
-  answers_order NoMultiplier is out = leaves_path n plan _ refl refl (λ on. false≢true on)
 
   answers_if : (a out : Bool) → plan.asked ≡ a → Leaves n plan (if a && not out then with_next plan.order (noted v plan.order plan) else plan)
   answers_if true false on = answers_order plan.order refl on
@@ -290,7 +288,6 @@ detects_out n asked Enable other on = on
 detects_out n asked (Open port) other on = on
 detects_out n asked Scan other on = on
 detects_out n asked Watch other on = on
-detects_out n asked NoMultiplier other on = on
 
 -- the path of another device is given up
 unless_stays : (dev : ℕ) (o : Option Path) (x : Path) → x.dev ≢ dev → o ≡ Some x → unless dev o ≡ Some x
@@ -339,7 +336,6 @@ module _ (n : ℕ) (file : TaskFile) (plan : Plan) (h : IsUnsought n plan) where
   ordered_leaves Scan other is = plainly Scan other is
   ordered_leaves (Detect port) other is = plainly (Detect port) other is
   ordered_leaves Watch other is = plainly Watch other is
-  ordered_leaves NoMultiplier other is = plainly NoMultiplier other is
 
   act_leaves : (a : Option Act) → IsCalmAct n a → Plainly plan a → Leaves n plan (match_some a plan (λ x. plan_after x file plan))
   unfolding plan_after
@@ -608,8 +604,7 @@ module _ (n : ℕ) (signs : Type 0) (v : Sight) (file : TaskFile) (p : Plan) (en
 
   control_tends : Keeps → Looks → (r : Plan) (news : Bool) → Leaves n p r → TurnTends n signs v file p (control_turn v news r entries)
   control_tends keep looks r news leaves =
-      tends_if n signs v file p (is_idle r.order) (plain_turn r None news) _ (plain_tends keep r None news leaves tt)
-      (tends_if n signs v file p (is_some (order_due r)) (plain_turn r (order_due r) news) _ (plain_tends keep r (order_due r) news leaves (plainly_order r r.asked)) (looks r news leaves))
+      tends_if n signs v file p (is_some (order_due r)) (plain_turn r (order_due r) news) _ (plain_tends keep r (order_due r) news leaves (plainly_order r r.asked)) (looks r news leaves)
 
   whole_tends : IsUnsought n p → Keeps → Looks → TurnTends n signs v file p (turn_of v p entries)
   unfolding turn_of

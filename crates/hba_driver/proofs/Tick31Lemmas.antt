@@ -13,7 +13,7 @@ use Rattle.hba_laws.specs.Parts.{DevicePart}
 use Rattle.hba_laws.proofs.StandLemmas.{the}
 use Rattle.hba_laws.proofs.ViewLemmas.{own_in}
 use Rattle.hba_driver.specs.declared.order.Order.{Order}
-use Rattle.hba_driver.specs.declared.order.Order.TheVariants.{ResetOn, ResetOff, AwaitSignature, CountPorts, Enable, Open, Scan, Clear, Detect, Watch, NoMultiplier}
+use Rattle.hba_driver.specs.declared.order.Order.TheVariants.{ResetOn, ResetOff, AwaitSignature, CountPorts, Enable, Open, Scan, Clear, Detect, Watch}
 use Rattle.hba_driver.specs.declared.plan.Plan.{Plan}
 use Rattle.hba_driver.specs.declared.sight.Sight.{Sight}
 use Rattle.hba_driver.specs.declared.turn.Act.{Act}
@@ -58,7 +58,7 @@ faulty_shown port memory ruled none some = by_reported port.errors.reported refl
 
 met_low : (v : Sight) (o : Order) → IsLow o → IsLow (met_order v o)
 unfolding met_order
-met_low v AwaitSignature h = either IsLow v.resetting AwaitSignature _ tt (either IsLow (v.signature == 0x96690101) CountPorts NoMultiplier tt tt)
+met_low v AwaitSignature h = either IsLow v.resetting AwaitSignature _ tt (either IsLow (v.answer == 0x96690101) CountPorts ResetOn tt tt)
 met_low v Watch h = either IsLow v.notified Scan Watch tt tt
 met_low v o h = h
 
@@ -231,7 +231,7 @@ module _ (h : Host) (g : IsGoing h) (stage : Stage31) (at : IsAt31 stage h) wher
 
     met_await : v.resetting ≡ true → (o : Order) → o ≡ AwaitSignature → met_order v o ≡ AwaitSignature
     unfolding met_order
-    met_await on o is = ap (met_order v) is ∙ ap (λ (b : Bool). if b then AwaitSignature else if v.signature == 0x96690101 then CountPorts else NoMultiplier) on
+    met_await on o is = ap (met_order v) is ∙ ap (λ (b : Bool). if b then AwaitSignature else if v.answer == 0x96690101 then CountPorts else ResetOn) on
 
     next_reset : v.resetting ≡ true → (ports found : ℕ) (o : Order) → o ≡ ResetOff → met_order v (next_order ports found o) ≡ AwaitSignature
     unfolding next_order

@@ -22,7 +22,7 @@ use Rattle.hba_laws.proofs.StandLemmas.{some_inj}
 use Rattle.hba_driver.specs.declared.effect.Effect.{Effect}
 use Rattle.hba_driver.specs.declared.effect.Effect.TheVariants as effect
 use Rattle.hba_driver.specs.declared.order.Order.{Order}
-use Rattle.hba_driver.specs.declared.order.Order.TheVariants.{ResetOn, ResetOff, AwaitSignature, CountPorts, SetMask, Enable, Open, Scan, Clear, Detect, Watch, NoMultiplier}
+use Rattle.hba_driver.specs.declared.order.Order.TheVariants.{ResetOn, ResetOff, AwaitSignature, CountPorts, SetMask, Enable, Open, Scan, Clear, Detect, Watch}
 use Rattle.hba_driver.specs.declared.path.Path.{Path}
 use Rattle.hba_driver.specs.declared.path.Stage.{Stage}
 use Rattle.hba_driver.specs.declared.path.Stage.TheVariants.{Identify, ReadLog, AssertReset, ReleaseReset}
@@ -167,7 +167,6 @@ port_of_order Scan f h = port_by _ f refl h
 port_of_order (Clear port) f h = port_by _ f refl h
 port_of_order (Detect port) f h = port_by _ f refl h
 port_of_order Watch f h = port_none f h
-port_of_order NoMultiplier f h = port_none f h
 
 -- ---- a port is cleared
 
@@ -240,7 +239,6 @@ order_act D d file fs c Enable old new before after free list area ruled m is ac
 order_act D d file fs c (Open port) old new before after free list area ruled m is acts go = order_goes D d _ fs c (order_fields (Open port)) old new before after (port_of_order (Open port)) free (asks d) list area ruled m acts go
 order_act D d file fs c (Detect port) old new before after free list area ruled m is acts go = order_goes D d _ fs c (order_fields (Detect port)) old new before after (port_of_order (Detect port)) free (asks d) list area ruled m acts go
 order_act D d file fs c Watch old new before after free list area ruled m is acts go = order_goes D d _ fs c (order_fields Watch) old new before after (port_of_order Watch) free (asks d) list area ruled m acts go
-order_act D d file fs c NoMultiplier old new before after free list area ruled m is acts go = order_goes D d _ fs c (order_fields NoMultiplier) old new before after (port_of_order NoMultiplier) free (asks d) list area ruled m acts go
 order_act D d file fs c Scan old new before after free list area ruled m is acts go =
     let place = place_effect (effect.Writes px_sntf 32768) old acts.0 before acts.1 refl acts.2 in
     let effects : List Effect = match_some (order_fields Scan) [] (λ f. sending 31 control_port f false) in

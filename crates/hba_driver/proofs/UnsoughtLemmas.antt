@@ -4,7 +4,7 @@ use Rattle.std.specs.Prelude.{if◌then◌else◌, is_some}
 use Rattle.std.proofs.lemmas.Bool.{cases_Bool, false≢true, true≢false}
 use Rattle.slots.specs.Slots.{match_some}
 use Rattle.hba_driver.specs.declared.order.Order.{Order}
-use Rattle.hba_driver.specs.declared.order.Order.TheVariants.{ResetOn, ResetOff, AwaitSignature, CountPorts, SetMask, Enable, Open, Scan, Clear, Detect, Watch, NoMultiplier}
+use Rattle.hba_driver.specs.declared.order.Order.TheVariants.{ResetOn, ResetOff, AwaitSignature, CountPorts, SetMask, Enable, Open, Scan, Clear, Detect, Watch}
 use Rattle.hba_driver.specs.declared.path.Path.{Path}
 use Rattle.hba_driver.specs.declared.path.Stage.{Stage}
 use Rattle.hba_driver.specs.declared.path.Stage.TheVariants.{Identify, ReadLog, AssertReset, ReleaseReset, AwaitReset}
@@ -20,7 +20,7 @@ use Rattle.hba_driver.specs.Sights.{file_shown}
 use Rattle.hba_driver.specs.Slot30.{IsUnflushed, StaysUnsought}
 use Rattle.hba_driver.specs.Steady.{IsFlushTick, detects}
 use Rattle.hba_driver.specs.Ticks.{after_tick, done_ended, due, from_reset, ordered, plan_after, recovering, seen, turn}
-use Rattle.hba_driver.specs.Turns.{advanced, control_seen, device_seen, early_due, found_of, is_back, is_idle, order_due, turn_of}
+use Rattle.hba_driver.specs.Turns.{advanced, control_seen, device_seen, early_due, found_of, is_back, order_due, turn_of}
 use Rattle.hba_driver.proofs.PageLemmas.{poll_plan}
 use Rattle.hba_driver.proofs.SteadyLemmas.{DueOf, of_turn}
 use Rattle.hba_driver.proofs.SteadyTurns.{acted_plan}
@@ -61,7 +61,7 @@ unfolding turn_of
 turn_unsought n v p entries h =
     let c : IsUnsought n (control_seen v p) = (control_leaves n v p h).unsought in
     turn_if n (is_some (early_due v p)) _ _ h
-    (turn_if n (is_idle (control_seen v p).order) _ _ c (turn_if n (is_some (order_due (control_seen v p))) _ _ c (device_unsought n v (control_seen v p) c)))
+    (turn_if n (is_some (order_due (control_seen v p))) _ _ c (device_unsought n v (control_seen v p) c))
 
 -- ---- the act
 
@@ -85,7 +85,6 @@ module _ (n : ℕ) (file : TaskFile) (plan : Plan) (h : IsUnsought n plan) where
   ordered_unsought Scan other is = out Scan other is
   ordered_unsought (Detect port) other is = out (Detect port) other is
   ordered_unsought Watch other is = out Watch other is
-  ordered_unsought NoMultiplier other is = out NoMultiplier other is
 
   act_unsought : (v : Sight) (a : Option Act) → DueOf v plan a → (a ≢ Some (act.Orders (Clear n))) → IsUnsought n (match_some a plan (λ x. plan_after x file plan))
   unfolding plan_after

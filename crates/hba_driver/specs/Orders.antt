@@ -4,7 +4,7 @@ use Rattle.std.specs.Prelude.{ℕ, ◌+◌, ◌*◌, ◌/◌, ◌%◌, ◌&&◌,
 use Rattle.fis_view.specs.declared.build.H2dFields.{H2dFields}
 use Rattle.slots.specs.Slots.{has_bit, lowest_below, match_some}
 use Rattle.hba_driver.specs.declared.order.Order.{Order}
-use Rattle.hba_driver.specs.declared.order.Order.TheVariants.{ResetOn, ResetOff, AwaitSignature, CountPorts, SetMask, Enable, Open, Scan, Clear, Detect, Watch, NoMultiplier}
+use Rattle.hba_driver.specs.declared.order.Order.TheVariants.{ResetOn, ResetOff, AwaitSignature, CountPorts, SetMask, Enable, Open, Scan, Clear, Detect, Watch}
 use Rattle.hba_driver.specs.declared.request.Work.{Work}
 use Rattle.hba_driver.specs.declared.request.Work.TheVariants as work
 use Rattle.hba_driver.specs.declared.slot.Head.{Head}
@@ -80,7 +80,6 @@ order_fields Scan = Some (reads control_port error_ports)
 order_fields (Clear port) = Some (writes port serror changes)
 order_fields (Detect port) = Some (reads port sstatus)
 order_fields Watch = None
-order_fields NoMultiplier = None
 
 -- the scan goes on with the lowest port from this one on that GSCR[32] named, and else it is over
 unfoldable pub scan_from : (found : ℕ) → ℕ → Order
@@ -103,7 +102,6 @@ next_order ports found Scan = scan_from found 0
 next_order ports found (Clear port) = Detect port
 next_order ports found (Detect port) = scan_from found (port + 1)
 next_order ports found Watch = Scan
-next_order ports found NoMultiplier = NoMultiplier
 
 -- ---- devices
 

@@ -26,7 +26,7 @@ shown port offset = result_unwrap_or (read_at port offset) 0
 abbrev pub last_d2h : List ℕ → ℕ → List ℕ
 last_d2h structure dev = take 20 (drop (4160 + 256 * dev) structure)
 
--- a register's value in the answer of the multiplier: Count 7:0, LBA 7:0, LBA 15:8 and LBA 23:16, the first lowest
+-- a register's value in the answer of the multiplier, or its signature as a number: Count 7:0, LBA 7:0, LBA 15:8 and LBA 23:16, the first lowest
 abbrev pub answer_in : Result Fis FisFault → ℕ
 answer_in (Ok (view.RegD2H f)) = field table.D2h table.Lba f % 2 ^ 24 * 256 + field table.D2h table.Count f % 2 ^ 8
 answer_in _ = 0
@@ -74,9 +74,6 @@ px_cmd = 0x18
 abbrev pub px_tfd : ℕ
 px_tfd = 0x20
 
-abbrev pub px_sig : ℕ
-px_sig = 0x24
-
 abbrev pub px_sact : ℕ
 px_sact = 0x34
 
@@ -112,7 +109,6 @@ sight_of port memory = record {
   faulty = faulty_in (shown port px_fbs);
   resetting = (view_of 15 port).state.resetting;
   in_reset = map (λ dev. (view_of dev port).state.resetting) (range_with_len 0 16);
-  signature = shown port px_sig;
   notified = has_bit (shown port px_sntf) 15;
   answer = answer_in (seen (last_d2h memory.structure 15));
   signed = map (λ dev. is_ata (seen (last_d2h memory.structure dev))) (range_with_len 0 16);

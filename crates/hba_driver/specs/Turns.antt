@@ -6,7 +6,7 @@ use Rattle.std.specs.Prelude.{ℕ, ◌%◌, ◌<◌, ◌==◌, ◌&&◌, ◌||�
 use Rattle.std.specs.Option.{option_map, option_or}
 use Rattle.slots.specs.Slots.{has_bit, lowest_below, match_some}
 use Rattle.hba_driver.specs.declared.order.Order.{Order}
-use Rattle.hba_driver.specs.declared.order.Order.TheVariants.{AwaitSignature, CountPorts, Scan, Detect, Watch, NoMultiplier}
+use Rattle.hba_driver.specs.declared.order.Order.TheVariants.{AwaitSignature, CountPorts, ResetOn, Scan, Detect, Watch}
 use Rattle.hba_driver.specs.declared.path.Path.{Path}
 use Rattle.hba_driver.specs.declared.path.Recovery.TheVariants.{Reset}
 use Rattle.hba_driver.specs.declared.path.Stage.{Stage}
@@ -57,10 +57,10 @@ is_out v plan = has_bit v.issued 31
 abbrev pub answered : Sight → Plan → Plan
 answered v plan = if plan.asked && not (is_out v plan) then with_next plan.order (noted v plan.order plan) else plan
 
--- the software reset of the multiplier ends with its signature; with another the driver stays idle
+-- The software reset of the multiplier ends with its signature, which then stands in its own row of the received area, as an
+-- answer does; after another one it is reset again.
 abbrev pub signed_order : Sight → Order
-signed_order v =
-    if v.resetting then AwaitSignature else if v.signature == 0x96690101 then CountPorts else NoMultiplier
+signed_order v = if v.resetting then AwaitSignature else if v.answer == 0x96690101 then CountPorts else ResetOn
 
 -- what ends an order that waits: a signature, or a notification of the multiplier in PxSNTF
 unfoldable pub met_order : Sight → Order → Order
@@ -221,10 +221,6 @@ IsAct (act.Issues slot dev queued) = slot < 30
 
 -- ---- the turn: what is known then, the first act that is due, whether an answer came, and whose log it was
 
-abbrev pub is_idle : Order → Bool
-is_idle NoMultiplier = true
-is_idle _ = false
-
 -- slot 30 and the requests, where slot 31 has nothing to issue
 abbrev pub device_turn : Sight → Bool → Plan → List (Option Entry) → Turn
 device_turn v news plan entries = record {
@@ -238,11 +234,10 @@ device_turn v news plan entries = record {
 abbrev pub plain_turn : Plan → Option Act → Bool → Turn
 plain_turn plan a news = record { plan = plan; act = a; news = news; logged = None }
 
--- once the port is open; with no multiplier nothing more is due
+-- once the port is open
 abbrev pub control_turn : Sight → Bool → Plan → List (Option Entry) → Turn
 control_turn v news plan entries =
-    if is_idle plan.order then plain_turn plan None news
-    else if is_some (order_due plan) then plain_turn plan (order_due plan) news
+    if is_some (order_due plan) then plain_turn plan (order_due plan) news
     else device_turn v news plan entries
 
 unfoldable pub turn_of : Sight → Plan → List (Option Entry) → Turn

@@ -34,8 +34,6 @@ pub(crate) enum Order {
     Detect(u8),
     /// A notification is awaited.
     Watch,
-    /// The signature was not that of a multiplier.
-    NoMultiplier,
 }
 
 /// The control port of the multiplier.
@@ -179,7 +177,7 @@ impl Order {
             Order::Scan => Some(reads(CONTROL_PORT, ERROR_PORTS)),
             Order::Clear(port) => Some(writes(port, SERROR, CHANGES)),
             Order::Detect(port) => Some(reads(port, SSTATUS)),
-            Order::AwaitSignature | Order::Watch | Order::NoMultiplier => None,
+            Order::AwaitSignature | Order::Watch => None,
         }
     }
 
@@ -204,7 +202,6 @@ impl Order {
             Order::Clear(port) => Order::Detect(port),
             Order::Detect(port) => scan_from(found, port + 1),
             Order::Watch => Order::Scan,
-            Order::NoMultiplier => Order::NoMultiplier,
         }
     }
 }

@@ -23,7 +23,7 @@ pub(crate) enum Device {
     Recovering(Recovery),
 }
 
-/// PxSIG of a port multiplier.
+/// The signature of a port multiplier.
 const MULTIPLIER: u32 = 0x9669_0101;
 /// The slot of commands to the multiplier.
 const CONTROL_SLOT: u8 = 31;
@@ -149,8 +149,7 @@ impl Plan {
             | Order::Enable
             | Order::Open(_)
             | Order::Clear(_)
-            | Order::Watch
-            | Order::NoMultiplier => self,
+            | Order::Watch => self,
         }
     }
 
@@ -228,10 +227,10 @@ impl Order {
     {
         if sight.resetting {
             Order::AwaitSignature
-        } else if sight.signature == MULTIPLIER {
+        } else if sight.answer == MULTIPLIER {
             Order::CountPorts
         } else {
-            Order::NoMultiplier
+            Order::ResetOn
         }
     }
 

@@ -28,8 +28,6 @@ pub(crate) const IS: u32 = 0x10;
 pub(crate) const CMD: u32 = 0x18;
 /// PxTFD.
 pub(crate) const TFD: u32 = 0x20;
-/// PxSIG.
-pub(crate) const SIG: u32 = 0x24;
 /// PxSACT.
 pub(crate) const SACT: u32 = 0x34;
 /// PxCI.
@@ -77,11 +75,9 @@ pub(crate) struct Sight {
     pub(crate) resetting: bool,
     /// By device: it is in software reset.
     pub(crate) in_reset: [bool; 16],
-    /// PxSIG.
-    pub(crate) signature: u32,
     /// PxSNTF has the bit of the multiplier.
     pub(crate) notified: bool,
-    /// The value in the multiplier's last answer.
+    /// The value in the multiplier's last answer, or its signature.
     pub(crate) answer: u32,
     /// By device: the signature of an ATA device stands in its row of the received area.
     pub(crate) signed: [bool; 16],
@@ -248,7 +244,6 @@ impl Sight {
             faulty: faulty(register(port, FBS)),
             resetting: port.resetting(CONTROL_PORT),
             in_reset: in_reset(port),
-            signature: register(port, SIG),
             notified: has_bit(register(port, SNTF), CONTROL_PORT),
             answer: answer(last_d2h(structure, CONTROL_PORT)),
             signed: signed(structure),

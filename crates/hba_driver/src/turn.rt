@@ -4,7 +4,7 @@ ghost use Rattle.std.specs.Prelude.{◌≡◌, ◌<◌, true, IfSome, Some};
 ghost use Rattle.std.specs.Option.{option_or};
 ghost use Rattle.hba_driver.specs.Drivers.{IsOrder, IsSoundPlan};
 ghost use Rattle.hba_driver.specs.Ticks.{cleared_plan, from_reset as from_reset_of, ordered as ordered_of, plan_after as plan_after_of, plan_without, recovering as recovering_of, stopped_plan, unless as unless_of};
-ghost use Rattle.hba_driver.specs.Turns.{IsAct, control_turn as control_turn_of, device_due as device_due_of, device_turn as device_turn_of, early_due as early_due_of, fault_due as fault_due_of, is_idle as is_idle_order, opening_due as opening_due_of, order_due as order_due_of, path_due as path_due_of, plain_turn, request_due as request_due_of, restart_due as restart_due_of, stage_due as stage_due_of, step_of, turn_of};
+ghost use Rattle.hba_driver.specs.Turns.{IsAct, control_turn as control_turn_of, device_due as device_due_of, device_turn as device_turn_of, early_due as early_due_of, fault_due as fault_due_of, opening_due as opening_due_of, order_due as order_due_of, path_due as path_due_of, plain_turn, request_due as request_due_of, restart_due as restart_due_of, stage_due as stage_due_of, step_of, turn_of};
 
 use crate::order::{CONTROL_PORT, Order};
 use crate::path::{Path, Stage, TaskFile, reset_all};
@@ -119,14 +119,6 @@ impl Path {
     }
 }
 
-impl Order {
-    fn is_idle(self) -> bool
-        ensures { result ≡ is_idle_order self }
-    {
-        matches!(self, Order::NoMultiplier)
-    }
-}
-
 impl Plan {
     fn opening_due(self) -> Option<Act>
         ensures value { result ≡ opening_due_of self }
@@ -238,9 +230,6 @@ impl Plan {
         ensures sound { IsSoundPlan result.plan }
         ensures act { IfSome result.act IsAct }
     {
-        if self.order.is_idle() {
-            return Turn::plain(self, None, news);
-        }
         let act = self.order_due();
         if act.is_some() {
             return Turn::plain(self, act, news);

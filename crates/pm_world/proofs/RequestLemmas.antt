@@ -12,7 +12,7 @@ use Rattle.fis_view.specs.Table.{C, Command, Control, Count, D2h, Device, Featur
 use Rattle.fis_view.specs.declared.build.H2dFields.{H2dFields}
 use Rattle.fis_view.specs.declared.frame.Stamp.{Stamp}
 use Rattle.hba_driver.specs.declared.order.Order.{Order}
-use Rattle.hba_driver.specs.declared.order.Order.TheVariants.{ResetOn, ResetOff, AwaitSignature, CountPorts, SetMask, Enable, Open, Scan, Clear, Detect, Watch, NoMultiplier}
+use Rattle.hba_driver.specs.declared.order.Order.TheVariants.{ResetOn, ResetOff, AwaitSignature, CountPorts, SetMask, Enable, Open, Scan, Clear, Detect, Watch}
 use Rattle.hba_driver.specs.Orders.{changes, control_port, error_mask, error_ports, features_on, order_fields, port_count, reads, scontrol, serror, sstatus, writes}
 use Rattle.hba_driver.specs.Sights.{answer_in}
 use Rattle.hba_driver.specs.Slot31.{IsLow}
@@ -115,7 +115,6 @@ module _ (fields : H2dFields) (bytes : List ℕ) (built : IsBuilt H2d (h2d_given
   order_asks (Clear port) are = write_asked (writes port serror changes) bytes (as_built _ are) refl refl
   order_asks (Detect port) are = read_asked (reads port sstatus) bytes (as_built _ are) refl refl
   order_asks Watch are = absurd (cc)
-  order_asks NoMultiplier are = absurd (cc)
 
 -- ## Which of them write PSCR[1] and PSCR[2]
 
@@ -132,7 +131,6 @@ order_changes Scan = tt
 order_changes (Clear port) = (λ e. refl, λ e. absurd (omega (arith, e)))
 order_changes (Detect port) = tt
 order_changes Watch = tt
-order_changes NoMultiplier = tt
 
 first_two : (a b c : Bool) → (a && b && c) ≡ true → (a ≡ true) × (b ≡ true)
 first_two true true c h = (refl, refl)
@@ -153,7 +151,6 @@ clears_order n (Clear port) within h =
     ap (λ (k : ℕ). Clear k) (sym (low_is port within) ∙ eqb-true (low port) n (first_two (low port == n) true (shares changes bit_x) h).0)
 clears_order n (Detect port) within h = absurd (false≢true h)
 clears_order n Watch within h = absurd (false≢true h)
-clears_order n NoMultiplier within h = absurd (false≢true h)
 
 all_three : (a b c : Bool) → a ≡ true → b ≡ true → c ≡ true → (a && b && c) ≡ true
 all_three true true true h k l = refl

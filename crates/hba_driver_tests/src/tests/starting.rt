@@ -2,7 +2,7 @@
 
 use super::steps::Step::{
     Flushes, Gives, Hears, Holds, IsUsed, Issues, Opens, PlugsDisks, Polls, PollsNone, Puts, Reads,
-    Sent, Sets, Settles, Status, Submits, Ticks, Took, Writes,
+    Sent, Sets, Settles, Shows, Status, Submits, Ticks, Took, Writes,
 };
 use super::steps::{Step, assert_steps};
 use hba_driver::{Driver, Outcome, SubmitError, Work};
@@ -253,4 +253,59 @@ static END: [Step; 8] = [
 #[test]
 fn device_is_removed(rt: HostRuntime) -> Result<(), Fail> {
     assert_steps(&rt, rt.alloc(), Driver::new(), 2, &[&QUEUE, &SCAN, &END])
+}
+
+/// The multiplier's signature, and another one in its place.
+const MULTIPLIER: &[u8] = &[
+    0x34, 0x4F, 0x50, 1, 1, 0x69, 0x96, 0, 0, 0, 0, 0, 1, 0, 0, 0, 0, 0, 0, 0,
+];
+
+const ANOTHER: &[u8] = &[
+    0x34, 0x4F, 0x50, 1, 1, 0, 0, 0, 0, 0, 0, 0, 1, 0, 0, 0, 0, 0, 0, 0,
+];
+
+/// It refuses a command, though it was given none.
+const REFUSED: &[u8] = &[
+    0x34, 0x4F, 0x51, 4, 0, 0, 0, 0, 0, 0, 0, 0, 0, 0, 0, 0, 0, 0, 0, 0,
+];
+
+/// A FIS of device 0 that no device sends.
+const WRONG: &[u8] = &[0x27, 0, 0, 0];
+
+/// Multiplier and device 0 are reset at one time. The device's signature comes last, so PxSIG shows that one; the
+/// multiplier's stands in its own row.
+static BOTH: [Step; 13] = [
+    PlugsDisks(1),
+    Hears(REFUSED),
+    Hears(WRONG),
+    Ticks(true),
+    Ticks(true),
+    Gives([0x0F, 0, 0]),
+    Gives([0x0F, 0, 0]),
+    Gives([0, 0, 0]),
+    Gives([0, 0, 0]),
+    Hears(MULTIPLIER),
+    Hears(ATA),
+    Shows(0x24, 0x101),
+    Gives([0x8F, 0xE4, 2]),
+];
+
+/// After another signature the multiplier is reset again.
+static AGAIN: [Step; 10] = [
+    PlugsDisks(1),
+    Hears(REFUSED),
+    Ticks(true),
+    Gives([0x0F, 0, 0]),
+    Gives([0x0F, 0, 0]),
+    Hears(ANOTHER),
+    Gives([0x0F, 0, 0]),
+    Gives([0x0F, 0, 0]),
+    Hears(MULTIPLIER),
+    Gives([0x8F, 0xE4, 2]),
+];
+
+#[test]
+fn signature_of_the_multiplier(rt: HostRuntime) -> Result<(), Fail> {
+    assert_steps(&rt, rt.alloc(), Driver::new(), 1, &[&BOTH])?;
+    assert_steps(&rt, rt.alloc(), Driver::new(), 1, &[&AGAIN])
 }

@@ -22,8 +22,8 @@ returns c =
     (rw (c.register.ensures, c.register-2.ensures) refl)
     (c.is_stopped.ensures ∙ rw (c.register-3.ensures, c.register-4.ensures) refl)
     (c.faulty.ensures ∙ rw c.register-5.ensures refl)
-    c.resetting.ensures c.in_reset.ensures c.register-6.ensures
-    (c.has_bit.ensures ∙ ap (λ (x : ℕ). has_bit x 15) c.register-7.ensures)
+    c.resetting.ensures c.in_reset.ensures
+    (c.has_bit.ensures ∙ ap (λ (x : ℕ). has_bit x 15) c.register-6.ensures)
     (c.answer.ensures ∙ ap (λ (b : List ℕ). answer_in (seen b)) c.last_d2h.ensures ∙ ap (λ (s : List ℕ). answer_in (seen (last_d2h s 15))) structure)
     (c.signed.ensures ∙ ap (λ (s : List ℕ). map (λ dev. is_ata (seen (last_d2h s dev))) (range_with_len 0 16)) structure)
     (c.is_usable.ensures ∙ ap is_usable c.client.ensures.client)
