@@ -62,8 +62,8 @@ HoldsWrites (_ ∷ past) = HoldsWrites past
 
 -- ---- laws
 
--- All Data that goes out for a write is gathered, after every list of events over which tables stay.
--- Data that a device sends is for no write.
+-- All Data that fills a write is gathered, after every list of events over which tables stay, whatever
+-- devices send.
 abbrev pub DataIsGathered : Type 0
 DataIsGathered =
     (old new : Host) (events : List HostEvent) (run : Runs old events new)
@@ -83,7 +83,7 @@ pub record WasSent (opening : ℕ → ℕ) (past : Touches) (n s i b : ℕ) (t :
   pub carries : slice_get bytes (i - next_number (own n earlier)) ≡ Some b
   pub stood : client opening earlier (place t.table i) ≡ b
 
--- So it was with each byte of an issued write that is filled, whatever the software does.
+-- So it was with each byte of an issued write that is filled, whatever the software puts.
 abbrev pub SentFromPlace : Type 0
 SentFromPlace =
     (opening : ℕ → ℕ) (past : Touches) → AreGathered opening past
