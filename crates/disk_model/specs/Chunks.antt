@@ -1,6 +1,8 @@
--- The chunks in which a disk moves the data of a queued command (Serial ATA 3.x, 10.5.9, DMA Setup FIS, and 13.6, native
--- command queuing), and what keeps it from doing so (ACS-3, READ and WRITE FPDMA QUEUED, errors).
-use Rattle.std.specs.Prelude.{ℕ, zero, suc, ◌+◌, ◌-◌, ◌*◌, ◌/◌, ◌==◌, min, not, nat_lt, Bool, List, [], ◌∷◌, ◌++◌, drop, take, length, if◌then◌else◌, Option, Some, None, option_map}
+-- The chunks in which a disk moves the data of a queued command (Serial ATA 3.x, 10.5.9, DMA Setup FIS, and
+-- 13.6, native command queuing), and what keeps it from doing so (ACS-3, READ and WRITE FPDMA QUEUED,
+-- errors).
+use Rattle.std.specs.Prelude.{ℕ, zero, suc, ◌+◌, ◌-◌, ◌*◌, ◌/◌, ◌==◌, min, not, nat_lt, Bool, List, [], ◌∷◌}
+use Rattle.std.specs.Prelude.{◌++◌, drop, take, length, if◌then◌else◌, Option, Some, None, option_map}
 use Rattle.std.specs.List.{find, list_any, range_with_len}
 use Rattle.disk_model.specs.declared.request.Command.{Command}
 use Rattle.disk_model.specs.declared.answer.Fault.{Fault}
@@ -33,13 +35,16 @@ put xs at ys = take at xs ++ ys ++ drop (at + length ys) xs
 
 -- the DMA Setup of a chunk; d is its direction, to the host where true
 abbrev pub chunk_setup : DiskPlan → Command → (left : ℕ) → Sending
-chunk_setup plan c left = setup c.tag (512 * chunk_from plan c left) (512 * chunk_count plan c left) (not c.write)
+chunk_setup plan c left =
+    setup c.tag (512 * chunk_from plan c left) (512 * chunk_count plan c left) (not c.write)
 
--- What a read sends when so many chunks are left: DMA Setup and Data of each (Serial ATA 3.x, first party DMA).
+-- What a read sends when so many chunks are left: DMA Setup and Data of each (Serial ATA 3.x, first party
+-- DMA).
 unfoldable pub sends_left : DiskPlan → List ℕ → Command → (left : ℕ) → List Sending
 sends_left plan medium c zero = []
 sends_left plan medium c (suc k) =
-    chunk_setup plan c (suc k) ∷ Carries (sectors_at medium (c.lba + chunk_from plan c (suc k)) (chunk_count plan c (suc k))) ∷ sends_left plan medium c k
+    chunk_setup plan c (suc k) ∷ Carries (sectors_at medium (c.lba + chunk_from plan c (suc k))
+    (chunk_count plan c (suc k))) ∷ sends_left plan medium c k
 
 -- what a write sends before a chunk
 abbrev pub asks_for : DiskPlan → Command → (left : ℕ) → List Sending
@@ -53,7 +58,8 @@ is_bad bads lba = list_any (λ bad. bad == lba) bads
 unfoldable pub first_bad : Command → List ℕ → Option ℕ
 first_bad c bads = find (is_bad bads) (range_with_len c.lba c.count)
 
--- Why a command can't be done: it passes the end (IDNF, its own LBA), or it reads a bad sector (UNC, the first one).
+-- Why a command can't be done: it passes the end (IDNF, its own LBA), or it reads a bad sector (UNC, the
+-- first one).
 abbrev pub fault_of : DiskPlan → ℕ → Command → Option Fault
 fault_of plan sectors c =
     if nat_lt sectors (c.lba + c.count) then Some (Failed c.tag 0x10 c.lba)

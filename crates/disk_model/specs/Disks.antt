@@ -1,6 +1,9 @@
--- What a disk is at one moment, what it sends next, and what it makes of what it receives (Serial ATA 3.x, 10.5, FIS types,
--- and 13.6, native command queuing; ACS-3, READ and WRITE FPDMA QUEUED, NCQ Command Error log).
-use Rattle.std.specs.Prelude.{ℕ, ◌+◌, ◌-◌, ◌*◌, ◌/◌, ◌%◌, ◌==◌, ◌&&◌, Bool, true, false, not, List, [], ◌∷◌, ◌++◌, length, replicate, filter, map, slice_get, if◌then◌else◌, Option, Some, None, Result, Ok, drop}
+-- What a disk is at one moment, what it sends next, and what it makes of what it receives (Serial ATA 3.x,
+-- 10.5, FIS types, and 13.6, native command queuing; ACS-3, READ and WRITE FPDMA QUEUED, NCQ Command Error
+-- log).
+use Rattle.std.specs.Prelude.{ℕ, ◌+◌, ◌-◌, ◌*◌, ◌/◌, ◌%◌, ◌==◌, ◌&&◌, Bool, true, false, not, List, [], ◌∷◌}
+use Rattle.std.specs.Prelude.{◌++◌, length, replicate, filter, map, slice_get, if◌then◌else◌, Option, Some}
+use Rattle.std.specs.Prelude.{None, Result, Ok, drop}
 use Rattle.std.specs.List.{list_any, range_with_len}
 use Rattle.fis_view.specs.declared.view.Fis.{Fis}
 use Rattle.fis_view.specs.declared.view.Fis.TheVariants as view
@@ -8,9 +11,11 @@ use Rattle.fis_view.specs.declared.view.FisFault.{FisFault}
 use Rattle.fis_view.specs.Seen.{seen}
 use Rattle.disk_model.specs.declared.request.Command.{Command}
 use Rattle.disk_model.specs.declared.request.Request.{Request}
-use Rattle.disk_model.specs.declared.request.Request.TheVariants.{Reset, Queue, ReadErrorLog, Identify, Flush, Other}
+use Rattle.disk_model.specs.declared.request.Request.TheVariants.{Reset, Queue, ReadErrorLog, Identify, Flush}
+use Rattle.disk_model.specs.declared.request.Request.TheVariants.{Other}
 use Rattle.disk_model.specs.declared.answer.Answer.{Answer}
-use Rattle.disk_model.specs.declared.answer.Answer.TheVariants.{Signature, Accepted, Finished, Refused, Ended, PageFollows, PageData}
+use Rattle.disk_model.specs.declared.answer.Answer.TheVariants.{Signature, Accepted, Finished, Refused, Ended}
+use Rattle.disk_model.specs.declared.answer.Answer.TheVariants.{PageFollows, PageData}
 use Rattle.disk_model.specs.declared.answer.Page.{Page}
 use Rattle.disk_model.specs.declared.answer.Page.TheVariants.{ErrorLog, Identity}
 use Rattle.disk_model.specs.declared.answer.Fault.{Fault}
@@ -21,14 +26,16 @@ use Rattle.disk_model.specs.declared.plan.Order.TheVariants.{Oldest, Newest}
 use Rattle.disk_model.specs.Histories.{Happening, Received, Sent, Plugged}
 use Rattle.disk_model.specs.Requests.{request_of}
 use Rattle.disk_model.specs.Sendings.{Sending, answer_sent}
-use Rattle.disk_model.specs.Chunks.{chunks, chunk_from, chunk_count, sends_left, asks_for, put, fault_of, report}
+use Rattle.disk_model.specs.Chunks.{chunks, chunk_from, chunk_count, sends_left, asks_for, put, fault_of}
+use Rattle.disk_model.specs.Chunks.{report}
 
 -- a started read, and what of it is still to be sent
 pub record Started : Type 0 where
   pub command : Command
   pub sends : List Sending
 
--- a started write: what its next chunk still sends, the chunks that have not come, and its bytes as far as they came
+-- a started write: what its next chunk still sends, the chunks that have not come, and its bytes as far as
+-- they came
 pub record Writing : Type 0 where
   pub command : Command
   pub sends : List Sending
@@ -86,7 +93,12 @@ abbrev pub stopped : Moment → Fault → Moment
 stopped m fault = record m { queued = []; fault = Some fault; owed = []; started = None; writing = None }
 
 abbrev pub begun_write : DiskPlan → Command → Writing
-begun_write plan c = record { command = c; sends = asks_for plan c (chunks plan c); left = chunks plan c; staged = replicate (512 * c.count) 0 }
+begun_write plan c = record {
+  command = c;
+  sends = asks_for plan c (chunks plan c);
+  left = chunks plan c;
+  staged = replicate (512 * c.count) 0;
+}
 
 abbrev pub starts : DiskPlan → Moment → Command → Bool → Turn
 starts plan m c false = read_turn m c (sends_left plan m.medium c (chunks plan c))
@@ -117,7 +129,8 @@ abbrev pub answer_turn : DiskPlan → ℕ → Moment → List Answer → Turn
 answer_turn plan sectors m [] = idle_turn plan sectors m m.started
 answer_turn plan sectors m (a ∷ later) = Some (answer_sent sectors a, record m { owed = later })
 
--- the oldest answer, else the next FIS of the started command, else the first of the command that is started now
+-- the oldest answer, else the next FIS of the started command, else the first of the command that is started
+-- now
 abbrev pub turn : DiskPlan → ℕ → Moment → Turn
 turn plan sectors m = answer_turn plan sectors m m.owed
 
@@ -157,7 +170,8 @@ logged m [] = owes_page (record m { fault = None }) (ErrorLog m.fault)
 logged m (c ∷ cs) = refused m (c ∷ cs)
 
 abbrev pub queues : Moment → Command → Moment
-queues m c = (if list_any (λ q. q.tag == c.tag) m.queued then refused m m.queued else record m { queued = m.queued ++ c ∷ []; owed = m.owed ++ Accepted ∷ [] })
+queues m c = (if list_any (λ q. q.tag == c.tag) m.queued then refused m m.queued
+    else record m { queued = m.queued ++ c ∷ []; owed = m.owed ++ Accepted ∷ [] })
 
 -- whether SRST holds the disk in its software reset
 abbrev pub is_held : Option Fault → Bool
@@ -166,7 +180,8 @@ is_held _ = false
 
 -- SRST is cleared: the software reset ends
 abbrev pub restarted : Moment → Bool → Moment
-restarted m true = owes (record m { resetting = false; fault = if is_held m.fault then None else m.fault }) Signature
+restarted m true =
+    owes (record m { resetting = false; fault = if is_held m.fault then None else m.fault }) Signature
 restarted m false = m
 
 -- In a software reset nothing but SRST is heard, in the error mode nothing but SRST and the log.
@@ -184,12 +199,26 @@ received m _ (Some fault) = m
 abbrev pub stored : DiskPlan → Moment → Writing → List ℕ → Moment
 stored plan m w bytes =
     let staged = put w.staged (512 * chunk_from plan w.command w.left) bytes in
-    (if w.left == 1 then record m { medium = put m.medium (512 * w.command.lba) staged; queued = without m.queued w.command; owed = m.owed ++ Ended w.command.tag ∷ []; writing = None } else record m { writing = Some (record { command = w.command; sends = asks_for plan w.command (w.left - 1); left = w.left - 1; staged = staged }) })
+    (if w.left == 1 then record m {
+      medium = put m.medium (512 * w.command.lba) staged;
+      queued = without m.queued w.command;
+      owed = m.owed ++ Ended w.command.tag ∷ [];
+      writing = None;
+    }
+    else record m {
+      writing = Some (record {
+        command = w.command;
+        sends = asks_for plan w.command (w.left - 1);
+        left = w.left - 1;
+        staged = staged;
+      });
+    })
 
 -- Data counts where a write waits for a chunk of just its length
 abbrev pub data_taken : DiskPlan → Moment → Option Writing → List ℕ → Moment
 data_taken plan m None bytes = m
-data_taken plan m (Some w) bytes = (if (length w.sends == 0) && (length bytes == 512 * chunk_count plan w.command w.left) then stored plan m w bytes else m)
+data_taken plan m (Some w) bytes = (if (length w.sends == 0)
+    && (length bytes == 512 * chunk_count plan w.command w.left) then stored plan m w bytes else m)
 
 -- a Register FIS and Data alone are heard
 abbrev pub heard : DiskPlan → Moment → Result Fis FisFault → Moment
@@ -220,4 +249,12 @@ abbrev pub opening_medium : ℕ → List ℕ
 opening_medium sectors = map opening_byte (range_with_len 0 (512 * sectors))
 
 abbrev pub opening : ℕ → Moment
-opening sectors = record { medium = opening_medium sectors; queued = []; fault = None; resetting = false; owed = []; started = None; writing = None }
+opening sectors = record {
+  medium = opening_medium sectors;
+  queued = [];
+  fault = None;
+  resetting = false;
+  owed = [];
+  started = None;
+  writing = None;
+}

@@ -1,7 +1,8 @@
--- The two ends of a disk's link while FISes are on their way in both directions (Serial ATA 3.x, 10.5, FIS types, and 13.6,
--- native command queuing; AHCI 1.3.1, 5.3): what the host gave and took is told in the words in which a disk's history is, and
--- both ends tell the same ledger, but for what is still on its way.
-use Rattle.std.specs.Prelude.{ℕ, ◌≡◌, ◌≢◌, ◌==◌, Bool, true, false, List, [], ◌∷◌, ◌++◌, drop, length, All, Option, Some, None, Result, Ok}
+-- The two ends of a disk's link while FISes are on their way in both directions (Serial ATA 3.x, 10.5, FIS
+-- types, and 13.6, native command queuing; AHCI 1.3.1, 5.3): what the host gave and took is told in the words
+-- in which a disk's history is, and both ends tell the same ledger, but for what is still on its way.
+use Rattle.std.specs.Prelude.{ℕ, ◌≡◌, ◌≢◌, ◌==◌, Bool, true, false, List, [], ◌∷◌, ◌++◌, drop, length, All}
+use Rattle.std.specs.Prelude.{Option, Some, None, Result, Ok}
 use Rattle.std.specs.List.{list_any}
 use Rattle.fis_view.specs.Seen.{seen}
 use Rattle.fis_view.specs.declared.view.Fis.{Fis}
@@ -13,7 +14,8 @@ use Rattle.disk_model.specs.declared.request.Request.TheVariants.{Reset, Queue}
 use Rattle.disk_model.specs.Histories.{Happening, Received, Sent, Plugged}
 use Rattle.disk_model.specs.Requests.{request_of}
 use Rattle.disk_model.specs.Runs.{IsDiskRun}
-use Rattle.disk_model.specs.Ledger.{AnswersOne, IsRead, IsSize, Ledger, Moving, Written, empty, has_error, ledger, listens}
+use Rattle.disk_model.specs.Ledger.{AnswersOne, IsRead, IsSize, Ledger, Moving, Written, empty, has_error}
+use Rattle.disk_model.specs.Ledger.{ledger, listens}
 use Rattle.disk_model.specs.Laws.{AnswersRight, MovesRight}
 
 -- ## What happened at the two ends
@@ -23,10 +25,10 @@ abbrev pub reports : Result Fis FisFault → Bool
 reports (Ok (view.SetBits f)) = has_error f
 reports _ = false
 
--- At the disk's end the first list happened since the disk was plugged in, and no error was reported; at the host's end the
--- second, in which the FISes that the host gave stand as Received and those that it took as Sent. The third list is on its
--- way to the disk, the fourth, oldest first, to the host. What goes up comes in order; on the way down a FIS may be overtaken,
--- so one that is lost is one that never comes.
+-- At the disk's end the first list happened since the disk was plugged in, and no error was reported; at the
+-- host's end the second, in which the FISes that the host gave stand as Received and those that it took as
+-- Sent. The third list is on its way to the disk, the fourth, oldest first, to the host. What goes up comes
+-- in order; on the way down a FIS may be overtaken, so one that is lost is one that never comes.
 pub data IsLinked : List Happening → List Happening → List (List ℕ) → List (List ℕ) → Type 0 where
   begins : IsLinked (Plugged ∷ []) (Plugged ∷ []) [] []
   gives : (disk host : List Happening) (down up : List (List ℕ)) (bytes : List ℕ) → IsLinked disk host down up
@@ -34,10 +36,12 @@ pub data IsLinked : List Happening → List Happening → List (List ℕ) → Li
   comes : (disk host : List Happening) (before after up : List (List ℕ)) (bytes : List ℕ)
       → IsLinked disk host (before ++ bytes ∷ after) up
       → IsLinked (disk ++ Received bytes ∷ []) host (before ++ after) up
-  sends : (disk host : List Happening) (down up : List (List ℕ)) (bytes : List ℕ) → reports (seen bytes) ≡ false
+  sends : (disk host : List Happening) (down up : List (List ℕ)) (bytes : List ℕ)
+      → reports (seen bytes) ≡ false
       → IsLinked disk host down up
       → IsLinked (disk ++ Sent bytes ∷ []) host down (up ++ bytes ∷ [])
-  takes : (disk host : List Happening) (down up : List (List ℕ)) (bytes : List ℕ) → IsLinked disk host down (bytes ∷ up)
+  takes : (disk host : List Happening) (down up : List (List ℕ)) (bytes : List ℕ)
+      → IsLinked disk host down (bytes ∷ up)
       → IsLinked disk (host ++ Sent bytes ∷ []) down up
 
 -- ## What a host may give
@@ -65,8 +69,8 @@ pub record Rests (l : Ledger) : Type 0 where
   pub pages : l.pages ≡ []
   pub moving : l.moving ≡ None
 
--- A queued command is given where its tag is free and the command before it was answered; any other where nothing is to come;
--- and no software reset.
+-- A queued command is given where its tag is free and the command before it was answered; any other where
+-- nothing is to come; and no software reset.
 abbrev pub FitsRequest : Ledger → Request → Type 0
 FitsRequest l (Reset on) = ⊥
 FitsRequest l (Queue c) = IsFree l c.tag × (l.awaited ≡ [])
@@ -145,16 +149,18 @@ abbrev pub AnswersNext : List (List ℕ) → Type 0
 AnswersNext [] = ⊥
 AnswersNext (bytes ∷ later) = IsBits (seen bytes)
 
--- the disk's end tells of each write of which the host's end tells, but for the last ones, which have other tags
+-- the disk's end tells of each write of which the host's end tells, but for the last ones, which have other
+-- tags
 pub record AreEntered (disk host : Ledger) (tag : ℕ) : Type 0 where
   pub later : List Written
   pub same : host.writes ≡ disk.writes ++ later
   pub others : All (λ w. (w.tag == tag) ≡ false) later
 
--- What the host's end tells, and then what is on its way up, is what the disk's end tells, and then what is on its way down.
--- What comes to the host is right by what it will have heard by then. Each read of which its end tells that it ended had the
--- sectors of the medium as they were when the disk started it; and where a Set Device Bits FIS comes to it next, which by that
--- names the first tag of those that were not answered, each write of that tag is on the medium.
+-- What the host's end tells, and then what is on its way up, is what the disk's end tells, and then what is
+-- on its way down. What comes to the host is right by what it will have heard by then. Each read of which its
+-- end tells that it ended had the sectors of the medium as they were when the disk started it; and where a
+-- Set Device Bits FIS comes to it next, which by that names the first tag of those that were not answered,
+-- each write of that tag is on the medium.
 pub record EndsAgree (sectors : ℕ) (disk host : List Happening) (down up : List (List ℕ)) : Type 0 where
   pub same : with_up (ledger host) up ≡ with_down (ledger disk) down
   pub right : AreRight (ledger host) up
@@ -165,5 +171,7 @@ pub record EndsAgree (sectors : ℕ) (disk host : List Happening) (down up : Lis
 -- so it is with each run of each disk, and each careful host
 abbrev pub EndsTellTheSame : Type 0
 EndsTellTheSame =
-    (plan : DiskPlan) (sectors : ℕ) (disk host : List Happening) (down up : List (List ℕ)) → IsSize plan sectors
-    → IsDiskRun plan sectors disk → IsLinked disk host down up → IsCareful host → EndsAgree sectors disk host down up
+    (plan : DiskPlan) (sectors : ℕ) (disk host : List Happening) (down up : List (List ℕ))
+    → IsSize plan sectors
+    → IsDiskRun plan sectors disk → IsLinked disk host down up → IsCareful host
+    → EndsAgree sectors disk host down up

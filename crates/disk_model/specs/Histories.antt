@@ -29,17 +29,23 @@ pub data Plan : Type 0 where
   -- a disk's plan, and its size in sectors of 512 bytes
   DiskOf : DiskPlan → ℕ → Plan
 
--- The plan stays, and whatever history the old state may stand for, the new one may stand for it with this event at its end.
-pub record GoesOn {S : Type 0} (plan_of : S → Plan) (StandsFor : S → List Happening → Type 0) (old : S) (event : Happening) (new : S) : Type 0 where
+-- The plan stays, and whatever history the old state may stand for, the new one may stand for it with this
+-- event at its end.
+pub record GoesOn {S : Type 0} (plan_of : S → Plan) (StandsFor : S → List Happening → Type 0) (old : S)
+    (event : Happening) (new : S) : Type 0 where
   pub plan : plan_of new ≡ plan_of old
   pub goes_on : (history : List Happening) → StandsFor old history → StandsFor new (history ++ event ∷ [])
 
 -- The device sends these bytes, which its plan allows after each history that the old state may stand for.
-pub record SendsNext {S : Type 0} (plan_of : S → Plan) (StandsFor : S → List Happening → Type 0) (MaySend : Plan → List Happening → List ℕ → Type 0) (old : S) (bytes : List ℕ) (new : S) : Type 0 where
+pub record SendsNext {S : Type 0} (plan_of : S → Plan) (StandsFor : S → List Happening → Type 0)
+    (MaySend : Plan → List Happening → List ℕ → Type 0) (old : S) (bytes : List ℕ) (new : S) : Type 0 where
   pub plan : plan_of new ≡ plan_of old
   pub allowed : (history : List Happening) → StandsFor old history → MaySend (plan_of old) history bytes
-  pub goes_on : (history : List Happening) → StandsFor old history → StandsFor new (history ++ Sent bytes ∷ [])
+  pub goes_on : (history : List Happening) → StandsFor old history
+      → StandsFor new (history ++ Sent bytes ∷ [])
 
 -- There is nothing that the plan allows the device to send now.
-abbrev pub IsSilent : {S : Type 0} → (S → Plan) → (S → List Happening → Type 0) → (Plan → List Happening → List ℕ → Type 0) → S → Type 0
-IsSilent plan_of StandsFor MaySend now = (history : List Happening) (bytes : List ℕ) → StandsFor now history → MaySend (plan_of now) history bytes → ⊥
+abbrev pub IsSilent : {S : Type 0} → (S → Plan) → (S → List Happening → Type 0)
+    → (Plan → List Happening → List ℕ → Type 0) → S → Type 0
+IsSilent plan_of StandsFor MaySend now = (history : List Happening) (bytes : List ℕ) → StandsFor now history
+    → MaySend (plan_of now) history bytes → ⊥

@@ -1,5 +1,5 @@
--- A disk in software reset takes no command: from the FIS that sets SRST on, until one that clears it comes or the disk is
--- plugged in (Serial ATA 3.x, software reset protocol; ACS-3, Device Control, SRST).
+-- A disk in software reset takes no command: from the FIS that sets SRST on, until one that clears it comes
+-- or the disk is plugged in (Serial ATA 3.x, software reset protocol; ACS-3, Device Control, SRST).
 use Rattle.std.specs.Prelude.{ℕ, ◌≡◌, true, false, List, [], ◌∷◌, ◌++◌, Result, Ok}
 use Rattle.fis_view.specs.Seen.{seen}
 use Rattle.fis_view.specs.declared.view.Fis.{Fis}
@@ -43,17 +43,23 @@ pub record IsHeldRun (plan : DiskPlan) (sectors : ℕ) (before : List Happening)
   pub stays : NoneEndsReset between
   pub run : IsDiskRun plan sectors ((before ++ Received on ∷ []) ++ between)
 
--- As long as SRST is set a disk sends nothing, and is what it was as SRST was set, whatever comes; nor does anything that
--- comes count for whoever listens on its link. So as SRST is cleared it owes its signature, and nothing else.
+-- As long as SRST is set a disk sends nothing, and is what it was as SRST was set, whatever comes; nor does
+-- anything that comes count for whoever listens on its link. So as SRST is cleared it owes its signature, and
+-- nothing else.
 pub record TakesNoCommand : Type 0 where
-  pub silent : (plan : DiskPlan) (sectors : ℕ) (before : List Happening) (on : List ℕ) (between : List Happening)
+  pub silent : (plan : DiskPlan) (sectors : ℕ) (before : List Happening) (on : List ℕ)
+      (between : List Happening)
       → IsHeldRun plan sectors before on between → sent_in between ≡ []
-  pub same : (plan : DiskPlan) (sectors : ℕ) (before : List Happening) (on : List ℕ) (between : List Happening)
+  pub same : (plan : DiskPlan) (sectors : ℕ) (before : List Happening) (on : List ℕ)
+      (between : List Happening)
       → IsHeldRun plan sectors before on between
-      → moment plan sectors ((before ++ Received on ∷ []) ++ between) ≡ moment plan sectors (before ++ Received on ∷ [])
-  pub told : (plan : DiskPlan) (sectors : ℕ) (before : List Happening) (on : List ℕ) (between : List Happening)
+      → moment plan sectors ((before ++ Received on ∷ []) ++ between)
+      ≡ moment plan sectors (before ++ Received on ∷ [])
+  pub told : (plan : DiskPlan) (sectors : ℕ) (before : List Happening) (on : List ℕ)
+      (between : List Happening)
       → IsHeldRun plan sectors before on between
       → ledger ((before ++ Received on ∷ []) ++ between) ≡ ledger (before ++ Received on ∷ [])
-  pub signs : (plan : DiskPlan) (sectors : ℕ) (before : List Happening) (on : List ℕ) (between : List Happening)
+  pub signs : (plan : DiskPlan) (sectors : ℕ) (before : List Happening) (on : List ℕ)
+      (between : List Happening)
       (off : List ℕ) → IsHeldRun plan sectors before on between → IsRequest off (asked.Reset false)
       → OwesOnly (ledger (((before ++ Received on ∷ []) ++ between) ++ Received off ∷ [])) (Signs ∷ []) []

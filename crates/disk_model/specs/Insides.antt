@@ -1,5 +1,7 @@
 -- How the fields of a disk are seen.
-use Rattle.std.specs.Prelude.{ℕ, ◌≡◌, ◌≢◌, ◌+◌, ◌-◌, ◌*◌, ◌<◌, ◌≤◌, ◌&&◌, min, nat_le, nat_lt, Bool, true, false, if◌then◌else◌, List, [], ◌∷◌, length, drop, Option, Some, None, All, vec_capacity, ◌⊎◌}
+use Rattle.std.specs.Prelude.{ℕ, ◌≡◌, ◌≢◌, ◌+◌, ◌-◌, ◌*◌, ◌<◌, ◌≤◌, ◌&&◌, min, nat_le, nat_lt, Bool, true}
+use Rattle.std.specs.Prelude.{false, if◌then◌else◌, List, [], ◌∷◌, length, drop, Option, Some, None, All}
+use Rattle.std.specs.Prelude.{vec_capacity, ◌⊎◌}
 use Rattle.std.specs.Option.{option_map_or}
 use Rattle.disk_model.specs.declared.request.Command.{Command}
 use Rattle.disk_model.specs.declared.disk.Disk.TheInside.{Inside}
@@ -21,26 +23,43 @@ sends_of plan medium r true = drop 1 (sends_left plan medium r.command r.left)
 abbrev pub started_by : DiskPlan → List ℕ → Transfer → Option Started
 started_by plan medium Idle = None
 started_by plan medium (Write w) = None
-started_by plan medium (Read r) = Some (record { command = r.command; sends = sends_of plan medium r r.set_up })
+started_by plan medium (Read r) =
+    Some (record { command = r.command; sends = sends_of plan medium r r.set_up })
 
 -- the write, its bytes in the buffer
 abbrev pub writing_by : DiskPlan → List ℕ → Transfer → Option Writing
 writing_by plan staged Idle = None
 writing_by plan staged (Read r) = None
-writing_by plan staged (Write w) = Some (record { command = w.command; sends = drop w.gone (asks_for plan w.command w.left); left = w.left; staged = staged })
+writing_by plan staged (Write w) =
+    Some (record {
+      command = w.command;
+      sends = drop w.gone (asks_for plan w.command w.left);
+      left = w.left;
+      staged = staged;
+    })
 
 abbrev pub seen_as : Inside → DiskValue
 seen_as d = record {
   plan = d.plan;
   sectors = d.sectors;
-  now = record { medium = d.medium.items; queued = d.queue.items; fault = d.fault; resetting = d.resetting; owed = d.answers.items; started = started_by d.plan d.medium.items d.transfer; writing = writing_by d.plan d.staged.items d.transfer };
+  now = record {
+    medium = d.medium.items;
+    queued = d.queue.items;
+    fault = d.fault;
+    resetting = d.resetting;
+    owed = d.answers.items;
+    started = started_by d.plan d.medium.items d.transfer;
+    writing = writing_by d.plan d.staged.items d.transfer;
+  };
 }
 
 -- a transfer lies within the disk, and has a chunk to move
 abbrev pub IsTransfer : DiskPlan → ℕ → Transfer → Type 0
 IsTransfer plan sectors Idle = Unit {0}
-IsTransfer plan sectors (Write w) = (0 < w.left) × (w.left ≤ chunks plan w.command) × (w.command.lba + w.command.count ≤ sectors)
-IsTransfer plan sectors (Read r) = (0 < r.left) × (r.left ≤ chunks plan r.command) × (r.command.lba + r.command.count ≤ sectors)
+IsTransfer plan sectors (Write w) =
+    (0 < w.left) × (w.left ≤ chunks plan w.command) × (w.command.lba + w.command.count ≤ sectors)
+IsTransfer plan sectors (Read r) =
+    (0 < r.left) × (r.left ≤ chunks plan r.command) × (r.command.lba + r.command.count ≤ sectors)
 
 -- the buffer has the length of the write
 abbrev pub IsStaged : List ℕ → Transfer → Type 0
@@ -60,7 +79,8 @@ pub record IsDisk (d : Inside) : Type 0 where
   pub answers : 64 ≤ d.answers.cap
   pub queue : 32 ≤ vec_capacity d.queue
 
--- So many answers wait, or so many commands are queued, that more may want memory: of 64 places a page takes two.
+-- So many answers wait, or so many commands are queued, that more may want memory: of 64 places a page takes
+-- two.
 abbrev pub IsFull : Moment → Type 0
 IsFull m = (63 ≤ length m.owed) ⊎ (32 ≤ length m.queued)
 

@@ -1,4 +1,5 @@
--- What a byte of a medium is once several writes ended: that of the last write which has it (ACS-3, WRITE FPDMA QUEUED).
+-- What a byte of a medium is once several writes ended: that of the last write which has it (ACS-3, WRITE
+-- FPDMA QUEUED).
 use Rattle.std.specs.Prelude.{ℕ, ◌≡◌, ◌+◌, ◌*◌, ◌<◌, ◌≤◌, List, ◌∷◌, ◌++◌, All, length, slice_get}
 use Rattle.disk_model.specs.Ledger.{Written, medium_with}
 
@@ -22,6 +23,7 @@ LieOn sectors writes = All (Lies (512 * sectors)) writes
 -- A byte of a write stands on the medium as long as no later write has it.
 abbrev pub ShowsTheLast : Type 0
 ShowsTheLast =
-    (sectors i : ℕ) (before later : List Written) (w : Written) → LieOn sectors (before ++ w ∷ later) → i < length w.bytes
+    (sectors i : ℕ) (before later : List Written) (w : Written) → LieOn sectors (before ++ w ∷ later)
+    → i < length w.bytes
     → NoneCovers (w.at + i) later
     → slice_get (medium_with sectors (before ++ w ∷ later)) (w.at + i) ≡ slice_get w.bytes i

@@ -15,7 +15,8 @@ LaterIsLinked =
     (before disk host : List Happening) (down up : List (List ℕ)) → IsLinked disk host down up
     → IsLinkedOn (before ++ Plugged ∷ []) (before ++ disk) (before ++ host) down [] up
 
--- A read that ended is there in the whole history, with its command and its bytes. It had the writes of before, too.
+-- A read that ended is there in the whole history, with its command and its bytes. It had the writes of
+-- before, too.
 pub record IsReadThere (before given : List Happening) (r : ReadOut) : Type 0 where
   pub at : ℕ
   pub read : ReadOut

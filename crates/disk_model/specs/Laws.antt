@@ -1,9 +1,12 @@
--- What each FIS that a disk sends has to be, by the ledger of the FISes before it (Serial ATA 3.x, 10.5, FIS types, and
--- 13.6, native command queuing; ACS-3, READ and WRITE FPDMA QUEUED, NCQ Command Error log). Of the disk's plan only what
--- no FIS tells is named: which sectors are bad, how many there are, and whose turn it is.
-use Rattle.std.specs.Prelude.{ℕ, ◌≡◌, ◌+◌, ◌*◌, ◌<◌, ◌≤◌, ◌==◌, ◌⊎◌, true, false, not, List, [], ◌∷◌, ◌++◌, drop, length, sum_by, find, All, Option, Some, None, Result, Ok}
+-- What each FIS that a disk sends has to be, by the ledger of the FISes before it (Serial ATA 3.x, 10.5, FIS
+-- types, and 13.6, native command queuing; ACS-3, READ and WRITE FPDMA QUEUED, NCQ Command Error log). Of the
+-- disk's plan only what no FIS tells is named: which sectors are bad, how many there are, and whose turn it
+-- is.
+use Rattle.std.specs.Prelude.{ℕ, ◌≡◌, ◌+◌, ◌*◌, ◌<◌, ◌≤◌, ◌==◌, ◌⊎◌, true, false, not, List, [], ◌∷◌, ◌++◌}
+use Rattle.std.specs.Prelude.{drop, length, sum_by, find, All, Option, Some, None, Result, Ok}
 use Rattle.std.specs.Int.{from_bool}
-use Rattle.fis_view.specs.Table.{Kind, D2h, Bits, Setup, Pio, BufferId, Offset, D, I, Status, Lba, Transfer, field}
+use Rattle.fis_view.specs.Table.{Kind, D2h, Bits, Setup, Pio, BufferId, Offset, D, I, Status, Lba, Transfer}
+use Rattle.fis_view.specs.Table.{field}
 use Rattle.fis_view.specs.Table as table
 use Rattle.fis_view.specs.declared.view.Fis.{Fis}
 use Rattle.fis_view.specs.declared.view.Fis.TheVariants as view
@@ -16,7 +19,8 @@ use Rattle.disk_model.specs.declared.answer.Fault.TheVariants.{Failed}
 use Rattle.disk_model.specs.Pages.{error_log, identify_data}
 use Rattle.disk_model.specs.Chunks.{first_bad}
 use Rattle.disk_model.specs.Disks.{picked, turn}
-use Rattle.disk_model.specs.Ledger.{Ledger, Moving, Stretch, Reply, Signs, Accepts, Finishes, Refuses, ShowsPage, Wanted, LogOf, IdentifyData, has_error, IsSize, ledger}
+use Rattle.disk_model.specs.Ledger.{Ledger, Moving, Stretch, Reply, Signs, Accepts, Finishes, Refuses}
+use Rattle.disk_model.specs.Ledger.{ShowsPage, Wanted, LogOf, IdentifyData, has_error, IsSize, ledger}
 use Rattle.fis_view.specs.Seen.{seen}
 
 -- ## How data moves
@@ -117,14 +121,16 @@ FailsNext plan sectors (Some c) error = (lba : ℕ) × Fails plan sectors c erro
 -- the log names the command that failed, its error, and where
 abbrev pub LogsNext : DiskPlan → ℕ → Option Command → (error : ℕ) → List ℕ → Type 0
 LogsNext plan sectors None error bytes = ⊥
-LogsNext plan sectors (Some c) error bytes = (lba : ℕ) × Fails plan sectors c error lba × (bytes ≡ error_log (Some (Failed c.tag error lba)))
+LogsNext plan sectors (Some c) error bytes =
+    (lba : ℕ) × Fails plan sectors c error lba × (bytes ≡ error_log (Some (Failed c.tag error lba)))
 
 -- the page that was asked for first
 abbrev pub IsPage : DiskPlan → ℕ → List Wanted → List ℕ → Type 0
 IsPage plan sectors [] bytes = ⊥
 IsPage plan sectors (IdentifyData ∷ later) bytes = bytes ≡ identify_data sectors
 IsPage plan sectors (LogOf None ∷ later) bytes = bytes ≡ error_log None
-IsPage plan sectors (LogOf (Some f) ∷ later) bytes = LogsNext plan sectors (picked plan.order f.among) f.error bytes
+IsPage plan sectors (LogOf (Some f) ∷ later) bytes =
+    LogsNext plan sectors (picked plan.order f.among) f.error bytes
 
 -- the first DMA Setup of a command
 abbrev pub FirstRight : DiskPlan → ℕ → Ledger → Option Moving → (tag : ℕ) → Type 0
@@ -136,9 +142,11 @@ abbrev pub PageRight : DiskPlan → ℕ → Ledger → Option Moving → List �
 PageRight plan sectors l None bytes = IsPage plan sectors l.pages bytes
 PageRight plan sectors l (Some v) bytes = Unit {0}
 
--- A command starts where it can be done, an error is that of the command whose turn it is, and the log tells it.
+-- A command starts where it can be done, an error is that of the command whose turn it is, and the log tells
+-- it.
 abbrev pub ErrsRight : DiskPlan → ℕ → Ledger → Result Fis FisFault → Type 0
-ErrsRight plan sectors l (Ok (view.SetBits f)) = has_error f ≡ true → (l.moving ≡ None) × FailsNext plan sectors (picked plan.order l.outstanding) (field Bits table.Error f)
+ErrsRight plan sectors l (Ok (view.SetBits f)) = has_error f ≡ true → (l.moving ≡ None)
+    × FailsNext plan sectors (picked plan.order l.outstanding) (field Bits table.Error f)
 ErrsRight plan sectors l (Ok (view.DmaSetup f)) = FirstRight plan sectors l l.moving (field Setup BufferId f)
 ErrsRight plan sectors l (Ok (view.Payload f)) = PageRight plan sectors l l.moving (drop 4 f)
 ErrsRight plan sectors l _ = Unit {0}
@@ -167,7 +175,8 @@ AnswersFirst (reply ∷ later) f = Answers reply f
 
 -- a PIO Setup says that a page of 512 bytes follows
 abbrev pub ShowsFirst : List Reply → List ℕ → Type 0
-ShowsFirst (ShowsPage ∷ later) f = IsRegister Pio 1 0x58 0 0 f × (field Pio D f ≡ 1) × (field Pio Transfer f ≡ 512)
+ShowsFirst (ShowsPage ∷ later) f =
+    IsRegister Pio 1 0x58 0 0 f × (field Pio D f ≡ 1) × (field Pio Transfer f ≡ 512)
 ShowsFirst _ f = ⊥
 
 -- a Register FIS, and a PIO Setup, answers what came first and was not answered
@@ -192,7 +201,8 @@ pub record OwesNothing (l : Ledger) : Type 0 where
 
 -- a disk that has nothing to send after the history owes nothing
 abbrev pub SilentRight : DiskPlan → ℕ → List Happening → Type 0
-SilentRight plan sectors history = turn plan sectors (moment plan sectors history) ≡ None → OwesNothing (ledger history)
+SilentRight plan sectors history =
+    turn plan sectors (moment plan sectors history) ≡ None → OwesNothing (ledger history)
 
 -- ## Every run
 

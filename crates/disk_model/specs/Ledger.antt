@@ -1,9 +1,11 @@
--- What the FISes of a disk tell whoever listens on its link: which queued commands are outstanding, what of their data
--- moved and where it belongs, which ended and in what order, and what the host is still to hear (Serial ATA 3.x, 10.5,
--- FIS types, and 13.6, native command queuing; ACS-3, READ and WRITE FPDMA QUEUED). Nothing here knows how the disk goes
--- about its commands: no plan, no chunk. Places come from the DMA Setups, bytes from the Data FISes, lengths from the
--- commands.
-use Rattle.std.specs.Prelude.{ℕ, ◌≡◌, ◌+◌, ◌*◌, ◌%◌, ◌^◌, ◌==◌, ◌&&◌, Bool, true, false, not, List, [], ◌∷◌, ◌++◌, drop, length, replicate, filter, find, if◌then◌else◌, Option, Some, None, Result, Ok}
+-- What the FISes of a disk tell whoever listens on its link: which queued commands are outstanding, what of
+-- their data moved and where it belongs, which ended and in what order, and what the host is still to hear
+-- (Serial ATA 3.x, 10.5, FIS types, and 13.6, native command queuing; ACS-3, READ and WRITE FPDMA QUEUED).
+-- Nothing here knows how the disk goes about its commands: no plan, no chunk. Places come from the DMA
+-- Setups, bytes from the Data FISes, lengths from the commands.
+use Rattle.std.specs.Prelude.{ℕ, ◌≡◌, ◌+◌, ◌*◌, ◌%◌, ◌^◌, ◌==◌, ◌&&◌, Bool, true, false, not, List, [], ◌∷◌}
+use Rattle.std.specs.Prelude.{◌++◌, drop, length, replicate, filter, find, if◌then◌else◌, Option, Some, None}
+use Rattle.std.specs.Prelude.{Result, Ok}
 use Rattle.std.specs.List.{list_any}
 use Rattle.fis_view.specs.Table.{Bits, Setup, BufferId, Offset, SActive, Status, Error, field}
 use Rattle.fis_view.specs.Table as table
@@ -14,7 +16,8 @@ use Rattle.fis_view.specs.declared.view.FisFault.{FisFault}
 use Rattle.disk_model.specs.declared.plan.DiskPlan.{DiskPlan}
 use Rattle.disk_model.specs.declared.request.Command.{Command}
 use Rattle.disk_model.specs.declared.request.Request.{Request}
-use Rattle.disk_model.specs.declared.request.Request.TheVariants.{Reset, Queue, ReadErrorLog, Identify, Flush, Other}
+use Rattle.disk_model.specs.declared.request.Request.TheVariants.{Reset, Queue, ReadErrorLog, Identify, Flush}
+use Rattle.disk_model.specs.declared.request.Request.TheVariants.{Other}
 use Rattle.disk_model.specs.Histories.{Happening, Received, Sent, Plugged}
 use Rattle.disk_model.specs.Requests.{request_of}
 use Rattle.disk_model.specs.Chunks.{put, sectors_at}
@@ -81,8 +84,8 @@ pub data Wanted : Type 0 where
 pub record Ledger : Type 0 where
   -- the commands that were queued and have not ended
   pub outstanding : List Command
-  -- whether all of them were given up for an error or for SRST, so that no command is heard; what ends it is the log, but
-  -- for SRST, and a reset that ended
+  -- whether all of them were given up for an error or for SRST, so that no command is heard; what ends it is
+  -- the log, but for SRST, and a reset that ended
   pub failed : Bool
   -- the error for which they were, where a Set Device Bits FIS reported it
   pub failure : Option Failure
@@ -102,13 +105,34 @@ pub record Ledger : Type 0 where
   pub reads : List ReadOut
 
 abbrev pub empty : Ledger
-empty = record { outstanding = []; failed = false; failure = None; resetting = false; in_reset = false; awaited = []; pages = []; unanswered = []; moving = None; writes = []; reads = [] }
+empty = record {
+  outstanding = [];
+  failed = false;
+  failure = None;
+  resetting = false;
+  in_reset = false;
+  awaited = [];
+  pages = [];
+  unanswered = [];
+  moving = None;
+  writes = [];
+  reads = [];
+}
 
 -- ## What the host sends
 
 -- nothing is outstanding, and nothing is to be answered
 abbrev pub given_up : Ledger → Bool → Ledger
-given_up l failed = record l { outstanding = []; failed = failed; failure = None; in_reset = false; awaited = []; pages = []; unanswered = []; moving = None }
+given_up l failed = record l {
+  outstanding = [];
+  failed = failed;
+  failure = None;
+  in_reset = false;
+  awaited = [];
+  pages = [];
+  unanswered = [];
+  moving = None;
+}
 
 -- one more answer is awaited
 abbrev pub awaits : Ledger → Reply → Ledger
@@ -127,16 +151,19 @@ refuses l = mixes l (awaits l Refuses) l.outstanding
 
 -- a tag that is outstanding is refused
 abbrev pub opens : Ledger → Command → Ledger
-opens l c = (if list_any (λ q. q.tag == c.tag) l.outstanding then refuses l else awaits (record l { outstanding = l.outstanding ++ c ∷ [] }) Accepts)
+opens l c = (if list_any (λ q. q.tag == c.tag) l.outstanding then refuses l
+    else awaits (record l { outstanding = l.outstanding ++ c ∷ [] }) Accepts)
 
 -- SRST is cleared: the software reset ends
 abbrev pub restarts : Ledger → Bool → Ledger
-restarts l true = awaits (record l { failed = not l.in_reset && l.failed; resetting = false; in_reset = false }) Signs
+restarts l true =
+    awaits (record l { failed = not l.in_reset && l.failed; resetting = false; in_reset = false }) Signs
 restarts l false = l
 
 -- the log is read, which ends the error mode
 abbrev pub reads_log : Ledger → Ledger
-reads_log l = mixes l (record (awaits_page l (LogOf l.failure)) { failed = false; failure = None }) l.outstanding
+reads_log l =
+    mixes l (record (awaits_page l (LogOf l.failure)) { failed = false; failure = None }) l.outstanding
 
 -- in a software reset no command is heard, after an error none but the log
 abbrev pub asks : Ledger → Request → Bool → Ledger
@@ -154,16 +181,31 @@ asks l _ true = l
 
 -- all bytes of the command moved
 abbrev pub ends : Ledger → Moving → Bool → Ledger
-ends l v true = record l { outstanding = filter (λ q. not (q.tag == v.command.tag)) l.outstanding; unanswered = l.unanswered ++ v.command.tag ∷ []; moving = None; writes = l.writes ++ record { tag = v.command.tag; at = 512 * v.command.lba; bytes = v.bytes } ∷ [] }
-ends l v false = record l { outstanding = filter (λ q. not (q.tag == v.command.tag)) l.outstanding; unanswered = l.unanswered ++ v.command.tag ∷ []; moving = None; reads = l.reads ++ record { command = v.command; before = v.before; bytes = v.bytes } ∷ [] }
+ends l v true = record l {
+  outstanding = filter (λ q. not (q.tag == v.command.tag)) l.outstanding;
+  unanswered = l.unanswered ++ v.command.tag ∷ [];
+  moving = None;
+  writes = l.writes ++ record { tag = v.command.tag; at = 512 * v.command.lba; bytes = v.bytes } ∷ [];
+}
+ends l v false = record l {
+  outstanding = filter (λ q. not (q.tag == v.command.tag)) l.outstanding;
+  unanswered = l.unanswered ++ v.command.tag ∷ [];
+  moving = None;
+  reads = l.reads ++ record { command = v.command; before = v.before; bytes = v.bytes } ∷ [];
+}
 
 -- a command ends as soon as as many bytes moved as it asks for
 abbrev pub goes_on : Ledger → Moving → Ledger
-goes_on l v = (if v.moved == 512 * v.command.count then ends l v v.command.write else record l { moving = Some v })
+goes_on l v =
+    (if v.moved == 512 * v.command.count then ends l v v.command.write else record l { moving = Some v })
 
 -- bytes move to the place that the last DMA Setup gave
 abbrev pub moves : Ledger → Moving → List ℕ → Ledger
-moves l v bytes = goes_on l (record v { bytes = put v.bytes v.offset bytes; moved = v.moved + length bytes; active = false })
+moves l v bytes = goes_on l (record v {
+  bytes = put v.bytes v.offset bytes;
+  moved = v.moved + length bytes;
+  active = false;
+})
 
 -- Data of the host: it is the write's where a DMA Activate asked for it and it has the DMA Setup's length
 abbrev pub takes_data : Ledger → Option Moving → List ℕ → Ledger
@@ -178,11 +220,31 @@ sends_data l (Some v) bytes = moves l v bytes
 -- A DMA Setup: the first one of a command starts it.
 abbrev pub starts_moving : Ledger → (offset count : ℕ) → Option Command → Ledger
 starts_moving l offset count None = l
-starts_moving l offset count (Some c) = record l { moving = Some (record { command = c; before = l.writes; bytes = replicate (512 * c.count) 0; moved = 0; setups = record { at = offset; count = count } ∷ []; offset = offset; count = count; active = false }) }
+starts_moving l offset count (Some c) =
+    record l {
+      moving = Some (record {
+        command = c;
+        before = l.writes;
+        bytes = replicate (512 * c.count) 0;
+        moved = 0;
+        setups = record { at = offset; count = count } ∷ [];
+        offset = offset;
+        count = count;
+        active = false;
+      });
+    }
 
 abbrev pub sets_up : Ledger → Option Moving → (tag offset count : ℕ) → Ledger
 sets_up l None tag offset count = starts_moving l offset count (find (λ c. c.tag == tag) l.outstanding)
-sets_up l (Some v) tag offset count = record l { moving = Some (record v { setups = v.setups ++ record { at = offset; count = count } ∷ []; offset = offset; count = count; active = false }) }
+sets_up l (Some v) tag offset count =
+    record l {
+      moving = Some (record v {
+        setups = v.setups ++ record { at = offset; count = count } ∷ [];
+        offset = offset;
+        count = count;
+        active = false;
+      });
+    }
 
 abbrev pub activates : Ledger → Option Moving → Ledger
 activates l None = l
@@ -196,7 +258,8 @@ has_error f = field Bits Status f % 2 == 1
 
 -- with ERR all is given up; else the command that ended first is answered
 abbrev pub answers : Ledger → (error : ℕ) → Bool → Ledger
-answers l error true = record (given_up l true) { failure = Some (record { error = error; among = l.outstanding }) }
+answers l error true =
+    record (given_up l true) { failure = Some (record { error = error; among = l.outstanding }) }
 answers l error false = record l { unanswered = drop 1 l.unanswered }
 
 -- the answer that was awaited first came
@@ -211,7 +274,8 @@ listens_down l (Ok (view.Payload f)) = takes_data l l.moving (drop 4 f)
 listens_down l _ = l
 
 abbrev pub listens_up : Ledger → Result Fis FisFault → Ledger
-listens_up l (Ok (view.DmaSetup f)) = sets_up l l.moving (field Setup BufferId f) (field Setup Offset f) (field Setup table.Count f)
+listens_up l (Ok (view.DmaSetup f)) =
+    sets_up l l.moving (field Setup BufferId f) (field Setup Offset f) (field Setup table.Count f)
 listens_up l (Ok (view.DmaActivate f)) = activates l l.moving
 listens_up l (Ok (view.Payload f)) = sends_data l l.moving (drop 4 f)
 listens_up l (Ok (view.SetBits f)) = answers l (field Bits Error f) (has_error f)

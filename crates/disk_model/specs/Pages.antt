@@ -1,5 +1,6 @@
 -- The 512 bytes that READ LOG EXT and IDENTIFY DEVICE read (ACS-3, NCQ Command Error log and 7.12).
-use Rattle.std.specs.Prelude.{ℕ, ◌-◌, ◌/◌, ◌%◌, List, [], ◌∷◌, ◌++◌, length, replicate, sum, Option, Some, None}
+use Rattle.std.specs.Prelude.{ℕ, ◌-◌, ◌/◌, ◌%◌, List, [], ◌∷◌, ◌++◌, length, replicate, sum, Option, Some}
+use Rattle.std.specs.Prelude.{None}
 use Rattle.std.specs.Int.{to_le_bytes, w64}
 use Rattle.disk_model.specs.declared.answer.Fault.{Fault}
 use Rattle.disk_model.specs.declared.answer.Fault.TheVariants.{Held, Mixed, Failed}
@@ -15,11 +16,12 @@ abbrev pub checksum : List ℕ → ℕ
 checksum bytes = (256 - sum bytes % 256) % 256
 
 -- The NCQ Command Error log, log 10h, to the last byte that is not reserved (ACS-3, NCQ Command Error log):
--- NQ and the tag, reserved, Status, Error, LBA 23:0, Device, LBA 47:24, reserved, Count. With NQ, byte 0 bit 7, the
--- rest says nothing.
+-- NQ and the tag, reserved, Status, Error, LBA 23:0, Device, LBA 47:24, reserved, Count. With NQ, byte 0 bit
+-- 7, the rest says nothing.
 abbrev pub error_head : Option Fault → List ℕ
 error_head (Some (Failed tag error lba)) =
-    tag ∷ 0 ∷ 0x41 ∷ error ∷ lba % 256 ∷ lba / 256 % 256 ∷ lba / 65536 % 256 ∷ 0x40 ∷ lba / 16777216 % 256 ∷ lba / 4294967296 % 256 ∷ lba / 1099511627776 % 256 ∷ 0 ∷ 0 ∷ 0 ∷ []
+    tag ∷ 0 ∷ 0x41 ∷ error ∷ lba % 256 ∷ lba / 256 % 256 ∷ lba / 65536 % 256 ∷ 0x40 ∷ lba / 0x1000000 % 256
+    ∷ lba / 4294967296 % 256 ∷ lba / 1099511627776 % 256 ∷ 0 ∷ 0 ∷ 0 ∷ []
 error_head (Some Mixed) = 0x80 ∷ []
 error_head (Some Held) = 0x80 ∷ []
 error_head None = 0x80 ∷ []
@@ -28,12 +30,14 @@ error_head None = 0x80 ∷ []
 unfoldable pub error_log : Option Fault → List ℕ
 error_log fault = filled_to 511 (error_head fault) ++ checksum (filled_to 511 (error_head fault)) ∷ []
 
--- IDENTIFY DEVICE data (ACS-3, 7.12): 256 words of two bytes, the low one first. Word 75 is the queue depth less one,
--- word 76 bit 8 that native command queuing is supported, words 78 and 79 bit 1 that DMA Setups with an offset other
--- than zero are supported and enabled, words 100 to 103 the number of sectors. The other words are 0.
+-- IDENTIFY DEVICE data (ACS-3, 7.12): 256 words of two bytes, the low one first. Word 75 is the queue depth
+-- less one, word 76 bit 8 that native command queuing is supported, words 78 and 79 bit 1 that DMA Setups
+-- with an offset other than zero are supported and enabled, words 100 to 103 the number of sectors. The other
+-- words are 0.
 unfoldable pub identify_data : ℕ → List ℕ
 identify_data sectors =
-    filled_to 512 (filled_to 200 (filled_to 150 [] ++ (0x1F ∷ 0 ∷ 0 ∷ 1 ∷ 0 ∷ 0 ∷ 2 ∷ 0 ∷ 2 ∷ 0 ∷ [])) ++ to_le_bytes w64 sectors)
+    filled_to 512 (filled_to 200 (filled_to 150 [] ++ (0x1F ∷ 0 ∷ 0 ∷ 1 ∷ 0 ∷ 0 ∷ 2 ∷ 0 ∷ 2 ∷ 0 ∷ []))
+    ++ to_le_bytes w64 sectors)
 
 abbrev pub page_bytes : (sectors : ℕ) → Page → List ℕ
 page_bytes sectors (page.ErrorLog fault) = error_log fault

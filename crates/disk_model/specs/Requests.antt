@@ -3,7 +3,8 @@ use Rattle.std.specs.Prelude.{ℕ, ◌/◌, ◌%◌, ◌==◌, ◌&&◌, ◌<◌
 use Rattle.fis_view.specs.Table.{H2d, C, Command, Features, Lba, Count, Control, field}
 use Rattle.disk_model.specs.declared.request.Command as queued
 use Rattle.disk_model.specs.declared.request.Request.{Request}
-use Rattle.disk_model.specs.declared.request.Request.TheVariants.{Reset, Queue, ReadErrorLog, Identify, Flush, Other}
+use Rattle.disk_model.specs.declared.request.Request.TheVariants.{Reset, Queue, ReadErrorLog, Identify, Flush}
+use Rattle.disk_model.specs.declared.request.Request.TheVariants.{Other}
 
 -- how many sectors a queued command asks for: 0 in its Features stands for 65,536
 abbrev pub sectors_asked : ℕ → ℕ
@@ -11,20 +12,30 @@ sectors_asked features = (if features == 0 then 65536 else features)
 
 -- A queued command: its tag is in bits 7:3 of Count (ACS-3, READ FPDMA QUEUED and WRITE FPDMA QUEUED).
 abbrev pub queued_command : List ℕ → Bool → queued.Command
-queued_command f write = record { write = write; tag = field H2d Count f % 256 / 8; lba = field H2d Lba f; count = sectors_asked (field H2d Features f) }
+queued_command f write = record {
+  write = write;
+  tag = field H2d Count f % 256 / 8;
+  lba = field H2d Lba f;
+  count = sectors_asked (field H2d Features f);
+}
 
 -- whether READ LOG EXT asks for the first page of log 10h: log address in LBA 7:0, page in LBA 15:8
 abbrev pub names_error_log : List ℕ → Bool
-names_error_log f = (field H2d Lba f % 256 == 0x10) && ((field H2d Lba f / 256 % 256 == 0) && (field H2d Count f == 1))
+names_error_log f =
+    (field H2d Lba f % 256 == 0x10) && ((field H2d Lba f / 256 % 256 == 0) && (field H2d Count f == 1))
 
 -- a command, by the Command register
 abbrev pub command_request : List ℕ → ℕ → Request
 command_request f code =
-    (if code == 0x60 then Queue (queued_command f false) else (if code == 0x61 then Queue (queued_command f true) else (if (code == 0x2F) && names_error_log f then ReadErrorLog else (if code == 0xEC then Identify else (if code == 0xEA then Flush else Other)))))
+    (if code == 0x60 then Queue (queued_command f false)
+    else (if code == 0x61 then Queue (queued_command f true)
+    else (if (code == 0x2F) && names_error_log f then ReadErrorLog
+    else (if code == 0xEC then Identify else (if code == 0xEA then Flush else Other)))))
 
 -- A FIS with C gives a command, one without C the Device Control register, of which SRST is bit 2.
 abbrev pub request_of : List ℕ → Request
-request_of f = (if field H2d C f == 1 then command_request f (field H2d Command f) else Reset (field H2d Control f / 4 % 2 == 1))
+request_of f = (if field H2d C f == 1 then command_request f (field H2d Command f)
+    else Reset (field H2d Control f / 4 % 2 == 1))
 
 -- a queued command asks for a sector at least, and has one of 32 tags
 abbrev pub Asks : Request → Type 0

@@ -1,4 +1,5 @@
--- The runs of a disk: what its plan and a history allow it to send (Serial ATA 3.x, 13.6, native command queuing).
+-- The runs of a disk: what its plan and a history allow it to send (Serial ATA 3.x, 13.6, native command
+-- queuing).
 use Rattle.std.specs.Prelude.{ℕ, ◌≡◌, ◌%◌, ◌==◌, ◌&&◌, Bool, nat_le, List, [], ◌∷◌, Some, None}
 use Rattle.disk_model.specs.declared.plan.DiskPlan.{DiskPlan}
 use Rattle.disk_model.specs.Histories.{Happening, Received, Sent, Plugged, Plan, Script, DiskOf}
@@ -7,7 +8,8 @@ use Rattle.disk_model.specs.Disks.{Moment, DiskValue, Turn, turn, after, opening
 
 -- whether a disk can have so many sectors and such chunks
 abbrev pub is_size : (sectors chunk : ℕ) → Bool
-is_size sectors chunk = nat_le 1 sectors && nat_le sectors 65536 && nat_le 512 chunk && nat_le chunk 8192 && chunk % 512 == 0
+is_size sectors chunk =
+    nat_le 1 sectors && nat_le sectors 65536 && nat_le 512 chunk && nat_le chunk 8192 && chunk % 512 == 0
 
 abbrev pub disk_plan : DiskValue → Plan
 disk_plan d = DiskOf d.plan d.sectors
@@ -26,7 +28,8 @@ MayHappen plan sectors m Plugged = Unit {0}
 -- each event of the list may happen, one after another, to a disk that is so
 unfoldable pub Runs : DiskPlan → ℕ → Moment → List Happening → Type 0
 Runs plan sectors m [] = Unit {0}
-Runs plan sectors m (e ∷ later) = MayHappen plan sectors m e × Runs plan sectors (after plan sectors m e) later
+Runs plan sectors m (e ∷ later) =
+    MayHappen plan sectors m e × Runs plan sectors (after plan sectors m e) later
 
 -- a run of a new disk
 abbrev pub IsDiskRun : DiskPlan → ℕ → List Happening → Type 0
@@ -43,7 +46,8 @@ pub record DiskStandsFor (d : DiskValue) (history : List Happening) : Type 0 whe
 
 -- the FIS of the disk's turn after the history
 abbrev pub DiskMaySend : Plan → List Happening → List ℕ → Type 0
-DiskMaySend (DiskOf plan sectors) history bytes = IsTurn (turn plan sectors (moment plan sectors history)) bytes
+DiskMaySend (DiskOf plan sectors) history bytes =
+    IsTurn (turn plan sectors (moment plan sectors history)) bytes
 DiskMaySend (Script frames) history bytes = ⊥
 
 -- these bytes show the turn, and this is what the disk is after it
@@ -53,4 +57,5 @@ Takes (Some t) bytes m = Shows t.0 bytes × (m ≡ t.1)
 
 -- the disk sent these bytes, as its turn was
 abbrev pub Gave : DiskValue → List ℕ → DiskValue → Type 0
-Gave old bytes new = Takes (turn old.plan old.sectors old.now) bytes new.now × (new.plan ≡ old.plan) × (new.sectors ≡ old.sectors)
+Gave old bytes new = Takes (turn old.plan old.sectors old.now) bytes new.now × (new.plan ≡ old.plan)
+    × (new.sectors ≡ old.sectors)

@@ -16,5 +16,6 @@ ScriptStandsFor reading history = sent_in history ++ reading.left ≡ reading.fr
 
 -- the next frame of the script
 abbrev pub ScriptMaySend : Plan → List Happening → List ℕ → Type 0
-ScriptMaySend (Script frames) history bytes = (later : List (List ℕ)) × (sent_in history ++ bytes ∷ later ≡ frames)
+ScriptMaySend (Script frames) history bytes =
+    (later : List (List ℕ)) × (sent_in history ++ bytes ∷ later ≡ frames)
 ScriptMaySend (DiskOf plan sectors) history bytes = ⊥

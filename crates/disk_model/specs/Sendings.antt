@@ -1,7 +1,8 @@
 -- The FISes that a disk sends, by their fields (Serial ATA 3.x, 10.5). All have PM Port 0.
 use Rattle.std.specs.Prelude.{ℕ, ◌≡◌, ◌%◌, ◌^◌, Bool, true, false, List, ◌∷◌, Ok}
 use Rattle.fis_view.specs.Table.{D2h, Bits, Setup, Activate, Pio}
-use Rattle.fis_view.specs.Built.{IsBuilt, d2h_given, set_bits_given, dma_setup_given, dma_activate_given, pio_setup_given}
+use Rattle.fis_view.specs.Built.{IsBuilt, d2h_given, set_bits_given, dma_setup_given, dma_activate_given}
+use Rattle.fis_view.specs.Built.{pio_setup_given}
 use Rattle.fis_view.specs.Seen.{seen}
 use Rattle.fis_view.specs.declared.view.Fis.TheVariants as view
 use Rattle.fis_view.specs.declared.build.D2hFields.{D2hFields}
@@ -9,7 +10,8 @@ use Rattle.fis_view.specs.declared.build.SetBitsFields.{SetBitsFields}
 use Rattle.fis_view.specs.declared.build.DmaSetupFields.{DmaSetupFields}
 use Rattle.fis_view.specs.declared.build.PioSetupFields.{PioSetupFields}
 use Rattle.disk_model.specs.declared.answer.Answer.{Answer}
-use Rattle.disk_model.specs.declared.answer.Answer.TheVariants.{Signature, Accepted, Finished, Refused, Ended, PageFollows, PageData}
+use Rattle.disk_model.specs.declared.answer.Answer.TheVariants.{Signature, Accepted, Finished, Refused, Ended}
+use Rattle.disk_model.specs.declared.answer.Answer.TheVariants.{PageFollows, PageData}
 use Rattle.disk_model.specs.Pages.{page_bytes}
 
 -- a FIS, by its type and its fields
@@ -38,19 +40,47 @@ Shows (Carries bytes) b = (b ≡ 0x46 ∷ 0 ∷ 0 ∷ 0 ∷ bytes) × (seen b �
 
 -- a Register FIS; first is LBA and Count
 abbrev pub register : (i : Bool) (status error first : ℕ) → Sending
-register i status error first = Register (record { pm_port = 0; i = i; status = status; error = error; lba = first; device = 0; count = first })
+register i status error first = Register (record {
+  pm_port = 0;
+  i = i;
+  status = status;
+  error = error;
+  lba = first;
+  device = 0;
+  count = first;
+})
 
 -- a Set Device Bits FIS
 abbrev pub bits : (status error sactive : ℕ) → Sending
-bits status error sactive = SetsBits (record { pm_port = 0; n = false; i = true; status = status; error = error; sactive = sactive })
+bits status error sactive =
+    SetsBits (record { pm_port = 0; n = false; i = true; status = status; error = error; sactive = sactive })
 
 -- a DMA Setup; d is its direction, to the host where true
 abbrev pub setup : (tag offset count : ℕ) (d : Bool) → Sending
-setup tag offset count d = SetsUp (record { pm_port = 0; a = false; i = false; d = d; buffer_id = tag; offset = offset; count = count })
+setup tag offset count d = SetsUp (record {
+  pm_port = 0;
+  a = false;
+  i = false;
+  d = d;
+  buffer_id = tag;
+  offset = offset;
+  count = count;
+})
 
 -- the PIO Setup of a page: one block of 512 bytes to the host
 abbrev pub page_follows : Sending
-page_follows = SetsUpPio (record { pm_port = 0; i = true; d = true; status = 0x58; error = 0; lba = 0; device = 0; count = 0; e_status = 0x50; transfer = 512 })
+page_follows = SetsUpPio (record {
+  pm_port = 0;
+  i = true;
+  d = true;
+  status = 0x58;
+  error = 0;
+  lba = 0;
+  device = 0;
+  count = 0;
+  e_status = 0x50;
+  transfer = 512;
+})
 
 -- the FIS of an answer
 abbrev pub answer_sent : (sectors : ℕ) → Answer → Sending

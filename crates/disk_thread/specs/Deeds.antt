@@ -1,6 +1,7 @@
--- What the thread of a device does, deed by deed. The FISes and their stamps are those of the device's links; what happens to
--- the device itself is its history, with its own words.
-use Rattle.std.specs.Prelude.{ℕ, ◌≡◌, ◌+◌, ◌==◌, ◌&&◌, Bool, true, false, if◌then◌else◌, List, [], ◌∷◌, ◌++◌, length, ⊤}
+-- What the thread of a device does, deed by deed. The FISes and their stamps are those of the device's links;
+-- what happens to the device itself is its history, with its own words.
+use Rattle.std.specs.Prelude.{ℕ, ◌≡◌, ◌+◌, ◌==◌, ◌&&◌, Bool, true, false, if◌then◌else◌, List, [], ◌∷◌, ◌++◌}
+use Rattle.std.specs.Prelude.{length, ⊤}
 use Rattle.fis_view.specs.Frames.{Stamped}
 use Rattle.disk_model.specs.Histories.{Happening, Received, Sent, Plugged}
 use Rattle.link_items.specs.declared.items.Presence.{Presence}
@@ -42,8 +43,8 @@ happens s (pulled_out c) = []
 happens s (took f) = if hears s f then Received f.bytes ∷ [] else []
 happens s (gave f) = Sent f.bytes ∷ []
 
--- When a deed may be done by the device at port n. Each connection is one above the last, and a device gives a FIS under the
--- connection that it has; it is one that the device may send.
+-- When a deed may be done by the device at port n. Each connection is one above the last, and a device gives
+-- a FIS under the connection that it has; it is one that the device may send.
 abbrev pub MayBeDone : (List ℕ → Type 0) → ℕ → Standing → Deed → Type 0
 MayBeDone MaySend n s (plugged_in c) = (s.plugged ≡ false) × (c ≡ s.conn + 1)
 MayBeDone MaySend n s (pulled_out c) = (s.plugged ≡ true) × (c ≡ s.conn)
@@ -84,7 +85,8 @@ history_of s [] = []
 history_of s (d ∷ ds) = happens s d ++ history_of (after_deed s d) ds
 
 -- each may be done after those before it
-unfoldable pub MayAllBeDone : (List Happening → List ℕ → Type 0) → ℕ → Standing → List Happening → List Deed → Type 0
+unfoldable pub MayAllBeDone : (List Happening → List ℕ → Type 0) → ℕ → Standing → List Happening → List Deed
+    → Type 0
 MayAllBeDone MaySend n s history [] = ⊤
 MayAllBeDone MaySend n s history (d ∷ ds) =
     MayBeDone (MaySend history) n s d × MayAllBeDone MaySend n (after_deed s d) (history ++ happens s d) ds

@@ -1,5 +1,6 @@
 -- A device at its port, with the seats of its links, and what a run of it is.
-use Rattle.std.specs.Prelude.{ℕ, ◌≡◌, ◌<◌, ◌≤◌, ◌==◌, ◌&&◌, nat_le, Bool, false, All, IsPermutation, List, ◌++◌, length, Option}
+use Rattle.std.specs.Prelude.{ℕ, ◌≡◌, ◌<◌, ◌≤◌, ◌==◌, ◌&&◌, nat_le, Bool, false, All, IsPermutation, List}
+use Rattle.std.specs.Prelude.{◌++◌, length, Option}
 use Rattle.std.proofs.Common.{get_or}
 use Rattle.std.specs.List.{flat_map, list_any}
 use Rattle.std.specs.Option.{option_to_list}
@@ -10,7 +11,8 @@ use Rattle.multiplier.specs.Orders.{InDeviceOrder, of_connection}
 use Rattle.link_items.specs.OrderLaws.{IsAt}
 use Rattle.link_items.specs.declared.items.Presence.{Presence}
 use Rattle.link_items.specs.declared.items.Presence.TheVariants.{Came, Gone}
-use Rattle.disk_thread.specs.Deeds.{Deed, Standing, never_plugged, after_deeds, history_of, MayAllBeDone, taken_by, given_by, told_by, pulls_in}
+use Rattle.disk_thread.specs.Deeds.{Deed, Standing, never_plugged, after_deeds, history_of, MayAllBeDone}
+use Rattle.disk_thread.specs.Deeds.{taken_by, given_by, told_by, pulls_in}
 
 pub record StationState (D : Type 0) : Type 0 where
   pub unit : D
@@ -29,7 +31,8 @@ pub record StationState (D : Type 0) : Type 0 where
   pub hand : Option Stamped
   -- a connection that came or went, and waits for room on its link
   pub note : Option Presence
-  -- the pulls that were not made: after how many FISes of the device, on all its connections together, each is due
+  -- the pulls that were not made: after how many FISes of the device, on all its connections together, each
+  -- is due
   pub left : List ℕ
 
 -- what the device gave so far: all that was sent, and what is in the hand
@@ -62,16 +65,20 @@ has_come c told = list_any (is_coming c) told
 pub record AreTold (told : List Presence) (conn : ℕ) : Type 0 where
   pub each : (c : ℕ) → has_come c told ≡ (nat_le 1 c && nat_le c conn)
 
--- Of the pulls that were due, each after so many FISes of the device, these were made, each after so many, and these are
--- left, once it gave so many: each pull that was made was due just then, and none that is left is overdue.
+-- Of the pulls that were due, each after so many FISes of the device, these were made, each after so many,
+-- and these are left, once it gave so many: each pull that was made was due just then, and none that is left
+-- is overdue.
 pub record KeepsPulls (due made left : List ℕ) (given : ℕ) : Type 0 where
   pub each : IsPermutation due (made ++ left)
   pub none_over : All (λ count. given ≤ count) left
 
--- A run of the device that was given in, with these pulls due: there is one order of deeds, each of which might be done
--- after those before it, that led to what the station is now. The device stands for its history with theirs at the end, the
--- lists of the seats are what was taken, given and told in that order, and it was pulled out just when that was due.
-pub record IsRun {D : Type 0} (plan_of : D → Plan) (StandsFor : D → List Happening → Type 0) (MaySend : Plan → List Happening → List ℕ → Type 0) (due : List ℕ) (opening : D) (now : StationState D) : Type 0 where
+-- A run of the device that was given in, with these pulls due: there is one order of deeds, each of which
+-- might be done after those before it, that led to what the station is now. The device stands for its history
+-- with theirs at the end, the lists of the seats are what was taken, given and told in that order, and it was
+-- pulled out just when that was due.
+pub record IsRun {D : Type 0} (plan_of : D → Plan) (StandsFor : D → List Happening → Type 0)
+    (MaySend : Plan → List Happening → List ℕ → Type 0) (due : List ℕ) (opening : D)
+    (now : StationState D) : Type 0 where
   pub deeds : List Deed
   pub plan : plan_of now.unit ≡ plan_of opening
   pub stands_for : (history : List Happening) → StandsFor opening history
@@ -85,9 +92,11 @@ pub record IsRun {D : Type 0} (plan_of : D → Plan) (StandsFor : D → List Hap
   pub pulls : KeepsPulls due (pulls_in deeds) now.left (length (all_given now))
 
 -- whatever device's run the old one was, with whatever pulls due, the new one is
-abbrev pub GoesOnRunning : {D : Type 0} → (D → Plan) → (D → List Happening → Type 0) → (Plan → List Happening → List ℕ → Type 0) → StationState D → StationState D → Type 0
+abbrev pub GoesOnRunning : {D : Type 0} → (D → Plan) → (D → List Happening → Type 0)
+    → (Plan → List Happening → List ℕ → Type 0) → StationState D → StationState D → Type 0
 GoesOnRunning plan_of StandsFor MaySend old new =
-    (due : List ℕ) (opening : _) → IsRun plan_of StandsFor MaySend due opening old → IsRun plan_of StandsFor MaySend due opening new
+    (due : List ℕ) (opening : _) → IsRun plan_of StandsFor MaySend due opening old
+    → IsRun plan_of StandsFor MaySend due opening new
 
 -- the port and the links are the same
 pub record IsAtSamePort {D : Type 0} (old new : StationState D) : Type 0 where

@@ -209,7 +209,8 @@ pub record DisksLeaveEnds (n : ℕ) (plan : DiskPlan) (sectors : ℕ) : Type 0 w
       → AreEnds n h disk (bytes ∷ back) up floors touches
       → AreEnds n h (disk ++ Received bytes ∷ []) back up floors touches
   pub sends : (h : Host) (disk : List Happening) (down up : List (List ℕ)) (bytes : List ℕ)
-      (floors : ℕ → ℕ) (touches : Touches) → n < 15 → IsRunning plan sectors (disk ++ Sent bytes ∷ []) touches h
+      (floors : ℕ → ℕ) (touches : Touches) → n < 15
+      → IsRunning plan sectors (disk ++ Sent bytes ∷ []) touches h
       → AreEnds n h disk down up floors touches
       → AreEnds n h (disk ++ Sent bytes ∷ []) down (up ++ bytes ∷ []) floors touches
 

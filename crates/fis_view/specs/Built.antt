@@ -1,10 +1,11 @@
--- What a built frame is: each field reads back what was given for it, and no other bit is set (Serial ATA 3.x, 10.5:
--- reserved bits are cleared to zero).
+-- What a built frame is: each field reads back what was given for it, and no other bit is set (Serial ATA
+-- 3.x, 10.5: reserved bits are cleared to zero).
 use Rattle.std.specs.Prelude.{◌≡◌, ℕ, ◌+◌, ◌*◌, ◌/◌, ◌%◌, ◌^◌, ◌<◌, ◌≤◌, ◌⊎◌, List, [], ◌∷◌, Ok}
 use Rattle.std.specs.Int.{from_bool}
 use Rattle.fis_view.specs.Bits.{bit}
 use Rattle.fis_view.specs.Table.{Kind, Name, Part, Run, Gap, places, field}
-use Rattle.fis_view.specs.Table.{PmPort, C, I, A, D, N, Command, Features, Lba, Device, Count, Icc, Control, Status, Error, EStatus, Transfer, BufferId, Offset, SActive}
+use Rattle.fis_view.specs.Table.{PmPort, C, I, A, D, N, Command, Features, Lba, Device, Count, Icc, Control}
+use Rattle.fis_view.specs.Table.{Status, Error, EStatus, Transfer, BufferId, Offset, SActive}
 use Rattle.fis_view.specs.Seen.{seen, view_as}
 use Rattle.fis_view.specs.declared.build.H2dFields.{H2dFields}
 use Rattle.fis_view.specs.declared.build.D2hFields.{D2hFields}

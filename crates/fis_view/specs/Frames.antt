@@ -1,7 +1,8 @@
--- What a frame is: the bytes of one FIS, with a stamp beside them, and its PM Port mark (Serial ATA 3.x, chapter 10 and
--- 10.5; PM Port is bits 3:0 of byte 1 of every FIS). The stamp is our own, and no actor that the standard describes reads
--- the number and the removals in it.
-use Rattle.std.specs.Prelude.{ℕ, ◌+◌, ◌*◌, ◌/◌, ◌%◌, ◌==◌, ◌&&◌, Bool, IsTrue, nat_le, List, length, slice_index, slice_set}
+-- What a frame is: the bytes of one FIS, with a stamp beside them, and its PM Port mark (Serial ATA 3.x,
+-- chapter 10 and 10.5; PM Port is bits 3:0 of byte 1 of every FIS). The stamp is our own, and no actor that
+-- the standard describes reads the number and the removals in it.
+use Rattle.std.specs.Prelude.{ℕ, ◌+◌, ◌*◌, ◌/◌, ◌%◌, ◌==◌, ◌&&◌, Bool, IsTrue, nat_le, List, length}
+use Rattle.std.specs.Prelude.{slice_index, slice_set}
 use Rattle.fis_view.specs.declared.frame.Stamp.{Stamp}
 
 -- a frame as contracts see it: the bytes of a FIS, and the stamp that is carried beside them
@@ -24,7 +25,7 @@ is_payload bytes = nat_le 4 (length bytes) && nat_le (length bytes) 8192 && leng
 abbrev pub IsPayload : List ℕ → Type 0
 IsPayload bytes = IsTrue (is_payload bytes)
 
--- The bytes with this PM Port, which is bits 3:0 of byte 1 in each type of FIS; the other bits stay (Serial ATA
--- 3.x, port multiplier: a frame that passes has only its PM Port field changed).
+-- The bytes with this PM Port, which is bits 3:0 of byte 1 in each type of FIS; the other bits stay (Serial
+-- ATA 3.x, port multiplier: a frame that passes has only its PM Port field changed).
 abbrev pub marked : List ℕ → ℕ → List ℕ
 marked bytes port = slice_set bytes 1 (slice_index bytes 1 / 16 * 16 + port)

@@ -14,7 +14,8 @@ pub record IsMarked (port : ℕ) (old new : List ℕ) : Type 0 where
   -- so are the kind, the length, and with them whether the frame has a view
   pub kind : kind_of new ≡ kind_of old
   pub length_kept : length new ≡ length old
-  pub view : seen new ≡ (if may_have (kind_of old) (length old) then Ok (view_as (kind_of old) new) else Err WrongLength)
+  pub view : seen new ≡ (if may_have (kind_of old) (length old) then Ok (view_as (kind_of old) new)
+      else Err WrongLength)
   -- so is the payload of a Data FIS
   pub payload : drop 4 new ≡ drop 4 old
   -- a later mark replaces this one

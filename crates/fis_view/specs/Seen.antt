@@ -1,6 +1,7 @@
 -- Which view a frame has: by its type, byte 0, and only at the length that the standard gives that type
 -- (Serial ATA 3.x, section 10.5, FIS types).
-use Rattle.std.specs.Prelude.{ℕ, Bool, true, List, length, Result, Ok, Err, nat_le, ◌==◌, ◌&&◌, if◌then◌else◌, slice_index}
+use Rattle.std.specs.Prelude.{ℕ, Bool, true, List, length, Result, Ok, Err, nat_le, ◌==◌, ◌&&◌, if◌then◌else◌}
+use Rattle.std.specs.Prelude.{slice_index}
 use Rattle.fis_view.specs.Table.{Kind, H2d, D2h, Activate, Setup, Data, Pio, Bits, Other}
 use Rattle.fis_view.specs.declared.view.Fis.{Fis}
 use Rattle.fis_view.specs.declared.view.Fis.TheVariants as view
@@ -10,7 +11,8 @@ use Rattle.fis_view.specs.declared.view.FisFault.TheVariants.{WrongLength}
 -- the kind that a type byte names
 abbrev pub kind_of_type : ℕ → Kind
 kind_of_type t =
-    if t == 0x27 then H2d else if t == 0x34 then D2h else if t == 0x39 then Activate else if t == 0x41 then Setup
+    if t == 0x27 then H2d else if t == 0x34 then D2h else if t == 0x39 then Activate else if t == 0x41
+    then Setup
     else if t == 0x46 then Data else if t == 0x5F then Pio else if t == 0xA1 then Bits else Other
 
 abbrev pub kind_of : List ℕ → Kind
@@ -38,8 +40,8 @@ view_as Pio f = view.PioSetup f
 view_as Bits f = view.SetBits f
 view_as Other f = view.Unknown f
 
--- a frame of a known type has its view where its length is right, and none where it is wrong; a frame of any other
--- type is Unknown
+-- a frame of a known type has its view where its length is right, and none where it is wrong; a frame of any
+-- other type is Unknown
 unfoldable pub seen : List ℕ → Result Fis FisFault
 seen f = if may_have (kind_of f) (length f) then Ok (view_as (kind_of f) f) else Err WrongLength
 

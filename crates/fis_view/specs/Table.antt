@@ -1,5 +1,6 @@
--- The fields of each type of FIS (Serial ATA 3.x, section 10.5, FIS types): where the bits of a field lie in the
--- frame, its low part first. This table is the whole of what the readers and the builders know of the layout.
+-- The fields of each type of FIS (Serial ATA 3.x, section 10.5, FIS types): where the bits of a field lie in
+-- the frame, its low part first. This table is the whole of what the readers and the builders know of the
+-- layout.
 use Rattle.std.specs.Prelude.{ℕ, ◌+◌, ◌*◌, ◌^◌, List, [], ◌∷◌, ◌++◌}
 use Rattle.fis_view.specs.Bits.{bits}
 
@@ -45,7 +46,8 @@ pub data Name : Type 0 where
   Offset : Name
   SActive : Name
 
--- a part of a field: a run of bits (byte, lowest bit in it, number of bits), or so many bits that read as zero
+-- a part of a field: a run of bits (byte, lowest bit in it, number of bits), or so many bits that read as
+-- zero
 pub data Part : Type 0 where
   Run : ℕ → ℕ → ℕ → Part
   Gap : ℕ → Part

@@ -1,5 +1,5 @@
--- What an export leaves behind a handle: nothing is done where the handle is closed, and a handle stays open or closed but
--- where one is made or freed.
+-- What an export leaves behind a handle: nothing is done where the handle is closed, and a handle stays open
+-- or closed but where one is made or freed.
 use Rattle.std.specs.Prelude.{◌≡◌, ℕ, ◌≤◌, Option, Some, None}
 use Rattle.gefsunk.specs.Pms.{opening}
 use Rattle.gefsunk.specs.declared.pm.Pm.{Pm}

@@ -1,6 +1,7 @@
--- What the calls on a multiplier do, by the rules of the multiplier (Serial ATA 3.x, 16.3). C has no word for stamps: a
--- FIS of the host has none, and one of a device has the connection that its port counted.
-use Rattle.std.specs.Prelude.{◌≡◌, ◌≢◌, ℕ, ◌+◌, ◌<◌, ◌==◌, if◌then◌else◌, min, true, false, List, replicate, slice_index, slice_set, Some, None, Result, Ok, Err}
+-- What the calls on a multiplier do, by the rules of the multiplier (Serial ATA 3.x, 16.3). C has no word for
+-- stamps: a FIS of the host has none, and one of a device has the connection that its port counted.
+use Rattle.std.specs.Prelude.{◌≡◌, ◌≢◌, ℕ, ◌+◌, ◌<◌, ◌==◌, if◌then◌else◌, min, true, false, List, replicate}
+use Rattle.std.specs.Prelude.{slice_index, slice_set, Some, None, Result, Ok, Err}
 use Rattle.fis_view.specs.Frames.{Stamped, is_frame}
 use Rattle.fis_view.specs.declared.frame.Stamp.{Stamp}
 use Rattle.fis_view.specs.declared.frame.FrameError.{FrameError}
@@ -33,7 +34,8 @@ refused frame_error.OutOfMemory = status.NoMemory
 
 -- a multiplier with so many ports and no device
 abbrev pub opening : ℕ → Pm
-opening ports = record { multiplier = state.opening ports; last = no_removals; seated = no_removals; given = no_stamp }
+opening ports =
+    record { multiplier = state.opening ports; last = no_removals; seated = no_removals; given = no_stamp }
 
 -- a device port, of which there are at most fifteen
 abbrev pub has_port : Pm → ℕ → Type 0
@@ -90,7 +92,8 @@ Unplug old port _ new = ⊥
 
 -- the answer of the multiplier to a frame that it takes
 abbrev pub taken_by : Stamped → Result Passed (Stamped × PmRefusal)
-taken_by frame = if state.pm_port frame == control_port then Ok passed.Control else Ok (passed.Down (state.pm_port frame))
+taken_by frame =
+    if state.pm_port frame == control_port then Ok passed.Control else Ok (passed.Down (state.pm_port frame))
 
 -- the host sends a FIS
 abbrev pub FromHost : Pm → List ℕ → Status → Pm → Type 0
@@ -120,11 +123,13 @@ FromDevice old port fis status.Dropped new =
     × KeepsSeats old new
 FromDevice old port fis status.Full new =
     has_port old port × (slice_index old.seated port ≢ 0) × (is_frame fis ≡ true)
-    × FromDeviceRule old.multiplier port (of_device old port fis) (Err (of_device old port fis)) new.multiplier
+    × FromDeviceRule old.multiplier port (of_device old port fis)
+    (Err (of_device old port fis)) new.multiplier
     × KeepsSeats old new
 FromDevice old port fis status.BadLength new = (is_frame fis ≡ false) × (new ≡ old)
 FromDevice old port fis status.NoMemory new = (is_frame fis ≡ true) × (new ≡ old)
-FromDevice old port fis status.NotThere new = has_port old port × (slice_index old.seated port ≡ 0) × (new ≡ old)
+FromDevice old port fis status.NotThere new =
+    has_port old port × (slice_index old.seated port ≡ 0) × (new ≡ old)
 FromDevice old port fis status.NoPort new = (has_port old port → ⊥) × (new ≡ old)
 FromDevice old port fis _ new = ⊥
 
@@ -136,7 +141,8 @@ ToHost old room status.Done fis port new =
     × KeepsSeats old new
 ToHost old room status.Nothing fis port new = NextUpRule old.multiplier (Ok None) new.multiplier × (new ≡ old)
 ToHost old room status.NoMemory fis port new =
-    (state.next_place old.multiplier ≡ Some control_port) × (old.multiplier.registers.due ≡ true) × (new ≡ old)
+    (state.next_place old.multiplier ≡ Some control_port) × (old.multiplier.registers.due ≡ true)
+    × (new ≡ old)
 ToHost old room status.TooShort fis port new = (room < 8196) × (new ≡ old)
 ToHost old room _ fis port new = ⊥
 

@@ -10,6 +10,7 @@ use Rattle.gefsunk.specs.declared.status.Status.TheVariants as status
 abbrev pub TextRule : List ℕ → Status → ℕ → ℕ → ℕ → Type 0
 TextRule fis status.Done room old new = (is_frame fis ≡ true) × IsOk (seen fis) × (new ≤ room)
 TextRule fis status.BadLength room old new = (is_frame fis ≡ false) × (new ≡ old)
-TextRule fis status.WrongLength room old new = (is_frame fis ≡ true) × (seen fis ≡ Err fault.WrongLength) × (new ≡ old)
+TextRule fis status.WrongLength room old new =
+    (is_frame fis ≡ true) × (seen fis ≡ Err fault.WrongLength) × (new ≡ old)
 TextRule fis status.TooShort room old new = (is_frame fis ≡ true) × IsOk (seen fis) × (new ≡ old)
 TextRule fis _ room old new = ⊥

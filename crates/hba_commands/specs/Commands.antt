@@ -1,5 +1,7 @@
--- The command of a slot: what its header (AHCI 1.3.1, section 4.2.2) and its command table (section 4.2.3) say together.
-use Rattle.std.specs.Prelude.{◌≡◌, ℕ, ◌+◌, ◌*◌, ◌%◌, ◌≤◌, ◌==◌, ◌&&◌, Bool, true, not, nat_le, if◌then◌else◌, List, length, take, drop, Option, Some, None}
+-- The command of a slot: what its header (AHCI 1.3.1, section 4.2.2) and its command table (section 4.2.3)
+-- say together.
+use Rattle.std.specs.Prelude.{◌≡◌, ℕ, ◌+◌, ◌*◌, ◌%◌, ◌≤◌, ◌==◌, ◌&&◌, Bool, true, not, nat_le, if◌then◌else◌}
+use Rattle.std.specs.Prelude.{List, length, take, drop, Option, Some, None}
 use Rattle.host_memory.specs.Memory.{Memory, overwritten}
 use Rattle.host_memory.specs.Place.{total_of}
 use Rattle.host_memory.specs.Reading.{AgreeFrom, LieApart, prds_at, read_fault}
@@ -13,10 +15,11 @@ use Rattle.hba_commands.specs.declared.command.Command.{Command}
 use Rattle.hba_commands.specs.Headers.{header_at, header_place}
 use Rattle.hba_commands.specs.Requests.{request_at, kind_of, work_of, tag_of}
 
--- the table has a place: its address is below 4 GiB and a multiple of 128, and it lies in the structure area, its 80h bytes
--- and 16 for each PRD
+-- the table has a place: its address is below 4 GiB and a multiple of 128, and it lies in the structure area,
+-- its 80h bytes and 16 for each PRD
 abbrev pub has_table : Header → Bool
-has_table header = (header.ctbau == 0) && (header.ctba % 128 == 0) && nat_le (header.ctba + 128 + 16 * header.prdtl) 1048576
+has_table header =
+    (header.ctbau == 0) && (header.ctba % 128 == 0) && nat_le (header.ctba + 128 + 16 * header.prdtl) 0x100000
 
 -- the command FIS: the first 20 bytes of the table
 abbrev pub cfis_at : List ℕ → ℕ → List ℕ
@@ -37,29 +40,34 @@ total_if_sound (Some fault) total = None
 -- the same of the PRDs of a command table, which begin at its byte 80h
 abbrev pub total_at : List ℕ → ℕ → ℕ → ℕ → Option ℕ
 total_at structure client_len table count =
-    total_if_sound (read_fault structure client_len (table + 128) count) (total_of (prds_at structure (table + 128) count))
+    total_if_sound (read_fault structure client_len (table + 128) count)
+    (total_of (prds_at structure (table + 128) count))
 
--- A queued command may stand in this slot: the slot's bit in PxSACT is set, the tag is the slot, the command is not to the
--- control port and not to clear BSY, and it has 128 KiB at most.
+-- A queued command may stand in this slot: the slot's bit in PxSACT is set, the tag is the slot, the command
+-- is not to the control port and not to clear BSY, and it has 128 KiB at most.
 abbrev pub may_queue : Header → Request → ℕ → Bool → Bool
 may_queue header request slot armed =
-    armed && (tag_of request == slot) && not (header.pmp == 15) && not header.clear && nat_le (work_of request).len 131072
+    armed && (tag_of request == slot) && not (header.pmp == 15) && not header.clear
+    && nat_le (work_of request).len 131072
 
 -- what the header, the slot and its bit in PxSACT are for a command of each kind: W is set for a write alone
 abbrev pub suits : Kind → Header → Request → ℕ → Bool → Bool
 suits QueuedRead header request slot armed = not header.write && may_queue header request slot armed
 suits QueuedWrite header request slot armed = header.write && may_queue header request slot armed
 suits PioIn header request slot armed = not header.write && not armed && not header.clear
-suits NoData header request slot armed = not header.write && not armed && not header.clear && (header.prdtl == 0)
+suits NoData header request slot armed =
+    not header.write && not armed && not header.clear && (header.prdtl == 0)
 suits Control header request slot armed = not header.write && not armed && (header.prdtl == 0)
 
--- the header is one of this request, with PRDs of so many bytes: the CFL is 5 dwords, the PM Ports are one, the rules of
--- the kind are kept, and the PRDs have just the bytes that the command moves
+-- the header is one of this request, with PRDs of so many bytes: the CFL is 5 dwords, the PM Ports are one,
+-- the rules of the kind are kept, and the PRDs have just the bytes that the command moves
 unfoldable pub is_proper : Header → Request → ℕ → ℕ → Bool → Bool
 is_proper header request total slot armed =
-    (header.cfl == 5) && (header.pmp == request.pm_port) && suits (kind_of request) header request slot armed && (total == (work_of request).len)
+    (header.cfl == 5) && (header.pmp == request.pm_port) && suits (kind_of request) header request slot armed
+    && (total == (work_of request).len)
 
--- the command of a header, of the request that its command FIS has and the bytes that its PRDs have, if they are sound
+-- the command of a header, of the request that its command FIS has and the bytes that its PRDs have, if they
+-- are sound
 abbrev pub command_in : Header → List ℕ → Option Request → Option ℕ → ℕ → Bool → Option Command
 command_in header cfis None total slot armed = None
 command_in header cfis (Some request) None slot armed = None
@@ -72,12 +80,13 @@ command_in header cfis (Some request) (Some total) slot armed =
 unfoldable pub command_under : Memory → Header → ℕ → Bool → Option Command
 command_under memory header slot armed =
     if has_table header
-    then command_in header (cfis_at memory.structure header.ctba) (request_at (cfis_at memory.structure header.ctba))
+    then command_in header (cfis_at memory.structure header.ctba)
+    (request_at (cfis_at memory.structure header.ctba))
     (total_at memory.structure (length memory.client) header.ctba header.prdtl) slot armed
     else None
 
--- The command of a slot, for a command list at clb, where armed is the slot's bit in PxSACT. None where its header or its
--- table is bad.
+-- The command of a slot, for a command list at clb, where armed is the slot's bit in PxSACT. None where its
+-- header or its table is bad.
 abbrev pub command_at : Memory → ℕ → ℕ → Bool → Option Command
 command_at memory clb slot armed = command_under memory (header_at memory.structure clb slot) slot armed
 
@@ -85,21 +94,28 @@ command_at memory clb slot armed = command_under memory (header_at memory.struct
 abbrev pub table_length : Header → ℕ
 table_length header = 128 + 16 * header.prdtl
 
--- the bytes that say what the command of a slot is: its header's 32 and, where it names a table that has a place, the
--- table's. Two memories have the same ones, and areas of the same lengths.
+-- the bytes that say what the command of a slot is: its header's 32 and, where it names a table that has a
+-- place, the table's. Two memories have the same ones, and areas of the same lengths.
 pub record AgreeOnCommand (clb slot : ℕ) (m n : Memory) : Type 0 where
   pub header : AgreeFrom (header_place clb slot) 32 m.structure n.structure
-  pub table : has_table (header_at m.structure clb slot) ≡ true → AgreeFrom (header_at m.structure clb slot).ctba (table_length (header_at m.structure clb slot)) m.structure n.structure
+  pub table : has_table (header_at m.structure clb slot) ≡ true
+      → AgreeFrom (header_at m.structure clb slot).ctba (table_length (header_at m.structure clb slot))
+      m.structure n.structure
   pub structure_len : length m.structure ≡ length n.structure
   pub client_len : length m.client ≡ length n.client
 
 -- these alone say it
 abbrev pub CommandsAreOfTheirBytes : Type 0
-CommandsAreOfTheirBytes = (clb slot : ℕ) (armed : Bool) (m n : Memory) → AgreeOnCommand clb slot m n → command_at m clb slot armed ≡ command_at n clb slot armed
+CommandsAreOfTheirBytes = (clb slot : ℕ) (armed : Bool) (m n : Memory) → AgreeOnCommand clb slot m n
+    → command_at m clb slot armed ≡ command_at n clb slot armed
 
 -- so bytes that are written into the structure area apart from them change no command
 abbrev pub CommandsStay : Type 0
 CommandsStay =
-    (clb slot place : ℕ) (armed : Bool) (bytes : List ℕ) (m : Memory) → place + length bytes ≤ length m.structure → LieApart (header_place clb slot) 32 place (length bytes)
-    → (has_table (header_at m.structure clb slot) ≡ true → LieApart (header_at m.structure clb slot).ctba (table_length (header_at m.structure clb slot)) place (length bytes))
-    → command_at m clb slot armed ≡ command_at (record m { structure = overwritten m.structure place bytes }) clb slot armed
+    (clb slot place : ℕ) (armed : Bool) (bytes : List ℕ) (m : Memory)
+    → place + length bytes ≤ length m.structure → LieApart (header_place clb slot) 32 place (length bytes)
+    → (has_table (header_at m.structure clb slot) ≡ true
+    → LieApart (header_at m.structure clb slot).ctba (table_length (header_at m.structure clb slot)) place
+    (length bytes))
+    → command_at m clb slot armed ≡ command_at (record m { structure = overwritten m.structure place bytes })
+    clb slot armed

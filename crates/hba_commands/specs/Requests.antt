@@ -1,5 +1,6 @@
 -- What a command FIS, a Register Host to Device FIS (Serial ATA 3.x, 10.5.5), asks for.
-use Rattle.std.specs.Prelude.{ℕ, ◌*◌, ◌/◌, ◌%◌, ◌==◌, ◌&&◌, ◌||◌, if◌then◌else◌, List, slice_index, Option, Some, None}
+use Rattle.std.specs.Prelude.{ℕ, ◌*◌, ◌/◌, ◌%◌, ◌==◌, ◌&&◌, ◌||◌, if◌then◌else◌, List, slice_index, Option}
+use Rattle.std.specs.Prelude.{Some, None}
 use Rattle.fis_view.specs.Table.{H2d, PmPort, C, Command, Features, Count, field}
 use Rattle.fis_view.specs.declared.build.H2dFields.{H2dFields}
 use Rattle.slots.specs.declared.work.Work.{Work}
@@ -31,8 +32,8 @@ request_of fields = record {
   count = fields.count;
 }
 
--- What a command code asks for (ACS-3): 60h is READ FPDMA QUEUED, 61h WRITE FPDMA QUEUED, 2Fh with Count 1 READ LOG EXT
--- of one page, ECh IDENTIFY DEVICE. All others have no data here.
+-- What a command code asks for (ACS-3): 60h is READ FPDMA QUEUED, 61h WRITE FPDMA QUEUED, 2Fh with Count 1
+-- READ LOG EXT of one page, ECh IDENTIFY DEVICE. All others have no data here.
 abbrev pub kind_of_command : ℕ → ℕ → Kind
 kind_of_command command count =
     if command == 0x60 then QueuedRead else if command == 0x61 then QueuedWrite

@@ -1,5 +1,5 @@
--- Each frame that goes out of a host port has the PM Port of the device for which it goes (Serial ATA 3.x, 10.5, FIS
--- types, and 16.3, port multiplier: PM Port; AHCI 1.3.1, 9.3, FIS-based Switching).
+-- Each frame that goes out of a host port has the PM Port of the device for which it goes (Serial ATA 3.x,
+-- 10.5, FIS types, and 16.3, port multiplier: PM Port; AHCI 1.3.1, 9.3, FIS-based Switching).
 use Rattle.std.specs.Prelude.{ℕ, ◌≡◌, ◌%◌, true, List, [], ◌∷◌, Some, slice_index}
 use Rattle.host_memory.specs.Memory.{is_memory_size}
 use Rattle.hba_driver.specs.Events.{opening_host}

@@ -14,7 +14,8 @@ use Rattle.hba_driver.specs.declared.request.Outcome.TheVariants.{Done}
 use Rattle.hba_driver.specs.declared.slot.Phase.TheVariants.{Ended}
 use Rattle.hba_driver.specs.Drivers.{Entry, entry_at}
 use Rattle.hba_driver.specs.Events.{opening_host}
-use Rattle.hba_driver.specs.HostTurns.{Does, DoesAll, Host, HostTurn, Took, Ticked, Submitted, Polled, issued_by}
+use Rattle.hba_driver.specs.HostTurns.{Does, DoesAll, Host, HostTurn, Took, Ticked, Submitted, Polled}
+use Rattle.hba_driver.specs.HostTurns.{issued_by}
 
 -- a request for this device is taken under this ticket
 abbrev pub takes : (ticket dev : ℕ) → HostTurn → Bool
@@ -31,13 +32,16 @@ completes slot dev (Took frame report) = has_bit report.done slot && (port_of fr
 completes slot dev turn = false
 
 -- in these turns a tick issues the ticket, and after it such a frame is taken
-abbrev pub is_completed : (ticket slot dev : ℕ) (old new : Host) (turns : List HostTurn) → DoesAll old turns new → Bool
+abbrev pub is_completed : (ticket slot dev : ℕ) (old new : Host) (turns : List HostTurn)
+    → DoesAll old turns new → Bool
 is_completed ticket slot dev old new [] run = false
 is_completed ticket slot dev old new (turn ∷ turns) run =
-    (issues ticket old turn && list_any (completes slot dev) turns) || is_completed ticket slot dev run.0 new turns run.2
+    (issues ticket old turn && list_any (completes slot dev) turns)
+    || is_completed ticket slot dev run.0 new turns run.2
 
 -- the request of a ticket, in its slot: its device, for which it was taken, and which completed it
-pub record WasCompleted (ticket slot : ℕ) (old new : Host) (turns : List HostTurn) (run : DoesAll old turns new) : Type 0 where
+pub record WasCompleted (ticket slot : ℕ) (old new : Host) (turns : List HostTurn)
+    (run : DoesAll old turns new) : Type 0 where
   pub dev : ℕ
   pub taken : list_any (takes ticket dev) turns ≡ true
   pub completed : is_completed ticket slot dev old new turns run ≡ true
@@ -45,7 +49,8 @@ pub record WasCompleted (ticket slot : ℕ) (old new : Host) (turns : List HostT
 pub record DoneIsTrue : Type 0 where
   -- after a tick: what stands as Done was completed in the turns before the tick
   pub ends : (given len : ℕ) → is_memory_size len ≡ true → (turns : List HostTurn) (h : Host)
-      (run : DoesAll (opening_host given len) turns h) (acted : Bool) (after : Host) → Does h (Ticked acted) after
+      (run : DoesAll (opening_host given len) turns h) (acted : Bool) (after : Host)
+      → Does h (Ticked acted) after
       → (s : ℕ) (e : Entry) → entry_at after.driver.entries s ≡ Some e → e.head.phase ≡ Ended Done
       → is_completed e.head.ticket s e.head.dev (opening_host given len) h turns run ≡ true
   -- at a poll: so was what is polled as Done, by the device for which it was taken

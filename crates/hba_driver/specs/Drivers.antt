@@ -1,7 +1,8 @@
--- The driver as its callers see it. It drives one AHCI host port (AHCI 1.3.1) with a port multiplier behind it (Serial ATA
--- 3.x, port multipliers): requests stand in the slots 0 to 29, commands of its own go through slot 30 to a device and
--- through slot 31 to the control port of the multiplier, port Fh.
-use Rattle.std.specs.Prelude.{ℕ, ◌≡◌, ◌≢◌, ◌<◌, ◌≤◌, ◌||◌, Bool, true, false, if◌then◌else◌, List, map, replicate, length, slice_index_or, slice_set, Option, Some, None}
+-- The driver as its callers see it. It drives one AHCI host port (AHCI 1.3.1) with a port multiplier behind
+-- it (Serial ATA 3.x, port multipliers): requests stand in the slots 0 to 29, commands of its own go through
+-- slot 30 to a device and through slot 31 to the control port of the multiplier, port Fh.
+use Rattle.std.specs.Prelude.{ℕ, ◌≡◌, ◌≢◌, ◌<◌, ◌≤◌, ◌||◌, Bool, true, false, if◌then◌else◌, List, map}
+use Rattle.std.specs.Prelude.{replicate, length, slice_index_or, slice_set, Option, Some, None}
 use Rattle.std.specs.Option.{option_map}
 use Rattle.std.specs.List.{range_with_len}
 use Rattle.host_memory.specs.Reading.{share_with}
@@ -155,7 +156,8 @@ pub record AreRequests (last : ℕ) (entries : List (Option Entry)) : Type 0 whe
   pub slots : length entries ≡ 30
   -- each has a ticket that was given, and no other request has it
   pub given : (s : ℕ) (e : Entry) → entry_at entries s ≡ Some e → e.head.ticket ≤ last
-  pub own : (s t : ℕ) (e f : Entry) → entry_at entries s ≡ Some e → entry_at entries t ≡ Some f → e.head.ticket ≡ f.head.ticket → s ≡ t
+  pub own : (s t : ℕ) (e f : Entry) → entry_at entries s ≡ Some e → entry_at entries t ≡ Some f
+      → e.head.ticket ≡ f.head.ticket → s ≡ t
   -- two of which one reads share no byte
   pub apart : (s t : ℕ) (e f : Entry) → entry_at entries s ≡ Some e → entry_at entries t ≡ Some f → s ≢ t
       → (is_read e.head.work || is_read f.head.work) ≡ true → share_with e.prds f.prds ≡ false

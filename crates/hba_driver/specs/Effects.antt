@@ -1,6 +1,7 @@
--- What an act does to port and memory: writes of registers (AHCI 1.3.1, section 3.3), commands (4.2.2, 4.2.3), the flush of a
--- device and its row of the received area (4.2.1).
-use Rattle.std.specs.Prelude.{ℕ, ◌≡◌, ◌+◌, ◌*◌, ◌^◌, Bool, true, false, nat_lt, List, [], ◌∷◌, replicate, slice_index_or, Some, None}
+-- What an act does to port and memory: writes of registers (AHCI 1.3.1, section 3.3), commands (4.2.2,
+-- 4.2.3), the flush of a device and its row of the received area (4.2.1).
+use Rattle.std.specs.Prelude.{ℕ, ◌≡◌, ◌+◌, ◌*◌, ◌^◌, Bool, true, false, nat_lt, List, [], ◌∷◌, replicate}
+use Rattle.std.specs.Prelude.{slice_index_or, Some, None}
 use Rattle.fis_view.specs.declared.build.H2dFields.{H2dFields}
 use Rattle.host_memory.specs.Memory.{Memory, overwritten}
 use Rattle.host_memory.specs.declared.table.Prd.{Prd}
@@ -20,11 +21,13 @@ use Rattle.hba_driver.specs.declared.turn.Act.{Act}
 use Rattle.hba_driver.specs.declared.turn.Act.TheVariants as act
 use Rattle.hba_driver.specs.Orders.{control_port, order_fields}
 use Rattle.hba_driver.specs.Paths.{reads_page, stage_fields}
-use Rattle.hba_driver.specs.Sights.{px_ci, px_clb, px_clbu, px_cmd, px_fb, px_fbs, px_fbu, px_is, px_sact, px_sntf}
+use Rattle.hba_driver.specs.Sights.{px_ci, px_clb, px_clbu, px_cmd, px_fb, px_fbs, px_fbu, px_is, px_sact}
+use Rattle.hba_driver.specs.Sights.{px_sntf}
 
 -- ---- the effects of an act
 
--- The command list begins at 0 and the received area at 1000h; FBS.EN is set, then FRE, then ST with FRE and PMA.
+-- The command list begins at 0 and the received area at 1000h; FBS.EN is set, then FRE, then ST with FRE and
+-- PMA.
 abbrev pub opening_writes : List Effect
 opening_writes =
     effect.Writes px_clb 0 ∷ effect.Writes px_clbu 0 ∷ effect.Writes px_fb 0x1000 ∷ effect.Writes px_fbu 0
@@ -33,7 +36,8 @@ opening_writes =
 unfoldable pub opening_write : ℕ → Effect
 opening_write k = slice_index_or opening_writes k (effect.Writes px_cmd 0x20011)
 
--- After a fault of the port ST is cleared, which ends all that is issued; then all of PxIS is cleared, and ST is set again.
+-- After a fault of the port ST is cleared, which ends all that is issued; then all of PxIS is cleared, and ST
+-- is set again.
 abbrev pub restart_writes : List Effect
 restart_writes = effect.Writes px_is 0xFFFFFFFF ∷ effect.Writes px_cmd 0x20011 ∷ []
 
@@ -46,10 +50,12 @@ clearing dev = effect.Writes px_is 0x49000000 ∷ effect.Writes px_fbs (256 * de
 
 -- the device and EN in PxFBS, the slot's bit in PxSACT where the command is queued, and in PxCI
 abbrev pub issuing : (slot dev : ℕ) → (queued : Bool) → List Effect
-issuing slot dev true = effect.Writes px_fbs (256 * dev + 1) ∷ effect.Writes px_sact (2 ^ slot) ∷ effect.Writes px_ci (2 ^ slot) ∷ []
+issuing slot dev true = effect.Writes px_fbs (256 * dev + 1) ∷ effect.Writes px_sact (2 ^ slot)
+    ∷ effect.Writes px_ci (2 ^ slot) ∷ []
 issuing slot dev false = effect.Writes px_fbs (256 * dev + 1) ∷ effect.Writes px_ci (2 ^ slot) ∷ []
 
--- a command of the driver's own is written into its slot and issued; buffer says that its data go to the driver's buffer
+-- a command of the driver's own is written into its slot and issued; buffer says that its data go to the
+-- driver's buffer
 abbrev pub sending : (slot dev : ℕ) → H2dFields → (buffer : Bool) → List Effect
 sending slot dev fields buffer = effect.Commands slot fields buffer ∷ issuing slot dev false
 
@@ -63,7 +69,8 @@ order_effects (Clear port) = effect.Flushes port ∷ effect.Empties port ∷ ord
 order_effects order = order_command order
 
 abbrev pub stage_effects : (dev : ℕ) → Stage → List Effect
-stage_effects dev stage = match_some (stage_fields dev stage) [] (λ fields. sending 30 dev fields (reads_page stage))
+stage_effects dev stage =
+    match_some (stage_fields dev stage) [] (λ fields. sending 30 dev fields (reads_page stage))
 
 unfoldable pub effects_of : Act → List Effect
 effects_of (act.Opens k) = opening_write k ∷ []
@@ -82,7 +89,7 @@ table_of slot = 8192 + 4096 * slot
 
 -- the driver's buffer: the first 512 bytes of the client area
 abbrev pub buffer_prd : Prd
-buffer_prd = record { address = 1048576; bytes = 512 }
+buffer_prd = record { address = 0x100000; bytes = 512 }
 
 abbrev pub prds_with : (buffer : Bool) → List Prd
 prds_with true = buffer_prd ∷ []
@@ -95,10 +102,12 @@ pub record Tries (old : Port) (memory : Memory) (offset value : ℕ) (new : Port
 
 -- a row of the received area is emptied
 abbrev pub emptied : ℕ → Memory → Memory
-emptied dev memory = record memory { structure = overwritten memory.structure (4096 + 256 * dev) (replicate 256 0) }
+emptied dev memory =
+    record memory { structure = overwritten memory.structure (4096 + 256 * dev) (replicate 256 0) }
 
 -- a command stands in its slot
-pub record Commands (old : Memory) (slot : ℕ) (fields : H2dFields) (prds : List Prd) (new : Memory) : Type 0 where
+pub record Commands (old : Memory) (slot : ℕ) (fields : H2dFields) (prds : List Prd)
+    (new : Memory) : Type 0 where
   pub structure : IsWritten 0 slot (table_of slot) fields prds old.structure new.structure
   pub client : new.client ≡ old.client
 
@@ -106,7 +115,8 @@ abbrev pub Acts : Effect → Port → Memory → Port → Memory → Type 0
 Acts (effect.Writes offset value) old before new after = Tries old before offset value new × (after ≡ before)
 Acts (effect.Flushes dev) old before new after = Flushes old dev new × (after ≡ before)
 Acts (effect.Empties dev) old before new after = (new ≡ old) × (after ≡ emptied dev before)
-Acts (effect.Commands slot fields buffer) old before new after = (new ≡ old) × Commands before slot fields (prds_with buffer) after
+Acts (effect.Commands slot fields buffer) old before new after =
+    (new ≡ old) × Commands before slot fields (prds_with buffer) after
 
 -- what every port keeps by itself: its registers, the commands of its slots, its slots and errors
 pub record IsRuled (port : Port) : Type 0 where

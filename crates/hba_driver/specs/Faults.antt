@@ -1,4 +1,5 @@
--- Which requests end as failed by their device: those that the device's error log names (ACS-3, NCQ Command Error log).
+-- Which requests end as failed by their device: those that the device's error log names (ACS-3, NCQ Command
+-- Error log).
 use Rattle.std.specs.Prelude.{ℕ, ◌≡◌, true, false, Some}
 use Rattle.hba_driver.specs.declared.path.Path.{Path}
 use Rattle.hba_driver.specs.declared.path.Stage.TheVariants.{ReadLog}
@@ -10,8 +11,9 @@ use Rattle.hba_driver.specs.Drivers.{Driver, Entry, entry_at, has_ended, is_asid
 use Rattle.hba_driver.specs.Ticks.{after_tick, is_named, log_outcome}
 use Rattle.hba_driver.specs.Turns.{control_seen, is_back}
 
--- The request was set aside; the read of its device's error log is over, and the log is whole and names the request;
--- Status and Error are the log's, or, where it names no queued command, those of the device after its fault.
+-- The request was set aside; the read of its device's error log is over, and the log is whole and names the
+-- request; Status and Error are the log's, or, where it names no queued command, those of the device after
+-- its fault.
 pub record IsNamedBy (v : Sight) (d : Driver) (s : ℕ) (e : Entry) (status error : ℕ) : Type 0 where
   pub aside : is_aside e.head ≡ true
   pub path : Path
@@ -27,5 +29,7 @@ pub record IsNamedBy (v : Sight) (d : Driver) (s : ℕ) (e : Entry) (status erro
 -- a tick ends a request so only where that holds
 abbrev pub ErrorsAreNamed : Type 0
 ErrorsAreNamed =
-    (v : Sight) (after : TaskFile) (d : Driver) (s : ℕ) (e f : Entry) (status error : ℕ) → entry_at d.entries s ≡ Some e → has_ended e.head ≡ false
-    → entry_at (after_tick v after d).entries s ≡ Some f → f.head.phase ≡ Ended (DeviceError status error) → IsNamedBy v d s e status error
+    (v : Sight) (after : TaskFile) (d : Driver) (s : ℕ) (e f : Entry) (status error : ℕ)
+    → entry_at d.entries s ≡ Some e → has_ended e.head ≡ false
+    → entry_at (after_tick v after d).entries s ≡ Some f → f.head.phase ≡ Ended (DeviceError status error)
+    → IsNamedBy v d s e status error

@@ -1,6 +1,6 @@
--- What the host does, turn by turn: host port, driver and memory together. A frame that is taken or asked for leaves the driver
--- as it is; whatever the driver does between two ticks leaves the port as it is. What every port keeps by itself a turn leaves
--- kept.
+-- What the host does, turn by turn: host port, driver and memory together. A frame that is taken or asked for
+-- leaves the driver as it is; whatever the driver does between two ticks leaves the port as it is. What every
+-- port keeps by itself a turn leaves kept.
 use Rattle.std.specs.Prelude.{ℕ, ◌≡◌, ◌-◌, Bool, true, false, List, [], ◌∷◌, ◌++◌, length, Option, Some, None}
 use Rattle.std.specs.List.{list_all}
 use Rattle.fis_view.specs.Frames.{IsFrame, Stamped}
@@ -81,7 +81,8 @@ pub record Polls (old : Host) (completion : Completion) (new : Host) : Type 0 wh
 pub record Puts (old : Host) (at : ℕ) (bytes : List ℕ) (new : Host) : Type 0 where
   pub inside : LiesInClient (length old.memory.client) at (length bytes)
   pub unused : in_use old.driver at (length bytes) ≡ false
-  pub memory : new.memory ≡ record old.memory { client = overwritten old.memory.client (at - client_start) bytes }
+  pub memory : new.memory
+      ≡ record old.memory { client = overwritten old.memory.client (at - client_start) bytes }
   pub driver : new.driver ≡ old.driver
   pub port : new.port ≡ old.port
 
@@ -149,8 +150,8 @@ issued_over old new (turn ∷ turns) run = issued_by old turn ++ issued_over run
 
 -- ---- hosts as they come
 
--- What is true of the hosts of a run: what their port, driver and memory keep by themselves, and that the received area
--- of a port that runs is the driver's.
+-- What is true of the hosts of a run: what their port, driver and memory keep by themselves, and that the
+-- received area of a port that runs is the driver's.
 pub record IsHost (h : Host) : Type 0 where
   pub memory : IsHostMemory h.memory
   pub area : h.port.registers.started ≡ true → h.port.registers.fb ≡ 4096

@@ -1,5 +1,7 @@
--- What is true of the driver over any list of turns of the host, from any sound state, whatever the devices send.
-use Rattle.std.specs.Prelude.{ℕ, ◌≡◌, ◌+◌, ◌<◌, ◌==◌, ◌&&◌, ◌||◌, ◌⊎◌, Bool, true, false, List, [], ◌∷◌, length, Option, Some, None}
+-- What is true of the driver over any list of turns of the host, from any sound state, whatever the devices
+-- send.
+use Rattle.std.specs.Prelude.{ℕ, ◌≡◌, ◌+◌, ◌<◌, ◌==◌, ◌&&◌, ◌||◌, ◌⊎◌, Bool, true, false, List, [], ◌∷◌}
+use Rattle.std.specs.Prelude.{length, Option, Some, None}
 use Rattle.std.specs.List.{list_any, range_with_len}
 use Rattle.host_memory.specs.Memory.{Memory}
 use Rattle.host_memory.specs.Reading.{AgreeFrom}
@@ -8,7 +10,8 @@ use Rattle.slots.specs.Slots.{issue_at}
 use Rattle.slots.specs.Table.{IsTable}
 use Rattle.hba_fbs.specs.Views.{Port}
 use Rattle.hba_driver.specs.declared.request.Outcome.{Outcome}
-use Rattle.hba_driver.specs.declared.request.Outcome.TheVariants.{Done, DeviceError, Aborted, Removed, PortError}
+use Rattle.hba_driver.specs.declared.request.Outcome.TheVariants.{Done, DeviceError, Aborted, Removed}
+use Rattle.hba_driver.specs.declared.request.Outcome.TheVariants.{PortError}
 use Rattle.hba_driver.specs.Effects.{table_of}
 use Rattle.hba_driver.specs.Sights.{sight_of}
 use Rattle.hba_driver.specs.declared.path.TaskFile.{TaskFile}
@@ -20,15 +23,18 @@ use Rattle.hba_driver.specs.declared.slot.Phase.TheVariants.{Waits, Issued, Asid
 use Rattle.hba_driver.specs.declared.effect.Effect.{Effect}
 use Rattle.hba_driver.specs.declared.effect.Effect.TheVariants as effect
 use Rattle.hba_driver.specs.declared.turn.Act.TheVariants as act
-use Rattle.hba_driver.specs.Drivers.{AreRequests, Driver, Entry, device_at, entry_at, has_ended, is_aside, is_issued, is_issued_in, rephased, waits_in}
-use Rattle.hba_driver.specs.HostTurns.{AreHosts, DoesAll, Host, HostTurn, Took, Pushed, Ticked, Submitted, Polled, Put, given_in, issued_over, polled_in}
+use Rattle.hba_driver.specs.Drivers.{AreRequests, Driver, Entry, device_at, entry_at, has_ended, is_aside}
+use Rattle.hba_driver.specs.Drivers.{is_issued, is_issued_in, rephased, waits_in}
+use Rattle.hba_driver.specs.HostTurns.{AreHosts, DoesAll, Host, HostTurn, Took, Pushed, Ticked, Submitted}
+use Rattle.hba_driver.specs.HostTurns.{Polled, Put, given_in, issued_over, polled_in}
 use Rattle.hba_driver.specs.Paths.{recovery}
 use Rattle.hba_driver.specs.Ticks.{after_tick, due, effects, seen, turn}
 use Rattle.hba_driver.specs.Turns.{may_issue}
 
 -- ---- the life of a request
 
--- from waiting to issued, from both to where it is set aside or to its end, from there to its end, and then no further
+-- from waiting to issued, from both to where it is set aside or to its end, from there to its end, and then
+-- no further
 abbrev pub Goes : Phase → Phase → Type 0
 Goes Waits later = Unit {0}
 Goes Issued later = waits_in later ≡ false
@@ -53,7 +59,8 @@ Keeps (Some e) later = Kept e later
 
 -- a tick takes no request and gives none away, gives no ticket, and ends nothing twice
 pub record TicksKeep : Type 0 where
-  pub entries : (v : Sight) (file : TaskFile) (d : Driver) (s : ℕ) → Keeps (entry_at d.entries s) (entry_at (after_tick v file d).entries s)
+  pub entries : (v : Sight) (file : TaskFile) (d : Driver) (s : ℕ) → Keeps (entry_at d.entries s)
+      (entry_at (after_tick v file d).entries s)
   pub given : (v : Sight) (file : TaskFile) (d : Driver) → (after_tick v file d).given ≡ d.given
 
 -- an effect flushes this device
@@ -70,16 +77,22 @@ is_withdrawn head = is_aside head || has_ended head
 -- what a tick does to devices
 pub record TicksServe : Type 0 where
   -- a request is issued only where it waits and its device is ready
-  pub ready : (v : Sight) (d : Driver) (slot dev : ℕ) (queued : Bool) → due v d ≡ Some (act.Issues slot dev queued)
+  pub ready : (v : Sight) (d : Driver) (slot dev : ℕ) (queued : Bool)
+      → due v d ≡ Some (act.Issues slot dev queued)
       → may_issue (turn v d).plan (entry_at (seen v d).entries slot) ≡ true
   -- in the tick of its flush a device is taken to be absent, and none of its requests is left open
-  pub leaves : (v : Sight) (file : TaskFile) (d : Driver) (dev : ℕ) → list_any (flushes dev) (effects v d) ≡ true → device_at (after_tick v file d).plan dev ≡ Absent
-  pub ends : (v : Sight) (file : TaskFile) (d : Driver) (dev s : ℕ) (e : Entry) → list_any (flushes dev) (effects v d) ≡ true
+  pub leaves : (v : Sight) (file : TaskFile) (d : Driver) (dev : ℕ) → list_any (flushes dev)
+      (effects v d) ≡ true → device_at (after_tick v file d).plan dev ≡ Absent
+  pub ends : (v : Sight) (file : TaskFile) (d : Driver) (dev s : ℕ) (e : Entry) → list_any (flushes dev)
+      (effects v d) ≡ true
       → entry_at (after_tick v file d).entries s ≡ Some e → e.head.dev ≡ dev → has_ended e.head ≡ true
-  -- in the tick that clears its fault a device is taken to recover, and none of its requests waits or is issued
-  pub recovers : (v : Sight) (file : TaskFile) (d : Driver) (dev : ℕ) → due v d ≡ Some (act.Clears dev) → dev < 15 → length d.plan.devices ≡ 15
+  -- in the tick that clears its fault a device is taken to recover, and none of its requests waits or is
+  -- issued
+  pub recovers : (v : Sight) (file : TaskFile) (d : Driver) (dev : ℕ) → due v d ≡ Some (act.Clears dev)
+      → dev < 15 → length d.plan.devices ≡ 15
       → device_at (after_tick v file d).plan dev ≡ Recovering (recovery (device_at (turn v d).plan dev) file)
-  pub withdraws : (v : Sight) (file : TaskFile) (d : Driver) (dev s : ℕ) (e : Entry) → due v d ≡ Some (act.Clears dev)
+  pub withdraws : (v : Sight) (file : TaskFile) (d : Driver) (dev s : ℕ) (e : Entry)
+      → due v d ≡ Some (act.Clears dev)
       → entry_at (after_tick v file d).entries s ≡ Some e → e.head.dev ≡ dev → is_withdrawn e.head ≡ true
   -- in the tick that stops the port every request ends
   pub stops : (v : Sight) (file : TaskFile) (d : Driver) (s : ℕ) (e : Entry) → due v d ≡ Some act.Stops
@@ -116,7 +129,8 @@ gives s e (Pushed frame) = false
 gives s e (Ticked acted) = false
 gives s e (Submitted dev request ticket) = false
 gives s e (Polled completion) =
-    (completion.ticket.0 == e.head.ticket) && (completion.slot == s) && ends_as e.head.phase completion.outcome
+    (completion.ticket.0 == e.head.ticket) && (completion.slot == s)
+    && ends_as e.head.phase completion.outcome
 gives s e (Put at bytes) = false
 
 -- A request stands in its slot, and goes on, until it is polled there. So from the tick on that ends it
@@ -124,7 +138,8 @@ gives s e (Put at bytes) = false
 abbrev pub Lives : ℕ → Entry → List HostTurn → Host → Type 0
 Lives s e turns new = Kept e (entry_at new.driver.entries s) ⊎ (list_any (gives s e) turns ≡ true)
 
-pub record TurnsKeep (old : Host) (turns : List HostTurn) (new : Host) (run : DoesAll old turns new) : Type 0 where
+pub record TurnsKeep (old : Host) (turns : List HostTurn) (new : Host)
+    (run : DoesAll old turns new) : Type 0 where
   -- requests stay sound: tickets are each one's own, and where one of two reads they share no byte
   pub sound : AreRequests new.driver.given new.driver.entries
   -- tickets are given one after another
@@ -136,7 +151,8 @@ pub record TurnsKeep (old : Host) (turns : List HostTurn) (new : Host) (run : Do
   pub lives : (s : ℕ) (e : Entry) → entry_at old.driver.entries s ≡ Some e → Lives s e turns new
 
 abbrev pub EachRunKeeps : Type 0
-EachRunKeeps = (old : Host) (turns : List HostTurn) (new : Host) (run : DoesAll old turns new) → AreRequests old.driver.given old.driver.entries → TurnsKeep old turns new run
+EachRunKeeps = (old : Host) (turns : List HostTurn) (new : Host) (run : DoesAll old turns new)
+    → AreRequests old.driver.given old.driver.entries → TurnsKeep old turns new run
 
 -- ---- the structure area
 
@@ -145,17 +161,22 @@ pub record Stands (s : ℕ) (old new : Memory) : Type 0 where
   pub header : AgreeFrom (header_place 0 s) 32 old.structure new.structure
   pub table : AgreeFrom (table_of s) 4096 old.structure new.structure
 
--- What a request has written into the structure area stands there until it is polled: nothing else is written but
--- received FISes, the rows of devices that are flushed, and the commands of other slots.
+-- What a request has written into the structure area stands there until it is polled: nothing else is written
+-- but received FISes, the rows of devices that are flushed, and the commands of other slots.
 abbrev pub CommandsStand : Type 0
 CommandsStand =
-    (old : Host) (turns : List HostTurn) (new : Host) (run : DoesAll old turns new) → AreHosts old new turns run → AreRequests old.driver.given old.driver.entries
-    → (s : ℕ) (e : Entry) → entry_at old.driver.entries s ≡ Some e → list_any (gives s e) turns ≡ false → Stands s old.memory new.memory
+    (old : Host) (turns : List HostTurn) (new : Host) (run : DoesAll old turns new)
+    → AreHosts old new turns run → AreRequests old.driver.given old.driver.entries
+    → (s : ℕ) (e : Entry) → entry_at old.driver.entries s ≡ Some e → list_any (gives s e) turns ≡ false
+    → Stands s old.memory new.memory
 
 -- ---- requests that are done
 
--- A tick ends a request as Done only where it was issued and nothing is issued in its slot of the port any more.
+-- A tick ends a request as Done only where it was issued and nothing is issued in its slot of the port any
+-- more.
 abbrev pub DoneIsFree : Type 0
 DoneIsFree =
-    (port : Port) (memory : Memory) (file : TaskFile) (d : Driver) (s : ℕ) (e f : Entry) → IsTable port.slots → AreRequests d.given d.entries → entry_at d.entries s ≡ Some e → has_ended e.head ≡ false
-    → entry_at (after_tick (sight_of port memory) file d).entries s ≡ Some f → f.head.phase ≡ Ended Done → (is_issued e.head ≡ true) × (issue_at port.slots s ≡ None)
+    (port : Port) (memory : Memory) (file : TaskFile) (d : Driver) (s : ℕ) (e f : Entry) → IsTable port.slots
+    → AreRequests d.given d.entries → entry_at d.entries s ≡ Some e → has_ended e.head ≡ false
+    → entry_at (after_tick (sight_of port memory) file d).entries s ≡ Some f → f.head.phase ≡ Ended Done
+    → (is_issued e.head ≡ true) × (issue_at port.slots s ≡ None)

@@ -1,10 +1,14 @@
--- The commands that the driver issues of its own, as tables: READ PORT MULTIPLIER and WRITE PORT MULTIPLIER (Serial ATA 3.x,
--- port multiplier commands), software reset, IDENTIFY DEVICE and the commands of requests (ACS-3).
-use Rattle.std.specs.Prelude.{ℕ, ◌+◌, ◌*◌, ◌/◌, ◌%◌, ◌&&◌, Bool, true, false, nat_lt, nat_le, if◌then◌else◌, Option, Some, None}
+-- The commands that the driver issues of its own, as tables: READ PORT MULTIPLIER and WRITE PORT MULTIPLIER
+-- (Serial ATA 3.x, port multiplier commands), software reset, IDENTIFY DEVICE and the commands of requests
+-- (ACS-3).
+use Rattle.std.specs.Prelude.{ℕ, ◌+◌, ◌*◌, ◌/◌, ◌%◌, ◌&&◌, Bool, true, false, nat_lt, nat_le, if◌then◌else◌}
+use Rattle.std.specs.Prelude.{Option, Some, None}
 use Rattle.fis_view.specs.declared.build.H2dFields.{H2dFields}
 use Rattle.slots.specs.Slots.{has_bit, lowest_below, match_some}
 use Rattle.hba_driver.specs.declared.order.Order.{Order}
-use Rattle.hba_driver.specs.declared.order.Order.TheVariants.{ResetOn, ResetOff, AwaitSignature, CountPorts, SetMask, Enable, Open, Scan, Clear, Detect, Watch}
+use Rattle.hba_driver.specs.declared.order.Order.TheVariants.{ResetOn, ResetOff, AwaitSignature, CountPorts}
+use Rattle.hba_driver.specs.declared.order.Order.TheVariants.{SetMask, Enable, Open, Scan, Clear, Detect}
+use Rattle.hba_driver.specs.declared.order.Order.TheVariants.{Watch}
 use Rattle.hba_driver.specs.declared.request.Work.{Work}
 use Rattle.hba_driver.specs.declared.request.Work.TheVariants as work
 use Rattle.hba_driver.specs.declared.slot.Head.{Head}
@@ -39,8 +43,8 @@ reads port register = command control_port 0xE4 register 0 port 0
 abbrev pub writes : (port register value : ℕ) → H2dFields
 writes port register value = command control_port 0xE8 register (value / 256) port (value % 256)
 
--- registers of the multiplier: GSCR[2] has the number of its ports, GSCR[32] a bit for each port with an error, GSCR[33]
--- the bits of PSCR[1] that count as one, GSCR[96] the features that are on
+-- registers of the multiplier: GSCR[2] has the number of its ports, GSCR[32] a bit for each port with an
+-- error, GSCR[33] the bits of PSCR[1] that count as one, GSCR[96] the features that are on
 abbrev pub port_count : ℕ
 port_count = 2
 
@@ -83,13 +87,15 @@ order_fields Watch = None
 
 -- the scan goes on with the lowest port from this one on that GSCR[32] named, and else it is over
 unfoldable pub scan_from : (found : ℕ) → ℕ → Order
-scan_from found from = match_some (lowest_below (λ port. nat_le from port && has_bit found port) 15) Watch Clear
+scan_from found from =
+    match_some (lowest_below (λ port. nat_le from port && has_bit found port) 15) Watch Clear
 
 -- the first port is opened, if there is one
 abbrev pub open_from : (ports : ℕ) → ℕ → Order
 open_from ports from = if nat_lt from ports then Open from else Scan
 
--- the order after the answer of an order came, for a multiplier with so many ports, and the ports that the last scan found
+-- the order after the answer of an order came, for a multiplier with so many ports, and the ports that the
+-- last scan found
 unfoldable pub next_order : (ports found : ℕ) → Order → Order
 next_order ports found ResetOn = ResetOff
 next_order ports found ResetOff = AwaitSignature
@@ -113,7 +119,8 @@ identify_fields dev = command dev 0xEC 0 0 0 0
 abbrev pub log_fields : (dev : ℕ) → H2dFields
 log_fields dev = command dev 0x2F 0 0x10 0 1
 
--- READ FPDMA QUEUED and WRITE FPDMA QUEUED have their length in Features and their tag, the slot, in bits 7:3 of Count
+-- READ FPDMA QUEUED and WRITE FPDMA QUEUED have their length in Features and their tag, the slot, in bits 7:3
+-- of Count
 abbrev pub work_fields : (slot : ℕ) → Work → (dev lba sectors : ℕ) → H2dFields
 work_fields slot work.Read dev lba sectors = command dev 0x60 sectors lba 0x40 (8 * slot)
 work_fields slot work.Write dev lba sectors = command dev 0x61 sectors lba 0x40 (8 * slot)

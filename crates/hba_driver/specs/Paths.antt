@@ -1,12 +1,14 @@
--- What slot 30 does with a device, stage by stage: it is identified (ACS-3, IDENTIFY DEVICE), its error log is read (ACS-3,
--- READ LOG EXT and the NCQ Command Error log), or it is reset (Serial ATA 3.x, software reset).
+-- What slot 30 does with a device, stage by stage: it is identified (ACS-3, IDENTIFY DEVICE), its error log
+-- is read (ACS-3, READ LOG EXT and the NCQ Command Error log), or it is reset (Serial ATA 3.x, software
+-- reset).
 use Rattle.std.specs.Prelude.{ℕ, Bool, true, false, if◌then◌else◌, Option, Some, None}
 use Rattle.fis_view.specs.declared.build.H2dFields.{H2dFields}
 use Rattle.slots.specs.Slots.{has_bit}
 use Rattle.hba_driver.specs.declared.path.Recovery.{Recovery}
 use Rattle.hba_driver.specs.declared.path.Recovery.TheVariants.{Log, Reset}
 use Rattle.hba_driver.specs.declared.path.Stage.{Stage}
-use Rattle.hba_driver.specs.declared.path.Stage.TheVariants.{Identify, ReadLog, AssertReset, ReleaseReset, AwaitReset}
+use Rattle.hba_driver.specs.declared.path.Stage.TheVariants.{Identify, ReadLog, AssertReset, ReleaseReset}
+use Rattle.hba_driver.specs.declared.path.Stage.TheVariants.{AwaitReset}
 use Rattle.hba_driver.specs.declared.path.TaskFile.{TaskFile}
 use Rattle.hba_driver.specs.declared.plan.Device.{Device}
 use Rattle.hba_driver.specs.declared.plan.Device.TheVariants.{Absent, Starting, Ready, Recovering}
@@ -28,8 +30,8 @@ reads_page AssertReset = false
 reads_page ReleaseReset = false
 reads_page AwaitReset = false
 
--- the stage after the command of a stage is over, None where the path ends with it; the end of the reset, which has no
--- command, is followed by IDENTIFY DEVICE
+-- the stage after the command of a stage is over, None where the path ends with it; the end of the reset,
+-- which has no command, is followed by IDENTIFY DEVICE
 unfoldable pub next_stage : Stage → Option Stage
 next_stage Identify = None
 next_stage (ReadLog file) = None
@@ -44,8 +46,8 @@ first_stage (Recovering (Log file)) signed = Some (ReadLog file)
 first_stage (Recovering Reset) signed = Some AssertReset
 first_stage device signed = None
 
--- How a device recovers from a fault, after which it had this task file: one that was ready and has ERR, bit 0 of Status,
--- set tells by its log which of its commands failed; any other is reset.
+-- How a device recovers from a fault, after which it had this task file: one that was ready and has ERR, bit
+-- 0 of Status, set tells by its log which of its commands failed; any other is reset.
 abbrev pub recovery : Device → TaskFile → Recovery
 recovery Ready file = if has_bit file.status 0 then Log file else Reset
 recovery device file = Reset

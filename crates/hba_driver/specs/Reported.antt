@@ -35,12 +35,14 @@ pub record IsTurnOf (turn : HostTurn) (old new : Host) (turns : List HostTurn) (
   pub does : Does at turn next
   pub went : DoesAll next after new
   -- over the hosts of the run
-  pub hosts : hosts_over old new turns run ≡ hosts_over old at before came ++ at ∷ hosts_over next new after went
+  pub hosts : hosts_over old new turns run ≡ hosts_over old at before came
+      ++ at ∷ hosts_over next new after went
 
 -- What was polled as Done, in these turns: a frame of its device was taken whose report says that the
 -- command of its slot is done. There stood then, issued, and stands now, ended, just what was submitted
 -- for the device under the ticket.
-pub record WasReported (ticket slot : ℕ) (old new : Host) (turns : List HostTurn) (run : DoesAll old turns new)
+pub record WasReported (ticket slot : ℕ) (old new : Host) (turns : List HostTurn)
+    (run : DoesAll old turns new)
     : Type 0 where
   pub dev : ℕ
   pub request : Request

@@ -1,5 +1,6 @@
 -- The bytes of requests, and how a request is taken, polled and refused. The refusals are the driver's own.
-use Rattle.std.specs.Prelude.{ℕ, ◌+◌, ◌*◌, ◌%◌, ◌==◌, ◌&&◌, ◌||◌, Bool, true, false, not, nat_lt, nat_le, if◌then◌else◌, List, length, Option, Some, None, is_none}
+use Rattle.std.specs.Prelude.{ℕ, ◌+◌, ◌*◌, ◌%◌, ◌==◌, ◌&&◌, ◌||◌, Bool, true, false, not, nat_lt, nat_le}
+use Rattle.std.specs.Prelude.{if◌then◌else◌, List, length, Option, Some, None, is_none}
 use Rattle.std.specs.List.{list_any}
 use Rattle.host_memory.specs.Memory.{client_start}
 use Rattle.host_memory.specs.Place.{total_of}
@@ -32,7 +33,8 @@ is_used_by at len (Some entry) = is_among at len entry.prds
 
 -- one of the bytes is of the driver's buffer, 100000h to 1001FFh, or of a request that is not polled
 abbrev pub in_use : Driver → (at len : ℕ) → Bool
-in_use d at len = nat_lt 0 len && (share_bytes at len client_start 512 || list_any (is_used_by at len) d.entries)
+in_use d at len =
+    nat_lt 0 len && (share_bytes at len client_start 512 || list_any (is_used_by at len) d.entries)
 
 -- ---- refusals
 
@@ -44,11 +46,12 @@ blocks dev work head = (head.dev == dev) && not (has_ended head) && (is_flush wo
 abbrev pub is_bad_count : Request → Bool
 is_bad_count request =
     if is_flush request.work then not (request.sectors == 0)
-    else (request.sectors == 0) || nat_lt 256 request.sectors || nat_le 281474976710656 request.lba
+    else (request.sectors == 0) || nat_lt 256 request.sectors || nat_le 0x1000000000000 request.lba
 
 -- not 512 bytes for each sector, or more than 248 PRDs
 abbrev pub is_mismatch : Request → Bool
-is_mismatch request = nat_lt 248 (length request.prds.items) || not (total_of request.prds.items == request.sectors * 512)
+is_mismatch request =
+    nat_lt 248 (length request.prds.items) || not (total_of request.prds.items == request.sectors * 512)
 
 -- a PRD that no request may have: odd, empty, above 4 MiB, or not within 100200h to the end of memory
 abbrev pub is_bad_prd : (end : ℕ) → Prd → Bool

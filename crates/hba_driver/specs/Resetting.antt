@@ -7,12 +7,13 @@ use Rattle.hba_driver.specs.Slot30.{IsPlan30, Sets}
 use Rattle.hba_driver.specs.Steady.{detects}
 use Rattle.hba_driver.specs.Tended.{IsResetTurn, IsTended}
 
--- The driver stands then where it waits for the Control that sets SRST to go out, and no request of the device waits or is
--- issued.
+-- The driver stands then where it waits for the Control that sets SRST to go out, and no request of the
+-- device waits or is issued.
 pub record IsSetDriven (n : ℕ) (h : Host) : Type 0 where
   pub plan : IsPlan30 n Sets h.driver.plan
   pub unsought : detects n h.driver.plan.asked h.driver.plan.order ≡ false
-  pub withdrawn : (s : ℕ) (e : Entry) → entry_at h.driver.entries s ≡ Some e → e.head.dev ≡ n → is_withdrawn e.head ≡ true
+  pub withdrawn : (s : ℕ) (e : Entry) → entry_at h.driver.entries s ≡ Some e → e.head.dev ≡ n
+      → is_withdrawn e.head ≡ true
 
 abbrev pub EachResetIsDriven : Type 0
 EachResetIsDriven =

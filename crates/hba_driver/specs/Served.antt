@@ -55,7 +55,7 @@ HaveCommands d memory =
 pub record HasSize (head : Head) : Type 0 where
   pub some : 0 < head.sectors
   pub most : head.sectors ≤ 256
-  pub place : head.lba < 281474976710656
+  pub place : head.lba < 0x1000000000000
 
 -- a request is to a fan-out port, and its PRDs are not too many and apart from the driver's buffer
 pub record IsBounded (e : Entry) : Type 0 where

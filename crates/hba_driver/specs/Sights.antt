@@ -1,6 +1,7 @@
--- What a tick sees of the port and of memory: AHCI 1.3.1, section 3.3 (registers) and 4.2.1 (received FISes); Serial ATA 3.x,
--- 10.5.6 (signatures); ACS-3, IDENTIFY DEVICE.
-use Rattle.std.specs.Prelude.{ℕ, ◌+◌, ◌*◌, ◌/◌, ◌%◌, ◌^◌, ◌==◌, ◌&&◌, Bool, false, not, if◌then◌else◌, bit_or, List, map, take, drop, slice_index, sum, Option, Some, None, Result, Ok}
+-- What a tick sees of the port and of memory: AHCI 1.3.1, section 3.3 (registers) and 4.2.1 (received FISes);
+-- Serial ATA 3.x, 10.5.6 (signatures); ACS-3, IDENTIFY DEVICE.
+use Rattle.std.specs.Prelude.{ℕ, ◌+◌, ◌*◌, ◌/◌, ◌%◌, ◌^◌, ◌==◌, ◌&&◌, Bool, false, not, if◌then◌else◌, bit_or}
+use Rattle.std.specs.Prelude.{List, map, take, drop, slice_index, sum, Option, Some, None, Result, Ok}
 use Rattle.std.specs.List.{range_with_len}
 use Rattle.std.specs.Result.{result_unwrap_or}
 use Rattle.fis_view.specs.Seen.{seen}
@@ -22,13 +23,16 @@ use Rattle.hba_driver.specs.declared.sight.Sight.{Sight}
 unfoldable pub shown : Port → ℕ → ℕ
 shown port offset = result_unwrap_or (read_at port offset) 0
 
--- the last Register Device to Host FIS of a PM Port: at 40h of its row of the received area, which begins at 1000h
+-- the last Register Device to Host FIS of a PM Port: at 40h of its row of the received area, which begins at
+-- 1000h
 abbrev pub last_d2h : List ℕ → ℕ → List ℕ
 last_d2h structure dev = take 20 (drop (4160 + 256 * dev) structure)
 
--- a register's value in the answer of the multiplier, or its signature as a number: Count 7:0, LBA 7:0, LBA 15:8 and LBA 23:16, the first lowest
+-- a register's value in the answer of the multiplier, or its signature as a number: Count 7:0, LBA 7:0, LBA
+-- 15:8 and LBA 23:16, the first lowest
 abbrev pub answer_in : Result Fis FisFault → ℕ
-answer_in (Ok (view.RegD2H f)) = field table.D2h table.Lba f % 2 ^ 24 * 256 + field table.D2h table.Count f % 2 ^ 8
+answer_in (Ok (view.RegD2H f)) =
+    field table.D2h table.Lba f % 2 ^ 24 * 256 + field table.D2h table.Count f % 2 ^ 8
 answer_in _ = 0
 
 -- a signature, of an ATA device: LBA 23:8 is 0
@@ -36,13 +40,14 @@ abbrev pub is_ata : Result Fis FisFault → Bool
 is_ata (Ok (view.RegD2H f)) = is_signature f && (field table.D2h table.Lba f / 2 ^ 8 % 2 ^ 16 == 0)
 is_ata _ = false
 
--- the identify data in the driver's buffer, which begins the client area, are those of a device for queued commands:
--- word 76 has bit 8, and word 75 says a queue of 32
+-- the identify data in the driver's buffer, which begins the client area, are those of a device for queued
+-- commands: word 76 has bit 8, and word 75 says a queue of 32
 abbrev pub is_usable : List ℕ → Bool
 is_usable client = (slice_index client 153 % 2 == 1) && (slice_index client 150 % 32 == 31)
 
--- The NCQ Command Error log in that buffer: it is whole where its 512 bytes add up to 0 modulo 256. Byte 0 has NQ in bit 7
--- (the command that failed was not queued) and else its tag in bits 4:0; byte 2 is Status, byte 3 Error.
+-- The NCQ Command Error log in that buffer: it is whole where its 512 bytes add up to 0 modulo 256. Byte 0
+-- has NQ in bit 7 (the command that failed was not queued) and else its tag in bits 4:0; byte 2 is Status,
+-- byte 3 Error.
 abbrev pub log_in : List ℕ → ErrorLog
 log_in client = record {
   whole = sum (take 512 client) % 256 == 0;

@@ -1,7 +1,9 @@
--- Slot 31 over turns of the host: where it is with the control port of the multiplier (Serial ATA 3.x, 16.2: READ
--- PORT MULTIPLIER and WRITE PORT MULTIPLIER, software reset of the control port). An order is issued, goes out and
--- is answered before the next one is issued; of a software reset the two FISes have no answer but the signature.
-use Rattle.std.specs.Prelude.{ℕ, ◌≡◌, ◌≢◌, ◌<◌, ◌⊎◌, ◌||◌, Bool, List, [], ◌∷◌, Ok, true, false, Some, None, is_some}
+-- Slot 31 over turns of the host: where it is with the control port of the multiplier (Serial ATA 3.x, 16.2:
+-- READ PORT MULTIPLIER and WRITE PORT MULTIPLIER, software reset of the control port). An order is issued,
+-- goes out and is answered before the next one is issued; of a software reset the two FISes have no answer
+-- but the signature.
+use Rattle.std.specs.Prelude.{ℕ, ◌≡◌, ◌≢◌, ◌<◌, ◌⊎◌, ◌||◌, Bool, List, [], ◌∷◌, Ok, true, false, Some, None}
+use Rattle.std.specs.Prelude.{is_some}
 use Rattle.std.specs.List.{list_any}
 use Rattle.fis_view.specs.Built.{IsBuilt, h2d_given}
 use Rattle.fis_view.specs.Frames.{Stamped}
@@ -107,7 +109,8 @@ IsIn Asks order asked part = (asked ≡ true) × (is_on order ≡ false) × IsSe
 IsIn Told order asked part = (asked ≡ true) × (is_on order ≡ false) × (IsFree31 part ⊎ IsSent part)
 IsIn Fails order asked part = Unit {0}
 
--- the control port of a host whose slot 31 is at this stage; nothing is wrong with it but where it failed, and no data is set up
+-- the control port of a host whose slot 31 is at this stage; nothing is wrong with it but where it failed,
+-- and no data is set up
 pub record IsAt31 (stage : Stage31) (h : Host) : Type 0 where
   pub fault : is_some (control_of h).view.fault ≡ has_failed stage
   pub context : (control_of h).view.slots.context ≡ None
@@ -168,11 +171,13 @@ MayCome31 stage frame = IsNotice31 frame
 abbrev pub TicksOn : Stage31 → Stage31 → Type 0
 TicksOn old new = StaysOn old new ⊎ ((old ≡ Fails) × (new ≡ Rests))
 
--- the stage after a frame to the control port: of the first FIS of a software reset, of a command, and of the second FIS
+-- the stage after a frame to the control port: of the first FIS of a software reset, of a command, and of the
+-- second FIS
 abbrev pub Follows31 : Stage31 → Order → Stage31 → Type 0
 Follows31 stage order next =
     ((stage ≡ Waits) × (is_on order ≡ true) × (next ≡ Resets))
-    ⊎ (((stage ≡ Waits) × (is_on order ≡ false) × (next ≡ Asks)) ⊎ ((stage ≡ Resets) × (order ≡ ResetOff) × (next ≡ Signs)))
+    ⊎ (((stage ≡ Waits) × (is_on order ≡ false) × (next ≡ Asks))
+    ⊎ ((stage ≡ Resets) × (order ≡ ResetOff) × (next ≡ Signs)))
 
 -- the frame that goes out to the control port is the command of the order in slot 31
 pub record Pushes31 (stage : Stage31) (old : Host) (frame : Stamped) (next : Stage31) : Type 0 where
@@ -184,13 +189,15 @@ pub record Pushes31 (stage : Stage31) (old : Host) (frame : Stamped) (next : Sta
 abbrev pub TakesOn : Stage31 → List ℕ → Stage31 → Type 0
 TakesOn stage frame next =
     ((next ≡ stage) × IsNotice31 frame)
-    ⊎ ((is_quiet next ≡ true) × (((stage ≡ Asks) × IsAnswer31 frame) ⊎ ((stage ≡ Signs) × IsSignature31 frame)))
+    ⊎ ((is_quiet next ≡ true)
+    × (((stage ≡ Asks) × IsAnswer31 frame) ⊎ ((stage ≡ Signs) × IsSignature31 frame)))
 
 -- the tick issues the order to clear port n
 abbrev pub orders_clear : ℕ → Host → Bool
 orders_clear n h = list_any (flushes n) (effects (sight_in h) h.driver)
 
--- an order is issued only where nothing of the control port is on its way, and no command is issued that has not gone out
+-- an order is issued only where nothing of the control port is on its way, and no command is issued that has
+-- not gone out
 pub record Ticks31 (stage : Stage31) (old : Host) (new : Host) (next : Stage31) : Type 0 where
   pub stays : TicksOn stage next
   pub clears : (n : ℕ) → orders_clear n old ≡ true
@@ -202,7 +209,8 @@ IsNext31 stage old (Took frame report) new next =
     (port_of frame ≡ control_port → TakesOn stage frame next) × (port_of frame ≢ control_port → next ≡ stage)
 IsNext31 stage old (Pushed None) new next = next ≡ stage
 IsNext31 stage old (Pushed (Some frame)) new next =
-    (frame.stamp.port ≡ control_port → Pushes31 stage old frame next) × (frame.stamp.port ≢ control_port → next ≡ stage)
+    (frame.stamp.port ≡ control_port → Pushes31 stage old frame next)
+    × (frame.stamp.port ≢ control_port → next ≡ stage)
 IsNext31 stage old (Ticked acted) new next = Ticks31 stage old new next
 IsNext31 stage old turn new next = next ≡ stage
 
@@ -230,21 +238,24 @@ Stands31 stage old turn new next = Unit {0}
 
 -- ---- the law
 
--- the host comes to this stage, and to what it knows on its way, over turns in which the control port sends what may come
+-- the host comes to this stage, and to what it knows on its way, over turns in which the control port sends
+-- what may come
 pub record Turns31 (stage : Stage31) (old : Host) (turn : HostTurn) (new : Host) : Type 0 where
   pub next : Stage31
   pub at : IsAt31 next new
   pub is : IsNext31 stage old turn new next
   pub stands : Stands31 stage old turn new next
 
-abbrev pub Comes31 : (stage : Stage31) → (old : Host) → (turns : List HostTurn) → (new : Host) → DoesAll old turns new → Type 0
+abbrev pub Comes31 : (stage : Stage31) → (old : Host) → (turns : List HostTurn) → (new : Host)
+    → DoesAll old turns new → Type 0
 Comes31 stage old [] new run = Unit {0}
 Comes31 stage old (turn ∷ turns) new run =
     MayBe31 stage turn → (t : Turns31 stage old turn run.0) × Comes31 t.next run.0 turns new run.2
 
--- Slot 31 rests as the host opens, and goes from stage to stage with each turn from there on, as long as the control port
--- sends what may come.
+-- Slot 31 rests as the host opens, and goes from stage to stage with each turn from there on, as long as the
+-- control port sends what may come.
 abbrev pub OrdersTakeTurns : Type 0
 OrdersTakeTurns =
-    (given len : ℕ) → is_memory_size len ≡ true → (turns : List HostTurn) (h : Host) (run : DoesAll (opening_host given len) turns h)
+    (given len : ℕ) → is_memory_size len ≡ true → (turns : List HostTurn) (h : Host)
+    (run : DoesAll (opening_host given len) turns h)
     → IsAt31 Rests (opening_host given len) × Comes31 Rests (opening_host given len) turns h run

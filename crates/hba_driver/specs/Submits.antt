@@ -1,5 +1,6 @@
 -- What submit and poll do.
-use Rattle.std.specs.Prelude.{ℕ, ◌≡◌, ◌+◌, Bool, if◌then◌else◌, List, length, slice_set, Option, Some, None, unwrap_or}
+use Rattle.std.specs.Prelude.{ℕ, ◌≡◌, ◌+◌, Bool, if◌then◌else◌, List, length, slice_set, Option, Some, None}
+use Rattle.std.specs.Prelude.{unwrap_or}
 use Rattle.std.specs.List.{list_any}
 use Rattle.std.specs.Option.{option_or}
 use Rattle.host_memory.specs.Memory.{Memory, client_start}
@@ -63,10 +64,12 @@ after_submit d dev request = record d {
 }
 
 -- A request is taken: it waits in the lowest free slot, and its command stands there.
-pub record Takes (old : Driver) (before : Memory) (dev : ℕ) (request : Request) (ticket : ℕ) (new : Driver) (after : Memory) : Type 0 where
+pub record Takes (old : Driver) (before : Memory) (dev : ℕ) (request : Request) (ticket : ℕ) (new : Driver)
+    (after : Memory) : Type 0 where
   pub next : ticket ≡ old.given + 1
   pub driver : new ≡ after_submit old dev request
-  pub command : IsWritten 0 (next_slot old) (table_of (next_slot old)) (request_fields (next_slot old) (new_head ticket dev request))
+  pub command : IsWritten 0 (next_slot old) (table_of (next_slot old))
+      (request_fields (next_slot old) (new_head ticket dev request))
       request.prds.items before.structure after.structure
   pub client : after.client ≡ before.client
 
@@ -77,7 +80,8 @@ lowest_ended entries = lowest_below (λ slot. holds has_ended (entry_at entries 
 
 -- how the request in a slot ended
 abbrev pub completed : ℕ → Head → Phase → Option Completion
-completed slot head (Ended outcome) = Some (record { ticket = record { 0 = head.ticket }; slot = slot; outcome = outcome })
+completed slot head (Ended outcome) =
+    Some (record { ticket = record { 0 = head.ticket }; slot = slot; outcome = outcome })
 completed slot head phase = None
 
 abbrev pub completion_at : ℕ → Option Entry → Option Completion
@@ -86,8 +90,10 @@ completion_at slot (Some entry) = completed slot entry.head entry.head.phase
 
 -- what a poll gives: the ended request of the lowest slot
 unfoldable pub completion_of : Driver → Option Completion
-completion_of d = match_some (lowest_ended d.entries) None (λ slot. completion_at slot (entry_at d.entries slot))
+completion_of d =
+    match_some (lowest_ended d.entries) None (λ slot. completion_at slot (entry_at d.entries slot))
 
 -- and what it leaves: the slot is free
 unfoldable pub after_poll : Driver → Driver
-after_poll d = match_some (lowest_ended d.entries) d (λ slot. record d { entries = slice_set d.entries slot None })
+after_poll d =
+    match_some (lowest_ended d.entries) d (λ slot. record d { entries = slice_set d.entries slot None })

@@ -1,5 +1,6 @@
 -- A tick: the driver afterwards, the effects on port and memory, and the answer.
-use Rattle.std.specs.Prelude.{ℕ, ◌≡◌, ◌+◌, ◌==◌, ◌&&◌, ◌||◌, Bool, true, false, nat_lt, not, if◌then◌else◌, List, [], map, slice_set, Option, Some, None, is_some}
+use Rattle.std.specs.Prelude.{ℕ, ◌≡◌, ◌+◌, ◌==◌, ◌&&◌, ◌||◌, Bool, true, false, nat_lt, not, if◌then◌else◌}
+use Rattle.std.specs.Prelude.{List, [], map, slice_set, Option, Some, None, is_some}
 use Rattle.std.specs.Option.{option_map}
 use Rattle.host_memory.specs.Memory.{Memory}
 use Rattle.slots.specs.Slots.{has_bit, lowest_below, match_some}
@@ -14,7 +15,8 @@ use Rattle.hba_driver.specs.declared.path.TaskFile.{TaskFile}
 use Rattle.hba_driver.specs.declared.plan.Device.TheVariants.{Absent, Recovering}
 use Rattle.hba_driver.specs.declared.plan.Plan.{Plan}
 use Rattle.hba_driver.specs.declared.request.Outcome.{Outcome}
-use Rattle.hba_driver.specs.declared.request.Outcome.TheVariants.{Done, DeviceError, Aborted, Removed, PortError}
+use Rattle.hba_driver.specs.declared.request.Outcome.TheVariants.{Done, DeviceError, Aborted, Removed}
+use Rattle.hba_driver.specs.declared.request.Outcome.TheVariants.{PortError}
 use Rattle.hba_driver.specs.declared.sight.ErrorLog.{ErrorLog}
 use Rattle.hba_driver.specs.declared.sight.Sight.{Sight}
 use Rattle.hba_driver.specs.declared.slot.Group.{Group}
@@ -25,7 +27,8 @@ use Rattle.hba_driver.specs.declared.turn.Act.{Act}
 use Rattle.hba_driver.specs.declared.turn.Act.TheVariants as act
 use Rattle.hba_driver.specs.declared.turn.Logged.{Logged}
 use Rattle.hba_driver.specs.declared.turn.Turn.{Turn}
-use Rattle.hba_driver.specs.Drivers.{Driver, Entry, device_at, entry_at, has_ended, holds, is_aside, is_issued, rephase_all, rephased, with_device}
+use Rattle.hba_driver.specs.Drivers.{Driver, Entry, device_at, entry_at, has_ended, holds, is_aside}
+use Rattle.hba_driver.specs.Drivers.{is_issued, rephase_all, rephased, with_device}
 use Rattle.hba_driver.specs.Effects.{effects_of}
 use Rattle.hba_driver.specs.Orders.{control_port, is_flush}
 use Rattle.hba_driver.specs.Paths.{recovery, reset_if_there}
@@ -70,9 +73,11 @@ abbrev pub done_ended : (issued : ℕ) → List (Option Entry) → List (Option 
 done_ended issued entries = rephase_all (is_done issued) (Ended Done) entries
 
 unfoldable pub any_done : (issued : ℕ) → List (Option Entry) → Bool
-any_done issued entries = is_some (lowest_below (λ slot. holds (is_done issued slot) (entry_at entries slot)) 30)
+any_done issued entries =
+    is_some (lowest_below (λ slot. holds (is_done issued slot) (entry_at entries slot)) 30)
 
--- how the request ends that a log names: with the log's Status and Error, or with those of the device after its fault
+-- how the request ends that a log names: with the log's Status and Error, or with those of the device after
+-- its fault
 abbrev pub log_outcome : ErrorLog → TaskFile → Outcome
 log_outcome log file =
     if log.unqueued then DeviceError file.status file.error else DeviceError log.status log.error
@@ -116,7 +121,8 @@ stopped_plan plan = record (from_reset plan) {
 -- the device that had a fault recovers, and slot 30 works on it no longer
 abbrev pub recovering : (dev : ℕ) → TaskFile → Plan → Plan
 recovering dev file plan =
-    record (with_device dev (Recovering (recovery (device_at plan dev) file)) plan) { path = unless dev plan.path }
+    record (with_device dev (Recovering (recovery (device_at plan dev) file)) plan)
+    { path = unless dev plan.path }
 
 abbrev pub cleared_plan : (dev : ℕ) → TaskFile → Plan → Plan
 cleared_plan dev file plan = if nat_lt dev control_port then recovering dev file plan else from_reset plan
@@ -151,7 +157,8 @@ entries_after (act.Restarts k) entries = entries
 entries_after (act.Clears dev) entries = rephase_all (is_open_of dev) Aside entries
 entries_after (act.Orders order) entries = removed order entries
 entries_after (act.Steps dev stage) entries = stage_ended dev stage entries
-entries_after (act.Issues slot dev queued) entries = slice_set entries slot (option_map (rephased Issued) (entry_at entries slot))
+entries_after (act.Issues slot dev queued) entries =
+    slice_set entries slot (option_map (rephased Issued) (entry_at entries slot))
 
 abbrev pub acted : Option Act → TaskFile → Driver → Driver
 acted None file d = d
@@ -173,7 +180,8 @@ seen v d = record d {
 abbrev pub due : Sight → Driver → Option Act
 due v d = (turn v d).act
 
--- of the task file that PxTFD shows after its effects the driver looks at Status and Error where a fault was cleared
+-- of the task file that PxTFD shows after its effects the driver looks at Status and Error where a fault was
+-- cleared
 unfoldable pub after_tick : Sight → TaskFile → Driver → Driver
 after_tick v file d = acted (turn v d).act file (seen v d)
 
@@ -188,7 +196,8 @@ unfoldable pub acts : Sight → Driver → Bool
 acts v d = is_some (turn v d).act || (any_done v.issued d.entries || (turn v d).news)
 
 -- driver, port and memory are as they were
-pub record Rests (old : Driver) (port : Port) (memory : Memory) (new : Driver) (after : Port) (later : Memory) : Type 0 where
+pub record Rests (old : Driver) (port : Port) (memory : Memory) (new : Driver) (after : Port)
+    (later : Memory) : Type 0 where
   pub driver : new ≡ old
   pub port_stays : after ≡ port
   pub memory_stays : later ≡ memory

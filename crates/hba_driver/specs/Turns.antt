@@ -1,12 +1,14 @@
--- What is due: a function of what is known and of what a tick sees. The driver's list, from the first item to the last:
--- open the port, start it again after a fault, clear the fault of a device, bring up the multiplier and watch it by slot 31,
--- identify a device or recover it by slot 30, issue a request (AHCI 1.3.1, 5.5, 6.2.2, error recovery, and 9.3, FIS-based
--- Switching, on errors).
-use Rattle.std.specs.Prelude.{ℕ, ◌%◌, ◌<◌, ◌==◌, ◌&&◌, ◌||◌, Bool, true, false, not, nat_lt, if◌then◌else◌, List, slice_index_or, Option, Some, None, is_some}
+-- What is due: a function of what is known and of what a tick sees. The driver's list, from the first item to
+-- the last: open the port, start it again after a fault, clear the fault of a device, bring up the multiplier
+-- and watch it by slot 31, identify a device or recover it by slot 30, issue a request (AHCI 1.3.1, 5.5,
+-- 6.2.2, error recovery, and 9.3, FIS-based Switching, on errors).
+use Rattle.std.specs.Prelude.{ℕ, ◌%◌, ◌<◌, ◌==◌, ◌&&◌, ◌||◌, Bool, true, false, not, nat_lt, if◌then◌else◌}
+use Rattle.std.specs.Prelude.{List, slice_index_or, Option, Some, None, is_some}
 use Rattle.std.specs.Option.{option_map, option_or}
 use Rattle.slots.specs.Slots.{has_bit, lowest_below, match_some}
 use Rattle.hba_driver.specs.declared.order.Order.{Order}
-use Rattle.hba_driver.specs.declared.order.Order.TheVariants.{AwaitSignature, CountPorts, ResetOn, Scan, Detect, Watch}
+use Rattle.hba_driver.specs.declared.order.Order.TheVariants.{AwaitSignature, CountPorts, ResetOn, Scan}
+use Rattle.hba_driver.specs.declared.order.Order.TheVariants.{Detect, Watch}
 use Rattle.hba_driver.specs.declared.path.Path.{Path}
 use Rattle.hba_driver.specs.declared.path.Recovery.TheVariants.{Reset}
 use Rattle.hba_driver.specs.declared.path.Stage.{Stage}
@@ -29,8 +31,8 @@ use Rattle.hba_driver.specs.Paths.{first_stage, next_stage, stage_fields}
 abbrev pub is_there : ℕ → Bool
 is_there status = status % 16 == 3
 
--- What is known of a device that is there: it starts, and is to send its signature. One that recovers from a fault is reset, or
--- its log is read; its signature may have come before that, and does not come again.
+-- What is known of a device that is there: it starts, and is to send its signature. One that recovers from a
+-- fault is reset, or its log is read; its signature may have come before that, and does not come again.
 abbrev pub found_there : Device → Device
 found_there (Recovering way) = Recovering way
 found_there device = Starting
@@ -55,12 +57,14 @@ is_out v plan = has_bit v.issued 31
 
 -- the answer of an order came: it is noted, and the next order is due
 abbrev pub answered : Sight → Plan → Plan
-answered v plan = if plan.asked && not (is_out v plan) then with_next plan.order (noted v plan.order plan) else plan
+answered v plan =
+    if plan.asked && not (is_out v plan) then with_next plan.order (noted v plan.order plan) else plan
 
--- The software reset of the multiplier ends with its signature, which then stands in its own row of the received area, as an
--- answer does; after another one it is reset again.
+-- The software reset of the multiplier ends with its signature, which then stands in its own row of the
+-- received area, as an answer does; after another one it is reset again.
 abbrev pub signed_order : Sight → Order
-signed_order v = if v.resetting then AwaitSignature else if v.answer == 0x96690101 then CountPorts else ResetOn
+signed_order v =
+    if v.resetting then AwaitSignature else if v.answer == 0x96690101 then CountPorts else ResetOn
 
 -- what ends an order that waits: a signature, or a notification of the multiplier in PxSNTF
 unfoldable pub met_order : Sight → Order → Order
@@ -97,14 +101,16 @@ path_to dev stage = option_map (λ s. record { dev = dev; stage = s; asked = fal
 
 -- the command of a path's stage is over: what came of it is noted, and the path goes on, or ends
 abbrev pub advanced : Sight → Path → Plan → Plan
-advanced v path plan = record (found_of v path.stage path.dev plan) { path = path_to path.dev (next_stage path.stage) }
+advanced v path plan =
+    record (found_of v path.stage path.dev plan) { path = path_to path.dev (next_stage path.stage) }
 
 -- its command was issued, and is not out any more
 abbrev pub is_back : Sight → Path → Bool
 is_back v path = path.asked && not (has_bit v.issued 30)
 
 abbrev pub path_answered : Sight → Plan → Plan
-path_answered v plan = match_some plan.path plan (λ path. if is_back v path then advanced v path plan else plan)
+path_answered v plan =
+    match_some plan.path plan (λ path. if is_back v path then advanced v path plan else plan)
 
 -- a software reset of the device goes on
 abbrev pub is_in_reset : Sight → ℕ → Bool
@@ -165,7 +171,8 @@ early_due v plan = option_or (opening_due plan) (option_or (restart_due plan) (f
 
 -- slot 31 is free, and the order has a command
 abbrev pub order_due : Plan → Option Act
-order_due plan = if plan.asked then None else option_map (λ fields. act.Orders plan.order) (order_fields plan.order)
+order_due plan =
+    if plan.asked then None else option_map (λ fields. act.Orders plan.order) (order_fields plan.order)
 
 -- what is due for a device by slot 30
 abbrev pub stage_for : Sight → Plan → ℕ → Option Stage

@@ -1,4 +1,5 @@
--- Dwords as sets of bits, and the bits of the port's registers: AHCI 1.3.1, sections 3.3.5 (PxIS), 3.3.7 (PxCMD), 3.3.12 (PxSERR) and 3.3.16 (PxFBS).
+-- Dwords as sets of bits, and the bits of the port's registers: AHCI 1.3.1, sections 3.3.5 (PxIS), 3.3.7
+-- (PxCMD), 3.3.12 (PxSERR) and 3.3.16 (PxFBS).
 use Rattle.std.specs.Prelude.{ℕ, ◌+◌, ◌-◌, ◌*◌, ◌^◌, Bool, if◌then◌else◌, bit_and}
 use Rattle.port_errors.specs.Interrupts.{ofs, ifs, hbfs, tfes}
 

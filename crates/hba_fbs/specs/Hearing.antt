@@ -1,7 +1,9 @@
--- What a FIS is to the device that sent it: AHCI 1.3.1, 5.3.13 (how a port takes each type of FIS) and chapter 9
--- (FIS-based Switching); Serial ATA 3.x, 10.5 (FIS types). Here it is decided, from the FIS and the device's own part,
--- which happening of its slots a FIS is and what is wrong with it; the slots then move by the happening.
-use Rattle.std.specs.Prelude.{ℕ, ◌-◌, ◌%◌, ◌^◌, ◌==◌, Bool, true, false, not, nat_lt, nat_le, if◌then◌else◌, List, length, Option, Some, None}
+-- What a FIS is to the device that sent it: AHCI 1.3.1, 5.3.13 (how a port takes each type of FIS) and
+-- chapter 9 (FIS-based Switching); Serial ATA 3.x, 10.5 (FIS types). Here it is decided, from the FIS and the
+-- device's own part, which happening of its slots a FIS is and what is wrong with it; the slots then move by
+-- the happening.
+use Rattle.std.specs.Prelude.{ℕ, ◌-◌, ◌%◌, ◌^◌, ◌==◌, Bool, true, false, not, nat_lt, nat_le, if◌then◌else◌}
+use Rattle.std.specs.Prelude.{List, length, Option, Some, None}
 use Rattle.fis_view.specs.Table as table
 use Rattle.fis_view.specs.Table.{field}
 use Rattle.fis_view.specs.declared.view.Fis.{Fis}
@@ -17,7 +19,8 @@ use Rattle.slots.specs.declared.answer.SetupError.TheVariants as refused
 use Rattle.slots.specs.declared.table.Context.{Context}
 use Rattle.slots.specs.Slots.{DeviceSlots, match_some, own_issue}
 use Rattle.slots.specs.Commands.{after_complete, after_pio_done, answer_of, answered_as, completed, whole_pio}
-use Rattle.slots.specs.Setup.{after_setup_pio, new_context, pio_fault, pio_issue, setup_fault, with_own_context}
+use Rattle.slots.specs.Setup.{after_setup_pio, new_context, pio_fault, pio_issue, setup_fault}
+use Rattle.slots.specs.Setup.{with_own_context}
 use Rattle.slots.specs.Data.{after_activate, after_arrive, may_activate}
 use Rattle.hba_fbs.specs.declared.hearing.Fault.{Fault}
 use Rattle.hba_fbs.specs.declared.hearing.Fault.TheVariants as fault
@@ -27,7 +30,8 @@ use Rattle.hba_fbs.specs.declared.hearing.Heard.{Heard}
 use Rattle.hba_fbs.specs.declared.report.Wrote.{Wrote}
 use Rattle.hba_fbs.specs.declared.state.DeviceState.{DeviceState}
 use Rattle.hba_fbs.specs.declared.status.Block.{Block}
-use Rattle.hba_fbs.specs.Status.{after_reset, is_busy, is_error, is_quiet, with_bits, with_block, with_file, with_status}
+use Rattle.hba_fbs.specs.Status.{after_reset, is_busy, is_error, is_quiet, with_bits, with_block, with_file}
+use Rattle.hba_fbs.specs.Status.{with_status}
 
 -- ---- happenings
 
@@ -51,7 +55,13 @@ quietly state h = record { state = state; happening = h; fault = None; done = 0;
 
 -- this is wrong with it, and no slot changes
 abbrev pub faulty : DeviceState → DeviceCause → Heard
-faulty state c = record { state = state; happening = happening.Nothing; fault = Some (fault.Device c); done = 0; pss = false }
+faulty state c = record {
+  state = state;
+  happening = happening.Nothing;
+  fault = Some (fault.Device c);
+  done = 0;
+  pss = false;
+}
 
 -- ---- Register Device to Host
 
@@ -70,7 +80,13 @@ answer_fault (answer.Done slot) = None
 answer_fault (answer.Short slot) = Some (fault.Device cause.Short)
 
 abbrev pub answered : Answered → DeviceState → Heard
-answered a state = record { state = state; happening = happening.Answered a; fault = answer_fault a; done = done_by a; pss = false }
+answered a state = record {
+  state = state;
+  happening = happening.Answered a;
+  fault = answer_fault a;
+  done = done_by a;
+  pss = false;
+}
 
 -- with ERR it is an error of the task file; without BSY it answers the command that waits
 abbrev pub heard_d2h : DeviceSlots → DeviceState → ℕ → ℕ → Heard
@@ -86,7 +102,13 @@ abbrev pub short_fault : Completed → Option Fault
 short_fault c = if c.short == 0 then None else Some (fault.Device cause.Short)
 
 abbrev pub named : Completed → DeviceState → ℕ → Heard
-named c state mask = record { state = state; happening = happening.Named mask; fault = short_fault c; done = c.done; pss = false }
+named c state mask = record {
+  state = state;
+  happening = happening.Named mask;
+  fault = short_fault c;
+  done = c.done;
+  pss = false;
+}
 
 -- with ERR it is an error of the task file, and no slot is named
 abbrev pub heard_bits : DeviceSlots → DeviceState → ℕ → ℕ → ℕ → Heard
@@ -112,13 +134,15 @@ set_up (Some e) state block h = faulty state (cause_of_setup e)
 
 abbrev pub heard_setup : DeviceSlots → DeviceState → ℕ → ℕ → ℕ → Bool → Heard
 heard_setup own state tag offset count to_host =
-    set_up (setup_fault (own_issue own tag) offset count to_host) state None (happening.SetUp (new_context tag offset count to_host))
+    set_up (setup_fault (own_issue own tag) offset count to_host) state None
+    (happening.SetUp (new_context tag offset count to_host))
 
 -- with ERR it is an error of the task file
 abbrev pub heard_pio : DeviceSlots → DeviceState → ℕ → ℕ → ℕ → Bool → Block → Heard
 heard_pio own state status error count to_host block =
     if is_error status then faulty (with_file state status error) cause.TaskFile
-    else set_up (pio_fault (pio_issue own) count to_host) (with_file state status error) (Some block) (happening.PioSetUp count to_host)
+    else set_up (pio_fault (pio_issue own) count to_host) (with_file state status error) (Some block)
+    (happening.PioSetUp count to_host)
 
 -- ---- Data
 
@@ -129,11 +153,23 @@ asks (Some block) = block.interrupts
 
 -- the PRD table of the slot is none: the host's bus fails
 abbrev pub bus_failed : DeviceState → Heard
-bus_failed state = record { state = state; happening = happening.Nothing; fault = Some (fault.Port port_cause.Bus); done = 0; pss = asks state.block }
+bus_failed state = record {
+  state = state;
+  happening = happening.Nothing;
+  fault = Some (fault.Port port_cause.Bus);
+  done = 0;
+  pss = asks state.block;
+}
 
 -- there are more bytes than are left of the setup
 abbrev pub overflowed : DeviceState → Heard
-overflowed state = record { state = state; happening = happening.Nothing; fault = Some (fault.Device cause.Overflow); done = 0; pss = asks state.block }
+overflowed state = record {
+  state = state;
+  happening = happening.Nothing;
+  fault = Some (fault.Device cause.Overflow);
+  done = 0;
+  pss = asks state.block;
+}
 
 abbrev pub mask_of_slot : Option ℕ → ℕ
 mask_of_slot None = 0
@@ -142,8 +178,8 @@ mask_of_slot (Some slot) = 2 ^ slot
 abbrev pub ended_fault : ℕ → Option Fault
 ended_fault status = if is_error status then Some (fault.Device cause.TaskFile) else None
 
--- Bytes that end the block of a PIO Setup: Status becomes E_Status, with ERR an error of the task file; with BSY, DRQ and
--- ERR 0 the PIO data-in is done, where own, its part with these bytes, is whole.
+-- Bytes that end the block of a PIO Setup: Status becomes E_Status, with ERR an error of the task file; with
+-- BSY, DRQ and ERR 0 the PIO data-in is done, where own, its part with these bytes, is whole.
 abbrev pub ended : DeviceSlots → DeviceState → Wrote → Block → Heard
 ended own state wrote block = record {
   state = with_status state block.ends;
@@ -159,7 +195,8 @@ carried state wrote = quietly state (happening.Carried wrote false)
 -- bytes that went over, and whether they are the last of their setup
 abbrev pub heard_bytes : DeviceSlots → DeviceState → Wrote → Option Block → Bool → Heard
 heard_bytes own state wrote None last = carried state wrote
-heard_bytes own state wrote (Some block) last = if last then ended own state wrote block else carried state wrote
+heard_bytes own state wrote (Some block) last =
+    if last then ended own state wrote block else carried state wrote
 
 -- so many bytes, where the device's last setup is this
 abbrev pub heard_data_of : DeviceSlots → DeviceState → (sound : Bool) → ℕ → Context → Heard
@@ -167,20 +204,23 @@ heard_data_of own state sound count c =
     if not c.to_host then faulty state cause.Stray
     else if not sound then bus_failed state
     else if nat_lt c.left count then overflowed state
-    else heard_bytes (after_arrive own count) state (record { slot = c.slot; offset = c.next; len = count }) state.block (c.left == count)
+    else heard_bytes (after_arrive own count) state (record { slot = c.slot; offset = c.next; len = count })
+    state.block (c.left == count)
 
 abbrev pub heard_data : DeviceSlots → DeviceState → (sound : Bool) → ℕ → Heard
-heard_data own state sound count = match_some own.context (faulty state cause.Stray) (heard_data_of own state sound count)
+heard_data own state sound count =
+    match_some own.context (faulty state cause.Stray) (heard_data_of own state sound count)
 
 -- ---- DMA Activate
 
 abbrev pub heard_activate : DeviceSlots → DeviceState → Heard
-heard_activate own state = if may_activate own.context then quietly state happening.Activated else faulty state cause.Stray
+heard_activate own state =
+    if may_activate own.context then quietly state happening.Activated else faulty state cause.Stray
 
 -- ---- all of them
 
--- The control port sends Register and Set Device Bits FISes alone, and no device one that is for devices. A FIS of an
--- unknown type has to fit its place in the received area.
+-- The control port sends Register and Set Device Bits FISes alone, and no device one that is for devices. A
+-- FIS of an unknown type has to fit its place in the received area.
 abbrev pub is_admitted : ℕ → Fis → Bool
 is_admitted dev (view.RegH2D f) = false
 is_admitted dev (view.RegD2H f) = true
@@ -196,7 +236,13 @@ abbrev pub bad_fault : ℕ → Fault
 bad_fault dev = if dev == 15 then fault.Port port_cause.BadControl else fault.Device cause.BadFis
 
 abbrev pub heard_bad : ℕ → DeviceState → Heard
-heard_bad dev state = record { state = state; happening = happening.Nothing; fault = Some (bad_fault dev); done = 0; pss = false }
+heard_bad dev state = record {
+  state = state;
+  happening = happening.Nothing;
+  fault = Some (bad_fault dev);
+  done = 0;
+  pss = false;
+}
 
 -- the tag of a DMA Setup: bits 4:0 of its buffer identifier
 abbrev pub tag_of : List ℕ → ℕ
@@ -208,20 +254,25 @@ block_of f = record { interrupts = field table.Pio table.I f == 1; ends = field 
 -- a signature that ends a software reset answers no command
 abbrev pub heard_register : DeviceSlots → DeviceState → ℕ → ℕ → Heard
 heard_register own state status error =
-    if state.resetting then quietly (after_reset state status error) happening.Nothing else heard_d2h own state status error
+    if state.resetting then quietly (after_reset state status error) happening.Nothing
+    else heard_d2h own state status error
 
--- what a FIS is to the device that sent it, where it may send it and is heard; sound says whether the PRD table of the slot
--- for which the device sends Data can be used
+-- what a FIS is to the device that sent it, where it may send it and is heard; sound says whether the PRD
+-- table of the slot for which the device sends Data can be used
 unfoldable pub heard_fis : DeviceSlots → DeviceState → (sound : Bool) → Fis → Heard
 heard_fis own state sound (view.RegH2D f) = quietly state happening.Nothing
-heard_fis own state sound (view.RegD2H f) = heard_register own state (field table.D2h table.Status f) (field table.D2h table.Error f)
+heard_fis own state sound (view.RegD2H f) =
+    heard_register own state (field table.D2h table.Status f) (field table.D2h table.Error f)
 heard_fis own state sound (view.SetBits f) =
-    heard_bits own state (field table.Bits table.Status f) (field table.Bits table.Error f) (field table.Bits table.SActive f)
+    heard_bits own state (field table.Bits table.Status f) (field table.Bits table.Error f)
+    (field table.Bits table.SActive f)
 heard_fis own state sound (view.DmaActivate f) = heard_activate own state
 heard_fis own state sound (view.DmaSetup f) =
-    heard_setup own state (tag_of f) (field table.Setup table.Offset f) (field table.Setup table.Count f) (field table.Setup table.D f == 1)
+    heard_setup own state (tag_of f) (field table.Setup table.Offset f) (field table.Setup table.Count f)
+    (field table.Setup table.D f == 1)
 heard_fis own state sound (view.PioSetup f) =
-    heard_pio own state (field table.Pio table.Status f) (field table.Pio table.Error f) (field table.Pio table.Transfer f)
+    heard_pio own state (field table.Pio table.Status f) (field table.Pio table.Error f)
+    (field table.Pio table.Transfer f)
     (field table.Pio table.D f == 1) (block_of f)
 heard_fis own state sound (view.Payload f) = heard_data own state sound (length f - 4)
 heard_fis own state sound (view.Unknown f) = quietly state happening.Nothing

@@ -1,5 +1,6 @@
 -- The commands that a write of PxCI issues: AHCI 1.3.1, sections 3.3.14 and 4.2.2.
-use Rattle.std.specs.Prelude.{ℕ, ◌==◌, ◌&&◌, Bool, not, if◌then◌else◌, List, length, map, Option, Some, None, is_some, is_none, slice_index_or, slice_set}
+use Rattle.std.specs.Prelude.{ℕ, ◌==◌, ◌&&◌, Bool, not, if◌then◌else◌, List, length, map, Option, Some, None}
+use Rattle.std.specs.Prelude.{is_some, is_none, slice_index_or, slice_set}
 use Rattle.std.specs.List.{range_with_len}
 use Rattle.std.specs.Option.{option_or}
 use Rattle.host_memory.specs.Memory.{Memory}
@@ -29,7 +30,8 @@ is_bad r memory slot = is_none (command_at memory r.clb slot (has_bit r.armed sl
 
 -- the command to be issued in a slot: what stands there, where the slot's bit is set
 abbrev pub asked : Registers → Memory → ℕ → ℕ → Option Command
-asked r memory value slot = if has_bit value slot then command_at memory r.clb slot (has_bit r.armed slot) else None
+asked r memory value slot =
+    if has_bit value slot then command_at memory r.clb slot (has_bit r.armed slot) else None
 
 -- what is issued in a slot once this command is, if there is one
 abbrev pub issue_with : ℕ → Option Command → Option Issue → Option Issue
@@ -48,14 +50,16 @@ with_command slot (Some command) commands = slice_set commands slot (Some comman
 
 -- the issues of a device with these commands, each in its slot, and its slots with them
 unfoldable pub issues_with : ℕ → (ℕ → Option Command) → List (Option Issue) → List (Option Issue)
-issues_with dev commands issues = map (λ slot. issue_with dev (commands slot) (slice_index_or issues slot None)) (range_with_len 0 (length issues))
+issues_with dev commands issues = map (λ slot. issue_with dev (commands slot)
+    (slice_index_or issues slot None)) (range_with_len 0 (length issues))
 
 abbrev pub issued_slots : ℕ → (ℕ → Option Command) → DeviceSlots → DeviceSlots
 issued_slots dev commands own = record own { issues = issues_with dev commands own.issues }
 
 -- the last commands of the slots with these
 unfoldable pub commands_with : (ℕ → Option Command) → List (Option Command) → List (Option Command)
-commands_with commands old = map (λ slot. option_or (commands slot) (last_command old slot)) (range_with_len 0 (length old))
+commands_with commands old =
+    map (λ slot. option_or (commands slot) (last_command old slot)) (range_with_len 0 (length old))
 
 -- ---- what a write of PxCI issues, for the device that PxFBS.DEV names
 

@@ -1,6 +1,7 @@
--- Posting (AHCI 1.3.1, 4.2.1, Received FIS Structure) and what a FIS that is posted sets in the port's registers (3.3.5 PxIS,
--- 3.3.9 PxSIG, 3.3.12 PxSERR, 3.3.15 PxSNTF).
-use Rattle.std.specs.Prelude.{ℕ, ◌≡◌, ◌+◌, ◌*◌, ◌%◌, ◌^◌, ◌==◌, ◌&&◌, Bool, true, false, if◌then◌else◌, bit_or, List, take, drop, Result, Ok}
+-- Posting (AHCI 1.3.1, 4.2.1, Received FIS Structure) and what a FIS that is posted sets in the port's
+-- registers (3.3.5 PxIS, 3.3.9 PxSIG, 3.3.12 PxSERR, 3.3.15 PxSNTF).
+use Rattle.std.specs.Prelude.{ℕ, ◌≡◌, ◌+◌, ◌*◌, ◌%◌, ◌^◌, ◌==◌, ◌&&◌, Bool, true, false, if◌then◌else◌}
+use Rattle.std.specs.Prelude.{bit_or, List, take, drop, Result, Ok}
 use Rattle.fis_view.specs.Table as table
 use Rattle.fis_view.specs.Table.{field}
 use Rattle.fis_view.specs.declared.view.Fis.{Fis}
@@ -17,7 +18,8 @@ use Rattle.hba_fbs.specs.Status.{is_quiet}
 abbrev pub area_at : List ℕ → ℕ → List ℕ
 area_at structure fb = take 4096 (drop fb structure)
 
--- a FIS of a device is posted to the received area: in its own row to its place alone, and no other byte changes
+-- a FIS of a device is posted to the received area: in its own row to its place alone, and no other byte
+-- changes
 pub record Posts (fb dev : ℕ) (fis : Fis) (old new : List ℕ) : Type 0 where
   pub area : area_at new fb ≡ rx.after_post (area_at old fb) dev fis
   pub own : rx.row_of (area_at new fb) dev ≡ rx.row_after (rx.row_of (area_at old fb) dev) fis
@@ -34,7 +36,8 @@ signature_of f = field table.D2h table.Lba f % 2 ^ 24 * 256 + field table.D2h ta
 -- Error 01h; BSY, DRQ and ERR 0; Count 7:0 and LBA 7:0 01h
 abbrev pub is_signature : List ℕ → Bool
 is_signature f =
-    (field table.D2h table.Error f == 1) && is_quiet (field table.D2h table.Status f) && (field table.D2h table.Count f % 256 == 1)
+    (field table.D2h table.Error f == 1) && is_quiet (field table.D2h table.Status f)
+    && (field table.D2h table.Count f % 256 == 1)
     && (field table.D2h table.Lba f % 256 == 1)
 
 -- the FIS is a Register Device to Host FIS with a signature
@@ -57,8 +60,8 @@ dss = 2
 abbrev pub sdbs : ℕ
 sdbs = 3
 
--- what a FIS sets as it is posted: I its bit of PxIS; a signature that ends a software reset PxSIG; N the device's bit of
--- PxSNTF; an unknown type bit F of PxSERR
+-- what a FIS sets as it is posted: I its bit of PxIS; a signature that ends a software reset PxSIG; N the
+-- device's bit of PxSNTF; an unknown type bit F of PxSERR
 unfoldable pub posted : Registers → ℕ → (resetting : Bool) → Fis → Registers
 posted r dev resetting (view.RegD2H f) = record r {
   interrupts = bit_or r.interrupts (bit dhrs (field table.D2h table.I f == 1));
@@ -68,6 +71,7 @@ posted r dev resetting (view.SetBits f) = record r {
   interrupts = bit_or r.interrupts (bit sdbs (field table.Bits table.I f == 1));
   notified = bit_or r.notified (bit dev (field table.Bits table.N f == 1));
 }
-posted r dev resetting (view.DmaSetup f) = record r { interrupts = bit_or r.interrupts (bit dss (field table.Setup table.I f == 1)) }
+posted r dev resetting (view.DmaSetup f) =
+    record r { interrupts = bit_or r.interrupts (bit dss (field table.Setup table.I f == 1)) }
 posted r dev resetting (view.Unknown f) = record r { unknown = true }
 posted r dev resetting fis = r

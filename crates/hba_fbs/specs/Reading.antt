@@ -6,7 +6,8 @@ use Rattle.port_errors.specs.Errors.{shown}
 use Rattle.port_errors.specs.declared.errors.FbsBits.{FbsBits}
 use Rattle.hba_fbs.specs.declared.error.NoRegister.{NoRegister}
 use Rattle.hba_fbs.specs.declared.register.Register.{Register}
-use Rattle.hba_fbs.specs.declared.register.Register.TheVariants.{Clb, Clbu, Fb, Fbu, Is, Ie, Cmd, Tfd, Sig, Serr, Sact, Ci, Sntf, Fbs}
+use Rattle.hba_fbs.specs.declared.register.Register.TheVariants.{Clb, Clbu, Fb, Fbu, Is, Ie, Cmd, Tfd, Sig}
+use Rattle.hba_fbs.specs.declared.register.Register.TheVariants.{Serr, Sact, Ci, Sntf, Fbs}
 use Rattle.hba_fbs.specs.Bits.{bit, sde, dwe_unit, ufs, unknown_fis}
 use Rattle.hba_fbs.specs.Offsets.{register_at}
 use Rattle.hba_fbs.specs.Registers.{cmd_of, fbs_of}
@@ -16,8 +17,9 @@ use Rattle.hba_fbs.specs.Views.{Port, state_at, task_file}
 abbrev pub fbs_errors : FbsBits → ℕ
 fbs_errors bits = bit sde bits.sde + dwe_unit * bits.dwe
 
--- the value of a register: PxIS shows in UFS what PxSERR has in F; PxTFD is that of the device that PxFBS.DEV names; PxSACT
--- shows the slots that are armed and the queued ones that are issued; PxCI those that are issued and not answered
+-- the value of a register: PxIS shows in UFS what PxSERR has in F; PxTFD is that of the device that PxFBS.DEV
+-- names; PxSACT shows the slots that are armed and the queued ones that are issued; PxCI those that are
+-- issued and not answered
 unfoldable pub value_of : Register → Port → ℕ
 value_of Clb port = port.registers.clb
 value_of Clbu port = port.registers.clbu
@@ -39,4 +41,5 @@ no_register = record {}
 
 -- and at an offset, if a register stands there
 abbrev pub read_at : Port → ℕ → Result ℕ NoRegister
-read_at port offset = match_some (register_at offset) (Err no_register) (λ register. Ok (value_of register port))
+read_at port offset =
+    match_some (register_at offset) (Err no_register) (λ register. Ok (value_of register port))

@@ -1,14 +1,17 @@
--- The port's own registers: AHCI 1.3.1, section 3.3, Port Registers. When a write is refused that looks at them alone,
--- and what an accepted one leaves of them.
-use Rattle.std.specs.Prelude.{ℕ, ◌≡◌, ◌+◌, ◌*◌, ◌-◌, ◌^◌, ◌/◌, ◌%◌, ◌<◌, ◌≤◌, ◌==◌, ◌&&◌, ◌||◌, Bool, true, false, not, nat_lt, if◌then◌else◌, bit_or, bit_and, Option, Some, None}
+-- The port's own registers: AHCI 1.3.1, section 3.3, Port Registers. When a write is refused that looks at
+-- them alone, and what an accepted one leaves of them.
+use Rattle.std.specs.Prelude.{ℕ, ◌≡◌, ◌+◌, ◌*◌, ◌-◌, ◌^◌, ◌/◌, ◌%◌, ◌<◌, ◌≤◌, ◌==◌, ◌&&◌, ◌||◌, Bool, true}
+use Rattle.std.specs.Prelude.{false, not, nat_lt, if◌then◌else◌, bit_or, bit_and, Option, Some, None}
 use Rattle.std.specs.Bool.{beq}
 use Rattle.slots.specs.Slots.{has_bit}
 use Rattle.hba_fbs.specs.declared.error.WriteError.{WriteError}
 use Rattle.hba_fbs.specs.declared.error.WriteError.TheVariants as refusal
 use Rattle.hba_fbs.specs.declared.register.Register.{Register}
-use Rattle.hba_fbs.specs.declared.register.Register.TheVariants.{Clb, Clbu, Fb, Fbu, Is, Ie, Cmd, Tfd, Sig, Serr, Sact, Ci, Sntf, Fbs}
+use Rattle.hba_fbs.specs.declared.register.Register.TheVariants.{Clb, Clbu, Fb, Fbu, Is, Ie, Cmd, Tfd, Sig}
+use Rattle.hba_fbs.specs.declared.register.Register.TheVariants.{Serr, Sact, Ci, Sntf, Fbs}
 use Rattle.hba_fbs.specs.declared.registers.Registers.{Registers}
-use Rattle.hba_fbs.specs.Bits.{bit, without, st, fre, fr, cr, pma, fbscp, interrupts, unknown_fis, en, ado, dev_unit}
+use Rattle.hba_fbs.specs.Bits.{bit, without, st, fre, fr, cr, pma, fbscp, interrupts, unknown_fis, en, ado}
+use Rattle.hba_fbs.specs.Bits.{dev_unit}
 
 -- as they open: no signature has come, and all else is 0
 abbrev pub opening_registers : Registers
@@ -30,20 +33,21 @@ opening_registers = record {
   chosen = 0;
 }
 
--- What is true of the registers of every port: PxFBS.DEV has four bits, and an area that is in use lies in the structure
--- area, which ends at 100000h.
+-- What is true of the registers of every port: PxFBS.DEV has four bits, and an area that is in use lies in
+-- the structure area, which ends at 100000h.
 pub record AreRegisters (r : Registers) : Type 0 where
   pub chosen : r.chosen < 16
   -- the command list, while ST is 1, and FRE is 1 then
-  pub started : r.started ≡ true → (r.receives ≡ true) × (r.clb + 1024 ≤ 1048576)
+  pub started : r.started ≡ true → (r.receives ≡ true) × (r.clb + 1024 ≤ 0x100000)
   -- the received area, while FRE is 1
-  pub receives : r.receives ≡ true → r.fb + 4096 ≤ 1048576
+  pub receives : r.receives ≡ true → r.fb + 4096 ≤ 0x100000
 
 -- ---- what they show
 
 -- PxCMD: FR shows FRE, and CR shows ST
 abbrev pub cmd_of : Registers → ℕ
-cmd_of r = bit st r.started + bit fre r.receives + bit fr r.receives + bit cr r.started + bit pma r.multiplied + 2 ^ fbscp
+cmd_of r = bit st r.started + bit fre r.receives + bit fr r.receives + bit cr r.started + bit pma r.multiplied
+    + 2 ^ fbscp
 
 -- PxFBS but for the bits of errors; DEC reads 0
 abbrev pub fbs_of : Registers → ℕ
@@ -53,11 +57,11 @@ fbs_of r = bit en r.switching + dev_unit * r.chosen + ado
 
 -- the received area does not lie in the structure area
 abbrev pub is_area_outside : Registers → Bool
-is_area_outside r = not (r.fbu == 0) || nat_lt 1048576 (r.fb + 4096)
+is_area_outside r = not (r.fbu == 0) || nat_lt 0x100000 (r.fb + 4096)
 
 -- nor does the command list
 abbrev pub is_list_outside : Registers → Bool
-is_list_outside r = not (r.clbu == 0) || nat_lt 1048576 (r.clb + 1024)
+is_list_outside r = not (r.clbu == 0) || nat_lt 0x100000 (r.clb + 1024)
 
 -- a write of PxCMD with these bits ST and FRE
 unfoldable pub cmd_refusal : Registers → (starts receives : Bool) → Option WriteError
@@ -98,7 +102,8 @@ own_refusal Fbs r value = running_if (r.started && not (beq (has_bit value en) r
 abbrev pub falls : Registers → ℕ → Bool
 falls r value = r.started && not (has_bit value st)
 
--- A write of PxCI takes the bits in PxSACT over to the slots that it issues. DEC is no bit of PxFBS that is kept.
+-- A write of PxCI takes the bits in PxSACT over to the slots that it issues. DEC is no bit of PxFBS that is
+-- kept.
 unfoldable pub written : Register → Registers → ℕ → Registers
 written Clb r value = record r { clb = value / 1024 * 1024 }
 written Clbu r value = record r { clbu = value }

@@ -1,6 +1,9 @@
--- What goes out of a host port next: AHCI 1.3.1, 5.3 (the port's states, from sending a command to sending its data) and
--- chapter 9 (FIS-based Switching); Serial ATA 3.x, 10.5 (Register Host to Device and Data FISes).
-use Rattle.std.specs.Prelude.{ℕ, ◌≡◌, ◌+◌, ◌-◌, min, ◌&&◌, ◌||◌, Bool, true, false, not, is_none, is_some, if◌then◌else◌, bit_or, List, ◌∷◌, map, replicate, slice_index, Option, Some, None, MatchOption}
+-- What goes out of a host port next: AHCI 1.3.1, 5.3 (the port's states, from sending a command to sending
+-- its data) and chapter 9 (FIS-based Switching); Serial ATA 3.x, 10.5 (Register Host to Device and Data
+-- FISes).
+use Rattle.std.specs.Prelude.{ℕ, ◌≡◌, ◌+◌, ◌-◌, min, ◌&&◌, ◌||◌, Bool, true, false, not, is_none, is_some}
+use Rattle.std.specs.Prelude.{if◌then◌else◌, bit_or, List, ◌∷◌, map, replicate, slice_index, Option, Some}
+use Rattle.std.specs.Prelude.{None, MatchOption}
 use Rattle.std.specs.List.{range_with_len}
 use Rattle.fis_view.specs.declared.frame.Stamp.{Stamp}
 use Rattle.fis_view.specs.Frames.{Stamped}
@@ -13,7 +16,8 @@ use Rattle.port_errors.specs.declared.cause.PortCause.TheVariants.{Bus}
 use Rattle.hba_commands.specs.declared.command.Command.{Command}
 use Rattle.slots.specs.Commands.{after_sent, next_slot}
 use Rattle.slots.specs.Data.{after_payload, payload}
-use Rattle.slots.specs.Slots.{Slots, context_of, has_bit, is_control, issue_at, lowest_below, mask_below, match_some}
+use Rattle.slots.specs.Slots.{Slots, context_of, has_bit, is_control, issue_at, lowest_below, mask_below}
+use Rattle.slots.specs.Slots.{match_some}
 use Rattle.hba_fbs.specs.declared.state.DeviceState.{DeviceState}
 use Rattle.hba_fbs.specs.Status.{is_busy, wants_data}
 use Rattle.hba_fbs.specs.Tables.{prds_of, sound_command}
@@ -32,7 +36,8 @@ next_receiver port = lowest_below (is_due port.slots port.errors) 16
 
 -- the bytes of a transfer from one on, each as it stands at its place
 abbrev pub gathered : List Prd → ℕ → ℕ → List ℕ → List ℕ
-gathered prds offset len client = map (λ k. slice_index client (place prds (offset + k) - client_start)) (range_with_len 0 len)
+gathered prds offset len client =
+    map (λ k. slice_index client (place prds (offset + k) - client_start)) (range_with_len 0 len)
 
 -- a Data FIS to a device
 abbrev pub data_fis : ℕ → List ℕ → List ℕ
@@ -70,7 +75,8 @@ state_sent state command =
 
 -- the view of the device to which the command of its slot went
 abbrev pub view_sent : DeviceView → ℕ → Command → DeviceView
-view_sent view slot command = record view { slots = after_sent view.slots slot; state = state_sent view.state command }
+view_sent view slot command =
+    record view { slots = after_sent view.slots slot; state = state_sent view.state command }
 
 -- ---- what goes out next
 
@@ -102,7 +108,8 @@ order_due port slot = match_some (issue_at port.slots slot) Nothing (λ issue.
 abbrev pub outgoing : Port → Memory → Outgoing
 outgoing port memory =
     if not (is_running port) then Nothing
-    else match_some (next_receiver port) (match_some (next_to_send port) Nothing (order_due port)) (data_due port memory)
+    else match_some (next_receiver port) (match_some (next_to_send port) Nothing (order_due port))
+    (data_due port memory)
 
 -- a frame goes out
 abbrev pub is_sent : Outgoing → Bool
@@ -128,8 +135,10 @@ counted n = min (n + 1) largest
 abbrev pub host_stamp : ℕ → ℕ → Stamp
 host_stamp dev number = record { port = dev; conn = 0; number = number; shown = replicate 15 0 }
 
--- These bytes go out to a device, of which this is the view afterwards. Of all the rest the running number alone changes.
-pub record Sends (old : Port) (dev : ℕ) (bytes : List ℕ) (view : DeviceView) (frame : Stamped) (new : Port) : Type 0 where
+-- These bytes go out to a device, of which this is the view afterwards. Of all the rest the running number
+-- alone changes.
+pub record Sends (old : Port) (dev : ℕ) (bytes : List ℕ) (view : DeviceView) (frame : Stamped)
+    (new : Port) : Type 0 where
   pub frame_is : frame ≡ record { bytes = bytes; stamp = host_stamp dev old.number }
   pub own : view_of dev new ≡ view
   pub others : LeavesOtherViews dev old new
@@ -150,6 +159,7 @@ abbrev pub Gives : Outgoing → Port → Memory → Option Stamped → Port → 
 Gives Nothing old memory frame new = (frame ≡ None) × (new ≡ old)
 Gives (Unreadable dev) old memory frame new = (frame ≡ None) × (new ≡ stopped_by_bus old)
 Gives (Data dev offset len command) old memory frame new = MatchOption frame ⊥ (λ f.
-    Sends old dev (data_fis dev (gathered (prds_of memory command) offset len memory.client)) (view_fed (view_of dev old)) f new)
+    Sends old dev (data_fis dev (gathered (prds_of memory command) offset len memory.client))
+    (view_fed (view_of dev old)) f new)
 Gives (Order dev slot command) old memory frame new = MatchOption frame ⊥ (λ f.
     Sends old dev command.cfis (view_sent (view_of dev old) slot command) f new)

@@ -1,4 +1,5 @@
--- The Status of a device (ACS-3, 6.2, Status field), and what FISes tell of its task file (Serial ATA 3.x, 10.5).
+-- The Status of a device (ACS-3, 6.2, Status field), and what FISes tell of its task file (Serial ATA 3.x,
+-- 10.5).
 use Rattle.std.specs.Prelude.{ℕ, ◌&&◌, Bool, false, not, bit_and, bit_or, Option}
 use Rattle.slots.specs.Slots.{has_bit}
 use Rattle.hba_fbs.specs.declared.state.DeviceState.{DeviceState}
@@ -24,9 +25,10 @@ is_quiet status = not (is_busy status) && not (wants_data status) && not (is_err
 abbrev pub with_file : DeviceState → ℕ → ℕ → DeviceState
 with_file state status error = record state { status = status; error = error }
 
--- a Set Device Bits FIS tells Error and of Status bits 6:4 and 2:0; BSY and DRQ, which are 136 together, stay
+-- a Set Device Bits FIS tells Error and of Status bits 6:4 and 2:0; BSY and DRQ, which are 88h together, stay
 abbrev pub with_bits : DeviceState → ℕ → ℕ → DeviceState
-with_bits state status error = record state { status = bit_or (bit_and state.status 136) status; error = error }
+with_bits state status error =
+    record state { status = bit_or (bit_and state.status 0x88) status; error = error }
 
 -- a signature tells Status and Error, and ends the software reset
 abbrev pub after_reset : DeviceState → ℕ → ℕ → DeviceState

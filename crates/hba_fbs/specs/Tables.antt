@@ -1,5 +1,7 @@
--- The PRD tables of issued commands (AHCI 1.3.1, 4.2.3.3), read anew for each Data FIS, and what Data writes by them.
-use Rattle.std.specs.Prelude.{ℕ, ◌≡◌, ◌+◌, ◌==◌, ◌&&◌, Bool, false, List, length, Option, Some, None, is_none, is_some, if◌then◌else◌, MatchOption}
+-- The PRD tables of issued commands (AHCI 1.3.1, 4.2.3.3), read anew for each Data FIS, and what Data writes
+-- by them.
+use Rattle.std.specs.Prelude.{ℕ, ◌≡◌, ◌+◌, ◌==◌, ◌&&◌, Bool, false, List, length, Option, Some, None, is_none}
+use Rattle.std.specs.Prelude.{is_some, if◌then◌else◌, MatchOption}
 use Rattle.host_memory.specs.Memory.{Memory}
 use Rattle.host_memory.specs.Place.{Scatters, Table, total_of}
 use Rattle.host_memory.specs.Reading.{prds_at, read_fault}
@@ -30,23 +32,27 @@ IsTableOf memory command table = MatchOption command ⊥ (λ c. table ≡ table_
 -- they can be read, and have so many bytes
 abbrev pub is_readable : Memory → ℕ → Command → Bool
 is_readable memory len command =
-    is_none (read_fault memory.structure (length memory.client) (command.table + 128) command.count) && (total_of (prds_of memory command) == len)
+    is_none (read_fault memory.structure (length memory.client) (command.table + 128) command.count)
+    && (total_of (prds_of memory command) == len)
 
 -- the command of a device's slot, where its PRDs can be read and have the slot's bytes
 abbrev pub sound_command : Memory → List (Option Command) → DeviceSlots → ℕ → Option Command
 sound_command memory commands own slot =
     match_some (own_issue own slot) None (λ issue.
-    match_some (last_command commands slot) None (λ command. if is_readable memory issue.work.len command then Some command else None))
+    match_some (last_command commands slot) None (λ command. if is_readable memory issue.work.len command
+    then Some command else None))
 
 -- so it is with the slot for which the device sends Data
 abbrev pub is_sound : Memory → List (Option Command) → DeviceSlots → Bool
-is_sound memory commands own = is_some (match_some (receiving_slot own.context) None (sound_command memory commands own))
+is_sound memory commands own =
+    is_some (match_some (receiving_slot own.context) None (sound_command memory commands own))
 
 -- a payload is written to the places of its slot's bytes, or nothing is
 abbrev pub Delivers : Memory → List (Option Command) → List ℕ → Option Wrote → List ℕ → Type 0
 Delivers memory commands payload None new = new ≡ memory.client
 Delivers memory commands payload (Some wrote) new =
-    MatchOption (last_command commands wrote.slot) ⊥ (λ command. Scatters (prds_of memory command) wrote.offset payload memory.client new)
+    MatchOption (last_command commands wrote.slot) ⊥ (λ command.
+    Scatters (prds_of memory command) wrote.offset payload memory.client new)
 
 -- so many bytes are all that is left of the setup
 abbrev pub are_last : Option Context → ℕ → Bool

@@ -1,5 +1,6 @@
 -- A FIS is taken: AHCI 1.3.1, 5.3.13 and 9.3 (FIS-based Switching: errors of one device and of the port).
-use Rattle.std.specs.Prelude.{ℕ, ◌≡◌, ◌%◌, ◌&&◌, ◌||◌, Bool, true, false, not, if◌then◌else◌, bit_or, List, drop, slice_index, Option, Some, None, is_none, is_some, Result, Ok, Err}
+use Rattle.std.specs.Prelude.{ℕ, ◌≡◌, ◌%◌, ◌&&◌, ◌||◌, Bool, true, false, not, if◌then◌else◌, bit_or, List}
+use Rattle.std.specs.Prelude.{drop, slice_index, Option, Some, None, is_none, is_some, Result, Ok, Err}
 use Rattle.fis_view.specs.Seen.{seen}
 use Rattle.fis_view.specs.declared.view.Fis.{Fis}
 use Rattle.fis_view.specs.declared.view.FisFault.{FisFault}
@@ -36,8 +37,8 @@ port_of frame = slice_index frame 1 % 16
 abbrev pub is_running : Port → Bool
 is_running port = port.registers.started && is_none port.errors.port
 
--- A FIS is ignored while the port does not run, while its device is faulty, and while its device is in software reset but
--- for a signature.
+-- A FIS is ignored while the port does not run, while its device is faulty, and while its device is in
+-- software reset but for a signature.
 abbrev pub is_ignored : (running : Bool) → DeviceView → Result Fis FisFault → Bool
 is_ignored running view fis = not running || is_some view.fault || (view.state.resetting && not (signs fis))
 
@@ -68,7 +69,8 @@ port_cause (Some (fault.Port c)) = Some c
 
 -- the device's view after it: the slots move by the happening
 abbrev pub view_after_hearing : DeviceView → Heard → DeviceView
-view_after_hearing view h = record { slots = moved h.happening view.slots; state = h.state; fault = device_cause h.fault }
+view_after_hearing view h =
+    record { slots = moved h.happening view.slots; state = h.state; fault = device_cause h.fault }
 
 abbrev pub heard_view : ℕ → DeviceView → (sound : Bool) → Option Fis → DeviceView
 heard_view dev view sound fis = view_after_hearing view (heard dev view sound fis)
@@ -88,7 +90,8 @@ fault_interrupts (Some (fault.Port c)) = port_interrupts c
 
 -- PSS, and the bits of a fault
 unfoldable pub settled : Registers → Heard → Registers
-settled r h = record r { interrupts = bit_or (bit_or r.interrupts (bit pss h.pss)) (fault_interrupts h.fault) }
+settled r h =
+    record r { interrupts = bit_or (bit_or r.interrupts (bit pss h.pss)) (fault_interrupts h.fault) }
 
 abbrev pub posted_of : Registers → ℕ → (resetting : Bool) → Option Fis → Registers
 posted_of r dev resetting None = r
@@ -126,21 +129,33 @@ heard_report dev at h = record {
 }
 
 abbrev pub ignored_report : ℕ → TakeReport
-ignored_report dev = record { dev = dev; ignored = true; posted = place.Nothing; fault = None; stopped = None; wrote = None; done = 0 }
+ignored_report dev = record {
+  dev = dev;
+  ignored = true;
+  posted = place.Nothing;
+  fault = None;
+  stopped = None;
+  wrote = None;
+  done = 0;
+}
 
 -- ---- the call
 
 -- what a FIS is, as port and memory stand
 abbrev pub heard_now : Port → Memory → ℕ → Option Fis → Heard
-heard_now port memory dev fis = heard dev (view_of dev port) (is_sound memory port.commands (view_of dev port).slots) fis
+heard_now port memory dev fis =
+    heard dev (view_of dev port) (is_sound memory port.commands (view_of dev port).slots) fis
 
--- A FIS that is not ignored, or a frame that is none: its device's view is a function of that view and of the FIS, and
--- each other view stays. So it is with all the rest of port and memory.
-pub record Takes (old : Port) (before : Memory) (dev : ℕ) (fis : Option Fis) (payload : List ℕ) (report : TakeReport) (new : Port) (after : Memory) : Type 0 where
-  pub own : view_of dev new ≡ heard_view dev (view_of dev old) (is_sound before old.commands (view_of dev old).slots) fis
+-- A FIS that is not ignored, or a frame that is none: its device's view is a function of that view and of the
+-- FIS, and each other view stays. So it is with all the rest of port and memory.
+pub record Takes (old : Port) (before : Memory) (dev : ℕ) (fis : Option Fis) (payload : List ℕ)
+    (report : TakeReport) (new : Port) (after : Memory) : Type 0 where
+  pub own : view_of dev new ≡ heard_view dev (view_of dev old)
+      (is_sound before old.commands (view_of dev old).slots) fis
   pub others : LeavesOtherViews dev old new
   pub reports : report ≡ heard_report dev (place_of fis) (heard_now old before dev fis)
-  pub registers : new.registers ≡ settled (posted_of old.registers dev (view_of dev old).state.resetting fis) (heard_now old before dev fis)
+  pub registers : new.registers ≡ settled (posted_of old.registers dev (view_of dev old).state.resetting fis)
+      (heard_now old before dev fis)
   pub errors : new.errors ≡ errors_with old.errors dev (heard_now old before dev fis).fault
   pub commands : new.commands ≡ old.commands
   pub number : new.number ≡ old.number
@@ -148,14 +163,17 @@ pub record Takes (old : Port) (before : Memory) (dev : ℕ) (fis : Option Fis) (
   pub frees : KeepsFree old.slots new.slots
   -- it is posted, and Data is written to the places of its slot's bytes
   pub structure : PostsOf old.registers.fb dev fis before.structure after.structure
-  pub client : Delivers before old.commands payload (wrote_by (heard_now old before dev fis).happening) after.client
+  pub client : Delivers before old.commands payload (wrote_by (heard_now old before dev fis).happening)
+      after.client
 
 -- and of a frame: the payload of Data stands from its byte 4 on
 abbrev pub Hears : ℕ → Port → Memory → List ℕ → TakeReport → Port → Memory → Type 0
-Hears dev old before frame report new after = Takes old before dev (admitted dev (seen frame)) (drop 4 frame) report new after
+Hears dev old before frame report new after =
+    Takes old before dev (admitted dev (seen frame)) (drop 4 frame) report new after
 
 -- an ignored frame leaves port and memory whole
-pub record Ignores (dev : ℕ) (old : Port) (before : Memory) (report : TakeReport) (new : Port) (after : Memory) : Type 0 where
+pub record Ignores (dev : ℕ) (old : Port) (before : Memory) (report : TakeReport) (new : Port)
+    (after : Memory) : Type 0 where
   pub reports : report ≡ ignored_report dev
   pub port : new ≡ old
   pub memory : after ≡ before

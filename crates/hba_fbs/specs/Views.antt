@@ -1,5 +1,7 @@
--- A host port as its callers see it, and of it what belongs to one device: AHCI 1.3.1, chapter 9, FIS-based Switching.
-use Rattle.std.specs.Prelude.{ℕ, ◌≡◌, ◌≢◌, ◌+◌, ◌*◌, ◌<◌, false, bit_and, List, replicate, slice_index_or, Option, None}
+-- A host port as its callers see it, and of it what belongs to one device: AHCI 1.3.1, chapter 9, FIS-based
+-- Switching.
+use Rattle.std.specs.Prelude.{ℕ, ◌≡◌, ◌≢◌, ◌+◌, ◌*◌, ◌<◌, false, bit_and, List, replicate, slice_index_or}
+use Rattle.std.specs.Prelude.{Option, None}
 use Rattle.slots.specs.Slots.{Slots, DeviceSlots, issue_at, no_slots, no_own_slots, slots_of}
 use Rattle.port_errors.specs.Errors.{Errors, cause_of, no_errors, without}
 use Rattle.port_errors.specs.declared.cause.DeviceCause.{DeviceCause}
@@ -22,7 +24,7 @@ pub record Port : Type 0 where
 
 -- the state of a device of which nothing was heard: Status 50h, Error 0
 abbrev pub opening_state : DeviceState
-opening_state = record { status = 80; error = 0; resetting = false; block = None }
+opening_state = record { status = 0x50; error = 0; resetting = false; block = None }
 
 -- a port as it opens
 abbrev pub opening_port : Port
@@ -57,15 +59,16 @@ pub record IsPort (port : Port) : Type 0 where
 
 -- ---- the view of one device
 
--- what belongs to a device: its issues, with the bytes that went over, and its last setup; its task file and whether it is
--- in software reset, with the block of a PIO Setup; and its first fault
+-- what belongs to a device: its issues, with the bytes that went over, and its last setup; its task file and
+-- whether it is in software reset, with the block of a PIO Setup; and its first fault
 pub record DeviceView : Type 0 where
   pub slots : DeviceSlots
   pub state : DeviceState
   pub fault : Option DeviceCause
 
 abbrev pub view_of : ℕ → Port → DeviceView
-view_of n port = record { slots = slots_of n port.slots; state = state_at port.states n; fault = cause_of port.errors n }
+view_of n port =
+    record { slots = slots_of n port.slots; state = state_at port.states n; fault = cause_of port.errors n }
 
 -- the view of every other device stays
 abbrev pub LeavesOtherViews : ℕ → Port → Port → Type 0
@@ -85,10 +88,11 @@ pub record Flushes (old : Port) (dev : ℕ) (new : Port) : Type 0 where
   pub commands : new.commands ≡ old.commands
   pub number : new.number ≡ old.number
 
--- after ST fell, or the device's error was cleared, BSY and DRQ, bits 7 and 3 of Status, are 0, and no reset goes on and no
--- block
+-- after ST fell, or the device's error was cleared, BSY and DRQ, bits 7 and 3 of Status, are 0, and no reset
+-- goes on and no block
 abbrev pub stopped_state : DeviceState → DeviceState
-stopped_state state = record { status = bit_and state.status 119; error = state.error; resetting = false; block = None }
+stopped_state state =
+    record { status = bit_and state.status 0x77; error = state.error; resetting = false; block = None }
 
 -- nor is there a slot, a setup or a fault
 abbrev pub stopped_view : DeviceView → DeviceView

@@ -1,6 +1,7 @@
--- A write of a register: when it is refused, and what an accepted one leaves (AHCI 1.3.1, section 3.3 and chapter 9; of
--- PxFBS.DEC section 9.3, the handling of errors).
-use Rattle.std.specs.Prelude.{ℕ, ◌≡◌, ◌<◌, ◌==◌, Bool, false, if◌then◌else◌, List, Option, Some, None, MatchOption}
+-- A write of a register: when it is refused, and what an accepted one leaves (AHCI 1.3.1, section 3.3 and
+-- chapter 9; of PxFBS.DEC section 9.3, the handling of errors).
+use Rattle.std.specs.Prelude.{ℕ, ◌≡◌, ◌<◌, ◌==◌, Bool, false, if◌then◌else◌, List, Option, Some, None}
+use Rattle.std.specs.Prelude.{MatchOption}
 use Rattle.std.specs.Option.{option_map_or, option_or}
 use Rattle.host_memory.specs.Memory.{Memory}
 use Rattle.slots.specs.Slots.{has_bit, match_some}
@@ -37,10 +38,12 @@ slots_refusal register port memory value = None
 
 -- why a write is refused: the first of these that applies
 abbrev pub refusal_of : Register → Port → Memory → ℕ → Option WriteError
-refusal_of register port memory value = option_or (own_refusal register port.registers value) (slots_refusal register port memory value)
+refusal_of register port memory value =
+    option_or (own_refusal register port.registers value) (slots_refusal register port memory value)
 
 abbrev pub write_refusal : Port → Memory → ℕ → ℕ → Option WriteError
-write_refusal port memory offset value = match_some (register_at offset) (Some refusal.NoRegister) (λ register. refusal_of register port memory value)
+write_refusal port memory offset value = match_some (register_at offset) (Some refusal.NoRegister)
+    (λ register. refusal_of register port memory value)
 
 -- ---- what an accepted write leaves
 
@@ -52,15 +55,18 @@ cleared_by errors value = if has_bit value dec then cleared_device errors else N
 abbrev pub is_device : ℕ → Option ℕ → Bool
 is_device n cleared = option_map_or (λ dev. dev == n) cleared false
 
--- the view of a device after that: the one that is cleared is left as by ST that falls, and no other one changes
+-- the view of a device after that: the one that is cleared is left as by ST that falls, and no other one
+-- changes
 abbrev pub view_cleared : ℕ → Option ℕ → DeviceView → DeviceView
 view_cleared n cleared view = if is_device n cleared then stopped_view view else view
 
--- the view of a device: ST that falls stops every device, a write of PxCI issues for the device that PxFBS.DEV names, and
--- PxFBS.DEC clears the device that DWE names
+-- the view of a device: ST that falls stops every device, a write of PxCI issues for the device that
+-- PxFBS.DEV names, and PxFBS.DEC clears the device that DWE names
 unfoldable pub view_after : Register → Port → Memory → ℕ → ℕ → DeviceView
-view_after Cmd old memory value n = if falls old.registers value then stopped_view (view_of n old) else view_of n old
-view_after Ci old memory value n = if n == old.registers.chosen then view_issued old.registers memory value (view_of n old) else view_of n old
+view_after Cmd old memory value n =
+    if falls old.registers value then stopped_view (view_of n old) else view_of n old
+view_after Ci old memory value n = if n == old.registers.chosen
+    then view_issued old.registers memory value (view_of n old) else view_of n old
 view_after Fbs old memory value n = view_cleared n (cleared_by old.errors value) (view_of n old)
 view_after register old memory value n = view_of n old
 
@@ -76,7 +82,8 @@ commands_after Ci old memory value = commands_issued old.registers memory value 
 commands_after register old memory value = old.commands
 
 -- An accepted write of a register. The slots, the task files and the resets are the views' parts.
-pub record Accepts (old : Port) (memory : Memory) (register : Register) (value : ℕ) (new : Port) : Type 0 where
+pub record Accepts (old : Port) (memory : Memory) (register : Register) (value : ℕ)
+    (new : Port) : Type 0 where
   pub registers : new.registers ≡ written register old.registers value
   pub views : (n : ℕ) → n < 16 → view_of n new ≡ view_after register old memory value n
   pub errors : new.errors ≡ errors_after register old value
@@ -85,4 +92,5 @@ pub record Accepts (old : Port) (memory : Memory) (register : Register) (value :
 
 -- and at an offset
 abbrev pub Writes : Port → Memory → ℕ → ℕ → Port → Type 0
-Writes old memory offset value new = MatchOption (register_at offset) ⊥ (λ register. Accepts old memory register value new)
+Writes old memory offset value new =
+    MatchOption (register_at offset) ⊥ (λ register. Accepts old memory register value new)

@@ -55,14 +55,16 @@ is_pio_issue issue = is_pio issue.work.kind
 
 -- a context is that of the last setup, for a slot in which something is issued: PIO data-in where
 -- there is a block
-pub record ContextAgrees (issues : ℕ → Option Issue) (c : Context) (ends : Option ℕ) (past : History) : Type 0 where
+pub record ContextAgrees (issues : ℕ → Option Issue) (c : Context) (ends : Option ℕ)
+    (past : History) : Type 0 where
   pub of_setup : MatchOption (last_setup past) ⊥ (SetupAgrees c ends past)
   pub of_issue : is_some (issues c.slot) ≡ true
   pub of_kind : holds is_pio_issue (issues c.slot) ≡ is_some ends
 
 -- issues by slot, a context and the Status at the end of its block, if it has one, are what a
 -- history says
-pub record Agrees (issues : ℕ → Option Issue) (context : Option Context) (ends : Option ℕ) (past : History) : Type 0 where
+pub record Agrees (issues : ℕ → Option Issue) (context : Option Context) (ends : Option ℕ)
+    (past : History) : Type 0 where
   pub issues_agree : (s : ℕ) (i : Issue) → issues s ≡ Some i → IssueAgrees s i context past
   pub context_agrees : (c : Context) → context ≡ Some c → ContextAgrees issues c ends past
 

@@ -1,5 +1,6 @@
--- Isolation of bytes (AHCI 1.3.1, chapter 9, FIS-based Switching): the history of a device, and so what each of its slots is
--- filled with, is told by what belongs to it, by its own events, and by what memory brings to these.
+-- Isolation of bytes (AHCI 1.3.1, chapter 9, FIS-based Switching): the history of a device, and so what each
+-- of its slots is filled with, is told by what belongs to it, by its own events, and by what memory brings to
+-- these.
 use Rattle.std.specs.Prelude.{ℕ, ◌≡◌, ◌<◌, if◌then◌else◌, zero, suc, true, List, [], ◌∷◌, ◌++◌, map, drop}
 use Rattle.std.specs.Prelude.{Option, Some, None, is_some}
 use Rattle.fis_view.specs.Seen.{seen}
@@ -69,7 +70,8 @@ told_issued commands tables (suc slot) =
 -- the command of a slot goes to the device
 abbrev pub told_order : DevicePart → ℕ → Event
 told_order part slot =
-    if holds is_control_issue (own_issue part.view.slots slot) then event.SentControl slot else event.Sent slot
+    if holds is_control_issue (own_issue part.view.slots slot) then event.SentControl slot
+    else event.Sent slot
 
 -- it is the payload of the data for which the device asked, and else the command of the slot that may go
 abbrev pub told_going : DevicePart → List ℕ → History
@@ -85,8 +87,8 @@ told_own n part Cleared tables bytes = event.Emptied ∷ []
 told_own n part Emptied tables bytes = event.Emptied ∷ []
 told_own n part (Rewritten row) tables bytes = []
 
--- The history of a device after a list of its own events, the first first. It knows no register, no memory but what was
--- brought, and no other device.
+-- The history of a device after a list of its own events, the first first. It knows no register, no memory
+-- but what was brought, and no other device.
 abbrev pub history_by : ℕ → DevicePart → History → List Brought → History
 history_by n part past [] = past
 history_by n part past (b ∷ later) =
@@ -98,7 +100,8 @@ abbrev pub HistoriesByOwn : Type 0
 HistoriesByOwn =
     (n : ℕ) → n < 16
     → (old new : Host) (events : List HostEvent) (run : RunsByDevices old events new) (past : History)
-    → history_after n past old new events run.run ≡ history_by n (part_of n old) past (brought_over n old new events run.run)
+    → history_after n past old new events run.run
+    ≡ history_by n (part_of n old) past (brought_over n old new events run.run)
 
 -- the same is issued in each slot, and each byte of it is filled with the same, or not filled
 pub record AreFilledAlike (history other : History) : Type 0 where
@@ -106,8 +109,8 @@ pub record AreFilledAlike (history other : History) : Type 0 where
   pub issues : (s : ℕ) → issued s history ≡ issued s other
   pub bytes : (s i : ℕ) → filled s history i ≡ filled s other i
 
--- So what other devices send, and what is issued for them, changes no byte that a slot of this device is filled with: two
--- runs with the same own events of it, which memory brought the same, fill its slots alike.
+-- So what other devices send, and what is issued for them, changes no byte that a slot of this device is
+-- filled with: two runs with the same own events of it, which memory brought the same, fill its slots alike.
 abbrev pub OwnFillAlike : Type 0
 OwnFillAlike =
     (n : ℕ) → n < 16
@@ -115,4 +118,5 @@ OwnFillAlike =
     → (old2 new2 : Host) (events2 : List HostEvent) (run2 : RunsByDevices old2 events2 new2) (past : History)
     → part_of n old ≡ part_of n old2
     → brought_over n old new events run.run ≡ brought_over n old2 new2 events2 run2.run
-    → AreFilledAlike (history_after n past old new events run.run) (history_after n past old2 new2 events2 run2.run)
+    → AreFilledAlike (history_after n past old new events run.run)
+    (history_after n past old2 new2 events2 run2.run)

@@ -1,4 +1,5 @@
--- How long the cause of a fault stands: AHCI 1.3.1, section 9.3 (FIS-based Switching: errors of one device and of the port).
+-- How long the cause of a fault stands: AHCI 1.3.1, section 9.3 (FIS-based Switching: errors of one device
+-- and of the port).
 use Rattle.std.specs.Prelude.{ℕ, ◌≡◌, ◌<◌, ◌==◌, ◌||◌, Bool, false, List, [], ◌∷◌, Some}
 use Rattle.port_errors.specs.declared.cause.DeviceCause.{DeviceCause}
 use Rattle.port_errors.specs.declared.cause.PortCause.{PortCause}
@@ -24,7 +25,8 @@ clears_port host event = false
 
 -- the device is cleared or flushed, or the whole port is cleared
 abbrev pub clears : ℕ → Host → HostEvent → Bool
-clears n host (Wrote register value) = clears_device n host register value || lowers_st register host.port.registers value
+clears n host (Wrote register value) =
+    clears_device n host register value || lowers_st register host.port.registers value
 clears n host (Flushed dev) = dev == n
 clears n host event = false
 
@@ -34,13 +36,15 @@ comes_from n (Took frame report) = port_of frame == n
 comes_from n event = false
 
 -- no event of a run is such a one
-abbrev pub NoneIn : (Host → HostEvent → Bool) → (old new : Host) (events : List HostEvent) → Runs old events new → Type 0
+abbrev pub NoneIn : (Host → HostEvent → Bool) → (old new : Host) (events : List HostEvent)
+    → Runs old events new → Type 0
 NoneIn is old new [] run = Unit {0}
 NoneIn is old new (event ∷ events) run = (is old event ≡ false) × NoneIn is run.0 new events run.2
 
 -- ---- laws
 
--- A cause that stands at a device stands until the device or the port is cleared, whatever FISes come after, its own too.
+-- A cause that stands at a device stands until the device or the port is cleared, whatever FISes come after,
+-- its own too.
 abbrev pub DeviceCausesStay : Type 0
 DeviceCausesStay =
     (n : ℕ) → n < 16 → (cause : DeviceCause)
@@ -56,8 +60,8 @@ PortCausesStay =
     → NoneIn clears_port old new events run
     → old.port.errors.port ≡ Some cause → new.port.errors.port ≡ Some cause
 
--- Over events none of which is a FIS of a device, or clears it, it has the fault that it had, or none where it had none. So
--- no FIS of another device marks it or changes its cause, and nothing that goes out does.
+-- Over events none of which is a FIS of a device, or clears it, it has the fault that it had, or none where
+-- it had none. So no FIS of another device marks it or changes its cause, and nothing that goes out does.
 abbrev pub OthersFaultNone : Type 0
 OthersFaultNone =
     (n : ℕ) → n < 16

@@ -1,6 +1,7 @@
--- What happens at a host port and in the memory beside it, as a list of events: AHCI 1.3.1, chapter 5 (what the port does) and
--- chapter 9 (FIS-based Switching).
-use Rattle.std.specs.Prelude.{ℕ, ◌≡◌, ◌+◌, ◌*◌, ◌-◌, ◌<◌, ◌≤◌, true, false, List, [], ◌∷◌, length, Option, None}
+-- What happens at a host port and in the memory beside it, as a list of events: AHCI 1.3.1, chapter 5 (what
+-- the port does) and chapter 9 (FIS-based Switching).
+use Rattle.std.specs.Prelude.{ℕ, ◌≡◌, ◌+◌, ◌*◌, ◌-◌, ◌<◌, ◌≤◌, true, false, List, [], ◌∷◌, length, Option}
+use Rattle.std.specs.Prelude.{None}
 use Rattle.fis_view.specs.Frames.{Stamped}
 use Rattle.host_memory.specs.Memory.{Memory, client_start, overwritten}
 use Rattle.host_memory.specs.Place.{LiesInClient}
@@ -38,8 +39,10 @@ pub data HostEvent : Type 0 where
 
 -- a frame is taken: it is ignored, or heard
 pub record TakesFrame (old : Host) (frame : List ℕ) (report : TakeReport) (new : Host) : Type 0 where
-  pub ignored : ignores (port_of frame) old.port frame ≡ true → Ignores (port_of frame) old.port old.memory report new.port new.memory
-  pub heard : ignores (port_of frame) old.port frame ≡ false → Hears (port_of frame) old.port old.memory frame report new.port new.memory
+  pub ignored : ignores (port_of frame) old.port frame ≡ true
+      → Ignores (port_of frame) old.port old.memory report new.port new.memory
+  pub heard : ignores (port_of frame) old.port frame ≡ false
+      → Hears (port_of frame) old.port old.memory frame report new.port new.memory
 
 -- the structure area is written, as long as it is, and the received area stays
 pub record StoresStructure (fb : ℕ) (old : Memory) (structure : List ℕ) (new : Memory) : Type 0 where
@@ -61,11 +64,15 @@ pub record PutsBytes (old : Memory) (at : ℕ) (bytes : List ℕ) (new : Memory)
 
 abbrev pub Does : Host → HostEvent → Host → Type 0
 Does old (Took frame report) new = TakesFrame old frame report new
-Does old (Wrote register value) new = (refusal_of register old.port old.memory value ≡ None) × Accepts old.port old.memory register value new.port × (new.memory ≡ old.memory)
+Does old (Wrote register value) new = (refusal_of register old.port old.memory value ≡ None)
+    × Accepts old.port old.memory register value new.port × (new.memory ≡ old.memory)
 Does old (Flushed dev) new = Flushes old.port dev new.port × (new.memory ≡ old.memory)
-Does old (Gave frame) new = Gives (outgoing old.port old.memory) old.port old.memory frame new.port × (new.memory ≡ old.memory)
-Does old (Stored structure) new = StoresStructure old.port.registers.fb old.memory structure new.memory × (new.port ≡ old.port)
-Does old (Rewrote dev row) new = WritesRow old.port.registers.fb old.memory dev row new.memory × (new.port ≡ old.port)
+Does old (Gave frame) new =
+    Gives (outgoing old.port old.memory) old.port old.memory frame new.port × (new.memory ≡ old.memory)
+Does old (Stored structure) new =
+    StoresStructure old.port.registers.fb old.memory structure new.memory × (new.port ≡ old.port)
+Does old (Rewrote dev row) new =
+    WritesRow old.port.registers.fb old.memory dev row new.memory × (new.port ≡ old.port)
 Does old (Put at bytes) new = PutsBytes old.memory at bytes new.memory × (new.port ≡ old.port)
 
 -- these events, one after another

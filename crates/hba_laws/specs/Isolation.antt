@@ -1,6 +1,7 @@
 -- Whose own each event of a host port is, and isolation (AHCI 1.3.1, chapter 9, FIS-based
 -- Switching): what belongs to a device is the fold of its own events alone.
-use Rattle.std.specs.Prelude.{ℕ, ◌≡◌, ◌<◌, ◌==◌, ◌&&◌, ◌||◌, Bool, true, false, not, if◌then◌else◌, List, [], ◌∷◌, ◌++◌, Option, Some, None, is_none, is_some}
+use Rattle.std.specs.Prelude.{ℕ, ◌≡◌, ◌<◌, ◌==◌, ◌&&◌, ◌||◌, Bool, true, false, not, if◌then◌else◌, List, []}
+use Rattle.std.specs.Prelude.{◌∷◌, ◌++◌, Option, Some, None, is_none, is_some}
 use Rattle.std.specs.Option.{option_or}
 use Rattle.fis_view.specs.Frames.{Stamped}
 use Rattle.fis_view.specs.Seen.{seen}
@@ -15,12 +16,15 @@ use Rattle.hba_fbs.specs.declared.register.Register.TheVariants.{Cmd, Ci, Fbs}
 use Rattle.hba_fbs.specs.declared.registers.Registers.{Registers}
 use Rattle.hba_fbs.specs.Issuing.{asked, issued_slots}
 use Rattle.hba_fbs.specs.Registers.{falls}
-use Rattle.hba_fbs.specs.Sending.{Data, Nothing, Order, Outgoing, Unreadable, data_fis, gathered, is_ready, outgoing, view_fed, view_sent}
+use Rattle.hba_fbs.specs.Sending.{Data, Nothing, Order, Outgoing, Unreadable, data_fis, gathered, is_ready}
+use Rattle.hba_fbs.specs.Sending.{outgoing, view_fed, view_sent}
 use Rattle.hba_fbs.specs.Tables.{prds_of}
-use Rattle.hba_fbs.specs.Taking.{admitted, heard_now, heard_view, ignores, is_ignored, is_running, port_cause, port_of}
+use Rattle.hba_fbs.specs.Taking.{admitted, heard_now, heard_view, ignores, is_ignored, is_running, port_cause}
+use Rattle.hba_fbs.specs.Taking.{port_of}
 use Rattle.hba_fbs.specs.Views.{DeviceView, Port, flushed_view, stopped_view}
 use Rattle.hba_fbs.specs.Writing.{cleared_by, is_device}
-use Rattle.hba_laws.specs.Hosts.{Does, Flushed, Gave, Host, HostEvent, Put, Rewrote, Runs, Stored, Took, Wrote}
+use Rattle.hba_laws.specs.Hosts.{Does, Flushed, Gave, Host, HostEvent, Put, Rewrote, Runs, Stored, Took}
+use Rattle.hba_laws.specs.Hosts.{Wrote}
 use Rattle.hba_laws.specs.Parts.{DevicePart, part_of, with_view}
 use Rattle.hba_laws.specs.Sound.{AreHosts, IsHost}
 

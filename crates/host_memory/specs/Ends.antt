@@ -1,5 +1,6 @@
--- Where in a transfer the bytes of each entry end: AHCI 1.3.1, section 4.2.3.3, Physical Region Descriptor Table. The
--- transfer's bytes fill the entries one after another, so each begins where the one before it ends.
+-- Where in a transfer the bytes of each entry end: AHCI 1.3.1, section 4.2.3.3, Physical Region Descriptor
+-- Table. The transfer's bytes fill the entries one after another, so each begins where the one before it
+-- ends.
 use Rattle.std.specs.Prelude.{◌≡◌, ℕ, ◌+◌, ◌<◌, ◌≤◌, List, [], ◌∷◌, slice_index, length, zero, suc}
 use Rattle.host_memory.specs.declared.table.Prd.{Prd}
 use Rattle.host_memory.specs.declared.table.Spot.{Spot}
@@ -14,8 +15,8 @@ abbrev pub begin_in : List ℕ → ℕ → ℕ
 begin_in ends zero = 0
 begin_in ends (suc k) = slice_index ends k
 
--- Byte i lies in this entry, if the entries end there: it is so many bytes after the entry's begin, and before its end.
--- Where there is no such entry, what is said to be it is the end of the transfer.
+-- Byte i lies in this entry, if the entries end there: it is so many bytes after the entry's begin, and
+-- before its end. Where there is no such entry, what is said to be it is the end of the transfer.
 pub record IsSpot (ends : List ℕ) (i : ℕ) (spot : Spot) : Type 0 where
   pub there : spot.entry ≤ length ends
   pub begins : begin_in ends spot.entry + spot.byte ≡ i

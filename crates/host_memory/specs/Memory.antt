@@ -1,6 +1,8 @@
--- The memory that driver and host port share: an area for the structures of AHCI 1.3.1, section 4.2 (command list 4.2.2,
--- command tables 4.2.3, received FISes 4.2.1), and one for the data of transfers. Its sizes are our own.
-use Rattle.std.specs.Prelude.{◌≡◌, ℕ, ◌+◌, ◌-◌, ◌%◌, ◌≤◌, Bool, ◌&&◌, ◌==◌, nat_le, List, ◌++◌, length, take, drop, replicate}
+-- The memory that driver and host port share: an area for the structures of AHCI 1.3.1, section 4.2 (command
+-- list 4.2.2, command tables 4.2.3, received FISes 4.2.1), and one for the data of transfers. Its sizes are
+-- our own.
+use Rattle.std.specs.Prelude.{◌≡◌, ℕ, ◌+◌, ◌-◌, ◌%◌, ◌≤◌, Bool, ◌&&◌, ◌==◌, nat_le, List, ◌++◌, length, take}
+use Rattle.std.specs.Prelude.{drop, replicate}
 
 -- the bytes of the two areas
 pub record Memory : Type 0 where
@@ -9,16 +11,16 @@ pub record Memory : Type 0 where
 
 -- the address at which the client area begins, after 1 MiB
 abbrev pub client_start : ℕ
-client_start = 1048576
+client_start = 0x100000
 
 -- a memory has from 2 to 16 MiB, and an even number of bytes
 abbrev pub is_memory_size : ℕ → Bool
-is_memory_size len = nat_le 2097152 len && nat_le len 16777216 && (len % 2 == 0)
+is_memory_size len = nat_le 0x200000 len && nat_le len 0x1000000 && (len % 2 == 0)
 
 -- what every memory keeps: the sizes of its areas
 pub record IsHostMemory (memory : Memory) : Type 0 where
-  pub structure_len : length memory.structure ≡ 1048576
-  pub client_least : 1048576 ≤ length memory.client
+  pub structure_len : length memory.structure ≡ 0x100000
+  pub client_least : 0x100000 ≤ length memory.client
   pub client_most : length memory.client ≤ 15728640
   pub client_even : length memory.client % 2 ≡ 0
 

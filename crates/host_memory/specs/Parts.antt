@@ -1,6 +1,7 @@
--- A run of a transfer's bytes as the stretches of memory that hold it, one for each entry of the table that it touches
--- (AHCI 1.3.1, section 4.2.3.3, Physical Region Descriptor Table).
-use Rattle.std.specs.Prelude.{◌≡◌, ℕ, ◌+◌, ◌-◌, ◌*◌, ◌<◌, ◌≤◌, min, max, Bool, nat_lt, if◌then◌else◌, List, [], ◌∷◌, slice_index, length, take, drop, map, zero, suc}
+-- A run of a transfer's bytes as the stretches of memory that hold it, one for each entry of the table that
+-- it touches (AHCI 1.3.1, section 4.2.3.3, Physical Region Descriptor Table).
+use Rattle.std.specs.Prelude.{◌≡◌, ℕ, ◌+◌, ◌-◌, ◌*◌, ◌<◌, ◌≤◌, min, max, Bool, nat_lt, if◌then◌else◌, List}
+use Rattle.std.specs.Prelude.{[], ◌∷◌, slice_index, length, take, drop, map, zero, suc}
 use Rattle.std.specs.List.{concat, filter, range_with_len}
 use Rattle.host_memory.specs.declared.table.Prd.{Prd}
 use Rattle.host_memory.specs.declared.table.Run.{Run}
@@ -28,7 +29,8 @@ pub record IsRun (prds : List Prd) (client_len i : ℕ) (run : Run) : Type 0 whe
 abbrev pub begin_of : List Prd → ℕ → ℕ
 begin_of prds k = total_of (take k prds)
 
--- the bytes of a run of len bytes from byte offset on that entry k has: from the later begin to the earlier end
+-- the bytes of a run of len bytes from byte offset on that entry k has: from the later begin to the earlier
+-- end
 abbrev pub first_in : List Prd → ℕ → ℕ → ℕ
 first_in prds offset k = max offset (begin_of prds k)
 
@@ -41,30 +43,35 @@ touches prds offset len k = nat_lt (first_in prds offset k) (end_in prds offset 
 
 -- these bytes, as they stand from the place of the first of them on
 abbrev pub part_in : List ℕ → List Prd → ℕ → ℕ → ℕ → List ℕ
-part_in client prds offset len k = take (end_in prds offset len k - first_in prds offset k) (drop (place prds (first_in prds offset k) - client_start) client)
+part_in client prds offset len k = take (end_in prds offset len k - first_in prds offset k)
+    (drop (place prds (first_in prds offset k) - client_start) client)
 
 -- one part for each entry that the run touches, in the order of the table
 abbrev pub one_for_each : List ℕ → List Prd → ℕ → ℕ → List (List ℕ)
-one_for_each client prds offset len = map (part_in client prds offset len) (filter (touches prds offset len) (range_with_len 0 (length prds)))
+one_for_each client prds offset len =
+    map (part_in client prds offset len) (filter (touches prds offset len) (range_with_len 0 (length prds)))
 
--- The parts are the bytes offset to offset + len of a transfer: joined they are so many, each is the byte at its place,
--- and there is one part for each entry that has some of them, and no other.
-pub record AreParts (prds : List Prd) (offset len : ℕ) (client : List ℕ) (parts : List (List ℕ)) : Type 0 where
+-- The parts are the bytes offset to offset + len of a transfer: joined they are so many, each is the byte at
+-- its place, and there is one part for each entry that has some of them, and no other.
+pub record AreParts (prds : List Prd) (offset len : ℕ) (client : List ℕ)
+    (parts : List (List ℕ)) : Type 0 where
   pub as_long : length (concat parts) ≡ len
-  pub at_places : (k : ℕ) → k < len → slice_index (concat parts) k ≡ slice_index client (place prds (offset + k) - client_start)
+  pub at_places : (k : ℕ) → k < len
+      → slice_index (concat parts) k ≡ slice_index client (place prds (offset + k) - client_start)
   pub one_each : parts ≡ one_for_each client prds offset len
 
--- The parts that are left, of a run of len bytes that begins at byte offset of these entries: the rest of the entry in
--- which it begins, as far as it goes, then those of the entries after it.
+-- The parts that are left, of a run of len bytes that begins at byte offset of these entries: the rest of the
+-- entry in which it begins, as far as it goes, then those of the entries after it.
 unfoldable pub parts_of : List ℕ → List Prd → ℕ → ℕ → List (List ℕ)
 parts_of client [] offset len = []
 parts_of client (prd ∷ rest) offset zero = []
 parts_of client (prd ∷ rest) offset (suc n) =
-    if nat_lt offset prd.bytes then stretch_of client prd offset (min (suc n) (prd.bytes - offset)) ∷ parts_of client rest 0 (suc n - (prd.bytes - offset))
+    if nat_lt offset prd.bytes then stretch_of client prd offset (min (suc n) (prd.bytes - offset))
+    ∷ parts_of client rest 0 (suc n - (prd.bytes - offset))
     else parts_of client rest (offset - prd.bytes) (suc n)
 
--- what every value keeps: the entries lie in the structure area and in the client area and hold what is left, which
--- begins in the first of them
+-- what every value keeps: the entries lie in the structure area and in the client area and hold what is left,
+-- which begins in the first of them
 pub record HoldParts (structure client : List ℕ) (at count offset len : ℕ) : Type 0 where
   pub lies : at + 16 * count ≤ length structure
   pub inside : AreInside (length client) (prds_at structure at count)

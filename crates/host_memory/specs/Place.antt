@@ -1,7 +1,8 @@
 -- Where the bytes of a transfer lie: AHCI 1.3.1, section 4.2.3.3, Physical Region Descriptor Table.
 -- The entries of a table, in order, name runs of memory; the transfer's bytes fill them one after
 -- another.
-use Rattle.std.specs.Prelude.{◌≡◌, ◌≢◌, ℕ, ◌+◌, ◌-◌, ◌<◌, ◌≤◌, ◌↔◌, ◌==◌, nat_lt, if◌then◌else◌, List, [], ◌∷◌, slice_get, slice_index, slice_set, length, Some}
+use Rattle.std.specs.Prelude.{◌≡◌, ◌≢◌, ℕ, ◌+◌, ◌-◌, ◌<◌, ◌≤◌, ◌↔◌, ◌==◌, nat_lt, if◌then◌else◌, List, []}
+use Rattle.std.specs.Prelude.{◌∷◌, slice_get, slice_index, slice_set, length, Some}
 use Rattle.host_memory.specs.declared.table.Prd.{Prd}
 use Rattle.host_memory.specs.Memory.{client_start}
 
@@ -18,7 +19,8 @@ place (prd ∷ rest) i = (if nat_lt i prd.bytes then prd.address + i else place 
 
 -- so many bytes, from this address on, all lie in a client area of client_len bytes
 abbrev pub LiesInClient : ℕ → ℕ → ℕ → Type 0
-LiesInClient client_len address count = (client_start ≤ address) × (address + count ≤ client_start + client_len)
+LiesInClient client_len address count =
+    (client_start ≤ address) × (address + count ≤ client_start + client_len)
 
 -- each entry lies in the client area
 abbrev pub AreInside : ℕ → List Prd → Type 0
@@ -53,31 +55,38 @@ AreApart prds = ¬ HaveOverlap prds
 -- The bytes are written to the places of the transfer's bytes from offset on, in a client area that
 -- begins at client_start. Every other byte stays, and so does the area's length.
 pub record Scatters (prds : List Prd) (offset : ℕ) (bytes old new : List ℕ) : Type 0 where
-  pub written : (k : ℕ) → k < length bytes → slice_index new (place prds (offset + k) - client_start) ≡ slice_index bytes k
-  pub others : (at : ℕ) → ((k : ℕ) → k < length bytes → place prds (offset + k) ≢ client_start + at) → slice_index new at ≡ slice_index old at
+  pub written : (k : ℕ) → k < length bytes → slice_index new (place prds (offset + k) - client_start)
+      ≡ slice_index bytes k
+  pub others : (at : ℕ) → ((k : ℕ) → k < length bytes → place prds (offset + k) ≢ client_start + at)
+      → slice_index new at ≡ slice_index old at
   pub as_long : length new ≡ length old
 
 -- the bytes written into the client area one after another, each at the place of its byte of the transfer
 abbrev pub one_by_one : List Prd → ℕ → List ℕ → List ℕ → List ℕ
 one_by_one prds offset [] client = client
-one_by_one prds offset (byte ∷ bytes) client = one_by_one prds (offset + 1) bytes (slice_set client (place prds offset - client_start) byte)
+one_by_one prds offset (byte ∷ bytes) client =
+    one_by_one prds (offset + 1) bytes (slice_set client (place prds offset - client_start) byte)
 
 -- the same of memory as a function of addresses: these bytes at their places, and each other byte as it was
 abbrev pub written : List Prd → ℕ → List ℕ → (ℕ → ℕ) → ℕ → ℕ
 written prds offset [] old at = old at
-written prds offset (byte ∷ bytes) old at = (if at == place prds offset then byte else written prds (offset + 1) bytes old at)
+written prds offset (byte ∷ bytes) old at =
+    (if at == place prds offset then byte else written prds (offset + 1) bytes old at)
 
--- For a sound table and a run that fits, what a scatter leaves is just what single writes leave, one after another: as a
--- list, and as a function of addresses.
+-- For a sound table and a run that fits, what a scatter leaves is just what single writes leave, one after
+-- another: as a list, and as a function of addresses.
 abbrev pub ScattersOneByOne : Type 0
 ScattersOneByOne =
-    (prds : List Prd) (offset : ℕ) (bytes old new : List ℕ) → AreInside (length old) prds → AreApart prds → offset + length bytes ≤ total_of prds
+    (prds : List Prd) (offset : ℕ) (bytes old new : List ℕ) → AreInside (length old) prds → AreApart prds
+    → offset + length bytes ≤ total_of prds
     → Scatters prds offset bytes old new ↔ (new ≡ one_by_one prds offset bytes old)
 
 abbrev pub ScattersAtPlaces : Type 0
 ScattersAtPlaces =
-    (prds : List Prd) (offset : ℕ) (bytes old new : List ℕ) (before : ℕ → ℕ) → AreInside (length old) prds → AreApart prds → offset + length bytes ≤ total_of prds
-    → Scatters prds offset bytes old new → ((k : ℕ) → k < length old → slice_index old k ≡ before (client_start + k))
+    (prds : List Prd) (offset : ℕ) (bytes old new : List ℕ) (before : ℕ → ℕ) → AreInside (length old) prds
+    → AreApart prds → offset + length bytes ≤ total_of prds
+    → Scatters prds offset bytes old new
+    → ((k : ℕ) → k < length old → slice_index old k ≡ before (client_start + k))
     → (k : ℕ) → k < length old → slice_index new k ≡ written prds offset bytes before (client_start + k)
 
 -- a byte of one transfer and a byte of the other have one place

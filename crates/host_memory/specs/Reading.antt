@@ -1,11 +1,14 @@
 -- The bytes of a table: AHCI 1.3.1, section 4.2.3.3, Physical Region Descriptor Table.
-use Rattle.std.specs.Prelude.{◌≡◌, ℕ, ◌+◌, ◌*◌, ◌%◌, ◌^◌, ◌<◌, ◌≤◌, ◌⊎◌, ◌↔◌, min, max, Bool, true, false, not, ◌||◌, ◌==◌, nat_lt, if◌then◌else◌, List, [], ◌∷◌, length, drop, slice_index, Option, Some, None, zero, suc}
+use Rattle.std.specs.Prelude.{◌≡◌, ℕ, ◌+◌, ◌*◌, ◌%◌, ◌^◌, ◌<◌, ◌≤◌, ◌⊎◌, ◌↔◌, min, max, Bool, true, false}
+use Rattle.std.specs.Prelude.{not, ◌||◌, ◌==◌, nat_lt, if◌then◌else◌, List, [], ◌∷◌, length, drop}
+use Rattle.std.specs.Prelude.{slice_index, Option, Some, None, zero, suc}
 use Rattle.std.specs.List.{list_any}
 use Rattle.std.specs.Option.{option_or}
 use Rattle.byteorder.specs.Endian.{little_number}
 use Rattle.host_memory.specs.declared.table.Prd.{Prd}
 use Rattle.host_memory.specs.declared.table.PrdError.{PrdError}
-use Rattle.host_memory.specs.declared.table.PrdError.TheVariants.{OutsideStructure, BadEntry, OutsideClient, Overlap}
+use Rattle.host_memory.specs.declared.table.PrdError.TheVariants.{OutsideStructure, BadEntry, OutsideClient}
+use Rattle.host_memory.specs.declared.table.PrdError.TheVariants.{Overlap}
 use Rattle.host_memory.specs.Ends.{ends_from}
 use Rattle.host_memory.specs.Memory.{client_start, overwritten}
 use Rattle.host_memory.specs.Place.{AreInside, AreApart}
@@ -16,7 +19,8 @@ dword_at structure at = little_number 4 (drop at structure)
 
 -- the entry that lies there: DW0 is the address, bits 21:0 of DW3 are the byte count less one
 abbrev pub prd_at : List ℕ → ℕ → Prd
-prd_at structure at = record { address = dword_at structure at; bytes = dword_at structure (at + 12) % 2 ^ 22 + 1 }
+prd_at structure at =
+    record { address = dword_at structure at; bytes = dword_at structure (at + 12) % 2 ^ 22 + 1 }
 
 -- the upper half of its address: DW1
 abbrev pub upper_at : List ℕ → ℕ → ℕ
@@ -29,20 +33,24 @@ prds_at structure at (suc count) = prd_at structure at ∷ prds_at structure (at
 
 -- an odd address, an address above 32 bits, an odd byte count
 abbrev pub is_bad : List ℕ → ℕ → Bool
-is_bad structure at = let prd = prd_at structure at in (prd.address % 2 == 1) || not (upper_at structure at == 0) || (prd.bytes % 2 == 1)
+is_bad structure at = let prd = prd_at structure at in (prd.address % 2 == 1)
+    || not (upper_at structure at == 0) || (prd.bytes % 2 == 1)
 
 -- a byte of it is not in a client area of client_len bytes
 abbrev pub is_outside : ℕ → Prd → Bool
-is_outside client_len prd = nat_lt prd.address client_start || nat_lt (client_start + client_len) (prd.address + prd.bytes)
+is_outside client_len prd =
+    nat_lt prd.address client_start || nat_lt (client_start + client_len) (prd.address + prd.bytes)
 
 -- what is wrong with one entry
 abbrev pub entry_fault : List ℕ → ℕ → ℕ → Option PrdError
-entry_fault structure client_len at = (if is_bad structure at then Some BadEntry else (if is_outside client_len (prd_at structure at) then Some OutsideClient else None))
+entry_fault structure client_len at = (if is_bad structure at then Some BadEntry
+    else (if is_outside client_len (prd_at structure at) then Some OutsideClient else None))
 
 -- what is wrong with the first entry with which something is wrong
 abbrev pub first_fault : List ℕ → ℕ → ℕ → ℕ → Option PrdError
 first_fault structure client_len at zero = None
-first_fault structure client_len at (suc count) = option_or (entry_fault structure client_len at) (first_fault structure client_len (at + 16) count)
+first_fault structure client_len at (suc count) =
+    option_or (entry_fault structure client_len at) (first_fault structure client_len (at + 16) count)
 
 -- whether the two share a byte: the later begin lies before the earlier end
 abbrev pub share_byte : Prd → Prd → Bool
@@ -61,18 +69,22 @@ abbrev pub have_overlap : List Prd → Bool
 have_overlap [] = false
 have_overlap (prd ∷ rest) = shares_with prd rest || have_overlap rest
 
--- whether each of these entries begins at or after the end of the one before it, and the first at or after this address
+-- whether each of these entries begins at or after the end of the one before it, and the first at or after
+-- this address
 abbrev pub lie_in_order : ℕ → List Prd → Bool
 lie_in_order end [] = true
-lie_in_order end (prd ∷ rest) = (if nat_lt prd.address end then false else lie_in_order (prd.address + prd.bytes) rest)
+lie_in_order end (prd ∷ rest) =
+    (if nat_lt prd.address end then false else lie_in_order (prd.address + prd.bytes) rest)
 
 -- why a table is not read: the first of these that applies
 abbrev pub read_fault : List ℕ → ℕ → ℕ → ℕ → Option PrdError
 read_fault structure client_len at count =
     (if nat_lt (length structure) (at + 16 * count) || nat_lt 248 count then Some OutsideStructure else
-    option_or (first_fault structure client_len at count) (if have_overlap (prds_at structure at count) then Some Overlap else None))
+    option_or (first_fault structure client_len at count) (if have_overlap (prds_at structure at count)
+    then Some Overlap else None))
 
--- what every table keeps: it lies in the structure area, its entries in the client area and apart, and where they end
+-- what every table keeps: it lies in the structure area, its entries in the client area and apart, and where
+-- they end
 pub record IsPrdTable (structure : List ℕ) (client_len at count : ℕ) (ends : List ℕ) : Type 0 where
   pub lies : at + 16 * count ≤ length structure
   pub few : count ≤ 248
@@ -93,14 +105,16 @@ pub record SaysTheSame (client_len at count : ℕ) (s t : List ℕ) : Type 0 whe
   pub refusal : read_fault s client_len at count ≡ read_fault t client_len at count
   pub entries : prds_at s at count ≡ prds_at t at count
 
--- What a table says is said by its own 16 bytes an entry, whatever stands elsewhere: of the area's length only counts
--- whether the table lies in it.
+-- What a table says is said by its own 16 bytes an entry, whatever stands elsewhere: of the area's length
+-- only counts whether the table lies in it.
 abbrev pub TablesAreOfTheirBytes : Type 0
 TablesAreOfTheirBytes =
-    (client_len at count : ℕ) (s t : List ℕ) → AgreeFrom at (16 * count) s t → ((at + 16 * count ≤ length s) ↔ (at + 16 * count ≤ length t)) → SaysTheSame client_len at count s t
+    (client_len at count : ℕ) (s t : List ℕ) → AgreeFrom at (16 * count) s t
+    → ((at + 16 * count ≤ length s) ↔ (at + 16 * count ≤ length t)) → SaysTheSame client_len at count s t
 
 -- so bytes that are written apart from it change nothing of what it says
 abbrev pub TablesStay : Type 0
 TablesStay =
-    (client_len at count place : ℕ) (bytes s : List ℕ) → place + length bytes ≤ length s → LieApart at (16 * count) place (length bytes)
+    (client_len at count place : ℕ) (bytes s : List ℕ) → place + length bytes ≤ length s
+    → LieApart at (16 * count) place (length bytes)
     → SaysTheSame client_len at count s (overwritten s place bytes)

@@ -10,7 +10,8 @@ CanBeWritten prd = (1 ≤ prd.bytes) × (prd.bytes ≤ 4194304)
 
 -- DW0 is the address, DW1 and DW2 are 0, DW3 is the byte count less one
 abbrev pub entry_bytes : Prd → List ℕ
-entry_bytes prd = little_bytes 4 prd.address ++ (0 ∷ 0 ∷ 0 ∷ 0 ∷ 0 ∷ 0 ∷ 0 ∷ 0 ∷ []) ++ little_bytes 4 (prd.bytes - 1)
+entry_bytes prd =
+    little_bytes 4 prd.address ++ (0 ∷ 0 ∷ 0 ∷ 0 ∷ 0 ∷ 0 ∷ 0 ∷ 0 ∷ []) ++ little_bytes 4 (prd.bytes - 1)
 
 -- the entries, one after the other
 unfoldable pub table_bytes : List Prd → List ℕ
@@ -19,4 +20,5 @@ table_bytes (prd ∷ rest) = entry_bytes prd ++ table_bytes rest
 
 -- an entry that a table may have: its address and its count are even, and it lies in the client area
 abbrev pub IsUsable : ℕ → Prd → Type 0
-IsUsable client_len prd = (prd.address % 2 ≡ 0) × (prd.bytes % 2 ≡ 0) × LiesInClient client_len prd.address prd.bytes
+IsUsable client_len prd =
+    (prd.address % 2 ≡ 0) × (prd.bytes % 2 ≡ 0) × LiesInClient client_len prd.address prd.bytes

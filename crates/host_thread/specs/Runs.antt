@@ -1,7 +1,8 @@
 -- What the host's thread does: there is one list of turns of the host, of which the lists of its
 -- seats are the projections, and port, driver and memory the outcome; and what it says of each
 -- request of its plan is in these turns, in the order of the plan and behind its barriers.
-use Rattle.std.specs.Prelude.{◌≡◌, ℕ, ◌<◌, ◌≤◌, ◌==◌, ⊤, Bool, true, false, List, ◌++◌, [], ◌∷◌, filter, length, map, slice_index_or, take, Option, Some}
+use Rattle.std.specs.Prelude.{◌≡◌, ℕ, ◌<◌, ◌≤◌, ◌==◌, ⊤, Bool, true, false, List, ◌++◌, [], ◌∷◌, filter}
+use Rattle.std.specs.Prelude.{length, map, slice_index_or, take, Option, Some}
 use Rattle.std.specs.List.{Contains, flat_map, list_any}
 use Rattle.std.specs.Option.{option_to_list}
 use Rattle.atomic_table.specs.Seated.{TableId}
@@ -16,7 +17,8 @@ use Rattle.hba_driver.specs.declared.request.SubmitError.{SubmitError}
 use Rattle.hba_driver.specs.declared.request.SubmitError.TheVariants as refusal
 use Rattle.hba_driver.specs.declared.request.Ticket.{Ticket}
 use Rattle.hba_driver.specs.Drivers.{new_driver}
-use Rattle.hba_driver.specs.HostTurns.{DoesAll, Host, HostTurn, Took, Pushed, Submitted, Polled, given_in, polled_in}
+use Rattle.hba_driver.specs.HostTurns.{DoesAll, Host, HostTurn, Took, Pushed, Submitted, Polled, given_in}
+use Rattle.hba_driver.specs.HostTurns.{polled_in}
 use Rattle.hba_driver.specs.Submits.{submit_refusal}
 use Rattle.host_thread.specs.declared.plan.Ended.{Ended}
 use Rattle.host_thread.specs.declared.plan.Ended.TheVariants as ended
@@ -111,7 +113,8 @@ is_for_now refusal.NoSlot = true
 is_for_now r = false
 
 -- It was taken under this ticket, after turns of which this is so.
-pub record WasTaken (IsSo : List HostTurn → Type 0) (turns : List HostTurn) (p : Planned) (ticket : ℕ) : Type 0 where
+pub record WasTaken (IsSo : List HostTurn → Type 0) (turns : List HostTurn) (p : Planned)
+    (ticket : ℕ) : Type 0 where
   pub before : List HostTurn
   pub rest : List HostTurn
   pub are : before ++ Submitted p.dev p.request ticket ∷ rest ≡ turns
@@ -156,7 +159,8 @@ at_any_time turns = ⊤
 abbrev pub HasBegun : Memory → List HostTurn → Planned → State → Type 0
 HasBegun start turns p state.Waits = ⊥
 HasBegun start turns p (state.Submitted ticket) = WasTaken at_any_time turns p ticket.0
-HasBegun start turns p (state.Ended (ended.Polled outcome)) = (ticket : ℕ) × WasTaken at_any_time turns p ticket
+HasBegun start turns p (state.Ended (ended.Polled outcome)) =
+    (ticket : ℕ) × WasTaken at_any_time turns p ticket
 HasBegun start turns p (state.Ended (ended.Refused refusal)) = WasRefused at_any_time start turns p refusal
 
 -- Within these turns it has ended, as is said of it in the end: it was polled or refused.
@@ -169,29 +173,33 @@ abbrev pub IsPast : Bool → Memory → List HostTurn → Planned → State → 
 IsPast true start turns p s = HasEnded start turns p s
 IsPast false start turns p s = HasBegun start turns p s
 
--- After these turns it is the turn of the request at place i: all before it were given to the driver, and where it
--- waits, all before it have ended; and those of them that were taken were taken once each, and nothing else was.
+-- After these turns it is the turn of the request at place i: all before it were given to the driver, and
+-- where it waits, all before it have ended; and those of them that were taken were taken once each, and
+-- nothing else was.
 pub record IsNext (start : Memory) (plan : List Planned) (states : List State) (i : ℕ) (wait : Bool)
     (turns : List HostTurn) : Type 0 where
   pub each : (j : ℕ) (p : Planned) (s : State) → j < i
       → IsPast wait start turns (slice_index_or plan j p) (slice_index_or states j s)
   pub few : length (given_in turns) ≡ taken_before i states
 
--- What is said of each request is so, and each was given to the driver in its turn. Nothing else was taken but those of
--- which it is said, once each; and of one that is said to be open nothing was polled.
+-- What is said of each request is so, and each was given to the driver in its turn. Nothing else was taken
+-- but those of which it is said, once each; and of one that is said to be open nothing was polled.
 pub record AreTrue (start : Memory) (turns : List HostTurn) (plan : List Planned)
     (states : List State) : Type 0 where
   pub each : (i : ℕ) (p : Planned) (s : State) → i < length states
       → IsTrue (IsNext start plan states i (slice_index_or plan i p).wait) start turns
       (slice_index_or plan i p) (slice_index_or states i s)
   pub few : length (given_in turns) ≡ taken_before (length states) states
-  pub unpolled : (i : ℕ) (s : State) (ticket : Ticket) → i < length states → slice_index_or states i s ≡ state.Submitted ticket
+  pub unpolled : (i : ℕ) (s : State) (ticket : Ticket) → i < length states
+      → slice_index_or states i s ≡ state.Submitted ticket
       → list_any (λ y. y == ticket.0) (polled_in turns) ≡ false
 
 -- the requests before this place were given to the driver, and none from it on
 pub record AreGiven (next : ℕ) (states : List State) : Type 0 where
-  pub before : (i : ℕ) (s : State) → i < next → i < length states → is_waiting (slice_index_or states i s) ≡ false
-  pub later : (i : ℕ) (s : State) → next ≤ i → i < length states → is_waiting (slice_index_or states i s) ≡ true
+  pub before : (i : ℕ) (s : State) → i < next → i < length states
+      → is_waiting (slice_index_or states i s) ≡ false
+  pub later : (i : ℕ) (s : State) → next ≤ i → i < length states
+      → is_waiting (slice_index_or states i s) ≡ true
 
 -- ---- the run
 

@@ -17,10 +17,12 @@ pub device_starts : InDeviceOrder []
 device_starts = λ before rest f e. absurd (some_element before rest f e)
 
 pub device_prefixes : (front more : List Stamped) → InDeviceOrder (front ++ more) → InDeviceOrder front
-device_prefixes front more h = λ before rest f e. h before (rest ++ more) f (stands_in_whole front more before rest f e)
+device_prefixes front more h =
+    λ before rest f e. h before (rest ++ more) f (stands_in_whole front more before rest f e)
 
 pub stamped_starts : InStampedOrder []
 stamped_starts = λ before rest f e. absurd (some_element before rest f e)
 
 pub stamped_prefixes : (front more : List Stamped) → InStampedOrder (front ++ more) → InStampedOrder front
-stamped_prefixes front more h = λ before rest f e. h before (rest ++ more) f (stands_in_whole front more before rest f e)
+stamped_prefixes front more h =
+    λ before rest f e. h before (rest ++ more) f (stands_in_whole front more before rest f e)

@@ -2,7 +2,8 @@
 use Rattle.std.specs.Prelude.{◌≡◌, ◌↔◌, ℕ, ◌+◌, ◌<◌, ◌≤◌, List, [], ◌∷◌, ◌++◌, length, map, slice_index, All}
 use Rattle.std.specs.List.{range_with_len}
 use Rattle.fis_view.specs.Frames.{Stamped}
-use Rattle.multiplier.specs.Orders.{of_connection, of_port, control_port, IsNextOfDevice, InDeviceOrder, IsNextAtHost, InStampedOrder, IsWithin}
+use Rattle.multiplier.specs.Orders.{of_connection, of_port, control_port, IsNextOfDevice, InDeviceOrder}
+use Rattle.multiplier.specs.Orders.{IsNextAtHost, InStampedOrder, IsWithin}
 
 -- ---- a device
 
@@ -19,10 +20,12 @@ pub record IsAt (fises : List Stamped) (conn number : ℕ) : Type 0 where
 -- these two numbers tell the next FIS, and go on with it; on a new connection the numbers begin at 0
 pub record DeviceCounts : Type 0 where
   pub starts : (conn : ℕ) → IsAt [] conn 0
-  pub next : (fises : List Stamped) (f : Stamped) → IsAt fises f.stamp.conn f.stamp.number → IsNextOfDevice fises f
+  pub next : (fises : List Stamped) (f : Stamped) → IsAt fises f.stamp.conn f.stamp.number
+      → IsNextOfDevice fises f
   pub goes_on : (fises : List Stamped) (f : Stamped) → IsAt fises f.stamp.conn f.stamp.number
       → IsAt (fises ++ f ∷ []) f.stamp.conn (f.stamp.number + 1)
-  pub comes : (fises : List Stamped) (conn number later : ℕ) → IsAt fises conn number → conn < later → IsAt fises later 0
+  pub comes : (fises : List Stamped) (conn number later : ℕ) → IsAt fises conn number → conn < later
+      → IsAt fises later 0
 
 -- the numbers of each connection, in order, are 0, 1, 2, .. without a gap
 abbrev pub DeviceNumbers : Type 0
@@ -46,7 +49,8 @@ pub record HostBounds : Type 0 where
       → f.stamp.number ≡ length (of_port f.stamp.port f.stamp.conn fises) → IsNextAtHost fises f
   pub goes_on : (fises : List Stamped) (f : Stamped) (n conn gone : ℕ) → IsWithin fises n conn gone
       → (f.stamp.port ≡ n → f.stamp.conn ≤ conn)
-      → (f.stamp.port ≡ control_port → slice_index f.stamp.shown n ≤ gone) → IsWithin (fises ++ f ∷ []) n conn gone
+      → (f.stamp.port ≡ control_port → slice_index f.stamp.shown n ≤ gone)
+      → IsWithin (fises ++ f ∷ []) n conn gone
 
 -- the numbers of each connection of a device port, in order, are 0, 1, 2, .. without a gap
 abbrev pub HostNumbers : Type 0

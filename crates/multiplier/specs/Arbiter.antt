@@ -1,5 +1,6 @@
--- Which place is served next (Serial ATA 3.x, 16.3, port multiplier: frame transmission; the policy for frames on their
--- way to the host is to be fair). The places are the device ports 0 to 14 and the control port Fh, 15.
+-- Which place is served next (Serial ATA 3.x, 16.3, port multiplier: frame transmission; the policy for
+-- frames on their way to the host is to be fair). The places are the device ports 0 to 14 and the control
+-- port Fh, 15.
 use Rattle.std.specs.Prelude.{◌≡◌, ◌≢◌, ℕ, ◌+◌, ◌-◌, Bool, IsTrue, List, [], ◌∷◌, ◌++◌, All, Option, Some}
 use Rattle.std.specs.List.{range_with_len, find}
 -- the control port's PM Port
@@ -13,7 +14,8 @@ circle_after last = range_with_len (last + 1) (control_port - last) ++ range_wit
 abbrev pub next_served : ℕ → (ℕ → Bool) → Option ℕ
 next_served last ready = find ready (circle_after last)
 
--- These places are served, one after another: at each turn the place that is next among those that are ready then.
+-- These places are served, one after another: at each turn the place that is next among those that are ready
+-- then.
 unfoldable pub IsServedInTurn : ℕ → List (ℕ → Bool) → List ℕ → Type 0
 IsServedInTurn last [] [] = Unit {0}
 IsServedInTurn last (ready ∷ later) (place ∷ places) =

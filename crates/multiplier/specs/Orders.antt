@@ -1,6 +1,6 @@
 -- In which order FISes pass, by the stamps that are carried beside them for audit. Each FIS is looked at with
--- what stands before it: its number is how many FISes of its connection do, so the numbers of a connection are 0, 1, 2, ..
--- without a gap.
+-- what stands before it: its number is how many FISes of its connection do, so the numbers of a connection
+-- are 0, 1, 2, .. without a gap.
 use Rattle.std.specs.Prelude.{◌≡◌, ℕ, ◌<◌, ◌≤◌, ◌==◌, ◌&&◌, List, ◌∷◌, ◌++◌, length, filter, slice_index, All}
 use Rattle.fis_view.specs.Frames.{Stamped}
 
@@ -10,14 +10,16 @@ use Rattle.fis_view.specs.Frames.{Stamped}
 abbrev pub of_connection : ℕ → List Stamped → List Stamped
 of_connection c fises = filter (λ f. f.stamp.conn == c) fises
 
--- this FIS of a device may follow those: its connection is none below theirs, and its number the next of its connection
+-- this FIS of a device may follow those: its connection is none below theirs, and its number the next of its
+-- connection
 pub record IsNextOfDevice (before : List Stamped) (f : Stamped) : Type 0 where
   pub connection : All (λ g. g.stamp.conn ≤ f.stamp.conn) before
   pub number : f.stamp.number ≡ length (of_connection f.stamp.conn before)
 
 -- connections never fall, and the numbers of each are 0, 1, 2, .. without a gap
 abbrev pub InDeviceOrder : List Stamped → Type 0
-InDeviceOrder fises = (before rest : List Stamped) (f : Stamped) → before ++ f ∷ rest ≡ fises → IsNextOfDevice before f
+InDeviceOrder fises =
+    (before rest : List Stamped) (f : Stamped) → before ++ f ∷ rest ≡ fises → IsNextOfDevice before f
 
 -- ---- what goes up to the host
 
@@ -43,15 +45,16 @@ pub record IsNextAtHost (before : List Stamped) (f : Stamped) : Type 0 where
   pub present : NoneShown f.stamp.port f.stamp.conn before
   pub number : f.stamp.number ≡ length (of_port f.stamp.port f.stamp.conn before)
 
--- Stamped order: for each device port the connections never fall, and the numbers of each are 0, 1, 2, .. without a gap;
--- after a FIS of the control port that shows the removal of connection c of port n stands none of n with a connection of
--- c or less. The FISes of the control port have no order of their own.
+-- Stamped order: for each device port the connections never fall, and the numbers of each are 0, 1, 2, ..
+-- without a gap; after a FIS of the control port that shows the removal of connection c of port n stands none
+-- of n with a connection of c or less. The FISes of the control port have no order of their own.
 abbrev pub InStampedOrder : List Stamped → Type 0
 InStampedOrder fises =
     (before rest : List Stamped) (f : Stamped) → before ++ f ∷ rest ≡ fises → f.stamp.port < control_port
     → IsNextAtHost before f
 
--- Bounds for port n: no FIS is of a later connection than conn, and no removal of a later one than gone is shown.
+-- Bounds for port n: no FIS is of a later connection than conn, and no removal of a later one than gone is
+-- shown.
 pub record IsWithin (fises : List Stamped) (n conn gone : ℕ) : Type 0 where
   pub highest : NoneAbove n conn fises
   pub shown : All (λ g. g.stamp.port ≡ control_port → slice_index g.stamp.shown n ≤ gone) fises

@@ -1,6 +1,8 @@
--- Frames pass a multiplier in their order and none is lost (Serial ATA 3.x, 16.3, port multiplier: frame transmission).
--- What is said here is said of any sound multiplier and of any frames that passed before.
-use Rattle.std.specs.Prelude.{◌≡◌, ◌≢◌, ℕ, ◌-◌, ◌<◌, ◌≤◌, ◌==◌, ◌&&◌, max, false, true, if◌then◌else◌, List, [], ◌∷◌, ◌++◌, All, length, map, slice_index, take, Option, Some, None, Result, Ok}
+-- Frames pass a multiplier in their order and none is lost (Serial ATA 3.x, 16.3, port multiplier: frame
+-- transmission). What is said here is said of any sound multiplier and of any frames that passed before.
+use Rattle.std.specs.Prelude.{◌≡◌, ◌≢◌, ℕ, ◌-◌, ◌<◌, ◌≤◌, ◌==◌, ◌&&◌, max, false, true, if◌then◌else◌, List}
+use Rattle.std.specs.Prelude.{[], ◌∷◌, ◌++◌, All, length, map, slice_index, take, Option, Some, None, Result}
+use Rattle.std.specs.Prelude.{Ok}
 use Rattle.std.specs.List.{filter, flat_map}
 use Rattle.std.specs.List.Sorted.{IsNonDecreasingBy}
 use Rattle.std.specs.Option.{option_to_list}
@@ -11,8 +13,10 @@ use Rattle.pm_ports.specs.declared.port.Offered.TheVariants.{Held as Kept}
 use Rattle.pm_ports.specs.Port.{is_gone}
 use Rattle.pm_ports.specs.declared.port.GoneError.{GoneError}
 use Rattle.pm_ports.specs.declared.port.PortError.{PortError}
-use Rattle.multiplier.specs.State.{PmState, IsSound, counted, falling, is_answer, is_notice, port_at, ready, rising}
-use Rattle.multiplier.specs.Rules.{CameRule, CanPutBackDown, CanPutBackUp, FromDeviceRule, FromHostRule, GoneRule, NextDownRule, NextUpRule, UndoesDown, UndoesUp}
+use Rattle.multiplier.specs.State.{PmState, IsSound, counted, falling, is_answer, is_notice, port_at, ready}
+use Rattle.multiplier.specs.State.{rising}
+use Rattle.multiplier.specs.Rules.{CameRule, CanPutBackDown, CanPutBackUp, FromDeviceRule, FromHostRule}
+use Rattle.multiplier.specs.Rules.{GoneRule, NextDownRule, NextUpRule, UndoesDown, UndoesUp}
 use Rattle.multiplier.specs.declared.multiplier.Passed.{Passed}
 use Rattle.multiplier.specs.declared.multiplier.Passed.TheVariants as passed
 use Rattle.multiplier.specs.declared.multiplier.PmRefusal.{PmRefusal}
@@ -27,7 +31,8 @@ pub data Call : Type 0 where
   FromDevice : (n : ℕ) → Stamped → Result Offered Stamped → Call
   -- a device came to port n, under this connection, or was refused
   Came : (n conn : ℕ) → Result (Unit {0}) PortError → Call
-  -- the device of port n went, or its removal was refused; and what was dropped on the way up and on the way down
+  -- the device of port n went, or its removal was refused; and what was dropped on the way up and on the way
+  -- down
   Gone : (n conn : ℕ) → Result (Unit {0}) GoneError → (up down : Option Stamped) → Call
   -- the next frame for the host was asked for
   NextUp : Result (Option Stamped) AllocError → Call
@@ -64,8 +69,8 @@ Does old (PutBackDown n frame) new = CanPutBackDown old n frame × UndoesDown ol
 
 -- ---- what passed
 
--- the frames that were given and were not put back, those for a device with its port; and those of the control port
--- that were made, a notification as it is given; all in their order
+-- the frames that were given and were not put back, those for a device with its port; and those of the
+-- control port that were made, a notification as it is given; all in their order
 pub record Past : Type 0 where
   pub up : List Stamped
   pub down : List (ℕ × Stamped)
@@ -130,7 +135,8 @@ came_in n c calls = flat_map (came_by n c) calls
 
 -- what a removal dropped of the frame that port n held, as it would have gone up
 abbrev pub lost_up_by : ℕ → ℕ → Call → List Stamped
-lost_up_by n c (Gone m conn result up down) = if m == n then of_conn n c (map (rising n) (option_to_list up)) else []
+lost_up_by n c (Gone m conn result up down) =
+    if m == n then of_conn n c (map (rising n) (option_to_list up)) else []
 lost_up_by n c _ = []
 
 abbrev pub lost_up : ℕ → ℕ → List Call → List Stamped
@@ -176,7 +182,8 @@ passed_by n present _ = []
 
 abbrev pub passed_down : ℕ → Option ℕ → List Call → List Stamped
 passed_down n present [] = []
-passed_down n present (call ∷ calls) = passed_by n present call ++ passed_down n (present_after n present call) calls
+passed_down n present (call ∷ calls) =
+    passed_by n present call ++ passed_down n (present_after n present call) calls
 
 abbrev pub all_present : ℕ → Option ℕ → List Call → Option ℕ
 all_present n was [] = was
@@ -238,8 +245,8 @@ AreNumbered from (frame ∷ frames) next = (frame.stamp.number ≡ from) × AreN
 -- What holds of calls from one multiplier to another, where these frames passed before.
 pub record PassInOrder (past : Past) (old : PmState) (calls : List Call) (new : PmState) : Type 0 where
   pub sound : IsSound new
-  -- what went up of a connection, then what its port holds of it, and then what its removal dropped, is what did before
-  -- and then what came in, each frame with the port as its PM Port and in its stamp
+  -- what went up of a connection, then what its port holds of it, and then what its removal dropped, is what
+  -- did before and then what came in, each frame with the port as its PM Port and in its stamp
   pub up : (n c : ℕ) → n < 15
       → of_conn n c (all_past past calls).up ++ held_of n c new ++ lost_up n c calls
       ≡ of_conn n c past.up ++ held_of n c old ++ came_in n c calls
@@ -248,14 +255,15 @@ pub record PassInOrder (past : Past) (old : PmState) (calls : List Call) (new : 
       → NeverFall n past.up (port_at old n).last → NeverFall n (all_past past calls).up (port_at new n).last
   pub last : (n : ℕ) → (port_at old n).last ≤ (port_at new n).last
   pub present : (n : ℕ) → n < 15 → (port_at new n).present ≡ all_present n (port_at old n).present calls
-  -- what went down to the device at a port, and then what waits for it, is what did before and then what was passed
-  -- down, where no removal dropped any of it
+  -- what went down to the device at a port, and then what waits for it, is what did before and then what was
+  -- passed down, where no removal dropped any of it
   pub down : (n : ℕ) → n < 15 → lost_down n calls ≡ []
       → to_port n (all_past past calls).down ++ falls_to n new
       ≡ to_port n past.down ++ falls_to n old ++ passed_down n (port_at old n).present calls
   -- of each connection what removals dropped is missing, and nothing else
   pub down_each : (n c : ℕ) → n < 15
-      → for_conn c (to_port n (all_past past calls).down) ++ for_conn c (falls_to n new) ++ for_conn c (lost_down n calls)
+      → for_conn c (to_port n (all_past past calls).down) ++ for_conn c (falls_to n new)
+      ++ for_conn c (lost_down n calls)
       ≡ for_conn c (to_port n past.down) ++ for_conn c (falls_to n old)
       ++ for_conn c (passed_down n (port_at old n).present calls)
   -- the connections of the frames that went down to a port never fall
@@ -270,10 +278,12 @@ pub record PassInOrder (past : Past) (old : PmState) (calls : List Call) (new : 
   pub over : (n c : ℕ) → n < 15 → is_gone (port_at old n) c ≡ true
       → (of_conn n c (all_past past calls).up ≡ of_conn n c past.up)
       × (for_conn c (to_port n (all_past past calls).down) ≡ for_conn c (to_port n past.down))
-  -- what went up of the answers, and then the one that waits, is what did before and then those that were made
+  -- what went up of the answers, and then the one that waits, is what did before and then those that were
+  -- made
   pub answered : answers (all_past past calls).up ++ option_to_list new.answer
       ≡ answers past.up ++ option_to_list old.answer ++ answers_made calls
-  -- the frames of the control port have running numbers one after another, in the order in which they were made
+  -- the frames of the control port have running numbers one after another, in the order in which they were
+  -- made
   pub numbers : (first : ℕ)
       → AreNumbered first past.made old.number → AreNumbered first (all_past past calls).made new.number
 
@@ -282,7 +292,8 @@ abbrev pub ShowsRemovals : PmState → List Call → Call → Type 0
 ShowsRemovals old calls call = (frame : Stamped) → made_in call ≡ Some frame → (n : ℕ) → n < 15
     → slice_index frame.stamp.shown n ≡ highest (port_at old n).gone (all_gone n calls)
 
--- The same calls, with a place that is ready at each turn at which a frame goes up, and that is not the one served.
+-- The same calls, with a place that is ready at each turn at which a frame goes up, and that is not the one
+-- served.
 abbrev pub PassesOver : ℕ → PmState → Call → PmState → Type 0
 PassesOver place old (NextUp (Ok (Some frame))) new =
     NextUpRule old (Ok (Some frame)) new × (ready old place ≡ true) × (new.served ≢ place)

@@ -1,6 +1,8 @@
--- What each call does (Serial ATA 3.x, 16.3, port multiplier: frame transmission). A call that changes anything ends the
--- leave to put back the frame that was given last; one that gives a frame leaves that leave for its own frame.
-use Rattle.std.specs.Prelude.{◌≡◌, ◌≢◌, ◌↔◌, ℕ, ◌<◌, ◌≤◌, ◌==◌, true, false, if◌then◌else◌, Option, Some, None, is_some, MatchOption, MatchResult, Result, Ok, Err}
+-- What each call does (Serial ATA 3.x, 16.3, port multiplier: frame transmission). A call that changes
+-- anything ends the leave to put back the frame that was given last; one that gives a frame leaves that leave
+-- for its own frame.
+use Rattle.std.specs.Prelude.{◌≡◌, ◌≢◌, ◌↔◌, ℕ, ◌<◌, ◌≤◌, ◌==◌, true, false, if◌then◌else◌, Option, Some}
+use Rattle.std.specs.Prelude.{None, is_some, MatchOption, MatchResult, Result, Ok, Err}
 use Rattle.std.specs.Bool.{MatchBool}
 use Rattle.std.specs.Result.{result_err}
 use Rattle.std.specs.declared.alloc.AllocError.{AllocError}
@@ -13,7 +15,9 @@ use Rattle.pm_ports.specs.declared.port.PortError.{PortError}
 use Rattle.pm_ports.specs.declared.port.Offered.{Offered}
 use Rattle.pm_ports.specs.declared.port.Offered.TheVariants.{Held as Kept, Dropped as LetGo}
 use Rattle.multiplier.specs.Arbiter.{control_port}
-use Rattle.multiplier.specs.State.{PmState, IsSound, ShowsRecorded, is_answer, port_at, with_port, settled, held, rising, stamped, next_place, control_stamp, counted, pm_port, passes_to, falling}
+use Rattle.multiplier.specs.State.{PmState, IsSound, ShowsRecorded, is_answer, port_at, with_port, settled}
+use Rattle.multiplier.specs.State.{held, rising, stamped, next_place, control_stamp, counted, pm_port}
+use Rattle.multiplier.specs.State.{passes_to, falling}
 use Rattle.multiplier.specs.declared.given.Given.{Given}
 use Rattle.multiplier.specs.declared.given.Given.TheVariants.{Up, Down}
 use Rattle.multiplier.specs.declared.given.Source.{Source}
@@ -23,7 +27,8 @@ use Rattle.multiplier.specs.declared.multiplier.Passed.TheVariants as passed
 use Rattle.multiplier.specs.declared.multiplier.PmRefusal.{PmRefusal}
 use Rattle.multiplier.specs.declared.multiplier.PmRefusal.TheVariants as refusal
 
--- the ports stay: how many there are, which connection is present at each, which was the last, and which are gone
+-- the ports stay: how many there are, which connection is present at each, which was the last, and which are
+-- gone
 pub record KeepsPorts (old new : PmState) : Type 0 where
   pub count : new.registers.ports ≡ old.registers.ports
   pub present : (n : ℕ) → (port_at new n).present ≡ (port_at old n).present
@@ -32,7 +37,8 @@ pub record KeepsPorts (old new : PmState) : Type 0 where
 
 -- ---- a frame of the host
 
--- why the control port gives a frame back: an answer waits, or there is no memory for the answer that the frame has
+-- why the control port gives a frame back: an answer waits, or there is no memory for the answer that the
+-- frame has
 abbrev pub ControlRefuses : PmState → Stamped → PmRefusal → Type 0
 ControlRefuses old frame refusal.HoldFull = is_some old.answer ≡ true
 ControlRefuses old frame refusal.OutOfMemory =
@@ -89,12 +95,14 @@ DropsOnly old frame result =
 -- ---- a frame of a device
 
 abbrev pub FromDeviceRule : PmState → ℕ → Stamped → Result Offered Stamped → PmState → Type 0
-FromDeviceRule old n frame (Ok LetGo) new = (port.is_gone (port_at old n) frame.stamp.conn ≡ true) × (new ≡ old)
+FromDeviceRule old n frame (Ok LetGo) new =
+    (port.is_gone (port_at old n) frame.stamp.conn ≡ true) × (new ≡ old)
 FromDeviceRule old n frame (Ok Kept) new =
     (port.is_gone (port_at old n) frame.stamp.conn ≡ false) × ((port_at old n).up ≡ None)
     × (new ≡ with_port old n (port.with_up (port_at old n) (Some (stamped n frame))))
 FromDeviceRule old n frame (Err back) new =
-    (port.is_gone (port_at old n) frame.stamp.conn ≡ false) × (is_some (port_at old n).up ≡ true) × (back ≡ frame)
+    (port.is_gone (port_at old n) frame.stamp.conn ≡ false) × (is_some (port_at old n).up ≡ true)
+    × (back ≡ frame)
     × (new ≡ old)
 
 -- a device came to a port: the port has its connection, and the registers show it
@@ -108,8 +116,8 @@ CameRule old n conn result new =
     (result_err result ≡ port.came_refusal (port_at old n) conn)
     × MatchResult result (λ _. new ≡ with_device old n conn) (λ _. new ≡ old)
 
--- A device went from a port: the port has recorded it and holds no frame of it any more, and the registers show it. The
--- frame that waited to go down to it is dropped and counted.
+-- A device went from a port: the port has recorded it and holds no frame of it any more, and the registers
+-- show it. The frame that waited to go down to it is dropped and counted.
 abbrev pub without_device : PmState → ℕ → ℕ → PmState
 without_device pm n conn = record (with_port pm n (port.with_removal (port_at pm n) conn)) {
   registers = map.after_remove pm.registers n;
@@ -152,7 +160,11 @@ ControlGives old frame new =
       given = may_go_back old source.Notice frame;
     }))
     ((old.answer ≡ Some frame)
-    × (new ≡ record old { answer = None; served = control_port; given = may_go_back old source.Answer frame }))
+    × (new ≡ record old {
+      answer = None;
+      served = control_port;
+      given = may_go_back old source.Answer frame;
+    }))
 
 abbrev pub PlaceGives : PmState → ℕ → Stamped → PmState → Type 0
 PlaceGives old place frame new =
@@ -160,13 +172,14 @@ PlaceGives old place frame new =
 
 -- The next ready place after the one served last gives its frame. Memory is wanted for a notification alone.
 abbrev pub NextUpRule : PmState → Result (Option Stamped) AllocError → PmState → Type 0
-NextUpRule old (Ok (Some frame)) new = MatchOption (next_place old) ⊥ (λ place. PlaceGives old place frame new)
+NextUpRule old (Ok (Some frame)) new =
+    MatchOption (next_place old) ⊥ (λ place. PlaceGives old place frame new)
 NextUpRule old (Ok None) new = (next_place old ≡ None) × (new ≡ old)
 NextUpRule old (Err e) new = (next_place old ≡ Some control_port) × (old.registers.due ≡ true) × (new ≡ old)
 
--- This frame is the one that went up last, and nothing has changed since: some multiplier that gives it becomes this
--- one. The leave that it left, with the frame's stamp, is still there, since each other call that changes anything
--- takes the leave away or gives one for a frame of its own.
+-- This frame is the one that went up last, and nothing has changed since: some multiplier that gives it
+-- becomes this one. The leave that it left, with the frame's stamp, is still there, since each other call
+-- that changes anything takes the leave away or gives one for a frame of its own.
 abbrev pub CanPutBackUp : PmState → Stamped → Type 0
 CanPutBackUp pm frame = (before : PmState) × IsSound before × NextUpRule before (Ok (Some frame)) pm
 
@@ -174,8 +187,8 @@ CanPutBackUp pm frame = (before : PmState) × IsSound before × NextUpRule befor
 abbrev pub UndoesUp : PmState → Stamped → PmState → Type 0
 UndoesUp old frame new = (before : PmState) → NextUpRule before (Ok (Some frame)) old → new ≡ settled before
 
--- a frame goes back into a place at which this one is served last: of a port it finds its place empty, and is of no
--- connection that is gone; and an answer is one, and shows no removal that is not recorded
+-- a frame goes back into a place at which this one is served last: of a port it finds its place empty, and is
+-- of no connection that is gone; and an answer is one, and shows no removal that is not recorded
 abbrev pub HasRoom : PmState → ℕ → Stamped → Source → Type 0
 HasRoom pm place frame (source.Held was) =
     (place < control_port) × (was < 16) × ((port_at pm place).up ≡ None) × (frame.stamp.port ≡ place)
@@ -189,7 +202,8 @@ remarked was frame = record frame { bytes = marked frame.bytes was }
 
 -- the places with the frame back in its own
 abbrev pub refilled : PmState → ℕ → Stamped → Source → PmState
-refilled pm place frame (source.Held was) = with_port pm place (port.with_up (port_at pm place) (Some (remarked was frame)))
+refilled pm place frame (source.Held was) =
+    with_port pm place (port.with_up (port_at pm place) (Some (remarked was frame)))
 refilled pm place frame source.Answer = record pm { answer = Some frame; given = None }
 refilled pm place frame source.Notice = record pm {
   registers = map.after_restore pm.registers;
@@ -199,7 +213,8 @@ refilled pm place frame source.Notice = record pm {
 
 -- all that the leave says is done
 abbrev pub put_back : PmState → Stamped → Option Given → PmState
-put_back pm frame (Some (Up before kind stamp)) = refilled (record pm { served = before }) pm.served frame kind
+put_back pm frame (Some (Up before kind stamp)) =
+    refilled (record pm { served = before }) pm.served frame kind
 put_back pm frame _ = pm
 
 abbrev pub HasRoomFor : PmState → Stamped → Option Given → Type 0
@@ -212,7 +227,8 @@ HasRoomFor pm frame _ = ⊥
 abbrev pub NextDownRule : PmState → ℕ → Option Stamped → PmState → Type 0
 NextDownRule old n (Some frame) new =
     ((port_at old n).down ≡ Some frame)
-    × (new ≡ record (with_port old n (port.with_down (port_at old n) None)) { given = Some (Down n frame.stamp) })
+    × (new ≡ record (with_port old n (port.with_down (port_at old n) None))
+    { given = Some (Down n frame.stamp) })
 NextDownRule old n None new = ((port_at old n).down ≡ None) × (new ≡ old)
 
 -- the same for the frame that went down last, which went to the device at this port
@@ -220,4 +236,5 @@ abbrev pub CanPutBackDown : PmState → ℕ → Stamped → Type 0
 CanPutBackDown pm n frame = (before : PmState) × IsSound before × NextDownRule before n (Some frame) pm
 
 abbrev pub UndoesDown : PmState → ℕ → Stamped → PmState → Type 0
-UndoesDown old n frame new = (before : PmState) → NextDownRule before n (Some frame) old → new ≡ settled before
+UndoesDown old n frame new =
+    (before : PmState) → NextDownRule before n (Some frame) old → new ≡ settled before

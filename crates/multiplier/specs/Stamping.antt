@@ -1,4 +1,5 @@
--- That what goes up is in stamped order, where what was taken of each device is in order. The stamps are our own.
+-- That what goes up is in stamped order, where what was taken of each device is in order. The stamps are our
+-- own.
 use Rattle.std.specs.Prelude.{◌≡◌, ℕ, ◌<◌, ◌==◌, false, if◌then◌else◌, List, [], ◌∷◌, ◌++◌, map, Result, Ok}
 use Rattle.std.specs.List.{flat_map}
 use Rattle.std.specs.Option.{option_to_list}
@@ -16,12 +17,15 @@ taken_by n _ = []
 abbrev pub taken_of : ℕ → List Call → List Stamped
 taken_of n calls = flat_map (taken_by n) calls
 
--- What went up is in stamped order, and what is known besides, where these frames were taken of the device at each port.
+-- What went up is in stamped order, and what is known besides, where these frames were taken of the device at
+-- each port.
 pub record IsStamped (taken : ℕ → List Stamped) (past : Past) (pm : PmState) : Type 0 where
   pub order : InStampedOrder past.up
-  -- none is of a connection above the last of its port, and none shows a removal above the highest that is recorded
+  -- none is of a connection above the last of its port, and none shows a removal above the highest that is
+  -- recorded
   pub bounds : (n : ℕ) → n < 15 → IsWithin past.up n (port_at pm n).last (port_at pm n).gone
-  -- of a connection that is not gone, what went up and then what its port holds is what was taken, as it goes up
+  -- of a connection that is not gone, what went up and then what its port holds is what was taken, as it goes
+  -- up
   pub whole : (n c : ℕ) → n < 15 → is_gone (port_at pm n) c ≡ false
       → of_conn n c past.up ++ held_of n c pm ≡ map (rising n) (of_connection c (taken n))
 

@@ -1,6 +1,8 @@
--- What a port multiplier holds (Serial ATA 3.x, 16.3, port multiplier): its registers (16.4), its device ports, and
--- what its control port has to say.
-use Rattle.std.specs.Prelude.{◌≡◌, ℕ, ◌+◌, ◌%◌, ◌==◌, ◌≤◌, ◌&&◌, ◌||◌, min, Bool, false, true, if◌then◌else◌, List, length, map, replicate, slice_index, slice_index_or, slice_set, Option, None, Some, is_some}
+-- What a port multiplier holds (Serial ATA 3.x, 16.3, port multiplier): its registers (16.4), its device
+-- ports, and what its control port has to say.
+use Rattle.std.specs.Prelude.{◌≡◌, ℕ, ◌+◌, ◌%◌, ◌==◌, ◌≤◌, ◌&&◌, ◌||◌, min, Bool, false, true, if◌then◌else◌}
+use Rattle.std.specs.Prelude.{List, length, map, replicate, slice_index, slice_index_or, slice_set, Option}
+use Rattle.std.specs.Prelude.{None, Some, is_some}
 use Rattle.fis_view.specs.Frames.{Stamped, marked}
 use Rattle.fis_view.specs.declared.frame.Stamp.{Stamp}
 use Rattle.pm_registers.specs.RegisterMap as map
@@ -60,9 +62,9 @@ with_port pm n p = record pm { ports = slice_set pm.ports n p; given = None }
 
 -- ---- what is true of every multiplier
 
--- a port is sound; the registers show a device at it exactly where a connection is present; the frame that waits to go
--- up is stamped with the port, and of no connection that is gone; and the one that waits to go down is for the
--- connection that is present
+-- a port is sound; the registers show a device at it exactly where a connection is present; the frame that
+-- waits to go up is stamped with the port, and of no connection that is gone; and the one that waits to go
+-- down is for the connection that is present
 pub record IsSoundPort (n : ℕ) (shown : Bool) (p : port.PortState) : Type 0 where
   pub sound : port.IsSound p
   pub agrees : shown ≡ is_some p.present
@@ -70,7 +72,8 @@ pub record IsSoundPort (n : ℕ) (shown : Bool) (p : port.PortState) : Type 0 wh
   pub stays : (frame : Stamped) → p.up ≡ Some frame → port.is_gone p frame.stamp.conn ≡ false
   pub meant : (frame : Stamped) → p.down ≡ Some frame → p.present ≡ Some frame.stamp.conn
 
--- the answer of the control port: a Register Device to Host FIS, type 34h (10.5), that is stamped with the port
+-- the answer of the control port: a Register Device to Host FIS, type 34h (10.5), that is stamped with the
+-- port
 abbrev pub is_answer : Stamped → Bool
 is_answer frame = frame.stamp.port == control_port && slice_index frame.bytes 0 == 0x34
 
@@ -103,7 +106,8 @@ pub record IsSound (pm : PmState) : Type 0 where
 
 -- ---- up
 
--- the frame of a port that goes up next: the one it holds, where it forwards and the frame is of its connection
+-- the frame of a port that goes up next: the one it holds, where it forwards and the frame is of its
+-- connection
 abbrev pub held : PmState → ℕ → Option Stamped
 held pm n = port.next_up (map.forwards pm.registers n) (port_at pm n)
 
@@ -111,17 +115,19 @@ held pm n = port.next_up (map.forwards pm.registers n) (port_at pm n)
 abbrev pub stamped : ℕ → Stamped → Stamped
 stamped n frame = record {
   bytes = frame.bytes;
-  stamp = record { port = n; conn = frame.stamp.conn; number = frame.stamp.number; shown = frame.stamp.shown };
+  stamp =
+      record { port = n; conn = frame.stamp.conn; number = frame.stamp.number; shown = frame.stamp.shown };
 }
 
 -- a frame as it goes up from a port: its PM Port and the port of its stamp are the port
 abbrev pub rising : ℕ → Stamped → Stamped
 rising n frame = record { bytes = marked frame.bytes n; stamp = (stamped n frame).stamp }
 
--- a place is ready where it has a frame for the host: a port that holds one which may go up, and the control port
--- where a notification is due or an answer waits
+-- a place is ready where it has a frame for the host: a port that holds one which may go up, and the control
+-- port where a notification is due or an answer waits
 abbrev pub ready : PmState → ℕ → Bool
-ready pm place = if place == control_port then pm.registers.due || is_some pm.answer else is_some (held pm place)
+ready pm place =
+    if place == control_port then pm.registers.due || is_some pm.answer else is_some (held pm place)
 
 -- the place that is served next
 abbrev pub next_place : PmState → Option ℕ
@@ -145,5 +151,6 @@ passes_to pm n = if map.forwards pm.registers n then (port_at pm n).present else
 abbrev pub falling : ℕ → Stamped → Stamped
 falling conn frame = record {
   bytes = marked frame.bytes 0;
-  stamp = record { port = frame.stamp.port; conn = conn; number = frame.stamp.number; shown = frame.stamp.shown };
+  stamp =
+      record { port = frame.stamp.port; conn = conn; number = frame.stamp.number; shown = frame.stamp.shown };
 }

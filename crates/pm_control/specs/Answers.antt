@@ -1,13 +1,16 @@
--- How the control port answers, and what an answer leaves (Serial ATA 3.x, 16.2: READ PORT MULTIPLIER and WRITE PORT
--- MULTIPLIER, software reset of the control port; 16.3: asynchronous notification; 16.4: the registers).
-use Rattle.std.specs.Prelude.{◌≡◌, ℕ, ◌/◌, ◌%◌, Bool, true, false, if◌then◌else◌, List, Option, Some, None, IsSome, Result, Ok, Err}
+-- How the control port answers, and what an answer leaves (Serial ATA 3.x, 16.2: READ PORT MULTIPLIER and
+-- WRITE PORT MULTIPLIER, software reset of the control port; 16.3: asynchronous notification; 16.4: the
+-- registers).
+use Rattle.std.specs.Prelude.{◌≡◌, ℕ, ◌/◌, ◌%◌, Bool, true, false, if◌then◌else◌, List, Option, Some, None}
+use Rattle.std.specs.Prelude.{IsSome, Result, Ok, Err}
 use Rattle.fis_view.specs.Frames.{Stamped}
 use Rattle.fis_view.specs.Table.{D2h, Bits}
 use Rattle.fis_view.specs.Built.{IsBuilt, d2h_given, set_bits_given}
 use Rattle.fis_view.specs.declared.build.D2hFields.{D2hFields}
 use Rattle.fis_view.specs.declared.build.SetBitsFields.{SetBitsFields}
 use Rattle.fis_view.specs.declared.frame.Stamp.{Stamp}
-use Rattle.pm_registers.specs.RegisterMap.{RegisterMap, register_at, read_at, after_rule, after_write, write_rule}
+use Rattle.pm_registers.specs.RegisterMap.{RegisterMap, register_at, read_at, after_rule, after_write}
+use Rattle.pm_registers.specs.RegisterMap.{write_rule}
 use Rattle.pm_registers.specs.Calls.{value_at}
 use Rattle.pm_registers.specs.declared.words.RegisterError.{RegisterError}
 use Rattle.pm_registers.specs.declared.words.RegisterError.TheVariants.{NoPort, NoRegister}
@@ -95,7 +98,8 @@ mark_left mark bytes = mark_after_request mark (request_in bytes)
 
 -- each frame that gives a command has an answer
 abbrev pub CommandsAreAnswered : Type 0
-CommandsAreAnswered = (mark : Bool) (m : RegisterMap) (bytes : List ℕ) → IsCommand bytes → IsSome (answer_to mark m bytes)
+CommandsAreAnswered =
+    (mark : Bool) (m : RegisterMap) (bytes : List ℕ) → IsCommand bytes → IsSome (answer_to mark m bytes)
 
 -- a frame with these fields and this stamp where there are fields, else none
 abbrev pub IsAnswer : Option D2hFields → Stamp → Option Stamped → Type 0
@@ -104,21 +108,26 @@ IsAnswer None stamp (Some frame) = ⊥
 IsAnswer (Some fields) stamp None = ⊥
 IsAnswer (Some fields) stamp (Some frame) = IsBuilt D2h (d2h_given fields) frame.bytes × (frame.stamp ≡ stamp)
 
--- a register that is written has the value that its write rule makes of the one before and of the one that is written
+-- a register that is written has the value that its write rule makes of the one before and of the one that is
+-- written
 abbrev pub ReadsBack : RegisterMap → Request → RegisterMap → Type 0
-ReadsBack old (Write at value) new = (was : ℕ) → register_at old at.port at.register ≡ Some was → register_at new at.port at.register ≡ Some (after_rule (write_rule at.port at.register) was value)
+ReadsBack old (Write at value) new = (was : ℕ) → register_at old at.port at.register ≡ Some was
+    → register_at new at.port at.register ≡ Some (after_rule (write_rule at.port at.register) was value)
 ReadsBack old (Read at) new = Unit {0}
 ReadsBack old Unknown new = Unit {0}
 ReadsBack old Reset new = Unit {0}
 ReadsBack old EndReset new = Unit {0}
 
--- 16.2.2, WRITE PORT MULTIPLIER: where a write has Status 50h, the next READ PORT MULTIPLIER of that port and register is
--- answered with what the register's write rule makes of its value before and of the value that was written.
+-- 16.2.2, WRITE PORT MULTIPLIER: where a write has Status 50h, the next READ PORT MULTIPLIER of that port and
+-- register is answered with what the register's write rule makes of its value before and of the value that
+-- was written.
 abbrev pub IsSeenNext : RegisterMap → List ℕ → ℕ → RegisterMap → Type 0
 IsSeenNext old write status new =
     (at : Address) (value : ℕ) → request_in write ≡ Some (Write at value) → status ≡ 0x50
     → (mark : Bool) (read : List ℕ) → request_in read ≡ Some (Read at)
-    → answer_to mark new read ≡ Some (value_answer (after_rule (write_rule at.port at.register) (value_at old at.port at.register) value))
+    → answer_to mark new read
+    ≡ Some (value_answer (after_rule (write_rule at.port at.register)
+    (value_at old at.port at.register) value))
 
 -- ---- the notification: a Set Device Bits FIS from PM Port Fh with N and I set, Status 50h, Error 0, SActive 0
 
@@ -130,4 +139,5 @@ abbrev pub IsNotice : Bool → Stamp → Option Stamped → Type 0
 IsNotice false stamp None = Unit {0}
 IsNotice false stamp (Some frame) = ⊥
 IsNotice true stamp None = ⊥
-IsNotice true stamp (Some frame) = IsBuilt Bits (set_bits_given notice_fields) frame.bytes × (frame.stamp ≡ stamp)
+IsNotice true stamp (Some frame) =
+    IsBuilt Bits (set_bits_given notice_fields) frame.bytes × (frame.stamp ≡ stamp)

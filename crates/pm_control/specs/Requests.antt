@@ -1,6 +1,7 @@
--- What a FIS to the control port asks for (Serial ATA 3.x, 16.2: READ PORT MULTIPLIER, WRITE PORT MULTIPLIER; software
--- reset of the control port).
-use Rattle.std.specs.Prelude.{◌≡◌, ℕ, ◌+◌, ◌*◌, ◌%◌, ◌==◌, if◌then◌else◌, bit_and, List, Option, Some, None, Result, Ok, Err}
+-- What a FIS to the control port asks for (Serial ATA 3.x, 16.2: READ PORT MULTIPLIER, WRITE PORT MULTIPLIER;
+-- software reset of the control port).
+use Rattle.std.specs.Prelude.{◌≡◌, ℕ, ◌+◌, ◌*◌, ◌%◌, ◌==◌, if◌then◌else◌, bit_and, List, Option, Some, None}
+use Rattle.std.specs.Prelude.{Result, Ok, Err}
 use Rattle.fis_view.specs.Table.{H2d, C, Command, Features, Device, Lba, Count, Control, field}
 use Rattle.fis_view.specs.Seen.{seen}
 use Rattle.fis_view.specs.declared.view.Fis.{Fis}
@@ -22,7 +23,8 @@ value_in f = field H2d Count f % 256 + 256 * (field H2d Lba f % 0x1000000)
 abbrev pub requested : List ℕ → Request
 requested f =
     (if field H2d C f == 1
-    then (if field H2d Command f == 0xE4 then Read (address_in f) else if field H2d Command f == 0xE8 then Write (address_in f) (value_in f) else Unknown)
+    then (if field H2d Command f == 0xE4 then Read (address_in f) else if field H2d Command f == 0xE8
+    then Write (address_in f) (value_in f) else Unknown)
     else (if bit_and (field H2d Control f) 4 == 0 then EndReset else Reset))
 
 abbrev pub request_under : Result Fis FisFault → Option Request

@@ -1,13 +1,13 @@
--- What becomes of a frame that a port is given (Serial ATA 3.x, 16.3, port multiplier: frame transmission): it is kept,
--- dropped because its connection is gone, or given back.
+-- What becomes of a frame that a port is given (Serial ATA 3.x, 16.3, port multiplier: frame transmission):
+-- it is kept, dropped because its connection is gone, or given back.
 use Rattle.std.specs.Prelude.{◌≡◌, true, false, Some, None, is_some, Result, Ok, Err}
 use Rattle.fis_view.specs.Frames.{Stamped}
 use Rattle.pm_ports.specs.Port.{PortState, is_gone, with_up, with_down}
 use Rattle.pm_ports.specs.declared.port.Offered.{Offered}
 use Rattle.pm_ports.specs.declared.port.Offered.TheVariants.{Held, Dropped}
 
--- a frame of the device is offered: dropped where its connection is gone, else held in the empty upward place, else
--- given back
+-- a frame of the device is offered: dropped where its connection is gone, else held in the empty upward
+-- place, else given back
 abbrev pub IsOffered : PortState → Stamped → Result Offered Stamped → PortState → Type 0
 IsOffered old frame (Ok Dropped) new = (is_gone old frame.stamp.conn ≡ true) × (new ≡ old)
 IsOffered old frame (Ok Held) new =

@@ -1,7 +1,8 @@
 -- What one fan-out port of a port multiplier holds: a frame on its way up, a frame on its way down, and which
--- connection of its device is present (Serial ATA 3.x, 16.3, port multiplier: frame transmission, where one FIS at a
--- time is buffered in each direction).
-use Rattle.std.specs.Prelude.{◌≡◌, ℕ, ◌<◌, Bool, false, not, nat_le, nat_lt, ◌==◌, ◌&&◌, if◌then◌else◌, Option, Some, None, is_some}
+-- connection of its device is present (Serial ATA 3.x, 16.3, port multiplier: frame transmission, where one
+-- FIS at a time is buffered in each direction).
+use Rattle.std.specs.Prelude.{◌≡◌, ℕ, ◌<◌, Bool, false, not, nat_le, nat_lt, ◌==◌, ◌&&◌, if◌then◌else◌}
+use Rattle.std.specs.Prelude.{Option, Some, None, is_some}
 use Rattle.fis_view.specs.Frames.{Stamped}
 use Rattle.pm_ports.specs.declared.port.GoneError.{GoneError}
 use Rattle.pm_ports.specs.declared.port.GoneError.TheVariants.{NotThere}
@@ -21,8 +22,8 @@ pub record PortState : Type 0 where
   -- the frame for the device that waits to go down
   pub down : Option Stamped
 
--- what is true of every port: the connection that is present is one that a device may have, the highest that came, and
--- above those that are gone; and where none is present, each that came is gone
+-- what is true of every port: the connection that is present is one that a device may have, the highest that
+-- came, and above those that are gone; and where none is present, each that came is gone
 pub record IsSound (port : PortState) : Type 0 where
   pub counted : (conn : ℕ) → port.present ≡ Some conn → 0 < conn
   pub last : (conn : ℕ) → port.present ≡ Some conn → conn ≡ port.last
@@ -34,19 +35,23 @@ abbrev pub empty_port : PortState
 empty_port = record { present = None; last = 0; gone = 0; up = None; down = None }
 
 abbrev pub with_up : PortState → Option Stamped → PortState
-with_up port place = record { present = port.present; last = port.last; gone = port.gone; up = place; down = port.down }
+with_up port place =
+    record { present = port.present; last = port.last; gone = port.gone; up = place; down = port.down }
 
 abbrev pub with_down : PortState → Option Stamped → PortState
-with_down port place = record { present = port.present; last = port.last; gone = port.gone; up = port.up; down = place }
+with_down port place =
+    record { present = port.present; last = port.last; gone = port.gone; up = port.up; down = place }
 
 -- the port after this connection came; what it holds stays
 abbrev pub with_connection : PortState → ℕ → PortState
-with_connection port conn = record { present = Some conn; last = conn; gone = port.gone; up = port.up; down = port.down }
+with_connection port conn =
+    record { present = Some conn; last = conn; gone = port.gone; up = port.up; down = port.down }
 
 -- the first refusal that applies where a connection comes; connections are numbered from 1 and never fall
 abbrev pub came_refusal : PortState → ℕ → Option PortError
 came_refusal port conn =
-    if is_some port.present then Some AlreadyThere else if nat_le conn port.last then Some OldConnection else None
+    if is_some port.present then Some AlreadyThere else if nat_le conn port.last then Some OldConnection
+    else None
 
 -- whether a connection is one of those up to the highest that is gone; 0 is none that a device has
 abbrev pub is_up_to : ℕ → ℕ → Bool
@@ -70,10 +75,17 @@ abbrev pub left_in : ℕ → Option Stamped → Option Stamped
 left_in highest (Some frame) = only_if (not (is_up_to highest frame.stamp.conn)) frame
 left_in highest None = None
 
--- the port after the removal of this connection was recorded: no device is there, and no frame of one that is gone
+-- the port after the removal of this connection was recorded: no device is there, and no frame of one that is
+-- gone
 abbrev pub with_removal : PortState → ℕ → PortState
 with_removal port conn =
-    record { present = None; last = port.last; gone = conn; up = left_in conn port.up; down = left_in conn port.down }
+    record {
+      present = None;
+      last = port.last;
+      gone = conn;
+      up = left_in conn port.up;
+      down = left_in conn port.down;
+    }
 
 -- whether this connection is the one that is present
 abbrev pub is_present : Option ℕ → ℕ → Bool
@@ -84,7 +96,8 @@ is_present None conn = false
 abbrev pub gone_refusal : PortState → ℕ → Option GoneError
 gone_refusal port conn = if is_present port.present conn then None else Some NotThere
 
--- the frame that goes up next: the one held, where the port forwards and the frame is of the present connection
+-- the frame that goes up next: the one held, where the port forwards and the frame is of the present
+-- connection
 abbrev pub rises : Bool → Option ℕ → Option Stamped → Option Stamped
 rises forwards present (Some frame) = only_if (forwards && is_of_present present frame) frame
 rises forwards present None = None

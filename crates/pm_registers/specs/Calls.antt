@@ -1,8 +1,11 @@
--- What is true after any list of calls, by the calls alone (Serial ATA 3.x, 16.4.1: GSCR[32] shows the ports with an
--- error that the mask GSCR[33] lets through; 16.3.4: asynchronous notification).
-use Rattle.std.specs.Prelude.{◌≡◌, ◌≢◌, ℕ, ◌<◌, ◌==◌, ◌↔◌, ◌⊎◌, Bool, true, false, if◌then◌else◌, List, [], ◌∷◌, ◌++◌, All, unwrap_or}
+-- What is true after any list of calls, by the calls alone (Serial ATA 3.x, 16.4.1: GSCR[32] shows the ports
+-- with an error that the mask GSCR[33] lets through; 16.3.4: asynchronous notification).
+use Rattle.std.specs.Prelude.{◌≡◌, ◌≢◌, ℕ, ◌<◌, ◌==◌, ◌↔◌, ◌⊎◌, Bool, true, false, if◌then◌else◌, List, []}
+use Rattle.std.specs.Prelude.{◌∷◌, ◌++◌, All, unwrap_or}
 use Rattle.std.specs.Int.{bit_at}
-use Rattle.pm_registers.specs.RegisterMap.{RegisterMap, IsSound, port_at, register_at, after_write, after_insert, after_remove, after_raise, after_notice, after_restore}
+use Rattle.pm_registers.specs.RegisterMap.{RegisterMap, IsSound, port_at, register_at, after_write}
+use Rattle.pm_registers.specs.RegisterMap.{after_insert, after_remove, after_raise, after_notice}
+use Rattle.pm_registers.specs.RegisterMap.{after_restore}
 
 -- a call that changes the registers
 pub data Call : Type 0 where
@@ -55,7 +58,8 @@ MakesDue call old new = Notifies old new ⊎ (call ≡ Restores)
 -- since the last notice, or since the beginning, some call makes one due
 abbrev pub NotifiedSince : RegisterMap → List Call → Type 0
 NotifiedSince m calls =
-    (before : List Call) × (call : Call) × (since : List Call) × (calls ≡ before ++ call ∷ since) × All (λ c. c ≢ Notices) (call ∷ since)
+    (before : List Call) × (call : Call) × (since : List Call) × (calls ≡ before ++ call ∷ since)
+    × All (λ c. c ≢ Notices) (call ∷ since)
     × MakesDue call (after m before) (after m (before ++ call ∷ []))
 
 -- a bit of a device port's PSCR[1] goes only where ones are written to it
@@ -64,7 +68,8 @@ ClearedByOnes m =
     (call : Call) (n k : ℕ) → n < m.ports → HasBit m n 1 k → bit_at (value_at (called m call) n 1) k ≡ 0
     → (value : ℕ) × (call ≡ Writes n 1 value) × (bit_at value k ≡ 1)
 
--- whether a device is present at port n after a call, where one was or was not: only its coming and going change it
+-- whether a device is present at port n after a call, where one was or was not: only its coming and going
+-- change it
 abbrev pub device_after : Call → ℕ → Bool → Bool
 device_after (Inserts port) n was = if port == n then true else was
 device_after (Removes port) n was = if port == n then false else was

@@ -1,6 +1,8 @@
--- The registers of one device port (Serial ATA 3.x, 14.1: SStatus, SError and SControl; 16.4.2: PSCR[0], PSCR[1] and
--- PSCR[2] are these three), and what happens to them when a device comes or goes and when SControl is written.
-use Rattle.std.specs.Prelude.{◌≡◌, ℕ, ◌%◌, Bool, true, false, ◌==◌, ◌&&◌, if◌then◌else◌, bit_and, bit_or, Option, Some, None}
+-- The registers of one device port (Serial ATA 3.x, 14.1: SStatus, SError and SControl; 16.4.2: PSCR[0],
+-- PSCR[1] and PSCR[2] are these three), and what happens to them when a device comes or goes and when
+-- SControl is written.
+use Rattle.std.specs.Prelude.{◌≡◌, ℕ, ◌%◌, Bool, true, false, ◌==◌, ◌&&◌, if◌then◌else◌, bit_and, bit_or}
+use Rattle.std.specs.Prelude.{Option, Some, None}
 use Rattle.pm_registers.specs.Bits.{without}
 use Rattle.pm_registers.specs.declared.port.PortRegisters.{PortRegisters}
 
@@ -21,7 +23,8 @@ opening_port = record { status = 4; error = 0; control = 4; present = false }
 
 -- the registers by their numbers
 abbrev pub pscr : PortRegisters → ℕ → Option ℕ
-pscr p register = (if register == 0 then Some p.status else if register == 1 then Some p.error else if register == 2 then Some p.control else None)
+pscr p register = (if register == 0 then Some p.status else if register == 1 then Some p.error
+    else if register == 2 then Some p.control else None)
 
 -- DET of SControl is 0; each other value closes the port
 abbrev pub is_open : PortRegisters → Bool
@@ -35,8 +38,8 @@ met p = record p { status = 0x133; error = bit_or (bit_or p.error bit_n) bit_x }
 abbrev pub opened : PortRegisters → PortRegisters
 opened p = if p.present then met p else record p { status = 0 }
 
--- A write to SControl stores the value. DET 0 opens the port, where it was closed. DET 4 takes it offline, and each other
--- value closes it with SStatus 0.
+-- A write to SControl stores the value. DET 0 opens the port, where it was closed. DET 4 takes it offline,
+-- and each other value closes it with SStatus 0.
 abbrev pub controlled : PortRegisters → ℕ → PortRegisters
 controlled p value =
     let next : PortRegisters = record p { control = value } in
@@ -46,7 +49,8 @@ controlled p value =
 -- a write to a register: ones clear bits of SError, SControl acts, and SStatus is only read
 abbrev pub port_written : PortRegisters → ℕ → ℕ → PortRegisters
 port_written p register value =
-    (if register == 1 then record p { error = without p.error value } else if register == 2 then controlled p value else p)
+    (if register == 1 then record p { error = without p.error value } else if register == 2
+    then controlled p value else p)
 
 -- a device comes; a closed port does not see it
 abbrev pub inserted : PortRegisters → PortRegisters
@@ -62,8 +66,8 @@ removed p =
 abbrev pub raised : PortRegisters → ℕ → PortRegisters
 raised p bits = record p { error = bit_or p.error bits }
 
--- whether FISes pass the port, in either direction: it is open, communication is established, and no exchange of the
--- device is left that the host has not seen
+-- whether FISes pass the port, in either direction: it is open, communication is established, and no exchange
+-- of the device is left that the host has not seen
 abbrev pub passes : PortRegisters → Bool
 passes p = is_open p && det p.status == 3 && bit_and p.error bit_x == 0
 

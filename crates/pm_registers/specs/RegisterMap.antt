@@ -1,13 +1,17 @@
--- The registers of a port multiplier (Serial ATA 3.x, 16.4), as a finite map from a port and a number to a value.
-use Rattle.std.specs.Prelude.{◌≡◌, ◌≤◌, ℕ, Bool, true, false, not, ◌==◌, ◌&&◌, ◌||◌, nat_lt, if◌then◌else◌, bit_and, List, length, replicate, slice_set, slice_index_or, Option, Some, None, ok_or, is_some, Result, Err}
+-- The registers of a port multiplier (Serial ATA 3.x, 16.4), as a finite map from a port and a number to a
+-- value.
+use Rattle.std.specs.Prelude.{◌≡◌, ◌≤◌, ℕ, Bool, true, false, not, ◌==◌, ◌&&◌, ◌||◌, nat_lt, if◌then◌else◌}
+use Rattle.std.specs.Prelude.{bit_and, List, length, replicate, slice_set, slice_index_or, Option, Some, None}
+use Rattle.std.specs.Prelude.{ok_or, is_some, Result, Err}
 use Rattle.pm_registers.specs.Bits.{without, shares, rises, bits_where}
 use Rattle.pm_registers.specs.declared.port.PortRegisters.{PortRegisters}
 use Rattle.pm_registers.specs.declared.words.RegisterError.{RegisterError}
 use Rattle.pm_registers.specs.declared.words.RegisterError.TheVariants.{NoPort, NoRegister}
-use Rattle.pm_registers.specs.Port.{opening_port, pscr, port_written, inserted, removed, raised, passes, ShowsTruly}
+use Rattle.pm_registers.specs.Port.{opening_port, pscr, port_written, inserted, removed, raised, passes}
+use Rattle.pm_registers.specs.Port.{ShowsTruly}
 
--- what a multiplier holds: how many device ports it has, GSCR[33], GSCR[96], the registers of the ports (those from
--- `ports` on are not there), and whether a notification is due
+-- what a multiplier holds: how many device ports it has, GSCR[33], GSCR[96], the registers of the ports
+-- (those from `ports` on are not there), and whether a notification is due
 pub record RegisterMap : Type 0 where
   pub ports : ℕ
   pub mask : ℕ
@@ -20,7 +24,8 @@ abbrev pub control_port : ℕ
 control_port = 15
 
 abbrev pub opening : ℕ → RegisterMap
-opening ports = record { ports = ports; mask = 0x400FFFF; enabled = 0; bank = replicate 15 opening_port; due = false }
+opening ports =
+    record { ports = ports; mask = 0x400FFFF; enabled = 0; bank = replicate 15 opening_port; due = false }
 
 abbrev pub port_at : RegisterMap → ℕ → PortRegisters
 port_at m n = slice_index_or m.bank n opening_port
@@ -48,7 +53,8 @@ summary m = bits_where (asks m) m.ports
 -- 16.4.1: the general status and control registers
 abbrev pub gscr : RegisterMap → ℕ → Option ℕ
 gscr m register =
-    (if register == 0 then Some 0x10015241 else if register == 1 then Some 0xE else if register == 2 then Some m.ports
+    (if register == 0 then Some 0x10015241 else if register == 1 then Some 0xE else if register == 2
+    then Some m.ports
     else if register == 32 then Some (summary m) else if register == 33 then Some m.mask
     else if register == 64 then Some 8 else if register == 96 then Some m.enabled else None)
 
@@ -58,11 +64,13 @@ has_port m port = port == control_port || nat_lt port m.ports
 -- the finite map
 abbrev pub register_at : RegisterMap → ℕ → ℕ → Option ℕ
 register_at m port register =
-    (if port == control_port then gscr m register else if nat_lt port m.ports then pscr (port_at m port) register else None)
+    (if port == control_port then gscr m register else if nat_lt port m.ports
+    then pscr (port_at m port) register else None)
 
 -- its value, or the refusal: a port that is not there is refused before a register that is not there
 abbrev pub read_at : RegisterMap → ℕ → ℕ → Result ℕ RegisterError
-read_at m port register = (if has_port m port then ok_or (register_at m port register) NoRegister else Err NoPort)
+read_at m port register =
+    (if has_port m port then ok_or (register_at m port register) NoRegister else Err NoPort)
 
 -- ---- which bits a write changes
 
@@ -88,11 +96,12 @@ after_rule ReadOnly old value = old
 after_rule (Stores mask) old value = bit_and value mask
 after_rule OnesClear old value = without old value
 
--- which registers a write may change: the one that it names, those that SControl acts on, and GSCR[32], which is
--- computed from others
+-- which registers a write may change: the one that it names, those that SControl acts on, and GSCR[32], which
+-- is computed from others
 abbrev pub may_change : ℕ → ℕ → ℕ → ℕ → Bool
 may_change port register p r =
-    p == control_port && r == 32 || p == port && (r == register || not (port == control_port) && register == 2 && nat_lt r 2)
+    p == control_port && r == 32 || p == port && (r == register || not (port == control_port) && register == 2
+    && nat_lt r 2)
 
 -- ---- what each call does
 
@@ -110,7 +119,8 @@ settled before m = record m { due = m.due || notifies m && rises before (summary
 
 abbrev pub control_written : RegisterMap → ℕ → ℕ → RegisterMap
 control_written m register value =
-    (if register == 33 then record m { mask = value } else if register == 96 then record m { enabled = bit_and value 8 } else m)
+    (if register == 33 then record m { mask = value } else if register == 96
+    then record m { enabled = bit_and value 8 } else m)
 
 abbrev pub written : RegisterMap → ℕ → ℕ → ℕ → RegisterMap
 written m port register value =

@@ -1,5 +1,6 @@
 -- What is left of a run, and what is known of it.
-use Rattle.std.specs.Prelude.{◌≡◌, ℕ, zero, suc, ◌<◌, ◌≤◌, Bool, true, false, Option, Some, List, [], ◌∷◌, length}
+use Rattle.std.specs.Prelude.{◌≡◌, ℕ, zero, suc, ◌<◌, ◌≤◌, Bool, true, false, Option, Some, List, [], ◌∷◌}
+use Rattle.std.specs.Prelude.{length}
 use Rattle.std.specs.List.{AllZip, list_any}
 use Rattle.fis_view.specs.Frames.{Stamped}
 use Rattle.disk_model.specs.declared.unit.Unit.{Unit}
@@ -37,14 +38,17 @@ sent_at [] n = []
 sent_at (s ∷ disks) zero = s.frames.sent
 sent_at (s ∷ disks) (suc n) = sent_at disks n
 
--- For each port and connection: what the host took of it is a beginning of what its device sent on it, as it goes up.
+-- For each port and connection: what the host took of it is a beginning of what its device sent on it, as it
+-- goes up.
 abbrev pub EachArrives : List (StationState Unit) → List Stamped → Type 0
 EachArrives disks taken = (n c : ℕ) → n < 15 → IsPrefixOf (of_conn n c taken) (risen n c (sent_at disks n))
 
 -- the station is a run of this unit, of which those of these pulls are due that are at its port
-abbrev pub RunsWith : {D : Type 0} → (D → Plan) → (D → List Happening → Type 0) → (Plan → List Happening → List ℕ → Type 0)
+abbrev pub RunsWith : {D : Type 0} → (D → Plan) → (D → List Happening → Type 0)
+    → (Plan → List Happening → List ℕ → Type 0)
     → List (ℕ × ℕ) → D → StationState D → Type 0
-RunsWith plan_of StandsFor MaySend pulls unit s = IsRun plan_of StandsFor MaySend (pulls_at s.port pulls) unit s
+RunsWith plan_of StandsFor MaySend pulls unit s =
+    IsRun plan_of StandsFor MaySend (pulls_at s.port pulls) unit s
 
 abbrev pub RanWith : List (ℕ × ℕ) → Unit → StationState Unit → Type 0
 RanWith pulls unit s = RunsWith plan_of StandsFor MaySend pulls unit s
@@ -52,7 +56,8 @@ RanWith pulls unit s = RunsWith plan_of StandsFor MaySend pulls unit s
 -- whatever units' runs the stations were, with whatever pulls, they are
 abbrev pub AllGoOn : List (StationState Unit) → List (StationState Unit) → Type 0
 AllGoOn old new =
-    (pulls : List (ℕ × ℕ)) (units : List Unit) → AllZip (RanWith pulls) units old → AllZip (RanWith pulls) units new
+    (pulls : List (ℕ × ℕ)) (units : List Unit) → AllZip (RanWith pulls) units old
+    → AllZip (RanWith pulls) units new
 
 -- ---- runs of which nothing is left
 
@@ -65,9 +70,10 @@ abbrev pub is_shut : Option Fault → Bool
 is_shut (Some fault.GateShut) = true
 is_shut f = false
 
--- The workers of these units with these pulls, and of a host with this plan beside this memory, ran until a request was open
--- and none had a fault.
-pub record LeavesOpen (units : List Unit) (pulls : List (ℕ × ℕ)) (start : Memory) (plan : List Planned) : Type 0 where
+-- The workers of these units with these pulls, and of a host with this plan beside this memory, ran until a
+-- request was open and none had a fault.
+pub record LeavesOpen (units : List Unit) (pulls : List (ℕ × ℕ)) (start : Memory)
+    (plan : List Planned) : Type 0 where
   pub disks : List (StationState Unit)
   pub ran : AllZip (RanWith pulls) units disks
   pub host : HostView
@@ -75,8 +81,10 @@ pub record LeavesOpen (units : List Unit) (pulls : List (ℕ × ℕ)) (start : M
   pub plan_is : host.plan ≡ plan
   pub open_is : list_any is_open host.states ≡ true
 
--- where that is so, whatever units' runs the workers were, with whatever pulls, and whatever memory the host's stood beside
+-- where that is so, whatever units' runs the workers were, with whatever pulls, and whatever memory the
+-- host's stood beside
 abbrev pub MayLeaveOpen : Type 0 → List (StationState Unit) → HostView → Type 0
 MayLeaveOpen IsSo workers host =
-    (units : List Unit) (pulls : List (ℕ × ℕ)) (start : Memory) → AllZip (RanWith pulls) units workers → IsHostRun start host → IsSo
+    (units : List Unit) (pulls : List (ℕ × ℕ)) (start : Memory) → AllZip (RanWith pulls) units workers
+    → IsHostRun start host → IsSo
     → LeavesOpen units pulls start host.plan

@@ -42,11 +42,17 @@ abbrev pub is_config : ℕ → ℕ → Bool
 is_config ports capacity = (nat_le 1 ports && nat_le ports 15) && is_capacity capacity
 
 abbrev pub new_device : ℕ → DeviceState
-new_device capacity = record { up = new_link capacity; down = new_link capacity; presence = new_link capacity }
+new_device capacity =
+    record { up = new_link capacity; down = new_link capacity; presence = new_link capacity }
 
 abbrev pub new_links : ℕ → ℕ → LinksState
 new_links ports capacity =
-    record { devices = replicate ports (new_device capacity); up = new_link capacity; down = new_link capacity; given = false }
+    record {
+      devices = replicate ports (new_device capacity);
+      up = new_link capacity;
+      down = new_link capacity;
+      given = false;
+    }
 
 -- why no links are made, where one link is refused
 abbrev pub IsErrorOf : LinkError → LinksError → Type 0

@@ -1,5 +1,6 @@
 -- What a run is given.
-use Rattle.std.specs.Prelude.{ℕ, ◌-◌, nat_le, nat_lt, ◌==◌, ◌&&◌, not, Bool, List, [], ◌∷◌, filter, length, map}
+use Rattle.std.specs.Prelude.{ℕ, ◌-◌, nat_le, nat_lt, ◌==◌, ◌&&◌, not, Bool, List, [], ◌∷◌, filter, length}
+use Rattle.std.specs.Prelude.{map}
 use Rattle.std.specs.List.{list_all}
 use Rattle.host_memory.specs.Memory.{Memory, client_start, is_memory_size, overwritten, zeroed}
 use Rattle.pm_threads.specs.Links.{LinksState}
@@ -9,19 +10,21 @@ use Rattle.pm_threads.specs.declared.setup.Setup.{Setup}
 abbrev pub lies_in : ℕ → ℕ → ℕ → Bool
 lies_in memory at count = nat_le client_start at && nat_le at memory && nat_le count (memory - at)
 
--- whether there may be so many ports, units, turns and bytes of memory: 1 to 15 ports, a unit for each, 1 to 16,777,216
--- turns, a memory of a size that there is
+-- whether there may be so many ports, units, turns and bytes of memory: 1 to 15 ports, a unit for each, 1 to
+-- 16,777,216 turns, a memory of a size that there is
 abbrev pub are_numbers : ℕ → ℕ → ℕ → ℕ → Bool
 are_numbers ports units turns memory =
-    nat_le 1 ports && nat_le ports 15 && (units == ports) && nat_le 1 turns && nat_le turns 16777216 && is_memory_size memory
+    nat_le 1 ports && nat_le ports 15 && (units == ports) && nat_le 1 turns && nat_le turns 0x1000000
+    && is_memory_size memory
 
--- Whether a run of so many ports can have this: its numbers fit, its puts lie in the client area, and its requests and pulls
--- are of ports that are there.
+-- Whether a run of so many ports can have this: its numbers fit, its puts lie in the client area, and its
+-- requests and pulls are of ports that are there.
 abbrev pub is_fitting : ℕ → Setup → Bool
 is_fitting ports s =
     are_numbers ports (length s.units.items) s.turns s.memory
     && list_all (λ put. lies_in s.memory put.0 (length put.1.items)) s.puts.items
-    && list_all (λ planned. nat_lt planned.dev ports) s.plan.items && list_all (λ pull. nat_lt pull.0 ports) s.pulls.items
+    && list_all (λ planned. nat_lt planned.dev ports) s.plan.items
+    && list_all (λ pull. nat_lt pull.0 ports) s.pulls.items
 
 -- Whether there may be a run: the setup fits, and no run has taken the seats of these links.
 abbrev pub can_run : LinksState → Setup → Bool
@@ -34,7 +37,8 @@ pulls_at n pulls = map (λ pull. pull.1) (filter (λ pull. pull.0 == n) pulls)
 -- a memory with these bytes put at their addresses, one after another
 abbrev pub put_all : Memory → List (ℕ × List ℕ) → Memory
 put_all m [] = m
-put_all m (p ∷ ps) = put_all (record { structure = m.structure; client = overwritten m.client (p.0 - client_start) p.1 }) ps
+put_all m (p ∷ ps) =
+    put_all (record { structure = m.structure; client = overwritten m.client (p.0 - client_start) p.1 }) ps
 
 -- a memory of so many bytes, all 0 but for these
 abbrev pub memory_of : ℕ → List (ℕ × List ℕ) → Memory

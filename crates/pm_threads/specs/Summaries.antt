@@ -1,5 +1,6 @@
 -- What is told of a run once it is over.
-use Rattle.std.specs.Prelude.{◌≡◌, ℕ, zero, suc, ◌≤◌, if◌then◌else◌, List, [], ◌∷◌, ◌++◌, length, map, Option, Some, None, Result, Ok, Err}
+use Rattle.std.specs.Prelude.{◌≡◌, ℕ, zero, suc, ◌≤◌, if◌then◌else◌, List, [], ◌∷◌, ◌++◌, length, map, Option}
+use Rattle.std.specs.Prelude.{Some, None, Result, Ok, Err}
 use Rattle.std.specs.Option.{ForSome}
 use Rattle.disk_model.specs.declared.unit.Unit.{Unit}
 use Rattle.fis_view.specs.Frames.{Stamped}
@@ -30,15 +31,19 @@ given_at disks n = at_place all_given disks n
 abbrev pub told_at : List (StationState Unit) → ℕ → List Presence
 told_at disks n = at_place all_told disks n
 
--- the row of connection c of port n, whose device gave these FISes: how many it sent on it, and how many of it the host took
+-- the row of connection c of port n, whose device gave these FISes: how many it sent on it, and how many of
+-- it the host took
 abbrev pub row_for : List Stamped → List Stamped → ℕ → ℕ → ConnCount
 row_for given taken n c =
     record { port = n; conn = c; sent = length (of_connection c given); taken = length (of_port n c taken) }
 
--- There is a row for each connection of each port that came and for no other, with what was sent and taken on it.
-pub record AreCounted (rows : List ConnCount) (disks : List (StationState Unit)) (taken : List Stamped) : Type 0 where
+-- There is a row for each connection of each port that came and for no other, with what was sent and taken on
+-- it.
+pub record AreCounted (rows : List ConnCount) (disks : List (StationState Unit))
+    (taken : List Stamped) : Type 0 where
   pub sorted : AreSorted rows
-  pub each : (n c : ℕ) → row_of n c rows ≡ (if has_come c (told_at disks n) then Some (row_for (given_at disks n) taken n c) else None)
+  pub each : (n c : ℕ) → row_of n c rows ≡ (if has_come c (told_at disks n)
+      then Some (row_for (given_at disks n) taken n c) else None)
 
 -- in no row more was taken than sent
 abbrev pub NoneAboveSent : List ConnCount → Type 0
@@ -50,7 +55,8 @@ rows_on row zero = []
 rows_on row (suc k) = rows_on row k ++ row (suc k) ∷ []
 
 -- the rows of a device are added, one for each connection that came
-pub record CountsAt {D : Type 0} (old : List ConnCount) (n : ℕ) (s : StationState D) (taken : List Stamped) (new : List ConnCount) : Type 0 where
+pub record CountsAt {D : Type 0} (old : List ConnCount) (n : ℕ) (s : StationState D) (taken : List Stamped)
+    (new : List ConnCount) : Type 0 where
   pub told : AreTold (all_told s) s.standing.conn
   pub added : new ≡ old ++ rows_on (row_for (all_given s) taken n) s.standing.conn
 

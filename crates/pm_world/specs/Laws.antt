@@ -1,7 +1,8 @@
--- The laws of a run: nothing is lost, upward or downward, but by a recorded removal, what was taken is a prefix of what was sent,
--- the host and each unit are what their own turns make of them, and each link is a link (Serial ATA
--- 3.x, 16.3, port multiplier: frame transmission, PM Port; AHCI 1.3.1, chapter 5); and what is delivered
--- to the host's clients (specs/Delivery.antt, Apart.antt, Tickets.antt, Isolation.antt, Truth.antt).
+-- The laws of a run: nothing is lost, upward or downward, but by a recorded removal, what was taken is a
+-- prefix of what was sent, the host and each unit are what their own turns make of them, and each link is a
+-- link (Serial ATA 3.x, 16.3, port multiplier: frame transmission, PM Port; AHCI 1.3.1, chapter 5); and what
+-- is delivered to the host's clients (specs/Delivery.antt, Apart.antt, Tickets.antt, Isolation.antt,
+-- Truth.antt).
 use Rattle.std.specs.Prelude.{ℕ, ◌≡◌, ◌≢◌, List, ◌++◌}
 use Rattle.multiplier.specs.Arbiter.{control_port}
 use Rattle.pm_world.specs.Apart.{KeepsApart}

@@ -1,7 +1,8 @@
 -- The orders of a host to the control port of its multiplier, and its answers, while they are on their way
 -- (Serial ATA 3.x, 16.2: READ PORT MULTIPLIER and WRITE PORT MULTIPLIER, software reset of the control port).
 -- They are told by the stage of slot 31 (`hba_driver`, specs/Slot31.antt).
-use Rattle.std.specs.Prelude.{ℕ, ◌≡◌, ◌≢◌, ◌<◌, ◌⊎◌, ◌==◌, ◌&&◌, Bool, true, false, List, [], ◌∷◌, length, Option}
+use Rattle.std.specs.Prelude.{ℕ, ◌≡◌, ◌≢◌, ◌<◌, ◌⊎◌, ◌==◌, ◌&&◌, Bool, true, false, List, [], ◌∷◌, length}
+use Rattle.std.specs.Prelude.{Option}
 use Rattle.std.specs.Prelude.{Some, None, Ok, Result}
 use Rattle.fis_view.specs.Frames.{Stamped}
 use Rattle.fis_view.specs.Seen.{seen}

@@ -1,8 +1,9 @@
--- What goes over the links of a world: from each device to its port, from each port on to the
--- host's link, and off that link; and the same way down (Serial ATA 3.x, 16.3, port multiplier: frame
--- transmission, presence of a device on a port). A link of a world and a link between two threads are links by one
+-- What goes over the links of a world: from each device to its port, from each port on to the host's link,
+-- and off that link; and the same way down (Serial ATA 3.x, 16.3, port multiplier: frame transmission,
+-- presence of a device on a port). A link of a world and a link between two threads are links by one
 -- definition, IsLink of ruled_links.
-use Rattle.std.specs.Prelude.{ℕ, ◌≡◌, ◌≢◌, ◌≤◌, option_to_list, ◌==◌, if◌then◌else◌, Bool, false, true, not, All, List, [], ◌∷◌, ◌++◌}
+use Rattle.std.specs.Prelude.{ℕ, ◌≡◌, ◌≢◌, ◌≤◌, option_to_list, ◌==◌, if◌then◌else◌, Bool, false, true, not}
+use Rattle.std.specs.Prelude.{All, List, [], ◌∷◌, ◌++◌}
 use Rattle.std.specs.Prelude.{length, map, filter, Option, Some, None, slice_get, MatchOption}
 use Rattle.std.specs.List.{flat_map, zip}
 use Rattle.fis_view.specs.Frames.{Stamped}

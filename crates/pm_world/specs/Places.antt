@@ -166,5 +166,5 @@ abbrev pub is_config : Config → ℕ → Bool
 is_config config units =
     nat_le 1 config.ports && nat_le config.ports 15 && nat_le 1 config.capacity
     && nat_le config.capacity 64
-    && nat_le 2097152 config.memory && nat_le config.memory 16777216 && config.memory % 2 == 0
+    && nat_le 0x200000 config.memory && nat_le config.memory 0x1000000 && config.memory % 2 == 0
     && units == config.ports

@@ -1,10 +1,11 @@
--- What a write is to later requests and to the medium (ACS-3, READ FPDMA QUEUED and WRITE FPDMA QUEUED): a read that was
--- submitted once the write had ended brings the bytes of the write, and they stay on the medium, until a later write has
--- them.
+-- What a write is to later requests and to the medium (ACS-3, READ FPDMA QUEUED and WRITE FPDMA QUEUED): a
+-- read that was submitted once the write had ended brings the bytes of the write, and they stay on the
+-- medium, until a later write has them.
 --
--- Cited: requests that ended honestly since they were submitted (specs/Disks.antt, Ended.antt); which writes have a byte
--- of a medium is of `disk_model` (specs/Last.antt).
-use Rattle.std.specs.Prelude.{ℕ, ◌≡◌, ◌+◌, ◌-◌, ◌*◌, ◌<◌, ◌++◌, suc, true, drop, List, length, slice_get, slice_index}
+-- Cited: requests that ended honestly since they were submitted (specs/Disks.antt, Ended.antt); which writes
+-- have a byte of a medium is of `disk_model` (specs/Last.antt).
+use Rattle.std.specs.Prelude.{ℕ, ◌≡◌, ◌+◌, ◌-◌, ◌*◌, ◌<◌, ◌++◌, suc, true, drop, List, length, slice_get}
+use Rattle.std.specs.Prelude.{slice_index}
 use Rattle.std.specs.Prelude.{IsSomeAnd, Option, Some}
 use Rattle.host_memory.specs.Memory.{Memory, client_start}
 use Rattle.host_memory.specs.Place.{place}
@@ -40,29 +41,35 @@ pub record IsOneByte (read write : Entry) (i j : ℕ) : Type 0 where
   pub of_write : j < 512 * write.head.sectors
   pub same : 512 * read.head.lba + i ≡ 512 * write.head.lba + j
 
--- A read that was submitted after all by which a write had ended: of each byte that both have, and that no write has which
--- ended after that one and before the read began, client memory has at the read's place what went over for the write.
+-- A read that was submitted after all by which a write had ended: of each byte that both have, and that no
+-- write has which ended after that one and before the read began, client memory has at the read's place what
+-- went over for the write.
 abbrev pub ReadsBringWrites : Type 0
 ReadsBringWrites =
     (config : Config) (units : List Unit) (n sectors : ℕ) (plan : DiskPlan)
     → is_config config (length units) ≡ true → n < 15 → IsNewDisk units n plan sectors
-    → (was now : Places) (d : DiskRun config units n was) (f : DiskRun config units n now) (s t : ℕ) (write read : Entry)
+    → (was now : Places) (d : DiskRun config units n was) (f : DiskRun config units n now) (s t : ℕ)
+    (write read : Entry)
     (m l : Memory) (writes : write.head.work ≡ Write) (reads : read.head.work ≡ Read)
-    (w : EndedSince config units n was d sectors s write m) (r : EndedSince config units n now f sectors t read l)
+    (w : EndedSince config units n was d sectors s write m)
+    (r : EndedSince config units n now f sectors t read l)
     → IsPart (disk_history config units n was d) r.before
     → (i j : ℕ) → IsOneByte read write i j
-    → NoneCovers (512 * read.head.lba + i) (drop (suc (w.ends.writes writes).at) (r.ends.reads reads).read.before)
+    → NoneCovers (512 * read.head.lba + i)
+    (drop (suc (w.ends.writes writes).at) (r.ends.reads reads).read.before)
     → filled s (own n w.touches) j ≡ Some (slice_index l.client (place read.prds i - client_start))
 
--- A write that ended stays on the medium, whatever happens to the disk from there on: each byte of it is there, but for
--- those of later writes.
+-- A write that ended stays on the medium, whatever happens to the disk from there on: each byte of it is
+-- there, but for those of later writes.
 abbrev pub WritesStayThere : Type 0
 WritesStayThere =
     (config : Config) (units : List Unit) (n sectors : ℕ) (plan : DiskPlan)
     → IsNewDisk units n plan sectors
-    → (was : Places) (d : DiskRun config units n was) (s : ℕ) (write : Entry) (m : Memory) (writes : write.head.work ≡ Write)
+    → (was : Places) (d : DiskRun config units n was) (s : ℕ) (write : Entry) (m : Memory)
+    (writes : write.head.work ≡ Write)
     (w : EndedSince config units n was d sectors s write m)
-    → (history : List Happening) → IsDiskRun plan sectors history → IsPart (disk_history config units n was d) history
+    → (history : List Happening) → IsDiskRun plan sectors history
+    → IsPart (disk_history config units n was d) history
     → (j : ℕ) → j < 512 * write.head.sectors
     → NoneCovers (512 * write.head.lba + j) (drop (suc (w.ends.writes writes).at) (ledger history).writes)
     → slice_get (moment plan sectors history).medium (512 * write.head.lba + j) ≡ filled s (own n w.touches) j
@@ -72,13 +79,14 @@ abbrev pub Shows : (i : ℕ) → (byte : Option ℕ) → Unit → Type 0
 Shows i byte (Disk disk) = slice_get disk.now.medium i ≡ byte
 Shows i byte (Scripted reading) = ⊥
 
--- So it is in each world to which steps lead from there: the disk at that port has the bytes of the write on its medium,
--- but for those of later writes.
+-- So it is in each world to which steps lead from there: the disk at that port has the bytes of the write on
+-- its medium, but for those of later writes.
 abbrev pub DisksHaveWrites : Type 0
 DisksHaveWrites =
     (config : Config) (units : List Unit) (n sectors : ℕ) (plan : DiskPlan)
     → is_config config (length units) ≡ true → IsNewDisk units n plan sectors
-    → (was : Places) (d : DiskRun config units n was) (s : ℕ) (write : Entry) (m : Memory) (writes : write.head.work ≡ Write)
+    → (was : Places) (d : DiskRun config units n was) (s : ℕ) (write : Entry) (m : Memory)
+    (writes : write.head.work ≡ Write)
     (w : EndedSince config units n was d sectors s write m)
     → (steps : List Step) (answers : List Answer) (now : Places) (run : Run was steps answers now)
     → (j : ℕ) → j < 512 * write.head.sectors

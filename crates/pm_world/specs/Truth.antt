@@ -1,6 +1,6 @@
--- What the driver says is true, on runs of the world: a request that is polled as Done was completed by its own
--- device, after the tick that issued it; and the host port takes every write of the driver (AHCI 1.3.1, 5.3, 5.5,
--- how commands are issued, and 9.3; Serial ATA 3.x, 10.5, Set Device Bits FIS).
+-- What the driver says is true, on runs of the world: a request that is polled as Done was completed by its
+-- own device, after the tick that issued it; and the host port takes every write of the driver (AHCI 1.3.1,
+-- 5.3, 5.5, how commands are issued, and 9.3; Serial ATA 3.x, 10.5, Set Device Bits FIS).
 --
 -- Cited: the turns of the host in a run (specs/Turns.antt) and the runs that lead to a world
 -- (specs/Runs.antt); WasCompleted and TurnsAccept of `hba_driver` (specs/Done.antt, Accepted.antt).

@@ -1,5 +1,5 @@
--- What a unit went through in a run, and that it lives on from it (Serial ATA 3.x, 16.3, port multiplier; what a
--- device may do is cited of `disk_model`, specs/Histories.antt and Units.antt).
+-- What a unit went through in a run, and that it lives on from it (Serial ATA 3.x, 16.3, port multiplier;
+-- what a device may do is cited of `disk_model`, specs/Histories.antt and Units.antt).
 use Rattle.std.specs.Prelude.{ℕ, ◌≡◌, ◌==◌, if◌then◌else◌, false, List, [], ◌∷◌, ◌++◌, Some, None}
 use Rattle.std.specs.Prelude.{map, take, slice_get, IsSomeAnd, MatchOption}
 use Rattle.disk_model.specs.Histories.{Happening, Received, Sent, Plugged, Plan}

@@ -1,6 +1,9 @@
--- What went wrong at a host port with FIS-based switching: AHCI 1.3.1, section 3.3.16, Port x FIS-based Switching
--- Control, and section 9.3, FIS-based Switching, on the handling of errors. Devices have the PM Ports 0 to 15.
-use Rattle.std.specs.Prelude.{◌≡◌, ◌≢◌, ℕ, ◌<◌, Bool, true, false, is_some, if◌then◌else◌, List, position, slice_index_or, slice_set, length, replicate, unwrap_or, ◌==◌, Option, Some, None}
+-- What went wrong at a host port with FIS-based switching: AHCI 1.3.1, section 3.3.16, Port x FIS-based
+-- Switching Control, and section 9.3, FIS-based Switching, on the handling of errors. Devices have the PM
+-- Ports 0 to 15.
+use Rattle.std.specs.Prelude.{◌≡◌, ◌≢◌, ℕ, ◌<◌, Bool, true, false, is_some, if◌then◌else◌, List, position}
+use Rattle.std.specs.Prelude.{slice_index_or, slice_set, length, replicate, unwrap_or, ◌==◌, Option, Some}
+use Rattle.std.specs.Prelude.{None}
 use Rattle.std.specs.Option.{option_map_or}
 use Rattle.port_errors.specs.declared.cause.DeviceCause.{DeviceCause}
 use Rattle.port_errors.specs.declared.cause.PortCause.{PortCause}
@@ -47,7 +50,8 @@ with_port errors cause = record {
 abbrev pub is_reported : Errors → ℕ → Bool
 is_reported errors dev = option_map_or (λ other. other == dev) errors.reported false
 
--- A device is marked no longer. Where it was the reported one, the lowest of the others is reported from then on.
+-- A device is marked no longer. Where it was the reported one, the lowest of the others is reported from then
+-- on.
 abbrev pub without : Errors → ℕ → Errors
 without errors dev = let causes = slice_set errors.causes dev None in record {
   causes = causes;
@@ -55,10 +59,12 @@ without errors dev = let causes = slice_set errors.causes dev None in record {
   port = errors.port;
 }
 
--- what every value keeps: one place for each PM Port, and a marked device is reported exactly where there is one
+-- what every value keeps: one place for each PM Port, and a marked device is reported exactly where there is
+-- one
 pub record AreErrors (errors : Errors) : Type 0 where
   pub ports : length errors.causes ≡ 16
-  pub reported_is_marked : (dev : ℕ) → errors.reported ≡ Some dev → (dev < 16) × (is_some (cause_of errors dev) ≡ true)
+  pub reported_is_marked : (dev : ℕ) → errors.reported ≡ Some dev → (dev < 16)
+      × (is_some (cause_of errors dev) ≡ true)
   pub none_is_marked : errors.reported ≡ None → (dev : ℕ) → cause_of errors dev ≡ None
 
 -- each other device is as it was, and so is what stopped the port
@@ -66,14 +72,15 @@ pub record LeavesOthers (dev : ℕ) (old new : Errors) : Type 0 where
   pub causes : (other : ℕ) → other ≢ dev → cause_of new other ≡ cause_of old other
   pub port : new.port ≡ old.port
 
--- Every cause that stood still stands, and is the one that it was: that of each device, and what stopped the port. Clearing
--- a device or the port alone ends one.
+-- Every cause that stood still stands, and is the one that it was: that of each device, and what stopped the
+-- port. Clearing a device or the port alone ends one.
 pub record KeepsCauses (old new : Errors) : Type 0 where
-  pub devices : (dev : ℕ) (cause : DeviceCause) → cause_of old dev ≡ Some cause → cause_of new dev ≡ Some cause
+  pub devices : (dev : ℕ) (cause : DeviceCause) → cause_of old dev ≡ Some cause
+      → cause_of new dev ≡ Some cause
   pub port : (cause : PortCause) → old.port ≡ Some cause → new.port ≡ Some cause
 
--- What PxFBS shows: SDE and, in DWE, the reported device. Both are 0 where none is reported, and while the port is
--- stopped, since that is no device's error.
+-- What PxFBS shows: SDE and, in DWE, the reported device. Both are 0 where none is reported, and while the
+-- port is stopped, since that is no device's error.
 abbrev pub shown : Option ℕ → Option PortCause → FbsBits
 shown (Some dev) None = record { sde = true; dwe = dev }
 shown reported port = record { sde = false; dwe = 0 }
@@ -92,8 +99,8 @@ cleared_device errors = named_by (shown errors.reported errors.port)
 abbrev pub after_clear : Errors → Errors
 after_clear errors = option_map_or (without errors) (cleared_device errors) errors
 
--- what that says of a device: it was marked and is not, each other one is as it was, and the lowest of those that are
--- left is reported
+-- what that says of a device: it was marked and is not, each other one is as it was, and the lowest of those
+-- that are left is reported
 pub record Clears (old : Errors) (dev : ℕ) (new : Errors) : Type 0 where
   pub dev_below : dev < 16
   pub was_marked : is_some (cause_of old dev) ≡ true

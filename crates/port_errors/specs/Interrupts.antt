@@ -25,7 +25,8 @@ tfes = 2 ^ 30
 abbrev pub interrupt_bits : Interrupts → ℕ
 interrupt_bits interrupts = interrupts.0
 
--- an error in the task file, more bytes than there is room for, and every other fault of a device on the interface
+-- an error in the task file, more bytes than there is room for, and every other fault of a device on the
+-- interface
 abbrev pub device_interrupts : DeviceCause → ℕ
 device_interrupts TaskFile = tfes
 device_interrupts Overflow = ofs

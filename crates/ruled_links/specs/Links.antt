@@ -7,8 +7,8 @@ module _ {T : Type 0} where
   abbrev pub IsWhole : List T → List T → List T → Type 0
   IsWhole sent taken content = taken ++ content ≡ sent
 
-  -- A link with room for so many items: whatever was sent over it is taken off it in the same order, or still on it, and
-  -- it never holds more than it has room for.
+  -- A link with room for so many items: whatever was sent over it is taken off it in the same order, or still
+  -- on it, and it never holds more than it has room for.
   pub record IsLink (capacity : ℕ) (sent taken content : List T) : Type 0 where
     pub whole : IsWhole sent taken content
     pub bounded : length content ≤ capacity
@@ -26,8 +26,9 @@ pub record LinkState : Type 0 where
 abbrev pub new_link : ℕ → LinkState
 new_link capacity = record { room = capacity; seated = false }
 
--- A seat: of which link, how many items that holds at most, and what the seat knows to be sent and taken over it. One that
--- sends knows all that was sent and a beginning of what was taken, one that takes the other way round.
+-- A seat: of which link, how many items that holds at most, and what the seat knows to be sent and taken over
+-- it. One that sends knows all that was sent and a beginning of what was taken, one that takes the other way
+-- round.
 pub record Seat (T : Type 0) : Type 0 where
   pub link : TableId
   pub room : ℕ

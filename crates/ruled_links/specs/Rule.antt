@@ -1,8 +1,9 @@
--- The rule of a link: what was taken and then what the link holds is what was sent, and that is in the order that the
--- item type names. There is one pass at most that may send; it knows all that was sent, and a beginning of what was
--- taken. There is one at most that may take; it knows all that was taken, and a beginning of what was sent. A pass that
--- may do neither is spent, and nothing is said of it. The rule of a queue does not see how many items it has room for: that
--- a link never holds more, so that it is an IsLink, is said where its seats meet.
+-- The rule of a link: what was taken and then what the link holds is what was sent, and that is in the order
+-- that the item type names. There is one pass at most that may send; it knows all that was sent, and a
+-- beginning of what was taken. There is one at most that may take; it knows all that was taken, and a
+-- beginning of what was sent. A pass that may do neither is spent, and nothing is said of it. The rule of a
+-- queue does not see how many items it has room for: that a link never holds more, so that it is an IsLink,
+-- is said where its seats meet.
 use Rattle.std.specs.Prelude.{◌≡◌, ℕ, Bool, true, false, List, [], ◌∷◌, ◌++◌}
 use mathlib.Core.Option.{some}
 use lib.ListN.{get_elem?}
@@ -59,7 +60,8 @@ module _ {T : Type 0} where
     pub ordered : in_order (v.taken ++ x ∷ [])
     pub agree : Agree v.sent (v.taken ++ x ∷ [])
 
-  -- what the link holds, to the pass that sends: the end of what was sent, after all that it knows to be taken
+  -- what the link holds, to the pass that sends: the end of what was sent, after all that it knows to be
+  -- taken
   abbrev pub Holds : View T → List T → Type 0
   Holds v items = (between : List T) × ((v.taken ++ between) ++ items ≡ v.sent)
 

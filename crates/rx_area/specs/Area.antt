@@ -1,6 +1,8 @@
--- The places of a received area: AHCI 1.3.1, section 4.2.1, Received FIS Structure, with a row for each of the 16 PM Ports
--- as section 9.3, FIS-based Switching, has it. The types of the FISes and their lengths: Serial ATA 3.x, 10.5, FIS types.
-use Rattle.std.specs.Prelude.{◌≡◌, ◌≢◌, ℕ, ◌+◌, ◌*◌, nat_le, if◌then◌else◌, List, [], ◌++◌, length, take, drop}
+-- The places of a received area: AHCI 1.3.1, section 4.2.1, Received FIS Structure, with a row for each of
+-- the 16 PM Ports as section 9.3, FIS-based Switching, has it. The types of the FISes and their lengths:
+-- Serial ATA 3.x, 10.5, FIS types.
+use Rattle.std.specs.Prelude.{◌≡◌, ◌≢◌, ℕ, ◌+◌, ◌*◌, nat_le, if◌then◌else◌, List, [], ◌++◌, length, take}
+use Rattle.std.specs.Prelude.{drop}
 use Rattle.fis_view.specs.declared.view.Fis.{Fis}
 use Rattle.fis_view.specs.declared.view.Fis.TheVariants as view
 use Rattle.rx_area.specs.declared.area.Posted.{Posted}
@@ -32,8 +34,8 @@ start_of dev place = 256 * dev + offset_of place
 abbrev pub place_of : List ℕ → ℕ → Posted → List ℕ
 place_of area dev place = take (size_of place) (drop (start_of dev place) area)
 
--- Which place receives a FIS. A FIS of an unknown type has to fit its place; those that a host sends, DMA Activate and
--- Data have none.
+-- Which place receives a FIS. A FIS of an unknown type has to fit its place; those that a host sends, DMA
+-- Activate and Data have none.
 abbrev pub posted_at : Fis → Posted
 posted_at (view.DmaSetup fis) = posted.Setup
 posted_at (view.PioSetup fis) = posted.Pio

@@ -1,6 +1,8 @@
--- Which bytes of a transfer went over, by the Data FISes and the offsets of their DMA Setups (Serial ATA 3.x, 10.5). A list of
--- flags stands for a set of bytes, whole dwords each: flag k for the bytes 4 k to 4 k + 3. All that follows is said of the bytes.
-use Rattle.std.specs.Prelude.{ℕ, ◌+◌, ◌-◌, ◌*◌, ◌/◌, Bool, false, not, ◌&&◌, ◌||◌, ◌==◌, nat_lt, nat_le, List, map, length, replicate, slice_index_or, count_by}
+-- Which bytes of a transfer went over, by the Data FISes and the offsets of their DMA Setups (Serial ATA 3.x,
+-- 10.5). A list of flags stands for a set of bytes, whole dwords each: flag k for the bytes 4 k to 4 k + 3.
+-- All that follows is said of the bytes.
+use Rattle.std.specs.Prelude.{ℕ, ◌+◌, ◌-◌, ◌*◌, ◌/◌, Bool, false, not, ◌&&◌, ◌||◌, ◌==◌, nat_lt, nat_le, List}
+use Rattle.std.specs.Prelude.{map, length, replicate, slice_index_or, count_by}
 use Rattle.std.specs.List.{range_with_len, list_any, list_all}
 
 -- byte b went over
@@ -41,7 +43,8 @@ is_within offset count b = nat_le offset b && nat_lt b (offset + count)
 
 -- these bytes too went over: a dword did where its first byte did, so offset and count are multiples of 4
 unfoldable pub with_bytes : List Bool → ℕ → ℕ → List Bool
-with_bytes over offset count = map (λ k. is_over over (4 * k) || is_within offset count (4 * k)) (range_with_len 0 (length over))
+with_bytes over offset count =
+    map (λ k. is_over over (4 * k) || is_within offset count (4 * k)) (range_with_len 0 (length over))
 
 -- no byte of a transfer of len bytes did
 abbrev pub none_over : ℕ → List Bool

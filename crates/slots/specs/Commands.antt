@@ -1,12 +1,17 @@
--- Commands: when they go out, what an answer of their device does, and when they are done (AHCI 1.3.1, 5.5 and 5.6, how commands are
--- issued and done, 3.3.13 PxSACT, 3.3.14 PxCI; Serial ATA 3.x, 10.5, Register Device to Host and Set Device Bits FISes; ACS-3, NCQ).
-use Rattle.std.specs.Prelude.{◌≡◌, ◌<◌, ℕ, Bool, true, false, not, ◌&&◌, ◌||◌, ◌==◌, if◌then◌else◌, Option, Some, None, is_none, slice_set, MatchOption}
+-- Commands: when they go out, what an answer of their device does, and when they are done (AHCI 1.3.1, 5.5
+-- and 5.6, how commands are issued and done, 3.3.13 PxSACT, 3.3.14 PxCI; Serial ATA 3.x, 10.5, Register
+-- Device to Host and Set Device Bits FISes; ACS-3, NCQ).
+use Rattle.std.specs.Prelude.{◌≡◌, ◌<◌, ℕ, Bool, true, false, not, ◌&&◌, ◌||◌, ◌==◌, if◌then◌else◌, Option}
+use Rattle.std.specs.Prelude.{Some, None, is_none, slice_set, MatchOption}
 use Rattle.std.specs.Option.{option_map}
 use Rattle.slots.specs.declared.answer.Answered.{Answered}
 use Rattle.slots.specs.declared.answer.Answered.TheVariants.{Nobody, Queued, Done, Short}
 use Rattle.slots.specs.declared.answer.Completed.{Completed}
 use Rattle.slots.specs.declared.work.Work.{Work}
-use Rattle.slots.specs.Slots.{Issue, Slots, DeviceSlots, issue_at, slots_of, own_issue, with_own_issue, match_some, holds, is_control, is_pio, is_done_issue, is_queued_issue, is_short_issue, is_whole_issue, waiting, sent_pio, freed, has_bit, mask_of, lowest, new_issue}
+use Rattle.slots.specs.Slots.{Issue, Slots, DeviceSlots, issue_at, slots_of, own_issue, with_own_issue}
+use Rattle.slots.specs.Slots.{match_some, holds, is_control, is_pio, is_done_issue, is_queued_issue}
+use Rattle.slots.specs.Slots.{is_short_issue, is_whole_issue, waiting, sent_pio, freed, has_bit, mask_of}
+use Rattle.slots.specs.Slots.{lowest, new_issue}
 
 -- this slot alone
 abbrev pub is_slot : ℕ → ℕ → Bool
@@ -24,7 +29,8 @@ table_after_issue t slot dev work = record t { issues = slice_set t.issues slot 
 
 -- ---- a command goes out
 
--- Something is issued in the slot that was not sent. Where it is not a Control, no slot of its device waits for its answer.
+-- Something is issued in the slot that was not sent. Where it is not a Control, no slot of its device waits
+-- for its answer.
 abbrev pub MayBeSent : Slots → ℕ → Type 0
 MayBeSent t slot = MatchOption (issue_at t slot) ⊥ (λ issue.
     (issue.sent ≡ false) × (is_control issue.work.kind ≡ false → waiting (slots_of issue.dev t) ≡ None))
@@ -39,10 +45,11 @@ with_sent own slot = with_own_issue own slot (option_map sent_issue (own_issue o
 -- a Control has no answer of its own, so its slot becomes free
 abbrev pub after_sent : DeviceSlots → ℕ → DeviceSlots
 after_sent own slot =
-    if holds (λ issue. is_control issue.work.kind) (own_issue own slot) then freed (is_slot slot) own else with_sent own slot
+    if holds (λ issue. is_control issue.work.kind) (own_issue own slot) then freed (is_slot slot) own
+    else with_sent own slot
 
--- the slot may go out next: its command was not sent, its device is not faulty, and it is a Control, or the device is ready
--- and no slot of it waits
+-- the slot may go out next: its command was not sent, its device is not faulty, and it is a Control, or the
+-- device is ready and no slot of it waits
 abbrev pub may_go : ℕ → ℕ → Slots → Issue → Bool
 may_go ready faulty t issue =
     not issue.sent && not (has_bit faulty issue.dev)
@@ -61,8 +68,8 @@ answered_issue issue = record issue { answered = true }
 abbrev pub with_answered : DeviceSlots → ℕ → DeviceSlots
 with_answered own slot = with_own_issue own slot (option_map answered_issue (own_issue own slot))
 
--- what its answer is for a slot with this issue: a queued command goes on, any other is done, but for a PIO data-in of which
--- bytes are missing
+-- what its answer is for a slot with this issue: a queued command goes on, any other is done, but for a PIO
+-- data-in of which bytes are missing
 abbrev pub answer_for : ℕ → Issue → Answered
 answer_for slot issue =
     if is_queued_issue issue then Queued slot
@@ -85,7 +92,8 @@ StaysWithout (Short slot) old new = new ≡ old
 
 -- the answer is for the slot that waits
 abbrev pub answer_of : DeviceSlots → Answered
-answer_of own = match_some (waiting own) Nobody (λ slot. match_some (own_issue own slot) Nobody (answer_for slot))
+answer_of own =
+    match_some (waiting own) Nobody (λ slot. match_some (own_issue own slot) Nobody (answer_for slot))
 
 -- the device's own part after an answer: a command that goes on is answered, one that is done becomes free
 abbrev pub answered_as : Answered → DeviceSlots → DeviceSlots
@@ -116,7 +124,8 @@ after_complete mask own = freed (is_done mask own) own
 
 -- the slot of the PIO data-in that was sent, where all its bytes went over
 abbrev pub whole_pio : DeviceSlots → Option ℕ
-whole_pio own = match_some (sent_pio own) None (λ slot. if holds is_whole_issue (own_issue own slot) then Some slot else None)
+whole_pio own = match_some (sent_pio own) None (λ slot. if holds is_whole_issue (own_issue own slot)
+    then Some slot else None)
 
 -- it becomes free
 abbrev pub after_pio_done : DeviceSlots → DeviceSlots

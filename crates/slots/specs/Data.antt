@@ -1,5 +1,7 @@
--- Data of a transfer (Serial ATA 3.x, 10.5: Data and DMA Activate FISes): what may come or go, and what it leaves.
-use Rattle.std.specs.Prelude.{◌≡◌, ◌≤◌, ℕ, ◌+◌, ◌-◌, min, Bool, true, false, not, ◌&&◌, nat_lt, if◌then◌else◌, slice_set, Option, Some, None, Result, Ok, Err, is_ok}
+-- Data of a transfer (Serial ATA 3.x, 10.5: Data and DMA Activate FISes): what may come or go, and what it
+-- leaves.
+use Rattle.std.specs.Prelude.{◌≡◌, ◌≤◌, ℕ, ◌+◌, ◌-◌, min, Bool, true, false, not, ◌&&◌, nat_lt, if◌then◌else◌}
+use Rattle.std.specs.Prelude.{slice_set, Option, Some, None, Result, Ok, Err, is_ok}
 use Rattle.std.specs.Option.{option_map}
 use Rattle.slots.specs.declared.answer.ArriveError.{ArriveError}
 use Rattle.slots.specs.declared.answer.ArriveError.TheVariants.{Stray, Overflow}
@@ -26,11 +28,13 @@ gone_over count c own = record {
 -- where count bytes of data that arrive belong: their slot, and the number of the first
 abbrev pub arrive_answer : Option Context → ℕ → Result (ℕ × ℕ) ArriveError
 arrive_answer None count = Err Stray
-arrive_answer (Some c) count = if not c.to_host then Err Stray else if nat_lt c.left count then Err Overflow else Ok (c.slot, c.next)
+arrive_answer (Some c) count =
+    if not c.to_host then Err Stray else if nat_lt c.left count then Err Overflow else Ok (c.slot, c.next)
 
 -- the device's own part after data arrived, or was refused
 abbrev pub after_arrive : DeviceSlots → ℕ → DeviceSlots
-after_arrive own count = match_some own.context own (λ c. if is_ok (arrive_answer own.context count) then gone_over count c own else own)
+after_arrive own count = match_some own.context own (λ c. if is_ok (arrive_answer own.context count)
+    then gone_over count c own else own)
 
 -- there is a context towards the device with bytes left, and it is not activated yet
 abbrev pub may_activate : Option Context → Bool
@@ -42,7 +46,8 @@ activated c = record c { activated = true }
 
 -- the device's own part after it asked for data
 abbrev pub after_activate : DeviceSlots → DeviceSlots
-after_activate own = if may_activate own.context then record own { context = option_map activated own.context } else own
+after_activate own =
+    if may_activate own.context then record own { context = option_map activated own.context } else own
 
 -- the most bytes of a Data FIS: 2,048 dwords
 abbrev pub max_payload : ℕ

@@ -6,7 +6,13 @@ use Rattle.slots.specs.Work.{IsWork}
 
 -- the issue with these flags
 abbrev pub with_flags : Issued → List Bool → Issue
-with_flags issued over = record { dev = issued.dev; work = issued.work; sent = issued.sent; answered = issued.answered; over = over }
+with_flags issued over = record {
+  dev = issued.dev;
+  work = issued.work;
+  sent = issued.sent;
+  answered = issued.answered;
+  over = over;
+}
 
 abbrev pub issue_in : Option Issued → List Bool → Option Issue
 issue_in None over = None

@@ -3,7 +3,8 @@ use Rattle.std.specs.Prelude.{◌≡◌, ℕ, ◌*◌, ◌%◌, ◌^◌, ◌<◌
 use Rattle.slots.specs.Bytes.{is_over, is_within, with_bytes, none_over}
 use Rattle.slots.specs.Slots.{has_bit, lowest, mask_of}
 
--- Bytes that go over are added to those that did, and nothing else is: offset and count are multiples of 4. At first none did.
+-- Bytes that go over are added to those that did, and nothing else is: offset and count are multiples of 4.
+-- At first none did.
 pub record BytesGoOver : Type 0 where
   pub added : (over : List Bool) (offset count b : ℕ) → offset % 4 ≡ 0 → count % 4 ≡ 0 → b < 4 * length over
       → is_over (with_bytes over offset count) b ≡ (is_over over b || is_within offset count b)

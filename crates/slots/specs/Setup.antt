@@ -1,9 +1,11 @@
--- Setups (Serial ATA 3.x, 10.5: DMA Setup and PIO Setup FISes; first-party DMA as native command queueing has it, ACS-3): which are
--- accepted, and what they leave.
-use Rattle.std.specs.Prelude.{ℕ, ◌+◌, ◌%◌, Bool, false, not, ◌&&◌, ◌||◌, ◌==◌, nat_lt, nat_le, if◌then◌else◌, Option, Some, None, is_some}
+-- Setups (Serial ATA 3.x, 10.5: DMA Setup and PIO Setup FISes; first-party DMA as native command queueing has
+-- it, ACS-3): which are accepted, and what they leave.
+use Rattle.std.specs.Prelude.{ℕ, ◌+◌, ◌%◌, Bool, false, not, ◌&&◌, ◌||◌, ◌==◌, nat_lt, nat_le, if◌then◌else◌}
+use Rattle.std.specs.Prelude.{Option, Some, None, is_some}
 use Rattle.std.specs.Bool.{beq}
 use Rattle.slots.specs.declared.answer.SetupError.{SetupError}
-use Rattle.slots.specs.declared.answer.SetupError.TheVariants.{NotOutstanding, WrongWay, Overflow, Twice, Fragments, BadCount}
+use Rattle.slots.specs.declared.answer.SetupError.TheVariants.{NotOutstanding, WrongWay, Overflow, Twice}
+use Rattle.slots.specs.declared.answer.SetupError.TheVariants.{Fragments, BadCount}
 use Rattle.slots.specs.declared.table.Context.{Context}
 use Rattle.slots.specs.Work.{is_read}
 use Rattle.slots.specs.Bytes.{any_over, ends_at, stretches_of, came_of}
@@ -11,7 +13,8 @@ use Rattle.slots.specs.Slots.{Issue, DeviceSlots, own_issue, match_some, is_queu
 
 -- the bytes that went over are 64 stretches, none of which ends where byte offset begins
 abbrev pub is_full_at : Issue → ℕ → Bool
-is_full_at issue offset = nat_le 64 (stretches_of issue.over issue.work.len) && not (ends_at issue.over offset)
+is_full_at issue offset =
+    nat_le 64 (stretches_of issue.over issue.work.len) && not (ends_at issue.over offset)
 
 -- why count bytes of an issue, from byte offset on, are not set up: the first of these that applies
 abbrev pub transfer_fault : Issue → ℕ → ℕ → Bool → Option SetupError
@@ -37,14 +40,16 @@ setup_fault (Some issue) offset count to_host =
 abbrev pub came : Issue → ℕ
 came issue = came_of issue.over issue.work.len
 
--- why a PIO Setup is refused, where the device has this PIO data-in sent, or none: it goes on where the bytes that came end
+-- why a PIO Setup is refused, where the device has this PIO data-in sent, or none: it goes on where the bytes
+-- that came end
 abbrev pub pio_fault : Option Issue → ℕ → Bool → Option SetupError
 pio_fault None count to_host = Some NotOutstanding
 pio_fault (Some issue) count to_host = transfer_fault issue (came issue) count to_host
 
 -- the context of a setup that is accepted
 abbrev pub new_context : ℕ → ℕ → ℕ → Bool → Context
-new_context slot offset count to_host = record { slot = slot; next = offset; left = count; to_host = to_host; activated = false }
+new_context slot offset count to_host =
+    record { slot = slot; next = offset; left = count; to_host = to_host; activated = false }
 
 -- a setup that is accepted replaces the device's context
 abbrev pub with_own_context : DeviceSlots → Context → DeviceSlots
@@ -65,4 +70,5 @@ abbrev pub after_setup_pio : DeviceSlots → ℕ → Bool → DeviceSlots
 after_setup_pio own count to_host =
     if is_some (pio_fault (pio_issue own) count to_host) then own
     else match_some (sent_pio own) own (λ slot.
-    match_some (own_issue own slot) own (λ issue. with_own_context own (new_context slot (came issue) count to_host)))
+    match_some (own_issue own slot) own (λ issue.
+    with_own_context own (new_context slot (came issue) count to_host)))

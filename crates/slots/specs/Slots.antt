@@ -1,6 +1,8 @@
--- The command slots of a port (AHCI 1.3.1, 4.2.2, Command List Structure) and the transfer contexts of its devices, one for each
--- as FIS-based switching wants it (9.3), and what of them is one device's. Slots have the numbers 0 to 31, devices 0 to 15.
-use Rattle.std.specs.Prelude.{◌≡◌, ◌≢◌, ◌<◌, ℕ, ◌^◌, Bool, true, false, not, ◌&&◌, ◌==◌, if◌then◌else◌, List, length, map, replicate, slice_index_or, slice_set, sum_by, Option, Some, None}
+-- The command slots of a port (AHCI 1.3.1, 4.2.2, Command List Structure) and the transfer contexts of its
+-- devices, one for each as FIS-based switching wants it (9.3), and what of them is one device's. Slots have
+-- the numbers 0 to 31, devices 0 to 15.
+use Rattle.std.specs.Prelude.{◌≡◌, ◌≢◌, ◌<◌, ℕ, ◌^◌, Bool, true, false, not, ◌&&◌, ◌==◌, if◌then◌else◌, List}
+use Rattle.std.specs.Prelude.{length, map, replicate, slice_index_or, slice_set, sum_by, Option, Some, None}
 use Rattle.std.specs.List.{range_with_len, position}
 use Rattle.std.specs.Int.{bit_at}
 use Rattle.slots.specs.declared.work.Work.{Work}
@@ -10,8 +12,8 @@ use Rattle.slots.specs.declared.table.Context.{Context}
 use Rattle.slots.specs.Work.{is_queued}
 use Rattle.slots.specs.Bytes.{is_whole, none_over}
 
--- What was issued in a slot: for which device, what it asks for, whether its command was sent and whether the device answered
--- it, and which of its bytes went over.
+-- What was issued in a slot: for which device, what it asks for, whether its command was sent and whether the
+-- device answered it, and which of its bytes went over.
 pub record Issue : Type 0 where
   pub dev : ℕ
   pub work : Work
@@ -157,7 +159,8 @@ sent_pio own = lowest (λ slot. holds is_sent_pio (own_issue own slot))
 
 -- an issue of which nothing was sent and nothing went over
 abbrev pub new_issue : ℕ → Work → Issue
-new_issue dev work = record { dev = dev; work = work; sent = false; answered = false; over = none_over work.len }
+new_issue dev work =
+    record { dev = dev; work = work; sent = false; answered = false; over = none_over work.len }
 
 -- the own part with this in a slot
 abbrev pub with_own_issue : DeviceSlots → ℕ → Option Issue → DeviceSlots
@@ -171,8 +174,10 @@ context_unless is_free (Some c) = if is_free c.slot then None else Some c
 -- the issues, but for the slots of which the test holds
 unfoldable pub issues_unless : (ℕ → Bool) → List (Option Issue) → List (Option Issue)
 issues_unless is_free issues =
-    map (λ slot. if is_free slot then None else slice_index_or issues slot None) (range_with_len 0 (length issues))
+    map (λ slot. if is_free slot then None else slice_index_or issues slot None)
+    (range_with_len 0 (length issues))
 
 -- these slots become free, and the context ends where its slot is one of them
 abbrev pub freed : (ℕ → Bool) → DeviceSlots → DeviceSlots
-freed is_free own = record { issues = issues_unless is_free own.issues; context = context_unless is_free own.context }
+freed is_free own =
+    record { issues = issues_unless is_free own.issues; context = context_unless is_free own.context }

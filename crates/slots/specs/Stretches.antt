@@ -1,6 +1,7 @@
 -- The bytes of a transfer that went over (Serial ATA 3.x, 10.5, Data FISes) as they are stored:
 -- stretches of dwords, in order, with a gap between each two.
-use Rattle.std.specs.Prelude.{ℕ, ◌+◌, ◌-◌, ◌≤◌, ◌<◌, min, max, Bool, ◌&&◌, nat_lt, nat_le, if◌then◌else◌, List, [], ◌∷◌, map}
+use Rattle.std.specs.Prelude.{ℕ, ◌+◌, ◌-◌, ◌≤◌, ◌<◌, min, max, Bool, ◌&&◌, nat_lt, nat_le, if◌then◌else◌}
+use Rattle.std.specs.Prelude.{List, [], ◌∷◌, map}
 use Rattle.std.specs.List.{range_with_len, list_any}
 use Rattle.slots.specs.declared.moved.Stretch.{Stretch}
 

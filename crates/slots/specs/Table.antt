@@ -1,13 +1,15 @@
--- What is true of every table of the command slots (AHCI 1.3.1, 4.2.2) and of the contexts of the devices (9.3).
+-- What is true of every table of the command slots (AHCI 1.3.1, 4.2.2) and of the contexts of the devices
+-- (9.3).
 use Rattle.std.specs.Prelude.{◌≡◌, ℕ, ◌+◌, ◌/◌, ◌%◌, ◌<◌, ◌≤◌, Bool, true, false, ◌||◌, length, MatchOption}
 use Rattle.slots.specs.declared.table.Context.{Context}
 use Rattle.slots.specs.Work.{IsWork, is_read}
 use Rattle.slots.specs.Bytes.{any_over, stretches_of}
 use Rattle.slots.specs.Setup.{is_full_at, is_outstanding}
-use Rattle.slots.specs.Slots.{Issue, Slots, issue_at, context_of, owned_by, holds, is_control, is_queued_issue, is_sent_pio, is_waiting}
+use Rattle.slots.specs.Slots.{Issue, Slots, issue_at, context_of, owned_by, holds, is_control}
+use Rattle.slots.specs.Slots.{is_queued_issue, is_sent_pio, is_waiting}
 
--- What is issued: for one of 16 devices, with a flag for each dword, and answered only where it is queued and was sent. The bytes that went
--- over are 64 stretches at most. No Control is still there once it was sent.
+-- What is issued: for one of 16 devices, with a flag for each dword, and answered only where it is queued and
+-- was sent. The bytes that went over are 64 stretches at most. No Control is still there once it was sent.
 pub record IsIssue (issue : Issue) : Type 0 where
   pub dev_below : issue.dev < 16
   pub work : IsWork issue.work
@@ -16,8 +18,9 @@ pub record IsIssue (issue : Issue) : Type 0 where
   pub few : stretches_of issue.over issue.work.len ≤ 64
   pub controls : issue.sent ≡ true → is_control issue.work.kind ≡ false
 
--- A context of a device within an issue: whole dwords inside it, none of which went over yet, towards the host where it is a read. While
--- bytes are left they have room among the stretches. It is activated only towards the device, with bytes left.
+-- A context of a device within an issue: whole dwords inside it, none of which went over yet, towards the
+-- host where it is a read. While bytes are left they have room among the stretches. It is activated only
+-- towards the device, with bytes left.
 pub record IsContextOf (dev : ℕ) (c : Context) (issue : Issue) : Type 0 where
   pub of_dev : issue.dev ≡ dev
   pub fits : c.next + c.left ≤ issue.work.len

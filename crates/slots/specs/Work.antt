@@ -1,5 +1,5 @@
--- The kinds of commands (ACS-3: NCQ, PIO data-in and non-data commands; Serial ATA 3.x, 10.5: a Register Host to Device FIS with C 0),
--- and how many bytes each may move.
+-- The kinds of commands (ACS-3: NCQ, PIO data-in and non-data commands; Serial ATA 3.x, 10.5: a Register Host
+-- to Device FIS with C 0), and how many bytes each may move.
 use Rattle.std.specs.Prelude.{◌≡◌, ℕ, ◌%◌, ◌≤◌, ◌<◌, Bool, true, false}
 use Rattle.slots.specs.declared.work.Work.{Work}
 use Rattle.slots.specs.declared.work.Kind.{Kind}

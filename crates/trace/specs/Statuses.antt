@@ -2,7 +2,8 @@
 
 use Rattle.std.specs.Prelude.{ℕ}
 use Rattle.trace.specs.declared.failure.Failure.{Failure}
-use Rattle.trace.specs.declared.failure.Failure.TheVariants.{Line, CommandLine, OutOfMemory, ReadOrWrite, Unexpected}
+use Rattle.trace.specs.declared.failure.Failure.TheVariants.{Line, CommandLine, OutOfMemory, ReadOrWrite}
+use Rattle.trace.specs.declared.failure.Failure.TheVariants.{Unexpected}
 use Rattle.trace.specs.declared.scenario.threads.Ending.{Ending}
 use Rattle.trace.specs.declared.scenario.threads.Ending.TheVariants.{Done, TurnsSpent}
 
