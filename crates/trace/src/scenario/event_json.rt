@@ -67,11 +67,12 @@ fn write_slots<W: fmt::Write>(
         mask,
         tickets: None,
     };
-    let tickets = SlotArray {
+    write!(f, ",\"slots\":{slots}")?;
+    let named = SlotArray {
         mask,
         tickets: Some(tickets),
     };
-    write!(f, ",\"slots\":{slots},\"tickets\":{tickets}")
+    write!(f, ",\"tickets\":{named}")
 }
 
 /// Writes what came of the step.
