@@ -5,6 +5,7 @@ use Rattle.std.specs.Prelude.{option_to_list, slice_get}
 use Rattle.std.proofs.lemmas.Bool.{and_parts, cases_Bool, eqb-true, false≢true, not-false}
 use Rattle.fis_view.specs.Frames.{Stamped}
 use Rattle.disk_model.specs.declared.unit.Unit.{Unit}
+use Rattle.hba_fbs.specs.declared.report.TakeReport.{TakeReport}
 use Rattle.hba_driver.specs.declared.request.Request.{Request}
 use Rattle.hba_driver.specs.declared.request.Ticket.{Ticket}
 use Rattle.hba_driver.specs.declared.slot.Phase.{Phase}
@@ -13,12 +14,13 @@ use Rattle.hba_driver.specs.Drivers.{Entry, is_issued_in, rephased}
 use Rattle.hba_driver.specs.Known.{is_request}
 use Rattle.hba_driver.specs.Queued.{IsCommandOf}
 use Rattle.hba_driver.specs.Submits.{new_entry}
+use Rattle.hba_driver.specs.Tended.{IsLiveAt}
 use Rattle.hba_driver.proofs.AcceptLemmas as accept
 use Rattle.hba_driver.proofs.AsksLemmas.{IsAsking, asking_opens}
 use Rattle.multiplier.specs.State.{falling, port_at}
 use Rattle.pm_world.specs.Cleared.{PassesNone, is_up_from}
 use Rattle.pm_world.specs.Downward.{falling_to, fell_to, on_down_link, pushed_by}
-use Rattle.pm_world.specs.Meant.{CommandsAreMeant, IsMeant}
+use Rattle.pm_world.specs.Meant.{AnswersAreMeant, CommandsAreMeant, IsMeant, WasSubmittedFor}
 use Rattle.pm_world.specs.Places.{Places, is_config, new_world}
 use Rattle.pm_world.specs.Rules.{DiskTakeRule, Rule, Run}
 use Rattle.pm_world.specs.Runs.{IsStepOf, over}
@@ -30,9 +32,10 @@ use Rattle.pm_world.specs.declared.step.Answer.{Answer}
 use Rattle.pm_world.specs.declared.step.Answer.TheVariants as answer
 use Rattle.pm_world.proofs.Delivery.{sized}
 use Rattle.pm_world.proofs.EachLemmas.{Each, each_map}
-use Rattle.pm_world.proofs.IdentifiedLemmas.{AllIdentified, all_identified, asking_step, known_after}
+use Rattle.pm_world.proofs.IdentifiedLemmas.{AllIdentified, all_identified, asking_step, is_request_to, known_after}
 use Rattle.pm_world.proofs.LiveSteps.{IsOwn, TakesAt}
-use Rattle.pm_world.proofs.MeantLemmas.{Fell, Means, latest_then, means_now}
+use Rattle.pm_world.proofs.MeantLemmas.{Fell, IsOf, Means, latest_then, means_now}
+use Rattle.pm_world.proofs.Moves.{rule_moves}
 use Rattle.pm_world.proofs.Openings.{nothing_falls}
 use Rattle.pm_world.proofs.OrderTurns.{orders_in_order}
 use Rattle.pm_world.proofs.ReportedLemmas.{first_of, later_of}
@@ -76,6 +79,24 @@ submitted_later n last s a steps answers old new run e l i = record {
   identified = latest_then last (identified_by n old s a run.0) (over (identified_by n) run.0 i.its.before i.its.told i.its.at i.its.came) ∙ i.identified;
 }
 
+-- with what one step took
+abbrev Taking : (n : ℕ) (last : Option ℕ) (S : Entry → Option ℕ → Type 0) → Step → Answer → Entry → Option ℕ → Type 0
+Taking n last S s a e l = S e l ⊎ (TakesAt n s a e × (last ≡ l))
+
+-- and with what a run did
+abbrev OrSubmitted : (n : ℕ) (last : Option ℕ) (S : Entry → Option ℕ → Type 0) (old : Places) (steps : List Step) (answers : List Answer) (new : Places)
+    → Run old steps answers new → Entry → Option ℕ → Type 0
+OrSubmitted n last S old steps answers new run e l = S e l ⊎ SubmittedFor n last old new steps answers run e l
+
+submitted_on : (n : ℕ) (last : Option ℕ) (S : Entry → Option ℕ → Type 0) (s : Step) (a : Answer) (steps : List Step) (answers : List Answer) (old new : Places)
+    (run : Run old (s ∷ steps) (a ∷ answers) new) (e : Entry) (l : Option ℕ)
+    → OrSubmitted n (latest last (identified_by n old s a run.0)) (Taking n last S s a) run.0 steps answers new run.2 e l
+    → OrSubmitted n last S old (s ∷ steps) (a ∷ answers) new run e l
+submitted_on n last S s a steps answers old new run e l (inl (inl was)) = inl was
+submitted_on n last S s a steps answers old new run e l (inl (inr taken)) =
+    inr (subst (SubmittedFor n last old new (s ∷ steps) (a ∷ answers) run e) taken.1 (submitted_first n last s a steps answers old new run e taken.0))
+submitted_on n last S s a steps answers old new run e l (inr later) = inr (submitted_later n last s a steps answers old new run e l later)
+
 -- ## Pushed in a run
 
 -- the command of a request of device n was put on the host's link
@@ -102,53 +123,46 @@ module _ (n : ℕ) (last : Option ℕ) (S : Entry → Option ℕ → Type 0) (ol
   sent_first step.HostPush a run f l x = let wrong : a ≡ answer.Pushed = x.is in absurd (cc)
   sent_first s a run f l x = let wrong : s ≡ step.HostPush = x.at in absurd (cc)
 
-  -- requests that the step before took
-  abbrev OrTaken : Step → Answer → Entry → Option ℕ → Type 0
-  OrTaken s a e l = S e l ⊎ (TakesAt n s a e × (last ≡ l))
-
   sent_later : (s : Step) (a : Answer) (run : Run old (s ∷ steps) (a ∷ answers) new) (f : Stamped) (l : Option ℕ)
-      → SentFor n (latest last (identified_by n old s a run.0)) (OrTaken s a) run.0 new steps answers run.2 f l
+      → SentFor n (latest last (identified_by n old s a run.0)) (Taking n last S s a) run.0 new steps answers run.2 f l
       → SentFor n last S old new (s ∷ steps) (a ∷ answers) run f l
   sent_later s a run f l x = record {
     its = later_of step.HostPush answer.Pushed s a steps answers old new run x.its;
     one = x.one;
     own = x.own;
-    from = by_from (rephased Waits x.own.is.entry) x.from;
+    from = submitted_on n last S s a x.its.before x.its.told old x.its.at (run.0, run.1, x.its.came) (rephased Waits x.own.is.entry) l x.from;
   }
-    where
-      by_from : (e : Entry) → OrTaken s a e l ⊎ SubmittedFor n (latest last (identified_by n old s a run.0)) run.0 x.its.at x.its.before x.its.told x.its.came e l
-          → S e l ⊎ SubmittedFor n last old x.its.at (s ∷ x.its.before) (a ∷ x.its.told) (run.0, run.1, x.its.came) e l
-      by_from e (inl (inl was)) = inl was
-      by_from e (inl (inr taken)) =
-          inr (subst (SubmittedFor n last old x.its.at (s ∷ x.its.before) (a ∷ x.its.told) (run.0, run.1, x.its.came) e) taken.1
-          (submitted_first n last s a x.its.before x.its.told old x.its.at (run.0, run.1, x.its.came) e taken.0))
-      by_from e (inr later) = inr (submitted_later n last s a x.its.before x.its.told old x.its.at (run.0, run.1, x.its.came) e l later)
 
 -- ## A run
 
--- with what one step took and put there
-abbrev Taking : (n : ℕ) (last : Option ℕ) (S : Entry → Option ℕ → Type 0) → Step → Answer → Entry → Option ℕ → Type 0
-Taking n last S s a e l = S e l ⊎ (TakesAt n s a e × (last ≡ l))
-
+-- with what one step put there
 abbrev Sending : (n : ℕ) (S : Entry → Option ℕ → Type 0) (M : Stamped → Option ℕ → Type 0) (old new : Places) → Step → Answer → Stamped → Option ℕ → Type 0
 Sending n S M old new s a f l = M f l ⊎ Sends n S old new s a f l
 
--- what is known of the world after it: what is on its way to the device fell to those for whom it is meant
-record Known (n : ℕ) (M : Stamped → Option ℕ → Type 0) (now : Places) : Type 0 where
+-- what is known of the world after it
+record Known (n : ℕ) (S : Entry → Option ℕ → Type 0) (M : Stamped → Option ℕ → Type 0) (now : Places) : Type 0 where
   known : Bool
   unsent : Bool
   last : Option ℕ
   holds : Holds n known unsent last now
-  falls : Each (λ (f : Stamped). is_request f.bytes ≡ true → Fell M f) (falling_to n now)
+  means : Means n known last S M now
 
-known_wider : (n : ℕ) (M N : Stamped → Option ℕ → Type 0) (now : Places) → ((f : Stamped) (l : Option ℕ) → M f l → N f l) → Known n M now → Known n N now
-known_wider n M N now wide k = record {
+known_wider : (n : ℕ) (S T : Entry → Option ℕ → Type 0) (M N : Stamped → Option ℕ → Type 0) (now : Places) → ((e : Entry) (l : Option ℕ) → S e l → T e l)
+    → ((f : Stamped) (l : Option ℕ) → M f l → N f l) → Known n S M now → Known n T N now
+known_wider n S T M N now on_submit on_sent k = record {
   known = k.known;
   unsent = k.unsent;
   last = k.last;
   holds = k.holds;
-  falls = each_map (λ (f : Stamped). is_request f.bytes ≡ true → Fell M f) (λ (f : Stamped). is_request f.bytes ≡ true → Fell N f) (falling_to n now)
-      (λ f was asks. let it = was asks in record { sent = it.sent; is = it.is; meant = wide it.sent (Some f.stamp.conn) it.meant }) k.falls;
+  means = record {
+    one = k.means.one;
+    same = k.means.same;
+    live = λ slot e live. let it = k.means.live slot e live in (it.0, on_submit (rephased Waits e) k.last it.1);
+    link = each_map (λ (f : Stamped). is_request_to n f ≡ true → k.known ≡ true → M f k.last) (λ (f : Stamped). is_request_to n f ≡ true → k.known ≡ true → N f k.last)
+        now.downward.frames (λ f was asks is. on_sent f k.last (was asks is)) k.means.link;
+    falls = each_map (λ (f : Stamped). is_request f.bytes ≡ true → Fell M f) (λ (f : Stamped). is_request f.bytes ≡ true → Fell N f) (falling_to n now)
+        (λ f was asks. let it = was asks in record { sent = it.sent; is = it.is; meant = on_sent it.sent (Some f.stamp.conn) it.meant }) k.means.falls;
+  };
 }
 
 abbrev OrSent : (n : ℕ) (last : Option ℕ) (S : Entry → Option ℕ → Type 0) (M : Stamped → Option ℕ → Type 0) (old : Places) (steps : List Step) (answers : List Answer)
@@ -160,15 +174,17 @@ run_means : (n : ℕ) (below : n < 15) (known unsent : Bool) (last : Option ℕ)
     → Holds n known unsent last old → Means n known last S M old → IsAsking n known old.host → AllRisen old.multiplier old.upward.frames
     → InOrder n unsent old steps answers new run → AllIdentified n known old steps answers new run
     → (IsComing n unsent old → PassesNone n old steps answers new run)
-    → Known n (OrSent n last S M old steps answers new run) new
+    → Known n (OrSubmitted n last S old steps answers new run) (OrSent n last S M old steps answers new run) new
 run_means n below known unsent last S M old [] [] new run h m asking risen ordered identified quiet =
-    known_wider n M (OrSent n last S M old [] [] new run) new (λ f l it. inl it)
-    (subst (Known n M) (sym run) (record { known = known; unsent = unsent; last = last; holds = h; falls = m.falls }))
+    known_wider n S (OrSubmitted n last S old [] [] new run) M (OrSent n last S M old [] [] new run) new (λ e l it. inl it) (λ f l it. inl it)
+    (subst (Known n S M) (sym run) (record { known = known; unsent = unsent; last = last; holds = h; means = m }))
 run_means n below known unsent last S M old [] (a ∷ answers) new run h m asking risen ordered identified quiet = absurd run
 run_means n below known unsent last S M old (s ∷ steps) [] new run h m asking risen ordered identified quiet = absurd run
 run_means n below known unsent last S M old (s ∷ steps) (a ∷ answers) new run h m asking risen ordered identified quiet =
-    known_wider n (OrSent n (latest last (identified_by n old s a run.0)) (Taking n last S s a) (Sending n S M old run.0 s a) run.0 steps answers new run.2)
-    (OrSent n last S M old (s ∷ steps) (a ∷ answers) new run) new widens
+    known_wider n (OrSubmitted n (latest last (identified_by n old s a run.0)) (Taking n last S s a) run.0 steps answers new run.2)
+    (OrSubmitted n last S old (s ∷ steps) (a ∷ answers) new run)
+    (OrSent n (latest last (identified_by n old s a run.0)) (Taking n last S s a) (Sending n S M old run.0 s a) run.0 steps answers new run.2)
+    (OrSent n last S M old (s ∷ steps) (a ∷ answers) new run) new (submitted_on n last S s a steps answers old new run) widens
     (run_means n below (known_after n known old s a run.0) (unsent_after n unsent old s a run.0) (latest last (identified_by n old s a run.0)) (Taking n last S s a) (Sending n S M old run.0 s a) run.0 steps answers
     new run.2 (holds_now n below known unsent last old s a run.0 run.1 h served first)
     (means_now n below known unsent last old s a run.0 run.1 h served first asking S (Taking n last S s a) M (Sending n S M old run.0 s a) m (λ e l it. inl it) (λ f l it. inl it) (λ e taken. inr (taken, refl))
@@ -218,7 +234,7 @@ module _ (config : Config) (units : List Unit) (right : is_config config (length
     falls = subst (Each (λ (f : Stamped). is_request f.bytes ≡ true → Fell NoFrame f)) (sym (nothing_falls config units n)) tt;
   }
 
-  reached : Known n (OrSent n None NoRequest NoFrame (new_world config units) steps answers now run) now
+  reached : Known n (OrSubmitted n None NoRequest (new_world config units) steps answers now run) (OrSent n None NoRequest NoFrame (new_world config units) steps answers now run) now
   reached =
       run_means n below false false None NoRequest NoFrame (new_world config units) steps answers now run (opening_holds config units right n) opening_means
       (asking_opens n 0 config.memory (sized config (length units) right)) (opening_risen config units) (orders_in_order config units right steps answers now run n below)
@@ -274,12 +290,32 @@ module _ (config : Config) (units : List Unit) (right : is_config config (length
       let to : frame.stamp.conn ≡ connection (slice_get now.devices n) = ap (λ (g : Stamped). g.stamp.conn) (sym same) ∙ conn ∙ ap connection (sym is) in
       let way : falling_to n now ≡ head ∷ (p.after.down.frames ++ option_to_list (port_at now.multiplier n).down) =
       ap (λ (l : List Stamped). l ++ option_to_list (port_at now.multiplier n).down) link in
-      let all = subst (Each (λ (f : Stamped). is_request f.bytes ≡ true → Fell (OrSent n None NoRequest NoFrame (new_world config units) steps answers now run) f)) way reached.falls in
+      let all = subst (Each (λ (f : Stamped). is_request f.bytes ≡ true → Fell (OrSent n None NoRequest NoFrame (new_world config units) steps answers now run) f)) way reached.means.falls in
       fallen_meant (connection (slice_get now.devices n)) frame to
       (subst (Fell (OrSent n None NoRequest NoFrame (new_world config units) steps answers now run)) same (all.0 (ap (λ (g : Stamped). is_request g.bytes) same ∙ asks)))
     where
       first_same : (x y : Stamped) → x ∷ [] ≡ y ∷ [] → x ≡ y
       first_same x y e = cc
+
+  -- what the host takes comes on the connection that was identified at the submit
+  answer_meant : (s : Step) (conn number : ℕ) (bytes : List ℕ) (report : TakeReport) (new : Places) → Rule now s (Ok (answer.Took n conn number bytes report)) new
+      → (slot : ℕ) (e : Entry) → IsLiveAt n slot now.host.driver.entries e → WasSubmittedFor n conn e (new_world config units) now steps answers run
+  answer_meant s conn number bytes report new rule slot e live =
+      let m = rule_moves now s (answer.Took n conn number bytes report) new reached.holds.orderly rule in
+      let it = reached.means.live slot e live in
+      let was = reached.holds.came it.0 in
+      let all = subst (Each (IsOf n was.0)) m.2.upward (reached.means.same it.0 was.0 was.1) in
+      let to : was.0 ≡ conn = sym (all.0 m.1.port_is) ∙ m.1.conn_is in
+      by_case (was.1 ∙ ap (λ (k : ℕ). Some k) to) it.1
+    where
+      by_case : reached.last ≡ Some conn → ⊥ ⊎ SubmittedFor n None (new_world config units) now steps answers run (rephased Waits e) reached.last
+          → WasSubmittedFor n conn e (new_world config units) now steps answers run
+      by_case is (inl none) = absurd none
+      by_case is (inr i) = record { ticket = i.ticket; request = i.request; of_request = i.is; submitted = i.its; identified = i.identified ∙ is }
+
+pub answers_are_meant : AnswersAreMeant
+answers_are_meant config units right steps answers now run n below s conn number bytes report new rule slot e live =
+    answer_meant config units right steps answers now run n below s conn number bytes report new rule slot e live
 
 pub commands_are_meant : CommandsAreMeant
 commands_are_meant config units right steps answers now run n below s new rule frame here asks =

@@ -1,6 +1,7 @@
 -- For whom a command is meant that a device takes: it is the command of a request, and the last IDENTIFY
 -- data that the host accepted for the port before that request was submitted were sent on the connection
--- on which the command is taken (Serial ATA 3.x, 16.3, port multiplier: presence of a device on a port,
+-- on which the command is taken; and on the same connection come the FISes that the host takes of that
+-- port as long as the request waits or is issued (Serial ATA 3.x, 16.3, port multiplier: presence of a device on a port,
 -- frame transmission from a host to a device; ACS-3, IDENTIFY DEVICE; AHCI 1.3.1, 5.3). So no command that
 -- was meant for a device that is removed reaches its successor, however long its request waited and
 -- however long the command was on its way.
@@ -12,13 +13,15 @@ use Rattle.std.specs.Prelude.{ℕ, ◌≡◌, ◌<◌, true, false, List, [], �
 use Rattle.std.specs.Prelude.{slice_get}
 use Rattle.fis_view.specs.Frames.{Stamped}
 use Rattle.disk_model.specs.declared.unit.Unit.{Unit}
+use Rattle.hba_fbs.specs.declared.report.TakeReport.{TakeReport}
 use Rattle.hba_driver.specs.declared.request.Request.{Request}
 use Rattle.hba_driver.specs.declared.request.Ticket.{Ticket}
-use Rattle.hba_driver.specs.declared.slot.Phase.TheVariants.{Issued}
-use Rattle.hba_driver.specs.Drivers.{rephased}
+use Rattle.hba_driver.specs.declared.slot.Phase.TheVariants.{Issued, Waits}
+use Rattle.hba_driver.specs.Drivers.{Entry, rephased}
 use Rattle.hba_driver.specs.Known.{is_request}
 use Rattle.hba_driver.specs.Queued.{IsCommandOf}
 use Rattle.hba_driver.specs.Submits.{new_entry}
+use Rattle.hba_driver.specs.Tended.{IsLiveAt}
 use Rattle.multiplier.specs.State.{falling}
 use Rattle.pm_world.specs.Downward.{on_down_link, pushed_by}
 use Rattle.pm_world.specs.Places.{Places, is_config, new_world}
@@ -61,3 +64,26 @@ CommandsAreMeant =
     → (frame : Stamped) → take 1 (on_down_link (slice_get now.devices n)) ≡ frame ∷ []
     → is_request frame.bytes ≡ true
     → IsMeant n (connection (slice_get now.devices n)) frame (new_world config units) now steps answers run
+
+-- In this run the request of an entry of device n was submitted, and the last IDENTIFY data that the host
+-- had accepted for the port then were sent on this connection.
+pub record WasSubmittedFor (n conn : ℕ) (e : Entry) (old now : Places) (steps : List Step)
+    (answers : List Answer) (run : Run old steps answers now) : Type 0 where
+  pub ticket : Ticket
+  pub request : Request
+  pub of_request : new_entry ticket.0 n request ≡ rephased Waits e
+  pub submitted : IsStepOf (step.Submit n request) (answer.Submitted ticket) old now steps answers run
+  pub identified : latest None (over (identified_by n) old submitted.before submitted.told submitted.at
+      submitted.came) ≡ Some conn
+
+-- After every run from a new world, where the host takes a FIS of port n while a request of it waits or is
+-- issued, that request was submitted for the connection on which the FIS was sent.
+abbrev pub AnswersAreMeant : Type 0
+AnswersAreMeant =
+    (config : Config) (units : List Unit) → is_config config (length units) ≡ true
+    → (steps : List Step) (answers : List Answer) (now : Places)
+    (run : Run (new_world config units) steps answers now) (n : ℕ) → n < 15
+    → (s : Step) (conn number : ℕ) (bytes : List ℕ) (report : TakeReport) (new : Places)
+    → Rule now s (Ok (answer.Took n conn number bytes report)) new
+    → (slot : ℕ) (e : Entry) → IsLiveAt n slot now.host.driver.entries e
+    → WasSubmittedFor n conn e (new_world config units) now steps answers run
