@@ -1,10 +1,10 @@
 -- For whom a command is meant that a device takes: it is the command of a request, and the last IDENTIFY
 -- data that the host accepted for the port before that request was submitted were sent on the connection
 -- on which the command is taken; and on the same connection come the FISes that the host takes of that
--- port as long as the request waits or is issued (Serial ATA 3.x, 16.3, port multiplier: presence of a device on a port,
--- frame transmission from a host to a device; ACS-3, IDENTIFY DEVICE; AHCI 1.3.1, 5.3). So no command that
--- was meant for a device that is removed reaches its successor, however long its request waited and
--- however long the command was on its way.
+-- port as long as the request waits or is issued (Serial ATA 3.x, 16.3, port multiplier: presence of a
+-- device on a port, frame transmission; ACS-3, IDENTIFY DEVICE; AHCI 1.3.1, 5.3). So no command that was
+-- meant for a device that is removed reaches its successor, however long its request waited and however
+-- long the command was on its way, and no other device answers it.
 --
 -- Cited: what is told of a step, and steps of a run (specs/Runs.antt); what goes down (specs/Downward.antt);
 -- IDENTIFY data that are accepted (specs/Stale.antt). That a frame which goes out is the command of a
