@@ -74,3 +74,4 @@ pub mod ApartArmed
 pub mod ApartFiles
 pub mod SetsLemmas
 pub mod HeldLemmas
+pub mod QueuedLemmas

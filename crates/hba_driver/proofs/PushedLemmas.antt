@@ -42,6 +42,7 @@ use Rattle.hba_driver.specs.HostTurns.{Does, DoesAll, Host, HostTurn, Took, Push
 use Rattle.hba_driver.specs.Known.{is_asked, is_request}
 use Rattle.hba_driver.specs.Orders.{identify_fields, log_fields, control}
 use Rattle.hba_driver.specs.Paths.{stage_fields}
+use Rattle.hba_driver.specs.Queued.{IsSomeCommand}
 use Rattle.hba_driver.specs.Served.{IsIssueOf}
 use Rattle.hba_driver.specs.Sights.{px_ci, px_fbs}
 use Rattle.hba_driver.specs.Ticks.{due, effects_due, seen}
@@ -208,8 +209,8 @@ abbrev pub known_issued : Host → (ℕ → Type 0) → Type 0
 known_issued h P = (s : ℕ) (e : Entry) → entry_at h.driver.entries s ≡ Some e → is_issued e.head ≡ true → P e.head.dev
 
 -- the command of a request that goes out to a device is that of an entry of it that is issued
-module _ (h new : Host) (frame : Stamped) (w : IsOnWay h) (plain : IsPlain h.port) (below : frame.stamp.port < 15) (asks : is_request frame.bytes ≡ true) (P : ℕ → Type 0) (known : known_issued h P) where
-  by_order : (dev slot : ℕ) (command : Command) → outgoing h.port h.memory ≡ out.Order dev slot command → frame.stamp.port ≡ dev → frame.bytes ≡ command.cfis → P frame.stamp.port
+module _ (h new : Host) (frame : Stamped) (w : IsOnWay h) (plain : IsPlain h.port) (below : frame.stamp.port < 15) (asks : is_request frame.bytes ≡ true) where
+  by_order : (dev slot : ℕ) (command : Command) → outgoing h.port h.memory ≡ out.Order dev slot command → frame.stamp.port ≡ dev → frame.bytes ≡ command.cfis → IsSomeCommand h frame
   by_order dev slot command is port bytes =
       let order = order_is h.port h.memory dev slot command is in
       elim (cases_eq slot 30) [
@@ -220,16 +221,27 @@ module _ (h new : Host) (frame : Stamped) (w : IsOnWay h) (plain : IsPlain h.por
       low : dev < 15
       low = omega (arith, below, port)
 
-      by_from : (i : Issue) (t : Transfer) → slot ≢ 30 → IsIssueOf h.driver dev slot t → P frame.stamp.port
+      by_from : (i : Issue) (t : Transfer) → slot ≢ 30 → IsIssueOf h.driver dev slot t → IsSomeCommand h frame
       by_from i t other x = elim x.from [
-        | inl r ↦ subst P (r.of_dev ∙ sym port) (known slot r.entry r.stands r.goes)
+        | inl r ↦ record {
+          slot = slot;
+          entry = r.entry;
+          of = record {
+            command = command;
+            next = is ∙ ap (λ (k : ℕ). out.Order k slot command) (sym r.of_dev);
+            bytes = bytes;
+            port = port ∙ sym r.of_dev;
+            stands = r.stands;
+            issued = r.goes;
+          };
+        }
         | inr rest ↦ elim rest [
           | inl step ↦ absurd (other step.slot)
           | inr ordered ↦ absurd (omega (arith, low, ordered.of_dev))
         ]
       ]
 
-      by_issue : Owns dev (issue_at h.port.slots slot) → (o : Option Issue) → issue_at h.port.slots slot ≡ o → slot ≢ 30 → P frame.stamp.port
+      by_issue : Owns dev (issue_at h.port.slots slot) → (o : Option Issue) → issue_at h.port.slots slot ≡ o → slot ≢ 30 → IsSomeCommand h frame
       by_issue owns None is other = absurd (subst (Owns dev) is owns)
       by_issue owns (Some i) is other =
           let of : i.dev ≡ dev = subst (Owns dev) is owns in
@@ -237,14 +249,19 @@ module _ (h new : Host) (frame : Stamped) (w : IsOnWay h) (plain : IsPlain h.por
           let t = the_transfer (issued slot (own dev w.past)) (own_issue (slots_of dev h.port.slots) slot) i here ((w.served.told dev (omega (arith, low))).issued slot) in
           by_from i t.0 other (w.served.issues dev slot t.0 t.1)
 
-  by_out : (o : Outgoing) → outgoing h.port h.memory ≡ o → out.Gives o h.port h.memory (Some frame) new.port → P frame.stamp.port
+  by_out : (o : Outgoing) → outgoing h.port h.memory ≡ o → out.Gives o h.port h.memory (Some frame) new.port → IsSomeCommand h frame
   by_out out.Nothing is gives = let wrong : Some frame ≡ None = gives.0 in absurd (cc)
   by_out (out.Unreadable dev) is gives = let wrong : Some frame ≡ None = gives.0 in absurd (cc)
   by_out (out.Data dev offset len command) is gives = absurd (true≢false (sym asks ∙ ap (λ (f : Stamped). is_request f.bytes) gives.frame_is))
   by_out (out.Order dev slot command) is gives = by_order dev slot command is (ap (λ (f : Stamped). f.stamp.port) gives.frame_is) (ap (λ (f : Stamped). f.bytes) gives.frame_is)
 
-  pub request_known : Does h (Pushed (Some frame)) new → P frame.stamp.port
-  request_known does = by_out (outgoing h.port h.memory) refl does.gives
+  pub request_of_slot : Does h (Pushed (Some frame)) new → IsSomeCommand h frame
+  request_of_slot does = by_out (outgoing h.port h.memory) refl does.gives
+
+  pub request_known : (P : ℕ → Type 0) (known : known_issued h P) → Does h (Pushed (Some frame)) new → P frame.stamp.port
+  request_known P known does =
+      let c = request_of_slot does in
+      subst P (sym c.of.port) (known c.slot c.entry c.of.stands c.of.issued)
 
 pub plain_at : (given len : ℕ) (turns : List HostTurn) (h : Host) → DoesAll (opening_host given len) turns h → IsOnWay (opening_host given len) → IsPlain h.port
 plain_at given len turns h run w = plain_run (opening_host given len) h turns run w (opening_plain given len)

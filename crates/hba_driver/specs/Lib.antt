@@ -27,3 +27,4 @@ pub mod Tended
 pub mod Slot30
 pub mod Absent
 pub mod Resetting
+pub mod Queued

@@ -8,6 +8,7 @@ ghost use Rattle.hba_driver.specs.Events.{EachRunTells, HostsAreSound, TurnsAreE
 ghost use Rattle.hba_driver.specs.Faults.{ErrorsAreNamed};
 ghost use Rattle.hba_driver.specs.Held.{TurnsHoldWrites};
 ghost use Rattle.hba_driver.specs.Known.{DevicesAreKnown};
+ghost use Rattle.hba_driver.specs.Queued.{RequestsStay};
 ghost use Rattle.hba_driver.specs.Reported.{DoneWasReported};
 ghost use Rattle.hba_driver.specs.Laws.{CommandsStand, DoneIsFree, EachRunKeeps, TicksKeep, TicksServe};
 ghost use Rattle.hba_driver.specs.Resetting.{EachResetIsDriven};
@@ -133,6 +134,14 @@ pub fn turns_tend()
 /// accepted since it was flushed last. It does nothing when it runs.
 pub fn devices_are_known()
     ensures { DevicesAreKnown }
+{}
+
+/// A request that waits or is issued stays with its device: since it was taken, for a device that was
+/// ready, no tick flushed the device. The command of a request that goes out is that of one which is
+/// issued in its slot, for its own device. So none that waited over the exchange of its device is issued
+/// to the next one. It does nothing when it runs.
+pub fn requests_stay_with_their_device()
+    ensures { RequestsStay }
 {}
 
 /// The driver orders that a port of the multiplier be cleared only where it was named: over every list of

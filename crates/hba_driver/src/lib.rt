@@ -24,9 +24,9 @@ pub use driver::Driver;
 pub use going::{frames_are_addressed, orders_take_turns, port_goes_on};
 pub use laws::{
     absent_before, commands_stand, devices_are_known, done_is_free, done_is_true,
-    done_was_reported, errors_are_named, hosts_stay_sound, resets_are_issued, ticks_keep,
-    ticks_serve, turns_are_events, turns_are_steady, turns_deliver, turns_keep, turns_serve,
-    turns_tend, writes_are_accepted, writes_are_held,
+    done_was_reported, errors_are_named, hosts_stay_sound, requests_stay_with_their_device,
+    resets_are_issued, ticks_keep, ticks_serve, turns_are_events, turns_are_steady, turns_deliver,
+    turns_keep, turns_serve, turns_tend, writes_are_accepted, writes_are_held,
 };
 pub use recovering::{devices_are_apart, none_is_armed};
 pub use request::{Completion, Outcome, Request, SubmitError, Ticket, Work};

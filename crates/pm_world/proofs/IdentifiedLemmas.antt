@@ -169,7 +169,7 @@ module _ (n : ℕ) (below : n < 15) (known : Bool) (old : Places) (s : Step) (ne
   asking_rest : (a : Answer) → IsOther a → Rule old s (Ok a) new → IsAsking n known new.host
   asking_rest a other rule = idle_turns n below known old.host new.host (turn_of old s a new) (rule_does old s a new rule) (idle_rest old s a new other) h
 
-  asking_step : (a : Answer) → Rule old s (Ok a) new → IsAsking n (known_after n known old s a new) new.host
+  pub asking_step : (a : Answer) → Rule old s (Ok a) new → IsAsking n (known_after n known old s a new) new.host
   asking_step (answer.Took port conn number bytes report) rule = asking_took port conn number bytes report rule
   asking_step answer.Ticked rule = asking_ticked rule
   asking_step a rule = asking_rest a tt rule

@@ -80,3 +80,6 @@ pub mod Refusals
 pub mod Refused
 pub mod Rows
 pub mod Comings
+pub mod LiveSteps
+pub mod MeantLemmas
+pub mod MeantRuns

@@ -31,3 +31,4 @@ pub mod Polled
 pub mod ReadBack
 pub mod Submitted
 pub mod Laws
+pub mod Meant

@@ -2,6 +2,7 @@
 //! run.
 
 ghost use Rattle.pm_world.specs.Keeping.{PortsKeep};
+ghost use Rattle.pm_world.specs.Meant.{AnswersAreMeant, CommandsAreMeant};
 ghost use Rattle.pm_world.specs.Stale.{NoneIsStale, OrderedIsNotStale};
 
 /// Between two FISes of the host that clear bit X of a port, all that passes this port, up and
@@ -21,4 +22,15 @@ pub fn ordered_is_not_stale()
 /// the last IDENTIFY data accepted for its port were sent.
 pub fn none_is_stale()
     ensures { NoneIsStale }
+{}
+
+/// After every run from a new world, where a device takes the command of a request, that request was
+/// submitted for its port in the run, and the command was put on the host's link while it was issued.
+/// The device takes it on the connection on which the last IDENTIFY data were sent that the host had
+/// accepted for the port before the request was submitted. So a command that was meant for a device
+/// that is removed never reaches its successor. And on that connection come all FISes that the host
+/// takes of the port while the request waits or is issued: no other device answers it.
+pub fn commands_are_meant()
+    ensures commands { CommandsAreMeant }
+    ensures answers { AnswersAreMeant }
 {}

@@ -1,0 +1,89 @@
+-- For whom a command is meant that a device takes: it is the command of a request, and the last IDENTIFY
+-- data that the host accepted for the port before that request was submitted were sent on the connection
+-- on which the command is taken; and on the same connection come the FISes that the host takes of that
+-- port as long as the request waits or is issued (Serial ATA 3.x, 16.3, port multiplier: presence of a
+-- device on a port, frame transmission; ACS-3, IDENTIFY DEVICE; AHCI 1.3.1, 5.3). So no command that was
+-- meant for a device that is removed reaches its successor, however long its request waited and however
+-- long the command was on its way, and no other device answers it.
+--
+-- Cited: what is told of a step, and steps of a run (specs/Runs.antt); what goes down (specs/Downward.antt);
+-- IDENTIFY data that are accepted (specs/Stale.antt). That a frame which goes out is the command of a
+-- request is IsCommandOf of `hba_driver` (specs/Queued.antt).
+use Rattle.std.specs.Prelude.{ℕ, ◌≡◌, ◌<◌, true, false, List, [], ◌∷◌, length, take, None, Some, Ok}
+use Rattle.std.specs.Prelude.{slice_get}
+use Rattle.fis_view.specs.Frames.{Stamped}
+use Rattle.disk_model.specs.declared.unit.Unit.{Unit}
+use Rattle.hba_fbs.specs.declared.report.TakeReport.{TakeReport}
+use Rattle.hba_driver.specs.declared.request.Request.{Request}
+use Rattle.hba_driver.specs.declared.request.Ticket.{Ticket}
+use Rattle.hba_driver.specs.declared.slot.Phase.TheVariants.{Issued, Waits}
+use Rattle.hba_driver.specs.Drivers.{Entry, rephased}
+use Rattle.hba_driver.specs.Known.{is_request}
+use Rattle.hba_driver.specs.Queued.{IsCommandOf}
+use Rattle.hba_driver.specs.Submits.{new_entry}
+use Rattle.hba_driver.specs.Tended.{IsLiveAt}
+use Rattle.multiplier.specs.State.{falling}
+use Rattle.pm_world.specs.Downward.{on_down_link, pushed_by}
+use Rattle.pm_world.specs.Places.{Places, is_config, new_world}
+use Rattle.pm_world.specs.Rules.{Rule, Run}
+use Rattle.pm_world.specs.Runs.{IsStepOf, over}
+use Rattle.pm_world.specs.Stale.{connection, identified_by, latest}
+use Rattle.pm_world.specs.declared.step.Config.{Config}
+use Rattle.pm_world.specs.declared.step.Step.{Step}
+use Rattle.pm_world.specs.declared.step.Step.TheVariants as step
+use Rattle.pm_world.specs.declared.step.Answer.{Answer}
+use Rattle.pm_world.specs.declared.step.Answer.TheVariants as answer
+
+-- In this run a request of device n was submitted under a ticket, and later its command was put on the
+-- host's link, while it was issued in its slot. The frame is that one, as it fell to this connection. On
+-- the same connection the last IDENTIFY data were sent that the host had accepted for the port when the
+-- request was submitted.
+pub record IsMeant (n conn : ℕ) (frame : Stamped) (old now : Places) (steps : List Step)
+    (answers : List Answer) (run : Run old steps answers now) : Type 0 where
+  pub slot : ℕ
+  pub ticket : Ticket
+  pub request : Request
+  pub sent : Stamped
+  pub fell : frame ≡ falling conn sent
+  pub pushed : IsStepOf step.HostPush answer.Pushed old now steps answers run
+  pub is_sent : pushed_by pushed.at step.HostPush answer.Pushed pushed.next ≡ sent ∷ []
+  pub of_request : IsCommandOf slot (rephased Issued (new_entry ticket.0 n request)) pushed.at.host sent
+  pub submitted : IsStepOf (step.Submit n request) (answer.Submitted ticket) old pushed.at pushed.before
+      pushed.told pushed.came
+  pub identified : latest None (over (identified_by n) old submitted.before submitted.told submitted.at
+      submitted.came) ≡ Some conn
+
+-- After every run from a new world, where the device at port n takes the command of a request, it is
+-- meant for the connection on which the device takes it.
+abbrev pub CommandsAreMeant : Type 0
+CommandsAreMeant =
+    (config : Config) (units : List Unit) → is_config config (length units) ≡ true
+    → (steps : List Step) (answers : List Answer) (now : Places)
+    (run : Run (new_world config units) steps answers now) (n : ℕ) → n < 15
+    → (s : Step) (new : Places) → Rule now s (Ok (answer.DiskTook n false)) new
+    → (frame : Stamped) → take 1 (on_down_link (slice_get now.devices n)) ≡ frame ∷ []
+    → is_request frame.bytes ≡ true
+    → IsMeant n (connection (slice_get now.devices n)) frame (new_world config units) now steps answers run
+
+-- In this run the request of an entry of device n was submitted, and the last IDENTIFY data that the host
+-- had accepted for the port then were sent on this connection.
+pub record WasSubmittedFor (n conn : ℕ) (e : Entry) (old now : Places) (steps : List Step)
+    (answers : List Answer) (run : Run old steps answers now) : Type 0 where
+  pub ticket : Ticket
+  pub request : Request
+  pub of_request : new_entry ticket.0 n request ≡ rephased Waits e
+  pub submitted : IsStepOf (step.Submit n request) (answer.Submitted ticket) old now steps answers run
+  pub identified : latest None (over (identified_by n) old submitted.before submitted.told submitted.at
+      submitted.came) ≡ Some conn
+
+-- After every run from a new world, where the host takes a FIS of port n while a request of it waits or is
+-- issued, that request was submitted for the connection on which the FIS was sent.
+abbrev pub AnswersAreMeant : Type 0
+AnswersAreMeant =
+    (config : Config) (units : List Unit) → is_config config (length units) ≡ true
+    → (steps : List Step) (answers : List Answer) (now : Places)
+    (run : Run (new_world config units) steps answers now) (n : ℕ) → n < 15
+    → (s : Step) (conn number : ℕ) (bytes : List ℕ) (report : TakeReport) (new : Places)
+    → Rule now s (Ok (answer.Took n conn number bytes report)) new
+    → (slot : ℕ) (e : Entry) → IsLiveAt n slot now.host.driver.entries e
+    → WasSubmittedFor n conn e (new_world config units) now steps answers run
