@@ -3,12 +3,15 @@
 ghost use Rattle.pm_world.specs.Disks.{HonestDisks};
 ghost use Rattle.pm_world.specs.Polled.{HonestPolls};
 ghost use Rattle.pm_world.specs.ReadBack.{DisksHaveWrites, ReadsBringWrites, WritesStayThere};
-ghost use Rattle.pm_world.specs.Wire.{DroppedNeverComes, PluggedIsOnWire, UnitWiresGoOn, WiresGoOn};
+ghost use Rattle.pm_world.specs.Wire.{DroppedNeverComes, PluggedIsOnWire, ReachedAreOrderly};
+ghost use Rattle.pm_world.specs.Wire.{UnitWiresGoOn, WiresGoOn};
 
 /// What each step of a world does on the wire of one device, whatever the device sends: the host
 /// gives a FIS, the device takes one, the device sends one, the host takes the next one, or nothing
-/// is done at either end; and so it goes on, until the device is unplugged.
+/// is done at either end; and so it goes on, until the device is unplugged. Every world to which a run
+/// from a new one leads is one of those of which this is said.
 pub fn wires_go_on()
+    ensures orderly { ReachedAreOrderly }
     ensures plugged { PluggedIsOnWire }
     ensures steps { WiresGoOn }
     ensures units { UnitWiresGoOn }
