@@ -68,6 +68,7 @@ pub mod DisksLemmas
 pub mod AnewLemmas
 pub mod EndsRuns
 pub mod HonestRuns
+pub mod OneLemmas
 pub mod PolledLemmas
 pub mod ReadBackLemmas
 pub mod ReachedLemmas

@@ -45,12 +45,12 @@ use Rattle.pm_world.proofs.UpLemmas.{Left, Rose, Same, UpChange, took_step, up_c
 -- ## What is known
 
 -- what the host keeps to in a step, and that commands of requests go out only where IDENTIFY data were accepted
-record IsServed (n : ℕ) (known unsent : Bool) (old : Places) (s : Step) (a : Answer) (new : Places) : Type 0 where
-  order : IsInOrder n unsent old s a new
-  identified : list_any (is_request_to n) (pushed_by old s a new) ≡ true → known ≡ true
+pub record IsServed (n : ℕ) (known unsent : Bool) (old : Places) (s : Step) (a : Answer) (new : Places) : Type 0 where
+  pub order : IsInOrder n unsent old s a new
+  pub identified : list_any (is_request_to n) (pushed_by old s a new) ≡ true → known ≡ true
 
 -- the last connection that came to port n, as the multiplier knows it
-abbrev last_at : ℕ → Places → ℕ
+abbrev pub last_at : ℕ → Places → ℕ
 last_at n now = (port_at now.multiplier n).last
 
 -- what it knows of port n's connections
@@ -58,52 +58,52 @@ abbrev seen_at : ℕ → Places → Option ℕ × ℕ × ℕ
 seen_at n now = world_orderly.known (port_at now.multiplier n)
 
 -- a FIS on the host's link, if it is of port n: the port keeps to its connection, and that came
-abbrev IsRisen : ℕ → Places → Stamped → Type 0
+abbrev pub IsRisen : ℕ → Places → Stamped → Type 0
 IsRisen n now f = f.stamp.port ≡ n → KeepsTo n f.stamp.conn now.multiplier × (f.stamp.conn ≤ last_at n now)
 
 -- no FIS of port n on the host's link is of an earlier connection than c
-abbrev IsLater : (n c : ℕ) → Stamped → Type 0
+abbrev pub IsLater : (n c : ℕ) → Stamped → Type 0
 IsLater n c f = f.stamp.port ≡ n → c ≤ f.stamp.conn
 
 -- a FIS on its way to the device, if it is the command of a request: IDENTIFY data came last on its connection or a later one
-record IsFor (n : ℕ) (last : Option ℕ) (now : Places) (f : Stamped) : Type 0 where
-  conn : ℕ
-  came : last ≡ Some conn
-  after : f.stamp.conn ≤ conn
-  later : Each (IsLater n f.stamp.conn) now.upward.frames
-  below : f.stamp.conn ≤ last_at n now
+pub record IsFor (n : ℕ) (last : Option ℕ) (now : Places) (f : Stamped) : Type 0 where
+  pub conn : ℕ
+  pub came : last ≡ Some conn
+  pub after : f.stamp.conn ≤ conn
+  pub later : Each (IsLater n f.stamp.conn) now.upward.frames
+  pub below : f.stamp.conn ≤ last_at n now
 
-abbrev Falls : ℕ → Option ℕ → Places → Stamped → Type 0
+abbrev pub Falls : ℕ → Option ℕ → Places → Stamped → Type 0
 Falls n last now f = is_request f.bytes ≡ true → IsFor n last now f
 
 -- behind a FIS that clears port n comes no other one, and no command of a request to it
-abbrev IsBehind : ℕ → Stamped → Type 0
+abbrev pub IsBehind : ℕ → Stamped → Type 0
 IsBehind n f = (is_clear n f ≡ false) × (is_request_to n f ≡ false)
 
-abbrev Line : ℕ → List Stamped → Type 0
+abbrev pub Line : ℕ → List Stamped → Type 0
 Line n [] = Prim.Unit {0}
 Line n (f ∷ frames) = (is_clear n f ≡ true → Each (IsBehind n) frames) × Line n frames
 
 -- the port is to be cleared
-abbrev IsComing : ℕ → Bool → Places → Type 0
+abbrev pub IsComing : ℕ → Bool → Places → Type 0
 IsComing n unsent now = (unsent ≡ true) ⊎ Anything (is_clear n) now.downward.frames
 
-record Holds (n : ℕ) (known unsent : Bool) (last : Option ℕ) (now : Places) : Type 0 where
-  orderly : IsOrderly now
-  true_is : IsTrue n now.multiplier
-  led : IsLed (slice_get now.devices n) (seen_at n now)
+pub record Holds (n : ℕ) (known unsent : Bool) (last : Option ℕ) (now : Places) : Type 0 where
+  pub orderly : IsOrderly now
+  pub true_is : IsTrue n now.multiplier
+  pub led : IsLed (slice_get now.devices n) (seen_at n now)
   -- the connection on which IDENTIFY data came is the one to which the port keeps
-  came : known ≡ true → (c : ℕ) × (last ≡ Some c) × KeepsTo n c now.multiplier
-  last_came : (c : ℕ) → last ≡ Some c → c ≤ last_at n now
-  up : Each (IsRisen n now) now.upward.frames
-  line : Line n now.downward.frames
-  unsent_none : unsent ≡ true → Nothing (is_clear n) now.downward.frames
+  pub came : known ≡ true → (c : ℕ) × (last ≡ Some c) × KeepsTo n c now.multiplier
+  pub last_came : (c : ℕ) → last ≡ Some c → c ≤ last_at n now
+  pub up : Each (IsRisen n now) now.upward.frames
+  pub line : Line n now.downward.frames
+  pub unsent_none : unsent ≡ true → Nothing (is_clear n) now.downward.frames
   -- commands of requests are for the connection that is known
-  asked : known ≡ false → unsent ≡ false → Nothing (is_clear n) now.downward.frames → Nothing (is_request_to n) now.downward.frames
-  falls : Each (Falls n last now) (falling_to n now)
+  pub asked : known ≡ false → unsent ≡ false → Nothing (is_clear n) now.downward.frames → Nothing (is_request_to n) now.downward.frames
+  pub falls : Each (Falls n last now) (falling_to n now)
   -- while the port is to be cleared nothing of it is known, and nothing of it is on its way up
-  unknown : IsComing n unsent now → known ≡ false
-  away : IsComing n unsent now → Each (λ f. (f.stamp.port == n) ≡ false) now.upward.frames
+  pub unknown : IsComing n unsent now → known ≡ false
+  pub away : IsComing n unsent now → Each (λ f. (f.stamp.port == n) ≡ false) now.upward.frames
 
 -- ## Requests
 
@@ -187,7 +187,7 @@ module _ (n : ℕ) (below : n < 15) (known unsent : Bool) (last : Option ℕ) (o
   unsent_cleared e = ap (λ (b : Bool). if b then true else if list_any (is_clear n) (pushed_by old s a new) then false else unsent) e
 
   -- the port is cleared by the FIS that was on its way
-  cleared_coming : is_cleared n old a ≡ true → IsComing n unsent old
+  pub cleared_coming : is_cleared n old a ≡ true → IsComing n unsent old
   cleared_coming e = by_down down
     where
       by_down : DownChange n old s a new → IsComing n unsent old
@@ -349,7 +349,7 @@ module _ (n : ℕ) (below : n < 15) (known unsent : Bool) (last : Option ℕ) (o
 
   -- ---- what is to be cleared
 
-  still : IsComing n unsent_now new → orders_clear n old a ≡ false → IsComing n unsent old × (is_cleared n old a ≡ false)
+  pub still : IsComing n unsent_now new → orders_clear n old a ≡ false → IsComing n unsent old × (is_cleared n old a ≡ false)
   still coming idle = by_down coming down
     where
       by_down : IsComing n unsent_now new → DownChange n old s a new → IsComing n unsent old × (is_cleared n old a ≡ false)
@@ -493,7 +493,7 @@ module _ (n : ℕ) (below : n < 15) (known unsent : Bool) (last : Option ℕ) (o
           subst (Each (Falls n last_now new)) (sym fallen.here) (each_more (Falls n last_now new) (falling_to n old) (falling fallen.conn f) falls_on
           (λ asks. for_on (falling fallen.conn f) (fallen_for f link fallen asks)))
 
-  holds_now : Holds n known_now unsent_now last_now new
+  pub holds_now : Holds n known_now unsent_now last_now new
   holds_now = record {
     orderly = orderly_now;
     true_is = true_after n old s a new rule h.true_is;
@@ -575,7 +575,7 @@ uncleared n old answer.Ticked e = refl
 uncleared n old a e = absurd (false≢true e)
 
 -- once the order is out the port passes nothing until it is cleared
-waits_then : (n : ℕ) → n < 15 → (old : Places) (s : Step) (a : Answer) (mid : Places) → Rule old s (Ok a) mid → IsOrderly old → IsTrue n old.multiplier → orders_clear n old a ≡ true → Waits n old
+pub waits_then : (n : ℕ) → n < 15 → (old : Places) (s : Step) (a : Answer) (mid : Places) → Rule old s (Ok a) mid → IsOrderly old → IsTrue n old.multiplier → orders_clear n old a ≡ true → Waits n old
     → (steps : List Step) (answers : List Answer) (new : Places) (run : Run mid steps answers new) → PassesNone n mid steps answers new run
 waits_then n below old s a mid rule orderly is clears waits steps answers new run =
     let goes = rule_goes n old s a mid rule in
@@ -600,7 +600,7 @@ none_stale n below known unsent last old (s ∷ steps) (a ∷ answers) new run h
     )
 
 module _ (config : Config) (units : List Unit) (right : is_config config (length units) ≡ true) (n : ℕ) where
-  opening_holds : Holds n false false None (new_world config units)
+  pub opening_holds : Holds n false false None (new_world config units)
   opening_holds = record {
     orderly = opening_orderly config units right;
     true_is = opening_true config units n;
@@ -616,7 +616,7 @@ module _ (config : Config) (units : List Unit) (right : is_config config (length
     away = λ coming. tt;
   }
 
-  none_coming : IsComing n false (new_world config units) → ⊥
+  pub none_coming : IsComing n false (new_world config units) → ⊥
   none_coming (inl u) = absurd (cc)
   none_coming (inr some) = some
 

@@ -28,7 +28,8 @@ pub fn disks_are_honest()
 {}
 
 /// After every run from a new world, where a poll answers that a request is done: it was submitted
-/// under its ticket, and a FIS of its device was taken that reported it. Where the device is a disk
+/// under its ticket, and a FIS of its device was taken that reported it. From the submit up to that FIS
+/// the host took FISes of its device on that one connection alone. Where the device is a disk
 /// that was left alone from its plugging as the connection of that FIS up to it, a read or a write
 /// ended honestly: the bytes of a read stand in client memory when it is polled, and are the sectors
 /// of the medium, as they were when the disk started it; a write is on the medium.
