@@ -71,6 +71,8 @@ pub mod HonestRuns
 pub mod OneLemmas
 pub mod PolledLemmas
 pub mod ReadBackLemmas
+pub mod NamedLemmas
+pub mod MediaLemmas
 pub mod ReachedLemmas
 pub mod SubmittedLemmas
 pub mod ReadSubmittedLemmas

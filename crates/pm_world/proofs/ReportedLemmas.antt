@@ -33,7 +33,7 @@ use Rattle.hba_driver.proofs.HistoryLemmas.{free_other}
 
 -- ## Steps of a run
 
-abbrev first_of : (s : Step) (a : Answer) (steps : List Step) (answers : List Answer) (old new : Places) (run : Run old (s ∷ steps) (a ∷ answers) new)
+abbrev pub first_of : (s : Step) (a : Answer) (steps : List Step) (answers : List Answer) (old new : Places) (run : Run old (s ∷ steps) (a ∷ answers) new)
     → IsStepOf s a old new (s ∷ steps) (a ∷ answers) run
 first_of s a steps answers old new run = record {
   before = [];

@@ -1,6 +1,8 @@
 //! Laws of the two ends of a disk's link in a world. The functions do nothing when they run.
 
 ghost use Rattle.pm_world.specs.Disks.{HonestDisks};
+ghost use Rattle.pm_world.specs.Media.{MediaAreOfWrites};
+ghost use Rattle.pm_world.specs.Named.{PolledErrorsAreNamed};
 ghost use Rattle.pm_world.specs.Polled.{HonestPolls};
 ghost use Rattle.pm_world.specs.ReadBack.{DisksHaveWrites, ReadsBringWrites, WritesStayThere};
 ghost use Rattle.pm_world.specs.Wire.{DroppedNeverComes, PluggedIsOnWire, ReachedAreOrderly};
@@ -44,4 +46,18 @@ pub fn reads_bring_writes()
     ensures reads { ReadsBringWrites }
     ensures stay { WritesStayThere }
     ensures medium { DisksHaveWrites }
+{}
+
+/// After every run from a new world, where a poll answers that a device failed a request: the run has a
+/// tick in which the request had not ended, and the error log of its device had just been read, was
+/// whole, and named the request with the Status and Error of the answer.
+pub fn polled_errors_are_named()
+    ensures { PolledErrorsAreNamed }
+{}
+
+/// In every world the medium of a disk is a new one with the bytes of whole writes put in, in the order
+/// in which they ended; from one world of a run to a later one more of them come behind. So a write that
+/// ended otherwise than done is there whole, or not at all, whatever happened to the disk.
+pub fn media_change_by_writes()
+    ensures { MediaAreOfWrites }
 {}
