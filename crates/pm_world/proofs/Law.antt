@@ -378,7 +378,7 @@ run_more old [] (b ∷ answers) mid s a new run more = absurd run
 run_more old (t ∷ steps) [] mid s a new run more = absurd run
 
 -- one run and then another
-pub run_append : (a b c : Places) (first : List Step) (told : List Answer) (second : List Step) (more : List Answer) → Run a first told b → Run b second more c → Run a (first ++ second) (told ++ more) c
+unfoldable pub run_append : (a b c : Places) (first : List Step) (told : List Answer) (second : List Step) (more : List Answer) → Run a first told b → Run b second more c → Run a (first ++ second) (told ++ more) c
 run_append a b c [] [] second more run next = subst (λ (p : Places). Run p second more c) run next
 run_append a b c (s ∷ first) (x ∷ told) second more run next = (run.0, run.1, run_append run.0 b c first told second more run.2 next)
 run_append a b c [] (x ∷ told) second more run next = absurd run

@@ -68,8 +68,11 @@ pub mod DisksLemmas
 pub mod AnewLemmas
 pub mod EndsRuns
 pub mod HonestRuns
+pub mod OneLemmas
 pub mod PolledLemmas
 pub mod ReadBackLemmas
+pub mod NamedLemmas
+pub mod MediaLemmas
 pub mod ReachedLemmas
 pub mod SubmittedLemmas
 pub mod ReadSubmittedLemmas

@@ -22,6 +22,7 @@ use Rattle.multiplier.specs.declared.multiplier.Passed.{Passed}
 use Rattle.multiplier.specs.declared.multiplier.Passed.TheVariants as passed
 use Rattle.multiplier.proofs.Gone.{still_up_to}
 use Rattle.multiplier.proofs.Ports as ports
+use Rattle.pm_world.specs.Wire.{ReachedAreOrderly}
 use Rattle.pm_world.specs.Places.{KnowsItsConnections, Places, Place, Queue, IsOrderly, is_config, new_world, opening, with_device, with_multiplier, with_upward, with_downward, with_host}
 use Rattle.pm_world.specs.Rules.{OnDevice, OnDeviceAndMultiplier, PmPresenceRule, PmFromDeviceRule, PmDownRule, PmFromHostRule, PmUpRule, CameRule, DiskSendRule, GoneRule, InjectRule, DiskTakeRule, Rule, Run, Outcome, recorded}
 use Rattle.pm_world.specs.Traffic.{is_removed}
@@ -363,3 +364,6 @@ opening_orderly config units fits = record {
   answer = λ frame e. absurd (cc);
   knows = λ n. subst KnowsItsConnections (sym (port_opening config units n)) (record { present = λ conn e. absurd (cc); last = omega arith });
 }
+
+pub reached_orderly : ReachedAreOrderly
+reached_orderly now r = run_orderly (new_world r.config r.units) r.steps r.answers now (opening_orderly r.config r.units r.fits) r.run

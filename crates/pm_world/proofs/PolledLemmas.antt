@@ -68,7 +68,9 @@ use Rattle.pm_world.proofs.CalmLemmas.{IsFreed}
 use Rattle.pm_world.proofs.ClientLemmas.{bytes_stay, came_next}
 use Rattle.pm_world.proofs.FirstLemmas.{ComesRisen, comes_risen}
 use Rattle.pm_world.proofs.HonestRuns.{disks_are_honest}
-use Rattle.pm_world.proofs.ReportedLemmas.{SubmittedIn, TookIn, is_take, renamed, stand_over, submitted_over, way_over}
+use Rattle.pm_world.proofs.Law.{run_append}
+use Rattle.pm_world.proofs.OneLemmas.{KeptIn, NoneOrders, kept_over, taken_of_one}
+use Rattle.pm_world.proofs.ReportedLemmas.{SubmittedIn, TookIn, is_take, renamed, stand_over, way_over}
 use Rattle.pm_world.proofs.TookLemmas.{host_takes}
 use Rattle.pm_world.proofs.TouchedLemmas.{GoesTouched, touched_delivers, touched_over, touched_served, touched_sound}
 
@@ -225,12 +227,15 @@ module _ (config : Config) (units : List Unit) (fits : is_config config (length 
       by_case (inl none) = absurd none
       by_case (inr is) = is
 
-  submitted : SubmittedIn (new_world config units) told.took.at told.took.before told.took.told told.took.came c.slot (rephased Waits facts.entry)
-  submitted = elim (submitted_over (new_world config units) told.took.before told.took.told told.took.at told.took.came c.slot
-      (rephased Issued (rephased Waits facts.entry)) told.issued) [
-        | inl stood ↦ accept.none_here c.slot stood.entry stood.here
+  kept : KeptIn (new_world config units) told.took.at told.took.before told.took.told told.took.came c.slot (rephased Waits facts.entry)
+  kept = elim (kept_over (new_world config units) told.took.before told.took.told told.took.at told.took.came c.slot
+      (rephased Issued (rephased Waits facts.entry)) told.issued refl) [
+        | inl stood ↦ accept.none_here c.slot stood.0.entry stood.0.here
         | inr is ↦ is
       ]
+
+  abbrev submitted : SubmittedIn (new_world config units) told.took.at told.took.before told.took.told told.took.came c.slot (rephased Waits facts.entry)
+  submitted = kept.submitted
 
   ticket_is : submitted.ticket ≡ c.ticket
   ticket_is = one_ticket submitted.ticket c.ticket (ap (λ (x : Entry). x.head.ticket) submitted.is ∙ sym facts.ticket)
@@ -488,6 +493,14 @@ module _ (config : Config) (units : List Unit) (fits : is_config config (length 
     touches = touched_up.touches;
     touched = touched_up.touched;
     placed = filled_at turns_up touched_up.touches touched_up.touched;
+    of_one = taken_of_one config units fits submitted.dev below (submitted.its.before ++ step.Submit submitted.dev submitted.request ∷ [])
+        (submitted.its.told ++ answer.Submitted submitted.ticket ∷ []) submitted.its.next
+        (run_append (new_world config units) submitted.its.at submitted.its.next submitted.its.before submitted.its.told
+        (step.Submit submitted.dev submitted.request ∷ []) (answer.Submitted submitted.ticket ∷ []) submitted.its.came
+        (submitted.its.next, submitted.its.rule, refl)) submitted.its.after submitted.its.later told.took.at submitted.its.went
+        (subst (λ (n : ℕ). NoneOrders n submitted.its.next submitted.its.after submitted.its.later told.took.at submitted.its.went)
+        (ap (λ (e : Entry). e.head.dev) (sym submitted.is)) kept.none)
+        told.s told.port told.conn told.number told.bytes told.report told.took.next port_is told.took.rule;
     honest = ended_honestly;
   }
 

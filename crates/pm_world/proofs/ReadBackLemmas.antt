@@ -146,7 +146,7 @@ writes_stay_there config units n sectors plan disk was d s write m writes w hist
 
 -- ## In a later world
 
-same_plan : (p q : DiskPlan) (k l : ℕ) → DiskOf p k ≡ DiskOf q l → (p ≡ q) × (k ≡ l)
+pub same_plan : (p q : DiskPlan) (k l : ℕ) → DiskOf p k ≡ DiskOf q l → (p ≡ q) × (k ≡ l)
 same_plan p q k l is = (cc is, cc is)
 
 pub disks_have_writes : DisksHaveWrites

@@ -1,5 +1,5 @@
 -- Where in a run of a world a request was submitted, and where it was reported to be done.
-use Rattle.std.proofs.Common.{◌≡◌, ◌==◌, ℕ, true, List, [], ◌∷◌, ◌++◌, drop, length, map, refl, sym, ap, subst, ◌∙◌, inl, inr, append_assoc}
+use Rattle.std.proofs.Common.{◌≡◌, ◌==◌, ℕ, true, false, List, [], ◌∷◌, ◌++◌, drop, length, map, refl, sym, ap, subst, ◌∙◌, inl, inr, append_assoc}
 use Rattle.std.proofs.Common.{Some, Ok}
 use Rattle.std.specs.Prelude.{◌⊎◌}
 use Rattle.std.proofs.lemmas.Bool.{and_parts, eqb-true, false≢true}
@@ -9,8 +9,10 @@ use Rattle.hba_fbs.specs.declared.report.TakeReport.{TakeReport}
 use Rattle.hba_fbs.specs.Taking.{port_of}
 use Rattle.hba_driver.specs.declared.request.Request.{Request}
 use Rattle.hba_driver.specs.declared.request.Ticket.{Ticket}
-use Rattle.hba_driver.specs.declared.slot.Phase.TheVariants.{Waits, Issued}
-use Rattle.hba_driver.specs.Drivers.{Entry, entry_at, rephased}
+use Rattle.hba_driver.specs.declared.slot.Phase.TheVariants.{Waits, Issued, Aside, Ended}
+use Rattle.hba_driver.specs.declared.slot.Phase.{Phase}
+use Rattle.hba_driver.specs.Drivers.{Entry, entry_at, has_ended_in, rephased}
+use Rattle.hba_driver.specs.Laws.{Goes}
 use Rattle.hba_driver.specs.HostTurns.{DoesAll, Host, HostTurn, Polled, Pushed, Put, Submitted, Ticked, Took}
 use Rattle.hba_driver.specs.Submits.{new_entry}
 use Rattle.hba_driver.proofs.AcceptLemmas.{IsOnWay, way_turn}
@@ -263,17 +265,25 @@ pub record StoodIn (h : Host) (slot : ℕ) (f : Entry) : Type 0 where
   pub entry : Entry
   pub here : entry_at h.driver.entries slot ≡ Some entry
   pub same : rephased Waits entry ≡ rephased Waits f
+  pub unended : has_ended_in f.head.phase ≡ false → has_ended_in entry.head.phase ≡ false
+
+-- what has not ended had not ended before
+pub open_before : (was now : Phase) → Goes was now → has_ended_in now ≡ false → has_ended_in was ≡ false
+open_before Waits now goes unended = refl
+open_before Issued now goes unended = refl
+open_before Aside now goes unended = refl
+open_before (Ended outcome) now goes unended = absurd (false≢true (sym unended ∙ ap has_ended_in goes))
 
 stood_before : (a b : Host) (slot : ℕ) (f : Entry) → b ≡ a → StoodIn b slot f → StoodIn a slot f
 stood_before a b slot f same it = subst (λ (h : Host). StoodIn h slot f) same it
 
 calm_stood : (turns : List HostTurn) (old new : Host) → DoesAll old turns new → AreCalm turns → (slot : ℕ) (f : Entry)
     → entry_at new.driver.entries slot ≡ Some f → StoodIn old slot f
-calm_stood [] old new run calm slot f here = stood_before old new slot f run (record { entry = f; here = here; same = refl })
+calm_stood [] old new run calm slot f here = stood_before old new slot f run (record { entry = f; here = here; same = refl; unended = λ h. h })
 calm_stood (t ∷ turns) old new run calm slot f here =
     let later : StoodIn run.0 slot f = calm_stood turns run.0 new run.2 calm.1 slot f here in
     elim (comes_from old t run.0 run.1 slot later.entry later.here) [
-      | inl stood ↦ record { entry = stood.entry; here = stood.here; same = ap (rephased Waits) (sym stood.on.same) ∙ later.same }
+      | inl stood ↦ record { entry = stood.entry; here = stood.here; same = ap (rephased Waits) (sym stood.on.same) ∙ later.same; unended = λ h. open_before stood.entry.head.phase later.entry.head.phase stood.on.goes (later.unended h) }
       | inr fresh ↦ absurd (not_fresh t later.entry calm.0 fresh)
     ]
   where
@@ -290,7 +300,7 @@ abbrev pub IsFreeSlot : ℕ → Host → Type 0
 IsFreeSlot slot h = (x : Entry) → entry_at h.driver.entries slot ≡ Some x → ⊥
 
 -- the step took the request
-abbrev SubmitsAt : Places → Step → Answer → ℕ → Entry → Type 0
+abbrev pub SubmitsAt : Places → Step → Answer → ℕ → Entry → Type 0
 SubmitsAt old (step.Submit dev request) (answer.Submitted ticket) slot f =
     (ticket.0 ≡ f.head.ticket) × (new_entry ticket.0 dev request ≡ f) × IsFreeSlot slot old.host
 SubmitsAt old s a slot f = ⊥
@@ -300,12 +310,12 @@ pub step_stood : (old : Places) (s : Step) (a : Answer) (new : Places) → Rule 
 step_stood old s (answer.Took port conn number bytes report) new rule slot f here =
     let does = rule_does old s (answer.Took port conn number bytes report) new rule in
     elim (comes_from old.host (Took bytes report) does.0 does.1 slot f (ap (λ (h : Host). entry_at h.driver.entries slot) (sym does.2) ∙ here)) [
-      | inl stood ↦ inl (record { entry = stood.entry; here = stood.here; same = ap (rephased Waits) (sym stood.on.same) })
+      | inl stood ↦ inl (record { entry = stood.entry; here = stood.here; same = ap (rephased Waits) (sym stood.on.same); unended = open_before stood.entry.head.phase f.head.phase stood.on.goes })
       | inr fresh ↦ absurd fresh
     ]
 step_stood old (step.Submit dev request) (answer.Submitted ticket) new rule slot f here =
     elim (comes_from old.host (Submitted dev request ticket.0) new.host rule.0 slot f here) [
-      | inl stood ↦ inl (record { entry = stood.entry; here = stood.here; same = ap (rephased Waits) (sym stood.on.same) })
+      | inl stood ↦ inl (record { entry = stood.entry; here = stood.here; same = ap (rephased Waits) (sym stood.on.same); unended = open_before stood.entry.head.phase f.head.phase stood.on.goes })
       | inr fresh ↦
           let is : new_entry ticket.0 dev request ≡ f = ap (λ (k : ℕ). new_entry k dev request) rule.0.taken.next ∙ fresh.1 in
           inr (
@@ -335,7 +345,7 @@ pub record SubmittedIn (old new : Places) (steps : List Step) (answers : List An
     pub turns : IsToldAt turn_of (step.Submit dev request) (answer.Submitted ticket) old new steps answers run its
     pub happened : (n : ℕ) → IsToldAt (happens n) (step.Submit dev request) (answer.Submitted ticket) old new steps answers run its
 
-submitted_first : (s : Step) (a : Answer) (steps : List Step) (answers : List Answer) (old new : Places) (run : Run old (s ∷ steps) (a ∷ answers) new) (slot : ℕ)
+abbrev pub submitted_first : (s : Step) (a : Answer) (steps : List Step) (answers : List Answer) (old new : Places) (run : Run old (s ∷ steps) (a ∷ answers) new) (slot : ℕ)
     (f : Entry) → SubmitsAt old s a slot f → SubmittedIn old new (s ∷ steps) (a ∷ answers) run slot (rephased Waits f)
 submitted_first (step.Submit dev request) (answer.Submitted ticket) steps answers old new run slot f is = record {
   ticket = ticket;
@@ -349,10 +359,10 @@ submitted_first (step.Submit dev request) (answer.Submitted ticket) steps answer
 }
 submitted_first s a steps answers old new run slot f is = absurd is
 
-told_later : {A : Type 0} (first whole before rest : List A) → whole ≡ before ++ rest → first ++ whole ≡ (first ++ before) ++ rest
+pub told_later : {A : Type 0} (first whole before rest : List A) → whole ≡ before ++ rest → first ++ whole ≡ (first ++ before) ++ rest
 told_later {A} first whole before rest is = ap (λ (xs : List A). first ++ xs) is ∙ sym (append_assoc first before rest)
 
-submitted_later : (s : Step) (a : Answer) (steps : List Step) (answers : List Answer) (old new : Places) (run : Run old (s ∷ steps) (a ∷ answers) new) (slot : ℕ)
+abbrev pub submitted_later : (s : Step) (a : Answer) (steps : List Step) (answers : List Answer) (old new : Places) (run : Run old (s ∷ steps) (a ∷ answers) new) (slot : ℕ)
     (e : Entry) → SubmittedIn run.0 new steps answers run.2 slot e → SubmittedIn old new (s ∷ steps) (a ∷ answers) run slot e
 submitted_later s a steps answers old new run slot e i = record {
   ticket = i.ticket;
@@ -368,13 +378,13 @@ submitted_later s a steps answers old new run slot e i = record {
 pub submitted_over : (old : Places) (steps : List Step) (answers : List Answer) (new : Places) (run : Run old steps answers new) (slot : ℕ) (f : Entry)
     → entry_at new.host.driver.entries slot ≡ Some f → StoodIn old.host slot f ⊎ SubmittedIn old new steps answers run slot (rephased Waits f)
 submitted_over old [] [] new run slot f here =
-    inl (subst (λ (x : Places). StoodIn x.host slot f) run (record { entry = f; here = here; same = refl }))
+    inl (subst (λ (x : Places). StoodIn x.host slot f) run (record { entry = f; here = here; same = refl; unended = λ h. h }))
 submitted_over old [] (a ∷ answers) new run slot f here = absurd run
 submitted_over old (s ∷ steps) [] new run slot f here = absurd run
 submitted_over old (s ∷ steps) (a ∷ answers) new run slot f here = elim (submitted_over run.0 steps answers new run.2 slot f here) [
   | inr later ↦ inr (submitted_later s a steps answers old new run slot (rephased Waits f) later)
   | inl from ↦ elim (step_stood old s a run.0 run.1 slot from.entry from.here) [
-    | inl stood ↦ inl (record { entry = stood.entry; here = stood.here; same = stood.same ∙ from.same })
+    | inl stood ↦ inl (record { entry = stood.entry; here = stood.here; same = stood.same ∙ from.same; unended = λ h. stood.unended (from.unended h) })
     | inr fresh ↦
         inr (subst (λ (x : Entry). SubmittedIn old new (s ∷ steps) (a ∷ answers) run slot x) from.same
         (submitted_first s a steps answers old new run slot from.entry fresh))

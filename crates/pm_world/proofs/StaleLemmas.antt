@@ -187,7 +187,7 @@ module _ (n : ℕ) (below : n < 15) (known unsent : Bool) (last : Option ℕ) (o
   unsent_cleared e = ap (λ (b : Bool). if b then true else if list_any (is_clear n) (pushed_by old s a new) then false else unsent) e
 
   -- the port is cleared by the FIS that was on its way
-  cleared_coming : is_cleared n old a ≡ true → IsComing n unsent old
+  pub cleared_coming : is_cleared n old a ≡ true → IsComing n unsent old
   cleared_coming e = by_down down
     where
       by_down : DownChange n old s a new → IsComing n unsent old

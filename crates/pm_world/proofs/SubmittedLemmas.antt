@@ -55,7 +55,7 @@ use Rattle.pm_world.specs.Touched.{AreTouched, goes, opens}
 use Rattle.pm_world.proofs.ClientLemmas.{IsUnread, came_next, later, same_entry, turn_stays}
 use Rattle.pm_world.proofs.Delivery.{sized}
 use Rattle.pm_world.proofs.HostFold.{does-append, run_does}
-use Rattle.pm_world.proofs.ReportedLemmas.{StoodIn}
+use Rattle.pm_world.proofs.ReportedLemmas.{StoodIn, open_before}
 use Rattle.pm_world.proofs.TookLemmas.{host_takes}
 use Rattle.pm_world.proofs.TouchedLemmas.{AreKept, GoesTouched, touched_delivers, touched_does, touched_kept, touched_over, touched_served, touched_sound}
 
@@ -115,13 +115,13 @@ given_on old t new does sound k least =
 
 all_stood : (turns : List HostTurn) (old new : Host) (run : DoesAll old turns new) → IsSoundHost old → (s : ℕ) (f : Entry) → f.head.ticket ≤ old.driver.given
     → entry_at new.driver.entries s ≡ Some f → AllStood s f old new turns run
-all_stood [] old new run sound s f least here = record { entry = f; here = ap (λ (h : Host). entry_at h.driver.entries s) (sym run) ∙ here; same = refl }
+all_stood [] old new run sound s f least here = record { entry = f; here = ap (λ (h : Host). entry_at h.driver.entries s) (sym run) ∙ here; same = refl; unended = λ h. h }
 all_stood (t ∷ turns) old new run sound s f least here =
     let rest : AllStood s f run.0 new turns run.2 =
     all_stood turns run.0 new run.2 (hosts_stay_sound.stays old t run.0 run.1 sound) s f (given_on old t run.0 run.1 sound f.head.ticket least) here in
     let mid : StoodIn run.0 s f = stood_first s f run.0 new turns run.2 rest in (
       elim (comes_from old t run.0 run.1 s mid.entry mid.here) [
-        | inl stood ↦ record { entry = stood.entry; here = stood.here; same = ap (rephased Waits) (sym stood.on.same) ∙ mid.same }
+        | inl stood ↦ record { entry = stood.entry; here = stood.here; same = ap (rephased Waits) (sym stood.on.same) ∙ mid.same; unended = λ h. open_before stood.entry.head.phase mid.entry.head.phase stood.on.goes (mid.unended h) }
         | inr fresh ↦
             let ticket : mid.entry.head.ticket ≡ f.head.ticket = ap (λ (x : Entry). x.head.ticket) mid.same in
             absurd (too_new old.driver t s mid.entry (omega (arith, ticket, least)) fresh)

@@ -28,6 +28,8 @@ pub mod Stale
 pub mod Connections
 pub mod Resting
 pub mod Polled
+pub mod Named
+pub mod Media
 pub mod ReadBack
 pub mod Submitted
 pub mod Laws

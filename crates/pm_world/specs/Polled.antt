@@ -6,8 +6,8 @@
 -- Cited: runs of a world and what is told over them (specs/Rules.antt, Runs.antt); a
 -- disk, its run, and requests that ended honestly (specs/Disks.antt). That the slot of a request is
 -- completed by its device is DoneIsTrue of `hba_driver` (specs/Done.antt).
-use Rattle.std.specs.Prelude.{ℕ, ◌≡◌, ◌-◌, ◌*◌, ◌<◌, true, List, [], ◌∷◌, ◌++◌, length, slice_index}
-use Rattle.std.specs.Prelude.{Some, Ok}
+use Rattle.std.specs.Prelude.{ℕ, ◌≡◌, ◌-◌, ◌*◌, ◌<◌, ◌==◌, true, List, [], ◌∷◌, length}
+use Rattle.std.specs.Prelude.{if◌then◌else◌, slice_index, All, Some, Ok}
 use Rattle.host_memory.specs.Memory.{Memory, client_start}
 use Rattle.host_memory.specs.Place.{LiesInClient, place}
 use Rattle.host_memory.specs.declared.table.Prd.{Prd}
@@ -29,7 +29,7 @@ use Rattle.hba_driver.specs.Orders.{is_queued}
 use Rattle.hba_driver.specs.Submits.{new_entry}
 use Rattle.pm_world.specs.Places.{Places, is_config, new_world}
 use Rattle.pm_world.specs.Rules.{Rule, Run}
-use Rattle.pm_world.specs.Runs.{IsStepOf, over}
+use Rattle.pm_world.specs.Runs.{IsStepOf, Telling, over}
 use Rattle.pm_world.specs.Touched.{AreTouched}
 use Rattle.pm_world.specs.Turns.{turn_of}
 use Rattle.pm_world.specs.declared.step.Config.{Config}
@@ -61,6 +61,12 @@ pub record IsReportedIn (ticket : Ticket) (slot : ℕ) (old now : Places) (steps
   pub issued : entry_at took.at.host.driver.entries slot
       ≡ Some (rephased Issued (new_entry ticket.0 dev request))
 
+-- the connection on which the host took a FIS of port n in this step
+abbrev pub connection_by : ℕ → Telling ℕ
+connection_by n old s (answer.Took port conn number bytes report) new =
+    if port == n then conn ∷ [] else []
+connection_by n old s a new = []
+
 -- byte i of a read was filled by Data of its device, and stands in client memory where the PRDs say
 pub record IsFilledAt (dev slot i : ℕ) (prds : List Prd) (touches : Touches) (memory : Memory) : Type 0 where
   pub byte : ℕ
@@ -88,6 +94,10 @@ pub record IsPolledHonestly (config : Config) (units : List Unit) (now : Places)
       reported.took.came) reported.took.at.host touches
   pub placed : reported.request.work ≡ Read → (i : ℕ) → i < 512 * reported.request.sectors
       → IsFilledAt reported.dev completion.slot i reported.request.prds.items touches now.host.memory
+  -- all that the host took of its device from its submit up to the report is of one connection, that of
+  -- the report: so are the Data that filled those bytes
+  pub of_one : All (λ c. c ≡ reported.conn) (over (connection_by reported.dev) reported.submitted.next
+      reported.submitted.after reported.submitted.later reported.took.at reported.submitted.went)
   -- of a disk
   pub honest : (sectors : ℕ) (plan : DiskPlan) → IsNewDisk units reported.dev plan sectors
       → is_queued reported.request.work ≡ true

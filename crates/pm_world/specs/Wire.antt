@@ -13,7 +13,7 @@ use Rattle.disk_model.specs.Histories.{Happening, Received, Sent}
 use Rattle.pm_world.specs.Places.{IsOrderly, Places}
 use Rattle.pm_world.specs.Units.{happens}
 use Rattle.pm_world.specs.Rules.{Rule}
-use Rattle.pm_world.specs.Runs.{AfterEveryRun}
+use Rattle.pm_world.specs.Runs.{AfterEveryRun, IsReached}
 use Rattle.pm_world.specs.Traffic.{all_marked, transit}
 use Rattle.pm_world.specs.declared.step.Step.{Step}
 use Rattle.pm_world.specs.declared.step.Step.TheVariants as step
@@ -81,6 +81,10 @@ pub record GoesOnWire (n c : ℕ) (old : Places) (a : Answer) (new : Places)
   pub moves : WireMoves n c a new happened heard down up
 
 -- ---- the laws
+
+-- Each world to which a run from a new one leads is orderly, as the laws below ask.
+abbrev pub ReachedAreOrderly : Type 0
+ReachedAreOrderly = (now : Places) → IsReached now → IsOrderly now
 
 -- So it is with each step, by its answer.
 abbrev pub WiresGoOn : Type 0

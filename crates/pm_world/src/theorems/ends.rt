@@ -1,14 +1,19 @@
 //! Laws of the two ends of a disk's link in a world. The functions do nothing when they run.
 
 ghost use Rattle.pm_world.specs.Disks.{HonestDisks};
+ghost use Rattle.pm_world.specs.Media.{MediaAreOfWrites};
+ghost use Rattle.pm_world.specs.Named.{PolledErrorsAreNamed};
 ghost use Rattle.pm_world.specs.Polled.{HonestPolls};
 ghost use Rattle.pm_world.specs.ReadBack.{DisksHaveWrites, ReadsBringWrites, WritesStayThere};
-ghost use Rattle.pm_world.specs.Wire.{DroppedNeverComes, PluggedIsOnWire, UnitWiresGoOn, WiresGoOn};
+ghost use Rattle.pm_world.specs.Wire.{DroppedNeverComes, PluggedIsOnWire, ReachedAreOrderly};
+ghost use Rattle.pm_world.specs.Wire.{UnitWiresGoOn, WiresGoOn};
 
 /// What each step of a world does on the wire of one device, whatever the device sends: the host
 /// gives a FIS, the device takes one, the device sends one, the host takes the next one, or nothing
-/// is done at either end; and so it goes on, until the device is unplugged.
+/// is done at either end; and so it goes on, until the device is unplugged. Every world to which a run
+/// from a new one leads is one of those of which this is said.
 pub fn wires_go_on()
+    ensures orderly { ReachedAreOrderly }
     ensures plugged { PluggedIsOnWire }
     ensures steps { WiresGoOn }
     ensures units { UnitWiresGoOn }
@@ -25,7 +30,8 @@ pub fn disks_are_honest()
 {}
 
 /// After every run from a new world, where a poll answers that a request is done: it was submitted
-/// under its ticket, and a FIS of its device was taken that reported it. Where the device is a disk
+/// under its ticket, and a FIS of its device was taken that reported it. From the submit up to that FIS
+/// the host took FISes of its device on that one connection alone. Where the device is a disk
 /// that was left alone from its plugging as the connection of that FIS up to it, a read or a write
 /// ended honestly: the bytes of a read stand in client memory when it is polled, and are the sectors
 /// of the medium, as they were when the disk started it; a write is on the medium.
@@ -40,4 +46,18 @@ pub fn reads_bring_writes()
     ensures reads { ReadsBringWrites }
     ensures stay { WritesStayThere }
     ensures medium { DisksHaveWrites }
+{}
+
+/// After every run from a new world, where a poll answers that a device failed a request: the run has a
+/// tick in which the request had not ended, and the error log of its device had just been read, was
+/// whole, and named the request with the Status and Error of the answer.
+pub fn polled_errors_are_named()
+    ensures { PolledErrorsAreNamed }
+{}
+
+/// In every world the medium of a disk is a new one with the bytes of whole writes put in, in the order
+/// in which they ended; from one world of a run to a later one more of them come behind. So a write that
+/// ended otherwise than done is there whole, or not at all, whatever happened to the disk.
+pub fn media_change_by_writes()
+    ensures { MediaAreOfWrites }
 {}

@@ -1,6 +1,10 @@
+use Rattle.pm_world.proofs.Orderly.{reached_orderly}
 use Rattle.pm_world.proofs.RunLemmas.{plugged_is_on_wire, unit_wires_go_on}
 use Rattle.pm_world.proofs.WireLemmas.{dropped_never_comes, wires_go_on}
 use Rattle.pm_world.proofs.theorems.ends.wires_go_on.Goals as goal
+
+pub returns-clause-orderly : goal.returns-clause-orderly
+returns-clause-orderly c = reached_orderly
 
 pub returns-clause-plugged : goal.returns-clause-plugged
 returns-clause-plugged c = plugged_is_on_wire

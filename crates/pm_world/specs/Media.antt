@@ -1,0 +1,48 @@
+-- What is on the medium of a disk, in every world: the bytes of whole writes that ended. So a write that
+-- ended otherwise than done is on the medium whole or not at all (ACS-3, WRITE FPDMA QUEUED).
+--
+-- Cited: runs of a world and what is told over them (specs/Rules.antt, Runs.antt), a new disk
+-- (specs/Disks.antt) and the history of a unit (specs/Units.antt); the writes that ended, each with its
+-- place and its bytes, and a medium with them are of `disk_model` (specs/Ledger.antt).
+use Rattle.std.specs.Prelude.{ℕ, ◌≡◌, ◌++◌, true, List, length, slice_get, IsSomeAnd}
+use Rattle.disk_model.specs.declared.plan.DiskPlan.{DiskPlan}
+use Rattle.disk_model.specs.declared.unit.Unit.{Unit}
+use Rattle.disk_model.specs.declared.unit.Unit.TheVariants.{Disk, Scripted}
+use Rattle.disk_model.specs.Fronts.{IsFront}
+use Rattle.disk_model.specs.Histories.{Happening}
+use Rattle.disk_model.specs.Ledger.{Written, ledger, medium_with}
+use Rattle.pm_world.specs.Disks.{IsNewDisk}
+use Rattle.pm_world.specs.Places.{Places, is_config, new_world}
+use Rattle.pm_world.specs.Rules.{Run}
+use Rattle.pm_world.specs.Runs.{over}
+use Rattle.pm_world.specs.Units.{happens}
+use Rattle.pm_world.specs.declared.step.Config.{Config}
+use Rattle.pm_world.specs.declared.step.Step.{Step}
+use Rattle.pm_world.specs.declared.step.Answer.{Answer}
+
+-- the unit is a disk, and its medium is a new one with the bytes of these writes put in
+abbrev pub HasMedium : (sectors : ℕ) → List Written → Unit → Type 0
+HasMedium sectors writes (Disk disk) = disk.now.medium ≡ medium_with sectors writes
+HasMedium sectors writes (Scripted reading) = ⊥
+
+-- so it is with the unit at port n of a world, by all writes that ended in its history
+abbrev pub ShowsWrites : (n sectors : ℕ) → List Happening → Places → Type 0
+ShowsWrites n sectors history now =
+    IsSomeAnd (slice_get now.devices n) (λ place. HasMedium sectors (ledger history).writes place.unit)
+
+-- From one world of a run to a later one the medium of a disk changes by whole writes alone, which end
+-- in between, whatever comes of the requests, of the disk and of the other devices.
+pub record ChangesByWrites (n sectors : ℕ) (before later : List Happening) (was now : Places) : Type 0 where
+  pub first : ShowsWrites n sectors before was
+  pub last : ShowsWrites n sectors (before ++ later) now
+  pub more : IsFront (ledger before).writes (ledger (before ++ later)).writes
+
+abbrev pub MediaAreOfWrites : Type 0
+MediaAreOfWrites =
+    (config : Config) (units : List Unit) (n sectors : ℕ) (plan : DiskPlan)
+    → is_config config (length units) ≡ true → IsNewDisk units n plan sectors
+    → (first : List Step) (told : List Answer) (was : Places)
+    (made : Run (new_world config units) first told was) (steps : List Step) (answers : List Answer)
+    (now : Places) (run : Run was steps answers now)
+    → ChangesByWrites n sectors (over (happens n) (new_world config units) first told was made)
+    (over (happens n) was steps answers now run) was now

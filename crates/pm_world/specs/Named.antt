@@ -1,0 +1,43 @@
+-- Which requests are polled as failed by their device: those that the device's error log named, in a
+-- tick of the run (ACS-3, NCQ Command Error log).
+--
+-- Cited: runs of a world and their steps (specs/Rules.antt, Runs.antt); a request that the log names, as
+-- a tick finds it, is of `hba_driver` (specs/Faults.antt).
+use Rattle.std.specs.Prelude.{ℕ, ◌≡◌, false, true, List, length, Some, Ok}
+use Rattle.disk_model.specs.declared.unit.Unit.{Unit}
+use Rattle.hba_driver.specs.declared.request.Outcome.TheVariants.{DeviceError}
+use Rattle.hba_driver.specs.declared.request.Completion.{Completion}
+use Rattle.hba_driver.specs.Drivers.{Entry, entry_at, has_ended}
+use Rattle.hba_driver.specs.Faults.{IsNamedBy}
+use Rattle.hba_driver.specs.HostTurns.{sight_in}
+use Rattle.pm_world.specs.Places.{Places, is_config, new_world}
+use Rattle.pm_world.specs.Rules.{Rule, Run}
+use Rattle.pm_world.specs.Runs.{IsStepOf}
+use Rattle.pm_world.specs.declared.step.Config.{Config}
+use Rattle.pm_world.specs.declared.step.Step.{Step}
+use Rattle.pm_world.specs.declared.step.Step.TheVariants as step
+use Rattle.pm_world.specs.declared.step.Answer.{Answer}
+use Rattle.pm_world.specs.declared.step.Answer.TheVariants as answer
+
+-- In this run there is a tick at which the request of the ticket stands in the slot and has not ended,
+-- and the error log of its device is read, is whole, and names it with this Status and this Error.
+pub record IsNamedIn (ticket slot status error : ℕ) (old now : Places) (steps : List Step)
+    (answers : List Answer) (run : Run old steps answers now) : Type 0 where
+  pub s : Step
+  pub ticked : IsStepOf s answer.Ticked old now steps answers run
+  pub entry : Entry
+  pub there : entry_at ticked.at.host.driver.entries slot ≡ Some entry
+  pub ticket_is : entry.head.ticket ≡ ticket
+  pub unended : has_ended entry.head ≡ false
+  pub named : IsNamedBy (sight_in ticked.at.host) ticked.at.host.driver slot entry status error
+
+-- So it is with each poll that answers DeviceError, after every run from a new world.
+abbrev pub PolledErrorsAreNamed : Type 0
+PolledErrorsAreNamed =
+    (config : Config) (units : List Unit) → is_config config (length units) ≡ true
+    → (steps : List Step) (answers : List Answer) (now : Places)
+    (run : Run (new_world config units) steps answers now) (completion : Completion) (new : Places)
+    (status error : ℕ) → Rule now step.Poll (Ok (answer.Polled completion)) new
+    → completion.outcome ≡ DeviceError status error
+    → IsNamedIn completion.ticket.0 completion.slot status error (new_world config units) now steps
+    answers run
