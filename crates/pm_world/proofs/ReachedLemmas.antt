@@ -1,6 +1,6 @@
 -- What steps make of a world that came by a run from a new one.
-use Rattle.std.proofs.Common.{◌≡◌, Bool, true, false, List, [], ◌∷◌, ◌++◌, take, refl, sym, subst}
-use Rattle.std.specs.Prelude.{ℕ, IfErr, IfOk, Result, Ok, Err}
+use Rattle.std.proofs.Common.{List, [], ◌∷◌, ◌++◌, take, refl, sym, subst}
+use Rattle.std.specs.Prelude.{ℕ, IfErr, OnOk, Result, Ok, Err}
 use Rattle.pm_world.specs.Laws.{AreLawful}
 use Rattle.pm_world.specs.Places.{Places, new_world}
 use Rattle.pm_world.specs.Rules.{Outcome, Rule, Run, Stops}
@@ -29,10 +29,10 @@ pub reached_stops : (old : Places) (steps : List Step) (i : ℕ) (e : StepError)
     → Stops old steps i e answers new → IsReached new
 reached_stops old steps i e answers new r stops = reached_run old (take i steps) answers new r stops.run
 
--- whatever a run answers, with its answers in some vector
-pub reached_all : {A : Type 0} (old : Places) (steps : List Step) (result : Result A (ℕ × StepError)) (new : Places) (items : A → List Answer) → IsReached old
-    → IfOk result (λ all. Run old steps (items all) new)
-    → IfErr result (λ e. (answers : List Answer) × Stops old steps e.0 e.1 answers new × AreLawful old (take e.0 steps) answers new)
+-- whatever a run answers, with what was told
+pub reached_told : {A : Type 0} (old : Places) (steps : List Step) (result : Result A (ℕ × StepError)) (new : Places) (told : List Answer) → IsReached old
+    → OnOk result (Run old steps told new)
+    → IfErr result (λ e. Stops old steps e.0 e.1 told new × AreLawful old (take e.0 steps) told new)
     → IsReached new
-reached_all old steps (Ok all) new items r run stops = reached_run old steps (items all) new r run
-reached_all old steps (Err e) new items r run stops = reached_stops old steps e.0 e.1 stops.0 new r stops.1
+reached_told old steps (Ok a) new told r run stops = reached_run old steps told new r run
+reached_told old steps (Err e) new told r run stops = reached_stops old steps e.0 e.1 told new r stops.0

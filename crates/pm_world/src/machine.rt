@@ -1,5 +1,6 @@
 ghost use Rattle.std.specs.Prelude.{◌≡◌, ◌↔◌, ℕ, false, List, [], ◌∷◌, Ok};
-ghost use Rattle.std.specs.Prelude.{IfErr, IfOk, OnErr, length, map, take, slice_get, option_copied, option_map};
+ghost use Rattle.std.specs.Prelude.{IfErr, IfOk, OnErr, OnOk, length, map, take, drop, slice_get};
+ghost use Rattle.std.specs.Prelude.{option_copied, option_map};
 ghost use Rattle.circular_buffer.specs.Buffer.{last_item};
 ghost use Rattle.pm_world.specs.Laws.{AreLawful};
 ghost use Rattle.pm_world.specs.Downward.{falling_to};
@@ -119,29 +120,38 @@ impl Machine {
         }
     }
 
-    /// Steps in order, until one is refused.
-    pub fn run(&mut self, alloc: Global, steps: &[Step]) -> Result<Vec<Answer>, (usize, StepError)>
-        ensures run { IfOk result (λ answers. Run self.old steps.now answers.items self.new) }
-        ensures laws { IfOk result (λ all. AreLawful self.old steps.now all.items self.new) }
-        ensures stops { IfErr result (λ e. (answers : List Answer)
-            × Stops self.old steps.now e.0 e.1 answers self.new
-            × AreLawful self.old (take e.0 steps.now) answers self.new) }
+    /// Steps in order, until one is refused. Their answers go behind those that the vector has; where a
+    /// step is refused, those of the steps before it.
+    pub fn run_into(
+        &mut self,
+        alloc: Global,
+        steps: &[Step],
+        answers: &mut Vec<Answer>,
+    ) -> Result<(), (usize, StepError)>
+        ensures kept { take (length answers.old.items) answers.new.items ≡ answers.old.items }
+        ensures run { let told = drop (length answers.old.items) answers.new.items in
+            OnOk result (Run self.old steps.now told self.new) }
+        ensures laws { let told = drop (length answers.old.items) answers.new.items in
+            OnOk result (AreLawful self.old steps.now told self.new) }
+        ensures stops { let told = drop (length answers.old.items) answers.new.items in
+            IfErr result (λ e. Stops self.old steps.now e.0 e.1 told self.new
+            × AreLawful self.old (take e.0 steps.now) told self.new) }
     {
         let _ = &self.seats;
         let Some(first) = steps.first() else {
-            return Ok(Vec::new(alloc));
+            return Ok(());
         };
-        let Ok(mut answers) = Vec::with_capacity(alloc, steps.len()) else {
+        if answers.reserve(steps.len()).is_err() {
             let refused = self.refusal(first);
             return Err((0, refused.unwrap_or(StepError::OutOfMemory)));
-        };
+        }
         for (i, step) in steps.iter().enumerate() {
             match self.step(alloc, step) {
                 Ok(answer) => answers.push_reserved(answer),
                 Err(e) => return Err((i, e)),
             }
         }
-        Ok(answers)
+        Ok(())
     }
 
     /// The first refusal that applies to the step, want of memory apart.

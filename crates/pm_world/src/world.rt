@@ -1,5 +1,6 @@
 ghost use Rattle.std.specs.Prelude.{◌≡◌, ◌↔◌, ℕ, false, List, [], ◌∷◌};
-ghost use Rattle.std.specs.Prelude.{IfErr, IfOk, OnErr, length, take, slice_get, option_copied, option_map};
+ghost use Rattle.std.specs.Prelude.{IfErr, IfOk, OnErr, OnOk, length, take, drop, slice_get};
+ghost use Rattle.std.specs.Prelude.{option_copied, option_map};
 ghost use Rattle.circular_buffer.specs.Buffer.{last_item};
 ghost use Rattle.pm_world.specs.Laws.{AreLawful};
 ghost use Rattle.pm_world.specs.Downward.{falling_to};
@@ -77,7 +78,29 @@ impl World {
             × Stops self.old steps.now e.0 e.1 answers self.new
             × AreLawful self.old (take e.0 steps.now) answers self.new) }
     {
-        self.machine.run(alloc, steps)
+        let mut answers = Vec::new(alloc);
+        self.run_into(alloc, steps, &mut answers)?;
+        Ok(answers)
+    }
+
+    /// Steps in order, until one is refused. Their answers go behind those that the vector has; where a
+    /// step is refused, those of the steps before it. So the caller can go on from that step.
+    pub fn run_into(
+        &mut self,
+        alloc: Global,
+        steps: &[Step],
+        answers: &mut Vec<Answer>,
+    ) -> Result<(), (usize, StepError)>
+        ensures kept { take (length answers.old.items) answers.new.items ≡ answers.old.items }
+        ensures run { let told = drop (length answers.old.items) answers.new.items in
+            OnOk result (Run self.old steps.now told self.new) }
+        ensures laws { let told = drop (length answers.old.items) answers.new.items in
+            OnOk result (AreLawful self.old steps.now told self.new) }
+        ensures stops { let told = drop (length answers.old.items) answers.new.items in
+            IfErr result (λ e. Stops self.old steps.now e.0 e.1 told self.new
+            × AreLawful self.old (take e.0 steps.now) told self.new) }
+    {
+        self.machine.run_into(alloc, steps, answers)
     }
 
     /// The host's memory.
