@@ -1,7 +1,6 @@
 -- What a host did with a disk since its plugging, event by event, while its port refused nothing and emptied
 -- no slot (AHCI 1.3.1, 5.3; Serial ATA 3.x, 13.6, native command queuing). Its port, the device's history and
 -- the ledger agree all the time, and each FIS that it gave fits what was told before.
--- was told before.
 use Rattle.std.specs.Prelude.{ℕ, ◌≡◌, ◌≢◌, ◌<◌, ◌++◌, true, false, List, [], ◌∷◌, Some}
 use Rattle.std.specs.Prelude.{None, Ok}
 use Rattle.fis_view.specs.Frames.{IsFrame, Stamped, marked}

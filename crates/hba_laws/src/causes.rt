@@ -6,7 +6,6 @@ ghost use Rattle.hba_laws.specs.Causes.{DeviceCausesStay, OthersFaultNone, PortC
 /// same until the device is flushed or cleared by PxFBS.DEC, or PxCMD.ST falls. What stopped the port stays
 /// until PxCMD.ST falls. Events that are not a FIS of a device and do not clear it leave its fault as it was,
 /// or leave it without one.
-/// Events none of which is a FIS of a device or clears it leave its fault as it was, or leave it without one.
 pub fn causes_stay()
     ensures kept { DeviceCausesStay }
     ensures own { OthersFaultNone }
