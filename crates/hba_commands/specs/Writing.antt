@@ -72,7 +72,7 @@ total_if_usable client_len prds =
 -- The structure area with a command written to it.
 pub record IsWritten (clb slot table : ℕ) (fields : H2dFields) (prds : List Prd)
     (old new : List ℕ) : Type 0 where
-  -- exactly the bytes of the header and the table change
+  -- the header and the table have these bytes, and no other byte changes
   pub bytes : new ≡ overwritten (overwritten old (header_place clb slot)
       (header_bytes (header_for (request_of fields) table (length prds)))) table
       (command_table (cfis_at new table) prds)
