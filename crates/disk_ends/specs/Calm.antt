@@ -36,7 +36,7 @@ abbrev pub IsCalm : ℕ → Ledger → Host → (ℕ → SlotCommand) → HostEv
 IsCalm n k host commands event next =
     (IsElsewhere n host event × (next ≡ commands)) ⊎ IssuesFor n k host commands event next
 
--- this holds of each event of a run
+-- this holds for each event of a run
 abbrev pub AreCalm : ℕ → Ledger → (ℕ → SlotCommand) → (old new : Host) → (events : List HostEvent)
     → Runs old events new → (ℕ → SlotCommand) → Type 0
 AreCalm n k commands old new [] run next = next ≡ commands

@@ -31,7 +31,7 @@ pub record IsToldSo (host : Host) (frame : List ℕ) (report : TakeReport)
   pub events : own (port_of frame) (touched host (Took frame report)) ≡ told (seen frame)
   pub heard : IsHeard past (seen frame)
 
--- This holds of each FIS that is right by the ledger, if the ledger and the history say the same of the
+-- This holds for each FIS that is right by the ledger, if the ledger and the history say the same of the
 -- device.
 abbrev pub HeardAsTold : Type 0
 HeardAsTold =

@@ -52,7 +52,7 @@ pub record IsDoneHonestly (sectors : ℕ) (c : SlotCommand) (filled : ℕ
   pub reads : c.command.write ≡ false → BroughtSectors sectors c filled len host
   pub writes : c.command.write ≡ true → IsOnMedium c filled len disk
 
--- This holds of each queued command that a Set Device Bits FIS completes when the host receives it next.
+-- This holds for each queued command that a Set Device Bits FIS completes when the host receives it next.
 abbrev pub DoneIsHonest : Type 0
 DoneIsHonest =
     (plan : DiskPlan) (sectors : ℕ) (disk host : List Happening) (down up : List (List ℕ))

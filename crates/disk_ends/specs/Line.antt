@@ -18,7 +18,7 @@ use Rattle.disk_ends.specs.Watched.{ArePlain, IsErred, IsPlain, IsWatched}
 
 -- ---- what is due, and what comes up
 
--- the condition holds of each of these answers
+-- the condition holds for each of these answers
 abbrev pub EachReply : (Reply → Type 0) → List Reply → Type 0
 EachReply P [] = Unit {0}
 EachReply P (reply ∷ later) = P reply × EachReply P later

@@ -86,7 +86,7 @@ pub record AreWatching (n : ℕ) (base disk given : List Happening) (down up : L
   pub watched : IsWatched base disk given down [] up
   pub hosted : IsHostedOn n base host given commands past
 
--- This holds of each FIS that the port does not ignore and finds no fault in.
+-- This holds for each FIS that the port does not ignore and finds no fault in.
 abbrev pub WatchesWhatIsFine : Type 0
 WatchesWhatIsFine =
     (plan : DiskPlan) (sectors : ℕ) (base disk given : List Happening)

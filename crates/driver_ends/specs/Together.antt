@@ -140,7 +140,7 @@ pub record IsFreeAt (n : ℕ) (h : Host) (touches : Touches) : Type 0 where
   pub slots : (s : ℕ) → own_issue (view_of n h.port).slots s ≡ None
   pub context : (view_of n h.port).slots.context ≡ None
 
--- This holds of a device that must be reset because its log was not whole, until its software reset is
+-- This holds for a device that must be reset because its log was not whole, until its software reset is
 -- issued.
 abbrev pub SpoiltIsFree : Type 0
 SpoiltIsFree =

@@ -100,7 +100,7 @@ impl Command {
         requires slot { slot < 32 }
         requires list { clb + 1024 ≤ CLIENT_START }
         ensures command { result ≡ command_at memory.now clb slot armed }
-        // what holds of every command that is read
+        // what holds for every command that is read
         ensures work { IfSome result (λ command. IsWork command.work) }
         ensures armed { IfSome result (λ command. is_queued command.work.kind ≡ armed) }
         ensures port { IfSome result

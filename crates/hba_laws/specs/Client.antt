@@ -107,7 +107,7 @@ pub record IsWithin (past : History) (len : ℕ) : Type 0 where
   pub way : (g : Setup) (t : Transfer) → last_setup past ≡ Some g → issued g.slot past ≡ Some t
       → is_read t.work.kind ≡ true → is_set_up g.slot past ≡ true → g.to_host ≡ true
 
--- this holds of all Data
+-- this holds for all Data
 abbrev pub AreWithin : Touches → Type 0
 AreWithin [] = Unit {0}
 AreWithin (By dev (Carried bytes) ∷ past) = IsWithin (own dev past) (length bytes) × AreWithin past

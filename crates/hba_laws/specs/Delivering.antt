@@ -191,7 +191,7 @@ pub record ReportsDone (host : Host) (frame : List ℕ) (report : TakeReport) (p
   pub own_device : report.dev ≡ port_of frame
   pub done : (s : ℕ) → s < 32 → has_bit report.done s ≡ completes_now s host frame past
 
--- this holds of each frame that is received, after every list of events
+-- this holds for each frame that is received, after every list of events
 abbrev pub DoneIsCompleted : Type 0
 DoneIsCompleted =
     (old host new : Host) (events : List HostEvent) (run : Runs old events host)

@@ -15,7 +15,7 @@ pub record KeepsPrds (command : Command) (host : Host) (event : HostEvent) : Typ
   pub apart : LieApart (command.table + 128) (16 * command.count) host.port.registers.fb 4096
   pub spares : SparesBytes (command.table + 128) (16 * command.count) host event
 
--- this holds of each issued command, and the received area does not move
+-- this holds for each issued command, and the received area does not move
 pub record KeepsTables (host : Host) (event : HostEvent) : Type 0 where
   pub area : moves_area host event ≡ false
   pub commands : (s : ℕ) (command : Command) → is_some (issue_at host.port.slots s) ≡ true

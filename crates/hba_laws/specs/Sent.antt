@@ -31,7 +31,7 @@ IsGathered opening past dev bytes =
     (s : ℕ) (t : Transfer) → IsWriting dev s t past → is_set_up s (own dev past) ≡ true
     → StandFrom (client opening past) t.table (next_number (own dev past)) bytes
 
--- this held of all Data
+-- this held for all Data
 abbrev pub AreGathered : (ℕ → ℕ) → Touches → Type 0
 AreGathered opening [] = Unit {0}
 AreGathered opening (By dev (Carried bytes) ∷ past) =
@@ -83,7 +83,7 @@ pub record WasSent (opening : ℕ → ℕ) (past : Touches) (n s i b : ℕ) (t :
   pub carries : slice_get bytes (i - next_number (own n earlier)) ≡ Some b
   pub stood : client opening earlier (place t.table i) ≡ b
 
--- This held of each filled byte of an issued write, whatever the software writes.
+-- This held for each filled byte of an issued write, whatever the software writes.
 abbrev pub SentFromPlace : Type 0
 SentFromPlace =
     (opening : ℕ → ℕ) (past : Touches) → AreGathered opening past

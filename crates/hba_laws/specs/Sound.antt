@@ -1,4 +1,4 @@
--- What holds of every host: AHCI 1.3.1, section 3.3 (the registers), 4.2 (the memory structures) and chapter
+-- What holds for every host: AHCI 1.3.1, section 3.3 (the registers), 4.2 (the memory structures) and chapter
 -- 9 (the devices behind a port).
 use Rattle.std.specs.Prelude.{ℕ, ◌≡◌, true, List, [], ◌∷◌, length}
 use Rattle.host_memory.specs.Memory.{IsHostMemory, is_memory_size, zeroed}
@@ -15,8 +15,8 @@ pub record IsHost (host : Host) : Type 0 where
   pub errors : AreErrors host.port.errors
   pub memory : IsHostMemory host.memory
 
--- This holds of each host that a run goes through. It does not follow from the events: they speak of the
--- views of the devices, and the slots hold more than these. But it holds of every port and every memory that
+-- This holds for each host that a run goes through. It does not follow from the events: they speak of the
+-- views of the devices, and the slots hold more than these. But it holds for every port and every memory that
 -- exist, so whoever has them knows it.
 abbrev pub AreHosts : (old new : Host) (events : List HostEvent) → Runs old events new → Type 0
 AreHosts old new [] run = IsHost old
@@ -30,7 +30,7 @@ OpensSound =
     (len : ℕ) → is_memory_size len ≡ true
     → IsHost (record { port = opening_port; memory = zeroed len })
 
--- each event keeps what holds of the registers and of the errors
+-- each event keeps what holds for the registers and the errors
 abbrev pub RegistersStaySound : Type 0
 RegistersStaySound =
     (old new : Host) (event : HostEvent) → IsHost old → Does old event new

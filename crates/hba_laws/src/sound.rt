@@ -1,4 +1,4 @@
-//! What holds of every host.
+//! What holds for every host.
 
 ghost use Rattle.hba_laws.specs.Sound.{OpensSound, RegistersStaySound, SizesStay};
 

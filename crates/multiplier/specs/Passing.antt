@@ -1,5 +1,5 @@
 -- Frames pass a multiplier in order and none is lost (Serial ATA 3.x, 16.3, port multiplier: frame
--- transmission). This holds of any sound multiplier, whatever frames passed before.
+-- transmission). This holds for any sound multiplier, whatever frames passed before.
 use Rattle.std.specs.Prelude.{◌≡◌, ◌≢◌, ℕ, ◌-◌, ◌<◌, ◌≤◌, ◌==◌, ◌&&◌, max, false, true, if◌then◌else◌, List}
 use Rattle.std.specs.Prelude.{[], ◌∷◌, ◌++◌, All, length, map, slice_index, take, Option, Some, None, Result}
 use Rattle.std.specs.Prelude.{Ok}
@@ -242,7 +242,7 @@ AreNumbered from (frame ∷ frames) next = (frame.stamp.number ≡ from) × AreN
 
 -- ---- the laws
 
--- What holds of calls that take one multiplier to another, where these frames passed before.
+-- What holds for calls that take one multiplier to another, where these frames passed before.
 pub record PassInOrder (past : Past) (old : PmState) (calls : List Call) (new : PmState) : Type 0 where
   pub sound : IsSound new
   -- For each connection: what went up, then what its port holds, then what its removal dropped, is the same

@@ -22,7 +22,7 @@ pub record PortState : Type 0 where
   -- the frame for the device that waits to go down
   pub down : Option Stamped
 
--- what holds of every port: the present connection is a valid one, the highest that came, and above those
+-- what holds for every port: the present connection is a valid one, the highest that came, and above those
 -- that are gone; where none is present, every one that came is gone
 pub record IsSound (port : PortState) : Type 0 where
   pub counted : (conn : ℕ) → port.present ≡ Some conn → 0 < conn

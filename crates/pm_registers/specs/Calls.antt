@@ -75,7 +75,7 @@ device_after (Inserts port) n was = if port == n then true else was
 device_after (Removes port) n was = if port == n then false else was
 device_after call n was = was
 
--- a call keeps what holds of every map, and has the right devices present
+-- a call keeps what holds for every map, and has the right devices present
 abbrev pub KeepsSound : RegisterMap → Call → Type 0
 KeepsSound m call =
     IsSound m → IsSound (called m call)

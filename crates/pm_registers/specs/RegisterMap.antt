@@ -30,7 +30,7 @@ opening ports =
 abbrev pub port_at : RegisterMap → ℕ → PortRegisters
 port_at m n = slice_index_or m.bank n opening_port
 
--- what holds of every map: there are at most 15 device ports, and each shows its device truly
+-- what holds for every map: there are at most 15 device ports, and each shows its device truly
 pub record IsSound (m : RegisterMap) : Type 0 where
   pub ports : m.ports ≤ 15
   pub bank : length m.bank ≡ 15
