@@ -13,8 +13,8 @@
 //! [`control_frames_show_removals`] says what a frame of the control port shows of removals.
 //!
 //! `specs/Rules.antt` has what each call does, over the value of `specs/State.antt`, where `IsSound` is what
-//! holds for every multiplier. `specs/Arbiter.antt` has the circle, `specs/Passing.antt` what passes over many
-//! calls, `specs/Orders.antt` and `specs/Stamping.antt` the order of stamps.
+//! holds for every multiplier. `specs/Arbiter.antt` has the circle, `specs/Passing.antt` what passes over
+//! many calls, `specs/Orders.antt` and `specs/Stamping.antt` the order of stamps.
 #![tactic(auto)]
 
 mod arbiter;
