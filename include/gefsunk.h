@@ -1,31 +1,32 @@
 /*
  * gefsunk.h - a Serial ATA port multiplier and a decoder of FISes, for C.
  *
- * A FIS (frame information structure) is what Serial ATA devices and hosts send each other: 4 to 8,196 bytes, a multiple
- * of 4. A port multiplier lets one host port serve up to fifteen devices. This library is its firmware at the level of
- * the FIS: you give it the FISes that arrive, and it says which go on, where to, and as which bytes.
+ * Serial ATA devices and hosts send each other FISes (frame information structures): 4 to 8,196 bytes, a multiple of 4.
+ * A port multiplier lets one host port serve up to fifteen devices. This library is its firmware at the level of the
+ * FIS: you give it the FISes that arrive, and it tells you which to forward, where, and with which bytes.
  *
- * It is compiled from code that is proved, and the page at the end of this file says what that means for a C program.
+ * The library is compiled from proved code. The end of this file says what that means for a C program.
  *
  *     gef_pm pm = GEF_PM_CLOSED;
  *     gef_pm_new(&pm, 4);                      // four device ports
  *     gef_pm_plug(&pm, 0);                     // a device came to port 0
- *     gef_pm_from_host(&pm, fis, 20);          // a FIS of the host
+ *     gef_pm_from_host(&pm, fis, 20);          // a FIS from the host
  *     while (gef_pm_to_host(&pm, room, sizeof room, &len, &port) == GEF_OK)
  *         send(room, len);                     // what goes up
  *     gef_pm_free(&pm);
  *
  * Rules that hold for every call:
  *
- *   - Each call answers a gef_status. GEF_OK is 0. Any other leaves all as it was, but where its line says otherwise.
- *   - Memory that you pass is read or written during the call alone. The library keeps no pointer of yours, and you
- *     keep none of its. Two pointers of one call must not overlap, but for a FIS that is only read.
- *   - A length comes with each pointer, in bytes. A null pointer is answered by GEF_NULL, also where its length is 0.
+ *   - Each call returns a gef_status. GEF_OK is 0. Any other leaves everything as it was, unless the comment of the
+ *     call says otherwise.
+ *   - Memory that you pass is read or written only during the call. The library keeps no pointer of yours, and you
+ *     keep none of its. Two pointers of one call must not overlap, except for a FIS that is only read.
+ *   - A length in bytes comes with each pointer. A null pointer returns GEF_NULL, even if its length is 0.
  *   - Ports are numbered from 0. 15 is the control port of the multiplier.
- *   - No call waits, starts a thread, or calls back. Two handles share nothing. A handle is used by one thread at a
- *     time. It may be handed to another thread where your program orders the two, as by a lock or a join.
- *   - Memory comes from malloc, and goes back by free.
- *   - No call is made from a signal handler, nor in a forked child of a process with threads.
+ *   - No call waits, starts a thread, or calls back. Two handles share nothing. Only one thread may use a handle at a
+ *     time. You may hand it to another thread if your program orders the two, for example by a lock or a join.
+ *   - Memory comes from malloc and is returned by free.
+ *   - Make no call from a signal handler, or in a forked child of a process with threads.
  */
 #ifndef GEFSUNK_H
 #define GEFSUNK_H
@@ -42,49 +43,50 @@ extern "C" {
 typedef enum gef_status {
     GEF_OK = 0,             /* done */
     GEF_NULL = 1,           /* a pointer is null */
-    GEF_CLOSED = 2,         /* the handle is not open: not made yet, freed already, or no handle of this kind */
+    GEF_CLOSED = 2,         /* the handle is not open: not made yet, freed already, or not a handle of this kind */
     GEF_OPEN = 3,           /* the handle is open already */
     GEF_NO_MEMORY = 4,      /* malloc gave none */
     GEF_BAD_PORTS = 5,      /* a port multiplier has 1 to 15 device ports */
     GEF_NO_PORT = 6,        /* the multiplier has no such port */
-    GEF_BAD_LENGTH = 7,     /* no FIS has so many bytes */
-    GEF_WRONG_LENGTH = 8,   /* no FIS of this type has so many bytes */
+    GEF_BAD_LENGTH = 7,     /* a FIS cannot have this many bytes */
+    GEF_WRONG_LENGTH = 8,   /* a FIS of this type cannot have this many bytes */
     GEF_TOO_SHORT = 9,      /* your room is too short */
     GEF_NOTHING = 10,       /* there is nothing to give */
-    GEF_FULL = 11,          /* the place that the FIS needs is taken: it is yours still, give it again later */
-    GEF_DROPPED = 12,       /* the FIS was let go, since nobody takes it */
+    GEF_FULL = 11,          /* the place that the FIS needs is taken: you still own the FIS; pass it again later */
+    GEF_DROPPED = 12,       /* the FIS was dropped, because nobody takes it */
     GEF_ALREADY_THERE = 13, /* a device is at the port */
     GEF_NOT_THERE = 14,     /* no device is at the port */
     GEF_NO_REGISTER = 15,   /* the port has no such register */
-    GEF_SPENT = 16          /* 4,294,967,295 devices came to this port: it takes no other */
+    GEF_SPENT = 16          /* 4,294,967,295 devices came to this port: it takes no more */
 } gef_status;
 
-/* A sentence for a log, never null. It stays as long as the program runs. */
+/* A sentence for a log, never null. It stays valid as long as the program runs. */
 const char *gef_status_text(gef_status status);
 
 /* ---- FISes as text ---------------------------------------------------------------------------------------------- */
 
-/* Room for the longest FIS, and for the longest line of text with the 0 behind it. */
+/* Room for the longest FIS, and for the longest line of text with its terminating 0. */
 #define GEF_FIS_ROOM 8196
 #define GEF_TEXT_ROOM 161
 
 /*
- * Writes what a FIS means as one line, with a 0 behind it and no line feed:
+ * Writes what a FIS means as one line, terminated by a 0, without a line feed:
  *
  *     h2d port 3 c 1 command 60 features 0001 lba 000000000100 device 40 count 0028 icc 00 control 00
  *
- * Registers are in hexadecimal; ports, tags and numbers of bytes in decimal. Room of GEF_TEXT_ROOM is enough.
- * Answers GEF_BAD_LENGTH, GEF_WRONG_LENGTH, GEF_TOO_SHORT; after each of them the text is the empty one, if there is
- * room for its 0.
+ * Registers are hexadecimal; ports, tags and byte counts are decimal. A room of GEF_TEXT_ROOM is enough.
+ * Can return GEF_BAD_LENGTH, GEF_WRONG_LENGTH, GEF_TOO_SHORT. After each of them the text is empty, if there is room for
+ * its 0.
  */
 gef_status gef_fis_text(const uint8_t *fis, size_t len, char *text, size_t room);
 
 /* ---- a port multiplier ------------------------------------------------------------------------------------------ */
 
 /*
- * A handle. Its storage is yours: a variable, a field, a block of malloc. Its fields are the library's: begin with
- * GEF_PM_CLOSED (or zeroes), and leave them alone. A handle may be moved, as by memcpy, if only one copy is used from
- * then on; a copy of an open handle that is used after the other was freed reads freed memory, which no call can find.
+ * A handle. Its storage is yours: a variable, a field, a block from malloc. Its fields belong to the library: start
+ * with GEF_PM_CLOSED (or zeroes), and leave them alone. You may move a handle, for example by memcpy, if you use only
+ * one copy from then on. Using a copy of an open handle after the other was freed reads freed memory. No call can
+ * detect that.
  */
 typedef struct gef_pm {
     uint32_t mark;
@@ -94,92 +96,93 @@ typedef struct gef_pm {
 #define GEF_PM_CLOSED { 0, 0 }
 
 /*
- * Makes a multiplier with 1 to 15 device ports, none of which has a device, and opens the handle. It takes some 4 KB.
- * Answers GEF_OPEN (the handle has one: free it first), GEF_BAD_PORTS, GEF_NO_MEMORY.
+ * Makes a multiplier with 1 to 15 device ports and no device, and opens the handle. It takes about 4 KB.
+ * Can return GEF_OPEN (the handle has a multiplier: free it first), GEF_BAD_PORTS, GEF_NO_MEMORY.
  */
 gef_status gef_pm_new(gef_pm *pm, uint8_t ports);
 
-/* Frees the multiplier with the FISes that it holds, and closes the handle. A second call answers GEF_CLOSED. */
+/* Frees the multiplier with the FISes that it holds, and closes the handle. A second call returns GEF_CLOSED. */
 gef_status gef_pm_free(gef_pm *pm);
 
 /*
- * A device came to a port. The multiplier tells the host by a notification, which gef_pm_to_host gives, once the host
- * has asked for notifications. Nothing of the device goes up before the host has opened the port.
- * Answers GEF_CLOSED, GEF_NO_PORT, GEF_ALREADY_THERE, GEF_SPENT.
+ * A device came to a port. If the host has enabled notifications, the multiplier notifies it; gef_pm_to_host gives the
+ * notification. No FIS of the device goes up before the host has opened the port.
+ * Can return GEF_CLOSED, GEF_NO_PORT, GEF_ALREADY_THERE, GEF_SPENT.
  */
 gef_status gef_pm_plug(gef_pm *pm, uint8_t port);
 
 /*
- * The device of a port went. FISes of it that wait at the port, in either direction, are let go.
- * Answers GEF_CLOSED, GEF_NO_PORT, GEF_NOT_THERE.
+ * The device of a port went. Its FISes that wait at the port are dropped, in both directions.
+ * Can return GEF_CLOSED, GEF_NO_PORT, GEF_NOT_THERE.
  */
 gef_status gef_pm_unplug(gef_pm *pm, uint8_t port);
 
 /*
- * A FIS of the host arrives. Its PM Port (bits 3:0 of byte 1) says for whom it is: the control port, which answers by
- * a FIS that gef_pm_to_host gives, or a device, to which gef_pm_to_device gives it.
+ * A FIS arrives from the host. Its PM Port (bits 3:0 of byte 1) says where it goes: to the control port, whose answer
+ * gef_pm_to_host gives, or to a device, for which gef_pm_to_device gives it.
  * GEF_OK: it was taken. GEF_DROPPED: there is no such port, or the port does not forward (no device, or not opened by
- * the host): the FIS is gone, and counted. GEF_FULL: the control port has an answer to give first, or a FIS waits for
- * the device: the FIS is yours still.
- * Answers GEF_CLOSED, GEF_BAD_LENGTH, GEF_FULL, GEF_DROPPED, GEF_NO_MEMORY.
+ * the host): the FIS is gone, and counted. GEF_FULL: the control port must give an answer first, or a FIS waits for the
+ * device: you still own the FIS.
+ * Can return GEF_CLOSED, GEF_BAD_LENGTH, GEF_FULL, GEF_DROPPED, GEF_NO_MEMORY.
  */
 gef_status gef_pm_from_host(gef_pm *pm, const uint8_t *fis, size_t len);
 
 /*
- * A FIS of the device at a port arrives. GEF_OK: it waits at the port, and goes up in its turn once the port forwards.
- * GEF_FULL: another one waits there: the FIS is yours still. GEF_DROPPED: the FIS is of a device that went.
- * Answers GEF_CLOSED, GEF_NO_PORT, GEF_NOT_THERE, GEF_BAD_LENGTH, GEF_FULL, GEF_DROPPED, GEF_NO_MEMORY.
+ * A FIS arrives from the device at a port. GEF_OK: it waits at the port, and goes up in its turn once the port
+ * forwards. GEF_FULL: another one waits there; you still own the FIS. GEF_DROPPED: the FIS is of a device that went.
+ * Can return GEF_CLOSED, GEF_NO_PORT, GEF_NOT_THERE, GEF_BAD_LENGTH, GEF_FULL, GEF_DROPPED, GEF_NO_MEMORY.
  */
 gef_status gef_pm_from_device(gef_pm *pm, uint8_t port, const uint8_t *fis, size_t len);
 
 /*
- * Takes the next FIS for the host: its bytes into fis, their number into *len, the port that it comes from into *port
- * (15 for the control port), which its PM Port says too. Ports take turns: one that has a FIS to give waits for at
+ * Takes the next FIS for the host: its bytes go into fis, their number into *len, and the port that it comes from into
+ * *port (15 for the control port). Its PM Port is the same. Ports take turns: a port with a FIS to give waits for at
  * most fifteen others. The room must be GEF_FIS_ROOM, whatever the FIS.
- * GEF_NOTHING: no FIS may go up now.
- * Answers GEF_CLOSED, GEF_TOO_SHORT, GEF_NOTHING, GEF_NO_MEMORY.
+ * GEF_NOTHING: no FIS can go up now.
+ * Can return GEF_CLOSED, GEF_TOO_SHORT, GEF_NOTHING, GEF_NO_MEMORY.
  */
 gef_status gef_pm_to_host(gef_pm *pm, uint8_t *fis, size_t room, size_t *len, uint8_t *port);
 
 /*
  * Takes the FIS that waits for the device at a port. Its PM Port is 0, as a device expects. The room must be
  * GEF_FIS_ROOM.
- * Answers GEF_CLOSED, GEF_NO_PORT, GEF_TOO_SHORT, GEF_NOTHING.
+ * Can return GEF_CLOSED, GEF_NO_PORT, GEF_TOO_SHORT, GEF_NOTHING.
  */
 gef_status gef_pm_to_device(gef_pm *pm, uint8_t port, uint8_t *fis, size_t room, size_t *len);
 
 /*
- * Reads a register as the host sees it: of a device port 0 (SStatus), 1 (SError), 2 (SControl); of the control port 15
- * its general registers 0, 1, 2, 32, 33, 64, 96. It changes nothing.
- * Answers GEF_CLOSED, GEF_NO_PORT, GEF_NO_REGISTER.
+ * Reads a register as the host sees it. A device port has 0 (SStatus), 1 (SError) and 2 (SControl). The control port,
+ * 15, has its general registers 0, 1, 2, 32, 33, 64 and 96. The call changes nothing.
+ * Can return GEF_CLOSED, GEF_NO_PORT, GEF_NO_REGISTER.
  */
 gef_status gef_pm_read(gef_pm *pm, uint8_t port, uint16_t number, uint32_t *value);
 
-/* How many FISes of the host were dropped. The count stays at its largest value. Answers GEF_CLOSED. */
+/* How many FISes of the host were dropped. The count stays at its largest value. Can return GEF_CLOSED. */
 gef_status gef_pm_dropped(gef_pm *pm, uint32_t *count);
 
 /*
- * ---- What is proved, and what is yours to keep
+ * ---- What is proved, and what you must keep
  *
- * The code behind each call was checked against its contract by a prover before it was compiled. For each call that
- * this header allows, whatever the bytes are:
+ * A prover checked the code behind each call against its contract before it was compiled. For each call that this
+ * header allows, whatever the bytes are:
  *
- *   - It returns. It reads and writes inside the memory that you passed, and no other of yours. It does not divide by
- *     zero, overflow, or read a byte that was not written.
- *   - The answers are those of its line, and each means what its line says; a refusal changes nothing.
+ *   - It returns. It reads and writes only the memory that you passed, and no other memory of yours. It does not divide
+ *     by zero, overflow, or read a byte that was not written.
+ *   - Apart from GEF_OK and GEF_NULL, it returns only the statuses that its comment lists, and each means what the
+ *     comment says. A refusal changes nothing.
  *   - FISes of a device go up in the order in which they came, each at most once, and none of a device that went
- *     (`multiplier`: frames_pass_in_order, of which each call here is a step).
- *   - A FIS that goes up has the number of its port as PM Port; one that goes down has 0; no other bit changes.
+ *     (`multiplier`: frames_pass_in_order; each call here is a step of it).
+ *   - A FIS that goes up has the number of its port as PM Port. A FIS that goes down has 0. No other bit changes.
  *
  * Not proved but tested: the words of gef_fis_text. Not claimed: that anything happens in the end, or how fast.
  *
- * What no library can see, and is yours to keep:
+ * What no library can see, and you must keep:
  *
  *   - Each length is that of the memory behind its pointer, and pointers of one call do not overlap.
- *   - The fields of a handle are as the library left them, and an open handle is used through one copy alone.
+ *   - The fields of a handle are as the library left them, and you use an open handle through one copy only.
  *   - One call at a time on a handle.
  *
- * What is trusted: the prover and the two compilers (of the library, and yours), malloc and free, memcpy and its kin, and
+ * What is trusted: the prover; the two compilers (the library's and yours); malloc and free; memcpy and the like; and
  * the file c/gefsunk.c, which tests pointers for null and passes each call on.
  */
 

@@ -1,8 +1,7 @@
--- A host and its disk from where both began anew: after the disk was plugged in, also again, after
--- a software reset, or with the log after an error (AHCI 1.3.1, 5.3 and 6.2.2, error recovery;
--- Serial ATA 3.x, 13.6, native command queuing). What was queued before was given up, whatever was
--- on its way then; from there on port, history and ledger agree again, as they did since the disk
--- was new.
+-- A host and its disk from where both began anew: after the disk was plugged in, the first time or again,
+-- after a software reset, or with the log after an error (AHCI 1.3.1, 5.3 and 6.2.2, error recovery; Serial
+-- ATA 3.x, 13.6, native command queuing). What was queued before was given up, whatever was in transit then.
+-- From there on the port, the history and the ledger agree again, as they did since the disk was new.
 use Rattle.std.specs.Prelude.{ℕ, ◌≡◌, ◌≢◌, ◌<◌, ◌++◌, true, false, List, [], ◌∷◌, Option, Some}
 use Rattle.std.specs.Prelude.{None, Ok}
 use Rattle.fis_view.specs.Frames.{IsFrame, Stamped, marked}
@@ -43,13 +42,13 @@ use Rattle.disk_ends.specs.Same.{SlotCommand}
 
 -- ---- where they begin
 
--- A command that is issued went out, and is no queued one.
+-- A command that is issued was transmitted, and is not a queued one.
 pub record IsAwaited (i : Issue) : Type 0 where
   pub kind : is_queued i.work.kind ≡ false
   pub sent : i.sent ≡ true
 
--- Nothing of device n is issued at the port but a command whose answer is still to come, and
--- nothing is to come but that, or the signature.
+-- At the port, device n has nothing issued but a command whose answer is still to come. Nothing else is to
+-- come, except the signature.
 pub record IsOpening (n : ℕ) (host : Host) (commands : ℕ → SlotCommand) (past : History) (k : Ledger)
     : Type 0 where
   pub history : IsHistoryOf n host past
@@ -72,26 +71,26 @@ pub record IsSignedWell (host : Host) (frame : List ℕ) (report : TakeReport)
   pub resetting : (view_of (port_of frame) host.port).state.resetting ≡ true
   pub heard : report.ignored ≡ false
 
--- What a host did with a disk from where both began anew with the first list, event by event, as
--- long as its port refused nothing and emptied nothing.
+-- What a host did with a disk since both began anew with the first list, event by event, while its port
+-- refused nothing and emptied no slot.
 pub data IsHostedOn (n : ℕ) (base : List Happening) : Host → List Happening → (ℕ → SlotCommand)
     → History → Type 0 where
-  -- they begin
+  -- both begin
   opens : (host : Host) (commands : ℕ → SlotCommand) (past : History)
       → IsOpening n host commands past (ledger base) → IsHostedOn n base host base commands past
-  -- what happens at the port leaves the slots of n and its block, and is no event of it: what is
-  -- another device's, what of n is ignored, and a signature from before they began
+  -- Something happens at the port that leaves the slots of n and its block, and is no event of n: an event of
+  -- another device, an ignored frame of n, or a signature from before both began.
   stays : (host new : Host) (given : List Happening) (commands : ℕ → SlotCommand) (past : History)
       → KeepsSlots n host new → IsHostedOn n base host given commands past
       → IsHostedOn n base new given commands past
-  -- the signature comes that ends the software reset: it is no event of the device's history
+  -- the signature that ends the software reset is received: it is no event of the device's history
   signs : (host new : Host) (bytes : List ℕ) (report : TakeReport) (given : List Happening)
       (commands : ℕ → SlotCommand) (past : History) → IsHost host → IsFrame bytes
       → IsFrame (marked bytes n)
       → port_of (marked bytes n) ≡ n → IsSignedWell host (marked bytes n) report new
       → IsRight (ledger given) (seen bytes) → IsHostedOn n base host given commands past
       → IsHostedOn n base new (given ++ Sent bytes ∷ []) commands past
-  -- a FIS comes that is right by what was told before, and nothing is wrong with it
+  -- a FIS is received that is right by what was told before, and the port finds no fault in it
   hears : (host new : Host) (bytes : List ℕ) (report : TakeReport) (given : List Happening)
       (commands : ℕ → SlotCommand) (past : History) → IsHost host → IsFrame bytes
       → IsFrame (marked bytes n)
@@ -100,7 +99,7 @@ pub data IsHostedOn (n : ℕ) (base : List Happening) : Host → List Happening 
       → IsHostedOn n base host given commands past
       → IsHostedOn n base new (given ++ Sent bytes ∷ []) commands
       (told (seen (marked bytes n)) ++ past)
-  -- commands are issued in slots of it
+  -- commands are issued in its slots
   issues : (host new : Host) (value : ℕ) (given : List Happening) (commands next : ℕ
       → SlotCommand) (past : History)
       → IsHost host → host.port.registers.chosen ≡ n → Does host (Wrote Ci value) new
@@ -109,7 +108,7 @@ pub data IsHostedOn (n : ℕ) (base : List Happening) : Host → List Happening 
       → AreCounted (asked host.port.registers host.memory value) next (ledger given)
       → IsHostedOn n base host given commands past
       → IsHostedOn n base new given next (own n (touched host (Wrote Ci value)) ++ past)
-  -- the queued command of a slot goes out, once the device signed
+  -- the queued command of a slot is transmitted, once the device has signed
   sends : (host new : Host) (frame : Stamped) (slot : ℕ) (command : issued_command.Command)
       (f : List ℕ) (t : Transfer)
       (given : List Happening) (commands : ℕ → SlotCommand) (past : History) → IsHost host
@@ -121,7 +120,7 @@ pub data IsHostedOn (n : ℕ) (base : List Happening) : Host → List Happening 
       → (ledger given).awaited ≢ Signs ∷ [] → IsHostedOn n base host given commands past
       → IsHostedOn n base new (given ++ Received (marked frame.bytes 0) ∷ []) commands
       (event.Sent slot ∷ past)
-  -- another command goes out, while no queued one is issued
+  -- another command is transmitted, while no queued one is issued
   asks : (host new : Host) (frame : Stamped) (slot : ℕ) (command : issued_command.Command)
       (f : List ℕ) (t : Transfer)
       (given : List Happening) (commands : ℕ → SlotCommand) (past : History) → IsHost host
@@ -135,7 +134,7 @@ pub data IsHostedOn (n : ℕ) (base : List Happening) : Host → List Happening 
       → IsHostedOn n base host given commands past
       → IsHostedOn n base new (given ++ Received (marked frame.bytes 0) ∷ []) commands
       (event.Sent slot ∷ past)
-  -- Data goes out
+  -- Data is transmitted
   gives : (host new : Host) (frame : Stamped) (offset len : ℕ) (command : issued_command.Command)
       (given : List Happening)
       (commands : ℕ → SlotCommand) (past : History) → IsHost host → IsFrame frame.bytes
@@ -145,9 +144,8 @@ pub data IsHostedOn (n : ℕ) (base : List Happening) : Host → List Happening 
       → IsHostedOn n base new (given ++ Received (marked frame.bytes 0) ∷ []) commands
       (event.Carried (gathered (prds_of host.memory command) offset len host.memory.client) ∷ past)
 
--- Port and disk may begin where nothing of the device is issued and it only owes its signature,
--- after a plugging or a reset, and where it only owes a page for the one command that is issued,
--- after an error.
+-- Port and disk can begin in two cases. After a plugging or a reset: nothing of the device is issued, and it
+-- owes only its signature. After an error: it owes only a page, for the one command that is issued.
 pub record OpensAfter : Type 0 where
   pub signing : (n : ℕ) (host : Host) (commands : ℕ → SlotCommand) (past : History) (k : Ledger)
       → IsHistoryOf n host past → ((s : ℕ) → own_issue (view_of n host.port).slots s ≡ None)
@@ -161,7 +159,7 @@ pub record OpensAfter : Type 0 where
       → ((s : ℕ) → (commands s).command.tag ≡ s) → OwesOnly k (ShowsPage ∷ []) (page ∷ [])
       → IsOpening n host commands past k
 
--- ---- what is so then
+-- ---- what holds then
 
 -- both views say the same of each slot where they begin
 abbrev pub OpensTheSame : Type 0
@@ -171,7 +169,7 @@ OpensTheSame =
     → ((s : ℕ) (t : Transfer) → issued s past ≡ Some t → is_sent s past ≡ true)
     → Same commands past k
 
--- the host is careful since then, and joined with the disk's ledger
+-- since then the host is careful and joined with the disk's ledger
 pub record IsKeptOn (n : ℕ) (base : List Happening) (host : Host) (given : List Happening)
     (commands : ℕ → SlotCommand) (past : History) : Type 0 where
   pub careful : IsCarefulSince base given
@@ -183,15 +181,15 @@ HostedOnIsKept =
     (commands : ℕ → SlotCommand) (past : History) → n < 15
     → IsHostedOn n base host given commands past → IsKeptOn n base host given commands past
 
--- a host of a disk that was plugged in while nothing of it was issued began with that
+-- a host of a disk that was plugged in while nothing of it was issued began with that plugging
 abbrev pub HostedSinceNew : Type 0
 HostedSinceNew =
     (n : ℕ) (host : Host) (given : List Happening) (commands : ℕ → SlotCommand) (past : History)
     → IsHosted n host given commands past
     → IsHostedOn n (Plugged ∷ []) host given commands past
 
--- the signature that ends a software reset is no event of the device's history, and leaves its
--- slots
+-- the signature that ends a software reset is no event of the device's history, and leaves its slots
+-- unchanged
 pub record IsNoEvent (host : Host) (frame : List ℕ) (report : TakeReport) (new : Host)
     : Type 0 where
   pub none : own (port_of frame) (touched host (Took frame report)) ≡ []
@@ -202,10 +200,10 @@ SignatureIsNone =
     (host new : Host) (frame : List ℕ) (report : TakeReport) → IsSignedWell host frame report new
     → IsNoEvent host frame report new
 
--- ---- what comes from the disk then
+-- ---- what the disk sends then
 
--- What comes next to the host is right by what it heard and gave, and a DMA Setup names no more
--- bytes than a Data FIS holds.
+-- What the host receives next is right by what it heard and gave, and a DMA Setup names no more bytes than a
+-- Data FIS holds.
 pub record IsNextRight (given : List Happening) (bytes : List ℕ) : Type 0 where
   pub right : IsRight (ledger given) (seen bytes)
   pub short : IsShort (seen bytes)
@@ -218,8 +216,8 @@ NextIsRightAnew =
     → IsLinkedOn base disk given down [] (bytes ∷ up) → IsCarefulSince base given
     → IsNextRight given bytes
 
--- What a report says is done was done honestly, at each FIS that comes next from the disk: also at
--- one that the port reports a fault of.
+-- What a report says is done was done honestly, at each FIS that is received next from the disk, even if the
+-- port reports a fault of it.
 abbrev pub ReportsHonestlyAnew : Type 0
 ReportsHonestlyAnew =
     (plan : DiskPlan) (sectors : ℕ) (base disk given : List Happening)
@@ -233,7 +231,7 @@ ReportsHonestlyAnew =
     → has_bit report.done s ≡ true
     → IsDoneHonestly sectors (commands s) (filled s past) t.work.len (ledger disk) (ledger given)
 
--- And what was done honestly stays so, whatever the disk does later, errors too.
+-- What was done honestly stays so, whatever the disk does later, including errors.
 abbrev pub HonestStays : Type 0
 HonestStays =
     (sectors len : ℕ) (c : SlotCommand) (bytes : ℕ → Option ℕ) (disk more : List Happening) (k : Ledger)

@@ -1,6 +1,6 @@
--- What the answers of a device, and commands that are not queued, leave of each queued command:
--- AHCI 1.3.1, 5.3 (how a port takes each type of FIS); Serial ATA 3.x, 10.5, FIS types, and 13.6,
--- native command queuing.
+-- What the answers of a device, and commands that are not queued, leave of each queued command: AHCI 1.3.1,
+-- 5.3 (how a port receives each type of FIS); Serial ATA 3.x, 10.5, FIS types, and 13.6, native command
+-- queuing.
 use Rattle.std.specs.Prelude.{ℕ, ◌≡◌, ◌==◌, ◌≤◌, Bool, true, false, List, [], ◌∷◌, length}
 use Rattle.std.specs.Prelude.{slice_get, None, Some}
 use Rattle.slots.specs.Slots.{has_bit}
@@ -13,13 +13,13 @@ use Rattle.hba_laws.specs.History.{Answered, Carried, History, Named, PioSetUp, 
 use Rattle.hba_laws.specs.History.{is_at, waiting_in}
 use Rattle.disk_ends.specs.Same.{InLife, IsReadOf, IsWriteOf, SlotCommand, Stand}
 
--- no queued command is outstanding or to be answered, and no data of one moves
+-- no queued command is outstanding or waits for an answer, and no data of one moves
 pub record IsIdle (k : Ledger) : Type 0 where
   pub outstanding : k.outstanding ≡ []
   pub unanswered : k.unanswered ≡ []
   pub moving : k.moving ≡ None
 
--- a command, and not a queued one
+-- a command that is not queued
 abbrev pub IsAlone : Request → Type 0
 IsAlone (asked.Reset on) = ⊥
 IsAlone (asked.Queue c) = ⊥
@@ -28,14 +28,14 @@ IsAlone asked.Identify = Unit {0}
 IsAlone asked.Flush = Unit {0}
 IsAlone asked.Other = Unit {0}
 
--- a command that is not queued goes out of another slot, where it may
+-- a command that is not queued is transmitted from another slot, where it is allowed
 abbrev pub OthersKeep : Type 0
 OthersKeep = (s slot : ℕ) (c : SlotCommand) (request : Request) (past : History) (k : Ledger)
     → (slot == s) ≡ false → k.failed ≡ false → IsAlone request → FitsRequest k request
     → InLife s c past k → InLife s c (Sent slot ∷ past) (asks k request k.failed)
 
--- A Register FIS answers a command. A PIO Setup comes, and a page, where no queued command is
--- there.
+-- While no queued command is there, a Register FIS answers a command, and a PIO Setup and a page are
+-- received.
 pub record AnswersKeep : Type 0 where
   pub register : (s : ℕ) (c : SlotCommand) (past : History) (k : Ledger) → InLife s c past k
       → InLife s c (Answered ∷ past) (answered k)
@@ -44,7 +44,7 @@ pub record AnswersKeep : Type 0 where
   pub page : (s : ℕ) (c : SlotCommand) (bytes : List ℕ) (past : History) (k : Ledger) → IsIdle k
       → InLife s c past k → InLife s c (Carried bytes ∷ past) (sends_data k k.moving bytes)
 
--- The command ended: the ledger has its read, or its write, with just the bytes that are filled, and
+-- The command ended: the ledger has its read, or its write, with exactly the bytes that are filled. It came
 -- after the writes that had ended when it was issued.
 pub data HasEnded (s : ℕ) (c : SlotCommand) (past : History) (k : Ledger) : Type 0 where
   ByRead : (at : ℕ) (r : ReadOut) → slice_get k.reads at ≡ Some r → IsReadOf c.command r
@@ -52,9 +52,8 @@ pub data HasEnded (s : ℕ) (c : SlotCommand) (past : History) (k : Ledger) : Ty
   ByWrite : (at : ℕ) (w : Written) → slice_get k.writes at ≡ Some w → IsWriteOf s c.command w
       → Stand (filled s past) w.bytes → c.since ≤ at → HasEnded s c past k
 
--- A Set Device Bits FIS without ERR names the tag that ended first. The command of a slot that it
--- names ended, was answered before, and its tag is free from then on; those of other slots stand as
--- they stood.
+-- A Set Device Bits FIS without ERR names the tag that ended first. For a slot that it names, the command
+-- ended and was answered before, and its tag is free from then on. The commands of other slots are unchanged.
 pub record NamesKeep : Type 0 where
   pub own : (s mask : ℕ) (c : SlotCommand) (past : History) (k : Ledger) → Names k.unanswered mask
       → has_bit mask s ≡ true → InLife s c past k → HasEnded s c past k

@@ -1,7 +1,7 @@
--- A device of which no queued command can be done at a host port, from its first fault on until it
--- begins anew: AHCI 1.3.1, 5.3.13 (how a port takes FISes), 6.2.2 (error recovery) and 9.3
--- (FIS-based Switching, on errors). What comes from it is ignored, or nothing queued of it is
--- issued; and all that was issued is emptied, and not done, before a queued command is issued anew.
+-- A device that cannot complete a queued command at a host port, from its first fault until it begins anew:
+-- AHCI 1.3.1, 5.3.13 (how a port receives FISes), 6.2.2 (error recovery) and 9.3 (FIS-based Switching, on
+-- errors). Its FISes are ignored, or nothing queued of it is issued. All that was issued is emptied, and not
+-- done, before a queued command is issued anew.
 use Rattle.std.specs.Prelude.{ℕ, ◌≡◌, ◌<◌, ◌⊎◌, ◌++◌, true, false, List, Some}
 use Rattle.std.specs.Prelude.{is_some}
 use Rattle.slots.specs.Slots.{has_bit}
@@ -29,24 +29,23 @@ abbrev pub AreUnqueued : History → Type 0
 AreUnqueued past = (s : ℕ) → NoneQueued (issued s past)
 
 pub data IsAside (n : ℕ) (host : Host) (past : History) : Type 0 where
-  -- a fault stopped the port: whatever comes is ignored until ST falls, and that empties all slots
+  -- a fault stopped the port: every FIS is ignored until ST falls, and that empties all slots
   Halted : is_some host.port.errors.port ≡ true → IsAside n host past
-  -- the device has a fault: what comes from it is ignored until that is cleared, and that empties
-  -- its slots
+  -- the device has a fault: its FISes are ignored until the fault is cleared, and that empties its slots
   Faulty : is_some (view_of n host.port).fault ≡ true → IsAside n host past
   -- no queued command of it is issued
   Spared : AreUnqueued past → IsAside n host past
 
 -- ---- what sets a device aside
 
--- ST falls, or its error is cleared
+-- ST falls, or the device's error is cleared
 abbrev pub WritesAside : ℕ → Host → Register → ℕ → Type 0
 WritesAside n host Cmd value = falls host.port.registers value ≡ true
 WritesAside n host Fbs value = cleared_by host.port.errors value ≡ Some n
 WritesAside n host register value = ⊥
 
--- a FIS of it has a fault or stops the port, ST falls, its error is cleared, the host's bus fails,
--- or it is flushed
+-- a FIS of the device has a fault or stops the port, ST falls, the device's error is cleared, the host bus
+-- fails, or the device is flushed
 abbrev pub SetsAside : ℕ → Host → HostEvent → Type 0
 SetsAside n host (Took frame report) =
     ((port_of frame ≡ n) × (is_some report.fault ≡ true)) ⊎ (is_some report.stopped ≡ true)
@@ -57,7 +56,7 @@ SetsAside n host (Stored structure) = ⊥
 SetsAside n host (Rewrote dev row) = ⊥
 SetsAside n host (Put at bytes) = ⊥
 
--- ---- what leaves it so
+-- ---- what leaves it set aside
 
 -- a write of PxCI issues no queued command for the device
 abbrev pub WritesNoneQueued : ℕ → Host → Register → ℕ → Type 0
@@ -73,8 +72,8 @@ IssuesNoneQueued n host event = Unit {0}
 
 -- ---- laws
 
--- A device is set aside, and stays so at each event that issues no queued command for it; and no
--- report says meanwhile that a queued command of it is done.
+-- A device is set aside, and stays so at each event that issues no queued command for it. Meanwhile no report
+-- says that a queued command of it is done.
 pub record AsideIsKept : Type 0 where
   pub starts : (n : ℕ) (host new : Host) (event : HostEvent) (past : History) → n < 16
       → Does host event new → SetsAside n host event

@@ -1,5 +1,5 @@
--- Events at a host port between two FISes of a device: each is none of it, or issues commands for
--- it (AHCI 1.3.1, 3.3.14, PxCI, and chapter 9, FIS-based Switching).
+-- Events at a host port between two FISes of a device: each belongs to another device or to none, or issues
+-- commands for this one (AHCI 1.3.1, 3.3.14, PxCI, and chapter 9, FIS-based Switching).
 use Rattle.std.specs.Prelude.{ℕ, ◌≡◌, ◌<◌, ◌⊎◌, List, [], ◌∷◌, None}
 use Rattle.hba_fbs.specs.declared.register.Register.{Register}
 use Rattle.hba_fbs.specs.declared.register.Register.TheVariants.{Ci}
@@ -15,8 +15,8 @@ use Rattle.disk_ends.specs.Hosted.{IsHosted}
 use Rattle.disk_ends.specs.Joined.{AreCounted}
 use Rattle.disk_ends.specs.Same.{SlotCommand}
 
--- A write of PxCI issues commands for the device, which the new map names, by what the ledger tells
--- by then.
+-- A write of PxCI issues commands for the device. The new map names them, by what the ledger tells at that
+-- time.
 abbrev pub WritesIssues : ℕ → Ledger → Host → (ℕ → SlotCommand) → Register → ℕ
     → (ℕ → SlotCommand) → Type 0
 WritesIssues n k host commands Ci value next =
@@ -31,12 +31,12 @@ IssuesFor n k host commands (Wrote register value) next =
     WritesIssues n k host commands register value next
 IssuesFor n k host commands event next = ⊥
 
--- it is none of the device's, or it issues for it
+-- the event does not concern the device, or issues commands for it
 abbrev pub IsCalm : ℕ → Ledger → Host → (ℕ → SlotCommand) → HostEvent → (ℕ → SlotCommand) → Type 0
 IsCalm n k host commands event next =
     (IsElsewhere n host event × (next ≡ commands)) ⊎ IssuesFor n k host commands event next
 
--- so it is with each event of a run
+-- this holds for each event of a run
 abbrev pub AreCalm : ℕ → Ledger → (ℕ → SlotCommand) → (old new : Host) → (events : List HostEvent)
     → Runs old events new → (ℕ → SlotCommand) → Type 0
 AreCalm n k commands old new [] run next = next ≡ commands

@@ -1,5 +1,5 @@
--- What happens at a host port and is none of one device's (AHCI 1.3.1, chapter 9, FIS-based
--- Switching): it leaves the device's view, and is no event of its history.
+-- What happens at a host port and does not concern one device (AHCI 1.3.1, chapter 9, FIS-based Switching):
+-- it leaves the device's view, and is no event of its history.
 use Rattle.std.specs.Prelude.{ℕ, ◌≡◌, ◌≢◌, ◌<◌, false, [], Some}
 use Rattle.hba_fbs.specs.declared.register.Register.{Register}
 use Rattle.hba_fbs.specs.declared.register.Register.TheVariants.{Ci, Cmd, Fbs}
@@ -13,7 +13,7 @@ use Rattle.hba_laws.specs.Delivering.{touched}
 use Rattle.hba_laws.specs.Hosts.{Does, Flushed, Gave, Host, HostEvent, Put, Rewrote, Stored, Took}
 use Rattle.hba_laws.specs.Hosts.{Wrote}
 
--- what goes out is for another device, and the port goes on
+-- what is transmitted is for another device, and the port goes on
 abbrev pub IsForOther : ℕ → Outgoing → Type 0
 IsForOther n Nothing = Unit {0}
 IsForOther n (Unreadable dev) = ⊥

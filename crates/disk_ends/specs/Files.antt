@@ -1,6 +1,6 @@
--- The task file that a host port has of an honest disk (AHCI 1.3.1, 3.3.8, PxTFD, and 5.3.13, how a
--- port takes each type of FIS; ACS-3, 6.2, Status field): from the first FIS since both began anew,
--- and as long as the disk reports no error by a Set Device Bits FIS, Status.ERR is 0.
+-- The task file that a host port has of an honest disk (AHCI 1.3.1, 3.3.8, PxTFD, and 5.3.13, how a port
+-- receives each type of FIS; ACS-3, 6.2, Status field). Status.ERR is 0 from the first FIS after both began
+-- anew, as long as the disk reports no error by a Set Device Bits FIS.
 use Rattle.std.specs.Prelude.{ℕ, ◌≡◌, ◌<◌, ◌⊎◌, ◌++◌, true, false, List, [], ◌∷◌, Option, Some}
 use Rattle.std.specs.Prelude.{None, Result, Ok, is_some}
 use Rattle.fis_view.specs.Frames.{IsFrame, Stamped, marked}
@@ -28,7 +28,7 @@ use Rattle.disk_ends.specs.Watched.{IsPlainSince}
 
 -- ---- what a disk sends
 
--- A disk sends FISes that are for a host, and at the end of a page no error stands.
+-- A disk sends only FISes for a host, and no error is set at the end of a page.
 abbrev pub IsOfDisk : Result Fis FisFault → Type 0
 IsOfDisk (Ok (view.RegH2D f)) = ⊥
 IsOfDisk (Ok (view.RegD2H f)) = Unit {0}
@@ -54,11 +54,11 @@ IsNoRefusal Finishes = Unit {0}
 IsNoRefusal Refuses = ⊥
 IsNoRefusal ShowsPage = Unit {0}
 
--- no refusal is awaited
+-- no refusal is due
 abbrev pub IsUnrefused : Ledger → Type 0
 IsUnrefused k = EachReply IsNoRefusal k.awaited
 
--- A careful host that gives plain FISes alone awaits no refusal.
+-- A careful host that gives only plain FISes is due no refusal.
 abbrev pub NothingIsRefused : Type 0
 NothingIsRefused =
     (base given : List Happening) → IsUnrefused (ledger base) → IsPlainSince base given
@@ -83,17 +83,17 @@ abbrev pub IsFineBlock : Option Block → Type 0
 IsFineBlock None = Unit {0}
 IsFineBlock (Some block) = is_error block.ends ≡ false
 
--- so does the one of which data is still to come, if there is one
+-- so does the block whose data is still to come, if there is one
 abbrev pub EndsFine : DeviceView → Type 0
 EndsFine v = (v.slots.context ≡ None) ⊎ IsFineBlock v.state.block
 
--- no error stands in Status, and none will at the end of a block
+-- no error is set in Status, and none will be at the end of a block
 pub record IsFineFile (v : DeviceView) : Type 0 where
   pub status : is_error v.state.status ≡ false
   pub ends : EndsFine v
 
--- A FIS comes next from a disk that is watched, and the port does not ignore it; it is no error
--- that the disk reports, though the port may find a fault in it.
+-- A FIS comes next from a watched disk, and the port does not ignore it. It is not an error that the disk
+-- reports, though the port may find a fault in it.
 pub record IsNextHeard (plan : DiskPlan) (sectors : ℕ) (base disk given : List Happening)
     (down up : List (List ℕ)) (bytes : List ℕ) (n : ℕ) (host : Host) (report : TakeReport)
     (new : Host) : Type 0 where
@@ -113,7 +113,7 @@ pub record FilesStayFine : Type 0 where
       (new : Host)
       → IsNextHeard plan sectors base disk given down up bytes n host report new
       → IsFineFile (view_of n host.port) → IsFineFile (view_of n new.port)
-  -- the first FIS since both began anew makes it so, whatever stood there before, or has a fault
+  -- the first FIS after both began anew makes it so, whatever it was before, or has a fault
   pub first : (plan : DiskPlan) (sectors : ℕ) (base disk given : List Happening)
       (down up : List (List ℕ)) (bytes : List ℕ) (n : ℕ) (host : Host) (report : TakeReport)
       (new : Host)
@@ -121,7 +121,7 @@ pub record FilesStayFine : Type 0 where
       → IsClear (ledger base) → given ≡ base → (view_of n host.port).slots.context ≡ None
       → IsFineFile (view_of n new.port) ⊎ (is_some report.fault ≡ true)
 
--- What the host gives the device, and what it issues for it, leaves that.
+-- What the host gives the device, and what it issues for it, leaves the task file.
 pub record FilesAreLeft : Type 0 where
   pub gives : (n : ℕ) (host new : Host) (frame : Option Stamped) → Does host (Gave frame) new
       → IsFineFile (view_of n host.port) → IsFineFile (view_of n new.port)

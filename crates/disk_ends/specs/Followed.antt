@@ -1,6 +1,6 @@
--- What a host follows of a disk that may report an error (Serial ATA 3.x, 13.6, native command
--- queuing, on errors): both ends are linked up to that error, which comes up after all that the
--- disk sent before. What the disk does since then does not matter, until both begin anew.
+-- What a host follows of a disk that may report an error (Serial ATA 3.x, 13.6, native command queuing, on
+-- errors). Both ends are linked up to that error, which comes up after all that the disk sent before. What
+-- the disk does after it does not matter until both begin anew.
 use Rattle.std.specs.Prelude.{ℕ, ◌≡◌, ◌<◌, ◌⊎◌, ◌++◌, true, List, [], ◌∷◌, Some}
 use Rattle.fis_view.specs.Frames.{IsFrame, marked}
 use Rattle.fis_view.specs.Seen.{seen}
@@ -22,16 +22,16 @@ use Rattle.disk_ends.specs.Honest.{IsDoneHonestly}
 use Rattle.disk_ends.specs.Joined.{IsJoined}
 use Rattle.disk_ends.specs.Same.{SlotCommand}
 
--- The disk did this since the moment up to which it is followed, and this comes up behind what it
--- sent before: nothing, or an error and all that it sent later. Until then what is on its way down
--- is what goes down to it.
+-- What the disk did since the moment up to which it is followed, and what comes up behind the FISes sent
+-- before: nothing, or an error and all that was sent later. In the first case, what goes down to the disk is
+-- what was on its way then.
 pub data IsPast : List Happening → List (List ℕ) → List (List ℕ) → List (List ℕ) → Type 0 where
   Now : (down : List (List ℕ)) → IsPast [] [] down down
   Failed : (error : List ℕ) (later : List Happening) (beyond down below : List (List ℕ))
       → reports (seen error) ≡ true → IsPast (Sent error ∷ later) (error ∷ beyond) down below
 
--- At the disk's end the first list happened, at the host's end the second. The third is on its way
--- to the disk; the fourth it sent before both began anew, and the fifth since.
+-- The first list happened at the disk's end, the second at the host's end. The third is on its way to the
+-- disk. The disk sent the fourth before both began anew, and the fifth since.
 pub record IsFollowed (base disk host : List Happening) (down stale up : List (List ℕ))
     : Type 0 where
   -- what happened to the disk up to that moment, and later
@@ -47,8 +47,8 @@ pub record IsFollowed (base disk host : List Happening) (down stale up : List (L
   pub linked : IsLinkedOn base followed host below stale before
   pub past : IsPast later beyond down below
 
--- The disk is followed from where both begin anew on, whatever it does, up to the moment at which
--- the host takes an error of it.
+-- The disk is followed from where both begin anew, whatever it does, up to the moment at which the host takes
+-- an error from it.
 pub record FollowsOn : Type 0 where
   pub linked : (base disk host : List Happening) (down stale up : List (List ℕ))
       → IsLinkedOn base disk host down stale up → IsFollowed base disk host down stale up
@@ -70,7 +70,7 @@ pub record FollowsOn : Type 0 where
       → IsFollowed base disk host down [] (bytes ∷ up)
       → (reports (seen bytes) ≡ true) ⊎ IsFollowed base disk (host ++ Sent bytes ∷ []) down [] up
 
--- What comes next to the host is an error, or it is right.
+-- What the host receives next is right, or is an error.
 abbrev pub NextIsRightOrFails : Type 0
 NextIsRightOrFails =
     (plan : DiskPlan) (sectors : ℕ) (base disk given : List Happening)
@@ -79,8 +79,8 @@ NextIsRightOrFails =
     → IsFollowed base disk given down [] (bytes ∷ up) → IsCarefulSince base given
     → (reports (seen bytes) ≡ true) ⊎ IsNextRight given bytes
 
--- What a report says is done was done honestly, whatever the disk does, errors too, and whatever
--- else the report says.
+-- What a report says is done was done honestly, whatever the disk does, including errors, and whatever else
+-- the report says.
 abbrev pub FollowedIsHonest : Type 0
 FollowedIsHonest =
     (plan : DiskPlan) (sectors : ℕ) (base disk given : List Happening)

@@ -1,5 +1,5 @@
--- What a FIS of a disk is to the device's history at a host port that hears it and reports nothing
--- wrong (AHCI 1.3.1, 5.3.13, how a port takes each type of FIS; Serial ATA 3.x, 10.5, FIS types).
+-- What a FIS of a disk is in the device's history, at a host port that hears it and finds no fault (AHCI
+-- 1.3.1, 5.3.13, how a port receives each type of FIS; Serial ATA 3.x, 10.5, FIS types).
 use Rattle.std.specs.Prelude.{ℕ, ◌≡◌, ◌<◌, false, List, None}
 use Rattle.fis_view.specs.Seen.{seen}
 use Rattle.hba_fbs.specs.declared.report.TakeReport.{TakeReport}
@@ -16,8 +16,7 @@ use Rattle.hba_laws.specs.Sound.{IsHost}
 use Rattle.disk_ends.specs.Together.{IsHeard, Same, told}
 use Rattle.disk_ends.specs.Same.{SlotCommand}
 
--- the port hears the frame of a device that is in no software reset, and reports nothing wrong with
--- it
+-- the port hears the frame of a device that is not in software reset, and finds no fault in it
 pub record IsTakenWell (host : Host) (frame : List ℕ) (report : TakeReport)
     (new : Host) : Type 0 where
   pub takes : TakesFrame host frame report new
@@ -26,14 +25,14 @@ pub record IsTakenWell (host : Host) (frame : List ℕ) (report : TakeReport)
   pub no_fault : report.fault ≡ None
   pub no_stop : report.stopped ≡ None
 
--- to the history of its device the frame is what it tells, and nothing of it was refused
+-- in the history of its device the frame is what it tells, and nothing of it was refused
 pub record IsToldSo (host : Host) (frame : List ℕ) (report : TakeReport)
     (past : History) : Type 0 where
   pub events : own (port_of frame) (touched host (Took frame report)) ≡ told (seen frame)
   pub heard : IsHeard past (seen frame)
 
--- So it is with each FIS that is right by the ledger, where that and the history say the same of
--- the device.
+-- This holds for each FIS that is right by the ledger, if the ledger and the history say the same of the
+-- device.
 abbrev pub HeardAsTold : Type 0
 HeardAsTold =
     (host new : Host) (frame : List ℕ) (report : TakeReport) (commands : ℕ

@@ -1,7 +1,7 @@
--- Honest disks, at the host's end of a link: what a queued command that is done brought, or left on
--- the medium (ACS-3, READ FPDMA QUEUED and WRITE FPDMA QUEUED; Serial ATA 3.x, 13.6, native command
--- queuing). Whatever is on its way between disk and host at that moment, the device's history at
--- the host's port tells of the disk's own sectors.
+-- Honest disks, at the host's end of a link: what a queued command that is done brought, or left on the
+-- medium (ACS-3, READ FPDMA QUEUED and WRITE FPDMA QUEUED; Serial ATA 3.x, 13.6, native command queuing).
+-- Whatever is in transit between disk and host at that moment, the device's history at the host port tells of
+-- the disk's own sectors.
 use Rattle.std.specs.Prelude.{ℕ, ◌≡◌, ◌*◌, ◌<◌, ◌≤◌, true, false, List, ◌∷◌, length, slice_get, Option}
 use Rattle.std.specs.Prelude.{Some, Ok}
 use Rattle.fis_view.specs.Table.{Bits, SActive, field}
@@ -18,13 +18,13 @@ use Rattle.hba_laws.specs.History.{History, Named, Transfer, completes, filled, 
 use Rattle.disk_ends.specs.Together.{Same}
 use Rattle.disk_ends.specs.Same.{SlotCommand}
 
--- of so many bytes each is filled, with the one that stands at its place among these
+-- each byte of this many is filled, with the one at its place among these
 abbrev pub AreFilledBy : (ℕ → Option ℕ) → ℕ → List ℕ → Type 0
 AreFilledBy filled len bytes = (i : ℕ) → i < len
     → (filled i ≡ slice_get bytes i) × (i < length bytes)
 
--- A read brought its sectors of the medium as they were when the disk started it, which had all
--- writes that had ended when it was issued.
+-- A read brought its sectors of the medium as they were when the disk started it. The medium then had all
+-- writes that had ended when the read was issued.
 pub record BroughtSectors (sectors : ℕ) (c : SlotCommand) (filled : ℕ
     → Option ℕ) (len : ℕ) (host : Ledger) : Type 0 where
   pub at : ℕ
@@ -35,7 +35,7 @@ pub record BroughtSectors (sectors : ℕ) (c : SlotCommand) (filled : ℕ
   pub bytes : AreFilledBy filled len
       (sectors_at (medium_with sectors read.before) c.command.lba c.command.count)
 
--- A write is on the medium: the disk entered the bytes that went over, at the command's place, behind
+-- A write is on the medium: the disk entered the bytes that were transferred, at the command's place, after
 -- all writes that had ended when it was issued.
 pub record IsOnMedium (c : SlotCommand) (filled : ℕ → Option ℕ) (len : ℕ) (disk : Ledger) : Type 0 where
   pub at : ℕ
@@ -52,8 +52,7 @@ pub record IsDoneHonestly (sectors : ℕ) (c : SlotCommand) (filled : ℕ
   pub reads : c.command.write ≡ false → BroughtSectors sectors c filled len host
   pub writes : c.command.write ≡ true → IsOnMedium c filled len disk
 
--- So it is with each queued command that a Set Device Bits FIS completes, when it comes next to the
--- host.
+-- This holds for each queued command that a Set Device Bits FIS completes when the host receives it next.
 abbrev pub DoneIsHonest : Type 0
 DoneIsHonest =
     (plan : DiskPlan) (sectors : ℕ) (disk host : List Happening) (down up : List (List ℕ))
@@ -66,8 +65,7 @@ DoneIsHonest =
     → completes s (Named (field Bits SActive f)) past t.work ≡ true
     → IsDoneHonestly sectors (commands s) (filled s past) t.work.len (ledger disk) (ledger host)
 
--- Whatever comes next to the host moves data, answers and replies as is due there, and reports no
--- error.
+-- Whatever the host receives next moves data, answers and replies as is due there, and reports no error.
 abbrev pub NextIsRight : Type 0
 NextIsRight =
     (plan : DiskPlan) (sectors : ℕ) (disk host : List Happening) (down up : List (List ℕ))

@@ -1,7 +1,6 @@
--- What a host did with a disk from its plugging on, event by event, as long as its port refused
--- nothing and emptied nothing (AHCI 1.3.1, 5.3; Serial ATA 3.x, 13.6, native command queuing): its
--- port, the device's history and the ledger agree all the time, and each FIS that it gave fits what
--- was told before.
+-- What a host did with a disk since its plugging, event by event, while its port refused nothing and emptied
+-- no slot (AHCI 1.3.1, 5.3; Serial ATA 3.x, 13.6, native command queuing). Its port, the device's history and
+-- the ledger agree all the time, and each FIS that it gave fits what was told before.
 use Rattle.std.specs.Prelude.{ℕ, ◌≡◌, ◌≢◌, ◌<◌, ◌++◌, true, false, List, [], ◌∷◌, Some}
 use Rattle.std.specs.Prelude.{None, Ok}
 use Rattle.fis_view.specs.Frames.{IsFrame, Stamped, marked}
@@ -37,21 +36,21 @@ use Rattle.disk_ends.specs.Joined.{AreCounted, IsJoined, IsShort}
 use Rattle.disk_ends.specs.Together.{NoneQueued, told}
 use Rattle.disk_ends.specs.Same.{SlotCommand}
 
--- What goes between a host and a device has PM Port 0 at the device's end of the link, and the
--- device's port at the host's. The port hears n, with these happenings (as the device sees them) at
--- its end of the link, these commands of its slots and this history of its events.
+-- What passes between a host and a device has PM Port 0 at the device's end of the link, and the device's
+-- port at the host's end. The port hears n, with these happenings (as the device sees them) at its end of the
+-- link, these commands of its slots and this history of its events.
 pub data IsHosted (n : ℕ) : Host → List Happening → (ℕ → SlotCommand) → History → Type 0 where
   -- the disk is plugged in while nothing of it is issued
   plugged : (host : Host) (commands : ℕ → SlotCommand) (past : History) → IsHistoryOf n host past
       → ((s : ℕ) → own_issue (view_of n host.port).slots s ≡ None)
       → ((s : ℕ) → (commands s).command.tag ≡ s)
       → IsHosted n host (Plugged ∷ []) commands past
-  -- what happens at the port leaves the view of n, and is no event of it
+  -- something happens at the port that leaves the view of n, and is no event of it
   stays : (host new : Host) (given : List Happening) (commands : ℕ → SlotCommand) (past : History)
       → view_of n new.port ≡ view_of n host.port → IsHosted n host given commands past
       → IsHosted n new given commands past
-  -- a FIS comes, marked with its port, that is right by what was told before, and nothing is wrong
-  -- with it
+  -- a FIS marked with its port is received that is right by what was told before, and the port finds no fault
+  -- in it
   hears : (host new : Host) (bytes : List ℕ) (report : TakeReport) (given : List Happening)
       (commands : ℕ → SlotCommand)
       (past : History) → IsHost host → IsFrame bytes → IsFrame (marked bytes n)
@@ -60,7 +59,7 @@ pub data IsHosted (n : ℕ) : Host → List Happening → (ℕ → SlotCommand) 
       → IsShort (seen bytes)
       → IsHosted n host given commands past
       → IsHosted n new (given ++ Sent bytes ∷ []) commands (told (seen (marked bytes n)) ++ past)
-  -- commands are issued in slots of it
+  -- commands are issued in its slots
   issues : (host new : Host) (value : ℕ) (given : List Happening) (commands next : ℕ
       → SlotCommand) (past : History)
       → IsHost host → host.port.registers.chosen ≡ n → Does host (Wrote Ci value) new
@@ -69,7 +68,7 @@ pub data IsHosted (n : ℕ) : Host → List Happening → (ℕ → SlotCommand) 
       → AreCounted (asked host.port.registers host.memory value) next (ledger given)
       → IsHosted n host given commands past
       → IsHosted n new given next (own n (touched host (Wrote Ci value)) ++ past)
-  -- the queued command of a slot goes out, once the device signed
+  -- the queued command of a slot is transmitted, once the device has signed
   sends : (host new : Host) (frame : Stamped) (slot : ℕ) (command : issued_command.Command)
       (f : List ℕ) (t : Transfer)
       (given : List Happening) (commands : ℕ → SlotCommand) (past : History) → IsHost host
@@ -81,7 +80,7 @@ pub data IsHosted (n : ℕ) : Host → List Happening → (ℕ → SlotCommand) 
       → (ledger given).awaited ≢ Signs ∷ [] → IsHosted n host given commands past
       → IsHosted n new (given ++ Received (marked frame.bytes 0) ∷ []) commands
       (event.Sent slot ∷ past)
-  -- another command goes out, while no queued one is issued
+  -- another command is transmitted, while no queued one is issued
   asks : (host new : Host) (frame : Stamped) (slot : ℕ) (command : issued_command.Command)
       (f : List ℕ) (t : Transfer)
       (given : List Happening) (commands : ℕ → SlotCommand) (past : History) → IsHost host
@@ -95,7 +94,7 @@ pub data IsHosted (n : ℕ) : Host → List Happening → (ℕ → SlotCommand) 
       → IsHosted n host given commands past
       → IsHosted n new (given ++ Received (marked frame.bytes 0) ∷ []) commands
       (event.Sent slot ∷ past)
-  -- Data goes out
+  -- Data is transmitted
   gives : (host new : Host) (frame : Stamped) (offset len : ℕ) (command : issued_command.Command)
       (given : List Happening)
       (commands : ℕ → SlotCommand) (past : History) → IsHost host → IsFrame frame.bytes
@@ -105,20 +104,20 @@ pub data IsHosted (n : ℕ) : Host → List Happening → (ℕ → SlotCommand) 
       → IsHosted n new (given ++ Received (marked frame.bytes 0) ∷ []) commands
       (event.Carried (gathered (prds_of host.memory command) offset len host.memory.client) ∷ past)
 
--- the host is careful, and joined with the disk's ledger
+-- the host is careful and joined with the disk's ledger
 pub record IsKept (n : ℕ) (host : Host) (given : List Happening) (commands : ℕ
     → SlotCommand) (past : History) : Type 0 where
   pub careful : IsCareful given
   pub joined : IsJoined n commands host past (ledger given)
 
--- so it is whatever happens in this way
+-- this holds whatever happens in this way
 abbrev pub HostedIsKept : Type 0
 HostedIsKept =
     (n : ℕ) (host : Host) (given : List Happening) (commands : ℕ → SlotCommand) (past : History)
     → n < 15
     → IsHosted n host given commands past → IsKept n host given commands past
 
--- And each DMA Setup that comes next to it from a disk names no more bytes than a Data FIS holds.
+-- And each DMA Setup that it receives next from a disk names no more bytes than a Data FIS holds.
 abbrev pub NextIsShort : Type 0
 NextIsShort =
     (plan : DiskPlan) (sectors : ℕ) (disk given : List Happening) (down up : List (List ℕ))

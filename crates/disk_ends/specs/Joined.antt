@@ -1,6 +1,6 @@
--- A host port, its device's history and the ledger of the FISes at its end of the link, joined: at
--- each FIS that the port hears or gives all three go on to agree (AHCI 1.3.1, 5.3, how a port takes
--- and sends FISes; Serial ATA 3.x, 13.6, native command queuing).
+-- A host port, its device's history and the ledger of the FISes at its end of the link, joined: all three
+-- still agree after each FIS that the port hears or gives (AHCI 1.3.1, 5.3, how a port receives and transmits
+-- FISes; Serial ATA 3.x, 13.6, native command queuing).
 use Rattle.std.specs.Prelude.{ℕ, ◌≡◌, ◌≢◌, ◌<◌, ◌≤◌, ◌++◌, true, List, [], ◌∷◌, false}
 use Rattle.std.specs.Prelude.{length, Option, Some, None, Result, Ok, is_some}
 use Rattle.fis_view.specs.Frames.{IsFrame, Stamped, marked}
@@ -41,12 +41,12 @@ use Rattle.disk_ends.specs.Honest.{IsDoneHonestly}
 use Rattle.disk_ends.specs.Together.{NoneQueued, Same, is_sent, told}
 use Rattle.disk_ends.specs.Same.{SlotCommand}
 
--- the port holds a command as sent where the history says so
+-- the port has a command as sent where the history says so
 abbrev pub SentAgrees : DeviceSlots → History → Type 0
 SentAgrees own past = (s : ℕ) (i : Issue) → own_issue own s ≡ Some i → is_sent s past ≡ i.sent
 
--- a context for which the device asked for data is that of the write whose data moves, and for
--- which the ledger has that
+-- where the device asked for data of a context, that context is for the write whose data moves, and the
+-- ledger says that this data is asked for
 pub record IsAskedBy (c : Context) (k : Ledger) : Type 0 where
   pub current : Moving
   pub moving : k.moving ≡ Some current
@@ -60,7 +60,7 @@ abbrev pub IsShort : Result Fis FisFault → Type 0
 IsShort (Ok (view.DmaSetup f)) = field Setup table.Count f ≤ 8192
 IsShort _ = Unit {0}
 
--- nor did the last one whose data moves
+-- nor did the last one of the command whose data moves
 abbrev pub AreShort : Ledger → Type 0
 AreShort k = (v : Moving) → k.moving ≡ Some v → v.count ≤ 8192
 
@@ -74,7 +74,7 @@ pub record IsJoined (n : ℕ) (commands : ℕ
   pub active : (c : Context) → (view_of n host.port).slots.context ≡ Some c → c.activated ≡ true
       → IsAskedBy c k
 
--- a FIS of the device comes
+-- a FIS of the device is received
 abbrev pub JoinsFrames : Type 0
 JoinsFrames =
     (host new : Host) (frame : List ℕ) (report : TakeReport) (commands : ℕ
@@ -84,14 +84,14 @@ JoinsFrames =
     → IsShort (seen frame) → IsJoined (port_of frame) commands host past k
     → IsJoined (port_of frame) commands new (told (seen frame) ++ past) (listens k (Sent frame))
 
--- what goes out fits the ledger, and joins it
+-- what is transmitted fits the ledger, and joins it
 pub record JoinsGiven (n : ℕ) (commands : ℕ
     → SlotCommand) (bytes : List ℕ) (e : event.Event) (past : History) (k : Ledger)
     (new : Host) : Type 0 where
   pub fits : Fits k (seen bytes)
   pub joined : IsJoined n commands new (e ∷ past) (listens k (Received bytes))
 
--- the queued command of a slot goes out, once the device signed
+-- the queued command of a slot is transmitted, once the device has signed
 abbrev pub JoinsCommands : Type 0
 JoinsCommands =
     (n slot : ℕ) (host new : Host) (frame : Stamped) (command : issued_command.Command) (f : List ℕ)
@@ -105,7 +105,7 @@ JoinsCommands =
     → IsJoined n commands host past k
     → JoinsGiven n commands frame.bytes (event.Sent slot) past k new
 
--- another command goes out, while no queued one is issued, once the device signed
+-- another command is transmitted, while no queued one is issued, once the device has signed
 abbrev pub JoinsOthers : Type 0
 JoinsOthers =
     (n slot : ℕ) (host new : Host) (frame : Stamped) (command : issued_command.Command) (f : List ℕ)
@@ -119,7 +119,7 @@ JoinsOthers =
     → IsJoined n commands host past k
     → JoinsGiven n commands frame.bytes (event.Sent slot) past k new
 
--- data of a write goes out, all that its DMA Setup names
+-- data of a write is transmitted, all that its DMA Setup names
 abbrev pub JoinsData : Type 0
 JoinsData =
     (n offset len : ℕ) (host new : Host) (frame : Stamped) (command : issued_command.Command)
@@ -131,12 +131,12 @@ JoinsData =
     (event.Carried
     (gathered (prds_of host.memory command) offset len host.memory.client)) past k new
 
--- the commands that are issued are counted by no more writes than have ended by now
+-- the issued commands are counted by no more writes than have ended by now
 abbrev pub AreCounted : (ℕ → Option issued_command.Command) → (ℕ → SlotCommand) → Ledger → Type 0
 AreCounted asks next k = (s : ℕ) → is_some (asks s) ≡ true → (next s).since ≤ length k.writes
 
--- Commands are issued for device n, each in its slot, of which the map names the command: what it
--- named for other slots stays.
+-- Commands are issued for device n, each in its slot. The map names their commands; what it named for other
+-- slots stays.
 abbrev pub JoinsIssues : Type 0
 JoinsIssues =
     (n value : ℕ) (host new : Host) (commands next : ℕ → SlotCommand) (past : History) (k : Ledger)
@@ -147,15 +147,15 @@ JoinsIssues =
     → IsJoined n commands host past k
     → IsJoined n next new (own n (touched host (Wrote Ci value)) ++ past) k
 
--- what happens at the port and leaves the view of device n, and is none of its events
+-- something happens at the port that leaves the view of device n and is none of its events
 abbrev pub StaysJoined : Type 0
 StaysJoined =
     (n : ℕ) (host new : Host) (commands : ℕ → SlotCommand) (past : History) (k : Ledger)
     → view_of n new.port ≡ view_of n host.port → IsJoined n commands host past k
     → IsJoined n commands new past k
 
--- A queued command that a report says is done, at a FIS that came next from the disk and was marked
--- with its port, was done honestly.
+-- A queued command was done honestly if a report says it is done, at a FIS that came next from the disk and
+-- was marked with its port.
 abbrev pub ReportsHonestly : Type 0
 ReportsHonestly =
     (plan : DiskPlan) (sectors : ℕ) (disk given : List Happening) (down up : List (List ℕ))

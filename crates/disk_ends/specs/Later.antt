@@ -1,6 +1,6 @@
--- A disk that is plugged in again: what a host does with it is told from that plugging on, as with a
--- new disk, and yet what is done is honest by all that the disk did, also before (ACS-3, READ FPDMA
--- QUEUED and WRITE FPDMA QUEUED; Serial ATA 3.x, 13.6, native command queuing).
+-- A disk that is plugged in again. What a host does with it is told from that plugging on, as with a new
+-- disk. Yet what is done is honest by all that the disk did, including before (ACS-3, READ FPDMA QUEUED and
+-- WRITE FPDMA QUEUED; Serial ATA 3.x, 13.6, native command queuing).
 use Rattle.std.specs.Prelude.{ℕ, ◌≡◌, ◌<◌, ◌+◌, ◌++◌, true, List, ◌∷◌, length, Some}
 use Rattle.fis_view.specs.Frames.{IsFrame, marked}
 use Rattle.slots.specs.Slots.{has_bit}
@@ -20,7 +20,7 @@ use Rattle.disk_ends.specs.Honest.{IsDoneHonestly}
 use Rattle.disk_ends.specs.Joined.{IsJoined}
 use Rattle.disk_ends.specs.Same.{SlotCommand}
 
--- What comes next to the host is right by what is told since the plugging.
+-- What the host receives next is right by what was told since the plugging.
 abbrev pub NextIsRightLater : Type 0
 NextIsRightLater =
     (plan : DiskPlan) (sectors : ℕ) (before disk given : List Happening)
@@ -28,12 +28,12 @@ NextIsRightLater =
     → IsSize plan sectors → IsDiskRun plan sectors (before ++ disk)
     → IsLinked disk given down (bytes ∷ up) → IsCareful given → IsNextRight given bytes
 
--- a command that is counted from so many writes on
+-- a command that is counted from this many writes on
 abbrev pub later_by : ℕ → SlotCommand → SlotCommand
 later_by writes c = record c { since = writes + c.since }
 
--- A queued command that a report says is done was done honestly by the whole history, behind all
--- writes of before.
+-- A queued command that a report says is done was done honestly by the whole history, after all earlier
+-- writes.
 abbrev pub ReportsHonestlyLater : Type 0
 ReportsHonestlyLater =
     (plan : DiskPlan) (sectors : ℕ) (before disk given : List Happening)

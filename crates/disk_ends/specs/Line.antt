@@ -1,7 +1,6 @@
--- The link of a disk that a host sets aside, up to the moment at which both begin anew: the host
--- reads the log of an error, or it resets the disk (Serial ATA 3.x, 13.6, native command queuing,
--- on errors, and software reset; ACS-3, READ LOG EXT). A FIS that goes down may be lost: then those
--- behind it come without it.
+-- The link of a disk that a host sets aside, up to the moment at which both begin anew: the host reads the
+-- log of an error, or resets the disk (Serial ATA 3.x, 13.6, native command queuing, on errors, and software
+-- reset; ACS-3, READ LOG EXT). A FIS that goes down can be lost. Then those behind it arrive without it.
 use Rattle.std.specs.Prelude.{ℕ, ◌≡◌, ◌≢◌, ◌<◌, ◌⊎◌, ◌++◌, true, false, List, [], ◌∷◌}
 use Rattle.fis_view.specs.Frames.{IsFrame, marked}
 use Rattle.fis_view.specs.Seen.{seen}
@@ -17,9 +16,9 @@ use Rattle.disk_model.specs.Ledger.{ShowsPage, Signs, Wanted, ledger}
 use Rattle.disk_model.specs.Runs.{IsDiskRun}
 use Rattle.disk_ends.specs.Watched.{ArePlain, IsErred, IsPlain, IsWatched}
 
--- ---- what is awaited, and what comes up
+-- ---- what is due, and what comes up
 
--- so it is with each of these answers
+-- the condition holds for each of these answers
 abbrev pub EachReply : (Reply → Type 0) → List Reply → Type 0
 EachReply P [] = Unit {0}
 EachReply P (reply ∷ later) = P reply × EachReply P later
@@ -31,7 +30,7 @@ IsNoSignature Finishes = Unit {0}
 IsNoSignature Refuses = Unit {0}
 IsNoSignature ShowsPage = Unit {0}
 
--- no signature is awaited
+-- no signature is due
 abbrev pub IsUnsigned : Ledger → Type 0
 IsUnsigned k = EachReply IsNoSignature k.awaited
 
@@ -42,15 +41,15 @@ NoneSigns (bytes ∷ later) = (signs (seen bytes) ≡ false) × NoneSigns later
 
 -- ---- the stages
 
--- how far the host is on its way to begin anew with the disk
+-- how far the host has got in beginning anew with the disk
 pub data Line : Type 0 where
-  -- the disk is in its error mode, and nothing but plain FISes is on its way to it
+  -- the disk is in its error mode, and only plain FISes are on their way to it
   Failed : Line
-  -- and READ LOG EXT comes behind them
+  -- and READ LOG EXT follows them
   Asked : Line
-  -- the disk does what it does, and nothing but plain FISes is on its way to it
+  -- the disk works on, and only plain FISes are on their way to it
   Loose : Line
-  -- and a FIS that sets SRST comes behind them
+  -- and a FIS that sets SRST follows them
   Held : Line
   -- and then one that clears it
   Both : Line
@@ -114,7 +113,7 @@ pub record IsReleasing (k : Ledger) (down up : List (List ℕ)) : Type 0 where
   pub clears : IsRequest off (asked.Reset false)
   pub quiet : NoneSigns up
 
--- The disk is as this ledger tells; the lists are on their way to it and to the host.
+-- The disk is as this ledger tells. The lists are on their way to it and to the host.
 abbrev pub OnLine : Line → Ledger → List (List ℕ) → List (List ℕ) → Type 0
 OnLine Failed k down up = IsFailed k down up
 OnLine Asked k down up = IsAsked k down up
@@ -131,8 +130,8 @@ pub record StandsAt (line : Line) (old new : Ledger) (down up : List (List ℕ))
   pub on : OnLine line new down up
   pub held : new.resetting ≡ old.resetting
 
--- Both begin anew: the disk owes these answers and pages and nothing else, and nothing is on its
--- way to it. What is on its way to the host is thrown away there, and no signature is among it.
+-- Both begin anew. The disk owes these answers and pages and nothing else, and nothing is on its way to it.
+-- What is on its way to the host is discarded there, and no signature is among it.
 pub record BothBegin (old new : Ledger) (replies : List Reply) (wanted : List Wanted)
     (down up : List (List ℕ)) : Type 0 where
   pub owes : OwesOnly new replies wanted
@@ -141,9 +140,9 @@ pub record BothBegin (old new : Ledger) (replies : List Reply) (wanted : List Wa
   -- SRST is as it was before, or clear
   pub held : (new.resetting ≡ old.resetting) ⊎ (new.resetting ≡ false)
 
--- One of those that went down came, and those ahead of it never come: the line stands where it
--- stood or at the next stage, or both begin anew. Where the FIS that sets SRST never comes, the one
--- that clears it does nothing at a disk at which SRST is clear: the line is loose again.
+-- One of the FISes on their way down arrived, and those ahead of it never arrive. The line stays at its stage
+-- or goes to the next, or both begin anew. If the FIS that sets SRST never arrives, the one that clears it
+-- has no effect at a disk whose SRST is clear: the line is loose again.
 abbrev pub ComesTo : Line → (old new : Ledger) → (back up : List (List ℕ)) → Type 0
 ComesTo Failed old new back up = StandsAt Failed old new back up
 ComesTo Asked old new back up =
@@ -157,7 +156,7 @@ ComesTo Both old new back up =
 ComesTo Resting old new back up = ⊥
 ComesTo Releasing old new back up = BothBegin old new (Signs ∷ []) [] back up
 
--- the disk does not rest, so it may send
+-- the disk does not rest, so it can send
 abbrev pub Speaks : Line → Type 0
 Speaks Failed = ⊥
 Speaks Asked = ⊥
@@ -167,7 +166,7 @@ Speaks Both = Unit {0}
 Speaks Resting = ⊥
 Speaks Releasing = ⊥
 
--- what it sent before may still come up
+-- what it sent before can still come up
 abbrev pub HasSpoken : Line → Type 0
 HasSpoken Failed = ⊥
 HasSpoken Asked = ⊥
@@ -177,22 +176,22 @@ HasSpoken Both = Unit {0}
 HasSpoken Resting = Unit {0}
 HasSpoken Releasing = Unit {0}
 
--- a FIS that a disk sent goes up, and is no signature
+-- a FIS that a disk sent goes up, and is not a signature
 pub record GoesUp (line : Line) (old new : Ledger) (down up : List (List ℕ)) (bytes : List ℕ)
     : Type 0 where
   pub speaks : Speaks line
   pub unsigned : signs (seen bytes) ≡ false
   pub stands : StandsAt line old new down (up ++ bytes ∷ [])
 
--- a FIS comes to the host, and is no signature
+-- the host receives a FIS that is not a signature
 pub record IsTaken (line : Line) (k : Ledger) (down up : List (List ℕ)) (bytes : List ℕ)
     : Type 0 where
   pub spoken : HasSpoken line
   pub unsigned : signs (seen bytes) ≡ false
   pub on : OnLine line k down up
 
--- The line goes on at each FIS that the host gives to begin anew, and at each happening at either
--- end: what comes down comes in its order, or SRST is clear where a FIS ahead of it is lost.
+-- The line goes on at each FIS that the host gives to begin anew, and at each happening at either end. What
+-- goes down arrives in order, or SRST is clear where a FIS ahead of it is lost.
 pub record LinesGoOn : Type 0 where
   pub asks : (k : Ledger) (down up : List (List ℕ)) (bytes : List ℕ)
       → IsRequest bytes asked.ReadErrorLog → OnLine Failed k down up
@@ -221,7 +220,7 @@ pub record LinesGoOn : Type 0 where
 
 -- ---- where the line begins
 
--- both began anew with a signature alone to come, or with none
+-- both began anew with only a signature to come, or with none to come
 pub data IsSigning (k : Ledger) : Type 0 where
   ToSign : OwesOnly k (Signs ∷ []) [] → IsSigning k
   Unsigned : IsUnsigned k → IsSigning k
@@ -235,10 +234,10 @@ pub record IsWatchedWell (plan : DiskPlan) (sectors : ℕ) (base disk given : Li
   pub careful : IsCarefulSince base given
   pub watched : IsWatched base disk given down [] up
 
--- A host that sets aside a disk of which it awaits no signature any more has a loose line to it. It
--- awaits none where it does not await one alone, and as soon as it took one FIS of the disk since
--- both began anew. So at whatever FIS it sets the disk aside, the disk failed, and that FIS reports
--- it, or the line is loose.
+-- A host that sets aside a disk, and waits for no signature of it any more, has a loose line to it. It waits
+-- for none if it did not wait for a signature only, and once it took one FIS of the disk since both began
+-- anew. So whatever the FIS at which it sets the disk aside, either the disk failed and that FIS reports it,
+-- or the line is loose.
 pub record LinesBegin : Type 0 where
   pub loosens : (plan : DiskPlan) (sectors : ℕ) (base disk given : List Happening)
       (down up : List (List ℕ)) → IsWatchedWell plan sectors base disk given down up
@@ -259,7 +258,7 @@ pub record LinesBegin : Type 0 where
       → ((reports (seen bytes) ≡ true) × OnLine Failed (ledger disk) down up)
       ⊎ ((reports (seen bytes) ≡ false) × OnLine Loose (ledger disk) down up)
 
--- SRST is clear at a disk that is plugged in for the first time, and plugging leaves it.
+-- SRST is clear at a disk that is plugged in for the first time, and plugging leaves it as it is.
 pub record PluggingLeavesReset : Type 0 where
   pub first : (ledger (Plugged ∷ [])).resetting ≡ false
   pub again : (before : List Happening)
@@ -267,7 +266,7 @@ pub record PluggingLeavesReset : Type 0 where
 
 -- ---- PM Ports
 
--- the frame with its PM Port written signs, asks and reports what it did without
+-- with its PM Port written, the frame signs, asks and reports what it did before
 pub record IsAskedAlike (old new : List ℕ) : Type 0 where
   pub signature : signs (seen new) ≡ signs (seen old)
   pub error : reports (seen new) ≡ reports (seen old)

@@ -1,5 +1,5 @@
--- What a FIS tells does not depend on its PM Port, which a port multiplier alone writes (Serial ATA
--- 3.x, 10.5 and chapter 16): the ledger hears the same of a frame and of the marked one.
+-- What a FIS tells does not depend on its PM Port, which only a port multiplier writes (Serial ATA 3.x, 10.5
+-- and chapter 16): the ledger hears the same of a frame and of the marked one.
 use Rattle.std.specs.Prelude.{ℕ, ◌≡◌, ◌<◌, List}
 use Rattle.fis_view.specs.Frames.{IsFrame, marked}
 use Rattle.fis_view.specs.Seen.{seen}

@@ -1,8 +1,8 @@
--- What becomes of a host and of a disk that it watches at each FIS that comes from the disk and is
--- not ignored, whatever the port finds wrong with it (AHCI 1.3.1, 5.3.13, how a port takes FISes,
--- and 9.3; Serial ATA 3.x, 13.6, native command queuing, on errors): it watches the disk on; or it
--- sets the disk aside, which failed and rests; or it sets the disk aside, which goes on, and then
--- Status.ERR of its task file is 0.
+-- What becomes of a host and of a disk that it watches, at each FIS from the disk that is not ignored,
+-- whatever fault the port finds in it (AHCI 1.3.1, 5.3.13, how a port receives FISes, and 9.3; Serial ATA
+-- 3.x, 13.6, native command queuing, on errors). There are three outcomes. The host goes on watching the
+-- disk. Or it sets the disk aside, and the disk failed and rests. Or it sets the disk aside, the disk goes
+-- on, and Status.ERR of its task file is 0.
 use Rattle.std.specs.Prelude.{ℕ, ◌≡◌, ◌<◌, ◌⊎◌, ◌++◌, false, List, [], ◌∷◌, None}
 use Rattle.fis_view.specs.Frames.{IsFrame, marked}
 use Rattle.fis_view.specs.Seen.{seen}
@@ -26,12 +26,11 @@ use Rattle.disk_ends.specs.Line.{Failed, IsWatchedWell, Loose, OnLine}
 use Rattle.disk_ends.specs.Phases.{AreWatching}
 use Rattle.disk_ends.specs.Same.{SlotCommand}
 
--- The host heard nothing of the disk since both began anew, or the disk's task file is without an
--- error.
+-- The host heard nothing of the disk since both began anew, or the disk's task file has no error.
 abbrev pub HasFineFile : ℕ → Host → (base given : List Happening) → Type 0
 HasFineFile n host base given = (given ≡ base) ⊎ IsFineFile (view_of n host.port)
 
--- a FIS comes next from a disk that is watched, and the port does not ignore it
+-- a FIS comes next from a watched disk, and the port does not ignore it
 pub record IsNextTaken (plan : DiskPlan) (sectors : ℕ) (base disk given : List Happening)
     (down up : List (List ℕ)) (bytes : List ℕ) (n : ℕ) (host : Host) (report : TakeReport)
     (new : Host) (commands : ℕ → SlotCommand) (past : History) : Type 0 where
@@ -56,7 +55,7 @@ pub data Outcome (n : ℕ) (base disk given : List Happening) (down up : List (L
   Loosens : IsAside n new past → OnLine Loose (ledger disk) down up
       → HasFineFile n new base given → Outcome n base disk given down up bytes new commands past
 
--- These are all, where the FIS does not stop the port.
+-- There are no other outcomes, if the FIS does not stop the port.
 abbrev pub EachTakenHasOutcome : Type 0
 EachTakenHasOutcome =
     (plan : DiskPlan) (sectors : ℕ) (base disk given : List Happening)
@@ -67,7 +66,7 @@ EachTakenHasOutcome =
     → Outcome n base disk given down up bytes new commands
     (own n (touched host (Took (marked bytes n) report)) ++ past)
 
--- A careful host gives nothing as long as an answer is all that is to come.
+-- A careful host gives nothing while only an answer is to come.
 abbrev pub NothingIsGiven : Type 0
 NothingIsGiven =
     (k : Ledger) (reply : Reply) (wanted : List Wanted) (bytes : List ℕ)

@@ -1,7 +1,7 @@
--- How a host stands to a disk, whatever goes wrong with it: both are together from where they
--- began anew up to the error that the host takes, and apart from its first fault on, until they
--- begin anew (AHCI 1.3.1, 6.2.2, error recovery, and 9.3; Serial ATA 3.x, 13.6, native command queuing). In
--- each phase what the port says is done was done honestly.
+-- How a host stands to a disk, whatever goes wrong with it. Both are together from where they began anew up
+-- to the error that the host takes. They are apart from its first fault until they begin anew (AHCI 1.3.1,
+-- 6.2.2, error recovery, and 9.3; Serial ATA 3.x, 13.6, native command queuing). In each phase, what the port
+-- says is done was done honestly.
 use Rattle.std.specs.Prelude.{ℕ, ◌≡◌, ◌<◌, ◌⊎◌, ◌++◌, true, false, List, [], ◌∷◌}
 use Rattle.std.specs.Prelude.{None, Some}
 use Rattle.fis_view.specs.Frames.{IsFrame, marked}
@@ -26,8 +26,8 @@ use Rattle.disk_ends.specs.Honest.{IsDoneHonestly}
 use Rattle.disk_ends.specs.Watched.{IsWatched}
 use Rattle.disk_ends.specs.Same.{SlotCommand}
 
--- The disk did all this, and these bytes come next from it; the host heard and gave that, its slots
--- have these commands, and this is the history of the device's events at its port.
+-- The disk did all this, and these bytes come next from it. The host heard and gave that, its slots have
+-- these commands, and this is the history of the device's events at its port.
 pub data Stands (n : ℕ) (host : Host) (disk given : List Happening) (commands : ℕ → SlotCommand)
     (past : History) (bytes : List ℕ) : Type 0 where
   Together : (base : List Happening) (down up : List (List ℕ))
@@ -36,8 +36,8 @@ pub data Stands (n : ℕ) (host : Host) (disk given : List Happening) (commands 
       → Stands n host disk given commands past bytes
   Apart : IsAside n host past → Stands n host disk given commands past bytes
 
--- A queued command that a report says is done was done honestly, in each phase and whatever else
--- the report says.
+-- A queued command that a report says is done was done honestly, in each phase, whatever else the report
+-- says.
 abbrev pub EachDoneIsHonest : Type 0
 EachDoneIsHonest =
     (plan : DiskPlan) (sectors : ℕ) (disk given : List Happening) (bytes : List ℕ)
@@ -55,9 +55,8 @@ pub record AreTogether (n : ℕ) (base disk given : List Happening) (down up : L
   pub followed : IsFollowed base disk given down [] up
   pub hosted : IsHostedOn n base host given commands past
 
--- Whatever comes next from a disk and is not ignored, both are still together, or the device is
--- set aside: that it is right and short, and that nothing is wrong with it, is not for the caller to
--- show.
+-- At whatever comes next from a disk and is not ignored, both are still together or the device is set aside.
+-- The caller need not show that it is right and short, or that the port finds no fault in it.
 abbrev pub TakesInEachPhase : Type 0
 TakesInEachPhase =
     (plan : DiskPlan) (sectors : ℕ) (base disk given : List Happening)
@@ -72,8 +71,8 @@ TakesInEachPhase =
     (own n (touched host (Took (marked bytes n) report)) ++ past)
     ⊎ IsAside n new (own n (touched host (Took (marked bytes n) report)) ++ past)
 
--- What is none of the device's, or issues commands for it, leaves both together, with what it is to
--- the device's history.
+-- What does not concern the device, or issues commands for it, leaves both together, with what it is in the
+-- device's history.
 abbrev pub CalmLeavesTogether : Type 0
 CalmLeavesTogether =
     (n : ℕ) (base : List Happening) (host new : Host) (event : HostEvent) (given : List Happening)
@@ -87,7 +86,7 @@ pub record AreWatching (n : ℕ) (base disk given : List Happening) (down up : L
   pub watched : IsWatched base disk given down [] up
   pub hosted : IsHostedOn n base host given commands past
 
--- So it is with each FIS of which the port reports nothing wrong, and which it does not ignore.
+-- This holds for each FIS that the port does not ignore and finds no fault in.
 abbrev pub WatchesWhatIsFine : Type 0
 WatchesWhatIsFine =
     (plan : DiskPlan) (sectors : ℕ) (base disk given : List Happening)

@@ -1,7 +1,7 @@
--- What the ledger of a disk's FISes, as the host's end of the link tells it, and the history of the
--- device's events at the host's port say of one queued command: where it stands, and that each byte
--- which is filled is the byte that the ledger has there (Serial ATA 3.x, 13.6, native command
--- queuing; AHCI 1.3.1, 5.3 and 9.3). No FIS is on its way between the two.
+-- What two views say of one queued command: the ledger of a disk's FISes, as the host's end of the link tells
+-- it, and the history of the device's events at the host port. They say where the command stands, and that
+-- each filled byte is the byte that the ledger has there (Serial ATA 3.x, 13.6, native command queuing; AHCI
+-- 1.3.1, 5.3 and 9.3). No FIS is in transit between the two.
 use Rattle.std.specs.Prelude.{ℕ, ◌≡◌, ◌+◌, ◌*◌, ◌==◌, ◌≤◌, ◌⊎◌, Bool, true, false, List, ◌∷◌, ◌++◌}
 use Rattle.std.specs.Prelude.{length, slice_get, find, Option, Some, None}
 use Rattle.std.specs.List.{list_any}
@@ -14,16 +14,16 @@ use Rattle.disk_model.specs.Ledger.{Ledger, Moving, ReadOut, Written, asks, star
 use Rattle.hba_laws.specs.History.{Carried, History, Issued, Sent, SetUp, Setup, Transfer, carried}
 use Rattle.hba_laws.specs.History.{filled, is_at, is_set_up, last_setup, none_filled, waiting_in}
 
--- each filled byte is the one that stands in these bytes
+-- each filled byte is the one at its place in these bytes
 abbrev pub Stand : (ℕ → Option ℕ) → List ℕ → Type 0
 Stand filled bytes = (i b : ℕ) → filled i ≡ Some b → slice_get bytes i ≡ Some b
 
--- where data moves, it is not that of the slot
+-- if data moves, it is not that of the slot
 abbrev pub Unset : Option Moving → Bool → Type 0
 Unset None set_up = Unit {0}
 Unset (Some v) set_up = set_up ≡ false
 
--- the tag stands among these once
+-- the tag is once among these
 pub record StandsOnce (s : ℕ) (tags : List ℕ) : Type 0 where
   pub ahead : List ℕ
   pub behind : List ℕ
@@ -41,7 +41,7 @@ pub record IsEndedBy (s : ℕ) (set_up : Bool) (k : Ledger) : Type 0 where
 abbrev pub IsEnded : ℕ → History → Ledger → Type 0
 IsEnded s past k = IsEndedBy s (is_set_up s past) k
 
--- a read that ended is that of the command, and has as many bytes as that asks for
+-- a read that ended is that of the command, and has as many bytes as the command asks for
 pub record IsReadOf (c : Command) (r : ReadOut) : Type 0 where
   pub command : r.command ≡ c
   pub reads : c.write ≡ false
@@ -61,8 +61,8 @@ pub record IsLastOf (v : Moving) (past : History) : Type 0 where
   pub offset : setup.offset ≡ v.offset
   pub count : setup.count ≡ v.count
 
--- The data of slot s moves: it was answered, its DMA Setup was the last one, and nothing came
--- since, or all of it moved.
+-- The data of slot s moves: its command was answered, its DMA Setup was the last one, and nothing was
+-- transferred since, or all of it was.
 pub record IsMovingAt (s : ℕ) (v : Moving) (past : History) : Type 0 where
   pub long : length v.bytes ≡ 512 * v.command.count
   pub quiet : is_at s (waiting_in past) ≡ false
@@ -73,7 +73,7 @@ pub record IsMovingAt (s : ℕ) (v : Moving) (past : History) : Type 0 where
   pub asked : v.active ≡ true → v.moved + v.count ≡ bytes_named v.setups
   pub stands : Stand (filled s past) v.bytes
 
--- the queued command of a slot, and how many writes had ended, by the FISes, when it was issued
+-- the queued command of a slot, and how many writes, by the FISes, had ended when it was issued
 pub record SlotCommand : Type 0 where
   pub command : Command
   pub since : ℕ
@@ -83,9 +83,9 @@ pub record IsMovingSince (since : ℕ) (v : Moving) (k : Ledger) : Type 0 where
   pub before : since ≤ length v.before
   pub now : since ≤ length k.writes
 
--- A queued command c that is issued in slot s, by what the FISes tell: it was not sent, it is
--- outstanding, its data moves, or it ended. A read that ended had all writes before it that had
--- ended when it was issued, and a write was entered behind them.
+-- A queued command c that is issued in slot s, by what the FISes tell: it was not sent, it is outstanding,
+-- its data moves, or it ended. A read that ended had before it all writes that had ended when it was issued.
+-- A write that ended was entered after them.
 pub data InLife (s : ℕ) (c : SlotCommand) (past : History) (k : Ledger) : Type 0 where
   Unsent : IsFree k s → is_at s (waiting_in past) ≡ false → is_set_up s past ≡ false
       → filled s past ≡ none_filled → c.since ≤ length k.writes → InLife s c past k
@@ -103,9 +103,9 @@ pub data InLife (s : ℕ) (c : SlotCommand) (past : History) (k : Ledger) : Type
       → slice_get k.writes at ≡ Some w → IsWriteOf s c.command w
       → Stand (filled s past) w.bytes → c.since ≤ at → InLife s c past k
 
--- ---- the laws, a kind of event each
+-- ---- the laws, one for each kind of event
 
--- a command is issued in the slot, whose tag is free; and issued in another slot
+-- a command is issued in the slot, whose tag is free; or issued in another slot
 pub record IssuesKeep : Type 0 where
   pub own : (s : ℕ) (c : SlotCommand) (t : Transfer) (past : History) (k : Ledger) → IsFree k s
       → c.since ≤ length k.writes → InLife s c (Issued s t ∷ past) k
@@ -113,7 +113,7 @@ pub record IssuesKeep : Type 0 where
       → (slot == s) ≡ false
       → InLife s c past k → InLife s c (Issued slot t ∷ past) k
 
--- the command of the slot goes out, where its tag is free, and that of another slot
+-- the command of the slot is transmitted while its tag is free, or that of another slot is
 pub record CommandsKeep : Type 0 where
   pub own : (s : ℕ) (c : SlotCommand) (past : History) (k : Ledger) → c.command.tag ≡ s
       → k.failed ≡ false → IsFree k s
@@ -123,8 +123,8 @@ pub record CommandsKeep : Type 0 where
       → IsFree k other.tag → InLife s c past k
       → InLife s c (Sent other.tag ∷ past) (asks k (Queue other) k.failed)
 
--- the first DMA Setup of an outstanding command, which was answered: where it is the slot's, its
--- data moves
+-- the first DMA Setup of an outstanding command that was answered: if the command is the slot's, its data
+-- moves
 abbrev pub SetupsStart : Type 0
 SetupsStart = (s tag offset count : ℕ) (to_host : Bool) (c : SlotCommand) (q : Command)
     (past : History) (k : Ledger) → k.moving ≡ None
@@ -132,8 +132,8 @@ SetupsStart = (s tag offset count : ℕ) (to_host : Bool) (c : SlotCommand) (q :
     → offset + count ≤ 512 * q.count → InLife s c past k
     → InLife s c (SetUp tag offset count to_host ∷ past) (starts_moving k offset count (Some q))
 
--- Data of the command that moves, no more of it than its DMA Setup named: where it is the slot's,
--- each byte that it fills is the one that is put there
+-- Data of the command whose data moves, no more than its DMA Setup named: if the command is the slot's, each
+-- byte that it fills is the one that is put there
 abbrev pub DataFills : Type 0
 DataFills = (s : ℕ) (v : Moving) (bytes : List ℕ) (past : History) → IsMovingAt s v past
     → length bytes ≡ v.count

@@ -1,5 +1,5 @@
--- What further DMA Setups, a DMA Activate and Data of the command whose data moves leave of each
--- queued command (Serial ATA 3.x, 10.5, FIS types, and 13.6, native command queuing).
+-- What three further FISes of the command whose data moves leave of each queued command: a DMA Setup, a DMA
+-- Activate and Data (Serial ATA 3.x, 10.5, FIS types, and 13.6, native command queuing).
 use Rattle.std.specs.Prelude.{ℕ, ◌≡◌, ◌+◌, ◌*◌, ◌≤◌, Bool, List, ◌∷◌, Some}
 use Rattle.disk_model.specs.Ends.{IsAskedFor}
 use Rattle.disk_model.specs.Laws.{CarriesNext, bytes_named}
@@ -7,7 +7,7 @@ use Rattle.disk_model.specs.Ledger.{Ledger, Moving, activates, sends_data, sets_
 use Rattle.hba_laws.specs.History.{Carried, History, SetUp}
 use Rattle.disk_ends.specs.Same.{InLife, SlotCommand}
 
--- a further DMA Setup of the command whose data moves, for bytes of it
+-- another DMA Setup of the command whose data moves, for more of its bytes
 abbrev pub SetupsGoOn : Type 0
 SetupsGoOn = (s offset count : ℕ) (to_host : Bool) (c : SlotCommand) (v : Moving) (past : History)
     (k : Ledger) → k.moving ≡ Some v
@@ -15,16 +15,16 @@ SetupsGoOn = (s offset count : ℕ) (to_host : Bool) (c : SlotCommand) (v : Movi
     → InLife s c (SetUp v.command.tag offset count to_host ∷ past)
     (sets_up k k.moving v.command.tag offset count)
 
--- a DMA Activate, where the bytes that the last DMA Setup names are still to come: the host's
--- history says nothing of it
+-- a DMA Activate, while the bytes that the last DMA Setup names are still to come: it is no event of the
+-- host's history
 abbrev pub ActivatesKeep : Type 0
 ActivatesKeep = (s : ℕ) (c : SlotCommand) (v : Moving) (past : History) (k : Ledger) → k.moving ≡ Some v
     → c.command.tag ≡ s
     → v.moved + v.count ≡ bytes_named v.setups → InLife s c past k
     → InLife s c past (activates k k.moving)
 
--- Data of a read, as long as its DMA Setup says: the command goes on, or it ends with just the
--- bytes that the host has
+-- Data of a read, as long as its DMA Setup says: the command goes on, or ends with exactly the bytes that the
+-- host has
 abbrev pub DataUp : Type 0
 DataUp = (s : ℕ) (c : SlotCommand) (v : Moving) (bytes : List ℕ) (past : History) (k : Ledger)
     → k.moving ≡ Some v → c.command.tag ≡ s

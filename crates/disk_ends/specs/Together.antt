@@ -1,8 +1,7 @@
--- The two views of a disk that a host has, over each event: the ledger of the FISes at its end of
--- the link, and the history of the device's events at its port, go on to say the same of each slot
--- (Serial ATA 3.x, 13.6, native command queuing; AHCI 1.3.1, 5.3 and 9.3). It is so from the moment
--- that the disk is plugged in, as long as the port refuses no FIS, empties no slot and resets no
--- device.
+-- The two views that a host has of a disk, over each event. The ledger of the FISes at its end of the link
+-- and the history of the device's events at its port still say the same of each slot (Serial ATA 3.x, 13.6,
+-- native command queuing; AHCI 1.3.1, 5.3 and 9.3). This holds from the moment that the disk is plugged in,
+-- as long as the port refuses no FIS, empties no slot and resets no device.
 use Rattle.std.specs.Prelude.{ℕ, ◌≡◌, ◌≢◌, ◌≤◌, ◌==◌, length, if◌then◌else◌, Bool, true, false, List, [], ◌∷◌}
 use Rattle.std.specs.Prelude.{◌++◌, drop}
 use Rattle.std.specs.Prelude.{Option, Some, None, Result, Ok}
@@ -37,7 +36,7 @@ AtMostOne [] = Unit {0}
 AtMostOne (page ∷ []) = Unit {0}
 AtMostOne (page ∷ another ∷ later) = ⊥
 
--- the command that went out last is issued, and was not answered; it is a queued one, or not
+-- the command that was transmitted last is issued and was not answered; it is queued or not, as said
 pub record IsWaited (queued : Bool) (past : History) : Type 0 where
   pub slot : ℕ
   pub transfer : Transfer
@@ -50,8 +49,8 @@ pub record IsWaitedUnset (past : History) : Type 0 where
   pub waited : IsWaited false past
   pub unset : is_set_up waited.slot past ≡ false
 
--- an answer that comes in a Register FIS, and not to a queued command: the signature of a device
--- that was plugged in answers none
+-- an answer in a Register FIS, and not to a queued command; the signature of a device that was plugged in
+-- answers no command
 abbrev pub IsOwnReply : Reply → History → Type 0
 IsOwnReply Signs past = Unit {0}
 IsOwnReply Accepts past = ⊥
@@ -59,14 +58,13 @@ IsOwnReply Finishes past = IsWaited false past
 IsOwnReply Refuses past = IsWaited false past
 IsOwnReply ShowsPage past = ⊥
 
--- no command that is issued waits for its answer
+-- no issued command waits for its answer
 abbrev pub NothingWaits : History → Type 0
 NothingWaits past = (s : ℕ) (t : Transfer) → issued s past ≡ Some t
     → is_at s (waiting_in past) ≡ false
 
--- Nothing is to be answered but a queued command; or there are no queued commands, and an answer of
--- another kind is to come, a PIO Setup, or the page that it announced. The command of which it is
--- waits at the port.
+-- Only a queued command is to be answered. Or there are no queued commands, and an answer of another kind is
+-- to come, a PIO Setup, or the page that it announced; the command it belongs to waits at the port.
 pub data InTalk (past : History) (k : Ledger) : Type 0 where
   Queues : AtMostAccepts k.awaited → (k.awaited ≢ [] → IsWaited true past) → k.pages ≡ []
       → InTalk past k
@@ -79,7 +77,7 @@ pub data InTalk (past : History) (k : Ledger) : Type 0 where
 
 -- ---- both views
 
--- whether the command of s went out since its issue
+-- whether the command of s was transmitted since its issue
 abbrev pub is_sent : ℕ → History → Bool
 is_sent s [] = false
 is_sent s (Issued slot t ∷ past) = if slot == s then false else is_sent s past
@@ -91,13 +89,13 @@ abbrev pub NoneQueued : Option Transfer → Type 0
 NoneQueued None = Unit {0}
 NoneQueued (Some t) = is_queued t.work.kind ≡ false
 
--- no answer is awaited for what is issued there, and no setup is for it
+-- no answer is due to what is issued there, and no setup is for it
 pub record IsUntouched (s : ℕ) (past : History) : Type 0 where
   pub quiet : is_at s (waiting_in past) ≡ false
   pub unset : is_set_up s past ≡ false
 
--- A queued command that is issued stands in the ledger as its events say, and its tag is its slot's
--- number. The tag of a slot without one, or whose command was not sent, is free.
+-- An issued queued command stands in the ledger as its events say, and its tag is the number of its slot. A
+-- slot without one, or whose command was not sent, has a free tag.
 pub record Same (commands : ℕ → SlotCommand) (past : History) (k : Ledger) : Type 0 where
   pub fine : k.failed ≡ false
   pub tags : (s : ℕ) → (commands s).command.tag ≡ s
@@ -111,11 +109,11 @@ pub record Same (commands : ℕ → SlotCommand) (past : History) (k : Ledger) :
 
 -- ---- the events
 
--- the command of one slot is this, those of the others are what they were
+-- one slot has this command; the others keep theirs
 abbrev pub with_command : (ℕ → SlotCommand) → ℕ → SlotCommand → ℕ → SlotCommand
 with_command commands slot c s = if slot == s then c else commands s
 
--- what a FIS that comes up is to the device's history, where the port refuses nothing of it
+-- what a FIS that comes up is in the device's history, if the port refuses nothing of it
 abbrev pub told : Result Fis FisFault → History
 told (Ok (view.DmaSetup f)) =
     SetUp (field Setup BufferId f) (field Setup Offset f) (field Setup table.Count f)
@@ -127,8 +125,8 @@ told (Ok (view.SetBits f)) = Named (field Bits SActive f) ∷ []
 told (Ok (view.RegD2H f)) = Answered ∷ []
 told _ = []
 
--- The port refuses nothing of the FIS: a Set Device Bits FIS completes each queued command that it
--- names, and the command of a DMA Setup was answered.
+-- The port refuses nothing of the FIS. A Set Device Bits FIS completes each queued command that it names. The
+-- command of a DMA Setup was answered.
 abbrev pub IsHeard : History → Result Fis FisFault → Type 0
 IsHeard past (Ok (view.DmaSetup f)) = is_at (field Setup BufferId f) (waiting_in past) ≡ false
 IsHeard past (Ok (view.SetBits f)) = (s : ℕ) (t : Transfer) → issued s past ≡ Some t
@@ -137,23 +135,22 @@ IsHeard past (Ok (view.SetBits f)) = (s : ℕ) (t : Transfer) → issued s past 
     → completes s (Named (field Bits SActive f)) past t.work ≡ true
 IsHeard past _ = Unit {0}
 
--- the queued command of a slot goes out
+-- the queued command of a slot is transmitted
 pub record QueuesOne (commands : ℕ
     → SlotCommand) (slot : ℕ) (past : History) (k : Ledger) : Type 0 where
   -- it fits the ledger
   pub fits : FitsRequest k (Queue (commands slot).command)
   pub same : Same commands (Sent slot ∷ past) (asks k (Queue (commands slot).command) k.failed)
 
--- another command of a slot goes out
+-- another command of a slot is transmitted
 pub record AsksOne (commands : ℕ
     → SlotCommand) (slot : ℕ) (request : Request) (past : History) (k : Ledger) : Type 0 where
   pub fits : FitsRequest k request
   pub same : Same commands (Sent slot ∷ past) (asks k request k.failed)
 
--- Both views say the same from where nothing is issued or outstanding, and go on to do so at each
--- event.
+-- Both views say the same where nothing is issued or outstanding, and still do at each event.
 pub record SameGoesOn : Type 0 where
-  -- the device is to sign, after it was plugged in or reset, and nothing is issued
+  -- the device must sign, after it was plugged in or reset, and nothing is issued
   pub opens : (commands : ℕ → SlotCommand) (past : History) (k : Ledger)
       → ((s : ℕ) → (commands s).command.tag ≡ s)
       → ((s : ℕ) → issued s past ≡ None) → k.failed ≡ false → IsIdle k → k.awaited ≡ Signs ∷ []
@@ -165,13 +162,13 @@ pub record SameGoesOn : Type 0 where
       → issued slot past ≡ None → c.command.tag ≡ slot → c.since ≤ length k.writes
       → Same commands past k
       → Same (with_command commands slot c) (Issued slot t ∷ past) k
-  -- a queued command goes out for the first time, once the device signed and while no other waits
+  -- a queued command is transmitted for the first time, once the device has signed and while no other waits
   -- for its answer
   pub queues : (commands : ℕ → SlotCommand) (slot : ℕ) (t : Transfer) (past : History) (k : Ledger)
       → issued slot past ≡ Some t → is_queued t.work.kind ≡ true → is_sent slot past ≡ false
       → k.awaited ≢ Signs ∷ []
       → NothingWaits past → Same commands past k → QueuesOne commands slot past k
-  -- another command goes out, while no queued one is issued, after the device signed and while none
+  -- another command is transmitted, while no queued one is issued, once the device has signed and while none
   -- waits for its answer
   pub asks_other : (commands : ℕ
       → SlotCommand) (slot : ℕ) (t : Transfer) (request : Request) (past : History) (k : Ledger)
@@ -180,12 +177,12 @@ pub record SameGoesOn : Type 0 where
       → ((s : ℕ) → NoneQueued (issued s past)) → k.awaited ≢ Signs ∷ [] → NothingWaits past
       → Same commands past k
       → AsksOne commands slot request past k
-  -- a FIS of the disk comes
+  -- a FIS of the disk is received
   pub takes : (commands : ℕ → SlotCommand) (fis : Result Fis FisFault) (past : History) (k : Ledger)
       → IsRight k fis
       → IsHeard past fis → Same commands past k
       → Same commands (told fis ++ past) (listens_up k fis)
-  -- Data goes out that was asked for
+  -- Data that was asked for is transmitted
   pub gives : (commands : ℕ → SlotCommand) (bytes : List ℕ) (past : History) (k : Ledger)
       → FitsData k.moving bytes
       → Same commands past k → Same commands (Carried bytes ∷ past) (takes_data k k.moving bytes)

@@ -1,7 +1,7 @@
--- A disk that a host watches: it gives the disk nothing but commands and Data, and follows it up to
--- the error that the disk reports. That error is the last that comes up, and from then on the disk
--- is in its error mode and rests, until its log is read or it is reset (Serial ATA 3.x, 13.6,
--- native command queuing, on errors; ACS-3, READ LOG EXT and the NCQ Command Error log).
+-- A disk that a host watches. The host gives it nothing but commands and Data, and follows it up to the error
+-- that the disk reports. That error comes up last. From then on the disk is in its error mode and rests,
+-- until its log is read or it is reset (Serial ATA 3.x, 13.6, native command queuing, on errors; ACS-3, READ
+-- LOG EXT and the NCQ Command Error log).
 use Rattle.std.specs.Prelude.{ℕ, ◌≡◌, ◌≤◌, ◌⊎◌, ◌++◌, true, false, List, [], ◌∷◌, length, Result, Ok}
 use Rattle.fis_view.specs.Seen.{seen}
 use Rattle.fis_view.specs.declared.view.Fis.{Fis}
@@ -20,7 +20,7 @@ use Rattle.disk_ends.specs.Followed.{IsFollowed}
 
 -- ---- what a host gives a disk while it watches it
 
--- a queued command, IDENTIFY DEVICE or FLUSH: no reset, not the log, and none that a disk refuses
+-- a queued command, IDENTIFY DEVICE or FLUSH: not a reset, not the log, and no command that a disk refuses
 abbrev pub IsPlainRequest : Request → Type 0
 IsPlainRequest (asked.Reset on) = ⊥
 IsPlainRequest (asked.Queue c) = Unit {0}
@@ -60,12 +60,12 @@ pub record IsErred (k : Ledger) : Type 0 where
   -- and SRST does not hold it in a reset
   pub awake : k.in_reset ≡ false
 
--- it is so since an error, and no write ended
+-- so it has been since an error, and no write ended
 pub record IsErredSince (followed disk : List Happening) : Type 0 where
   pub now : IsErred (ledger disk)
   pub writes : (ledger disk).writes ≡ (ledger followed).writes
 
--- no error was reported; or one was, which comes up last, and the disk is in its error mode since
+-- no error was reported, or one was, which comes up last; the disk has been in its error mode since
 pub data IsWatchedTo (base disk host : List Happening) (down stale up : List (List ℕ))
     : Type 0 where
   Fine : IsLinkedOn base disk host down stale up → IsWatchedTo base disk host down stale up
@@ -74,8 +74,8 @@ pub data IsWatchedTo (base disk host : List Happening) (down stale up : List (Li
       → reports (seen error) ≡ true → IsLinkedOn base followed host below stale before
       → IsErredSince followed disk → IsWatchedTo base disk host down stale up
 
--- At the disk's end the first list happened since the base, at the host's end the second. The third
--- is on its way to the disk; the fourth the disk sent before both began anew, and the fifth since.
+-- The first list happened at the disk's end since the base, the second at the host's end. The third is on its
+-- way to the disk. The disk sent the fourth before both began anew, and the fifth since.
 pub record IsWatched (base disk host : List Happening) (down stale up : List (List ℕ))
     : Type 0 where
   pub to_error : IsWatchedTo base disk host down stale up
@@ -84,7 +84,7 @@ pub record IsWatched (base disk host : List Happening) (down stale up : List (Li
   -- SRST is as it was where both began
   pub held : (ledger disk).resetting ≡ (ledger base).resetting
 
--- what comes to the host next is the error of the disk, and the last that comes
+-- the host receives next the error of the disk, and nothing after it
 pub record IsLastError (base disk : List Happening) (down up : List (List ℕ)) (bytes : List ℕ)
     : Type 0 where
   pub fails : reports (seen bytes) ≡ true
@@ -95,8 +95,8 @@ pub record IsLastError (base disk : List Happening) (down up : List (List ℕ)) 
 
 -- ---- the laws
 
--- A disk is watched from where both begin anew on, at each happening at either end, up to the
--- moment at which the host takes an error of it.
+-- A disk is watched from where both begin anew, at each happening at either end, up to the moment at which
+-- the host takes an error from it.
 pub record WatchesOn : Type 0 where
   pub follows : (base disk host : List Happening) (down stale up : List (List ℕ))
       → IsWatched base disk host down stale up → IsFollowed base disk host down stale up
@@ -121,7 +121,7 @@ pub record WatchesOn : Type 0 where
       → IsLastError base disk down up bytes
       ⊎ IsWatched base disk (host ++ Sent bytes ∷ []) down [] up
 
--- What the FISes tell at the host's end of writes is never behind what they tell at the disk's.
+-- What the FISes tell of writes at the host's end is never behind what they tell at the disk's end.
 abbrev pub WatchedIsAhead : Type 0
 WatchedIsAhead =
     (plan : DiskPlan) (sectors : ℕ) (base disk host : List Happening)

@@ -1,5 +1,5 @@
-//! The two views of one disk that a host has: the ledger that the FISes at its end of the link
-//! tell, and the history of the device's events at its port.
+//! The two views of one disk that a host has: the ledger that the FISes at its end of the link tell, and the
+//! history of the device's events at its port.
 #![tactic(auto)]
 
 mod law;

@@ -1,7 +1,7 @@
--- The driver serves a disk honestly: from the tick that flushes it on, up to the first fault of it,
--- what its port, the history of the device and the FISes that went over the link say is the same,
--- and each FIS that goes out to the disk fits what was told before (AHCI 1.3.1, 5.3 and chapter 9;
--- Serial ATA 3.x, 13.6, native command queuing; ACS-3, commands).
+-- The driver serves a disk honestly, from the tick that flushes it up to the disk's first fault. The port,
+-- the history of the device and the FISes on the link say the same, and each FIS that is transmitted to the
+-- disk fits what was told before (AHCI 1.3.1, 5.3 and chapter 9; Serial ATA 3.x, 13.6, native command
+-- queuing; ACS-3, commands).
 --
 -- Cited: what a host with a driver is and does (`hba_driver`, specs/HostTurns.antt, Events.antt,
 -- Served.antt), and what a host has of a disk (`disk_ends`, specs/Hosted.antt).
@@ -30,7 +30,7 @@ use Rattle.driver_ends.specs.Steady.{AreNamed, IsAskedSigned, IsRowSigned}
 
 -- ---- what is kept
 
--- the host, with what it gave to disk n and heard of it since it flushed it (as the disk sees it),
+-- the host, with what it gave to disk n and heard from it since it flushed the disk (as the disk sees it),
 -- the commands of its slots, and all that touched its port and memory
 pub record IsServedHonestly (n : ℕ) (h : Host) (given : List Happening) (commands : ℕ → SlotCommand)
     (touches : Touches) : Type 0 where
@@ -42,7 +42,7 @@ pub record IsServedHonestly (n : ℕ) (h : Host) (given : List Happening) (comma
   pub signed : IsAskedSigned n h given
   pub row : IsRowSigned n h given
 
--- so it is after a turn, with some commands of the slots
+-- this holds after a turn, with some commands of the slots
 pub record ServesOn (n : ℕ) (old : Host) (turn : HostTurn) (new : Host)
     (run : DoesAll old (turn ∷ []) new) (given : List Happening) (touches : Touches) : Type 0 where
   pub next : ℕ → SlotCommand
@@ -53,15 +53,15 @@ pub record ServesOn (n : ℕ) (old : Host) (turn : HostTurn) (new : Host)
 
 -- ---- the laws
 
--- As the host opens nothing was given to any disk.
+-- When the host opens, nothing has been given to any disk.
 abbrev pub OpensHonestly : Type 0
 OpensHonestly =
     (n given len : ℕ) (commands : ℕ → SlotCommand) → n < 15 → is_memory_size len ≡ true
     → ((s : ℕ) → (commands s).command.tag ≡ s)
     → IsServedHonestly n (opening_host given len) (Plugged ∷ []) commands []
 
--- In the tick that flushes the disk it begins anew: nothing of it is issued, and all that happened
--- since the disk was plugged in is just that.
+-- In the tick that flushes the disk it begins anew: nothing of it is issued, and its plugging is all that has
+-- happened to it.
 abbrev pub FlushOpens : Type 0
 FlushOpens =
     (n : ℕ) (old : Host) (acted : Bool) (new : Host) (run : DoesAll old (Ticked acted ∷ []) new)
@@ -69,8 +69,8 @@ FlushOpens =
     → IsSoundHost old → IsServed old.driver (shared_by old) touches
     → ServesOn n old (Ticked acted) new run (Plugged ∷ []) touches
 
--- No FIS of the device comes in the turn and none goes out, and the driver does not flush it and
--- ends no fault of it or of the port.
+-- In the turn no FIS of the device is received or transmitted. The driver does not flush the device, and ends
+-- no fault of it or of the port.
 abbrev pub IsCalmTurn : ℕ → Host → HostTurn → Type 0
 IsCalmTurn n old (Took frame report) = n ≢ port_of frame
 IsCalmTurn n old (Pushed frame) = ⊥
@@ -84,8 +84,8 @@ CalmTurnsKeep =
     → IsCalmTurn n old turn → IsServedHonestly n old given commands touches
     → ServesOn n old turn new run given touches
 
--- a FIS of the disk comes, marked with its port, that is right by what was told before, and nothing
--- is wrong with it
+-- a FIS of the disk, marked with its port, is received that is right by what was told before, and the port
+-- finds no fault in it
 abbrev pub TakesKeep : Type 0
 TakesKeep =
     (n : ℕ) (old : Host) (plain : List ℕ) (report : TakeReport) (new : Host)
@@ -97,7 +97,7 @@ TakesKeep =
     → IsServedHonestly n old given commands touches
     → ServesOn n old (Took (marked plain n) report) new run (given ++ Sent plain ∷ []) touches
 
--- what the disk gets of what goes out: a frame with its port
+-- what the disk gets of what is transmitted: a frame with its port
 abbrev pub given_to : ℕ → Option Stamped → List Happening
 given_to n None = []
 given_to n (Some frame) =
@@ -112,7 +112,7 @@ PushesGoOn =
     → IsServedHonestly n old given commands touches
     → ServesOn n old (Pushed frame) new run (given ++ given_to n frame) touches
 
--- so it is where what goes out is known to be a frame
+-- the same, where what is transmitted is known to be a frame
 abbrev pub PushesKeep : Type 0
 PushesKeep =
     (n : ℕ) (old : Host) (frame : Option Stamped) (new : Host)

@@ -1,6 +1,5 @@
--- Which command each queued request of a disk is, and when the driver asks the disk for anything
--- (ACS-3, READ and WRITE FPDMA QUEUED; Serial ATA 3.x, 10.5.6, signatures, and 13.6, native command
--- queuing).
+-- The command of each queued request of a disk, and when the driver asks the disk for anything (ACS-3, READ
+-- and WRITE FPDMA QUEUED; Serial ATA 3.x, 10.5.6, signatures, and 13.6, native command queuing).
 use Rattle.std.specs.Prelude.{ℕ, ◌≡◌, ◌≢◌, Bool, true, false, List, [], ◌∷◌, Some}
 use Rattle.disk_model.specs.declared.request.Command.{Command}
 use Rattle.disk_model.specs.Histories.{Happening}
@@ -31,7 +30,7 @@ command_of slot e = record {
   count = e.head.sectors;
 }
 
--- the command of a slot is that of the queued request that is issued there
+-- the command of a slot is that of the queued request issued there
 abbrev pub AreNamed : ℕ → Driver → (ℕ → SlotCommand) → Touches → Type 0
 AreNamed n d commands touches =
     (s : ℕ) (t : Transfer) (e : Entry) → issued s (own n touches) ≡ Some t
@@ -40,14 +39,14 @@ AreNamed n d commands touches =
 
 -- ---- signatures
 
--- the device signed, by what it gave since it was plugged in
+-- the device has signed, by what it gave since it was plugged in
 abbrev pub HasSigned : List Happening → Type 0
 HasSigned given = (ledger given).awaited ≢ Signs ∷ []
 
--- the device is asked for something only after it signed
+-- the device is asked for something only after it has signed
 abbrev pub IsAskedSigned : ℕ → Host → List Happening → Type 0
 IsAskedSigned n h given = IsAskedOf n h.driver.plan → HasSigned given
 
--- its row of the received area shows a signature only after it signed
+-- its row of the received area shows a signature only after it has signed
 abbrev pub IsRowSigned : ℕ → Host → List Happening → Type 0
 IsRowSigned n h given = HasSignature n h → HasSigned given

@@ -1,7 +1,6 @@
--- The driver serves a disk honestly from where both began anew: after its flush, and again with
--- the log after an error or with a software reset, up to the next fault of it (AHCI 1.3.1, 5.3,
--- 6.2.2, error recovery, and chapter 9; Serial ATA 3.x, 13.6, native command queuing, and software
--- reset; ACS-3, commands).
+-- The driver serves a disk honestly from where both began anew: after its flush, with the log after an error,
+-- or with a software reset, up to the next fault of it (AHCI 1.3.1, 5.3, 6.2.2, error recovery, and chapter
+-- 9; Serial ATA 3.x, 13.6, native command queuing, and software reset; ACS-3, commands).
 --
 -- Cited: a driver that serves a disk since its flush (specs/Kept.antt), what the driver keeps of a
 -- device (`hba_driver`, specs/Tended.antt), and what a host has of a disk from where both began
@@ -44,8 +43,8 @@ use Rattle.driver_ends.specs.Steady.{AreNamed, HasSigned}
 
 -- ---- what is kept
 
--- the host, with what it gave to disk n and heard of it up to where both began anew, and in all
--- (as the disk sees it), the commands of its slots, and all that touched its port and memory
+-- the host, with what it gave to disk n and heard from it up to where both began anew, and in all (as the
+-- disk sees it), the commands of its slots, and all that touched its port and memory
 pub record IsServedOn (n : ℕ) (base : List Happening) (h : Host) (given : List Happening)
     (commands : ℕ → SlotCommand) (touches : Touches) : Type 0 where
   pub sound : IsSoundHost h
@@ -53,21 +52,21 @@ pub record IsServedOn (n : ℕ) (base : List Happening) (h : Host) (given : List
   pub hosted : IsHostedOn n base (shared_by h) given commands (own n touches)
   pub tended : IsTended n h.driver
   pub named : AreNamed n h.driver commands touches
-  -- the device is asked for something only after it signed; its row of the received area shows a
-  -- signature only then, unless it recovers; and so it is out of its software reset only then
+  -- the device is asked for something only after it has signed; only then does its row of the received area
+  -- show a signature, unless it recovers; so only then is it out of its software reset
   pub signed : IsAskedOn n h.driver.plan → HasSigned given
   pub row : IsFine (device_at h.driver.plan n) → HasSignature n h → HasSigned given
   pub ended : IsAtStage n IsReleasing h.driver.plan → IsUnreset n h → HasSigned given
-  -- what slot 30 holds of that with which both began anew went out
+  -- the command in slot 30 with which both began anew was transmitted
   pub begun : IsAtStage n IsBegun h.driver.plan → (t : Transfer)
       → issued 30 (own n touches) ≡ Some t → is_sent 30 (own n touches) ≡ true
-  -- it is in its software reset only while its signature is awaited, and nothing was given or heard
-  -- of it since both began anew
+  -- it is in its software reset only while its signature is due, and nothing was given to it or heard from it
+  -- since both began anew
   pub resets : (view_of n h.port).state.resetting ≡ true
       → IsAtStage n IsReleasing h.driver.plan × (given ≡ base)
 
--- What is issued later was issued before, and is the same command; or it is counted by all writes
--- that have ended by what was told before.
+-- What is issued later was issued before and is the same command, or it is counted from all writes that have
+-- ended by what was told before.
 abbrev pub AreCountedOn : (commands next : ℕ → SlotCommand) → (told : List Happening)
     → (before later : History) → Type 0
 AreCountedOn commands next told before later =
@@ -75,7 +74,7 @@ AreCountedOn commands next told before later =
     → ((issued s before ≡ Some t) × (next s ≡ commands s))
     ⊎ ((next s).since ≡ length (ledger told).writes)
 
--- so it is after a turn, with some commands of the slots
+-- this holds after a turn, with some commands of the slots
 pub record ServesOnAnew (n : ℕ) (base : List Happening) (old : Host) (turn : HostTurn) (new : Host)
     (run : DoesAll old (turn ∷ []) new) (told given : List Happening) (commands : ℕ → SlotCommand)
     (touches : Touches) : Type 0 where
@@ -98,8 +97,7 @@ ServedSinceFlush =
     → IsServedHonestly n h given commands touches
     → IsServedOn n (Plugged ∷ []) h given commands touches
 
--- In the tick that flushes the disk it begins anew, whatever happened before the disk was plugged
--- in.
+-- In the tick that flushes the disk it begins anew, whatever happened before the disk was plugged in.
 abbrev pub FlushOpensOn : Type 0
 FlushOpensOn =
     (n : ℕ) (old : Host) (acted : Bool) (new : Host) (run : DoesAll old (Ticked acted ∷ []) new)
@@ -108,7 +106,7 @@ FlushOpensOn =
     → ServesOnAnew n (before ++ Plugged ∷ []) old (Ticked acted) new run
     (before ++ Plugged ∷ []) (before ++ Plugged ∷ []) commands touches
 
--- SRST was cleared: nothing of the device is issued, and it only owes its signature.
+-- SRST was cleared: nothing of the device is issued, and it owes only its signature.
 abbrev pub ResetBeginsServed : Type 0
 ResetBeginsServed =
     (n : ℕ) (h : Host) (base : List Happening) (commands : ℕ → SlotCommand) (touches : Touches)
@@ -118,8 +116,8 @@ ResetBeginsServed =
     → ((s : ℕ) → (commands s).command.tag ≡ s) → OwesOnly (ledger base) (Signs ∷ []) []
     → IsServedOn n base h base commands touches
 
--- The log of an error is read: nothing of the device is issued but that, which went out, and it
--- only owes the page.
+-- The log of an error is read: only that command of the device is issued, it was transmitted, and the device
+-- owes only the page.
 abbrev pub LogBeginsServed : Type 0
 LogBeginsServed =
     (n : ℕ) (h : Host) (base : List Happening) (file : TaskFile) (page : Wanted)
@@ -142,8 +140,8 @@ pub record IsFreeAt (n : ℕ) (h : Host) (touches : Touches) : Type 0 where
   pub slots : (s : ℕ) → own_issue (view_of n h.port).slots s ≡ None
   pub context : (view_of n h.port).slots.context ≡ None
 
--- So it is with a device that is to be reset since its log was not whole, until its software reset
--- is issued.
+-- This holds for a device that must be reset because its log was not whole, until its software reset is
+-- issued.
 abbrev pub SpoiltIsFree : Type 0
 SpoiltIsFree =
     (n : ℕ) (base : List Happening) (h : Host) (given : List Happening) (commands : ℕ → SlotCommand)
@@ -153,7 +151,7 @@ SpoiltIsFree =
 
 -- ---- turns
 
--- No FIS of the device comes in the turn and none goes out, the driver does not flush it, ends no
+-- In the turn no FIS of the device is received or transmitted. The driver does not flush the device, ends no
 -- fault of it or of the port, and issues no software reset of it.
 abbrev pub CalmTurnsKeepOn : Type 0
 CalmTurnsKeepOn =
@@ -164,14 +162,14 @@ CalmTurnsKeepOn =
     → IsServedOn n base old given commands touches
     → ServesOnAnew n base old turn new run given given commands touches
 
--- the turn issues the software reset of the device, of which nothing was issued before
+-- the turn issues the software reset of the device, and nothing of the device was issued before
 pub record ResetsAt (n : ℕ) (old : Host) (turn : HostTurn) (new : Host) (touches : Touches)
     : Type 0 where
   pub issues : IsResetTurn n old turn
   pub reset : IsBeingReset n new.driver
   pub free : IsFreeAt n old touches
 
--- So it is, or the software reset of the device is issued.
+-- It stays so, or the software reset of the device is issued.
 abbrev pub CalmTurnsGoOn : Type 0
 CalmTurnsGoOn =
     (n : ℕ) (base : List Happening) (old : Host) (turn : HostTurn) (new : Host)
@@ -180,8 +178,8 @@ CalmTurnsGoOn =
     → IsCalmTurn n old turn → IsServedOn n base old given commands touches
     → ServesOnAnew n base old turn new run given given commands touches ⊎ ResetsAt n old turn new touches
 
--- A FIS of the disk comes, marked with its port, that is right by what was told since, and nothing
--- is wrong with it.
+-- A FIS of the disk, marked with its port, is received that is right by what was told since, and the port
+-- finds no fault in it.
 abbrev pub TakesKeepOn : Type 0
 TakesKeepOn =
     (n : ℕ) (base : List Happening) (old : Host) (plain : List ℕ) (report : TakeReport) (new : Host)
@@ -194,7 +192,7 @@ TakesKeepOn =
     → ServesOnAnew n base old (Took (marked plain n) report) new run given
     (given ++ Sent plain ∷ []) commands touches
 
--- The signature comes that ends the software reset.
+-- The signature that ends the software reset is received.
 abbrev pub SignaturesKeepOn : Type 0
 SignaturesKeepOn =
     (n : ℕ) (base : List Happening) (old : Host) (plain : List ℕ) (report : TakeReport) (new : Host)
@@ -207,7 +205,7 @@ SignaturesKeepOn =
     → ServesOnAnew n base old (Took (marked plain n) report) new run given
     (given ++ Sent plain ∷ []) commands touches
 
--- A FIS comes that the port ignores: what was on its way as both began anew.
+-- A FIS is received that the port ignores: one that was in transit when both began anew.
 abbrev pub IgnoredKeepOn : Type 0
 IgnoredKeepOn =
     (n : ℕ) (base : List Happening) (old : Host) (frame : List ℕ) (report : TakeReport) (new : Host)

@@ -1,6 +1,6 @@
--- A device that the driver takes to be absent is asked for nothing, and owes nothing but its
--- signature; so no fault of it is found while the driver looks for it (Serial ATA 3.x, 10.5.6,
--- signatures; AHCI 1.3.1, 9.3, FIS-based Switching, on errors).
+-- A device that the driver takes to be absent is asked for nothing, and owes only its signature. So no fault
+-- of it is found while the driver looks for it (Serial ATA 3.x, 10.5.6, signatures; AHCI 1.3.1, 9.3,
+-- FIS-based Switching, on errors).
 --
 -- Cited: a driver that serves a disk from where both began anew (specs/Together.antt), and where a
 -- host is with a device that recovers (`hba_driver`, specs/Slot30.antt).
@@ -26,19 +26,19 @@ use Rattle.driver_ends.specs.Together.{IsServedOn}
 
 -- ---- a device that is taken to be absent
 
--- nothing is to come but the signature, if that
+-- nothing is to come except the signature, if even that
 pub record OwesSignature (k : Ledger) : Type 0 where
   pub clear : IsClear k
   pub awaited : (k.awaited ≡ []) ⊎ (k.awaited ≡ Signs ∷ [])
   pub pages : k.pages ≡ []
 
--- by what the host gave it and heard of it
+-- by what the host gave it and heard from it
 abbrev pub IsUnasked : ℕ → Host → List Happening → Type 0
 IsUnasked n h given = device_at h.driver.plan n ≡ Absent → OwesSignature (ledger given)
 
 -- ---- the laws
 
--- It is so where both begin anew, and over each turn.
+-- This holds where both begin anew, and over each turn.
 pub record StaysUnasked (n : ℕ) : Type 0 where
   pub plugged : (h : Host) (before : List Happening) → IsUnasked n h (before ++ Plugged ∷ [])
   pub log : (h : Host) (base : List Happening) → IsAt30 n LogSent h → IsUnasked n h base
@@ -46,7 +46,7 @@ pub record StaysUnasked (n : ℕ) : Type 0 where
   pub calm : (old : Host) (turn : HostTurn) (new : Host) (given : List Happening)
       → Does old turn new → IsCalmTurn n old turn → IsTended n old.driver → IsUnasked n old given
       → IsUnasked n new given
-  -- a FIS comes of which nothing is told
+  -- a FIS is received of which nothing is told
   pub ignored : (old : Host) (frame : List ℕ) (report : TakeReport) (new : Host)
       (given : List Happening) → Does old (Took frame report) new → IsUnasked n old given
       → IsUnasked n new given
@@ -62,8 +62,8 @@ pub record StaysUnasked (n : ℕ) : Type 0 where
 abbrev pub EachStaysUnasked : Type 0
 EachStaysUnasked = (n : ℕ) → StaysUnasked n
 
--- The port finds a fault in the next FIS of the disk: the device has a fault that the driver has
--- not cleared, and the driver does not look for the device.
+-- The port finds a fault in the next FIS of the disk. Then the device has a fault that the driver has not
+-- cleared, and the driver does not look for the device.
 abbrev pub FaultsSetAside : Type 0
 FaultsSetAside =
     (n : ℕ) (base : List Happening) (old : Host) (plain : List ℕ) (report : TakeReport) (new : Host)

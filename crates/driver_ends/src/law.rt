@@ -1,4 +1,4 @@
-//! Laws of the driver and a disk that it serves. The functions do nothing when they run.
+//! Laws of the driver and a disk that it serves. All of them are laws for callers; they run no code.
 
 ghost use Rattle.driver_ends.specs.Apart.{AsideAt, LogBegins, ResetBegins};
 ghost use Rattle.driver_ends.specs.Kept.{CalmTurnsKeep, FlushOpens, OpensHonestly};
@@ -10,31 +10,31 @@ ghost use Rattle.driver_ends.specs.Together.{ServedSinceFlush, SignaturesKeepOn,
 ghost use Rattle.driver_ends.specs.Together.{TakesKeepOn};
 ghost use Rattle.driver_ends.specs.Unasked.{EachStaysUnasked, FaultsSetAside};
 
-/// As a host opens, and in the tick that flushes a disk, its driver begins to serve the disk
-/// honestly. It goes on to do so over each turn in which no FIS of the disk comes or goes, that
-/// does not flush it, and that ends no fault of it or of the port.
+/// When a host opens, and in the tick that flushes a disk, its driver begins to serve the disk honestly. It
+/// still does after each turn in which no FIS of the disk is received or transmitted, that does not flush the
+/// disk, and that ends no fault of it or of the port.
 pub fn serves_honestly()
     ensures opens { OpensHonestly }
     ensures flushes { FlushOpens }
     ensures calm { CalmTurnsKeep }
 {}
 
-/// So it does over each turn in which a FIS of the disk is taken, where that is right and the port
-/// reports nothing wrong.
+/// It still does after each turn that takes a FIS of the disk, if the FIS is right and the port finds no
+/// fault in it.
 pub fn takes_keep_honest()
     ensures { TakesKeep }
 {}
 
-/// And so it does over each turn in which the port is asked for a frame: a FIS that goes out to the
-/// disk fits what was told before.
+/// It still does after each turn that asks the port for a frame. A FIS that is transmitted to the disk fits
+/// what was told before.
 pub fn pushes_keep_honest()
     ensures goes_on { PushesGoOn }
     ensures framed { PushesKeep }
 {}
 
-/// The driver begins to serve a disk where both begin anew: in the tick that flushes it, whatever
-/// happened before it was plugged in; where SRST was cleared; and where the log of an error is
-/// read. And it does so where it served the disk honestly since its flush.
+/// The driver begins to serve a disk where both begin anew: in the tick that flushes it, whatever happened
+/// before it was plugged in; where SRST was cleared; and where the log of an error is read. A host that
+/// served the disk honestly since its flush is such a host.
 pub fn begins_to_serve()
     ensures since { ServedSinceFlush }
     ensures flushes { FlushOpensOn }
@@ -42,46 +42,44 @@ pub fn begins_to_serve()
     ensures log { LogBeginsServed }
 {}
 
-/// From there it goes on to serve the disk over each turn in which no FIS of the disk comes or
-/// goes, that does not flush it, ends no fault of it or of the port, and issues no software reset
-/// of it.
+/// From there it still serves the disk after each turn in which no FIS of the disk is received or
+/// transmitted, that does not flush it, ends no fault of it or of the port, and issues no software reset of
+/// it.
 pub fn calm_turns_serve_on()
     ensures { CalmTurnsKeepOn }
 {}
 
-/// So it does over each turn in which a FIS of the disk is taken: one that is right and of which
-/// the port reports nothing wrong, the signature that ends a software reset, and one that the port
-/// ignores.
+/// It still does after each turn that takes a FIS of the disk: one that is right and in which the port finds
+/// no fault, the signature that ends a software reset, or one that the port ignores.
 pub fn takes_serve_on()
     ensures right { TakesKeepOn }
     ensures signs { SignaturesKeepOn }
     ensures ignored { IgnoredKeepOn }
 {}
 
-/// And so it does over each turn in which the port is asked for a frame: a FIS that goes out to the
-/// disk fits what was told since both began anew, and is no reset and not the log.
+/// It still does after each turn that asks the port for a frame. A FIS that is transmitted to the disk fits
+/// what was told since both began anew; it is not a reset and not the log.
 pub fn pushes_serve_on()
     ensures { PushesServeOn }
 {}
 
-/// Where such a turn issues the software reset of the disk, nothing of the disk was issued before;
-/// nor is it while that is to be issued, since the disk's log was not whole.
+/// Where such a turn issues the software reset of the disk, nothing of the disk was issued before. Nor is
+/// anything issued while that reset is still to be issued because the disk's log was not whole.
 pub fn resets_begin_free()
     ensures turns { CalmTurnsGoOn }
     ensures spoilt { SpoiltIsFree }
 {}
 
-/// A device that has a fault, or recovers from one, is set aside at each stage of slot 30, until
-/// driver and disk begin anew: as READ LOG EXT, or the FIS that clears SRST, comes to the disk.
+/// A device that has a fault, or recovers from one, is set aside at each stage of slot 30, until driver and
+/// disk begin anew: when the disk receives READ LOG EXT, or the FIS that clears SRST.
 pub fn begins_anew_apart()
     ensures aside { AsideAt }
     ensures log { LogBegins }
     ensures reset { ResetBegins }
 {}
 
-/// From where both began anew, a device that the driver takes to be absent owes nothing but its
-/// signature. So where the port finds a fault in a FIS of the disk, the device is set aside, and the
-/// driver does not look for it.
+/// From where both began anew, a device that the driver takes to be absent owes only its signature. So if the
+/// port finds a fault in a FIS of the disk, the device is set aside, and the driver does not look for it.
 pub fn stays_unasked()
     ensures stays { EachStaysUnasked }
     ensures faults { FaultsSetAside }

@@ -1,5 +1,5 @@
-//! The driver serves a disk honestly: from its flush on, up to its first fault, host port, driver
-//! and the FISes of the disk's link say the same.
+//! The driver serves a disk honestly: from its flush up to its first fault, the host port, the driver and the
+//! FISes of the disk's link say the same.
 #![tactic(auto)]
 
 mod law;

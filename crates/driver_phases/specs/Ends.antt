@@ -1,15 +1,13 @@
--- A disk and the host that serves it, over each step of either, whatever the disk does (AHCI 1.3.1,
--- 5.3, 6.2.2, error recovery, and chapter 9; Serial ATA 3.x, 13.6, native command queuing, on
--- errors, and software reset; ACS-3, READ LOG EXT). Both are together from where they began anew: as
--- the disk was flushed, as its error log was asked for, or as a software reset of it ended. At an
--- error that the host takes, or a fault that its port finds, the device is set aside, until they
--- begin anew.
+-- A disk and the host that serves it, over each step of either, whatever the disk does (AHCI 1.3.1, 5.3,
+-- 6.2.2, error recovery, and chapter 9; Serial ATA 3.x, 13.6, native command queuing, on errors, and software
+-- reset; ACS-3, READ LOG EXT). Both are together from where they began anew: when the disk was flushed, when
+-- its error log was asked for, or when a software reset of it ended. At an error that the host takes, or a
+-- fault that its port finds, the device is set aside, until they begin anew.
 --
--- Cited: a disk that a host watches (`disk_ends`, specs/Watched.antt), the line of one that is set
--- aside (specs/Line.antt there) and the task file (specs/Files.antt, Outcomes.antt there); a driver
--- that serves a disk (`driver_ends`, specs/Together.antt, Unasked.antt); where a host is with a
--- device that recovers (`hba_driver`, specs/Slot30.antt); how that and the line fit each other
--- (specs/Stages.antt).
+-- Cited: a disk that a host watches (`disk_ends`, specs/Watched.antt), the line of one that is set aside
+-- (specs/Line.antt there) and the task file (specs/Files.antt, Outcomes.antt there); a driver that serves a
+-- disk (`driver_ends`, specs/Together.antt, Unasked.antt); where a host is with a device that recovers
+-- (`hba_driver`, specs/Slot30.antt); how that and the line fit each other (specs/Stages.antt).
 use Rattle.std.specs.Prelude.{ℕ, ◌≡◌, ◌≢◌, ◌<◌, ◌≤◌, ◌⊎◌, ◌++◌, ◌==◌, if◌then◌else◌, true}
 use Rattle.std.specs.Prelude.{List, [], ◌∷◌, length, None, Some}
 use Rattle.fis_view.specs.Frames.{IsFrame, Stamped, marked}
@@ -52,8 +50,8 @@ use Rattle.driver_phases.specs.Stages.{Fits, Leans}
 
 -- ---- what had ended when a request was submitted
 
--- For each slot, how many writes of the disk had ended when the request that stands there was
--- submitted: no more than these.
+-- For each slot, how many writes of the disk had ended when the request in it was submitted: no more than
+-- these.
 abbrev pub AreFloors : (ℕ → ℕ) → List Happening → Type 0
 AreFloors floors happened = (s : ℕ) → floors s ≤ length (ledger happened).writes
 
@@ -65,36 +63,36 @@ AreReached floors commands past =
 abbrev pub no_floors : ℕ → ℕ
 no_floors s = 0
 
--- one for a single slot
+-- a floor for a single slot
 abbrev pub floor_at : (slot floor : ℕ) → ℕ → ℕ
 floor_at slot floor s = if slot == s then floor else 0
 
--- the queued command of a request, counted from so many writes on
+-- the queued command of a request, counted from this many writes on
 abbrev pub since_floor : ℕ → Command → SlotCommand
 since_floor floor c = record { command = c; since = floor }
 
 -- ---- together
 
--- Whether the device is in the software reset with whose end both began anew.
+-- Whether the device is in the software reset whose end let both begin anew.
 pub data IsOnTime (n : ℕ) (h : Host) (base given : List Happening) (stale : List (List ℕ)) : Type 0
   where
-    -- It is in none; and while nothing was given or heard since both began anew, none is to end.
+    -- It is not; and while nothing was given or heard since both began anew, no reset is to end.
     Steady : stale ≡ [] → IsUnreset n h
         → (given ≡ base → IsAtStage n IsReleasing h.driver.plan → ⊥) → IsOnTime n h base given stale
-    -- It is, and its signature is still to come: nothing else was given or heard. What the disk sent
-    -- before is still on its way up, and is thrown away.
+    -- It is, and its signature is still to come: nothing else was given or heard. What the disk sent before
+    -- is still on its way up, and is discarded.
     Resetting : NoneSigns stale → given ≡ base → OwesOnly (ledger base) (Signs ∷ []) []
         → IsAtStage n IsReleasing h.driver.plan → IsOnTime n h base given stale
 
--- The disk did all this, and the lists are on their way to it and to the host, which serves it from
--- where both began anew.
+-- The disk did all this, and the lists are on their way to it and to the host, which serves it from where
+-- both began anew.
 pub record IsTogether (n : ℕ) (h : Host) (disk : List Happening) (down up : List (List ℕ))
     (floors : ℕ → ℕ) (touches : Touches) : Type 0 where
   -- what happened up to where both began anew, and all that happened at the host's end
   pub base : List Happening
   pub given : List Happening
   pub commands : ℕ → SlotCommand
-  -- what of before is still on its way up, and what was sent since
+  -- what is still on its way up from before, and what was sent since
   pub stale : List (List ℕ)
   pub later : List (List ℕ)
   pub up_is : up ≡ stale ++ later
@@ -106,16 +104,16 @@ pub record IsTogether (n : ℕ) (h : Host) (disk : List Happening) (down up : Li
   pub entered : AreFloors floors disk
   pub reached : AreReached floors commands (own n touches)
   pub begun : IsBegun (ledger base)
-  -- the signature alone was to come then, or the page of the log alone
+  -- only the signature was to come then, or only the page of the log
   pub owes : OwesOnly (ledger base) (Signs ∷ []) []
       ⊎ ((page : Wanted) × OwesOnly (ledger base) (ShowsPage ∷ []) (page ∷ []))
   pub opened : 7 ≤ h.driver.plan.opened
   pub well : (view_of n h.port).fault ≡ None
   pub unasked : IsUnasked n h given
   pub file : HasFineFile n (shared_by h) base given
-  -- the device is ready only after a FIS of it came
+  -- the device is ready only after a FIS of it was received
   pub unready : given ≡ base → device_at h.driver.plan n ≡ Ready → ⊥
-  -- and until then slot 30 works on it where it recovers
+  -- until then, slot 30 works on it if it recovers
   pub worked : given ≡ base → (way : Recovery) → device_at h.driver.plan n ≡ Recovering way
       → IsUnworked n h.driver.plan → ⊥
 
@@ -127,7 +125,7 @@ pub record IsSetAside (n : ℕ) (h : Host) (disk : List Happening) (down up : Li
   pub stage : Stage30
   pub line : Line
   pub at : IsAt30 n stage h
-  -- it is not being looked for
+  -- the driver is not looking for it
   pub off : IsUnsought n h
   pub fits : Fits line stage
   pub leans : Leans n line stage h
@@ -140,7 +138,7 @@ pub data AreEnds (n : ℕ) (h : Host) (disk : List Happening) (down up : List (L
   Together : IsTogether n h disk down up floors touches → AreEnds n h disk down up floors touches
   Apart : IsSetAside n h disk down up → AreFloors floors disk → AreEnds n h disk down up floors touches
 
--- so it is after a turn of the host
+-- this holds after a turn of the host
 pub record EndsAfter (n : ℕ) (old : Host) (turn : HostTurn) (new : Host)
     (run : DoesAll old (turn ∷ []) new) (disk : List Happening) (down up : List (List ℕ))
     (floors : ℕ → ℕ) (touches : Touches) : Type 0 where
@@ -149,7 +147,7 @@ pub record EndsAfter (n : ℕ) (old : Host) (turn : HostTurn) (new : Host)
       (touches_after touches (shared_by old) (shared_by new) (events_over old new (turn ∷ []) run)
       serves.runs)
 
--- No FIS of the device comes in the turn and none goes out, and the driver does not flush it.
+-- In the turn no FIS of the device is received or transmitted, and the driver does not flush it.
 abbrev pub IsBesideTurn : ℕ → Host → HostTurn → Type 0
 IsBesideTurn n old (Took frame report) = port_of frame ≢ n
 IsBesideTurn n old (Pushed None) = Unit {0}
@@ -161,7 +159,7 @@ IsBesideTurn n old (Put at bytes) = Unit {0}
 
 -- ---- the laws
 
--- A disk of this plan did all this, and the host goes on; once its driver opened the port, that is
+-- A disk of this plan did all this, and the host goes on; once its driver opened the port, the port is
 -- started.
 pub record IsRunning (plan : DiskPlan) (sectors : ℕ) (disk : List Happening) (touches : Touches)
     (h : Host) : Type 0 where
@@ -170,7 +168,7 @@ pub record IsRunning (plan : DiskPlan) (sectors : ℕ) (disk : List Happening) (
   pub on : IsOn30 touches h
   pub starts : 7 ≤ h.driver.plan.opened → h.port.registers.started ≡ true
 
--- Both ends begin where the host flushed the disk, which did nothing since it was plugged in.
+-- Both ends begin where the host flushed a disk that did nothing since it was plugged in.
 abbrev pub FlushBegins : Type 0
 FlushBegins =
     (n : ℕ) (h : Host) (before : List Happening) (commands : ℕ → SlotCommand) (touches : Touches)
@@ -178,7 +176,7 @@ FlushBegins =
     → 7 ≤ h.driver.plan.opened → (view_of n h.port).fault ≡ None
     → AreEnds n h (before ++ Plugged ∷ []) [] [] no_floors touches
 
--- They go on over each turn of the host: one of which nothing goes over the link, one in which the
+-- They remain such ends over each turn of the host: one in which nothing goes over the link, one in which the
 -- host gives a FIS to the disk, and one in which it takes the next one.
 pub record TurnsLeaveEnds (n : ℕ) (plan : DiskPlan) (sectors : ℕ) : Type 0 where
   pub beside : (old : Host) (turn : HostTurn) (new : Host) (run : DoesAll old (turn ∷ []) new)
@@ -214,7 +212,7 @@ pub record DisksLeaveEnds (n : ℕ) (plan : DiskPlan) (sectors : ℕ) : Type 0 w
       → AreEnds n h disk down up floors touches
       → AreEnds n h (disk ++ Sent bytes ∷ []) down (up ++ bytes ∷ []) floors touches
 
--- Where nothing of the device is issued in a slot the floor there may be any that the disk reached.
+-- If nothing of the device is issued in a slot, its floor can be any number that the disk has reached.
 abbrev pub MayRise : (n : ℕ) (floors next : ℕ → ℕ) (disk : List Happening) (touches : Touches)
     → Type 0
 MayRise n floors next disk touches =
@@ -229,7 +227,7 @@ FloorsRise =
     → IsRunning plan sectors disk touches h → MayRise n floors next disk touches
     → AreEnds n h disk down up floors touches → AreEnds n h disk down up next touches
 
--- What a report says is done of a request was done honestly, by all that the disk did, and after the
+-- If a report says that a request is done, it was done honestly, by all that the disk did, and after the
 -- writes that had ended when it was submitted.
 abbrev pub EachEndIsHonest : Type 0
 EachEndIsHonest =

@@ -1,4 +1,4 @@
--- The tick that issues the software reset of a disk which the driver serves sets the device aside
+-- A tick that issues the software reset of a disk sets the device aside, if the driver serves the disk
 -- (Serial ATA 3.x, software reset; AHCI 1.3.1, 9.3.9, software reset with FIS-based Switching).
 --
 -- Cited: a driver that serves a disk (`driver_ends`, specs/Together.antt), such a tick

@@ -1,6 +1,6 @@
--- How the stage of slot 30, by which the driver recovers a device, and the line of the device's link
--- fit each other (AHCI 1.3.1, 6.2.2, error recovery, and 9.3, FIS-based Switching, on errors; Serial
--- ATA 3.x, 13.6, native command queuing, on errors, and software reset; ACS-3, READ LOG EXT).
+-- How the stage of slot 30, in which the driver recovers a device, and the line of the device's link fit each
+-- other (AHCI 1.3.1, 6.2.2, error recovery, and 9.3, FIS-based Switching, on errors; Serial ATA 3.x, 13.6,
+-- native command queuing, on errors, and software reset; ACS-3, READ LOG EXT).
 --
 -- Cited: the stages (`hba_driver`, specs/Slot30.antt) and the line (`disk_ends`, specs/Line.antt).
 use Rattle.std.specs.Prelude.{ℕ, ◌≡◌, false}
@@ -13,7 +13,7 @@ use Rattle.hba_driver.specs.Drivers.{device_at}
 use Rattle.hba_driver.specs.HostTurns.{Host}
 use Rattle.hba_driver.specs.Slot30.{Asks, Cleared, Clears, Faulty, LogSent, Off, On, Sets, Stage30}
 
--- the disk failed, and its log may still be asked for
+-- the disk failed, and its log can still be asked for
 abbrev pub FitsFailed : Stage30 → Type 0
 FitsFailed Faulty = Unit {0}
 FitsFailed Cleared = Unit {0}
@@ -49,8 +49,8 @@ Fits Both stage = FitsOff stage
 Fits Resting stage = FitsHeld stage
 Fits Releasing stage = FitsOff stage
 
--- The driver resets the device, or is about to, and does not ask it for its log: a device that was
--- ready has no error in its task file.
+-- The driver resets the device, or is about to, and does not ask it for its log. A device that was ready has
+-- no error in its task file.
 abbrev pub GoesByReset : ℕ → Stage30 → Host → Type 0
 GoesByReset n Faulty h =
     device_at h.driver.plan n ≡ Ready → has_bit (view_of n h.port).state.status 0 ≡ false
@@ -59,7 +59,7 @@ GoesByReset n Asks h = ⊥
 GoesByReset n LogSent h = ⊥
 GoesByReset n _ h = Unit {0}
 
--- so it is where the line is loose
+-- the same, where the line is loose
 abbrev pub Leans : ℕ → Line → Stage30 → Host → Type 0
 Leans n Loose stage h = GoesByReset n stage h
 Leans n _ stage h = Unit {0}

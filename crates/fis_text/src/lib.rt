@@ -4,8 +4,8 @@
 use fis_view::{DmaSetup, Fis, PioSetup, RegD2H, RegH2D, SetBits};
 use std::fmt;
 
-/// A FIS that prints as one line: its kind, its port, and each field by its name in the standard.
-/// Registers are in hexadecimal; ports, tags and numbers of bytes in decimal; single bits 0 or 1.
+/// A FIS that prints as one line: its kind, its port, and each field by its name in the standard. Registers
+/// are hexadecimal. Ports, tags and byte counts are decimal. Single bits are 0 or 1.
 #[derive(Debug, Drop)]
 pub struct FisText<'a>(pub Fis<'a>);
 

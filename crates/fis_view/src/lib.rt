@@ -1,12 +1,11 @@
 //! The frame information structures (FISes) of a Serial ATA link, as frames with a stamp.
 //!
 //! A [`Frame`] holds the bytes of one FIS and a [`Stamp`] that travels beside them for audit.
-//! [`Frame::fis`] and [`Fis::of`] give a view of the bytes by their type, whose readers borrow them and take
-//! each field from the places that the standard gives it.
-//! The builders [`h2d`], [`d2h`], [`set_bits`], [`dma_activate`], [`dma_setup`], [`pio_setup`] and [`payload`]
-//! make frames that read back what they were given.
-//! What readers and builders know of the layout is one table of fields, `specs/Table.antt`, and
-//! [`Frame::set_pm_port`] changes the PM Port field alone, as a port multiplier does.
+//! [`Frame::fis`] and [`Fis::of`] give a view of the bytes by their type. Its readers borrow the bytes and
+//! read each field at the place that the standard gives it. The builders [`h2d`], [`d2h`], [`set_bits`],
+//! [`dma_activate`], [`dma_setup`], [`pio_setup`] and [`payload`] make frames that read back the fields they
+//! were given. Readers and builders share one table of fields, `specs/Table.antt`. [`Frame::set_pm_port`]
+//! changes only the PM Port field, as a port multiplier does.
 #![tactic(auto)]
 
 mod build;

@@ -1,12 +1,12 @@
--- What an export leaves behind a handle: nothing is done where the handle is closed, and a handle stays open
--- or closed but where one is made or freed.
+-- What an export leaves behind a handle. Where the handle is closed, nothing is done. A handle stays open or
+-- closed, except where a multiplier is made or freed.
 use Rattle.std.specs.Prelude.{◌≡◌, ℕ, ◌≤◌, Option, Some, None}
 use Rattle.gefsunk.specs.Pms.{opening}
 use Rattle.gefsunk.specs.declared.pm.Pm.{Pm}
 use Rattle.gefsunk.specs.declared.status.Status.{Status}
 use Rattle.gefsunk.specs.declared.status.Status.TheVariants as status
 
--- a call on what is behind the handle, by its rule
+-- a call on the multiplier behind the handle, by its rule
 abbrev pub At : Option Pm → Status → Option Pm → (Pm → Pm → Type 0) → Type 0
 At None answer new rule = (answer ≡ status.Closed) × (new ≡ None)
 At (Some old) answer (Some new) rule = rule old new

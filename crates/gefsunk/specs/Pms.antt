@@ -1,5 +1,5 @@
--- What the calls on a multiplier do, by the rules of the multiplier (Serial ATA 3.x, 16.3). C has no word for
--- stamps: a FIS of the host has none, and one of a device has the connection that its port counted.
+-- What the calls on a multiplier do, by the rules of the multiplier (Serial ATA 3.x, 16.3). C does not see
+-- stamps: a FIS of the host has an empty one, and a FIS of a device has the connection that its port counted.
 use Rattle.std.specs.Prelude.{◌≡◌, ◌≢◌, ℕ, ◌+◌, ◌<◌, ◌==◌, if◌then◌else◌, min, true, false, List, replicate}
 use Rattle.std.specs.Prelude.{slice_index, slice_set, Some, None, Result, Ok, Err}
 use Rattle.fis_view.specs.Frames.{Stamped, is_frame}
@@ -32,19 +32,19 @@ abbrev pub refused : FrameError → Status
 refused frame_error.BadLength = status.BadLength
 refused frame_error.OutOfMemory = status.NoMemory
 
--- a multiplier with so many ports and no device
+-- a multiplier with this many ports and no device
 abbrev pub opening : ℕ → Pm
 opening ports =
     record { multiplier = state.opening ports; last = no_removals; seated = no_removals; given = no_stamp }
 
--- a device port, of which there are at most fifteen
+-- the port is a device port; there are at most fifteen
 abbrev pub has_port : Pm → ℕ → Type 0
 has_port pm port = (port < control_port) × (port < pm.multiplier.registers.ports)
 
 abbrev pub of_host : List ℕ → Stamped
 of_host fis = record { bytes = fis; stamp = no_stamp }
 
--- a FIS of the device that is at this port
+-- a FIS of the device at this port
 abbrev pub of_device : Pm → ℕ → List ℕ → Stamped
 of_device pm port fis = record {
   bytes = fis;
@@ -55,7 +55,7 @@ of_device pm port fis = record {
 abbrev pub KeepsSeats : Pm → Pm → Type 0
 KeepsSeats old new = (new.last ≡ old.last) × (new.seated ≡ old.seated)
 
--- the connection after the last one of a port; the largest number stays
+-- the connection after the last one of a port; the largest number stays there
 abbrev pub next_connection : Pm → ℕ → ℕ
 next_connection pm port = min (slice_index pm.last port + 1) 4294967295
 
@@ -133,7 +133,7 @@ FromDevice old port fis status.NotThere new =
 FromDevice old port fis status.NoPort new = (has_port old port → ⊥) × (new ≡ old)
 FromDevice old port fis _ new = ⊥
 
--- the next FIS for the host, as its bytes and its port; the room has to hold the longest one
+-- the next FIS for the host: its bytes and its port; the room must hold the longest FIS
 abbrev pub ToHost : Pm → ℕ → Status → List ℕ → ℕ → Pm → Type 0
 ToHost old room status.Done fis port new =
     NextUpRule old.multiplier (Ok (Some (record { bytes = fis; stamp = new.given }))) new.multiplier

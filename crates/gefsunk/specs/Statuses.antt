@@ -1,4 +1,4 @@
--- The number that C has for each answer.
+-- The number of each answer in C.
 use Rattle.std.specs.Prelude.{ℕ, ◌==◌, if◌then◌else◌}
 use Rattle.gefsunk.specs.declared.status.Status.{Status}
 use Rattle.gefsunk.specs.declared.status.Status.TheVariants as status

@@ -1,4 +1,4 @@
--- What the words of a FIS may be asked of, and what is left where they are refused.
+-- Which bytes have a text, and what is left where they are refused.
 use Rattle.std.specs.Prelude.{◌≡◌, ℕ, ◌≤◌, true, false, List, Err, IsOk}
 use Rattle.fis_view.specs.Frames.{is_frame}
 use Rattle.fis_view.specs.Seen.{seen}

@@ -1,7 +1,8 @@
-//! What C holds of a multiplier: a struct in storage of its own, with a pointer to a value that this library owns.
+//! What C holds of a multiplier: a struct in its own storage, with a pointer to a value that this library
+//! owns.
 //!
-//! Pointers are met in four small functions alone, [`Loose::of`], [`Held::from_loose`], [`Held::into_box`] and
-//! [`Held::nothing`], each of which is proved by hand. All others are proved from their contracts.
+//! Only four small functions handle pointers: [`Loose::of`], [`Held::from_loose`], [`Held::into_box`] and
+//! [`Held::nothing`]. Each of them is proved by hand. All others are proved from their contracts.
 
 ghost use Rattle.std.specs.Prelude.{◌≡◌, ◌==◌, MatchOption, None, Option, Some, is_some, true};
 ghost use Rattle.gefsunk.specs.declared.pm.Pm.{Pm};
@@ -11,10 +12,10 @@ use std::alloc::Global;
 use std::marker::Model;
 use std::mem;
 
-/// The mark of a handle that is open: the letters PMUX. Another value, as 0, is a handle that is closed.
+/// The mark of an open handle: the letters PMUX. Any other value, such as 0, is a closed handle.
 pub const OPEN: u32 = 0x5055_4D58;
 
-/// A box as its pointer.
+/// A box as a pointer.
 struct Loose<T> {
     at: *mut T,
     ghost value: { T },
@@ -35,7 +36,7 @@ impl<T: Drop> Loose<T> {
     }
 }
 
-/// The pointer of a box that C keeps, or one to nothing.
+/// The pointer of a box that C keeps, or a pointer to nothing.
 #[repr(C)]
 #[derive(Drop)]
 pub struct Held {
@@ -75,7 +76,7 @@ impl Held {
     }
 }
 
-/// A handle, as C has it in its own storage. It is open where its mark says so, and then has a multiplier.
+/// A handle, as C has it in its own storage. It is open if its mark says so. Then it has a multiplier.
 #[repr(C)]
 #[derive(Drop)]
 pub struct PmHandle {
@@ -85,7 +86,7 @@ pub struct PmHandle {
 }
 
 impl PmHandle {
-    /// A handle of no multiplier.
+    /// A handle without a multiplier.
     pub fn closed() -> PmHandle
         ensures { result.held.value ≡ None }
     {
@@ -105,7 +106,7 @@ impl PmHandle {
         }
     }
 
-    /// Takes the multiplier, and leaves the handle closed.
+    /// Takes the multiplier out, and leaves the handle closed.
     pub fn take(&mut self, alloc: Global) -> Option<Box<Pm>>
         ensures taken { MatchOption result (self.old.held.value ≡ None) (λ pm. self.old.held.value ≡ Some pm.value) }
         ensures closed { self.new.held.value ≡ None }

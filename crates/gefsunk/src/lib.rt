@@ -1,5 +1,5 @@
-//! The library for C. `include/gefsunk.h` says what each call does; each export here restates what it calls, and answers
-//! the number of a [`Status`].
+//! The library for C. `include/gefsunk.h` says what each call does. Each export here restates what it calls,
+//! and returns the number of a [`Status`].
 #![tactic(auto)]
 
 ghost use Rattle.std.specs.Prelude.{◌≡◌, length, take};
@@ -19,7 +19,7 @@ pub use pm::Pm;
 pub use status::Status;
 use std::alloc::Global;
 
-/// Writes the words of a FIS and their number.
+/// Writes the text of a FIS and its length.
 #[unsafe(no_mangle)]
 pub extern "C" fn gefsunk_fis_text(fis: &[u8], room: &mut [u8], len: &mut usize) -> u32
     ensures { TextRule fis.now (status_of result) (length room.old) len.old len.new }
@@ -27,7 +27,7 @@ pub extern "C" fn gefsunk_fis_text(fis: &[u8], room: &mut [u8], len: &mut usize)
     text::fis_text(fis, room, len).code()
 }
 
-/// Makes a multiplier with so many ports, and opens the handle.
+/// Makes a multiplier with this many ports, and opens the handle.
 #[unsafe(no_mangle)]
 pub extern "C" fn gefsunk_pm_new(handle: &mut PmHandle, alloc: Global, ports: u8) -> u32
     ensures { Made handle.old.held.value ports (status_of result) handle.new.held.value }
@@ -87,7 +87,7 @@ pub extern "C" fn gefsunk_pm_unplug(handle: &mut PmHandle, alloc: Global, port: 
     status.code()
 }
 
-/// Takes a FIS of the host.
+/// Takes a FIS from the host.
 #[unsafe(no_mangle)]
 pub extern "C" fn gefsunk_pm_from_host(handle: &mut PmHandle, alloc: Global, fis: &[u8]) -> u32
     ensures { At handle.old.held.value (status_of result) handle.new.held.value
@@ -101,7 +101,7 @@ pub extern "C" fn gefsunk_pm_from_host(handle: &mut PmHandle, alloc: Global, fis
     status.code()
 }
 
-/// Takes a FIS of the device at a port.
+/// Takes a FIS from the device at a port.
 #[unsafe(no_mangle)]
 pub extern "C" fn gefsunk_pm_from_device(
     handle: &mut PmHandle,
@@ -180,7 +180,7 @@ pub extern "C" fn gefsunk_pm_read(
     status.code()
 }
 
-/// Counts the FISes of the host that were dropped.
+/// Gives the number of FISes of the host that were dropped.
 #[unsafe(no_mangle)]
 pub extern "C" fn gefsunk_pm_dropped(handle: &mut PmHandle, alloc: Global, count: &mut u32) -> u32
     ensures { At handle.old.held.value (status_of result) handle.new.held.value

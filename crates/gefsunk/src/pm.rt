@@ -1,4 +1,4 @@
-//! A port multiplier as the library for C keeps it: it counts the connections that C has no word for.
+//! A port multiplier as the library for C keeps it: it counts the connections, which C does not see.
 
 ghost use Rattle.std.specs.Prelude.{◌≡◌, ◌↔◌, ◌≤◌, IsTrue, length, take};
 ghost use Rattle.gefsunk.specs.Pms.{FromDevice, FromHost, Plug, ReadRule, ToDevice, ToHost, Unplug, has_port, no_removals, opening, refused};
@@ -10,16 +10,16 @@ use pm_ports::{Offered, PortError};
 use pm_registers::{CONTROL_PORT, GSCR_PORTS, PmRegisters, RegisterError};
 use std::alloc::Global;
 
-/// A multiplier, and of each port the connections that it was told.
+/// A multiplier, and the connections that each port was told of.
 #[derive(Drop)]
 pub struct Pm {
     /// The multiplier itself.
     pub multiplier: Multiplier,
-    /// Of each port the last connection that came, 0 for none.
+    /// The last connection that came to each port, 0 for none.
     pub last: [u32; 15],
-    /// Of each port the connection of the device that is there, 0 for none.
+    /// The connection of the device at each port, 0 for none.
     pub seated: [u32; 15],
-    /// The stamp of the FIS that was given last.
+    /// The stamp of the FIS given last.
     pub given: Stamp,
 }
 
@@ -35,14 +35,14 @@ fn stamp(port: u8, conn: u32) -> Stamp
     }
 }
 
-/// How many device ports there are, as the host reads it.
+/// The number of device ports, as the host reads it.
 fn port_count(registers: &PmRegisters) -> u32
     ensures { result ≡ registers.now.ports }
 {
     registers.read(CONTROL_PORT, GSCR_PORTS).unwrap_or(0)
 }
 
-/// Why bytes are no frame.
+/// Why bytes are not a frame.
 fn refused(error: FrameError) -> Status
     ensures { result ≡ refused error }
 {
@@ -53,7 +53,7 @@ fn refused(error: FrameError) -> Status
 }
 
 impl Pm {
-    /// A multiplier with so many ports, and no device.
+    /// A multiplier with this many ports and no device.
     pub fn new(ports: u8) -> Pm
         requires some { 1 ≤ ports }
         requires at_most { ports ≤ 15 }
@@ -67,14 +67,14 @@ impl Pm {
         }
     }
 
-    /// Whether there is such a device port.
+    /// Whether the port is a device port.
     fn has_port(&self, port: u8) -> bool
         ensures { IsTrue result ↔ has_port self.now port }
     {
         port < CONTROL_PORT && u32::from(port) < port_count(self.multiplier.registers())
     }
 
-    /// A device comes to a port, under the next connection.
+    /// A device comes to a port, as the next connection.
     pub fn plug(&mut self, port: u8) -> Status
         ensures { Plug self.old port result self.new }
     {
@@ -111,7 +111,7 @@ impl Pm {
         }
     }
 
-    /// Takes a FIS of the host.
+    /// Takes a FIS from the host.
     pub fn from_host(&mut self, alloc: Global, fis: &[u8]) -> Status
         ensures { FromHost self.old fis.now result self.new }
     {
@@ -127,7 +127,7 @@ impl Pm {
         }
     }
 
-    /// Takes a FIS of the device at a port.
+    /// Takes a FIS from the device at a port.
     pub fn from_device(&mut self, alloc: Global, port: u8, fis: &[u8]) -> Status
         ensures { FromDevice self.old port fis.now result self.new }
     {
@@ -149,7 +149,7 @@ impl Pm {
         }
     }
 
-    /// Writes the next FIS for the host into the room, its length and its port.
+    /// Writes the next FIS for the host into the room, and its length and port.
     pub fn to_host(
         &mut self,
         alloc: Global,
@@ -209,7 +209,7 @@ impl Pm {
     }
 }
 
-/// Copies a frame into the room, and answers its length.
+/// Copies a frame into the room, and returns its length.
 fn copied(frame: &Frame, room: &mut [u8]) -> usize
     requires { 8196 ≤ length room.old }
     ensures copied { take result room.new ≡ frame.now.bytes }

@@ -12,7 +12,7 @@ use std::fmt::Write;
 /// Room for the longest line.
 const LONGEST_LINE: usize = 160;
 
-/// Copies the text into the room. It is told whether the room was long enough.
+/// Copies the text into the room. The caller says whether the room is long enough.
 fn copied(text: &[u8], room: &mut [u8]) -> bool
     ensures room { length room.new ≡ length room.old }
     ensures fits { IsTrue result → length text.now ≤ length room.old }
@@ -26,8 +26,8 @@ fn copied(text: &[u8], room: &mut [u8]) -> bool
     }
 }
 
-/// Writes the words of a FIS, with no 0 behind them, and their number. Where they do not fit, or the bytes are no FIS,
-/// nothing is written.
+/// Writes the text of a FIS, without a 0 behind it, and its length. If the text does not fit, or the bytes
+/// are not a FIS, nothing is written.
 pub fn fis_text(fis: &[u8], room: &mut [u8], len: &mut usize) -> Status
     ensures { TextRule fis.now result (length room.old) len.old len.new }
 {

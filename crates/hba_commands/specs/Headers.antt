@@ -4,17 +4,17 @@ use Rattle.std.specs.Prelude.{ℕ, ◌+◌, ◌*◌, ◌/◌, ◌%◌, ◌^◌, 
 use Rattle.host_memory.specs.Reading.{dword_at}
 use Rattle.hba_commands.specs.declared.header.Header.{Header}
 
--- where the header of a slot begins, in a list that begins at clb
+-- the index of a slot's header, in a list that begins at clb
 abbrev pub header_place : ℕ → ℕ → ℕ
 header_place clb slot = clb + 32 * slot
 
--- the number in so many bits of a dword, from bit low on
+-- the number in a field of a dword: its width in bits, from bit low on
 abbrev pub bits_of : ℕ → ℕ → ℕ → ℕ
 bits_of dword low count = dword / 2 ^ low % 2 ^ count
 
--- the header with these four dwords: in DW0 the PRDTL in bits 31:16, the PMP in bits 15:12, C in bit 10, W in
--- bit 6 and the CFL in bits 4:0, in DW2 and DW3 the address of the table. R, in bit 8, and DW1, the PRDBC,
--- are not read.
+-- The header with these dwords. DW0 has the PRDTL in bits 31:16, the PMP in bits 15:12, C in bit 10, W in bit
+-- 6 and the CFL in bits 4:0. DW2 and DW3 have the address of the table. R, in bit 8, and DW1, the PRDBC, are
+-- not read.
 unfoldable pub header_of_dwords : ℕ → ℕ → ℕ → Header
 header_of_dwords dw0 dw2 dw3 = record {
   prdtl = bits_of dw0 16 16;

@@ -18,11 +18,11 @@ request_in fis = record {
   count = field H2d Count fis;
 }
 
--- the same, where the type of the FIS, its byte 0, is 27h
+-- the same, if the type of the FIS, its byte 0, is 27h
 abbrev pub request_at : List ℕ → Option Request
 request_at fis = if slice_index fis 0 == 0x27 then Some (request_in fis) else None
 
--- and as they are given for a FIS to be built
+-- the same, from the fields that a builder is given
 abbrev pub request_of : H2dFields → Request
 request_of fields = record {
   pm_port = fields.pm_port % 16;
@@ -32,18 +32,18 @@ request_of fields = record {
   count = fields.count;
 }
 
--- What a command code asks for (ACS-3): 60h is READ FPDMA QUEUED, 61h WRITE FPDMA QUEUED, 2Fh with Count 1
--- READ LOG EXT of one page, ECh IDENTIFY DEVICE. All others have no data here.
+-- The kind of a command code (ACS-3): 60h is READ FPDMA QUEUED, 61h is WRITE FPDMA QUEUED, 2Fh with Count 1
+-- is READ LOG EXT of one page, ECh is IDENTIFY DEVICE. All others move no data here.
 abbrev pub kind_of_command : ℕ → ℕ → Kind
 kind_of_command command count =
     if command == 0x60 then QueuedRead else if command == 0x61 then QueuedWrite
     else if (command == 0x2F && count == 1) || command == 0xEC then PioIn else NoData
 
--- with C 1 the FIS gives a command, with C 0 the Device Control register
+-- with C 1 the FIS writes the Command register, with C 0 the Device Control register
 abbrev pub kind_of : Request → Kind
 kind_of request = if request.c then kind_of_command request.command request.count else Control
 
--- how many sectors of 512 bytes a queued command has: its Features, where 0 stands for 65,536
+-- the number of 512-byte sectors of a queued command: its Features, where 0 stands for 65,536
 abbrev pub sectors : ℕ → ℕ
 sectors features = if features == 0 then 65536 else features
 

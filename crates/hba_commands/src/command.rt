@@ -14,20 +14,20 @@ use crate::request::Request;
 use host_memory::{CLIENT_START, HostMemory, PrdTable};
 use slots::{Kind, Work};
 
-/// A command as it stands in a slot.
+/// The command in a slot.
 #[derive(Clone, Copy, Debug, PartialEq, Eq)]
 pub struct Command {
     /// What it asks for.
     pub work: Work,
-    /// The command FIS, as it is sent.
+    /// The command FIS, as it is transmitted.
     pub cfis: [u8; 20],
     /// The address of its command table. Its PRDs begin 80h bytes later.
     pub table: u32,
-    /// How many PRDs the table has.
+    /// The number of PRDs in the table.
     pub count: u16,
 }
 
-// Whether the table has a place where it can be read.
+// Whether the table has a valid place.
 fn has_table(header: &Header) -> bool
     ensures { result ≡ has_table_of header.now }
 {
@@ -35,7 +35,7 @@ fn has_table(header: &Header) -> bool
     header.ctbau == 0 && header.ctba % 128 == 0 && end <= u64::from(CLIENT_START)
 }
 
-// The command FIS of the table that lies there.
+// The command FIS of the table at this address.
 fn command_fis(structure: &[u8], table: u32) -> [u8; 20]
     requires { table + 20 ≤ length structure.now }
     ensures { result ≡ cfis_at structure.now table }
@@ -46,7 +46,7 @@ fn command_fis(structure: &[u8], table: u32) -> [u8; 20]
     cfis
 }
 
-// How many bytes the PRDs of the table have, if they can be read.
+// The total byte count of the table's PRDs, if they can be read.
 fn total(structure: &[u8], client_len: u32, table: u32, count: u16) -> Option<u32>
     requires { table + 128 < 4294967296 }
     ensures { result ≡ total_at structure.now client_len table count }
@@ -67,7 +67,7 @@ fn may_queue(header: &Header, request: &Request, slot: u8, armed: bool) -> bool
         && request.work().len <= 0x2_0000
 }
 
-// Whether the header and the slot are as a command of this kind wants them.
+// Whether the header and the slot suit a command of this kind.
 fn suits(kind: Kind, header: &Header, request: &Request, slot: u8, armed: bool) -> bool
     ensures { result ≡ suits_of kind header.now request.now slot armed }
 {
@@ -93,14 +93,14 @@ fn is_proper(header: &Header, request: &Request, total: u32, slot: u8, armed: bo
 impl Command {
     ghost use Rattle.slots.specs.Work.{IsWork};
 
-    /// The command of a slot, for the command list that begins at `clb`. `armed` is the slot's bit in PxSACT. None
-    /// where the header or the command table is bad.
+    /// The command of a slot, for the command list that begins at `clb`. `armed` is the slot's bit in PxSACT.
+    /// None where the header or the command table is bad.
     #[tactic(auto, unfolding(crate::specs::Commands::command_under))]
     pub fn read(memory: &HostMemory, clb: u32, slot: u8, armed: bool) -> Option<Command>
         requires slot { slot < 32 }
         requires list { clb + 1024 ≤ CLIENT_START }
         ensures command { result ≡ command_at memory.now clb slot armed }
-        // what every command that is read has
+        // what holds for every command that is read
         ensures work { IfSome result (λ command. IsWork command.work) }
         ensures armed { IfSome result (λ command. is_queued command.work.kind ≡ armed) }
         ensures port { IfSome result
@@ -111,7 +111,7 @@ impl Command {
         ensures direction { IfSome result
             (λ command. (header_at memory.now.structure clb slot).write
             ≡ is_write command.work.kind) }
-        // its table lies in the structure area, can be read, and has just the bytes that it moves
+        // its table lies in the structure area, can be read, and has exactly the bytes that the command moves
         ensures place { IfSome result
             (λ command. command.table + 128 + 16 * command.count ≤ 1048576) }
         ensures readable { IfSome result

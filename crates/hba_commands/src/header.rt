@@ -9,11 +9,11 @@ use byteorder::{ByteOrder, LittleEndian};
 /// The header of a command slot (AHCI 1.3.1, section 4.2.2).
 #[derive(Clone, Copy)]
 pub(crate) struct Header {
-    /// How many PRDs the table has (PRDTL).
+    /// The number of PRDs in the table (PRDTL).
     pub(crate) prdtl: u16,
     /// The device's PM Port, 0 to 15 (PMP).
     pub(crate) pmp: u8,
-    /// BSY is cleared once the frame is sent (C).
+    /// BSY is cleared once the FIS is transmitted (C).
     pub(crate) clear: bool,
     /// Data goes to the device (W).
     pub(crate) write: bool,
@@ -48,7 +48,7 @@ fn header_of(dw0: u32, dw2: u32, dw3: u32) -> Header
 }
 
 impl Header {
-    /// The header of a slot, in the command list at `clb`.
+    /// Reads the header of a slot, in the command list at `clb`.
     pub(crate) fn read(structure: &[u8], clb: u32, slot: u8) -> Header
         requires slot { slot < 32 }
         requires list { clb + 1024 ≤ length structure.now }

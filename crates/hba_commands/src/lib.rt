@@ -1,6 +1,7 @@
-//! The commands of a host port's slots: the header of a slot in the command list and its command table, as one command.
+//! The commands of a host port's slots: a header in the command list and its command table, read as one
+//! command.
 //!
-//! [`Command::read`] reads what a driver has written for a slot, and [`write_command`] writes it as a driver does.
+//! [`Command::read`] reads what a driver wrote for a slot. [`write_command`] writes it as a driver does.
 #![tactic(auto)]
 
 mod command;

@@ -28,7 +28,7 @@ fn kind_of_command(command: u8, count: u16) -> Kind
     }
 }
 
-// How many sectors a queued command has.
+// The number of sectors of a queued command.
 fn sectors(features: u16) -> u32
     ensures { result ≡ sectors_of features }
 {
@@ -63,7 +63,7 @@ impl Request {
         }
     }
 
-    /// What the FIS of these fields asks for.
+    /// What a FIS of these fields asks for.
     pub(crate) fn of(fields: &H2dFields) -> Request
         ensures { result ≡ request_of fields.now }
     {

@@ -14,7 +14,7 @@ use fis_view::H2dFields;
 use host_memory::{HostMemory, Prd, write_prds};
 use slots::Kind;
 
-// DW0 of a header: the PRDTL in bits 31:16, the PMP in bits 15:12, W in bit 6, the CFL in bits 4:0.
+// DW0 of a header: PRDTL in bits 31:16, PMP in bits 15:12, W in bit 6, CFL in bits 4:0.
 fn first_dword(request: Request, count: u16) -> u32
     requires { request.pm_port < 16 }
     ensures { result
@@ -43,7 +43,7 @@ fn put(structure: &mut [u8], at: usize, bytes: &[u8])
     structure[at..at + bytes.len()].copy_from_slice(bytes);
 }
 
-// Writes header and table into the structure area.
+// Writes the header and the table into the structure area.
 fn put_command(
     structure: &mut [u8],
     clb: u32,
@@ -66,9 +66,10 @@ fn put_command(
     write_prds(structure, table + 0x80, prds);
 }
 
-/// Writes a command into a slot, as a driver does before it sets the slot's bit in PxCI: the header, of the command list
-/// that begins at `clb`, and the command table at `table`, with the FIS of these fields and these PRDs, each of 1 byte
-/// to 4 MiB. Nothing tests that [`Command::read`](crate::Command::read) will take it.
+/// Writes a command into a slot, as a driver does before it sets the slot's bit in PxCI. The header goes to
+/// the command list that begins at `clb`, the command table to `table`. The table has the FIS of these fields
+/// and these PRDs, each of 1 byte to 4 MiB. Nothing checks that [`Command::read`](crate::Command::read) will
+/// accept it.
 pub fn write_command(
     memory: &mut HostMemory,
     clb: u32,

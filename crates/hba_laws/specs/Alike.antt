@@ -1,5 +1,5 @@
--- Isolation of bytes (AHCI 1.3.1, chapter 9, FIS-based Switching): the history of a device, and so what each
--- of its slots is filled with, is told by what belongs to it, by its own events, and by what memory brings to
+-- Isolation of bytes (AHCI 1.3.1, chapter 9, FIS-based Switching). The history of a device, and so what each
+-- of its slots is filled with, follows from what belongs to it, its own events, and what memory brings to
 -- these.
 use Rattle.std.specs.Prelude.{ℕ, ◌≡◌, ◌<◌, if◌then◌else◌, zero, suc, true, List, [], ◌∷◌, ◌++◌, map, drop}
 use Rattle.std.specs.Prelude.{Option, Some, None, is_some}
@@ -23,7 +23,7 @@ use Rattle.hba_laws.specs.Parts.{DevicePart, part_of}
 
 pub record Brought : Type 0 where
   pub event : OwnEvent
-  -- by slot: the PRDs of the command that is issued there now
+  -- by slot: the PRDs of the command issued there now
   pub tables : ℕ → List Prd
   -- the bytes of the frame that goes to the device
   pub bytes : List ℕ
@@ -44,12 +44,12 @@ with_memory host event own =
 abbrev pub brought : ℕ → Host → HostEvent → List Brought
 brought n host event = map (with_memory host event) (own_events n host event)
 
--- and over a run, the first first
+-- and over a run, the first event first
 abbrev pub brought_over : ℕ → (old new : Host) (events : List HostEvent) → Runs old events new → List Brought
 brought_over n old new [] run = []
 brought_over n old new (event ∷ events) run = brought n old event ++ brought_over n run.0 new events run.2
 
--- ---- what they tell
+-- ---- what follows from them
 
 -- a frame of the device is what its own view hears, with a PRD table that can be used
 abbrev pub told_came : ℕ → DevicePart → List ℕ → Option Event
@@ -61,7 +61,7 @@ abbrev pub told_issue : ℕ → List Prd → Option Command → History
 told_issue slot table None = []
 told_issue slot table (Some command) = event.Issued slot (record { work = command.work; table = table }) ∷ []
 
--- commands are issued in slots below a number, the lowest first; so the highest stands first here
+-- commands are issued in slots below a number, the lowest first; so the highest comes first here
 unfoldable pub told_issued : (ℕ → Option Command) → (ℕ → List Prd) → ℕ → History
 told_issued commands tables zero = []
 told_issued commands tables (suc slot) =
@@ -73,7 +73,8 @@ told_order part slot =
     if holds is_control_issue (own_issue part.view.slots slot) then event.SentControl slot
     else event.Sent slot
 
--- it is the payload of the data for which the device asked, and else the command of the slot that may go
+-- what goes out: the payload of the data that the device asked for, or else the command of the slot that can
+-- go
 abbrev pub told_going : DevicePart → List ℕ → History
 told_going part bytes =
     if is_some (payload part.view.slots.context) then event.Carried (drop 4 bytes) ∷ []
@@ -87,8 +88,8 @@ told_own n part Cleared tables bytes = event.Emptied ∷ []
 told_own n part Emptied tables bytes = event.Emptied ∷ []
 told_own n part (Rewritten row) tables bytes = []
 
--- The history of a device after a list of its own events, the first first. It knows no register, no memory
--- but what was brought, and no other device.
+-- The history of a device after a list of its own events, the first event first. It sees no register, no
+-- other device, and of memory only what was brought.
 abbrev pub history_by : ℕ → DevicePart → History → List Brought → History
 history_by n part past [] = past
 history_by n part past (b ∷ later) =
@@ -103,14 +104,14 @@ HistoriesByOwn =
     → history_after n past old new events run.run
     ≡ history_by n (part_of n old) past (brought_over n old new events run.run)
 
--- the same is issued in each slot, and each byte of it is filled with the same, or not filled
+-- each slot has the same issue, and each of its bytes is filled with the same value, or not filled
 pub record AreFilledAlike (history other : History) : Type 0 where
   pub histories : history ≡ other
   pub issues : (s : ℕ) → issued s history ≡ issued s other
   pub bytes : (s i : ℕ) → filled s history i ≡ filled s other i
 
--- So what other devices send, and what is issued for them, changes no byte that a slot of this device is
--- filled with: two runs with the same own events of it, which memory brought the same, fill its slots alike.
+-- So what other devices send, and what is issued for them, changes no byte of this device's slots. Two runs
+-- with the same own events, to which memory brought the same, fill its slots alike.
 abbrev pub OwnFillAlike : Type 0
 OwnFillAlike =
     (n : ℕ) → n < 16

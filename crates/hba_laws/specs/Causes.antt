@@ -30,12 +30,12 @@ clears n host (Wrote register value) =
 clears n host (Flushed dev) = dev == n
 clears n host event = false
 
--- a FIS of the device is taken
+-- a FIS of the device is received
 abbrev pub comes_from : ℕ → HostEvent → Bool
 comes_from n (Took frame report) = port_of frame == n
 comes_from n event = false
 
--- no event of a run is such a one
+-- no event of a run is one of these
 abbrev pub NoneIn : (Host → HostEvent → Bool) → (old new : Host) (events : List HostEvent)
     → Runs old events new → Type 0
 NoneIn is old new [] run = Unit {0}
@@ -43,8 +43,8 @@ NoneIn is old new (event ∷ events) run = (is old event ≡ false) × NoneIn is
 
 -- ---- laws
 
--- A cause that stands at a device stands until the device or the port is cleared, whatever FISes come after,
--- its own too.
+-- The cause of a device's fault stands until the device or the port is cleared, whatever FISes follow,
+-- including its own.
 abbrev pub DeviceCausesStay : Type 0
 DeviceCausesStay =
     (n : ℕ) → n < 16 → (cause : DeviceCause)
@@ -60,8 +60,8 @@ PortCausesStay =
     → NoneIn clears_port old new events run
     → old.port.errors.port ≡ Some cause → new.port.errors.port ≡ Some cause
 
--- Over events none of which is a FIS of a device, or clears it, it has the fault that it had, or none where
--- it had none. So no FIS of another device marks it or changes its cause, and nothing that goes out does.
+-- Over events that are not a FIS of a device and do not clear it, the device keeps its fault, or stays
+-- without one. So no FIS of another device, and nothing that goes out, gives it a fault or changes its cause.
 abbrev pub OthersFaultNone : Type 0
 OthersFaultNone =
     (n : ℕ) → n < 16

@@ -1,6 +1,6 @@
--- What is delivered at a host port: the history of each device over a list of events, and what it
--- says of the slots that become free and of the client bytes (AHCI 1.3.1, 5.3 and 9.3; Serial ATA
--- 3.x, 10.5; ACS-3, NCQ and PIO data-in commands).
+-- What a host port delivers: the history of each device over a list of events, and what that history says of
+-- the slots that become free and of the client bytes (AHCI 1.3.1, 5.3 and 9.3; Serial ATA 3.x, 10.5; ACS-3,
+-- NCQ and PIO data-in commands).
 use Rattle.std.specs.Prelude.{ℕ, ◌≡◌, ◌+◌, ◌<◌, Bool, false, true, if◌then◌else◌, List, [], ◌∷◌}
 use Rattle.std.specs.Prelude.{◌++◌, length, drop, is_some}
 use Rattle.std.specs.Prelude.{slice_index, Option, Some, None, MatchOption, zero, suc}
@@ -36,9 +36,9 @@ use Rattle.hba_laws.specs.Hosts.{Flushed, Gave, Host, HostEvent, Put, Rewrote, R
 use Rattle.hba_laws.specs.Hosts.{TakesFrame, Took, Wrote}
 use Rattle.hba_laws.specs.Sound.{AreHosts, IsHost}
 
--- ---- a frame is taken
+-- ---- a frame is received
 
--- a Register FIS is an answer, but for one that comes while bytes of a PIO data-in are missing
+-- a Register FIS is an answer, except one received while bytes of a PIO data-in are missing
 abbrev pub event_of_answer : Answered → Option Event
 event_of_answer answer.Nobody = Some event.Answered
 event_of_answer (answer.Queued slot) = Some event.Answered
@@ -50,8 +50,7 @@ abbrev pub event_of_block : ℕ → Bool → Option Block → Option Event
 event_of_block count to_host None = None
 event_of_block count to_host (Some block) = Some (event.PioSetUp count to_host block.ends)
 
--- the event that a happening is, with the block that the device has then, and the payload of its
--- frame
+-- the event of a happening, given the device's block at that time and the payload of its frame
 abbrev pub event_of : Happening → Option Block → List ℕ → Option Event
 event_of happening.Nothing block payload = None
 event_of (happening.Answered a) block payload = event_of_answer a
@@ -64,8 +63,8 @@ event_of (happening.Carried wrote finishes) block payload = Some (event.Carried 
 abbrev pub event_heard : Heard → List ℕ → Option Event
 event_heard h payload = event_of h.happening h.state.block payload
 
--- The event that a frame is to its device, as the host stands: what it is heard as by the device's
--- view, and never what is reported. A frame that is ignored is none.
+-- The event that a frame is for its device, given the state of the host. It follows from what the device's
+-- view hears, and never from what is reported. An ignored frame is no event.
 abbrev pub event_taken : Host → List ℕ → Option Event
 event_taken host frame =
     let dev = port_of frame in
@@ -78,19 +77,19 @@ by_device dev (Some e) = By dev e ∷ []
 
 -- ---- commands are issued, and frames go out
 
--- a command is issued in a slot, with its PRDs as they stand now
+-- a command is issued in a slot, with its PRDs as they are now
 abbrev pub issued_in : ℕ → Memory → ℕ → Option Command → Touches
 issued_in dev memory slot None = []
 issued_in dev memory slot (Some command) =
     By dev (event.Issued slot (record { work = command.work; table = prds_of memory command })) ∷ []
 
--- commands are issued in slots below a number, the lowest first; so the highest stands first here
+-- commands are issued in slots below a number, the lowest first; so the highest comes first here
 unfoldable pub issued_below : ℕ → Memory → (ℕ → Option Command) → ℕ → Touches
 issued_below dev memory commands zero = []
 issued_below dev memory commands (suc slot) =
     issued_in dev memory slot (commands slot) ++ issued_below dev memory commands slot
 
--- a device's error is cleared, or none
+-- the error of a device is cleared, if there is a device
 abbrev pub touched_by_clear : Option ℕ → Touches
 touched_by_clear None = []
 touched_by_clear (Some dev) = By dev event.Emptied ∷ []
@@ -121,7 +120,7 @@ touched_by_out host (out.Order dev slot command) = By dev (event_sent host.port.
 
 -- ---- over events
 
--- what an event touches, as the host stands before it, the latest first
+-- what an event touches, given the host before it, the latest first
 abbrev pub touched : Host → HostEvent → Touches
 touched host (Took frame report) = by_device (port_of frame) (event_taken host frame)
 touched host (Wrote register value) = touched_by_write register host value
@@ -145,7 +144,7 @@ history_after n past old new [] run = past
 history_after n past old new (event ∷ events) run =
     history_after n (own n (touched old event) ++ past) run.0 new events run.2
 
--- what is taken is a frame
+-- what is received is a frame
 abbrev pub IsFramed : HostEvent → Type 0
 IsFramed (Took frame report) = IsFrame frame
 IsFramed event = Unit {0}
@@ -161,15 +160,15 @@ pub record IsSound (old new : Host) (events : List HostEvent) (run : Runs old ev
 
 -- ---- laws
 
--- A view is what its device's history says, after every list of events, from any sound host and any
--- history of it.
+-- After every list of events, from any sound host and any history of a device, its view is what its history
+-- says.
 abbrev pub ViewsAreTold : Type 0
 ViewsAreTold =
     (n : ℕ) → n < 16 → (old new : Host) (events : List HostEvent) (run : Runs old events new)
     → IsSound old new events run → (past : History) → IsHistoryOf n old past
     → IsHistoryOf n new (history_after n past old new events run)
 
--- nothing happened to a device of a port that opens
+-- no device of a port that opens has a history yet
 abbrev pub OpensUntold : Type 0
 OpensUntold =
     (n : ℕ) (memory : Memory) → IsHistoryOf n (record { port = opening_port; memory = memory }) []
@@ -180,19 +179,19 @@ HistoriesAreParts =
     (n : ℕ) (past : Touches) (old new : Host) (events : List HostEvent) (run : Runs old events new)
     → own n (touches_after past old new events run) ≡ history_after n (own n past) old new events run
 
--- the frame completes what is issued in slot s of its device after this history
+-- the frame completes what is issued in slot s of its device, after this history
 abbrev pub completes_now : ℕ → Host → List ℕ → History → Bool
 completes_now s host frame past =
     match_some (issued s past) false (λ t.
     match_some (event_taken host frame) false (λ e. completes s e past t.work))
 
--- a report names the device of its frame, and its done has the bit of each slot that the frame
--- completes, and no other
+-- A report names the device of its frame. Its done has the bit of each slot that the frame completes, and no
+-- other.
 pub record ReportsDone (host : Host) (frame : List ℕ) (report : TakeReport) (past : History) : Type 0 where
   pub own_device : report.dev ≡ port_of frame
   pub done : (s : ℕ) → s < 32 → has_bit report.done s ≡ completes_now s host frame past
 
--- so it is at each frame that is taken, after every list of events
+-- this holds for each frame that is received, after every list of events
 abbrev pub DoneIsCompleted : Type 0
 DoneIsCompleted =
     (old host new : Host) (events : List HostEvent) (run : Runs old events host)
@@ -200,7 +199,7 @@ DoneIsCompleted =
     → IsFrame frame → IsHistoryOf (port_of frame) old past → TakesFrame host frame report new
     → ReportsDone host frame report (history_after (port_of frame) past old host events run)
 
--- Data that is heard, or that goes out, is within its setup's issue, after every list of events.
+-- Data that is heard, or that goes out, stays within the issue of its setup, after every list of events.
 abbrev pub DataIsWithin : Type 0
 DataIsWithin =
     (old new : Host) (events : List HostEvent) (run : Runs old events new)
@@ -209,7 +208,7 @@ DataIsWithin =
 
 -- ---- client bytes
 
--- the PRDs of the slot that Data fills are those that stood there at its issue
+-- the PRDs of the slot that Data fills are those that were there at its issue
 abbrev pub ReadsAsIssued : Host → Filling → Type 0
 ReadsAsIssued host f = MatchOption (last_command host.port.commands f.slot) (Unit {0}) (λ command.
     prds_of host.memory command ≡ f.transfer.table)
@@ -219,14 +218,14 @@ DataReadsAsIssued host past (event.Carried bytes) =
     MatchOption (filling past) (Unit {0}) (ReadsAsIssued host)
 DataReadsAsIssued host past e = Unit {0}
 
--- where a frame that is taken is Data, and is heard
+-- this holds where the received frame is Data and is heard
 abbrev pub IsReadAsIssued : Touches → Host → HostEvent → Type 0
 IsReadAsIssued past host (Took frame report) =
     MatchOption (event_taken host frame) (Unit {0})
     (DataReadsAsIssued host (own (port_of frame) past))
 IsReadAsIssued past host event = Unit {0}
 
--- so it is at each event of a run
+-- this holds at each event of a run
 abbrev pub AreReadAsIssued : Touches → (old new : Host) → (events : List HostEvent)
     → Runs old events new → Type 0
 AreReadAsIssued past old new [] run = Unit {0}
@@ -234,13 +233,13 @@ AreReadAsIssued past old new (event ∷ events) run =
     IsReadAsIssued past old event
     × AreReadAsIssued (touched old event ++ past) run.0 new events run.2
 
--- the client bytes of a host are what these touches make of the bytes before
+-- the client bytes of a host are the bytes before, with these touches applied
 abbrev pub IsClient : (ℕ → ℕ) → Touches → Host → Type 0
 IsClient before past host = (k : ℕ) → k < length host.memory.client
     → slice_index host.memory.client k ≡ client before past (client_start + k)
 
--- Client memory is what the touches make of it, after every list of events over which tables read
--- as at the issues.
+-- Client memory is what the touches make of it, after every list of events over which tables read as at the
+-- issues.
 abbrev pub ClientIsTouched : Type 0
 ClientIsTouched =
     (old new : Host) (events : List HostEvent) (run : Runs old events new)
@@ -250,8 +249,7 @@ ClientIsTouched =
 
 -- ---- tables that stay
 
--- what the history of device n issues in a slot has the PRDs of the slot's command as they stand
--- now
+-- what the history of device n has issued in a slot has the PRDs of the slot's command, as they are now
 abbrev pub HasTables : ℕ → Host → History → Type 0
 HasTables n host past = (s : ℕ) (t : Transfer) (command : Command) → issued s past ≡ Some t
     → last_command host.port.commands s ≡ Some command → prds_of host.memory command ≡ t.table
@@ -259,7 +257,7 @@ HasTables n host past = (s : ℕ) (t : Transfer) (command : Command) → issued 
 abbrev pub HaveTables : Host → Touches → Type 0
 HaveTables host past = (n : ℕ) → n < 16 → HasTables n host (own n past)
 
--- the PRDs of each command that is issued stay
+-- the PRDs of each issued command stay unchanged
 abbrev pub SparesTables : Host → Host → Type 0
 SparesTables old new =
     (s : ℕ) (command : Command) → is_some (issue_at old.port.slots s) ≡ true
@@ -271,8 +269,8 @@ abbrev pub AreSpared : (old new : Host) → (events : List HostEvent) → Runs o
 AreSpared old new [] run = Unit {0}
 AreSpared old new (event ∷ events) run = SparesTables old run.0 × AreSpared run.0 new events run.2
 
--- Where no event changes the PRDs of a command while it is issued, all Data is written by the
--- tables as at the issues.
+-- Where no event changes the PRDs of a command while it is issued, all Data is written by the tables as they
+-- were at the issues.
 abbrev pub SparedTablesRead : Type 0
 SparedTablesRead =
     (old new : Host) (events : List HostEvent) (run : Runs old events new)
@@ -281,17 +279,16 @@ SparedTablesRead =
     → AreReadAsIssued past old new events run
     × HaveTables new (touches_after past old new events run)
 
--- ---- a read that is done
+-- ---- a read that completes
 
--- a byte of what was issued in slot s of device n is filled, and stands so far behind the beginning of
--- client memory
+-- a byte of what was issued in slot s of device n is filled, and stands in client memory at this offset
 pub record IsDelivered (n s i : ℕ) (touches : Touches) (client_bytes : List ℕ) (k : ℕ) : Type 0 where
   pub byte : ℕ
   pub is_filled : filled s (own n touches) i ≡ Some byte
   pub stands : slice_index client_bytes k ≡ byte
 
--- Where a report says that a read is done, each byte of the read is filled, and stands in client memory
--- at the place that the read's table named at its issue.
+-- Where a report says that a read is done, each byte of the read is filled, and stands in client memory at
+-- the place that the read's table named at its issue.
 abbrev pub DoneReadsStand : Type 0
 DoneReadsStand =
     (host new : Host) (frame : List ℕ) (report : TakeReport) → IsHost host → IsFrame frame

@@ -1,7 +1,7 @@
--- What happened to the commands of one device, and what that comes to: what is issued, which bytes
--- of it are filled and with what, and which event completes it (AHCI 1.3.1, 5.3 and 9.3; Serial ATA
--- 3.x, 10.5, FIS types; ACS-3, NCQ and PIO data-in commands). These words read a history back to
--- the issue of a slot, and know no flag, no cursor and no running sum.
+-- What happened to the commands of one device, and what follows from it: what is issued, which bytes of it
+-- are filled and with what, and which event completes it (AHCI 1.3.1, 5.3 and 9.3; Serial ATA 3.x, 10.5, FIS
+-- types; ACS-3, NCQ and PIO data-in commands). These definitions read a history back to the issue of a slot.
+-- They use no flag, no cursor and no running sum.
 use Rattle.std.specs.Prelude.{ℕ, ◌+◌, ◌-◌, ◌≤◌, ◌==◌, ◌&&◌, ◌||◌, nat_le, nat_lt, not, Bool, false}
 use Rattle.std.specs.Prelude.{if◌then◌else◌}
 use Rattle.std.specs.Prelude.{List, [], ◌∷◌, length, slice_get, Option, Some, None, is_some}
@@ -12,39 +12,39 @@ use Rattle.slots.specs.Work.{is_queued}
 use Rattle.slots.specs.declared.work.Work.{Work}
 use Rattle.hba_fbs.specs.Status.{is_quiet}
 
--- what a command moves: its kind and how many bytes, and the PRDs that say where they lie, as they
--- stand at its issue
+-- what a command moves: its kind, its byte count, and the PRDs that say where the bytes lie, as they are at
+-- its issue
 pub record Transfer : Type 0 where
   pub work : Work
   pub table : List Prd
 
--- One event of a device. A FIS that was ignored, or that had a fault, is none, but for two: a Set
--- Device Bits FIS that names slots of which bytes are missing beside whole ones, and Data whose one
--- fault is the last status of its block.
+-- One event of a device. A FIS that was ignored, or that had a fault, is no event, with two exceptions: a Set
+-- Device Bits FIS that names whole slots together with slots that miss bytes, and Data whose only fault is
+-- the last status of its block.
 pub data Event : Type 0 where
   -- a command is issued in a slot
   Issued : (slot : ℕ) → Transfer → Event
-  -- the command of a slot goes out, or the Control there
+  -- the command of a slot, or the Control there, is transmitted
   Sent : (slot : ℕ) → Event
   SentControl : (slot : ℕ) → Event
   -- a DMA Setup is accepted
   SetUp : (tag offset count : ℕ) → (to_host : Bool) → Event
   -- a PIO Setup is accepted, with the Status at the end of its block
   PioSetUp : (count : ℕ) → (to_host : Bool) → (ends : ℕ) → Event
-  -- the payload of a Data FIS came or went
+  -- the payload of a Data FIS was received or transmitted
   Carried : (bytes : List ℕ) → Event
-  -- a Register Device to Host FIS answers the command that waits
+  -- a Register Device to Host FIS answers the waiting command
   Answered : Event
   -- a Set Device Bits FIS says that these slots are done
   Named : (mask : ℕ) → Event
   -- the device is flushed or its error is cleared, or ST falls
   Emptied : Event
 
--- The functions below go back through a history: the latest event stands first.
+-- The functions below read a history backwards: the latest event comes first.
 abbrev pub History : Type 0
 History = List Event
 
--- an accepted setup, and of a PIO Setup the Status at its end
+-- an accepted setup, and for a PIO Setup the Status at its end
 pub record Setup : Type 0 where
   pub slot : ℕ
   pub offset : ℕ
@@ -52,7 +52,7 @@ pub record Setup : Type 0 where
   pub to_host : Bool
   pub ends : Option ℕ
 
--- the option, where the test does not hold
+-- the option, if the test fails
 abbrev pub unless : {A : Type 0} → Bool → Option A → Option A
 unless test o = if test then None else o
 
@@ -62,7 +62,7 @@ is_at s (Some k) = k == s
 
 -- ---- setups
 
--- the slot whose command went out last and was not answered
+-- the slot whose command was transmitted last and was not answered
 abbrev pub waiting_in : History → Option ℕ
 waiting_in [] = None
 waiting_in (Sent slot ∷ past) = Some slot
@@ -78,7 +78,7 @@ is_set_up s (SetUp tag offset count to_host ∷ past) = tag == s
 is_set_up s (PioSetUp count to_host ends ∷ past) = is_at s (waiting_in past)
 is_set_up s (_ ∷ past) = is_set_up s past
 
--- how many bytes of s came or went since its issue
+-- how many bytes of s were transferred since its issue
 abbrev pub bytes_of : ℕ → History → ℕ
 bytes_of s [] = 0
 bytes_of s (Issued slot t ∷ past) = if slot == s then 0 else bytes_of s past
@@ -86,7 +86,7 @@ bytes_of s (Carried bytes ∷ past) =
     if is_set_up s past then bytes_of s past + length bytes else bytes_of s past
 bytes_of s (_ ∷ past) = bytes_of s past
 
--- the setup of a PIO Setup goes on where the bytes of its slot end
+-- the setup of a PIO Setup continues where the bytes of its slot end
 abbrev pub pio_setup : (slot offset count : ℕ) → (to_host : Bool) → (ends : ℕ) → Setup
 pio_setup slot offset count to_host ends =
     record { slot = slot; offset = offset; count = count; to_host = to_host; ends = Some ends }
@@ -100,7 +100,7 @@ last_setup (PioSetUp count to_host ends ∷ past) =
     match_some (waiting_in past) None (λ s. Some (pio_setup s (bytes_of s past) count to_host ends))
 last_setup (_ ∷ past) = last_setup past
 
--- how many bytes of Data came or went since the last setup
+-- how many bytes of Data were transferred since the last setup
 abbrev pub carried : History → ℕ
 carried [] = 0
 carried (SetUp tag offset count to_host ∷ past) = 0
@@ -108,7 +108,7 @@ carried (PioSetUp count to_host ends ∷ past) = 0
 carried (Carried bytes ∷ past) = carried past + length bytes
 carried (_ ∷ past) = carried past
 
--- the number of the next byte: the last setup's offset, and the bytes since
+-- the number of the next byte: the last setup's offset, plus the bytes since
 abbrev pub next_number : History → ℕ
 next_number past = match_some (last_setup past) 0 (λ g. g.offset + carried past)
 
@@ -117,7 +117,7 @@ next_number past = match_some (last_setup past) 0 (λ g. g.offset + carried past
 abbrev pub none_filled : ℕ → Option ℕ
 none_filled k = None
 
--- these bytes too, from this number on
+-- these bytes are filled too, from this number on
 abbrev pub filled_from : ℕ → List ℕ → (ℕ → Option ℕ) → ℕ → Option ℕ
 filled_from from bytes filled k =
     if nat_le from k && nat_lt k (from + length bytes) then slice_get bytes (k - from) else filled k
@@ -130,23 +130,23 @@ filled s (Carried bytes ∷ past) =
     if is_set_up s past then filled_from (next_number past) bytes (filled s past) else filled s past
 filled s (_ ∷ past) = filled s past
 
--- a transfer of so many bytes is whole: each of them is filled
+-- every byte of a transfer of this length is filled
 abbrev pub is_all_filled : (ℕ → Option ℕ) → ℕ → Bool
 is_all_filled bytes len = list_all (λ k. is_some (bytes k)) (range_with_len 0 len)
 
 -- ---- what completes
 
--- the last status of a block that Data of so many bytes ends
+-- the last status of the block that Data of this length ends
 abbrev pub block_end : Setup → ℕ → Option ℕ
 block_end g gone = if gone == g.count then g.ends else None
 
--- so many bytes end a block with a Status that says that the command may be done
+-- Data of this length ends a block, with a Status that lets the command complete
 abbrev pub ends_well : Setup → ℕ → Bool
 ends_well g gone = match_some (block_end g gone) false is_quiet
 
--- Whether this completes what is issued in s, where that is this work: for a queued command a Set
--- Device Bits FIS that names it while it is whole, for any other an answer of the device, and for a
--- PIO data-in also the end of its last block.
+-- Whether the event completes what is issued in s, given its work. A queued command completes with a Set
+-- Device Bits FIS that names it while it is whole. Any other completes with an answer of the device, a PIO
+-- data-in also with the end of its last block.
 abbrev pub completes : ℕ → Event → History → Work → Bool
 completes s (Named mask) past w =
     has_bit mask s && (is_queued w.kind && is_all_filled (filled s past) w.len)
@@ -159,8 +159,8 @@ completes s (Carried bytes) past w =
     && is_all_filled (filled s (Carried bytes ∷ past)) w.len
 completes s _ past w = false
 
--- what is issued in each slot, and did not complete; a Control has no answer, and its slot is free
--- as it goes out
+-- what is issued in each slot and did not complete; a Control has no answer, so its slot is free once it is
+-- transmitted
 abbrev pub issued : ℕ → History → Option Transfer
 issued s [] = None
 issued s (Issued slot t ∷ past) = if slot == s then Some t else issued s past

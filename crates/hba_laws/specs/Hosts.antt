@@ -20,31 +20,31 @@ pub record Host : Type 0 where
 
 -- one event
 pub data HostEvent : Type 0 where
-  -- a frame is taken, with this report
+  -- a frame is received, with this report
   Took : (frame : List ℕ) → (report : TakeReport) → HostEvent
-  -- a value is written to a register, and is not refused
+  -- a value is written to a register and not refused
   Wrote : (register : Register) → (value : ℕ) → HostEvent
   -- a device is flushed
   Flushed : (dev : ℕ) → HostEvent
   -- the port is asked for a frame, and gives this one, or none
   Gave : (frame : Option Stamped) → HostEvent
-  -- the software writes the structure area, but for the received area
+  -- the software writes the structure area, except the received area
   Stored : (structure : List ℕ) → HostEvent
   -- the software writes a device's row of the received area
   Rewrote : (dev : ℕ) → (row : List ℕ) → HostEvent
   -- the software writes bytes of the client area
   Put : (at : ℕ) → (bytes : List ℕ) → HostEvent
 
--- ---- what each leaves: the contracts of the calls
+-- ---- what each event leaves: the contracts of the calls
 
--- a frame is taken: it is ignored, or heard
+-- a frame is received: it is ignored or heard
 pub record TakesFrame (old : Host) (frame : List ℕ) (report : TakeReport) (new : Host) : Type 0 where
   pub ignored : ignores (port_of frame) old.port frame ≡ true
       → Ignores (port_of frame) old.port old.memory report new.port new.memory
   pub heard : ignores (port_of frame) old.port frame ≡ false
       → Hears (port_of frame) old.port old.memory frame report new.port new.memory
 
--- the structure area is written, as long as it is, and the received area stays
+-- the structure area gets new bytes of the same length; the received area stays
 pub record StoresStructure (fb : ℕ) (old : Memory) (structure : List ℕ) (new : Memory) : Type 0 where
   pub as_long : length structure ≡ length old.structure
   pub area : area_at structure fb ≡ area_at old.structure fb

@@ -1,4 +1,4 @@
--- Whose own each event of a host port is, and isolation (AHCI 1.3.1, chapter 9, FIS-based
+-- Which device each event of a host port belongs to, and isolation (AHCI 1.3.1, chapter 9, FIS-based
 -- Switching): what belongs to a device is the fold of its own events alone.
 use Rattle.std.specs.Prelude.{ℕ, ◌≡◌, ◌<◌, ◌==◌, ◌&&◌, ◌||◌, Bool, true, false, not, if◌then◌else◌, List, []}
 use Rattle.std.specs.Prelude.{◌∷◌, ◌++◌, Option, Some, None, is_none, is_some}
@@ -30,7 +30,7 @@ use Rattle.hba_laws.specs.Sound.{AreHosts, IsHost}
 
 -- ---- events of the port
 
--- the frame is heard, and stops the port
+-- the frame is heard and stops the port
 abbrev pub stops_port : ℕ → Port → Memory → List ℕ → Bool
 stops_port dev port memory frame =
     not (ignores dev port frame)
@@ -41,7 +41,7 @@ abbrev pub lowers_st : Register → Registers → ℕ → Bool
 lowers_st Cmd r value = falls r value
 lowers_st register r value = false
 
--- data is due to a device, and the host's bus fails
+-- data is due to a device, and the host bus fails
 abbrev pub fails_by_bus : Outgoing → Bool
 fails_by_bus Nothing = false
 fails_by_bus (Unreadable dev) = true
@@ -57,8 +57,8 @@ stops host (Stored structure) = false
 stops host (Rewrote dev row) = false
 stops host (Put at bytes) = false
 
--- An event of the port and not of one device: any while ST is 0 or a fault of the port stands, so
--- also a write that sets ST, and each that ends this.
+-- An event of the port as a whole: any event while ST is 0 or the port has a fault, hence also the write that
+-- sets ST, and each event that ends this.
 abbrev pub is_port_event : Host → HostEvent → Bool
 is_port_event host event = not (is_running host.port) || stops host event
 
@@ -66,11 +66,11 @@ is_port_event host event = not (is_running host.port) || stops host event
 
 -- what happens to one device
 pub data OwnEvent : Type 0 where
-  -- a frame of it comes
+  -- a frame of it is received
   Came : (frame : List ℕ) → OwnEvent
   -- commands are issued for it, each in its slot
   Issued : (commands : ℕ → Option Command) → OwnEvent
-  -- a frame goes out to it
+  -- a frame is transmitted to it
   Went : OwnEvent
   -- its error is cleared
   Cleared : OwnEvent
@@ -79,8 +79,8 @@ pub data OwnEvent : Type 0 where
   -- the software writes its row
   Rewritten : (row : List ℕ) → OwnEvent
 
--- a write of PxCI issues commands for the device that PxFBS.DEV names, and PxFBS.DEC clears the one that
--- DWE names
+-- a write of PxCI issues commands for the device that PxFBS.DEV names; PxFBS.DEC clears the device that DWE
+-- names
 abbrev pub written_to : ℕ → Host → Register → ℕ → List OwnEvent
 written_to n host Ci value =
     if n == host.port.registers.chosen
@@ -90,13 +90,13 @@ written_to n host Fbs value =
     if is_device n (cleared_by host.port.errors value) then Cleared ∷ [] else []
 written_to n host register value = []
 
--- a frame goes out to the device whose PM Port stands beside it
+-- a frame is transmitted to the device whose PM Port is given with it
 abbrev pub gone_to : ℕ → Option Stamped → List OwnEvent
 gone_to n None = []
 gone_to n (Some frame) = if frame.stamp.port == n then Went ∷ [] else []
 
--- The own events of a device in an event: a frame that has its PM Port, commands for it, the clearing
--- of its error, a frame to it, its flush, a write of its row.
+-- The own events of a device in an event: a frame with its PM Port, commands for it, the clearing of its
+-- error, a frame to it, its flush, a write of its row.
 abbrev pub own_events : ℕ → Host → HostEvent → List OwnEvent
 own_events n host (Took frame report) = if port_of frame == n then Came frame ∷ [] else []
 own_events n host (Wrote register value) = written_to n host register value
@@ -113,25 +113,25 @@ abbrev pub row_with : List ℕ → Option Fis → List ℕ
 row_with row None = row
 row_with row (Some fis) = row_after row fis
 
--- the PRD table of a Data FIS that stops no port can be used
+-- the PRD table of a Data FIS that does not stop the port can be used
 abbrev pub after_fis : ℕ → DevicePart → Option Fis → DevicePart
 after_fis n part fis =
     record (with_view part (heard_view n part.view true fis)) { row = row_with part.row fis }
 
--- the commands that are issued now, and else those from before
+-- the commands that are issued now, or else those from before
 abbrev pub after_issue : ℕ → (ℕ → Option Command) → DevicePart → DevicePart
 after_issue n commands part =
     with_view (record part { commands = λ slot. option_or (commands slot) (part.commands slot) })
     (record part.view { slots = issued_slots n commands part.view.slots })
 
--- its command was not sent and may go: a Control, or any while the device is ready and no slot of
--- it waits
+-- its command was not sent and can go: a Control always, any other while the device is ready and none of its
+-- slots waits
 abbrev pub may_leave : DeviceView → Issue → Bool
 may_leave view issue =
     not issue.sent && not (is_some view.fault)
     && (is_control issue.work.kind || is_ready view.state && is_none (waiting view.slots))
 
--- the lowest slot of the device whose command may go
+-- the lowest slot of the device whose command can go
 abbrev pub next_own : DeviceView → Option ℕ
 next_own view = lowest (λ slot. holds (may_leave view) (own_issue view.slots slot))
 
@@ -140,14 +140,13 @@ after_order part slot =
     match_some (part.commands slot) part (λ command.
     with_view part (view_sent part.view slot command))
 
--- it is the data for which the device asked, and else the command of the slot that may go
+-- what goes out: the data that the device asked for, or else the command of the slot that can go
 abbrev pub after_going : DevicePart → DevicePart
 after_going part =
     if is_some (payload part.view.slots.context) then with_view part (view_fed part.view)
     else match_some (next_own part.view) part (after_order part)
 
--- What belongs to a device after one of its own events. It knows no register, no memory and no
--- other device.
+-- What belongs to a device after one of its own events. It sees no register, no memory and no other device.
 abbrev pub part_after : ℕ → DevicePart → OwnEvent → DevicePart
 part_after n part (Came frame) =
     if is_ignored true part.view (seen frame) then part
@@ -158,33 +157,33 @@ part_after n part Cleared = with_view part (stopped_view part.view)
 part_after n part Emptied = with_view part flushed_view
 part_after n part (Rewritten row) = record part { row = row }
 
--- and after a list of them, the first first
+-- and after a list of them, the first event first
 abbrev pub part_after_all : ℕ → DevicePart → List OwnEvent → DevicePart
 part_after_all n part [] = part
 part_after_all n part (event ∷ events) = part_after_all n (part_after n part event) events
 
 -- ---- what goes out to a device
 
--- bytes of a slot's command, from the places of its table
+-- bytes of a slot's command, from the places in its table
 abbrev pub own_data : ℕ → DevicePart → Memory → ℕ × ℕ × ℕ → Option (List ℕ)
 own_data n part memory next =
     match_some (part.commands next.0) None (λ command.
     Some (data_fis n (gathered (prds_of memory command) next.1 next.2 memory.client)))
 
--- the command of the slot that may go
+-- the command of the slot that can go
 abbrev pub own_order : DevicePart → Option (List ℕ)
 own_order part =
     match_some (next_own part.view) None (λ slot.
     match_some (part.commands slot) None (λ command. Some command.cfis))
 
--- the data for which it asked, and else a command
+-- the data that the device asked for, or else a command
 abbrev pub own_bytes : ℕ → DevicePart → Memory → Option (List ℕ)
 own_bytes n part memory =
     match_some (payload part.view.slots.context) (own_order part) (own_data n part memory)
 
 -- ---- isolation
 
--- each event of a run is one of devices, and none is one of the port
+-- each event of a run belongs to devices, and none to the port
 abbrev pub AreOfDevices : (old new : Host) (events : List HostEvent) → Runs old events new → Type 0
 AreOfDevices old new [] run = Unit {0}
 AreOfDevices old new (event ∷ events) run =
@@ -202,16 +201,16 @@ own_over n old new [] run = []
 own_over n old new (event ∷ events) run =
     own_events n old event ++ own_over n run.0 new events run.2
 
--- what belongs to a device after a run is the fold of its own events from what did before
+-- what belongs to a device after a run is the fold of its own events over what it had before
 abbrev pub IsFoldOfOwn : Type 0
 IsFoldOfOwn =
     (n : ℕ) → n < 16
     → (old new : Host) (events : List HostEvent) (run : RunsByDevices old events new)
     → part_of n new ≡ part_after_all n (part_of n old) (own_over n old new events run.run)
 
--- So what other devices send, what is issued for them, what goes out to them, and which of them are
--- flushed or faulty, is nothing to a device: two runs with the same own events of it take equal
--- parts of it to equal ones.
+-- So a device does not depend on what other devices send, what is issued for them, what goes out to them, or
+-- which of them are flushed or faulty. Two runs with the same own events take equal parts of it to equal
+-- parts.
 abbrev pub AreAlike : Type 0
 AreAlike =
     (n : ℕ) → n < 16
@@ -221,7 +220,7 @@ AreAlike =
     → own_over n old new events run.run ≡ own_over n old2 new2 events2 run2.run
     → part_of n new ≡ part_of n new2
 
--- And what goes out to a device is told by what belongs to it, and of memory by its own table.
+-- And what goes out to a device follows from what belongs to it, and from memory only through its own table.
 abbrev pub GoesByOwn : Type 0
 GoesByOwn =
     (n : ℕ) → n < 16 → (old new : Host) (frame : Stamped) → IsHost old

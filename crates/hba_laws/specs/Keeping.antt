@@ -1,5 +1,5 @@
--- When software keeps the PRD tables of issued commands as they are (AHCI 1.3.1, 4.2.3.3, PRD tables,
--- and 5.5, how commands are issued).
+-- When software leaves the PRD tables of issued commands unchanged (AHCI 1.3.1, 4.2.3.3, PRD tables, and 5.5,
+-- how commands are issued).
 use Rattle.std.specs.Prelude.{ℕ, ◌≡◌, ◌+◌, ◌*◌, true, false, List, [], ◌∷◌, Some, is_some}
 use Rattle.host_memory.specs.Reading.{LieApart}
 use Rattle.hba_commands.specs.declared.command.Command.{Command}
@@ -15,7 +15,7 @@ pub record KeepsPrds (command : Command) (host : Host) (event : HostEvent) : Typ
   pub apart : LieApart (command.table + 128) (16 * command.count) host.port.registers.fb 4096
   pub spares : SparesBytes (command.table + 128) (16 * command.count) host event
 
--- so it is with each command that is issued, and the received area is not moved
+-- this holds for each issued command, and the received area does not move
 pub record KeepsTables (host : Host) (event : HostEvent) : Type 0 where
   pub area : moves_area host event ≡ false
   pub commands : (s : ℕ) (command : Command) → is_some (issue_at host.port.slots s) ≡ true
@@ -26,7 +26,7 @@ abbrev pub AreKeptTables : (old new : Host) → (events : List HostEvent) → Ru
 AreKeptTables old new [] run = Unit {0}
 AreKeptTables old new (event ∷ events) run = KeepsTables old event × AreKeptTables run.0 new events run.2
 
--- Then the PRDs of each command stay while it is issued, whatever devices send.
+-- Then the PRDs of each command stay unchanged while it is issued, whatever devices send.
 abbrev pub KeptTablesStay : Type 0
 KeptTablesStay =
     (old new : Host) (events : List HostEvent) (run : Runs old events new)

@@ -11,11 +11,11 @@ use Rattle.hba_laws.specs.Hosts.{Host}
 -- a device's view, the commands of its slots and its row of the received area
 pub record DevicePart : Type 0 where
   pub view : DeviceView
-  -- by slot: the command that is issued there for the device, None where none is
+  -- by slot: the command issued there for the device, None where there is none
   pub commands : ℕ → Option Command
   pub row : List ℕ
 
--- of these commands those of the slots in which something of the device is issued
+-- the commands of those slots in which something of the device is issued
 abbrev pub commands_of : DeviceSlots → (ℕ → Option Command) → ℕ → Option Command
 commands_of own commands slot = if is_some (own_issue own slot) then commands slot else None
 
@@ -26,6 +26,6 @@ part_of n host = record {
   row = row_of (area_at host.memory.structure host.port.registers.fb) n;
 }
 
--- the part with another view: the commands of slots that became free are no longer there
+-- the part with another view; it no longer has the commands of slots that became free
 abbrev pub with_view : DevicePart → DeviceView → DevicePart
 with_view part view = record part { view = view; commands = commands_of view.slots part.commands }

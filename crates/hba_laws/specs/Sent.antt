@@ -1,6 +1,6 @@
--- The bytes of a write: Data that goes to a device is what client memory has at the places of the
--- write's PRDs (AHCI 1.3.1, 4.2.3.3, Physical Region Descriptor Table, and 5.3, data transfer;
--- Serial ATA 3.x, 10.5, Data FIS; ACS-3, WRITE FPDMA QUEUED).
+-- The bytes of a write: Data to a device is what client memory has at the places of the write's PRDs (AHCI
+-- 1.3.1, 4.2.3.3, Physical Region Descriptor Table, and 5.3, data transfer; Serial ATA 3.x, 10.5, Data FIS;
+-- ACS-3, WRITE FPDMA QUEUED).
 use Rattle.std.specs.Prelude.{ℕ, ◌≡◌, ◌≢◌, ◌+◌, ◌-◌, ◌<◌, ◌≤◌, true, false, List, [], ◌∷◌, ◌++◌}
 use Rattle.std.specs.Prelude.{length, slice_get, Some}
 use Rattle.host_memory.specs.Place.{place}
@@ -12,7 +12,7 @@ use Rattle.hba_laws.specs.Delivering.{AreSpared, HaveTables, IsClient, IsSound, 
 use Rattle.hba_laws.specs.History.{Carried, Transfer, filled, is_set_up, issued, next_number}
 use Rattle.hba_laws.specs.Hosts.{Host, HostEvent, Runs}
 
--- what is issued in slot s of device n is this, and it does not read
+-- this is issued in slot s of device n, and is not a read
 pub record IsWriting (n s : ℕ) (t : Transfer) (past : Touches) : Type 0 where
   pub is : issued s (own n past) ≡ Some t
   pub writes : is_read t.work.kind ≡ false
@@ -24,14 +24,14 @@ abbrev pub StandFrom : (ℕ → ℕ) → List Prd → ℕ → List ℕ → Type 
 StandFrom memory table from bytes =
     (j : ℕ) → j < length bytes → slice_get bytes j ≡ Some (memory (place table (from + j)))
 
--- Data of a device, where the last setup since the issue of a write is for that write: the bytes
--- stand at the write's places as they go
+-- Data of a device, if the last setup since the issue of a write is for that write: the bytes stand at the
+-- write's places as they go out.
 abbrev pub IsGathered : (ℕ → ℕ) → Touches → ℕ → List ℕ → Type 0
 IsGathered opening past dev bytes =
     (s : ℕ) (t : Transfer) → IsWriting dev s t past → is_set_up s (own dev past) ≡ true
     → StandFrom (client opening past) t.table (next_number (own dev past)) bytes
 
--- so it was with all Data
+-- this held for all Data
 abbrev pub AreGathered : (ℕ → ℕ) → Touches → Type 0
 AreGathered opening [] = Unit {0}
 AreGathered opening (By dev (Carried bytes) ∷ past) =
@@ -40,20 +40,20 @@ AreGathered opening (_ ∷ past) = AreGathered opening past
 
 -- ---- what keeps a write's bytes
 
--- no byte of a write that is issued has the place of a byte of a read that is
+-- no byte of an issued write has the place of a byte of an issued read
 abbrev pub AreBeside : Touches → Type 0
 AreBeside past =
     (n s m r i j : ℕ) (t u : Transfer) → IsWriting n s t past → IsReading m r u past
     → i < t.work.len → j < u.work.len → place t.table i ≢ place u.table j
 
--- bytes that are put spare the places of issued writes
+-- bytes that are written avoid the places of issued writes
 abbrev pub SparesWrites : ℕ → ℕ → Touches → Type 0
 SparesWrites at len past =
     (n s i : ℕ) (t : Transfer) → IsWriting n s t past → i < t.work.len
     → is_in at len (place t.table i) ≡ false
 
--- what the software keeps: where Data comes, issued writes are beside issued reads, and what it puts
--- spares their places
+-- what the software keeps: issued writes do not overlap issued reads while Data is received, and its writes
+-- avoid their places
 abbrev pub HoldsWrites : Touches → Type 0
 HoldsWrites [] = Unit {0}
 HoldsWrites (Puts at bytes ∷ past) = SparesWrites at (length bytes) past × HoldsWrites past
@@ -72,7 +72,7 @@ DataIsGathered =
     → IsClient before past old → AreGathered before past
     → AreGathered before (touches_after past old new events run)
 
--- Data went out that had byte i of a write, which was b, and stood then at its place.
+-- Data was transmitted that had byte i of a write; the byte was b, and stood at its place then.
 pub record WasSent (opening : ℕ → ℕ) (past : Touches) (n s i b : ℕ) (t : Transfer) : Type 0 where
   pub later : Touches
   pub bytes : List ℕ
@@ -83,14 +83,14 @@ pub record WasSent (opening : ℕ → ℕ) (past : Touches) (n s i b : ℕ) (t :
   pub carries : slice_get bytes (i - next_number (own n earlier)) ≡ Some b
   pub stood : client opening earlier (place t.table i) ≡ b
 
--- So it was with each byte of an issued write that is filled, whatever the software puts.
+-- This held for each filled byte of an issued write, whatever the software writes.
 abbrev pub SentFromPlace : Type 0
 SentFromPlace =
     (opening : ℕ → ℕ) (past : Touches) → AreGathered opening past
     → (n s i b : ℕ) (t : Transfer) → IsWriting n s t past → filled s (own n past) i ≡ Some b
     → WasSent opening past n s i b t
 
--- And as long as it is issued and the software keeps its places, the byte stands there.
+-- While the write is issued and the software leaves its places unchanged, the byte still stands there.
 abbrev pub SentStandsInPlace : Type 0
 SentStandsInPlace =
     (opening : ℕ → ℕ) (past : Touches) → HoldsWrites past → AreWithin past

@@ -1,8 +1,8 @@
-//! Laws over lists of what happens at an AHCI host port with FIS-based switching, and in the memory
-//! beside it.
+//! Laws over lists of what happens at an AHCI host port with FIS-based switching, and in the memory beside
+//! it.
 //!
-//! Each function here is a law: its clauses hold of every host port of the crate `hba_fbs`, over every
-//! list of its calls and of what its software writes between them. None does anything when it runs.
+//! Each function here is a law: its clauses hold of every host port of the crate `hba_fbs`, over every list
+//! of its calls and of what its software writes between them. The functions run no code.
 #![tactic(auto)]
 
 mod causes;

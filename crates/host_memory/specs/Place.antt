@@ -1,23 +1,22 @@
--- Where the bytes of a transfer lie: AHCI 1.3.1, section 4.2.3.3, Physical Region Descriptor Table.
--- The entries of a table, in order, name runs of memory; the transfer's bytes fill them one after
--- another.
+-- Where the bytes of a transfer lie: AHCI 1.3.1, section 4.2.3.3, Physical Region Descriptor Table. The
+-- entries of a table name runs of memory. The bytes of the transfer fill them in order, one after another.
 use Rattle.std.specs.Prelude.{◌≡◌, ◌≢◌, ℕ, ◌+◌, ◌-◌, ◌<◌, ◌≤◌, ◌↔◌, ◌==◌, nat_lt, if◌then◌else◌, List, []}
 use Rattle.std.specs.Prelude.{◌∷◌, slice_get, slice_index, slice_set, length, Some}
 use Rattle.host_memory.specs.declared.table.Prd.{Prd}
 use Rattle.host_memory.specs.Memory.{client_start}
 
--- how many bytes a transfer has: the sum of the entries' counts
+-- the length of a transfer: the sum of the entries' byte counts
 abbrev pub total_of : List Prd → ℕ
 total_of [] = 0
 total_of (prd ∷ rest) = prd.bytes + total_of rest
 
--- The address of byte i of a transfer: in the first entry where i is below its count, else that of
--- byte i less this count in the rest. Past the end it says nothing of use.
+-- The address of byte i of a transfer: in the first entry where i is below its count, otherwise that of byte
+-- i less this count in the rest. Past the end its value has no meaning.
 abbrev pub place : List Prd → ℕ → ℕ
 place [] i = 0
 place (prd ∷ rest) i = (if nat_lt i prd.bytes then prd.address + i else place rest (i - prd.bytes))
 
--- so many bytes, from this address on, all lie in a client area of client_len bytes
+-- this many bytes, starting at this address, all lie in a client area of client_len bytes
 abbrev pub LiesInClient : ℕ → ℕ → ℕ → Type 0
 LiesInClient client_len address count =
     (client_start ≤ address) × (address + count ≤ client_start + client_len)
@@ -27,11 +26,11 @@ abbrev pub AreInside : ℕ → List Prd → Type 0
 AreInside client_len [] = Unit {0}
 AreInside client_len (prd ∷ rest) = LiesInClient client_len prd.address prd.bytes × AreInside client_len rest
 
--- the address is that of one of the entry's bytes
+-- the address is one of the entry's bytes
 abbrev pub IsByteOf : Prd → ℕ → Type 0
 IsByteOf prd at = (prd.address ≤ at) × (at < prd.address + prd.bytes)
 
--- some byte is one of both entries'
+-- both entries have some byte in common
 pub record ShareByte (p q : Prd) : Type 0 where
   pub at : ℕ
   pub of_first : IsByteOf p at
@@ -48,12 +47,12 @@ pub record HaveOverlap (prds : List Prd) : Type 0 where
   pub second : slice_get prds j ≡ Some q
   pub shared : ShareByte p q
 
--- no two entries do
+-- no two entries share a byte
 abbrev pub AreApart : List Prd → Type 0
 AreApart prds = ¬ HaveOverlap prds
 
--- The bytes are written to the places of the transfer's bytes from offset on, in a client area that
--- begins at client_start. Every other byte stays, and so does the area's length.
+-- The bytes are written to the places of the transfer's bytes from offset on, in a client area that begins at
+-- client_start. Every other byte stays, and so does the length of the area.
 pub record Scatters (prds : List Prd) (offset : ℕ) (bytes old new : List ℕ) : Type 0 where
   pub written : (k : ℕ) → k < length bytes → slice_index new (place prds (offset + k) - client_start)
       ≡ slice_index bytes k
@@ -61,19 +60,19 @@ pub record Scatters (prds : List Prd) (offset : ℕ) (bytes old new : List ℕ) 
       → slice_index new at ≡ slice_index old at
   pub as_long : length new ≡ length old
 
--- the bytes written into the client area one after another, each at the place of its byte of the transfer
+-- the client area after the bytes are written one at a time, each at the place of its byte of the transfer
 abbrev pub one_by_one : List Prd → ℕ → List ℕ → List ℕ → List ℕ
 one_by_one prds offset [] client = client
 one_by_one prds offset (byte ∷ bytes) client =
     one_by_one prds (offset + 1) bytes (slice_set client (place prds offset - client_start) byte)
 
--- the same of memory as a function of addresses: these bytes at their places, and each other byte as it was
+-- the same for memory as a function of addresses: these bytes at their places, and every other byte as it was
 abbrev pub written : List Prd → ℕ → List ℕ → (ℕ → ℕ) → ℕ → ℕ
 written prds offset [] old at = old at
 written prds offset (byte ∷ bytes) old at =
     (if at == place prds offset then byte else written prds (offset + 1) bytes old at)
 
--- For a sound table and a run that fits, what a scatter leaves is just what single writes leave, one after
+-- For a sound table and a run that fits, a scatter leaves exactly what single writes leave, one after
 -- another: as a list, and as a function of addresses.
 abbrev pub ScattersOneByOne : Type 0
 ScattersOneByOne =
@@ -89,7 +88,7 @@ ScattersAtPlaces =
     → ((k : ℕ) → k < length old → slice_index old k ≡ before (client_start + k))
     → (k : ℕ) → k < length old → slice_index new k ≡ written prds offset bytes before (client_start + k)
 
--- a byte of one transfer and a byte of the other have one place
+-- a byte of one transfer and a byte of the other have the same place
 pub record ShareAPlace (prds others : List Prd) : Type 0 where
   pub i : ℕ
   pub j : ℕ
@@ -102,7 +101,7 @@ pub record HasOwnPlaces (client_len : ℕ) (prds : List Prd) : Type 0 where
   pub inside : (i : ℕ) → i < total_of prds → LiesInClient client_len (place prds i) 1
   pub own : (i j : ℕ) → i < total_of prds → j < total_of prds → i ≢ j → place prds i ≢ place prds j
 
--- what a caller sees of a table: its entries, and the length of the client area in which they lie
+-- what a caller sees of a table: its entries, and the length of the client area that they lie in
 pub record Table : Type 0 where
   pub prds : List Prd
   pub client_len : ℕ

@@ -13,11 +13,11 @@ use Rattle.host_memory.specs.Ends.{ends_from}
 use Rattle.host_memory.specs.Memory.{client_start, overwritten}
 use Rattle.host_memory.specs.Place.{AreInside, AreApart}
 
--- the dword that lies there, least significant byte first
+-- the dword at this index, the least significant byte first
 abbrev pub dword_at : List ℕ → ℕ → ℕ
 dword_at structure at = little_number 4 (drop at structure)
 
--- the entry that lies there: DW0 is the address, bits 21:0 of DW3 are the byte count less one
+-- the entry at this index: DW0 is the address, bits 21:0 of DW3 are the byte count less one
 abbrev pub prd_at : List ℕ → ℕ → Prd
 prd_at structure at =
     record { address = dword_at structure at; bytes = dword_at structure (at + 12) % 2 ^ 22 + 1 }
@@ -26,7 +26,7 @@ prd_at structure at =
 abbrev pub upper_at : List ℕ → ℕ → ℕ
 upper_at structure at = dword_at structure (at + 4)
 
--- so many entries, from there on
+-- this many entries, starting at this index
 abbrev pub prds_at : List ℕ → ℕ → ℕ → List Prd
 prds_at structure at zero = []
 prds_at structure at (suc count) = prd_at structure at ∷ prds_at structure (at + 16) count
@@ -36,23 +36,23 @@ abbrev pub is_bad : List ℕ → ℕ → Bool
 is_bad structure at = let prd = prd_at structure at in (prd.address % 2 == 1)
     || not (upper_at structure at == 0) || (prd.bytes % 2 == 1)
 
--- a byte of it is not in a client area of client_len bytes
+-- some byte of it is outside a client area of client_len bytes
 abbrev pub is_outside : ℕ → Prd → Bool
 is_outside client_len prd =
     nat_lt prd.address client_start || nat_lt (client_start + client_len) (prd.address + prd.bytes)
 
--- what is wrong with one entry
+-- the fault of one entry
 abbrev pub entry_fault : List ℕ → ℕ → ℕ → Option PrdError
 entry_fault structure client_len at = (if is_bad structure at then Some BadEntry
     else (if is_outside client_len (prd_at structure at) then Some OutsideClient else None))
 
--- what is wrong with the first entry with which something is wrong
+-- the fault of the first entry that has one
 abbrev pub first_fault : List ℕ → ℕ → ℕ → ℕ → Option PrdError
 first_fault structure client_len at zero = None
 first_fault structure client_len at (suc count) =
     option_or (entry_fault structure client_len at) (first_fault structure client_len (at + 16) count)
 
--- whether the two share a byte: the later begin lies before the earlier end
+-- whether the two share a byte: the later start is before the earlier end
 abbrev pub share_byte : Prd → Prd → Bool
 share_byte p q = nat_lt (max p.address q.address) (min (p.address + p.bytes) (q.address + q.bytes))
 
@@ -69,22 +69,22 @@ abbrev pub have_overlap : List Prd → Bool
 have_overlap [] = false
 have_overlap (prd ∷ rest) = shares_with prd rest || have_overlap rest
 
--- whether each of these entries begins at or after the end of the one before it, and the first at or after
--- this address
+-- whether each of these entries begins at or after the end of the one before it, and the first one at or
+-- after this address
 abbrev pub lie_in_order : ℕ → List Prd → Bool
 lie_in_order end [] = true
 lie_in_order end (prd ∷ rest) =
     (if nat_lt prd.address end then false else lie_in_order (prd.address + prd.bytes) rest)
 
--- why a table is not read: the first of these that applies
+-- why a table cannot be read: the first of these that applies
 abbrev pub read_fault : List ℕ → ℕ → ℕ → ℕ → Option PrdError
 read_fault structure client_len at count =
     (if nat_lt (length structure) (at + 16 * count) || nat_lt 248 count then Some OutsideStructure else
     option_or (first_fault structure client_len at count) (if have_overlap (prds_at structure at count)
     then Some Overlap else None))
 
--- what every table keeps: it lies in the structure area, its entries in the client area and apart, and where
--- they end
+-- what every table keeps: it lies in the structure area, its entries lie in the client area and do not
+-- overlap, and where they end
 pub record IsPrdTable (structure : List ℕ) (client_len at count : ℕ) (ends : List ℕ) : Type 0 where
   pub lies : at + 16 * count ≤ length structure
   pub few : count ≤ 248
@@ -92,27 +92,27 @@ pub record IsPrdTable (structure : List ℕ) (client_len at count : ℕ) (ends :
   pub apart : AreApart (prds_at structure at count)
   pub sums : ends ≡ ends_from 0 (prds_at structure at count)
 
--- the two areas have the same bytes at these so many addresses, from at on
+-- the two areas have the same bytes at these addresses: count of them, starting at at
 abbrev pub AgreeFrom : ℕ → ℕ → List ℕ → List ℕ → Type 0
 AgreeFrom at count s t = (i : ℕ) → i < count → slice_index s (at + i) ≡ slice_index t (at + i)
 
--- what so many bytes from one address on and so many from another have in common is nothing
+-- the two runs of bytes, each given by its address and length, have nothing in common
 abbrev pub LieApart : ℕ → ℕ → ℕ → ℕ → Type 0
 LieApart at count other others = (at + count ≤ other) ⊎ (other + others ≤ at)
 
--- a table that lies in both areas is refused alike, and has the same entries
+-- a table that lies in both areas has the same refusal and the same entries
 pub record SaysTheSame (client_len at count : ℕ) (s t : List ℕ) : Type 0 where
   pub refusal : read_fault s client_len at count ≡ read_fault t client_len at count
   pub entries : prds_at s at count ≡ prds_at t at count
 
--- What a table says is said by its own 16 bytes an entry, whatever stands elsewhere: of the area's length
--- only counts whether the table lies in it.
+-- What a table says depends on its own 16 bytes an entry, whatever the rest of the area holds. The length of
+-- the area matters only for whether the table lies in it.
 abbrev pub TablesAreOfTheirBytes : Type 0
 TablesAreOfTheirBytes =
     (client_len at count : ℕ) (s t : List ℕ) → AgreeFrom at (16 * count) s t
     → ((at + 16 * count ≤ length s) ↔ (at + 16 * count ≤ length t)) → SaysTheSame client_len at count s t
 
--- so bytes that are written apart from it change nothing of what it says
+-- so bytes that are written elsewhere change nothing that it says
 abbrev pub TablesStay : Type 0
 TablesStay =
     (client_len at count place : ℕ) (bytes s : List ℕ) → place + length bytes ≤ length s

@@ -1,4 +1,4 @@
-//! The host's memory, and the tables in it that say where the bytes of a transfer lie.
+//! The memory of the host, and the PRD tables in it that describe the buffers of transfers.
 #![tactic(auto)]
 
 mod laws;
@@ -19,5 +19,5 @@ pub const CLIENT_START: u32 = 0x10_0000;
 pub const MIN_MEMORY: u32 = 0x20_0000;
 /// The size of the largest memory, in bytes.
 pub const MAX_MEMORY: u32 = 0x100_0000;
-/// The most entries that a table may have.
+/// The largest number of entries in a table.
 pub const MAX_PRDS: u16 = 248;

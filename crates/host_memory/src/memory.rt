@@ -11,7 +11,7 @@ use std::alloc::{AllocError, Global};
 use std::marker::Model;
 use thiserror::Error;
 
-/// Why there is no memory.
+/// Why a memory cannot be made.
 #[derive(Clone, Copy, Debug, PartialEq, Eq, Error)]
 pub enum MemoryError {
     /// The size is below 2 MiB, above 16 MiB or odd.
@@ -33,13 +33,14 @@ impl From<AllocError> for MemoryError {
     }
 }
 
-/// Some of the bytes do not lie in the client area.
+/// The bytes do not all lie in the client area.
 #[derive(Clone, Copy, Debug, PartialEq, Eq, Error)]
 #[error("outside the client area")]
 pub struct Outside;
 
-/// The memory that driver and host port share: the structure area, which has the command list, the
-/// command tables and the received area, and then the client area, which has the data of transfers.
+/// The memory that the driver and the host port share. The structure area comes first; it holds the command
+/// list, the command tables and the received FIS area. The client area follows; it holds the data of
+/// transfers.
 #[derive(Drop)]
 pub struct HostMemory {
     structure: Vec<u8>,
@@ -57,7 +58,7 @@ impl Model for HostMemory {
         IsHostMemory (record { structure = m.structure.items; client = m.client.items }) };
 }
 
-// So many bytes, each of them 0.
+// This many bytes, each of them 0.
 #[tactic(auto, unfolding(crate::specs::Memory::zeros))]
 fn zeros(alloc: Global, count: usize) -> Result<Vec<u8>, AllocError>
     ensures { IfOk result (λ bytes. bytes.items ≡ zeros_of count) }
@@ -81,7 +82,7 @@ impl HostMemory {
         Ok(HostMemory { structure, client })
     }
 
-    /// The bytes from address 0 on.
+    /// The structure area: the bytes from address 0 on.
     pub fn structure(&self) -> &[u8]
         ensures structure { result.now ≡ self.now.structure }
         ensures sized { IsHostMemory self.now }
@@ -89,7 +90,7 @@ impl HostMemory {
         self.structure.as_slice()
     }
 
-    /// The bytes from address 0 on, to be written.
+    /// The structure area, for writing.
     pub fn structure_mut(&mut self) -> &mut [u8]
         ensures* lends { sem 𝓛 (LendsStructure self.entry result) }
         ensures structure { result.now ≡ self.old.structure }
@@ -98,7 +99,7 @@ impl HostMemory {
         self.structure.as_mut_slice()
     }
 
-    /// The bytes from address 100000h on.
+    /// The client area: the bytes from address 100000h on.
     pub fn client(&self) -> &[u8]
         ensures client { result.now ≡ self.now.client }
         ensures sized { IsHostMemory self.now }
@@ -106,8 +107,8 @@ impl HostMemory {
         self.client.as_slice()
     }
 
-    /// Writes the bytes to the client area, from the address `at` on, or none of them where they do
-    /// not all lie in it.
+    /// Writes the bytes to the client area, starting at the address `at`. Where they do not all lie in it,
+    /// nothing is written.
     pub fn put_client(&mut self, at: u32, bytes: &[u8]) -> Result<(), Outside>
         ensures inside { IsOk result
             ↔ LiesInClient (length self.old.client) at (length bytes.now) }
@@ -127,7 +128,7 @@ impl HostMemory {
         Ok(())
     }
 
-    /// The structure area, and the client area to be written.
+    /// The structure area for reading, and the client area for writing.
     pub fn split(&mut self) -> (&[u8], &mut [u8])
         ensures* lends { sem 𝓛 (LendsClient self.entry result.1) }
         ensures structure { result.0.now ≡ self.old.structure }

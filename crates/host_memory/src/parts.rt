@@ -9,16 +9,16 @@ use crate::CLIENT_START;
 use crate::table::{Prd, read_prd};
 use std::marker::Model;
 
-/// The slices of the client area that hold a run of a transfer's bytes, in order: one for each entry of the table that
-/// the run touches, none of them empty. [`PrdTable::parts`](crate::PrdTable::parts) makes it.
+/// The slices of the client area that hold a run of a transfer's bytes, in order: one for each entry that the
+/// run touches. None is empty. [`PrdTable::parts`](crate::PrdTable::parts) makes it.
 #[derive(Debug, Drop)]
 pub struct Parts<'m, 'c> {
     structure: &'m [u8],
     client: &'c [u8],
-    // Where the entries that are left lie, and how many they are.
+    // Where the remaining entries lie, and how many there are.
     at: usize,
     count: usize,
-    // Where in the first of them the run begins, and how many bytes of it are left.
+    // Where the run begins in the first of them, and how many bytes are left.
     offset: usize,
     len: usize,
 }
@@ -36,7 +36,7 @@ impl<'m, 'c> Model for Parts<'m, 'c> {
     ghost invariant = { λ p. HoldParts p.structure.now p.client.now p.at p.count p.offset p.len };
 }
 
-// So many bytes of the client area, from byte `offset` of an entry on.
+// This many bytes of the client area, from byte `offset` of an entry on.
 fn stretch(client: &[u8], prd: Prd, offset: usize, len: usize) -> &[u8]
     requires client { LiesInClient (length client.now) prd.address prd.bytes }
     requires inside { offset + len ≤ prd.bytes }

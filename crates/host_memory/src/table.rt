@@ -1,4 +1,4 @@
-//! The table that says where the bytes of a transfer lie.
+//! The PRD table, which says where the bytes of a transfer lie.
 
 ghost use Rattle.std.specs.Prelude.{◌≡◌, ℕ, ◌+◌, ◌-◌, ◌*◌, ◌<◌, ◌≤◌, ◌↔◌, length, min, take, slice_index, IsTrue, IfOk, IsNone, IfSome};
 ghost use Rattle.std.specs.Result.{result_err, IsErrOf};
@@ -15,27 +15,27 @@ use byteorder::{ByteOrder, LittleEndian};
 use std::marker::Model;
 use thiserror::Error;
 
-/// An entry of a table, a Physical Region Descriptor (AHCI 1.3.1, section 4.2.3.3): a run of
-/// `bytes` bytes of a transfer lies in memory from `address` on.
+/// An entry of a table, a Physical Region Descriptor (AHCI 1.3.1, section 4.2.3.3). It describes a buffer of
+/// `bytes` bytes at `address`.
 #[derive(Clone, Copy, Debug, PartialEq, Eq)]
 pub struct Prd {
-    /// Where the run begins.
+    /// The address of the buffer.
     pub address: u32,
-    /// How many bytes it has. The field of the table holds one less.
+    /// Its length in bytes. The field of the table holds one less.
     pub bytes: u32,
 }
 
-/// Why a table is not read, in the order in which it is tested: first the table's own place, then
-/// entry by entry `BadEntry` and `OutsideClient`, and last the entries against each other.
+/// Why a table cannot be read, in the order of the checks: first the place of the table, then `BadEntry` and
+/// `OutsideClient` for each entry, and last the entries against each other.
 #[derive(Clone, Copy, Debug, PartialEq, Eq, Error)]
 pub enum PrdError {
-    /// Not all of the table lies in the structure area, or it has more than 248 entries.
+    /// The table does not all lie in the structure area, or it has more than 248 entries.
     #[error("table outside the structure area")]
     OutsideStructure = 1,
     /// An address or a byte count is odd, or an address has more than 32 bits.
     #[error("bad entry")]
     BadEntry = 2,
-    /// Not all bytes of an entry lie in the client area.
+    /// An entry does not all lie in the client area.
     #[error("entry outside the client area")]
     OutsideClient = 3,
     /// Two entries share a byte.
@@ -43,15 +43,15 @@ pub enum PrdError {
     Overlap = 4,
 }
 
-/// A table in the structure area, the Physical Region Descriptor Table of a command (AHCI 1.3.1,
-/// section 4.2.3.3). It borrows the structure area, and keeps of its entries only where each ends.
+/// The Physical Region Descriptor Table of a command (AHCI 1.3.1, section 4.2.3.3), in the structure area. It
+/// borrows that area. Of the entries it keeps only where each ends.
 #[derive(Drop)]
 pub struct PrdTable<'m> {
     structure: &'m [u8],
     client_len: u32,
     at: usize,
     count: usize,
-    // Where in the transfer the bytes of each entry end: the running sums of the byte counts.
+    // Where the bytes of each entry end in the transfer: the running sums of the byte counts.
     ends: ArrayVec<u32, 248>,
 }
 
@@ -88,7 +88,7 @@ pub(crate) fn read_prd(structure: &[u8], at: usize) -> Prd
     }
 }
 
-// What is wrong with the entry that lies there.
+// The fault of the entry at this index.
 fn fault_at(structure: &[u8], client_len: u32, at: usize) -> Option<PrdError>
     requires { at + 16 ≤ length structure.now }
     ensures { result ≡ entry_fault structure.now client_len at }
@@ -126,7 +126,7 @@ pub(crate) fn share_byte(p: Prd, q: Prd) -> bool
     u64::from(p.address.max(q.address)) < p_end.min(q_end)
 }
 
-// Whether the entry shares a byte with one of those that lie there.
+// Whether the entry shares a byte with one of the entries at this index.
 #[tactic(auto, using(crate::proofs::PrdLemmas::prds_next))]
 fn shares_with(prd: Prd, structure: &[u8], at: usize, count: usize) -> bool
     requires { at + 16 * count ≤ length structure.now }
@@ -140,7 +140,7 @@ fn shares_with(prd: Prd, structure: &[u8], at: usize, count: usize) -> bool
     false
 }
 
-// Whether each of the entries that lie there begins where the one before it ends, or after.
+// Whether each of the entries at this index begins at or after the end of the one before it.
 #[tactic(auto, using(crate::proofs::PrdLemmas::prds_next))]
 fn lie_in_order(structure: &[u8], at: usize, count: usize) -> bool
     requires { at + 16 * count ≤ length structure.now }
@@ -157,7 +157,7 @@ fn lie_in_order(structure: &[u8], at: usize, count: usize) -> bool
     true
 }
 
-// Whether one of the entries that lie there shares a byte with a later one, pair by pair.
+// Whether one of the entries at this index shares a byte with a later one, pair by pair.
 #[tactic(auto, using(crate::proofs::PrdLemmas::prds_next))]
 fn some_pair_overlaps(structure: &[u8], at: usize, count: usize) -> bool
     requires { at + 16 * count ≤ length structure.now }
@@ -172,7 +172,7 @@ fn some_pair_overlaps(structure: &[u8], at: usize, count: usize) -> bool
     false
 }
 
-// Whether two of the entries that lie there share a byte. Where they lie in order, none do.
+// Whether two of the entries at this index share a byte. Where they are in order, none do.
 fn have_overlap(structure: &[u8], at: usize, count: usize) -> bool
     requires { at + 16 * count ≤ length structure.now }
     ensures { result ≡ have_overlap_of (prds_at structure.now at count) }
@@ -183,7 +183,7 @@ fn have_overlap(structure: &[u8], at: usize, count: usize) -> bool
     some_pair_overlaps(structure, at, count)
 }
 
-// Whether one of the entries that lie there shares a byte with one of the other table.
+// Whether one of the entries at this index shares a byte with one of the other table.
 #[tactic(auto, using(crate::proofs::PrdLemmas::prds_next))]
 fn share_with(structure: &[u8], at: usize, count: usize, other: &PrdTable<'_>) -> bool
     requires { at + 16 * count ≤ length structure.now }
@@ -198,7 +198,7 @@ fn share_with(structure: &[u8], at: usize, count: usize, other: &PrdTable<'_>) -
     false
 }
 
-// Where in the transfer the bytes of each of the entries that lie there end.
+// Where each of the entries at this index ends in the transfer.
 #[tactic(auto, using(crate::proofs::PrdLemmas::prds_next))]
 fn ends_of(structure: &[u8], at: usize, count: usize) -> ArrayVec<u32, 248>
     requires table { at + 16 * count ≤ length structure.now }
@@ -215,7 +215,7 @@ fn ends_of(structure: &[u8], at: usize, count: usize) -> ArrayVec<u32, 248>
     ends
 }
 
-// Where the bytes of an entry begin: where those of the one before it end.
+// Where an entry begins: at the end of the one before it.
 fn begin_of(ends: &[u32], entry: usize) -> u32
     requires { entry ≤ length ends.now }
     ensures { result ≡ begin_in ends.now entry }
@@ -223,7 +223,7 @@ fn begin_of(ends: &[u32], entry: usize) -> u32
     if entry == 0 { 0 } else { ends[entry - 1] }
 }
 
-// The entry that ends after byte `i`, and none before it does, by halving: as many as there are where none does.
+// The first entry that ends after byte `i`, found by halving; the number of entries where none does.
 fn entry_of(ends: &[u32], i: u32) -> usize
     ensures there { result ≤ length ends.now }
     ensures begins { begin_in ends.now result ≤ i }
@@ -242,23 +242,23 @@ fn entry_of(ends: &[u32], i: u32) -> usize
     from
 }
 
-// A byte of a transfer: the entry in which it lies, and its number there.
+// A byte of a transfer: its entry, and its index in that entry.
 #[derive(Clone, Copy)]
 struct Spot {
     entry: usize,
     byte: u32,
 }
 
-/// A run of the client area, as a slice is cut out of it to be read or written.
+/// A run of the client area: the bounds of a slice to be read or written.
 #[derive(Clone, Copy, Debug, PartialEq, Eq)]
 pub struct Run {
-    /// Where it begins, counted from the begin of the area.
+    /// Where it begins, counted from the start of the area.
     pub start: usize,
-    /// How many bytes it has.
+    /// Its length in bytes.
     pub len: usize,
 }
 
-// Where byte `i` of the transfer lies, of which the entries end there.
+// Where byte `i` of the transfer lies, given where its entries end.
 fn spot_of(ends: &[u32], i: u32) -> Spot
     ensures { IsSpot ends.now i result }
 {
@@ -268,14 +268,14 @@ fn spot_of(ends: &[u32], i: u32) -> Spot
 }
 
 impl<'m> PrdTable<'m> {
-    /// Reads the table of `count` entries that lies at `at`, for a client area of `client_len` bytes.
+    /// Reads the table of `count` entries at `at`, for a client area of `client_len` bytes.
     pub fn read(
         structure: &'m [u8],
         client_len: u32,
         at: u32,
         count: u16,
     ) -> Result<PrdTable<'m>, PrdError>
-        // Which refusal it is, and that there is none: one fact for all of them and their order.
+        // Which refusal applies, or none: one fact for all of them and their order.
         ensures refusal { result_err result ≡ read_fault structure.now client_len at count }
         ensures overlap { IsErrOf result PrdError.Overlap
             → HaveOverlap (prds_at structure.now at count) }
@@ -305,7 +305,7 @@ impl<'m> PrdTable<'m> {
         })
     }
 
-    /// How many bytes the transfer has.
+    /// The length of the transfer in bytes.
     pub fn total(&self) -> u32
         ensures { result ≡ total_of self.now.prds }
     {
@@ -329,7 +329,7 @@ impl<'m> PrdTable<'m> {
         )
     }
 
-    /// Writes `bytes` to the places of the transfer's bytes from `offset` on.
+    /// Writes `bytes` to the places of the transfer's bytes, from `offset` on.
     pub fn scatter(&self, client: &mut [u8], offset: u32, bytes: &[u8])
         requires client { self.now.client_len ≡ length client.old }
         requires fits { offset + length bytes.now ≤ total_of self.now.prds }
@@ -342,8 +342,8 @@ impl<'m> PrdTable<'m> {
         }
     }
 
-    // Writes as many of the bytes as the entry in which byte `i` of the transfer lies has from there on, and answers how
-    // many these are.
+    // Writes the bytes that fit into the rest of one entry, from byte `i` of the transfer on. Returns how
+    // many it wrote.
     fn put_part(&self, client: &mut [u8], i: u32, bytes: &[u8]) -> usize
         requires client { self.now.client_len ≡ length client.old }
         requires below { i < total_of self.now.prds }
@@ -359,8 +359,8 @@ impl<'m> PrdTable<'m> {
         count
     }
 
-    /// Where the bytes of its entry lie from byte `i` of the transfer on, None past the end: all of them in the client area,
-    /// one after another. Who has that area to be written cuts the slice out of it.
+    /// The rest of the entry that has byte `i` of the transfer, as one run of the client area. None past the
+    /// end. A caller that holds the client area for writing cuts the slice out of it.
     pub fn run_from(&self, i: u32) -> Option<Run>
         ensures none { IsNone result ↔ (total_of self.now.prds ≤ i) }
         ensures some { IfSome result (λ run. IsRun self.now.prds self.now.client_len i run) }
@@ -375,15 +375,15 @@ impl<'m> PrdTable<'m> {
         Some(Run { start, len })
     }
 
-    /// Whether the two transfers have a byte of memory in common.
+    /// Whether the two transfers share a byte of memory.
     pub fn overlaps(&self, other: &PrdTable<'_>) -> bool
         ensures { IsTrue result ↔ ShareAPlace self.now.prds other.now.prds }
     {
         share_with(self.structure, self.at, self.count, other)
     }
 
-    /// A law for callers, which does nothing when it runs: each byte of a transfer whose table was
-    /// read has a place of its own in the client area.
+    /// A law for callers; it runs no code. Once a table is read, each byte of its transfer has a place of its
+    /// own in the client area.
     pub fn has_own_places(&self)
         ensures { HasOwnPlaces self.now.client_len self.now.prds }
     {

@@ -22,14 +22,14 @@ fn entry(prd: Prd) -> [u8; 16]
     ]
 }
 
-/// Writes a table of these entries, each of 1 byte to 4 MiB, from address `at` on. Every other byte
+/// Writes a table of these entries, each of 1 byte to 4 MiB, starting at address `at`. Every other byte
 /// stays.
 pub fn write_prds(structure: &mut [u8], at: u32, prds: &[Prd])
     requires room { at + 16 * length prds.now ≤ length structure.old }
     requires counts { All CanBeWritten prds.now }
     ensures written { structure.new ≡ overwritten structure.old at (table_bytes prds.now) }
     ensures reads { prds_at structure.new at (length prds.now) ≡ prds.now }
-    // so a table of entries that may be there, apart from each other, is not refused
+    // so a table of valid entries that do not overlap can be read
     ensures readable { (client_len : ℕ) → All (IsUsable client_len) prds.now
         → have_overlap_of prds.now ≡ false → length prds.now ≤ 248
         → read_fault structure.new client_len at (length prds.now) ≡ None }
@@ -62,7 +62,7 @@ pub fn have_overlap(prds: &[Prd]) -> bool
     false
 }
 
-/// How many bytes these entries have.
+/// The sum of the byte counts of these entries.
 pub fn total_of(prds: &[Prd]) -> u64
     requires { length prds.now ≤ 65536 }
     ensures { result ≡ total prds.now }

@@ -8,7 +8,7 @@ use std::test::Fail;
 
 const MIB: u32 = 0x10_0000;
 
-// Two entries as they lie in a table: an address, its upper half and the field of the byte count.
+// Two entries of a table, each as its address, the upper half of the address and the field of the byte count.
 fn table(first: [u32; 3], second: [u32; 3]) -> [u8; 32] {
     let mut bytes = [0; 32];
     LittleEndian::write_u32(&mut bytes[0..4], first[0]);
@@ -39,7 +39,7 @@ fn finds_memory_that_is_there(rt: HostRuntime) {
     }
 }
 
-/// A structure area alone is no memory, nor are odd sizes and those past the limits.
+/// A structure area alone is not a memory; odd sizes and sizes past the limits are refused.
 #[test]
 fn refuses_sizes(rt: HostRuntime) {
     for len in [0, 1_048_576, 2_097_150, 2_097_153, 16_777_217, 16_777_218] {
@@ -72,8 +72,8 @@ fn puts_client_bytes(rt: HostRuntime) -> Result<(), Fail> {
     Ok(())
 }
 
-// Writes the bytes to the places of the two entries that lie at 2000h, if they are the whole
-// transfer, and answers how many bytes that has.
+// Writes the bytes to the places of the two entries at 2000h, if they are the whole transfer, and returns its
+// length.
 fn deliver(memory: &mut HostMemory, bytes: &[u8]) -> Result<u32, PrdError> {
     let (structure, client) = memory.split();
     let table = match PrdTable::read(structure, client.len() as u32, 0x2000, 2) {
@@ -117,8 +117,8 @@ fn scatters_a_transfer(rt: HostRuntime) -> Result<(), Fail> {
     Ok(())
 }
 
-// How long the parts are of these bytes of the transfer whose table of so many entries lies at 2000h, and what they are
-// together.
+// The lengths of the parts of these bytes of the transfer whose table, of this many entries, lies at 2000h,
+// and the parts joined.
 fn parts_of(
     alloc: Global,
     memory: &HostMemory,
@@ -172,8 +172,8 @@ fn gives_parts(rt: HostRuntime) -> Result<(), Fail> {
     Ok(())
 }
 
-// Fills the rest of its entry from this byte of the transfer on, whose table of three entries lies at 2000h. Answers where
-// that begins and how many bytes it has.
+// Fills the rest of an entry, from this byte of the transfer on. Its table of three entries lies at 2000h.
+// Returns where that rest begins and how many bytes it has.
 fn fill_from(memory: &mut HostMemory, offset: u32, byte: u8) -> Option<Run> {
     let (structure, client) = memory.split();
     let client_len = client.len() as u32;
@@ -276,7 +276,7 @@ fn refuses_tables(rt: HostRuntime) {
         (good, bad, bad_entry),
         (good, [0x10_3000, 1, 511], bad_entry),
         (good, [0x10_3000, 0, 510], bad_entry),
-        // entry by entry, and a bad one is not looked at further
+        // entry by entry, and a bad entry is not checked further
         (beyond, bad, outside),
         (bad, beyond, bad_entry),
         (good, [0x1F_FE03, 0, 511], bad_entry),

@@ -1,4 +1,4 @@
--- A list of no FISes is in order, and the beginning of a list in order is in order.
+-- An empty list of FISes is in order, and each prefix of an ordered list is in order.
 use Rattle.std.specs.Prelude.{◌≡◌, List, [], ◌∷◌, ◌++◌, length}
 use Rattle.std.proofs.Common.{ap, sym, ◌∙◌, append_assoc, length-append, arith}
 use Rattle.fis_view.specs.Frames.{Stamped}
@@ -8,7 +8,7 @@ use Rattle.multiplier.specs.Orders.{InDeviceOrder, InStampedOrder}
 pub some_element : {A : Type 0} (before rest : List A) (x : A) → before ++ x ∷ rest ≡ [] → ⊥
 some_element before rest x e = let l = ap length e in omega (arith, l, length-append before (x ∷ rest))
 
--- what stands in a beginning stands in the whole
+-- an element of a prefix is an element of the whole
 pub stands_in_whole : {A : Type 0} (front more before rest : List A) (x : A) → before ++ x ∷ rest ≡ front
     → before ++ x ∷ (rest ++ more) ≡ front ++ more
 stands_in_whole front more before rest x e = sym (append_assoc before (x ∷ rest) more) ∙ ap (λ l. l ++ more) e

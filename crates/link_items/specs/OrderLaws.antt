@@ -1,4 +1,4 @@
--- What may come next on a link, and the few numbers by which that is known.
+-- What can come next on a link, and the few numbers that decide it.
 use Rattle.std.specs.Prelude.{◌≡◌, ◌↔◌, ℕ, ◌+◌, ◌<◌, ◌≤◌, List, [], ◌∷◌, ◌++◌, length, map, slice_index, All}
 use Rattle.std.specs.List.{range_with_len}
 use Rattle.fis_view.specs.Frames.{Stamped}
@@ -7,17 +7,17 @@ use Rattle.multiplier.specs.Orders.{IsNextAtHost, InStampedOrder, IsWithin}
 
 -- ---- a device
 
--- one FIS more is in order exactly where it may follow the others
+-- one more FIS is in order exactly where it can follow the others
 abbrev pub DeviceGoesOn : Type 0
 DeviceGoesOn = (fises : List Stamped) (f : Stamped)
     → InDeviceOrder (fises ++ f ∷ []) ↔ (InDeviceOrder fises × IsNextOfDevice fises f)
 
--- the connection that a device is on, none of its FISes being of a later one, and the number of its next FIS
+-- the connection of the device, where none of its FISes is of a later one, and the number of its next FIS
 pub record IsAt (fises : List Stamped) (conn number : ℕ) : Type 0 where
   pub highest : All (λ g. g.stamp.conn ≤ conn) fises
   pub next : number ≡ length (of_connection conn fises)
 
--- these two numbers tell the next FIS, and go on with it; on a new connection the numbers begin at 0
+-- these two numbers decide the next FIS, and are updated with it; on a new connection the numbers start at 0
 pub record DeviceCounts : Type 0 where
   pub starts : (conn : ℕ) → IsAt [] conn 0
   pub next : (fises : List Stamped) (f : Stamped) → IsAt fises f.stamp.conn f.stamp.number
@@ -39,7 +39,8 @@ HostGoesOn = (fises : List Stamped) (f : Stamped)
     → InStampedOrder (fises ++ f ∷ [])
     ↔ (InStampedOrder fises × (f.stamp.port < control_port → IsNextAtHost fises f))
 
--- Two such bounds for each port tell which FIS may come next, but for its number, and go on with each FIS.
+-- Two such bounds for each port decide which FIS can come next, except for its number, and are updated with
+-- it.
 pub record HostBounds : Type 0 where
   pub starts : (n conn gone : ℕ) → IsWithin [] n conn gone
   pub rises : (fises : List Stamped) (n conn gone later more : ℕ) → IsWithin fises n conn gone → conn ≤ later

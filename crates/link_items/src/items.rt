@@ -4,8 +4,8 @@ use fis_view::Frame;
 use ruled_links::Item;
 use std::marker::Model;
 
-/// A FIS that a device sends, on its way to the multiplier: connections never fall, and the numbers of each are 0, 1,
-/// 2, .. without a gap.
+/// A FIS from a device, on its way to the multiplier. Connections never fall, and the numbers of each are 0,
+/// 1, 2, .. without a gap.
 #[derive(Debug, Drop)]
 pub struct FromDevice(pub Frame);
 
@@ -51,7 +51,7 @@ impl Item for ToHost {
     ghost prefixes = { stamped_prefixes };
 }
 
-/// A FIS of the host, on its way to the multiplier or to a device, in any order.
+/// A FIS from the host, on its way to the multiplier or to a device, in any order.
 #[derive(Debug, Drop)]
 pub struct Down(pub Frame);
 
@@ -73,10 +73,10 @@ impl Item for Down {
     ghost prefixes = { λ front rest h. tt };
 }
 
-/// What a device's port is told: a connection came, or went.
+/// What the port of a device is told: a connection came or went.
 #[derive(Clone, Copy, Debug, PartialEq, Eq)]
 pub enum Presence {
-    /// The device was plugged in, under this connection.
+    /// The device was plugged in, as this connection.
     Came(u32),
     /// The device of this connection was pulled out.
     Gone(u32),

@@ -1,8 +1,8 @@
 //! What goes over the links between disks, multiplier and host.
 //!
-//! A FIS is an item by the order in which its kind of link has it: [`FromDevice`], [`ToHost`] and [`Down`]. The two
-//! orders are those of which the multiplier's law speaks; [`order_goes_on`] says what may come next in each. A presence
-//! link has a [`Presence`] for each connection that comes or goes.
+//! A FIS is an item with the order of its kind of link: [`FromDevice`], [`ToHost`] and [`Down`]. The first
+//! two orders are those of the multiplier's laws. [`order_goes_on`] says what can come next in each. A
+//! presence link carries a [`Presence`] for each connection that comes or goes.
 #![tactic(auto)]
 
 mod items;

@@ -1,4 +1,4 @@
-//! What no clause says: that each kind of item goes over a link and comes out whole.
+//! What no clause says: each kind of item goes over a link and comes out whole.
 
 ghost use Rattle.std.specs.Prelude.{◌≡◌, [], ◌∷◌, IfOk};
 
@@ -25,13 +25,13 @@ fn first(alloc: Global) -> Result<Frame, Fail>
     Ok(Frame::from_bytes(alloc, &BYTES, stamp)?)
 }
 
-/// Whether it is that FIS.
+/// Whether this is that FIS.
 fn is_first(frame: &Frame) -> bool {
     let stamp = frame.stamp();
     frame.bytes() == BYTES.as_slice() && stamp.port == 3 && stamp.conn == 2
 }
 
-/// What comes out of a new link into which the item was sent.
+/// What comes out of a new link after the item was sent into it.
 fn passed<T: Item + Drop>(rt: &impl Wait, alloc: Global, item: T) -> Result<Option<T>, Fail>
     requires { T.in_order (item ∷ []) }
 {

@@ -1,5 +1,5 @@
--- Frames pass a multiplier in their order and none is lost (Serial ATA 3.x, 16.3, port multiplier: frame
--- transmission). What is said here is said of any sound multiplier and of any frames that passed before.
+-- Frames pass a multiplier in order and none is lost (Serial ATA 3.x, 16.3, port multiplier: frame
+-- transmission). This holds for any sound multiplier, whatever frames passed before.
 use Rattle.std.specs.Prelude.{◌≡◌, ◌≢◌, ℕ, ◌-◌, ◌<◌, ◌≤◌, ◌==◌, ◌&&◌, max, false, true, if◌then◌else◌, List}
 use Rattle.std.specs.Prelude.{[], ◌∷◌, ◌++◌, All, length, map, slice_index, take, Option, Some, None, Result}
 use Rattle.std.specs.Prelude.{Ok}
@@ -23,16 +23,16 @@ use Rattle.multiplier.specs.declared.multiplier.PmRefusal.{PmRefusal}
 
 -- ---- calls
 
--- a call, with what it gave
+-- a call, with its result
 pub data Call : Type 0 where
-  -- this frame of the host was taken, or given back; and the answer that was made to it
+  -- this frame of the host was taken or given back, and the answer that was made to it
   FromHost : Stamped → Result Passed (Stamped × PmRefusal) → Option Stamped → Call
-  -- this frame of the device at port n was
+  -- this frame of the device at port n was taken or given back
   FromDevice : (n : ℕ) → Stamped → Result Offered Stamped → Call
-  -- a device came to port n, under this connection, or was refused
+  -- a device came to port n, as this connection, or was refused
   Came : (n conn : ℕ) → Result (Unit {0}) PortError → Call
-  -- the device of port n went, or its removal was refused; and what was dropped on the way up and on the way
-  -- down
+  -- the device of port n went, or its removal was refused; and the frames that were dropped on the way up and
+  -- on the way down
   Gone : (n conn : ℕ) → Result (Unit {0}) GoneError → (up down : Option Stamped) → Call
   -- the next frame for the host was asked for
   NextUp : Result (Option Stamped) AllocError → Call
@@ -48,12 +48,12 @@ abbrev pub made_by : Result Passed (Stamped × PmRefusal) → PmState → Option
 made_by (Ok passed.Control) new = new.answer
 made_by result new = None
 
--- what was in a place and is no longer
+-- the frame that was in a place and is not there any more
 abbrev pub lost_from : Option Stamped → Option Stamped → Option Stamped
 lost_from was None = was
 lost_from was (Some frame) = None
 
--- what the call wants and what it leaves, as its contract has it
+-- what the call requires and what it leaves, as in its contract
 abbrev pub Does : PmState → Call → PmState → Type 0
 Does old (FromHost frame result made) new = FromHostRule old frame result new × (made ≡ made_by result new)
 Does old (FromDevice n frame result) new = (n < old.registers.ports) × FromDeviceRule old n frame result new
@@ -69,8 +69,8 @@ Does old (PutBackDown n frame) new = CanPutBackDown old n frame × UndoesDown ol
 
 -- ---- what passed
 
--- the frames that were given and were not put back, those for a device with its port; and those of the
--- control port that were made, a notification as it is given; all in their order
+-- the frames that were given and not put back, those for a device with its port; and the frames of the
+-- control port that were made, a notification at the moment it is given; all in order
 pub record Past : Type 0 where
   pub up : List Stamped
   pub down : List (ℕ × Stamped)
@@ -96,13 +96,13 @@ past_after past _ = past
 abbrev pub EndsWith : {A : Type 0} → List A → A → Type 0
 EndsWith {A} xs x = (front : List A) × (xs ≡ front ++ x ∷ [])
 
--- a frame that is put back is the one that was given last; a notification is also what was made last
+-- a frame that is put back is the one given last; a notification is also the frame made last
 abbrev pub Suits : Past → Call → Type 0
 Suits past (PutBackUp frame) = EndsWith past.up frame × (is_notice frame ≡ true → EndsWith past.made frame)
 Suits past (PutBackDown n frame) = EndsWith past.down (n, frame)
 Suits past _ = Unit {0}
 
--- one call after another, by a rule that says what each does
+-- one call after another, by a rule that says what each call does
 abbrev pub Runs : (PmState → Call → PmState → Type 0) → Past → PmState → List Call → PmState → Type 0
 Runs Rule past old [] new = new ≡ old
 Runs Rule past old (call ∷ calls) new =
@@ -121,11 +121,11 @@ all_past past (call ∷ calls) = all_past (past_after past call) calls
 abbrev pub of_conn : ℕ → ℕ → List Stamped → List Stamped
 of_conn n c frames = filter (λ frame. frame.stamp.port == n && frame.stamp.conn == c) frames
 
--- what port n holds, as it will go up
+-- what port n holds, as it goes up
 abbrev pub held_of : ℕ → ℕ → PmState → List Stamped
 held_of n c pm = of_conn n c (map (rising n) (option_to_list (port_at pm n).up))
 
--- what a call took in from the device at port n, as it will go up
+-- what a call took from the device at port n, as it goes up
 abbrev pub came_by : ℕ → ℕ → Call → List Stamped
 came_by n c (FromDevice m frame (Ok Kept)) = if m == n then of_conn n c (rising n frame ∷ []) else []
 came_by n c _ = []
@@ -165,13 +165,13 @@ pub record NeverFallTo (n : ℕ) (down : List (ℕ × Stamped)) (last : ℕ) : T
   pub rise : IsNonDecreasingBy (λ frame. frame.stamp.conn) (to_port n down)
   pub most : All (λ frame. frame.stamp.conn ≤ last) (to_port n down)
 
--- which connection is present at port n after a call, where this one was
+-- the connection present at port n after a call, given the one present before
 abbrev pub present_after : ℕ → Option ℕ → Call → Option ℕ
 present_after n was (Came m conn (Ok done)) = if m == n then Some conn else was
 present_after n was (Gone m conn (Ok done) up down) = if m == n then None else was
 present_after n was _ = was
 
--- what a call passed down to port n, where this connection was present: with PM Port 0 and the connection
+-- what a call passed down to port n while this connection was present: with PM Port 0 and the connection
 abbrev pub falls : Option ℕ → Stamped → List Stamped
 falls (Some conn) frame = falling conn frame ∷ []
 falls None frame = []
@@ -193,7 +193,7 @@ all_present n was (call ∷ calls) = all_present n (present_after n was call) ca
 abbrev pub for_conn : ℕ → List Stamped → List Stamped
 for_conn c frames = filter (λ frame. frame.stamp.conn == c) frames
 
--- what a removal dropped of what waited for the device at port n
+-- what a removal dropped of the frames that waited for the device at port n
 abbrev pub lost_down_by : ℕ → Call → List Stamped
 lost_down_by n (Gone m conn result up down) = if m == n then option_to_list down else []
 lost_down_by n _ = []
@@ -211,12 +211,12 @@ gone_by n _ = []
 abbrev pub all_gone : ℕ → List Call → List ℕ
 all_gone n calls = flat_map (gone_by n) calls
 
--- the highest of some connections and of one more
+-- the highest of these connections and one more
 abbrev pub highest : ℕ → List ℕ → ℕ
 highest was [] = was
 highest was (conn ∷ conns) = max conn (highest was conns)
 
--- the frame of the control port that a call makes: an answer, or a notification as it is given
+-- the frame of the control port that a call makes: an answer, or a notification at the moment it is given
 abbrev pub made_in : Call → Option Stamped
 made_in (FromHost frame result made) = made
 made_in (NextUp (Ok (Some frame))) = if is_notice frame then Some frame else None
@@ -231,59 +231,58 @@ abbrev pub answer_by : Call → List Stamped
 answer_by (FromHost frame result made) = option_to_list made
 answer_by _ = []
 
--- the answers that calls made, in their order
+-- the answers that the calls made, in order
 abbrev pub answers_made : List Call → List Stamped
 answers_made calls = flat_map answer_by calls
 
--- the running numbers of these frames are given one after another, from one number on, and so is the next
+-- these frames have consecutive running numbers, starting at one number; next is the number after them
 abbrev pub AreNumbered : ℕ → List Stamped → ℕ → Type 0
 AreNumbered from [] next = next ≡ from
 AreNumbered from (frame ∷ frames) next = (frame.stamp.number ≡ from) × AreNumbered (counted from) frames next
 
 -- ---- the laws
 
--- What holds of calls from one multiplier to another, where these frames passed before.
+-- What holds for calls that take one multiplier to another, where these frames passed before.
 pub record PassInOrder (past : Past) (old : PmState) (calls : List Call) (new : PmState) : Type 0 where
   pub sound : IsSound new
-  -- what went up of a connection, then what its port holds of it, and then what its removal dropped, is what
-  -- did before and then what came in, each frame with the port as its PM Port and in its stamp
+  -- For each connection: what went up, then what its port holds, then what its removal dropped, is the same
+  -- list before the calls, followed by what came in. Each frame has the port as its PM Port and in its stamp.
   pub up : (n c : ℕ) → n < 15
       → of_conn n c (all_past past calls).up ++ held_of n c new ++ lost_up n c calls
       ≡ of_conn n c past.up ++ held_of n c old ++ came_in n c calls
-  -- the connections of the frames of a port that went up never fall, nor does the highest that came
+  -- in what went up from a port, connections never fall; nor does the highest connection that came
   pub connections : (n : ℕ) → n < 15
       → NeverFall n past.up (port_at old n).last → NeverFall n (all_past past calls).up (port_at new n).last
   pub last : (n : ℕ) → (port_at old n).last ≤ (port_at new n).last
   pub present : (n : ℕ) → n < 15 → (port_at new n).present ≡ all_present n (port_at old n).present calls
-  -- what went down to the device at a port, and then what waits for it, is what did before and then what was
-  -- passed down, where no removal dropped any of it
+  -- what went down to the device at a port, then what waits for it, is the same list before the calls,
+  -- followed by what was passed down, if no removal dropped any of it
   pub down : (n : ℕ) → n < 15 → lost_down n calls ≡ []
       → to_port n (all_past past calls).down ++ falls_to n new
       ≡ to_port n past.down ++ falls_to n old ++ passed_down n (port_at old n).present calls
-  -- of each connection what removals dropped is missing, and nothing else
+  -- for each connection, exactly what removals dropped is missing
   pub down_each : (n c : ℕ) → n < 15
       → for_conn c (to_port n (all_past past calls).down) ++ for_conn c (falls_to n new)
       ++ for_conn c (lost_down n calls)
       ≡ for_conn c (to_port n past.down) ++ for_conn c (falls_to n old)
       ++ for_conn c (passed_down n (port_at old n).present calls)
-  -- the connections of the frames that went down to a port never fall
+  -- in what went down to a port, connections never fall
   pub connections_down : (n : ℕ) → n < 15 → NeverFallTo n past.down (port_at old n).last
       → NeverFallTo n (all_past past calls).down (port_at new n).last
-  -- what is gone is the highest that went
+  -- the highest connection that is gone is the highest that went
   pub gone : (n : ℕ) → n < 15 → (port_at new n).gone ≡ highest (port_at old n).gone (all_gone n calls)
-  -- of a connection that is not gone nothing is dropped
+  -- nothing is dropped of a connection that is not gone
   pub kept : (n c : ℕ) → n < 15 → is_gone (port_at new n) c ≡ false
       → (lost_up n c calls ≡ []) × (for_conn c (lost_down n calls) ≡ [])
-  -- and of one that is gone nothing passes any more
+  -- nothing more passes of a connection that is gone
   pub over : (n c : ℕ) → n < 15 → is_gone (port_at old n) c ≡ true
       → (of_conn n c (all_past past calls).up ≡ of_conn n c past.up)
       × (for_conn c (to_port n (all_past past calls).down) ≡ for_conn c (to_port n past.down))
-  -- what went up of the answers, and then the one that waits, is what did before and then those that were
-  -- made
+  -- the answers that went up, then the one that waits, are the same list before the calls, followed by those
+  -- that were made
   pub answered : answers (all_past past calls).up ++ option_to_list new.answer
       ≡ answers past.up ++ option_to_list old.answer ++ answers_made calls
-  -- the frames of the control port have running numbers one after another, in the order in which they were
-  -- made
+  -- the frames of the control port have consecutive running numbers, in the order in which they were made
   pub numbers : (first : ℕ)
       → AreNumbered first past.made old.number → AreNumbered first (all_past past calls).made new.number
 
@@ -292,8 +291,7 @@ abbrev pub ShowsRemovals : PmState → List Call → Call → Type 0
 ShowsRemovals old calls call = (frame : Stamped) → made_in call ≡ Some frame → (n : ℕ) → n < 15
     → slice_index frame.stamp.shown n ≡ highest (port_at old n).gone (all_gone n calls)
 
--- The same calls, with a place that is ready at each turn at which a frame goes up, and that is not the one
--- served.
+-- The same calls, with a place that is ready each time a frame goes up, and that is not the one served.
 abbrev pub PassesOver : ℕ → PmState → Call → PmState → Type 0
 PassesOver place old (NextUp (Ok (Some frame))) new =
     NextUpRule old (Ok (Some frame)) new × (ready old place ≡ true) × (new.served ≢ place)

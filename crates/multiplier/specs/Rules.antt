@@ -1,6 +1,6 @@
--- What each call does (Serial ATA 3.x, 16.3, port multiplier: frame transmission). A call that changes
--- anything ends the leave to put back the frame that was given last; one that gives a frame leaves that leave
--- for its own frame.
+-- What each call does (Serial ATA 3.x, 16.3, port multiplier: frame transmission). The frame given last may
+-- be put back until a call changes anything. A call that gives a frame grants this permission for its own
+-- frame.
 use Rattle.std.specs.Prelude.{◌≡◌, ◌≢◌, ◌↔◌, ℕ, ◌<◌, ◌≤◌, ◌==◌, true, false, if◌then◌else◌, Option, Some}
 use Rattle.std.specs.Prelude.{None, is_some, MatchOption, MatchResult, Result, Ok, Err}
 use Rattle.std.specs.Bool.{MatchBool}
@@ -27,8 +27,7 @@ use Rattle.multiplier.specs.declared.multiplier.Passed.TheVariants as passed
 use Rattle.multiplier.specs.declared.multiplier.PmRefusal.{PmRefusal}
 use Rattle.multiplier.specs.declared.multiplier.PmRefusal.TheVariants as refusal
 
--- the ports stay: how many there are, which connection is present at each, which was the last, and which are
--- gone
+-- the ports stay: their number, which connection is present at each, which was the last, and which are gone
 pub record KeepsPorts (old new : PmState) : Type 0 where
   pub count : new.registers.ports ≡ old.registers.ports
   pub present : (n : ℕ) → (port_at new n).present ≡ (port_at old n).present
@@ -37,14 +36,13 @@ pub record KeepsPorts (old new : PmState) : Type 0 where
 
 -- ---- a frame of the host
 
--- why the control port gives a frame back: an answer waits, or there is no memory for the answer that the
--- frame has
+-- why the control port gives a frame back: an answer waits, or there is no memory for the frame's answer
 abbrev pub ControlRefuses : PmState → Stamped → PmRefusal → Type 0
 ControlRefuses old frame refusal.HoldFull = is_some old.answer ≡ true
 ControlRefuses old frame refusal.OutOfMemory =
     (old.answer ≡ None) × (is_some (answer_to old.resetting old.registers frame.bytes) ≡ true)
 
--- else it answers, or has no answer
+-- otherwise it answers, or has no answer
 abbrev pub ToControl : PmState → Stamped → Result Passed (Stamped × PmRefusal) → PmState → Type 0
 ToControl old frame (Ok passed.Control) new =
     (old.answer ≡ None)
@@ -59,12 +57,12 @@ ToControl old frame (Ok passed.Control) new =
 ToControl old frame (Err given) new = ControlRefuses old frame given.1 × (given.0 ≡ frame) × (new ≡ old)
 ToControl old frame _ new = ⊥
 
--- why a port that forwards gives a frame back: another one is on its way down
+-- why a port that forwards gives a frame back: another frame is on its way down
 abbrev pub DeviceRefuses : PmState → ℕ → PmRefusal → Type 0
 DeviceRefuses old n refusal.HoldFull = is_some (port_at old n).down ≡ true
 DeviceRefuses old n refusal.OutOfMemory = ⊥
 
--- else it puts the frame into the downward place, for the connection
+-- otherwise it puts the frame into the downward place, for the connection
 abbrev pub ToDevice : PmState → ℕ → ℕ → Stamped → Result Passed (Stamped × PmRefusal) → PmState → Type 0
 ToDevice old n conn frame (Ok (passed.Down m)) new =
     (m ≡ n) × ((port_at old n).down ≡ None)
@@ -72,7 +70,7 @@ ToDevice old n conn frame (Ok (passed.Down m)) new =
 ToDevice old n conn frame (Err given) new = DeviceRefuses old n given.1 × (given.0 ≡ frame) × (new ≡ old)
 ToDevice old n conn frame _ new = ⊥
 
--- to a port that is absent or does not forward: dropped and counted
+-- a frame for a port that is absent or does not forward is dropped and counted
 abbrev pub ToNobody : PmState → Result Passed (Stamped × PmRefusal) → PmState → Type 0
 ToNobody old (Ok passed.Dropped) new = new ≡ record old { dropped = counted old.dropped; given = None }
 ToNobody old _ new = ⊥
@@ -116,8 +114,8 @@ CameRule old n conn result new =
     (result_err result ≡ port.came_refusal (port_at old n) conn)
     × MatchResult result (λ _. new ≡ with_device old n conn) (λ _. new ≡ old)
 
--- A device went from a port: the port has recorded it and holds no frame of it any more, and the registers
--- show it. The frame that waited to go down to it is dropped and counted.
+-- A device went from a port: the port recorded it and holds no frame of it any more, and the registers show
+-- it. The frame that waited to go down to it is dropped and counted.
 abbrev pub without_device : PmState → ℕ → ℕ → PmState
 without_device pm n conn = record (with_port pm n (port.with_removal (port_at pm n) conn)) {
   registers = map.after_remove pm.registers n;
@@ -131,15 +129,15 @@ GoneRule old n conn result new =
 
 -- ---- a frame for the host
 
--- how the frame that is held at a port is put back: its PM Port is as the device wrote it
+-- how the frame held at a port is put back: with the PM Port that the device wrote
 abbrev pub held_source : Stamped → Source
 held_source frame = source.Held (pm_port frame)
 
--- the leave to put this frame back, with the place that was served before it
+-- the permission to put this frame back, with the place that was served before it
 abbrev pub may_go_back : PmState → Source → Stamped → Option Given
 may_go_back old kind frame = Some (Up old.served kind frame.stamp)
 
--- the frame that a port holds, stamped with the port, goes up, marked with the port
+-- the frame that a port holds goes up; its stamp has the port, and its PM Port becomes the port
 abbrev pub PortGives : PmState → ℕ → Stamped → PmState → Type 0
 PortGives old n frame new = MatchOption (held old n) ⊥ (λ was.
     (was.stamp.port ≡ n) × (frame ≡ rising n was)
@@ -170,25 +168,25 @@ abbrev pub PlaceGives : PmState → ℕ → Stamped → PmState → Type 0
 PlaceGives old place frame new =
     MatchBool (place == control_port) (ControlGives old frame new) (PortGives old place frame new)
 
--- The next ready place after the one served last gives its frame. Memory is wanted for a notification alone.
+-- The next ready place after the one served last gives its frame. Only a notification needs memory.
 abbrev pub NextUpRule : PmState → Result (Option Stamped) AllocError → PmState → Type 0
 NextUpRule old (Ok (Some frame)) new =
     MatchOption (next_place old) ⊥ (λ place. PlaceGives old place frame new)
 NextUpRule old (Ok None) new = (next_place old ≡ None) × (new ≡ old)
 NextUpRule old (Err e) new = (next_place old ≡ Some control_port) × (old.registers.due ≡ true) × (new ≡ old)
 
--- This frame is the one that went up last, and nothing has changed since: some multiplier that gives it
--- becomes this one. The leave that it left, with the frame's stamp, is still there, since each other call
--- that changes anything takes the leave away or gives one for a frame of its own.
+-- This frame is the one that went up last, and nothing has changed since: some sound multiplier that gives it
+-- becomes this one. The permission with the frame's stamp is still there, because every other call that
+-- changes anything revokes it or grants one for a frame of its own.
 abbrev pub CanPutBackUp : PmState → Stamped → Type 0
 CanPutBackUp pm frame = (before : PmState) × IsSound before × NextUpRule before (Ok (Some frame)) pm
 
--- all is as before the frame was given, whatever that was
+-- all is as it was before the frame was given, whatever that was
 abbrev pub UndoesUp : PmState → Stamped → PmState → Type 0
 UndoesUp old frame new = (before : PmState) → NextUpRule before (Ok (Some frame)) old → new ≡ settled before
 
--- a frame goes back into a place at which this one is served last: of a port it finds its place empty, and is
--- of no connection that is gone; and an answer is one, and shows no removal that is not recorded
+-- A frame has room at a place that was served last. A port's place is empty, and the frame's connection is
+-- not gone. For an answer, the frame is an answer and shows only recorded removals.
 abbrev pub HasRoom : PmState → ℕ → Stamped → Source → Type 0
 HasRoom pm place frame (source.Held was) =
     (place < control_port) × (was < 16) × ((port_at pm place).up ≡ None) × (frame.stamp.port ≡ place)
@@ -200,7 +198,7 @@ HasRoom pm place frame source.Notice = Unit {0}
 abbrev pub remarked : ℕ → Stamped → Stamped
 remarked was frame = record frame { bytes = marked frame.bytes was }
 
--- the places with the frame back in its own
+-- the multiplier with the frame back in its place
 abbrev pub refilled : PmState → ℕ → Stamped → Source → PmState
 refilled pm place frame (source.Held was) =
     with_port pm place (port.with_up (port_at pm place) (Some (remarked was frame)))
@@ -211,7 +209,7 @@ refilled pm place frame source.Notice = record pm {
   given = None;
 }
 
--- all that the leave says is done
+-- the frame is put back as the permission says
 abbrev pub put_back : PmState → Stamped → Option Given → PmState
 put_back pm frame (Some (Up before kind stamp)) =
     refilled (record pm { served = before }) pm.served frame kind
@@ -231,7 +229,7 @@ NextDownRule old n (Some frame) new =
     { given = Some (Down n frame.stamp) })
 NextDownRule old n None new = ((port_at old n).down ≡ None) × (new ≡ old)
 
--- the same for the frame that went down last, which went to the device at this port
+-- the same for the frame that went down last, to the device at this port
 abbrev pub CanPutBackDown : PmState → ℕ → Stamped → Type 0
 CanPutBackDown pm n frame = (before : PmState) × IsSound before × NextDownRule before n (Some frame) pm
 

@@ -1,5 +1,5 @@
 -- What a port multiplier holds (Serial ATA 3.x, 16.3, port multiplier): its registers (16.4), its device
--- ports, and what its control port has to say.
+-- ports, and what its control port has to transmit.
 use Rattle.std.specs.Prelude.{◌≡◌, ℕ, ◌+◌, ◌%◌, ◌==◌, ◌≤◌, ◌&&◌, ◌||◌, min, Bool, false, true, if◌then◌else◌}
 use Rattle.std.specs.Prelude.{List, length, map, replicate, slice_index, slice_index_or, slice_set, Option}
 use Rattle.std.specs.Prelude.{None, Some, is_some}
@@ -16,7 +16,7 @@ pub record PmState : Type 0 where
   pub registers : map.RegisterMap
   -- whether a software reset of the control port has begun
   pub resetting : Bool
-  -- the device ports; those from the number of ports on are not there
+  -- the device ports; those beyond the number of ports do not exist
   pub ports : List port.PortState
   -- the answer of the control port that waits to go up
   pub answer : Option Stamped
@@ -24,12 +24,12 @@ pub record PmState : Type 0 where
   pub served : ℕ
   -- the running number of the next frame of the control port
   pub number : ℕ
-  -- how many frames of the host were dropped
+  -- the number of frames of the host that were dropped
   pub dropped : ℕ
-  -- the frame that the last call gave, where it may be put back
+  -- the frame that the last call gave, if it can be put back
   pub given : Option Given
 
--- the largest count and the largest running number; one that reached it stays
+-- the largest count and the largest running number; one that reached it stays there
 abbrev pub largest : ℕ
 largest = 4294967295
 
@@ -52,19 +52,19 @@ opening ports = record {
 abbrev pub port_at : PmState → ℕ → port.PortState
 port_at pm n = slice_index_or pm.ports n port.empty_port
 
--- a multiplier of which nothing may be put back
+-- the same multiplier, with nothing that can be put back
 abbrev pub settled : PmState → PmState
 settled pm = record pm { given = None }
 
--- another state of a port; what was given before may not be put back any more
+-- another state of a port; what was given before cannot be put back any more
 abbrev pub with_port : PmState → ℕ → port.PortState → PmState
 with_port pm n p = record pm { ports = slice_set pm.ports n p; given = None }
 
 -- ---- what is true of every multiplier
 
--- a port is sound; the registers show a device at it exactly where a connection is present; the frame that
--- waits to go up is stamped with the port, and of no connection that is gone; and the one that waits to go
--- down is for the connection that is present
+-- A port is sound. The registers show a device at it exactly where a connection is present. The frame that
+-- waits to go up is stamped with the port, and its connection is not gone. The frame that waits to go down is
+-- for the connection that is present.
 pub record IsSoundPort (n : ℕ) (shown : Bool) (p : port.PortState) : Type 0 where
   pub sound : port.IsSound p
   pub agrees : shown ≡ is_some p.present
@@ -72,7 +72,7 @@ pub record IsSoundPort (n : ℕ) (shown : Bool) (p : port.PortState) : Type 0 wh
   pub stays : (frame : Stamped) → p.up ≡ Some frame → port.is_gone p frame.stamp.conn ≡ false
   pub meant : (frame : Stamped) → p.down ≡ Some frame → p.present ≡ Some frame.stamp.conn
 
--- the answer of the control port: a Register Device to Host FIS, type 34h (10.5), that is stamped with the
+-- the answer of the control port: a Register Device to Host FIS, type 34h (10.5), stamped with the control
 -- port
 abbrev pub is_answer : Stamped → Bool
 is_answer frame = frame.stamp.port == control_port && slice_index frame.bytes 0 == 0x34
@@ -81,7 +81,7 @@ is_answer frame = frame.stamp.port == control_port && slice_index frame.bytes 0 
 abbrev pub is_notice : Stamped → Bool
 is_notice frame = frame.stamp.port == control_port && slice_index frame.bytes 0 == 0xA1
 
--- the place that is served once more where the frame that went up is put back
+-- a device port or the control port, as the place served before the frame that went up
 abbrev pub IsPlace : Option Given → Type 0
 IsPlace (Some (Up before source stamp)) = before ≤ control_port
 IsPlace (Some (Down n stamp)) = Unit {0}
@@ -91,7 +91,7 @@ IsPlace None = Unit {0}
 abbrev pub removals : PmState → List ℕ
 removals pm = map (λ p. p.gone) pm.ports
 
--- no removal above those that are recorded is shown in this stamp
+-- this stamp shows no removal above those that are recorded
 abbrev pub ShowsRecorded : PmState → Stamp → Type 0
 ShowsRecorded pm stamp = (n : ℕ) → slice_index stamp.shown n ≤ (port_at pm n).gone
 
@@ -106,7 +106,7 @@ pub record IsSound (pm : PmState) : Type 0 where
 
 -- ---- up
 
--- the frame of a port that goes up next: the one it holds, where it forwards and the frame is of its
+-- the frame of a port that goes up next: the one it holds, if the port forwards and the frame is of its
 -- connection
 abbrev pub held : PmState → ℕ → Option Stamped
 held pm n = port.next_up (map.forwards pm.registers n) (port_at pm n)
@@ -119,12 +119,12 @@ stamped n frame = record {
       record { port = n; conn = frame.stamp.conn; number = frame.stamp.number; shown = frame.stamp.shown };
 }
 
--- a frame as it goes up from a port: its PM Port and the port of its stamp are the port
+-- a frame as it goes up from a port: its PM Port is the port, and so is the port of its stamp
 abbrev pub rising : ℕ → Stamped → Stamped
 rising n frame = record { bytes = marked frame.bytes n; stamp = (stamped n frame).stamp }
 
--- a place is ready where it has a frame for the host: a port that holds one which may go up, and the control
--- port where a notification is due or an answer waits
+-- A place is ready where it has a frame for the host: a port that holds a frame which can go up, and the
+-- control port where a notification is due or an answer waits.
 abbrev pub ready : PmState → ℕ → Bool
 ready pm place =
     if place == control_port then pm.registers.due || is_some pm.answer else is_some (held pm place)
@@ -133,7 +133,7 @@ ready pm place =
 abbrev pub next_place : PmState → Option ℕ
 next_place pm = next_served pm.served (ready pm)
 
--- the stamp of the next frame of the control port: it shows the removals that are recorded
+-- the stamp of the next frame of the control port: it shows the recorded removals
 abbrev pub control_stamp : PmState → Stamp
 control_stamp pm = record { port = control_port; conn = 0; number = pm.number; shown = removals pm }
 
@@ -143,7 +143,7 @@ control_stamp pm = record { port = control_port; conn = 0; number = pm.number; s
 abbrev pub pm_port : Stamped → ℕ
 pm_port frame = slice_index frame.bytes 1 % 16
 
--- the connection that a frame for this port goes to: the one that is present, where the port forwards
+-- the connection that a frame for this port goes to: the one that is present, if the port forwards
 abbrev pub passes_to : PmState → ℕ → Option ℕ
 passes_to pm n = if map.forwards pm.registers n then (port_at pm n).present else None
 

@@ -1,26 +1,26 @@
-//! How the frame that was given last is put back.
+//! How the frame given last is put back.
 
 use fis_view::Stamp;
 
-/// From where a frame went up.
+/// Where a frame came from when it went up.
 #[derive(Clone, Copy, Debug, PartialEq, Eq)]
 pub enum Source {
-    /// From the hold of a device port, where its PM Port field was this.
+    /// The hold of a device port. The PM Port field of the frame was this.
     Held(u8),
-    /// It was the answer of the control port that waited.
+    /// The waiting answer of the control port.
     Answer,
-    /// It was a notification.
+    /// A notification.
     Notice,
 }
 
-/// The frame that the last call gave, and what is to be restored where it is put back.
+/// The frame that the last call gave, and what is restored when it is put back.
 #[derive(Clone, Copy, Debug, PartialEq, Eq)]
 pub enum Given {
     /// A frame for the host.
     Up {
         /// The place that was served before it.
         before: u8,
-        /// From where it went up.
+        /// Where it came from.
         source: Source,
         /// Its stamp.
         stamp: Stamp,

@@ -1,19 +1,20 @@
 //! A Serial ATA port multiplier, as its frames see it: 1 to 15 device ports and the control port Fh.
 //!
-//! A [`Multiplier`] takes frames of the host ([`Multiplier::from_host`]) and of devices
-//! ([`Multiplier::from_device`]), each into a place for one frame, and gives them on
-//! ([`Multiplier::next_down`], [`Multiplier::next_up`]). A frame on its way up has the number of its port as PM Port,
-//! one on its way down has 0. Places are served in a circle, and [`waits_for_at_most_fifteen`] and
-//! [`is_passed_over_at_most_fifteen_times`] say how long a place may be passed over. A frame that was given and found
-//! no room further on can be put back before anything else is done, and all is as before.
-//! A device that goes ([`Multiplier::gone`]) takes with it the frames that wait at its port.
-//! [`frames_pass_in_order`] says what calls do one after another, from any multiplier on, and [`goes_up_in_stamped_order`]
-//! in which order the stamps of frames go up; what a frame of the control port shows of removals says
-//! [`control_frames_show_removals`].
+//! A [`Multiplier`] takes frames from the host ([`Multiplier::from_host`]) and from devices
+//! ([`Multiplier::from_device`]), each into a place for one frame, and forwards them
+//! ([`Multiplier::next_down`], [`Multiplier::next_up`]). A frame on its way up has the number of its port as
+//! PM Port; a frame on its way down has 0. Places are served in a circle. [`waits_for_at_most_fifteen`] and
+//! [`is_passed_over_at_most_fifteen_times`] say how often a place can be passed over. A frame that was given
+//! and found no room further on can be put back before anything else is done. Then all is as before.
 //!
-//! What a call does stands in `specs/Rules.antt`, over the value of `specs/State.antt`, where `IsSound` is what is true
-//! of every multiplier; the circle stands in `specs/Arbiter.antt`, and what passed over many calls in
-//! `specs/Passing.antt`; the order of stamps in `specs/Orders.antt` and `specs/Stamping.antt`.
+//! When a device goes ([`Multiplier::gone`]), the frames that wait at its port are dropped.
+//! [`frames_pass_in_order`] says what a list of calls does, from any multiplier on.
+//! [`goes_up_in_stamped_order`] says in which order the stamps of frames go up.
+//! [`control_frames_show_removals`] says what a frame of the control port shows of removals.
+//!
+//! `specs/Rules.antt` has what each call does, over the value of `specs/State.antt`, where `IsSound` is what
+//! holds for every multiplier. `specs/Arbiter.antt` has the circle, `specs/Passing.antt` what passes over
+//! many calls, `specs/Orders.antt` and `specs/Stamping.antt` the order of stamps.
 #![tactic(auto)]
 
 mod arbiter;

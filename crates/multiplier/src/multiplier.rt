@@ -20,11 +20,11 @@ use thiserror::Error;
 /// Why a frame of the host is given back.
 #[derive(Clone, Copy, Debug, PartialEq, Eq, Error)]
 pub enum PmRefusal {
-    /// The place that the frame needs is taken: the answer place of the control port, or the downward place of a port
-    /// that forwards.
+    /// The place that the frame needs is taken: the answer place of the control port, or the downward place
+    /// of a port that forwards.
     #[error("hold full")]
     HoldFull = 1,
-    /// No memory is left for the answer of the control port.
+    /// There is no memory for the answer of the control port.
     #[error("out of memory")]
     OutOfMemory = 2,
 }
@@ -32,11 +32,11 @@ pub enum PmRefusal {
 /// Where a frame of the host went.
 #[derive(Clone, Copy, Debug, PartialEq, Eq)]
 pub enum Passed {
-    /// To the control port, which has answered it, or has no answer to it.
+    /// To the control port, which answered it or has no answer to it.
     Control,
     /// On its way down to the device at this port.
     Down(u8),
-    /// Nowhere, since its port is absent or does not forward.
+    /// Nowhere: its port is absent or does not forward.
     Dropped,
 }
 
@@ -110,7 +110,7 @@ fn falling(conn: u32, mut frame: Frame) -> Frame
     frame
 }
 
-/// The running number after this one, where it was given to an answer.
+/// The running number after this one, which an answer may have used.
 fn number_after(number: u32, answer: &Option<Frame>) -> u32
     ensures { result ≡ (if is_some answer.now then counted number else number) }
 {
@@ -120,7 +120,7 @@ fn number_after(number: u32, answer: &Option<Frame>) -> u32
     }
 }
 
-/// The count of dropped frames, where one more was dropped or none.
+/// The count of dropped frames, after one more was dropped or none.
 fn dropped_after(dropped: u32, one_more: bool) -> u32
     ensures { result ≡ (if one_more then counted dropped else dropped) }
 {
@@ -139,7 +139,7 @@ fn empty_ports() -> [Port; 15]
 }
 
 impl Multiplier {
-    /// A multiplier with so many device ports, none of which has a device. Port 0 is served first.
+    /// A multiplier with this many device ports and no device. Port 0 is served first.
     pub fn new(ports: u8) -> Multiplier
         requires some { 1 ≤ ports }
         requires at_most { ports ≤ 15 }
@@ -188,7 +188,7 @@ impl Multiplier {
         self.registers.forwards(n)
     }
 
-    /// The connection that a frame for port `n` goes to: a port that forwards has one.
+    /// The connection that a frame for port `n` goes to. A port that forwards has one.
     fn passes_to(&self, n: u8) -> Option<u32>
         ensures value { result ≡ passes_to self.now n }
         ensures there { MatchOption result (Unit {0}) (λ conn. n < 15) }
@@ -202,9 +202,10 @@ impl Multiplier {
         }
     }
 
-    /// Takes a frame of the host to the port that its PM Port names: to the control port, which answers it, or into the
-    /// downward place of a port that forwards. A frame to a port that is absent or does not forward is dropped and
-    /// counted. Where the place is taken, or no memory is left for the answer, the frame is given back.
+    /// Takes a frame from the host to the port that its PM Port names: to the control port, which answers it,
+    /// or into the downward place of a port that forwards. A frame for a port that is absent or does not
+    /// forward is dropped and counted. Where the place is taken, or there is no memory for the answer, the
+    /// frame is given back.
 
     pub fn from_host(&mut self, alloc: Global, frame: Frame) -> Result<Passed, (Frame, PmRefusal)>
         ensures rule { FromHostRule self.old frame result self.new }
@@ -225,7 +226,7 @@ impl Multiplier {
         }
     }
 
-    /// Has the control port answer a frame. Its answer waits until it goes up.
+    /// Lets the control port answer a frame. The answer waits until it goes up.
     fn to_control(&mut self, alloc: Global, frame: Frame) -> Result<Passed, (Frame, PmRefusal)>
         ensures { ToControl self.old frame result self.new }
     {
@@ -266,8 +267,8 @@ impl Multiplier {
         }
     }
 
-    /// Takes a frame of the device at port `n`, or gives it back where another one is held. The frame that is held has
-    /// `n` as the port of its stamp; one of a connection that is gone is dropped.
+    /// Takes a frame from the device at port `n`, or gives it back where another one is held. A held frame
+    /// has `n` as the port of its stamp. A frame of a connection that is gone is dropped.
     pub fn from_device(&mut self, n: u8, frame: Frame) -> Result<Offered, Frame>
         requires { n < self.old.registers.ports }
         ensures rule { FromDeviceRule self.old n frame result self.new }
@@ -287,8 +288,8 @@ impl Multiplier {
         }
     }
 
-    /// Records that a device came to port `n`, under this connection, in the port and in the registers. It is refused as
-    /// by [`Port::came`], and has no other refusal.
+    /// Records that a device came to port `n`, as this connection, in the port and in the registers. It
+    /// refuses what [`Port::came`] refuses, and nothing else.
     pub fn came(&mut self, n: u8, conn: u32) -> Result<(), PortError>
         requires { n < self.old.registers.ports }
         ensures { CameRule self.old n conn result self.new }
@@ -299,9 +300,9 @@ impl Multiplier {
         Ok(())
     }
 
-    /// Records that the device of this connection went from port `n`, in the port and in the registers. It is refused as
-    /// by [`Port::gone`], and has no other refusal. Frames of the connection that wait at the port are dropped; the one
-    /// on its way down is counted as dropped.
+    /// Records that the device of this connection went from port `n`, in the port and in the registers. It
+    /// refuses what [`Port::gone`] refuses, and nothing else. Frames of the connection that wait at the port
+    /// are dropped. The one on its way down counts as dropped.
     pub fn gone(&mut self, n: u8, conn: u32) -> Result<(), GoneError>
         requires { n < self.old.registers.ports }
         ensures { GoneRule self.old n conn result self.new }
@@ -335,9 +336,9 @@ impl Multiplier {
             .find(|place| self.is_ready(*place))
     }
 
-    /// Gives the next frame for the host, of the place that is its turn. A frame of a device goes up with the number of
-    /// its port as PM Port and in its stamp. Memory is asked for a notification alone; where it is refused, nothing
-    /// changes.
+    /// Gives the next frame for the host, from the place whose turn it is. A frame of a device goes up with
+    /// the number of its port as PM Port and in its stamp. Only a notification needs memory. Where the
+    /// allocator refuses it, nothing changes.
     pub fn next_up(&mut self, alloc: Global) -> Result<Option<Frame>, AllocError>
         ensures up { NextUpRule self.old result self.new }
         ensures can_put_back { IfOk result (λ up. IfSome up (λ frame. CanPutBackUp self.new frame)) }
@@ -354,7 +355,7 @@ impl Multiplier {
         Ok(Some(frame))
     }
 
-    /// Counts a place as served, and keeps how its frame is put back.
+    /// Counts a place as served, and records how its frame is put back.
     fn serve(&mut self, place: u8, source: Source, frame: &Frame)
         requires { place ≤ control_port }
         ensures { self.new ≡ record self.old {
@@ -388,7 +389,7 @@ impl Multiplier {
         }
     }
 
-    /// Gives a notification that is due, or else the answer of the control port.
+    /// Gives the notification that is due, or else the answer of the control port.
     fn control_gives(&mut self, alloc: Global) -> Result<Frame, AllocError>
         requires { ready self.old control_port ≡ true }
         ensures { MatchResult result (λ frame. ControlGives self.old frame self.new)
@@ -423,8 +424,8 @@ impl Multiplier {
         }
     }
 
-    /// Puts back the frame that `next_up` gave, where nothing was called since: the multiplier is as before, and the
-    /// next `next_up` gives the same frame.
+    /// Puts back the frame that `next_up` gave, if nothing was called since. The multiplier is as before, and
+    /// the next `next_up` gives the same frame.
     pub fn put_back_up(&mut self, frame: Frame)
         requires { CanPutBackUp self.old frame }
         ensures undoes { UndoesUp self.old frame self.new }
@@ -433,7 +434,8 @@ impl Multiplier {
         self.refill(frame);
     }
 
-    /// The frame that went up last is in its place again, and the place before is the one served last.
+    /// Puts the frame that went up last into its place again, and makes the place before it the one served
+    /// last.
     fn refill(&mut self, frame: Frame)
         requires { HasRoomFor self.old frame self.old.given }
         ensures { self.new ≡ put_back self.old frame self.old.given }
@@ -446,7 +448,7 @@ impl Multiplier {
         self.put_into(place, source, frame);
     }
 
-    /// The frame is in its place again.
+    /// Puts the frame into its place again.
     fn put_into(&mut self, place: u8, source: Source, frame: Frame)
         requires { HasRoom self.old place frame source }
         ensures { self.new ≡ refilled self.old place frame source }
@@ -458,7 +460,7 @@ impl Multiplier {
         }
     }
 
-    /// Port `n` holds the frame again, whose PM Port was this.
+    /// Port `n` holds the frame again, with the PM Port that it had.
     fn hold_again(&mut self, n: u8, pm_port: u8, mut frame: Frame)
         requires { HasRoom self.old n frame (source.Held pm_port) }
         ensures { self.new ≡ refilled self.old n frame (source.Held pm_port) }
@@ -478,7 +480,7 @@ impl Multiplier {
         self.given = None;
     }
 
-    /// The notification is due again, and its number is the next.
+    /// The notification is due again, and its number is the next one.
     fn notice_again(&mut self, frame: &Frame)
         ensures { self.new ≡ refilled self.old 15 frame.now source.Notice }
     {
@@ -502,8 +504,8 @@ impl Multiplier {
         Some(frame)
     }
 
-    /// Puts back the frame that `next_down(n)` gave, where nothing was called since: the multiplier is as before, and
-    /// the next `next_down(n)` gives the same frame.
+    /// Puts back the frame that `next_down(n)` gave, if nothing was called since. The multiplier is as
+    /// before, and the next `next_down(n)` gives the same frame.
     pub fn put_back_down(&mut self, n: u8, frame: Frame)
         requires { CanPutBackDown self.old n frame }
         ensures undoes { UndoesDown self.old n frame self.new }
@@ -512,7 +514,7 @@ impl Multiplier {
         self.refill_down(n, frame);
     }
 
-    /// The frame is in the downward place of port `n` again.
+    /// Puts the frame into the downward place of port `n` again.
     fn refill_down(&mut self, n: u8, frame: Frame)
         requires there { n < 15 }
         requires empty { (port_at self.old n).down ≡ None }
@@ -523,7 +525,7 @@ impl Multiplier {
         self.given = None;
     }
 
-    /// The registers, with which devices are present at ports, as the host sees them.
+    /// The registers as the host sees them. They also have which devices are present.
     pub fn registers(&self) -> &PmRegisters
         ensures { result.now ≡ self.now.registers }
     {
@@ -538,8 +540,8 @@ impl Multiplier {
         self.ports[usize::from(n)].hold()
     }
 
-    /// How many frames of the host were dropped, whether at once or as their device went. The count stays at its
-    /// largest value.
+    /// The number of frames of the host that were dropped, at once or when their device went. The count stays
+    /// at its largest value.
     pub fn dropped(&self) -> u32
         ensures { result ≡ self.now.dropped }
     {

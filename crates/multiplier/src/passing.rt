@@ -1,4 +1,4 @@
-//! In which order frames pass, over any calls.
+//! The order in which frames pass, over any calls.
 
 ghost use Rattle.std.specs.Prelude.{◌+◌, ◌≡◌, ◌≤◌, ℕ, List, is_some, length, true};
 ghost use Rattle.fis_view.specs.Frames.{Stamped};
@@ -8,37 +8,38 @@ ghost use Rattle.multiplier.specs.State.{IsSound, PmState, port_at};
 ghost use Rattle.multiplier.specs.Passing.{Call, Does, DoesAll, PassInOrder, PassesOver, Past, Runs, ShowsRemovals, all_past};
 ghost use Rattle.multiplier.specs.Stamping.{BeginsStamped, GoesUpStamped};
 
-/// A law of any calls, one or many, of any sound multiplier, which does nothing when it runs: frames pass in their
-/// order and none is lost but what a removal drops, the running numbers are given one after another, no connection falls,
-/// and none that is gone has a frame that passes. A frame that is put back is one that did not pass.
+/// A law for callers, over any calls of any sound multiplier; it runs no code. Frames pass in order, and none
+/// is lost except those that a removal drops. Running numbers are consecutive. No connection falls. No frame
+/// of a connection that is gone passes. A frame that is put back did not pass.
 pub fn frames_pass_in_order()
     ensures { (past : Past) (old new : PmState) (calls : List Call) →
         IsSound old → DoesAll past old calls new → PassInOrder past old calls new }
 {}
 
-/// A law of any calls of any sound multiplier, which does nothing when it runs: where what was taken of each device is in
-/// order, what goes up is in stamped order. It begins with a sound multiplier that gave nothing.
+/// A law for callers, over any calls of any sound multiplier that gave nothing yet; it runs no code. If what
+/// was taken from each device is in order, what goes up is in stamped order.
 pub fn goes_up_in_stamped_order()
     ensures goes_on { (taken : ℕ → List Stamped) (past : Past) (old : PmState)
         (calls : List Call) (new : PmState) → GoesUpStamped taken past old calls new }
     ensures begins { (past : Past) (pm : PmState) → BeginsStamped past pm }
 {}
 
-/// A law of any calls of any sound multiplier, which does nothing when it runs: a frame of the control port shows for each
-/// port the highest connection whose removal was recorded before the frame was made.
+/// A law for callers, over any calls of any sound multiplier; it runs no code. A frame of the control port
+/// shows for each port the highest connection whose removal was recorded before the frame was made.
 pub fn control_frames_show_removals()
     ensures { (past : Past) (old mid new : PmState) (calls : List Call) (call : Call) →
         IsSound old → DoesAll past old calls mid → Does mid call new → ShowsRemovals old calls call }
 {}
 
-/// A law of any sound multiplier, which does nothing when it runs: a port that forwards has a connection.
+/// A law for callers, of any sound multiplier; it runs no code. A port that forwards has a connection.
 pub fn ports_that_forward_have_connections()
     ensures { (pm : PmState) (n : ℕ) → IsSound pm → forwards pm.registers n ≡ true →
         is_some (port_at pm n).present ≡ true }
 {}
 
-/// A law of any calls of any sound multiplier, which does nothing when it runs: where a place is ready at each turn at
-/// which a frame goes up, and is not the one served, at most 15 frames go up, those not counted that are put back.
+/// A law for callers, over any calls of any sound multiplier; it runs no code. If a place is ready each time
+/// a frame goes up, and is not the one served, at most 15 frames go up. Frames that are put back do not
+/// count.
 pub fn is_passed_over_at_most_fifteen_times()
     ensures { (past : Past) (old new : PmState) (calls : List Call) (place : ℕ) →
         IsSound old → place ≤ control_port → Runs (PassesOver place) past old calls new →

@@ -42,7 +42,7 @@ fn frame(alloc: Global, bytes: &[u8]) -> Result<Frame, FrameError> {
     Frame::from_bytes(alloc, bytes, stamp)
 }
 
-/// Whether device port `n` is there.
+/// Whether device port `n` exists.
 fn has_port(pm: &Multiplier, n: u8) -> bool
     ensures { IsTrue result → n < pm.now.registers.ports }
 {
@@ -52,7 +52,7 @@ fn has_port(pm: &Multiplier, n: u8) -> bool
     }
 }
 
-/// Gives the multiplier a frame of the host, and tells where it went.
+/// Gives the multiplier a frame of the host, and returns where it went.
 fn pass(alloc: Global, pm: &mut Multiplier, bytes: &[u8]) -> Result<Passed, Fail> {
     match pm.from_host(alloc, frame(alloc, bytes)?) {
         Ok(passed) => Ok(passed),
@@ -60,7 +60,7 @@ fn pass(alloc: Global, pm: &mut Multiplier, bytes: &[u8]) -> Result<Passed, Fail
     }
 }
 
-/// The bytes and the stamp of the next frame for the host are these.
+/// Whether the next frame for the host has these bytes and this stamp.
 fn goes_up(alloc: Global, pm: &mut Multiplier, bytes: &[u8], port: u8, number: u32) -> bool {
     match pm.next_up(alloc) {
         Ok(Some(frame)) => {
@@ -71,7 +71,7 @@ fn goes_up(alloc: Global, pm: &mut Multiplier, bytes: &[u8], port: u8, number: u
     }
 }
 
-/// Has the control port write a register of port `n`.
+/// Lets the control port write a register of port `n`.
 fn write(alloc: Global, pm: &mut Multiplier, n: u8, register: u8, value: u32) -> Result<(), Fail> {
     let [low, second, third, high] = value.to_le_bytes();
     let mut command = READ_STATUS;
@@ -102,7 +102,7 @@ fn open(alloc: Global, pm: &mut Multiplier, n: u8) -> Result<(), Fail> {
     write(alloc, pm, n, 1, 0x0401_0000)
 }
 
-/// The device of port `n` goes, which came as this connection.
+/// The device of port `n`, which came as this connection, goes.
 fn goes(pm: &mut Multiplier, n: u8, conn: u32) -> Result<(), Fail> {
     if has_port(pm, n) {
         pm.gone(n, conn)?;
@@ -110,13 +110,13 @@ fn goes(pm: &mut Multiplier, n: u8, conn: u32) -> Result<(), Fail> {
     Ok(())
 }
 
-/// Offers a frame of the device at port `n`, and tells whether it is held.
+/// Offers a frame of the device at port `n`, and returns whether it is held.
 fn holds(alloc: Global, pm: &mut Multiplier, n: u8) -> Result<bool, Fail> {
     let frame = frame(alloc, &BITS)?;
     Ok(has_port(pm, n) && matches!(pm.from_device(n, frame), Ok(Offered::Held)))
 }
 
-/// A multiplier of four ports that are open to devices.
+/// A multiplier with four ports that are open to devices.
 fn four(alloc: Global) -> Result<Multiplier, Fail> {
     let mut pm = Multiplier::new(4);
     for n in 0..4 {
@@ -181,7 +181,7 @@ fn frames_go_down_with_pm_port_0(rt: HostRuntime) -> Result<(), Fail> {
     Ok(())
 }
 
-/// The notification of a device that came goes before the answer that waits, and has the later number.
+/// The notification of a device that came goes before the waiting answer, and has the later number.
 #[test]
 fn a_notification_goes_first(rt: HostRuntime) -> Result<(), Fail> {
     let alloc = rt.alloc();
@@ -200,7 +200,8 @@ fn a_notification_goes_first(rt: HostRuntime) -> Result<(), Fail> {
     Ok(())
 }
 
-/// Ports 1 and 2 lose their devices before the host is told: one notification, which shows both removals.
+/// Ports 1 and 2 lose their devices before the host is notified: there is one notification, which shows both
+/// removals.
 #[test]
 fn two_removals_make_one_notification(rt: HostRuntime) -> Result<(), Fail> {
     let alloc = rt.alloc();
@@ -222,7 +223,7 @@ fn two_removals_make_one_notification(rt: HostRuntime) -> Result<(), Fail> {
     Ok(())
 }
 
-/// The answer that waits while a device goes shows what was gone when it was made.
+/// An answer that waits while a device goes shows what was gone when it was made.
 #[test]
 fn an_answer_shows_what_was_gone_when_it_was_made(rt: HostRuntime) -> Result<(), Fail> {
     let alloc = rt.alloc();
@@ -236,7 +237,7 @@ fn an_answer_shows_what_was_gone_when_it_was_made(rt: HostRuntime) -> Result<(),
     Ok(())
 }
 
-/// Devices 1 and 3 have frames in both directions as device 1 goes.
+/// Device 1 goes while devices 1 and 3 have frames in both directions.
 #[test]
 fn frames_of_a_device_that_went_are_dropped(rt: HostRuntime) -> Result<(), Fail> {
     let alloc = rt.alloc();
@@ -261,7 +262,7 @@ fn frames_of_a_device_that_went_are_dropped(rt: HostRuntime) -> Result<(), Fail>
     Ok(())
 }
 
-/// What comes and goes behind a closed port is found as it opens.
+/// A port that opens finds what came and went while it was closed.
 #[test]
 fn an_exchange_behind_a_closed_port_is_found(rt: HostRuntime) -> Result<(), Fail> {
     let alloc = rt.alloc();

@@ -1,5 +1,5 @@
-//! The tests of the small crates below the host port and the multiplier. They stand together in a crate of their own, since
-//! a crate with tests is proved twice, and each check begins with half a minute for the library.
+//! The tests of the small crates below the host port and the multiplier. They share a crate of their own,
+//! because a crate with tests is proved twice, and each check spends half a minute on the library first.
 #![tactic(auto)]
 
 #[cfg(test)]

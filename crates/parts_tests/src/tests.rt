@@ -1,6 +1,7 @@
 //! What no clause says: values from outside, and that calls answer and succeed.
 //!
-//! A module has the name of the crate that it tests, with a word behind it, since a module and a library need different names.
+//! A module is named after the crate that it tests, with a prefix, because a module and a library need
+//! different names.
 
 mod of_hba_commands;
 mod of_pm_control;

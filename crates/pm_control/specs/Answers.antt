@@ -24,14 +24,14 @@ use Rattle.pm_control.specs.Requests.{IsCommand, request_in}
 abbrev pub done : D2hFields
 done = record { pm_port = 15; i = true; status = 0x50; error = 0; lba = 0; device = 0; count = 0 }
 
--- the bytes of the value, low to high, in Count 7:0, LBA 7:0, LBA 15:8 and LBA 23:16
+-- the bytes of the value, the low byte first, in Count 7:0, LBA 7:0, LBA 15:8 and LBA 23:16
 abbrev pub value_answer : ℕ → D2hFields
 value_answer value = record done { lba = value / 256; count = value % 256 }
 
 abbrev pub refused : ℕ → D2hFields
 refused error = record done { status = 0x51; error = error }
 
--- the Errors of the two refusals
+-- the Error field of the two refusals
 abbrev pub refused_by : RegisterError → D2hFields
 refused_by NoPort = refused 5
 refused_by NoRegister = refused 6
@@ -48,7 +48,7 @@ abbrev pub write_answer : Result ℕ RegisterError → D2hFields
 write_answer (Ok value) = done
 write_answer (Err error) = refused_by error
 
--- ---- the answer to a request, where a software reset was begun or not
+-- ---- the answer to a request, given whether a software reset has begun
 
 abbrev pub answer_of : Bool → RegisterMap → Request → Option D2hFields
 answer_of mark m (Read at) = Some (read_answer (read_at m at.port at.register))
@@ -57,7 +57,7 @@ answer_of mark m Unknown = Some (refused 4)
 answer_of mark m Reset = None
 answer_of mark m EndReset = (if mark then Some signature else None)
 
--- the registers after it: only a write changes them
+-- the registers afterwards: only a write changes them
 abbrev pub registers_after : RegisterMap → Request → RegisterMap
 registers_after m (Write at value) = after_write m at.port at.register value
 registers_after m (Read at) = m
@@ -65,7 +65,7 @@ registers_after m Unknown = m
 registers_after m Reset = m
 registers_after m EndReset = m
 
--- whether a software reset is begun after it: its end uses the beginning up
+-- whether a software reset is in progress afterwards: its end clears this
 abbrev pub mark_after : Bool → Request → Bool
 mark_after mark Reset = true
 mark_after mark EndReset = false
@@ -101,15 +101,14 @@ abbrev pub CommandsAreAnswered : Type 0
 CommandsAreAnswered =
     (mark : Bool) (m : RegisterMap) (bytes : List ℕ) → IsCommand bytes → IsSome (answer_to mark m bytes)
 
--- a frame with these fields and this stamp where there are fields, else none
+-- a frame with these fields and this stamp if there are fields, else none
 abbrev pub IsAnswer : Option D2hFields → Stamp → Option Stamped → Type 0
 IsAnswer None stamp None = Unit {0}
 IsAnswer None stamp (Some frame) = ⊥
 IsAnswer (Some fields) stamp None = ⊥
 IsAnswer (Some fields) stamp (Some frame) = IsBuilt D2h (d2h_given fields) frame.bytes × (frame.stamp ≡ stamp)
 
--- a register that is written has the value that its write rule makes of the one before and of the one that is
--- written
+-- a register that is written has the value that its write rule makes from the old value and the written one
 abbrev pub ReadsBack : RegisterMap → Request → RegisterMap → Type 0
 ReadsBack old (Write at value) new = (was : ℕ) → register_at old at.port at.register ≡ Some was
     → register_at new at.port at.register ≡ Some (after_rule (write_rule at.port at.register) was value)
@@ -118,9 +117,8 @@ ReadsBack old Unknown new = Unit {0}
 ReadsBack old Reset new = Unit {0}
 ReadsBack old EndReset new = Unit {0}
 
--- 16.2.2, WRITE PORT MULTIPLIER: where a write has Status 50h, the next READ PORT MULTIPLIER of that port and
--- register is answered with what the register's write rule makes of its value before and of the value that
--- was written.
+-- 16.2.2, WRITE PORT MULTIPLIER: where a write completes with Status 50h, the next READ PORT MULTIPLIER of
+-- that port and register returns what the register's write rule makes from its old value and the written one.
 abbrev pub IsSeenNext : RegisterMap → List ℕ → ℕ → RegisterMap → Type 0
 IsSeenNext old write status new =
     (at : Address) (value : ℕ) → request_in write ≡ Some (Write at value) → status ≡ 0x50
@@ -134,7 +132,7 @@ IsSeenNext old write status new =
 abbrev pub notice_fields : SetBitsFields
 notice_fields = record { pm_port = 15; n = true; i = true; status = 0x50; error = 0; sactive = 0 }
 
--- where it is due one is made, else none
+-- one is made where it is due, else none
 abbrev pub IsNotice : Bool → Stamp → Option Stamped → Type 0
 IsNotice false stamp None = Unit {0}
 IsNotice false stamp (Some frame) = ⊥

@@ -1,4 +1,4 @@
--- What a FIS to the control port asks for (Serial ATA 3.x, 16.2: READ PORT MULTIPLIER, WRITE PORT MULTIPLIER;
+-- What a FIS to the control port requests (Serial ATA 3.x, 16.2: READ PORT MULTIPLIER, WRITE PORT MULTIPLIER;
 -- software reset of the control port).
 use Rattle.std.specs.Prelude.{◌≡◌, ℕ, ◌+◌, ◌*◌, ◌%◌, ◌==◌, if◌then◌else◌, bit_and, List, Option, Some, None}
 use Rattle.std.specs.Prelude.{Result, Ok, Err}
@@ -11,15 +11,16 @@ use Rattle.pm_control.specs.declared.request.Address.{Address}
 use Rattle.pm_control.specs.declared.request.Request.{Request}
 use Rattle.pm_control.specs.declared.request.Request.TheVariants.{Read, Write, Unknown, Reset, EndReset}
 
--- the port stands in Device 3:0, the register's number in Features
+-- the port is in Device 3:0, the number of the register in Features
 abbrev pub address_in : List ℕ → Address
 address_in f = record { port = field H2d Device f % 16; register = field H2d Features f }
 
--- the bytes of the value, low to high, stand in Count 7:0, LBA 7:0, LBA 15:8 and LBA 23:16
+-- the bytes of the value, the low byte first, are in Count 7:0, LBA 7:0, LBA 15:8 and LBA 23:16
 abbrev pub value_in : List ℕ → ℕ
 value_in f = field H2d Count f % 256 + 256 * (field H2d Lba f % 0x1000000)
 
--- with C set the FIS gives a command, with C clear the Device Control register, whose bit 2 is SRST
+-- with C set the FIS writes the Command register, with C clear the Device Control register, whose bit 2 is
+-- SRST
 abbrev pub requested : List ℕ → Request
 requested f =
     (if field H2d C f == 1
@@ -36,6 +37,6 @@ request_under (Err fault) = None
 abbrev pub IsCommand : List ℕ → Type 0
 IsCommand bytes = (seen bytes ≡ Ok (view.RegH2D bytes)) × (field H2d C bytes ≡ 1)
 
--- a frame that is no Register Host to Device FIS, or one of a wrong length, asks for nothing
+-- a frame that is not a Register Host to Device FIS, or has a wrong length, requests nothing
 abbrev pub request_in : List ℕ → Option Request
 request_in bytes = request_under (seen bytes)

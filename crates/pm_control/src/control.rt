@@ -12,12 +12,12 @@ use pm_registers::{CONTROL_PORT, PmRegisters, RegisterError};
 use std::alloc::{AllocError, Global};
 use std::marker::Model;
 
-/// Status of a command that was done: DRDY, and bit 4.
+/// Status of a command that completed: DRDY, and bit 4.
 const DONE: u8 = 0x50;
-/// Status of a command that was refused: the same, and ERR.
+/// Status of a command that was refused: the same, with ERR.
 const REFUSED: u8 = 0x51;
 
-/// The control port: whether a software reset of it was begun and is not ended.
+/// The control port: whether a software reset of it has begun and not ended.
 #[derive(Debug, Drop)]
 pub struct PmControl {
     resetting: bool,
@@ -31,7 +31,7 @@ impl Model for PmControl {
     ghost view = { λ c. c.resetting };
 }
 
-/// The answer to a command that was done. All fields of the value are 0.
+/// The answer to a command that completed. All fields of the value are 0.
 fn done() -> D2hFields
     ensures { result ≡ done }
 {
@@ -46,7 +46,7 @@ fn done() -> D2hFields
     }
 }
 
-/// The answer to a read: the bytes of the value stand, low to high, in Count 7:0 and LBA 23:0.
+/// The answer to a read: the bytes of the value, the low byte first, in Count 7:0 and LBA 23:0.
 fn value_answer(value: u32) -> D2hFields
     ensures { result ≡ value_answer value }
 {
@@ -98,7 +98,7 @@ impl PmControl {
         PmControl { resetting: false }
     }
 
-    /// What is answered to a request, if anything.
+    /// The answer to a request, if it has one.
     fn reply(&self, registers: &PmRegisters, request: Request) -> Option<D2hFields>
         ensures { result ≡ answer_of self.now registers.now request }
     {
@@ -125,7 +125,7 @@ impl PmControl {
     {
         match request {
             Request::Write(at, value) => {
-                // The answer says already whether it is refused.
+                // The answer already says whether it is refused.
                 let _ = registers.write(at.port, at.register, value);
             }
             Request::Reset => self.resetting = true,
@@ -134,8 +134,8 @@ impl PmControl {
         }
     }
 
-    /// Takes a frame that goes to the control port, and gives its answer with this stamp, if it has one. The answer
-    /// is allocated before anything is done: on an error nothing has changed, and the call can be made again.
+    /// Takes a frame for the control port, and gives its answer with this stamp, if it has one. The answer is
+    /// allocated before anything is done. On an error nothing has changed, and the call can be repeated.
     pub fn answer(
         &mut self,
         alloc: Global,
@@ -143,17 +143,17 @@ impl PmControl {
         frame: &Frame,
         stamp: Stamp,
     ) -> Result<Option<Frame>, AllocError>
-        // the answer that the frame has, and none where it has none
+        // the answer of the frame, and none where it has none
         ensures answer { IfOk result
             (λ answer. IsAnswer (answer_to self.old registers.old frame.now.bytes) stamp answer) }
         ensures registers { OnOk result
             (registers.new ≡ registers_left registers.old frame.now.bytes) }
-        // a write whose answer has Status 50h is seen by the next read, through the mask of its register
+        // the next read sees a write whose answer has Status 50h, through the mask of its register
         ensures seen { IfOk result (λ answer. IfSome answer
             (λ reply. IsSeenNext registers.old frame.now.bytes
             (field D2h Status reply.bytes) registers.new)) }
         ensures mark { OnOk result (self.new ≡ mark_left self.old frame.now.bytes) }
-        // memory is asked for only where there is an answer, and where it is refused nothing changes
+        // only an answer needs memory; where the allocator refuses it, nothing changes
         ensures no_memory { OnErr result
             (IsSome (answer_to self.old registers.old frame.now.bytes)) }
         ensures registers_stay { OnErr result (registers.new ≡ registers.old) }
@@ -170,8 +170,9 @@ impl PmControl {
         Ok(answer)
     }
 
-    /// The asynchronous notification with this stamp, where one is due, and then no longer due: a Set Device Bits
-    /// FIS with N set (Serial ATA 3.x, asynchronous notification). Where memory is refused it stays due.
+    /// The asynchronous notification with this stamp, if one is due, which is then no longer due: a Set
+    /// Device Bits FIS with N set (Serial ATA 3.x, asynchronous notification). Where the allocator refuses
+    /// memory it stays due.
     pub fn notice(
         alloc: Global,
         registers: &mut PmRegisters,
@@ -179,7 +180,7 @@ impl PmControl {
     ) -> Result<Option<Frame>, AllocError>
         ensures notice { IfOk result (λ notice. IsNotice registers.old.due stamp notice) }
         ensures made { OnOk result (registers.new ≡ after_notice registers.old) }
-        // memory is asked for only where a notification is due, and where it is refused nothing changes
+        // only a notification that is due needs memory; where the allocator refuses it, nothing changes
         ensures no_memory { OnErr result (registers.old.due ≡ true) }
         ensures stays { OnErr result (registers.new ≡ registers.old) }
     {

@@ -1,4 +1,4 @@
-//! What a FIS to the control port asks for.
+//! What a FIS to the control port requests.
 
 ghost use Rattle.std.specs.Prelude.{◌≡◌};
 ghost use Rattle.pm_control.specs.Requests.{request_in, requested, value_in};
@@ -21,7 +21,7 @@ pub struct Address {
     pub register: u16,
 }
 
-/// What a Register Host to Device FIS asks of the control port.
+/// What a Register Host to Device FIS requests of the control port.
 #[derive(Clone, Copy, Debug, PartialEq, Eq)]
 pub enum Request {
     /// READ PORT MULTIPLIER.
@@ -30,13 +30,13 @@ pub enum Request {
     Write(Address, u32),
     /// Any other command.
     Unknown,
-    /// Device Control with SRST set: a software reset begins.
+    /// Device Control with SRST set: begins a software reset.
     Reset,
-    /// Device Control with SRST clear: it ends.
+    /// Device Control with SRST clear: ends it.
     EndReset,
 }
 
-/// The value of a write: its bytes stand, low to high, in Count 7:0 and LBA 23:0.
+/// The value of a write: its bytes, the low byte first, in Count 7:0 and LBA 23:0.
 fn value(fis: &RegH2D<'_>) -> u32
     ensures { result ≡ value_in fis.now }
 {
@@ -64,7 +64,7 @@ fn request_of_fis(fis: &RegH2D<'_>) -> Request
     }
 }
 
-/// What a frame asks for; nothing, if it is no Register Host to Device FIS of the right length.
+/// What a frame requests; nothing, if it is not a Register Host to Device FIS of the right length.
 pub(crate) fn request_of(frame: &Frame) -> Option<Request>
     ensures { result ≡ request_in frame.now.bytes }
 {

@@ -9,10 +9,10 @@ use fis_view::Frame;
 use std::marker::Model;
 use thiserror::Error;
 
-/// Why a connection that comes is refused; [`Port::came`] alone refuses so, and has no other refusal.
+/// Why [`Port::came`] refuses a connection. There is no other refusal.
 #[derive(Clone, Copy, Debug, PartialEq, Eq, Error)]
 pub enum PortError {
-    /// A device is there.
+    /// A device is present.
     #[error("already there")]
     AlreadyThere = 1,
     /// The connection is 0, or not above the last one that came.
@@ -20,10 +20,10 @@ pub enum PortError {
     OldConnection = 2,
 }
 
-/// Why a removal is refused; [`Port::gone`] alone refuses so, and has no other refusal.
+/// Why [`Port::gone`] refuses a removal. There is no other refusal.
 #[derive(Clone, Copy, Debug, PartialEq, Eq, Error)]
 pub enum GoneError {
-    /// The connection is not the one that is present.
+    /// The connection is not the present one.
     #[error("not there")]
     NotThere = 1,
 }
@@ -33,18 +33,18 @@ pub enum GoneError {
 pub enum Offered {
     /// The frame is held until it goes up.
     Held,
-    /// The frame was let go, since the removal of its connection was recorded.
+    /// The frame was dropped, because the removal of its connection was recorded.
     Dropped,
 }
 
-/// Whether a connection is one of those up to the highest that is gone.
+/// Whether a connection is at most the highest one that is gone.
 fn is_up_to(highest: u32, conn: u32) -> bool
     ensures { result ≡ is_up_to highest conn }
 {
     0 < conn && conn <= highest
 }
 
-/// What a place keeps where the connections up to the highest are gone.
+/// What a place keeps when the connections up to the highest are gone.
 fn left_in(highest: u32, place: Option<Frame>) -> Option<Frame>
     ensures { result ≡ left_in highest place }
 {
@@ -55,8 +55,8 @@ fn left_in(highest: u32, place: Option<Frame>) -> Option<Frame>
     Some(frame)
 }
 
-/// A fan-out port: the connection that is present, the highest that is gone, and a place for one frame in each
-/// direction.
+/// A fan-out port: the connection that is present, the highest that is gone, and a place for one frame in
+/// each direction.
 #[derive(Debug, Drop)]
 pub struct Port {
     present: Option<u32>,
@@ -94,7 +94,7 @@ impl Default for Port {
 }
 
 impl Port {
-    /// A port to which no device came.
+    /// A port that no device came to.
     pub fn new() -> Port
         ensures { result ≡ empty_port }
     {
@@ -107,7 +107,7 @@ impl Port {
         }
     }
 
-    /// Records that a device came, under this connection. Frames that wait stay where they are: one of this very
+    /// Records that a device came, as this connection. Waiting frames stay where they are: one of this very
     /// connection may have arrived before.
     pub fn came(&mut self, conn: u32) -> Result<(), PortError>
         ensures refusal { result_err result ≡ came_refusal self.old conn }
@@ -125,8 +125,8 @@ impl Port {
         Ok(())
     }
 
-    /// Records that the device of this connection went. Frames that wait in either direction and are of this connection,
-    /// or of an earlier one, are dropped; one of a later connection stays.
+    /// Records that the device of this connection went. Waiting frames of this connection or an earlier one
+    /// are dropped, in both directions. A frame of a later connection stays.
     pub fn gone(&mut self, conn: u32) -> Result<(), GoneError>
         ensures refusal { result_err result ≡ gone_refusal self.old conn }
         ensures after { MatchResult result (λ _. self.new ≡ with_removal self.old conn)
@@ -157,7 +157,7 @@ impl Port {
         self.present
     }
 
-    /// Whether the upward place is empty, so that a frame of the device would be held.
+    /// Whether the upward place is empty, so that it can hold a frame of the device.
     pub fn wants(&self) -> bool
         ensures { result ≡ is_none self.now.up }
     {
@@ -171,8 +171,8 @@ impl Port {
         self.down.is_none()
     }
 
-    /// Takes a frame of the device, or gives it back where another one waits to go up. A frame of a connection that is
-    /// gone is dropped.
+    /// Takes a frame of the device, or gives it back where another one waits to go up. A frame of a
+    /// connection that is gone is dropped.
     pub fn offer(&mut self, frame: Frame) -> Result<Offered, Frame>
         ensures { IsOffered self.old frame result self.new }
     {
@@ -196,8 +196,8 @@ impl Port {
         }
     }
 
-    /// Gives the held frame on its way up, where the port forwards and the frame is of the present connection. The
-    /// frame of a later connection waits until that connection came.
+    /// Gives the held frame on its way up, if the port forwards and the frame is of the present connection. A
+    /// frame of a later connection waits until that connection comes.
     pub fn take_held(&mut self, forwards: bool) -> Option<Frame>
         ensures gives { result ≡ next_up forwards self.old }
         ensures after { self.new ≡ (if is_some result then with_up self.old None else self.old) }

@@ -1,4 +1,4 @@
--- What is true after any list of calls, by the calls alone (Serial ATA 3.x, 16.4.1: GSCR[32] shows the ports
+-- What holds after any list of calls, by the calls alone (Serial ATA 3.x, 16.4.1: GSCR[32] shows the ports
 -- with an error that the mask GSCR[33] lets through; 16.3.4: asynchronous notification).
 use Rattle.std.specs.Prelude.{◌≡◌, ◌≢◌, ℕ, ◌<◌, ◌==◌, ◌↔◌, ◌⊎◌, Bool, true, false, if◌then◌else◌, List, []}
 use Rattle.std.specs.Prelude.{◌∷◌, ◌++◌, All, unwrap_or}
@@ -30,12 +30,12 @@ called m (Raises n bits) = after_raise m n bits
 called m Notices = after_notice m
 called m Restores = after_restore m
 
--- the registers after these calls, the first one first
+-- the registers after these calls, the first call first
 unfoldable pub after : RegisterMap → List Call → RegisterMap
 after m [] = m
 after m (call ∷ calls) = after (called m call) calls
 
--- the value of a register, 0 where it is not there
+-- the value of a register, 0 where it does not exist
 abbrev pub value_at : RegisterMap → ℕ → ℕ → ℕ
 value_at m port register = unwrap_or (register_at m port register) 0
 
@@ -51,31 +51,31 @@ SummaryAgrees m = (n : ℕ) → HasBit m 15 32 n ↔ ((n < m.ports) × (k : ℕ)
 abbrev pub Notifies : RegisterMap → RegisterMap → Type 0
 Notifies old new = HasBit new 15 96 3 × (n : ℕ) × (bit_at (value_at old 15 32) n ≡ 0) × HasBit new 15 32 n
 
--- the call is one that notifies, or takes back a notification that was made
+-- the call notifies, or takes back a notification that was made
 abbrev pub MakesDue : Call → RegisterMap → RegisterMap → Type 0
 MakesDue call old new = Notifies old new ⊎ (call ≡ Restores)
 
--- since the last notice, or since the beginning, some call makes one due
+-- since the last notification, or since the start, some call made one due
 abbrev pub NotifiedSince : RegisterMap → List Call → Type 0
 NotifiedSince m calls =
     (before : List Call) × (call : Call) × (since : List Call) × (calls ≡ before ++ call ∷ since)
     × All (λ c. c ≢ Notices) (call ∷ since)
     × MakesDue call (after m before) (after m (before ++ call ∷ []))
 
--- a bit of a device port's PSCR[1] goes only where ones are written to it
+-- a bit of a device port's PSCR[1] is cleared only by writing a one to it
 abbrev pub ClearedByOnes : RegisterMap → Type 0
 ClearedByOnes m =
     (call : Call) (n k : ℕ) → n < m.ports → HasBit m n 1 k → bit_at (value_at (called m call) n 1) k ≡ 0
     → (value : ℕ) × (call ≡ Writes n 1 value) × (bit_at value k ≡ 1)
 
--- whether a device is present at port n after a call, where one was or was not: only its coming and going
--- change it
+-- whether a device is present at port n after a call, given whether one was before: only its coming and going
+-- change that
 abbrev pub device_after : Call → ℕ → Bool → Bool
 device_after (Inserts port) n was = if port == n then true else was
 device_after (Removes port) n was = if port == n then false else was
 device_after call n was = was
 
--- a call keeps what is true of every map, and knows which devices are present
+-- a call keeps what holds for every map, and has the right devices present
 abbrev pub KeepsSound : RegisterMap → Call → Type 0
 KeepsSound m call =
     IsSound m → IsSound (called m call)

@@ -17,7 +17,7 @@ bit_n = 0x10000
 abbrev pub bit_x : ℕ
 bit_x = 0x4000000
 
--- offline, with no device
+-- offline, without a device
 abbrev pub opening_port : PortRegisters
 opening_port = record { status = 4; error = 0; control = 4; present = false }
 
@@ -26,7 +26,7 @@ abbrev pub pscr : PortRegisters → ℕ → Option ℕ
 pscr p register = (if register == 0 then Some p.status else if register == 1 then Some p.error
     else if register == 2 then Some p.control else None)
 
--- DET of SControl is 0; each other value closes the port
+-- DET of SControl is 0; any other value closes the port
 abbrev pub is_open : PortRegisters → Bool
 is_open p = det p.control == 0
 
@@ -38,15 +38,15 @@ met p = record p { status = 0x133; error = bit_or (bit_or p.error bit_n) bit_x }
 abbrev pub opened : PortRegisters → PortRegisters
 opened p = if p.present then met p else record p { status = 0 }
 
--- A write to SControl stores the value. DET 0 opens the port, where it was closed. DET 4 takes it offline,
--- and each other value closes it with SStatus 0.
+-- A write to SControl stores the value. DET 0 opens the port if it was closed. DET 4 takes it offline. Any
+-- other value closes it with SStatus 0.
 abbrev pub controlled : PortRegisters → ℕ → PortRegisters
 controlled p value =
     let next : PortRegisters = record p { control = value } in
     (if is_open next then (if is_open p then next else opened next)
     else record next { status = (if det value == 4 then 4 else 0) })
 
--- a write to a register: ones clear bits of SError, SControl acts, and SStatus is only read
+-- A write to a register: ones clear bits of SError, SControl acts, and SStatus is read-only.
 abbrev pub port_written : PortRegisters → ℕ → ℕ → PortRegisters
 port_written p register value =
     (if register == 1 then record p { error = without p.error value } else if register == 2
@@ -66,8 +66,8 @@ removed p =
 abbrev pub raised : PortRegisters → ℕ → PortRegisters
 raised p bits = record p { error = bit_or p.error bits }
 
--- whether FISes pass the port, in either direction: it is open, communication is established, and no exchange
--- of the device is left that the host has not seen
+-- whether FISes pass the port, in either direction: it is open, communication is established, and the host
+-- has seen and cleared every exchange of the device
 abbrev pub passes : PortRegisters → Bool
 passes p = is_open p && det p.status == 3 && bit_and p.error bit_x == 0
 

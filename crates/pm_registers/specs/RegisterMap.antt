@@ -10,8 +10,8 @@ use Rattle.pm_registers.specs.declared.words.RegisterError.TheVariants.{NoPort, 
 use Rattle.pm_registers.specs.Port.{opening_port, pscr, port_written, inserted, removed, raised, passes}
 use Rattle.pm_registers.specs.Port.{ShowsTruly}
 
--- what a multiplier holds: how many device ports it has, GSCR[33], GSCR[96], the registers of the ports
--- (those from `ports` on are not there), and whether a notification is due
+-- what a multiplier holds: the number of its device ports, GSCR[33], GSCR[96], the registers of the ports
+-- (those from `ports` on do not exist), and whether a notification is due
 pub record RegisterMap : Type 0 where
   pub ports : ℕ
   pub mask : ℕ
@@ -30,23 +30,23 @@ opening ports =
 abbrev pub port_at : RegisterMap → ℕ → PortRegisters
 port_at m n = slice_index_or m.bank n opening_port
 
--- what is true of every map: there are at most 15 device ports, and each shows its device truly
+-- what holds for every map: there are at most 15 device ports, and each shows its device truly
 pub record IsSound (m : RegisterMap) : Type 0 where
   pub ports : m.ports ≤ 15
   pub bank : length m.bank ≡ 15
   pub shown : (n : ℕ) → ShowsTruly (port_at m n)
 
--- whether FISes pass device port n, in both directions; a port that is not there passes none
+-- whether FISes pass device port n, in both directions; a port that does not exist passes none
 abbrev pub forwards : RegisterMap → ℕ → Bool
 forwards m n = nat_lt n m.ports && passes (port_at m n)
 
 -- ---- reading
 
--- whether a port asks for attention: its SError and GSCR[33] share a set bit
+-- whether a port needs attention: its SError and GSCR[33] share a set bit
 abbrev pub asks : RegisterMap → ℕ → Bool
 asks m n = shares (port_at m n).error m.mask
 
--- GSCR[32]: bit n is set where device port n asks for attention
+-- GSCR[32]: bit n is set where device port n needs attention
 abbrev pub summary : RegisterMap → ℕ
 summary m = bits_where (asks m) m.ports
 
@@ -61,13 +61,13 @@ gscr m register =
 abbrev pub has_port : RegisterMap → ℕ → Bool
 has_port m port = port == control_port || nat_lt port m.ports
 
--- the finite map
+-- the register map, which is finite
 abbrev pub register_at : RegisterMap → ℕ → ℕ → Option ℕ
 register_at m port register =
     (if port == control_port then gscr m register else if nat_lt port m.ports
     then pscr (port_at m port) register else None)
 
--- its value, or the refusal: a port that is not there is refused before a register that is not there
+-- its value, or the refusal: a port that does not exist is refused before a register that does not exist
 abbrev pub read_at : RegisterMap → ℕ → ℕ → Result ℕ RegisterError
 read_at m port register =
     (if has_port m port then ok_or (register_at m port register) NoRegister else Err NoPort)
@@ -78,9 +78,9 @@ read_at m port register =
 pub data WriteRule : Type 0 where
   -- nothing
   ReadOnly : WriteRule
-  -- these bits of the value are stored, the others are 0
+  -- these bits of the value are stored; the others become 0
   Stores : ℕ → WriteRule
-  -- ones of the value clear bits
+  -- ones in the value clear bits
   OnesClear : WriteRule
 
 -- the table of write rules
@@ -96,7 +96,7 @@ after_rule ReadOnly old value = old
 after_rule (Stores mask) old value = bit_and value mask
 after_rule OnesClear old value = without old value
 
--- which registers a write may change: the one that it names, those that SControl acts on, and GSCR[32], which
+-- which registers a write can change: the one that it names, those that SControl acts on, and GSCR[32], which
 -- is computed from others
 abbrev pub may_change : ℕ → ℕ → ℕ → ℕ → Bool
 may_change port register p r =
@@ -127,7 +127,7 @@ written m port register value =
     (if port == control_port then control_written m register value
     else with_port m port (port_written (port_at m port) register value))
 
--- a write; one that is refused changes nothing
+-- a write; a refused write changes nothing
 abbrev pub after_write : RegisterMap → ℕ → ℕ → ℕ → RegisterMap
 after_write m port register value =
     (if is_some (register_at m port register) then settled (summary m) (written m port register value) else m)

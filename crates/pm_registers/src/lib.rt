@@ -1,9 +1,9 @@
 //! The registers of a port multiplier (Serial ATA 3.x, 16.4): the general status and control registers (GSCR) of
 //! its control port, and the port status and control registers (PSCR) of each of its device ports.
 //!
-//! [`PmRegisters`] is one value: what the host reads and writes by register commands, which devices are present,
-//! and whether an asynchronous notification is due. GSCR\[32\], the ports that ask for attention, is computed at
-//! each read and never stored.
+//! [`PmRegisters`] is one value: what the host reads and writes by register commands, which devices are
+//! present, and whether an asynchronous notification is due. GSCR\[32\], the ports that need attention, is
+//! computed at each read and never stored.
 #![tactic(auto)]
 
 mod bits;

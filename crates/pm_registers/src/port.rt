@@ -54,7 +54,8 @@ impl PortRegisters {
         self.control & DET_MASK == 0
     }
 
-    /// A device is met on the link: PhyRdy changed, a device was exchanged, communication is established.
+    /// The port meets a device on the link: PhyRdy changed, a device was exchanged, communication is
+    /// established.
     fn met(self) -> PortRegisters
         ensures { result ≡ met self }
     {
@@ -94,7 +95,7 @@ impl PortRegisters {
         }
     }
 
-    /// A write to PSCR number `register`. Writes to a register that is only read change nothing.
+    /// A write to PSCR number `register`. Writes to a read-only register change nothing.
     pub(crate) fn written(self, register: u16, value: u32) -> PortRegisters
         ensures { result ≡ port_written self register value }
     {
@@ -138,7 +139,7 @@ impl PortRegisters {
         }
     }
 
-    /// Bits of SError are set.
+    /// Sets bits of SError.
     pub(crate) fn raised(self, bits: u32) -> PortRegisters
         ensures { result ≡ raised self bits }
     {

@@ -36,7 +36,7 @@ impl Model for PmRegisters {
 }
 
 impl PmRegisters {
-    /// The registers of a multiplier with so many device ports, when it starts.
+    /// The registers of a multiplier with this many device ports, when it starts.
     pub fn new(ports: u8) -> PmRegisters
         requires some { 1 ≤ ports }
         requires at_most { ports ≤ 15 }
@@ -70,7 +70,7 @@ impl PmRegisters {
         self.bank[usize::from(n)] = port;
     }
 
-    /// GSCR\[32\]: the ports that ask for attention.
+    /// GSCR\[32\]: the ports that need attention.
     fn summary(&self) -> u32
         ensures value { result ≡ summary self.now }
     {
@@ -99,10 +99,10 @@ impl PmRegisters {
         }
     }
 
-    /// Reads a register. Port 15 has the GSCRs, a device port the PSCRs.
+    /// Reads a register. Port 15 has the GSCRs, a device port has the PSCRs.
     pub fn read(&self, port: u8, register: u16) -> Result<u32, RegisterError>
         ensures value { result ≡ read_at self.now port register }
-        // so it gives the value after the calls that were made since the start
+        // so it gives the value after the calls since the start
         ensures after_calls { (ports : ℕ) (calls : List Call) → self.now ≡ after (opening ports) calls →
             result ≡ read_at (after (opening ports) calls) port register }
     {
@@ -116,7 +116,7 @@ impl PmRegisters {
         value.ok_or(RegisterError::NoRegister)
     }
 
-    /// A write to GSCR number `register`. Writes to a register that is only read change nothing.
+    /// A write to GSCR number `register`. Writes to a read-only register change nothing.
     fn write_control(&mut self, register: u16, value: u32)
         ensures { self.new ≡ control_written self.old register value }
     {
@@ -127,8 +127,8 @@ impl PmRegisters {
         }
     }
 
-    /// The end of a call that began with this GSCR\[32\]: where notifications are enabled and a bit of it went from
-    /// 0 to 1, a notification is due.
+    /// Ends a call that began with this GSCR\[32\]. If notifications are enabled and a bit of GSCR\[32\] went
+    /// from 0 to 1, a notification is due.
     fn settle(&mut self, before: u32)
         ensures { self.new ≡ settled before self.old }
     {
@@ -136,8 +136,8 @@ impl PmRegisters {
         self.due = self.due || self.enabled & FEATURE_NOTIFICATION != 0 && risen != 0;
     }
 
-    /// Writes a register, and does what the write of PSCR\[2\] asks for. It refuses what [`read`](Self::read) does.
-    /// A write to a register that is only read is no error, and changes nothing.
+    /// Writes a register, and acts on a write to PSCR\[2\]. It refuses what [`read`](Self::read) refuses. A
+    /// write to a read-only register is no error and changes nothing.
     #[tactic(auto, using(crate::proofs::ShownLemmas::shows_written))]
     pub fn write(&mut self, port: u8, register: u16, value: u32) -> Result<(), RegisterError>
         ensures refusal { result_err result ≡ result_err (read_at self.old port register) }
@@ -147,9 +147,9 @@ impl PmRegisters {
             register_at self.new port register
             ≡ Some (after_rule (write_rule port register) was value) }
         ensures ports { self.new.ports ≡ self.old.ports }
-        // no write makes a device present or takes one away
+        // no write changes which devices are present
         ensures devices { (n : ℕ) → (port_at self.new n).present ≡ (port_at self.old n).present }
-        // each other register stays, but for what a write to SControl acts on and for GSCR[32]
+        // every other register stays, except those that a write to SControl acts on, and GSCR[32]
         ensures others { (p r : ℕ) → may_change port register p r ≡ false →
             register_at self.new p r ≡ register_at self.old p r }
     {
@@ -201,7 +201,7 @@ impl PmRegisters {
         self.settle(before);
     }
 
-    /// Whether FISes pass device port `n`, in both directions. A port that is not there passes none.
+    /// Whether FISes pass device port `n`, in both directions. A port that does not exist passes none.
     pub fn forwards(&self, n: u8) -> bool
         ensures { result ≡ forwards self.now n }
     {
@@ -216,14 +216,14 @@ impl PmRegisters {
         self.due
     }
 
-    /// The notification is made, and no longer due.
+    /// The notification was made and is no longer due.
     pub fn clear_notice(&mut self)
         ensures { self.new ≡ after_notice self.old }
     {
         self.due = false;
     }
 
-    /// The notification that was made is taken back, so one is due again.
+    /// Takes back the notification that was made, so one is due again.
     pub fn restore_notice(&mut self)
         ensures { self.new ≡ after_restore self.old }
     {

@@ -11,9 +11,9 @@ pub const GSCR_PRODUCT: u16 = 0;
 pub const GSCR_REVISION: u16 = 1;
 /// GSCR\[2\], Port Information: the number of device ports in bits 3:0.
 pub const GSCR_PORTS: u16 = 2;
-/// GSCR\[32\], Error Information: a bit for each device port that asks for attention.
+/// GSCR\[32\], Error Information: a bit for each device port that needs attention.
 pub const GSCR_SUMMARY: u16 = 32;
-/// GSCR\[33\], Error Information Bit Enable: the bits of PSCR\[1\] for which a port asks for attention.
+/// GSCR\[33\], Error Information Bit Enable: the bits of PSCR\[1\] that make a port need attention.
 pub const GSCR_MASK: u16 = 33;
 /// GSCR\[64\], Port Multiplier Revision 1.X Features Support.
 pub const GSCR_FEATURES: u16 = 64;
@@ -39,7 +39,7 @@ pub const FEATURE_NOTIFICATION: u32 = 1 << 3;
 
 /// The field DET, bits 3:0 of SStatus and of SControl.
 pub const DET_MASK: u32 = 0xF;
-/// DET of SControl that takes the interface offline, and of SStatus where it is.
+/// DET of SControl to take the interface offline, and DET of SStatus while it is offline.
 pub const DET_OFFLINE: u32 = 4;
 /// SStatus with a device: DET 3 (communication established), SPD 3 (Gen 3), IPM 1 (active).
 pub const STATUS_ESTABLISHED: u32 = 0x133;
@@ -47,10 +47,10 @@ pub const STATUS_ESTABLISHED: u32 = 0x133;
 /// Why a register command is refused.
 #[derive(Clone, Copy, Debug, PartialEq, Eq, Error)]
 pub enum RegisterError {
-    /// The port is neither the control port nor a device port of this multiplier. This is tested first.
+    /// The port is neither the control port nor a device port of this multiplier. This is checked first.
     #[error("no such port")]
     NoPort = 1,
-    /// The port has no register of that number.
+    /// The port has no register with that number.
     #[error("no such register")]
     NoRegister = 2,
 }

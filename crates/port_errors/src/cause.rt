@@ -6,25 +6,25 @@ ghost use Rattle.port_errors.specs.Interrupts.{device_interrupts, interrupt_bits
 use crate::interrupts::Interrupts;
 use bitflags::Flags;
 
-/// Why a device is faulty. Such an error ends the device's own commands alone (AHCI 1.3.1, 9.3, FIS-based
+/// Why a device is faulty. Such an error ends only the commands of that device (AHCI 1.3.1, 9.3, FIS-based
 /// switching: device specific errors).
 #[derive(Clone, Copy, Debug, PartialEq, Eq)]
 pub enum DeviceCause {
-    /// A FIS of the device carried ERR in its Status.
+    /// A FIS of the device had ERR set in its Status.
     TaskFile = 1,
     /// A DMA Setup named a tag that is not outstanding.
     BadTag = 2,
-    /// More data was set up, or came, than the command has room for.
+    /// More data was set up, or received, than the command has room for.
     Overflow = 3,
-    /// A Data or a DMA Activate FIS came where none was set up.
+    /// A Data FIS or a DMA Activate FIS was received where none was set up.
     Stray = 4,
-    /// A DMA Setup covers a byte that went over before.
+    /// A DMA Setup covers a byte that was already transferred.
     Twice = 5,
-    /// The data of a command went over in too many separate runs.
+    /// The data of a command was transferred in too many separate runs.
     Fragments = 6,
-    /// A command was reported as completed while bytes of it were missing.
+    /// A command was reported as completed while some of its bytes were missing.
     Short = 7,
-    /// A FIS of a wrong type or a wrong length, or with a count or an offset that it may not have.
+    /// A FIS has a wrong type, a wrong length, or an invalid count or offset.
     BadFis = 8,
     /// A DMA Setup or a PIO Setup went against the direction of its command.
     WrongWay = 9,
@@ -48,7 +48,7 @@ impl DeviceCause {
 pub enum PortCause {
     /// The control port of the multiplier sent a FIS that it may not send.
     BadControl = 1,
-    /// The memory that a command names can't be read or written as it asks.
+    /// The memory that a command names cannot be read or written as the command asks.
     Bus = 2,
 }
 

@@ -19,7 +19,7 @@ pub struct FbsBits {
 }
 
 impl FbsBits {
-    /// The two fields at their places in PxFBS, SDE at bit 2 and DWE from bit 16 on, and 0 elsewhere.
+    /// The two fields at their places in PxFBS: SDE in bit 2, DWE from bit 16 on. All other bits are 0.
     pub fn in_register(self) -> u32
         ensures { result ≡ 4 * from_bool self.sde + 65536 * self.dwe }
     {
@@ -27,8 +27,9 @@ impl FbsBits {
     }
 }
 
-/// The errors of a host port: the faulty devices, each with its first cause, the one of them that the port reports,
-/// and what stopped the port as a whole (AHCI 1.3.1, 9.3, FIS-based switching: error handling). A device is named by its PM Port, 0 to 15.
+/// The errors of a host port: the faulty devices, each with its first cause, the device that the port
+/// reports, and what stopped the port as a whole (AHCI 1.3.1, 9.3, FIS-based switching: error handling). A
+/// device is named by its PM Port, 0 to 15.
 #[derive(Debug, Drop)]
 pub struct PortErrors {
     causes: [Option<DeviceCause>; 16],
@@ -57,7 +58,7 @@ impl Default for PortErrors {
     }
 }
 
-// The faulty device of the lowest PM Port.
+// The faulty device with the lowest PM Port.
 fn lowest_marked(causes: &[Option<DeviceCause>]) -> Option<u8>
     requires { length causes.now ≡ 16 }
     ensures { result ≡ lowest_marked_of causes.now }
@@ -80,15 +81,15 @@ impl PortErrors {
         }
     }
 
-    /// What is true of every value. It does nothing when it runs.
+    /// A law for callers; it runs no code. It says what every value keeps.
     pub fn keeps_rules(&self)
         ensures { AreErrors self.now }
     {
         let _ = &self.causes;
     }
 
-    /// Marks a device as faulty, and answers the bits of PxIS that this cause sets. The first cause of a device is
-    /// kept, and the first faulty device is the reported one.
+    /// Marks a device as faulty, and returns the bits of PxIS that this cause sets. The first cause of a
+    /// device is kept. The first faulty device is the reported one.
     pub fn device(&mut self, dev: u8, cause: DeviceCause) -> Interrupts
         requires { dev < 16 }
         ensures interrupts { interrupt_bits result ≡ device_interrupts cause }
@@ -104,8 +105,8 @@ impl PortErrors {
         cause.interrupts()
     }
 
-    /// Stops the port as a whole, and answers the bits of PxIS that this sets. The first cause is kept, and no device
-    /// gains or loses one.
+    /// Stops the port as a whole, and returns the bits of PxIS that this sets. The first cause is kept. No
+    /// device gains or loses a fault.
     pub fn port(&mut self, cause: PortCause) -> Interrupts
         ensures interrupts { interrupt_bits result ≡ port_interrupts cause }
         ensures after { self.new ≡ with_port self.old cause }
@@ -117,7 +118,8 @@ impl PortErrors {
         cause.interrupts()
     }
 
-    /// Takes the mark from a device. Where it was the reported one, the lowest that is still marked is reported.
+    /// Clears the fault of a device. Where it was the reported one, the lowest device that is still faulty is
+    /// reported.
     pub fn forget(&mut self, dev: u8)
         requires { dev < 16 }
         ensures after { self.new ≡ without self.old dev }
@@ -130,8 +132,9 @@ impl PortErrors {
         }
     }
 
-    /// Takes the mark from the device that PxFBS shows, as PxFBS.DEC does, and answers it. The lowest that is still marked
-    /// is reported then. Where PxFBS shows none the answer is None, and nothing changes.
+    /// Clears the fault of the device that PxFBS shows, as PxFBS.DEC does, and returns that device. The
+    /// lowest device that is still faulty is reported next. Where PxFBS shows no device, returns None and
+    /// changes nothing.
     pub fn clear_device(&mut self) -> Option<u8>
         ensures cleared { result ≡ cleared_device self.old }
         ensures after { self.new ≡ after_clear self.old }
@@ -145,7 +148,7 @@ impl PortErrors {
         Some(bits.dwe)
     }
 
-    /// Takes every mark, and what stopped the port, as PxCMD.ST does when it falls.
+    /// Clears every fault, and what stopped the port, as a falling PxCMD.ST does.
     pub fn stop(&mut self)
         ensures { self.new ≡ no_errors }
     {
@@ -160,8 +163,9 @@ impl PortErrors {
         self.causes[dev as usize].is_some()
     }
 
-    /// The first cause of a faulty device, None where it is not faulty. It stands until [`forget`](PortErrors::forget),
-    /// [`clear_device`](PortErrors::clear_device) or [`stop`](PortErrors::stop) ends it.
+    /// The first cause of a faulty device, None where it is not faulty. It stands until
+    /// [`forget`](PortErrors::forget), [`clear_device`](PortErrors::clear_device) or
+    /// [`stop`](PortErrors::stop) ends it.
     pub fn cause(&self, dev: u8) -> Option<DeviceCause>
         requires { dev < 16 }
         ensures { result ≡ cause_of self.now dev }
@@ -176,7 +180,8 @@ impl PortErrors {
         self.port.is_some()
     }
 
-    /// The first cause that stopped the port, None where it is not stopped. [`stop`](PortErrors::stop) alone ends it.
+    /// The first cause that stopped the port, None where it is not stopped. Only [`stop`](PortErrors::stop)
+    /// ends it.
     pub fn port_cause(&self) -> Option<PortCause>
         ensures { result ≡ self.now.port }
     {

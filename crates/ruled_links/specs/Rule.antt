@@ -1,9 +1,8 @@
--- The rule of a link: what was taken and then what the link holds is what was sent, and that is in the order
--- that the item type names. There is one pass at most that may send; it knows all that was sent, and a
--- beginning of what was taken. There is one at most that may take; it knows all that was taken, and a
--- beginning of what was sent. A pass that may do neither is spent, and nothing is said of it. The rule of a
--- queue does not see how many items it has room for: that a link never holds more, so that it is an IsLink,
--- is said where its seats meet.
+-- The rule of a link. What was taken, followed by what the link holds, is what was sent, and that is in the
+-- order that the item type names. At most one pass can send; it knows all that was sent, and a prefix of what
+-- was taken. At most one pass can take; it knows all that was taken, and a prefix of what was sent. A pass
+-- that can do neither is spent, and nothing is said of it. The rule of a queue does not see its capacity.
+-- That a link never holds more, so that it is an IsLink, is said where its seats meet.
 use Rattle.std.specs.Prelude.{◌≡◌, ℕ, Bool, true, false, List, [], ◌∷◌, ◌++◌}
 use mathlib.Core.Option.{some}
 use lib.ListN.{get_elem?}
@@ -36,7 +35,7 @@ module _ {T : Type 0} where
   abbrev pub spent : View T
   spent = seen false false [] []
 
-  -- what a pass knows is true
+  -- what a pass knows holds
   pub record Fits (writer reader : ℕ) (sent taken : List T) (pass : ℕ) (v : View T) : Type 0 where
     pub writes : v.sends ≡ true → (pass ≡ writer) × (v.sent ≡ sent) × IsPrefixOf v.taken taken
     pub reads : v.takes ≡ true → (pass ≡ reader) × (v.taken ≡ taken) × IsPrefixOf v.sent sent
@@ -50,26 +49,26 @@ module _ {T : Type 0} where
     pub ordered : in_order sent
     pub each : (pass : ℕ) (v : View T) → get_elem? views pass ≡ some v → Fits writer reader sent taken pass v
 
-  -- a send puts the item after all that was sent
+  -- a send puts the item after everything that was sent
   abbrev pub Sent : View T → T → View T → Type 0
   Sent v x w = w ≡ seen v.sends v.takes (v.sent ++ x ∷ []) v.taken
 
-  -- a take takes the item that is the next of what was sent
+  -- a take removes the next item of what was sent
   pub record Took (in_order : List T → Type 0) (v : View T) (x : T) (w : View T) : Type 0 where
     pub view : w ≡ seen v.sends v.takes v.sent (v.taken ++ x ∷ [])
     pub ordered : in_order (v.taken ++ x ∷ [])
     pub agree : Agree v.sent (v.taken ++ x ∷ [])
 
-  -- what the link holds, to the pass that sends: the end of what was sent, after all that it knows to be
+  -- what the link holds, as the sending pass sees it: the end of what was sent, after all that it knows to be
   -- taken
   abbrev pub Holds : View T → List T → Type 0
   Holds v items = (between : List T) × ((v.taken ++ between) ++ items ≡ v.sent)
 
-  -- to the pass that takes: all that it knows to be sent was taken or is there
+  -- as the taking pass sees it: all that it knows to be sent was taken or is there
   abbrev pub Comes : View T → List T → Type 0
   Comes v items = IsPrefixOf v.sent (v.taken ++ items)
 
-  -- to a pass that may do both
+  -- as a pass sees it that can do both
   pub record Met (in_order : List T → Type 0) (v : View T) (items : List T) : Type 0 where
     pub whole : IsWhole v.sent v.taken items
     pub ordered : in_order v.sent

@@ -1,9 +1,9 @@
-//! What may go over a link.
+//! What a link can carry.
 
 ghost use Rattle.std.specs.Prelude.{List, [], ◌++◌, ⊤};
 
-/// A type of items, with the order that the list of all items sent over one link keeps. The beginning of a list in
-/// order is in order.
+/// A type of items. It names the order that the list of all items sent over one link keeps. Each prefix of an
+/// ordered list is ordered.
 pub trait Item {
     ghost in_order: { List Self → Type 0 };
 
@@ -12,7 +12,7 @@ pub trait Item {
     ghost prefixes: { (front rest : List Self) → in_order (front ++ rest) → in_order front };
 }
 
-/// Numbers go in any order.
+/// Numbers can go in any order.
 impl Item for u32 {
     ghost in_order = { λ numbers. ⊤ };
 

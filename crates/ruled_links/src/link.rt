@@ -11,12 +11,12 @@ use std::alloc::{AllocError, Global};
 use std::marker::Model;
 use thiserror::Error;
 
-/// The most items that a link may be made for.
+/// The largest capacity of a link.
 pub const MAX_CAPACITY: usize = 64;
 
 pub(crate) type Queue<T> = RuledArrayQueue<T, View<T>, Ruled>;
 
-/// Why no link is made.
+/// Why a link cannot be made.
 #[derive(Clone, Copy, Debug, PartialEq, Eq, Error)]
 pub enum LinkError {
     /// The capacity is 0 or above [`MAX_CAPACITY`].
@@ -38,7 +38,7 @@ impl From<AllocError> for LinkError {
     }
 }
 
-/// A link of a bounded capacity for items from one thread to another. It gives its two seats once.
+/// A link of a bounded capacity for items from one thread to another. It gives out its two seats once.
 #[derive(Drop)]
 pub struct Link<T: Item> {
     queue: Queue<T>,
@@ -60,7 +60,7 @@ impl<T: Item> Model for Link<T> {
 }
 
 impl<T: Item> Link<T> {
-    /// An empty link. The capacity is tested before memory is asked for.
+    /// An empty link. The capacity is checked before any memory is allocated.
     pub fn new(alloc: Global, capacity: usize) -> Result<Link<T>, LinkError>
         ensures ok { IfOk result (λ link. (link ≡ new_link capacity)
             × (is_capacity capacity ≡ true)) }
@@ -76,7 +76,7 @@ impl<T: Item> Link<T> {
         })
     }
 
-    /// The two seats, unless they were given before. Nothing was sent yet.
+    /// The two seats, unless they were given out before. Nothing was sent yet.
     pub fn seats(&mut self) -> Option<(Tx<'_, T>, Rx<'_, T>)>
         ensures once { IsNone result ↔ IsTrue self.old.seated }
         ensures new { IfSome result (λ s. (s.0 ≡ s.1) × (s.0.room ≡ self.old.room)

@@ -1,10 +1,11 @@
-//! The one rule of every link, and what each step tells the seat that makes it.
+//! The one rule of every link, and what each step tells the seat that takes it.
 
 use crate::item::Item;
 use crossbeam_queue::protocol::{Join, Lesson, Outcome, Protocol, Split};
 use std::collections::LinkedList;
 
-/// What a pass of the queue may do, and what it knows of the items that were sent and taken. No value of it is made.
+/// What a pass of the queue can do, and what it knows of the items sent and taken. No value of this type is
+/// ever made.
 pub struct View<T> {
     pub sends: bool,
     pub takes: bool,

@@ -12,12 +12,12 @@ use std::marker::Model;
 use std::sync::Wait;
 use thiserror::Error;
 
-/// A link was full. The item comes back.
+/// The link was full. The item comes back.
 #[derive(Debug, Drop, Error)]
 #[error("full")]
 pub struct Full<T>(pub T);
 
-/// The seat of a link that sends. It knows all that was sent.
+/// The sending seat of a link. It knows all that was sent.
 #[derive(Drop)]
 pub struct Tx<'a, T: Item> {
     pub(crate) queue: &'a Queue<T>,
@@ -43,7 +43,7 @@ impl<'a, T: Item> Model for Tx<'a, T> {
         × ((known s.pass).sends ≡ true) × ((known s.pass).takes ≡ false) };
 }
 
-/// The seat of a link that takes. It knows all that was taken.
+/// The taking seat of a link. It knows all that was taken.
 #[derive(Drop)]
 pub struct Rx<'a, T: Item> {
     pub(crate) queue: &'a Queue<T>,
@@ -70,7 +70,8 @@ impl<'a, T: Item> Model for Rx<'a, T> {
 }
 
 impl<'a, T: Item> Tx<'a, T> {
-    /// Puts the item after all that was sent. It comes back only where the link was full at one moment of the call.
+    /// Sends the item, after all items sent before. It comes back only if the link was full at some moment of
+    /// the call.
     pub fn send<R: Wait>(&mut self, rt: &R, item: T) -> Result<(), Full<T>>
         requires { T.in_order (self.old.sent ++ item ∷ []) }
         ensures sent { OnOk result (self.new ≡ record self.old { sent = self.old.sent ++ item ∷ [] }) }
@@ -85,7 +86,7 @@ impl<'a, T: Item> Tx<'a, T> {
 }
 
 impl<'a, T: Item> Rx<'a, T> {
-    /// Takes the first item that the link holds. None only where the link was empty at one moment of the call.
+    /// Takes the first item that the link holds. None only if the link was empty at some moment of the call.
     pub fn take<R: Wait>(&mut self, rt: &R) -> Option<T>
         ensures taken { IfSome result
             (λ item. self.new ≡ record self.old { taken = self.old.taken ++ item ∷ [] }) }

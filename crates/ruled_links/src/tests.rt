@@ -1,4 +1,5 @@
-//! What no clause says: values from outside, that calls succeed, and that two threads get their items through a link.
+//! What no clause says: values from outside, that calls succeed, and that two threads pass their items over a
+//! link.
 
 ghost use Rattle.std.specs.Prelude.{◌≡◌};
 
@@ -19,14 +20,14 @@ fn sent(rt: &impl Wait, tx: &mut Tx<'_, u32>, item: u32) -> Option<u32>
     }
 }
 
-/// What three takes answer.
+/// The results of three takes.
 fn three(rt: &impl Wait, rx: &mut Rx<'_, u32>) -> [Option<u32>; 3]
     ensures { rx.new.link ≡ rx.old.link }
 {
     [rx.take(rt), rx.take(rt), rx.take(rt)]
 }
 
-/// Why no link of this capacity is made.
+/// Why no link of this capacity can be made.
 fn refusal(alloc: Global, capacity: usize) -> Option<LinkError> {
     Link::<u32>::new(alloc, capacity).err()
 }

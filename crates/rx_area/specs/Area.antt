@@ -1,5 +1,5 @@
--- The places of a received area: AHCI 1.3.1, section 4.2.1, Received FIS Structure, with a row for each of
--- the 16 PM Ports as section 9.3, FIS-based Switching, has it. The types of the FISes and their lengths:
+-- The places of a received FIS area: AHCI 1.3.1, section 4.2.1, Received FIS Structure, with one row for each
+-- of the 16 PM Ports, as in section 9.3, FIS-based Switching. The types of the FISes and their lengths:
 -- Serial ATA 3.x, 10.5, FIS types.
 use Rattle.std.specs.Prelude.{◌≡◌, ◌≢◌, ℕ, ◌+◌, ◌*◌, nat_le, if◌then◌else◌, List, [], ◌++◌, length, take}
 use Rattle.std.specs.Prelude.{drop}
@@ -8,7 +8,7 @@ use Rattle.fis_view.specs.declared.view.Fis.TheVariants as view
 use Rattle.rx_area.specs.declared.area.Posted.{Posted}
 use Rattle.rx_area.specs.declared.area.Posted.TheVariants as posted
 
--- where a place begins in its row, in bytes: DSFIS, PSFIS, RFIS, SDBFIS and UFIS of the standard
+-- the offset of a place in its row, in bytes: DSFIS, PSFIS, RFIS, SDBFIS and UFIS of the standard
 abbrev pub offset_of : Posted → ℕ
 offset_of posted.Setup = 0x00
 offset_of posted.Pio = 0x20
@@ -17,7 +17,7 @@ offset_of posted.Bits = 0x58
 offset_of posted.Unknown = 0x60
 offset_of posted.Nothing = 0
 
--- how many bytes it has: the length of its FIS, and 64 for one of an unknown type
+-- its size in bytes: the length of its FIS, and 64 for a FIS of an unknown type
 abbrev pub size_of : Posted → ℕ
 size_of posted.Setup = 28
 size_of posted.Pio = 20
@@ -26,7 +26,7 @@ size_of posted.Bits = 8
 size_of posted.Unknown = 64
 size_of posted.Nothing = 0
 
--- where a place begins in the area: the row of PM Port dev begins at dev times 100h
+-- the offset of a place in the area: the row of PM Port dev begins at dev times 100h
 abbrev pub start_of : ℕ → Posted → ℕ
 start_of dev place = 256 * dev + offset_of place
 
@@ -34,8 +34,8 @@ start_of dev place = 256 * dev + offset_of place
 abbrev pub place_of : List ℕ → ℕ → Posted → List ℕ
 place_of area dev place = take (size_of place) (drop (start_of dev place) area)
 
--- Which place receives a FIS. A FIS of an unknown type has to fit its place; those that a host sends, DMA
--- Activate and Data have none.
+-- The place that receives a FIS. A FIS of an unknown type must fit its place. A FIS that a host sends, a DMA
+-- Activate and a Data FIS have no place.
 abbrev pub posted_at : Fis → Posted
 posted_at (view.DmaSetup fis) = posted.Setup
 posted_at (view.PioSetup fis) = posted.Pio
@@ -61,7 +61,7 @@ row_of area dev = take 256 (drop (256 * dev) area)
 abbrev pub LeavesOthers : ℕ → List ℕ → List ℕ → Type 0
 LeavesOthers dev old new = (other : ℕ) → other ≢ dev → row_of new other ≡ row_of old other
 
--- the bytes with these in place of as many, from place at on
+-- the list with these bytes written over it, starting at index at
 abbrev pub overwritten : List ℕ → ℕ → List ℕ → List ℕ
 overwritten old at bytes = take at old ++ bytes ++ drop (at + length bytes) old
 
@@ -69,6 +69,6 @@ overwritten old at bytes = take at old ++ bytes ++ drop (at + length bytes) old
 abbrev pub after_post : List ℕ → ℕ → Fis → List ℕ
 after_post old dev fis = overwritten old (start_of dev (posted_at fis)) (posted_bytes fis)
 
--- the row of the PM Port after that
+-- the row of that PM Port afterwards
 abbrev pub row_after : List ℕ → Fis → List ℕ
 row_after row fis = overwritten row (offset_of (posted_at fis)) (posted_bytes fis)

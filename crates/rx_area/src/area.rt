@@ -23,7 +23,7 @@ pub enum Posted {
 }
 
 impl Posted {
-    // Where the place begins in its row.
+    // The offset of the place in its row.
     fn offset(self) -> usize
         ensures { result ≡ offset_of self }
     {
@@ -37,7 +37,7 @@ impl Posted {
         }
     }
 
-    // How many bytes it has.
+    // Its size in bytes.
     fn size(self) -> usize
         ensures { result ≡ size_of self }
     {
@@ -50,7 +50,7 @@ impl Posted {
         }
     }
 
-    // Where it begins in the area, and that it lies in its row.
+    // Its offset in the area. The place lies in its row.
     fn start(self, dev: u8) -> usize
         requires { dev < 16 }
         ensures start { result ≡ start_of dev self }
@@ -60,7 +60,7 @@ impl Posted {
     }
 }
 
-// The place of a FIS, and what of it is copied there.
+// The place of a FIS, and the bytes that are copied there.
 fn place_for<'f>(fis: &Fis<'f>) -> (Posted, &'f [u8])
     ensures place { result.0 ≡ posted_at fis.now }
     ensures bytes { result.1.now ≡ posted_bytes fis.now }
@@ -76,7 +76,8 @@ fn place_for<'f>(fis: &Fis<'f>) -> (Posted, &'f [u8])
     }
 }
 
-/// A received area: 16 rows of 256 bytes, one for each PM Port (AHCI 1.3.1, 4.2.1 and 9.3). It borrows the bytes.
+/// A received FIS area: 16 rows of 256 bytes, one for each PM Port (AHCI 1.3.1, 4.2.1 and 9.3). It borrows
+/// the bytes.
 #[derive(Debug, Drop)]
 pub struct RxArea<'a> {
     bytes: &'a mut [u8],
@@ -86,7 +87,7 @@ pub struct RxArea<'a> {
 impl<'a> RxArea<'a> {
     ghost use Rattle.rx_area.specs.Lent.{IsOver, StaysOver, bytes_of};
 
-    /// The area that these bytes are.
+    /// The area over these bytes.
     pub fn over(bytes: &'a mut [u8]) -> RxArea<'a>
         requires { length bytes.old ≡ 4096 }
         ensures over { IsOver result bytes.entry }
@@ -95,9 +96,9 @@ impl<'a> RxArea<'a> {
         RxArea { bytes }
     }
 
-    /// Copies a FIS to its place in the row of the device that sent it, from the place's begin on, and changes no
-    /// other byte, so that the row is then a function of what it was and of the FIS. A FIS to a device, a DMA Activate,
-    /// a Data FIS and a FIS of an unknown type of more than 64 bytes have no place.
+    /// Posts a FIS: copies it to the start of its place in the row of the device that sent it, and changes no
+    /// other byte. The new row is thus a function of the old row and the FIS. A FIS to a device, a DMA
+    /// Activate, a Data FIS and a FIS of an unknown type of more than 64 bytes have no place.
     pub fn post(&mut self, dev: u8, fis: &Fis<'_>) -> Posted
         requires { dev < 16 }
         ensures over { StaysOver self.old self.new }
@@ -121,7 +122,7 @@ impl<'a> RxArea<'a> {
         &self.bytes[start..start + place.size()]
     }
 
-    /// The 28 bytes of the DMA Setup FIS that was posted last in this row.
+    /// The 28 bytes of the DMA Setup FIS last posted in this row.
     pub fn setup(&self, dev: u8) -> &[u8]
         requires { dev < 16 }
         ensures { result.now ≡ place_of (bytes_of self.now) dev Posted.Setup }
@@ -129,7 +130,7 @@ impl<'a> RxArea<'a> {
         self.place(dev, Posted::Setup)
     }
 
-    /// The 20 bytes of the PIO Setup FIS that was posted last in this row.
+    /// The 20 bytes of the PIO Setup FIS last posted in this row.
     pub fn pio(&self, dev: u8) -> &[u8]
         requires { dev < 16 }
         ensures { result.now ≡ place_of (bytes_of self.now) dev Posted.Pio }
@@ -137,7 +138,7 @@ impl<'a> RxArea<'a> {
         self.place(dev, Posted::Pio)
     }
 
-    /// The 20 bytes of the Register Device to Host FIS that was posted last in this row.
+    /// The 20 bytes of the Register Device to Host FIS last posted in this row.
     pub fn d2h(&self, dev: u8) -> &[u8]
         requires { dev < 16 }
         ensures { result.now ≡ place_of (bytes_of self.now) dev Posted.D2h }
@@ -145,7 +146,7 @@ impl<'a> RxArea<'a> {
         self.place(dev, Posted::D2h)
     }
 
-    /// The 8 bytes of the Set Device Bits FIS that was posted last in this row.
+    /// The 8 bytes of the Set Device Bits FIS last posted in this row.
     pub fn bits(&self, dev: u8) -> &[u8]
         requires { dev < 16 }
         ensures { result.now ≡ place_of (bytes_of self.now) dev Posted.Bits }
@@ -153,8 +154,8 @@ impl<'a> RxArea<'a> {
         self.place(dev, Posted::Bits)
     }
 
-    /// The 64 bytes of the place for FISes of unknown types in this row. A FIS that is shorter leaves the bytes after
-    /// it as they were.
+    /// The 64 bytes for FISes of unknown types in this row. A shorter FIS leaves the bytes after it
+    /// unchanged.
     pub fn unknown(&self, dev: u8) -> &[u8]
         requires { dev < 16 }
         ensures { result.now ≡ place_of (bytes_of self.now) dev Posted.Unknown }

@@ -63,7 +63,7 @@ const BLOCK: PioSetupFields = PioSetupFields {
     transfer: 512,
 };
 
-/// Each builder's frame, where memory was there for it.
+/// The frame of each builder, if there was memory for it.
 fn all_built(alloc: Global) -> [Result<Frame, AllocError>; 6] {
     [
         h2d(alloc, &COMMAND, STAMP),
@@ -91,7 +91,7 @@ const BYTES: [&[u8]; 6] = [
     ],
 ];
 
-/// Whether a frame that was made has these bytes, and the stamp.
+/// Whether a frame was made and has these bytes and the stamp.
 fn is_made(made: &Result<Frame, AllocError>, bytes: &[u8]) -> Result<bool, AllocError> {
     match made {
         Ok(frame) => Ok(frame.bytes() == bytes && frame.stamp() == STAMP),
@@ -107,7 +107,7 @@ fn build_the_bytes_of_the_standard(rt: HostRuntime) -> Result<(), Fail> {
     Ok(())
 }
 
-/// How many bytes the Data FIS has that carries these.
+/// The number of bytes of the Data FIS that carries these.
 fn len_of(alloc: Global, data: &[u8]) -> Result<usize, FrameError> {
     Ok(payload(alloc, 0, data, STAMP)?.bytes().len())
 }
@@ -131,7 +131,7 @@ fn refuses_other_payloads(rt: HostRuntime) -> Result<(), Fail> {
     Ok(())
 }
 
-/// 1 where memory was refused. Any other refusal of a right length is a failure.
+/// 1 if memory was refused. Any other refusal of a valid length is a failure.
 fn refused(rt: &impl Abort, made: Result<Frame, FrameError>) -> usize {
     match made {
         Ok(_) => 0,
@@ -142,8 +142,8 @@ fn refused(rt: &impl Abort, made: Result<Frame, FrameError>) -> usize {
     }
 }
 
-/// Run with the first, second .. allocation refused in turn, which each take one call's memory: that call alone
-/// says so.
+/// Refuses the first, second, .. allocation in turn. Each of them belongs to one call, and only that call
+/// fails.
 #[test]
 fn each_refused_allocation_is_answered(rt: HostRuntime) {
     let alloc = rt.alloc();

@@ -1,5 +1,5 @@
-//! Frames of devices, as functions of Linux 6.1, U-Boot and QEMU read or write them. A row is the frame in hexadecimal,
-//! and its fields.
+//! Frames of devices, as functions of Linux 6.1, U-Boot and QEMU read or write them. Each row is the frame in
+//! hexadecimal, and its fields.
 
 /// Register Device to Host FISes, as Linux 6.1's `ata_tf_from_fis` reads them: port, I, status, error, LBA, device
 /// and count; all but the port and I in hexadecimal.
@@ -81,8 +81,8 @@ pub static BLOCKS: [&str; 18] = [
     "5f6932aab0283e7ffbd6322c3477ae74149cda6e 9 1 32 aa 32d6fb3e28b0 7f 7734 74",
 ];
 
-/// What a port multiplier's control port answered, as Linux 6.1's `sata_pmp_read` reads it: status and error in
-/// hexadecimal, whether it was accepted, and the value of the register, `-` where it was not.
+/// Answers of a port multiplier's control port, as Linux 6.1's `sata_pmp_read` reads them: status and error
+/// in hexadecimal, whether the command was accepted, and the value of the register, or `-` if it was not.
 pub static REGISTERS: [&str; 26] = [
     "344f50000584df00000000007d00000000000000 50 00 1 df84057d",
     "344f500047527200000000004b00000000000000 50 00 1 7252474b",

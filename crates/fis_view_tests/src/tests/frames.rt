@@ -134,7 +134,7 @@ fn refusals_have_texts(rt: HostRuntime) -> Result<(), AllocError> {
     Ok(())
 }
 
-/// A Data FIS of 8196 bytes, all 7 but the first.
+/// A Data FIS of 8196 bytes, all 7 except the first.
 fn long_payload(alloc: Global) -> Result<Frame, FrameError> {
     let mut bytes = Vec::from_elem(alloc, 7, 8196)?;
     if let Some(first) = bytes.first_mut() {

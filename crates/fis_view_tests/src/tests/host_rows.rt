@@ -1,5 +1,6 @@
-//! Frames of a host, as functions of Linux 6.1 make them. A row is the frame in hexadecimal, and its fields: port, C,
-//! command, features, LBA, device, count, ICC and control, all but the port and C in hexadecimal.
+//! Frames of a host, as functions of Linux 6.1 make them. Each row is the frame in hexadecimal, and its
+//! fields: port, C, command, features, LBA, device, count, ICC and control, all but the port and C in
+//! hexadecimal.
 
 /// READ and WRITE FPDMA QUEUED, by `ata_build_rw_tf` and `ata_tf_to_fis`.
 pub static QUEUED: [&str; 86] = [

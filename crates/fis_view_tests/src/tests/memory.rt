@@ -1,4 +1,4 @@
-//! Memory that is there is found: calls whose arguments differ from one to the next meet no refusal of it.
+//! Memory that exists is found: calls with varied arguments are refused none of it.
 
 use fis_view::{
     D2hFields, DmaActivateFields, DmaSetupFields, Frame, FrameError, H2dFields, PioSetupFields,

@@ -1,4 +1,4 @@
-//! Each row of the tables from outside is read back, field by field.
+//! Each row of the outside tables is read back, field by field.
 
 use super::device_rows::{
     ANSWERS, BLOCKS, QEMU_ANSWERS, QEMU_BLOCKS, QEMU_DONE, REGISTERS, SETUPS,
@@ -32,7 +32,7 @@ fn block_text(alloc: Global, fis: &PioSetup<'_>) -> Result<String, AllocError> {
     format!(in alloc; "{i} {status:02x} {error:02x} {lba:012x} {device:02x} {count:04x} {ends:02x}")
 }
 
-/// The bit where it is set.
+/// The bit, if it is set.
 fn flag(bit: u8, set: bool) -> u8 {
     if set { bit } else { 0 }
 }
@@ -48,7 +48,7 @@ fn done_text(alloc: Global, fis: &SetBits<'_>) -> Result<String, AllocError> {
     format!(in alloc; "{i} {status:02x} {error:02x} {sactive:08x}")
 }
 
-/// The value that an accepted register command brings is Count 7:0 and, above it, LBA 23:0.
+/// The value that an accepted register command returns: Count 7:0 and, above it, LBA 23:0.
 fn register_text(alloc: Global, fis: &RegD2H<'_>) -> Result<String, AllocError> {
     let (status, error) = (fis.status(), fis.error());
     if status % 2 == 1 {
@@ -58,7 +58,7 @@ fn register_text(alloc: Global, fis: &RegD2H<'_>) -> Result<String, AllocError> 
     format!(in alloc; "{status:02x} {error:02x} 1 {value:08x}")
 }
 
-/// Whose tables the rows are from: they name different fields.
+/// Where the rows come from: the tables name different fields.
 #[derive(Clone, Copy)]
 enum Source {
     Linux,

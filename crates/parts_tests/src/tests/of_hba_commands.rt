@@ -39,7 +39,7 @@ fn write(
     write_command(memory, LIST, slot, table, fields, prds);
 }
 
-/// The fields of a FIS that gives a command, or with C 0 the Device Control register.
+/// The fields of a FIS that writes the Command register, or with C 0 the Device Control register.
 fn fields(pm_port: u8, c: bool, command: u8, features: u16, count: u16) -> H2dFields {
     H2dFields {
         pm_port,

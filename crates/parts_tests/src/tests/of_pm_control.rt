@@ -18,7 +18,7 @@ const STAMP: Stamp = Stamp {
     shown: [0, 3, 0, 0, 0, 0, 0, 0, 0, 0, 0, 0, 0, 0, 1],
 };
 
-/// The stamp of the host's frames, which no answer has.
+/// The stamp of the host's frames. No answer has it.
 const HOST: Stamp = Stamp {
     port: 0,
     conn: 0,
@@ -83,8 +83,8 @@ const fn refused(error: u8) -> [u8; 20] {
     ]
 }
 
-/// The answer to these bytes. Where memory is refused the call is made again, as a caller may: the answer is the
-/// same then, since nothing was done before.
+/// The answer to these bytes. Where memory is refused the call is repeated, as a caller can do. The answer is
+/// then the same, because nothing was done before.
 fn ask(
     alloc: Global,
     control: &mut PmControl,
@@ -102,7 +102,7 @@ fn ask(
     Ok(answer)
 }
 
-/// The notification, asked for again where memory is refused.
+/// The notification, requested again where memory is refused.
 fn notice(alloc: Global, registers: &mut PmRegisters) -> Result<Option<Frame>, AllocError> {
     match PmControl::notice(alloc, registers, STAMP) {
         Ok(notice) => Ok(notice),
@@ -202,8 +202,8 @@ fn two_removals_make_one_notification(rt: HostRuntime) -> Result<(), Fail> {
     Ok(())
 }
 
-/// The bytes of a FIS for the control port, which differ from number to number: a read, a write, another command, and
-/// the Device Control register in turn.
+/// The bytes of a FIS for the control port, which vary with the number: in turn a read, a write, another
+/// command, and the Device Control register.
 fn varied(i: u32) -> [u8; 20] {
     let [a, b, c, d] = i.wrapping_mul(0x9E37_79B1).to_le_bytes();
     let (head, command) = match i % 4 {
@@ -247,7 +247,8 @@ fn raised(n: u8, bits: u32) -> Result<PmRegisters, RegisterError>
     Ok(registers)
 }
 
-/// Memory that is there is found: 10,000 varied requests and notifications are answered with no refusal of it.
+/// Memory that exists is found: 10,000 varied requests and notifications are answered without a refusal of
+/// memory.
 #[test]
 fn finds_memory_that_is_there(rt: HostRuntime) -> Result<(), Fail> {
     let alloc = rt.alloc();

@@ -72,7 +72,8 @@ fn frames_of_a_device_that_went_are_dropped(rt: HostRuntime) -> Result<(), Fail>
     Ok(())
 }
 
-/// The frame of the next connection came before its device was recorded, and stays as the one before it goes.
+/// The frame of the next connection came before its device was recorded. It stays when the device before it
+/// goes.
 #[test]
 fn a_frame_of_the_next_connection_stays(rt: HostRuntime) -> Result<(), Fail> {
     let alloc = rt.alloc();

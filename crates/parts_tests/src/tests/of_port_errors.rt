@@ -47,7 +47,7 @@ fn causes_have_their_numbers(rt: HostRuntime) {
     }
 }
 
-/// Device 5 then device 1: PxFBS shows 5, then 1 once 5 is forgotten.
+/// Device 5 fails, then device 1: PxFBS shows 5, then 1 once the fault of 5 is cleared.
 #[test]
 fn first_faulty_device_is_reported(rt: HostRuntime) {
     let mut errors = PortErrors::new();
@@ -69,7 +69,7 @@ fn first_faulty_device_is_reported(rt: HostRuntime) {
     assert_eq!(rt; errors.fbs_bits().in_register(), 0);
 }
 
-/// While the port is stopped PxFBS shows no device, though one is marked.
+/// While the port is stopped PxFBS shows no device, though one is faulty.
 #[test]
 fn a_stopped_port_shows_no_device(rt: HostRuntime) {
     let mut errors = PortErrors::default();
@@ -106,7 +106,7 @@ fn bits_have_their_places(rt: HostRuntime) {
     assert_eq!(rt; Interrupts::all().bits(), 0x6900_001F);
 }
 
-/// Devices 5, 1 and 3: each call clears the one that PxFBS shows, and the lowest that is left is shown next.
+/// Devices 5, 1 and 3: each call clears the one that PxFBS shows, and the lowest one left is shown next.
 #[test]
 fn clears_what_is_shown(rt: HostRuntime) {
     let mut errors = PortErrors::new();
@@ -122,7 +122,7 @@ fn clears_what_is_shown(rt: HostRuntime) {
     assert_eq!(rt; errors.clear_device(), None);
 }
 
-/// While the port is stopped no device is cleared, though one is marked.
+/// While the port is stopped no device is cleared, though one is faulty.
 #[test]
 fn a_stopped_port_clears_no_device(rt: HostRuntime) {
     let mut errors = PortErrors::new();

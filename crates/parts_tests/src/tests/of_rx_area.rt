@@ -7,7 +7,7 @@ use fis_view::Fis;
 use rx_area::{Posted, RX_AREA, RxArea};
 use std::test::Fail;
 
-/// The bytes that were lent end as the area leaves them.
+/// The borrowed bytes end as the area leaves them.
 fn post_into(bytes: &mut [u8], dev: u8, fis: &Fis<'_>) -> Posted
     requires area { length bytes.old ≡ 4096 }
     requires dev { dev < 16 }
@@ -31,13 +31,13 @@ const D2H: [u8; 20] = [
 
 const BITS: [u8; 8] = [0xA1, 0x43, 0x50, 0, 0x20, 0, 0, 0x5B];
 
-/// The number of bytes that are not 0, and where the first of them stands.
+/// The number of bytes that are not 0, and the index of the first of them.
 fn count_set(bytes: &[u8]) -> (usize, Option<usize>) {
     let set = bytes.iter().filter(|byte| **byte != 0).count();
     (set, bytes.iter().position(|byte| *byte != 0))
 }
 
-/// A FIS stands at its place of row 3, up to its last byte, and no other byte changes.
+/// A FIS is posted at its place of row 3, up to its last byte, and no other byte changes.
 #[test]
 fn a_fis_has_its_place(rt: HostRuntime) -> Result<(), Fail> {
     let mut memory = [0; RX_AREA];
@@ -47,7 +47,7 @@ fn a_fis_has_its_place(rt: HostRuntime) -> Result<(), Fail> {
     Ok(())
 }
 
-/// The readers see what was posted in their row alone.
+/// The readers see only what was posted in their row.
 #[test]
 fn readers_see_their_row(rt: HostRuntime) -> Result<(), Fail> {
     let mut memory = [0; RX_AREA];

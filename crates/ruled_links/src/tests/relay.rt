@@ -6,10 +6,10 @@ use std::test::Fail;
 use std::thread;
 use std::thread::{Threads, join};
 
-/// How many items go over the link.
+/// The number of items that go over the link.
 const ITEMS: u32 = 100_000;
 
-/// How often each side tries. One that meets a full or an empty link leaves the processor to others.
+/// How often each side tries. A side that meets a full or an empty link yields the processor.
 const TRIES: u64 = 30_000_000;
 
 /// One side of a link, which works in a thread of its own.

@@ -1,4 +1,4 @@
-//! Commands of each kind, and each reason for which one is bad.
+//! Commands of each kind, and each reason that makes one bad.
 
 use super::{LIST, fields, write};
 use fis_view::H2dFields;
@@ -21,7 +21,7 @@ fn work(kind: Kind, len: u32) -> Work {
     Work { kind, len }
 }
 
-/// What is read of a command in slot 3 once it is written.
+/// What is read of a command in slot 3 after it is written.
 fn written(
     rt: &impl Abort,
     memory: &mut HostMemory,
@@ -61,7 +61,7 @@ fn reads_each_kind(rt: HostRuntime) -> Result<(), Fail> {
             false,
             work(Kind::PioIn, 512),
         ),
-        // READ LOG EXT of another count is taken as any other command
+        // READ LOG EXT with another count is treated like any other command
         (
             fields(15, true, 0x2F, 0, 2),
             [].as_slice(),

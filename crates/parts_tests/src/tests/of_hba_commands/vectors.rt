@@ -1,6 +1,6 @@
-//! Each row of Linux is written as it writes it. No row is a whole command, since a queued command moves whole sectors
-//! of 512 bytes and no row's entries have a multiple of that; with the last entry cut to one, each of 128 KiB at most is
-//! read.
+//! Each row of Linux is written as Linux writes it. No row is a whole command, because a queued command moves
+//! whole sectors of 512 bytes, and no row's entries add up to a multiple of that. With the last entry cut to
+//! such a multiple, each row of at most 128 KiB is read.
 
 use super::rows::{ROWS, Row};
 use super::{LIST, fields, write};
@@ -13,7 +13,7 @@ use std::alloc::{AllocError, Global};
 use std::process::Abort;
 use std::test::Fail;
 
-/// READ or WRITE FPDMA QUEUED of so many bytes, of which only whole sectors count.
+/// READ or WRITE FPDMA QUEUED of this many bytes, of which only whole sectors count.
 fn fields_of(row: &Row, len: u64) -> H2dFields {
     let command = if row.write { 0x61 } else { 0x60 };
     let sectors = u16::try_from(len / 512).unwrap_or(0);
