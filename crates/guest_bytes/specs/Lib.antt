@@ -1,0 +1,4 @@
+pub mod Guest
+pub mod Entries
+pub mod Flat
+pub mod Moves
