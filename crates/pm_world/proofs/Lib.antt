@@ -86,3 +86,4 @@ pub mod Comings
 pub mod LiveSteps
 pub mod MeantLemmas
 pub mod MeantRuns
+pub mod InOrderLemmas

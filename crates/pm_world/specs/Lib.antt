@@ -34,3 +34,4 @@ pub mod ReadBack
 pub mod Submitted
 pub mod Laws
 pub mod Meant
+pub mod InOrder

@@ -6,7 +6,7 @@ mod control;
 mod ends;
 mod orders;
 
-pub use bytes::writes_are_as_submitted;
+pub use bytes::{reads_follow_writes, writes_are_as_submitted};
 pub use connections::{connections_follow, ports_rest_at_a_flush};
 pub use control::{one_order_at_a_time, ports_go_on};
 pub use ends::{disks_are_honest, media_change_by_writes, polled_errors_are_named, polled_is_honest};

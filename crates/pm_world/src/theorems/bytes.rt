@@ -1,5 +1,6 @@
 //! Laws of the bytes of requests in a world. The functions do nothing when they run.
 
+ghost use Rattle.pm_world.specs.InOrder.{ReadsFollowWrites};
 ghost use Rattle.pm_world.specs.Submitted.{ReadsBringSubmitted, SentAsSubmitted, WrittenAsSubmitted};
 
 /// After every run from a new world, whatever the devices send: of a write that was submitted and that
@@ -12,4 +13,12 @@ pub fn writes_are_as_submitted()
     ensures sent { SentAsSubmitted }
     ensures written { WrittenAsSubmitted }
     ensures read { ReadsBringSubmitted }
+{}
+
+/// Read after write, in one run from a new world: a write is polled as done, then a read of the same
+/// sectors is submitted to the same disk, and is polled as done. It brings the bytes that client
+/// memory had at the places of the write's PRDs when the write was submitted, except where another
+/// write ended in between.
+pub fn reads_follow_writes()
+    ensures { ReadsFollowWrites }
 {}

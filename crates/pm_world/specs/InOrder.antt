@@ -1,0 +1,86 @@
+-- Read after write, within one run: a write is polled as Done, then a read is submitted, and it is polled as
+-- Done (ACS-3, READ FPDMA QUEUED and WRITE FPDMA QUEUED). Which came first is said by the places of the steps.
+--
+-- Cited: requests that were polled (specs/Polled.antt), the run of a disk (specs/Disks.antt), which bytes a
+-- read and a write both have (specs/ReadBack.antt), and bytes in client memory (specs/Submitted.antt).
+use Rattle.std.specs.Prelude.{ℕ, ◌≡◌, ◌+◌, ◌-◌, ◌*◌, ◌<◌, suc, true, drop, List, length, slice_index, refl}
+use Rattle.host_memory.specs.Memory.{client_start}
+use Rattle.host_memory.specs.Place.{place}
+use Rattle.disk_model.specs.declared.plan.DiskPlan.{DiskPlan}
+use Rattle.disk_model.specs.declared.unit.Unit.{Unit}
+use Rattle.disk_model.specs.Last.{NoneCovers}
+use Rattle.hba_driver.specs.declared.request.Completion.{Completion}
+use Rattle.hba_driver.specs.declared.request.Work.TheVariants.{Read, Write}
+use Rattle.hba_driver.specs.Orders.{is_queued}
+use Rattle.hba_driver.specs.Submits.{new_entry}
+use Rattle.pm_world.specs.Disks.{DiskRun, IsLeftAlone, IsNewDisk}
+use Rattle.pm_world.specs.Places.{Places, is_config, new_world}
+use Rattle.pm_world.specs.Polled.{IsPolledHonestly}
+use Rattle.pm_world.specs.ReadBack.{IsOneByte}
+use Rattle.pm_world.specs.Rules.{Run}
+use Rattle.pm_world.specs.Runs.{IsStepOf}
+use Rattle.pm_world.specs.Submitted.{StandsThere}
+use Rattle.pm_world.specs.declared.step.Config.{Config}
+use Rattle.pm_world.specs.declared.step.Step.{Step}
+use Rattle.pm_world.specs.declared.step.Step.TheVariants as step
+use Rattle.pm_world.specs.declared.step.Answer.{Answer}
+use Rattle.pm_world.specs.declared.step.Answer.TheVariants as answer
+
+-- In this run the unit at port n was plugged in, as connection conn, and was left alone from there on.
+pub record IsLeftSince (n conn : ℕ) (old new : Places) (steps : List Step) (answers : List Answer)
+    (run : Run old steps answers new) : Type 0 where
+  pub came : IsStepOf (step.Came n) (answer.Came n conn) old new steps answers run
+  pub left : IsLeftAlone n came.after
+
+-- such a run is one of its disk
+abbrev pub disk_run : (config : Config) (units : List Unit) (n conn : ℕ) (now : Places) (steps : List Step)
+    → (answers : List Answer) → (run : Run (new_world config units) steps answers now)
+    → IsLeftSince n conn (new_world config units) now steps answers run → DiskRun config units n now
+disk_run config units n conn now steps answers run since = record {
+  first = since.came.before;
+  told = since.came.told;
+  out = since.came.at;
+  made = since.came.came;
+  conn = conn;
+  steps = since.came.after;
+  answers = since.came.later;
+  run = (since.came.next, since.came.rule, since.came.went);
+  left = since.left;
+}
+
+-- In one run a write is polled as Done, and later a read is submitted to the same device, which is polled as
+-- Done at its end. The device is a disk, which was left alone from its plugging as the connection of each
+-- report up to that report. Then of each byte that both have, and that no write has which ended after that one
+-- and before the read began, client memory has at the read's place what it had at the write's place as the
+-- write was submitted.
+abbrev pub ReadsFollowWrites : Type 0
+ReadsFollowWrites =
+    (config : Config) (units : List Unit) → is_config config (length units) ≡ true
+    → (steps : List Step) (answers : List Answer) (now : Places)
+    (run : Run (new_world config units) steps answers now) (written read : Completion)
+    (poll : IsStepOf step.Poll (answer.Polled written) (new_world config units) now steps answers run)
+    (first : IsPolledHonestly config units poll.at poll.before poll.told poll.came written)
+    (second : IsPolledHonestly config units now steps answers run read)
+    → (writes : first.reported.request.work ≡ Write) (reads : second.reported.request.work ≡ Read)
+    (queued : is_queued first.reported.request.work ≡ true)
+    (queued_too : is_queued second.reported.request.work ≡ true)
+    → length poll.before < length second.reported.submitted.before
+    → second.reported.dev ≡ first.reported.dev
+    → (sectors : ℕ) (plan : DiskPlan) (disk : IsNewDisk units first.reported.dev plan sectors)
+    (disk_too : IsNewDisk units second.reported.dev plan sectors)
+    (c : IsLeftSince first.reported.dev first.reported.conn (new_world config units) first.reported.took.at
+    first.reported.took.before first.reported.took.told first.reported.took.came)
+    (d : IsLeftSince second.reported.dev second.reported.conn (new_world config units) second.reported.took.at
+    second.reported.took.before second.reported.took.told second.reported.took.came)
+    → (i j : ℕ)
+    → IsOneByte (new_entry read.ticket.0 second.reported.dev second.reported.request)
+    (new_entry written.ticket.0 first.reported.dev first.reported.request) i j
+    → NoneCovers (512 * second.reported.request.lba + i)
+    (drop (suc ((first.honest sectors plan disk queued
+    (disk_run config units first.reported.dev first.reported.conn first.reported.took.at
+    first.reported.took.before first.reported.took.told first.reported.took.came c) refl).ends.writes writes).at)
+    ((second.honest sectors plan disk_too queued_too
+    (disk_run config units second.reported.dev second.reported.conn second.reported.took.at
+    second.reported.took.before second.reported.took.told second.reported.took.came d) refl).ends.reads reads).read.before)
+    → StandsThere (slice_index now.host.memory.client (place second.reported.request.prds.items i - client_start))
+    first.reported.request.prds.items first.reported.submitted.at.host.memory j
