@@ -1,0 +1,39 @@
+//! The declarations of `include/gefsunk.h`, one for one.
+
+use core::ffi::{c_char, c_int, c_void};
+
+/// A handle: `gef_pm`.
+#[repr(C)]
+pub(crate) struct Pm {
+    pub(crate) mark: u32,
+    pub(crate) at: *mut c_void,
+}
+
+#[link(name = "gefsunk", kind = "static")]
+extern "C" {
+    pub(crate) fn gef_status_text(status: c_int) -> *const c_char;
+    pub(crate) fn gef_fis_text(fis: *const u8, len: usize, text: *mut c_char, room: usize)
+        -> c_int;
+    pub(crate) fn gef_pm_new(pm: *mut Pm, ports: u8) -> c_int;
+    pub(crate) fn gef_pm_free(pm: *mut Pm) -> c_int;
+    pub(crate) fn gef_pm_plug(pm: *mut Pm, port: u8) -> c_int;
+    pub(crate) fn gef_pm_unplug(pm: *mut Pm, port: u8) -> c_int;
+    pub(crate) fn gef_pm_from_host(pm: *mut Pm, fis: *const u8, len: usize) -> c_int;
+    pub(crate) fn gef_pm_from_device(pm: *mut Pm, port: u8, fis: *const u8, len: usize) -> c_int;
+    pub(crate) fn gef_pm_to_host(
+        pm: *mut Pm,
+        fis: *mut u8,
+        room: usize,
+        len: *mut usize,
+        port: *mut u8,
+    ) -> c_int;
+    pub(crate) fn gef_pm_to_device(
+        pm: *mut Pm,
+        port: u8,
+        fis: *mut u8,
+        room: usize,
+        len: *mut usize,
+    ) -> c_int;
+    pub(crate) fn gef_pm_read(pm: *mut Pm, port: u8, number: u16, value: *mut u32) -> c_int;
+    pub(crate) fn gef_pm_dropped(pm: *mut Pm, count: *mut u32) -> c_int;
+}
