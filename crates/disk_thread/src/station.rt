@@ -1,6 +1,7 @@
 //! A device at its port.
 
-ghost use Rattle.std.specs.Prelude.{◌≡◌, ◌<◌, ◌≤◌, [], length, slice_index_or, All, Err, IfErr, IfNone, IfSome, OnOk};
+ghost use Rattle.std.specs.Prelude.{◌≡◌, ◌<◌, ◌≤◌, [], true, length, slice_index_or, All, Err, IfErr, IfNone, IfSome, None, Ok, OnErr, OnOk};
+ghost use Rattle.disk_model.specs.Histories.{GoesOn, Received};
 ghost use Rattle.multiplier.specs.Orders.{of_connection};
 ghost use Rattle.runner.specs.declared.worker.Fault.TheVariants as fault;
 ghost use Rattle.disk_thread.specs.Runs.{AreTold, GoesOnRunning, IsAtSamePort, IsRun, all_given, all_told};
@@ -11,7 +12,7 @@ use fis_view::{Frame, Stamp};
 use link_items::{Down, FromDevice, Presence};
 use ruled_links::{Full, Rx, Tx};
 use runner::Fault;
-use std::alloc::Global;
+use std::alloc::{AllocError, Global};
 use std::marker::Model;
 use std::sync::Wait;
 
@@ -43,6 +44,21 @@ fn due(pulls: &[u32], given: u64) -> Option<usize>
     ensures none { IfNone result (All (λ after. given < after) pulls.now) }
 {
     pulls.iter().position(|after| u64::from(*after) <= given)
+}
+
+/// Has the device at this port hear a FIS of the host, which has passed the gate.
+fn hear<D: Device, G: Gate>(
+    unit: &mut D,
+    alloc: Global,
+    frame: &Frame,
+    _gate: &G,
+    _port: u8,
+) -> Result<(), AllocError>
+    requires passed { G.let_in _gate.now _port }
+    ensures ok { OnOk result (GoesOn D.plan_of D.stands_for unit.old (Received frame.now.bytes) unit.new) }
+    ensures err { OnErr result (unit.new ≡ unit.old) }
+{
+    unit.on_frame(alloc, frame)
 }
 
 impl<'a, D: Device + Drop> Model for Station<'a, D> {
@@ -198,8 +214,9 @@ impl<'a, D: Device + Drop> Station<'a, D> {
         ensures run { OnOk result (GoesOnRunning D.plan_of D.stands_for D.may_send self.old self.new) }
         ensures port { IsAtSamePort self.old self.new }
         ensures gate { result ≡ Err fault.GateShut → G.may_refuse }
+        ensures told { result ≡ Ok true → self.old.note ≡ None }
     {
-        if !self.plugged || self.note.is_some() {
+        if self.note.is_some() || !self.plugged {
             return Ok(false);
         }
         let Some(Down(frame)) = self.commands.take(rt) else {
@@ -208,7 +225,9 @@ impl<'a, D: Device + Drop> Station<'a, D> {
         if gate.enter(self.port).is_err() {
             return Err(Fault::GateShut);
         }
-        if frame.stamp().conn == self.conn && self.unit.on_frame(alloc, &frame).is_err() {
+        if frame.stamp().conn == self.conn
+            && hear(&mut self.unit, alloc, &frame, gate, self.port).is_err()
+        {
             return Err(Fault::OutOfMemory);
         }
         Ok(true)
@@ -219,6 +238,7 @@ impl<'a, D: Device + Drop> Station<'a, D> {
         ensures run { OnOk result (GoesOnRunning D.plan_of D.stands_for D.may_send self.old self.new) }
         ensures port { IsAtSamePort self.old self.new }
         ensures fault { IfErr result (λ f. f ≡ fault.OutOfMemory) }
+        ensures told { result ≡ Ok true → self.old.note ≡ None }
     {
         if self.hand.is_some() || !self.plugged || self.note.is_some() || self.number == u32::MAX {
             return Ok(false);
@@ -261,12 +281,13 @@ impl<'a, D: Device + Drop> Station<'a, D> {
         }
     }
 
-    /// The seats, once the run is over.
-    pub fn into_seats(self) -> (Rx<'a, Down>, Tx<'a, FromDevice>, Tx<'a, Presence>)
-        ensures commands { result.0 ≡ self.entry.commands }
-        ensures frames { result.1 ≡ self.entry.frames }
-        ensures presence { result.2 ≡ self.entry.presence }
+    /// The device and the seats, once the run is over.
+    pub fn into_parts(self) -> (D, Rx<'a, Down>, Tx<'a, FromDevice>, Tx<'a, Presence>)
+        ensures unit { result.0 ≡ self.entry.unit }
+        ensures commands { result.1 ≡ self.entry.commands }
+        ensures frames { result.2 ≡ self.entry.frames }
+        ensures presence { result.3 ≡ self.entry.presence }
     {
-        (self.commands, self.frames, self.presence)
+        (self.unit, self.commands, self.frames, self.presence)
     }
 }

@@ -5,10 +5,9 @@ use disk_model::{Disk, DiskPlan};
 use fis_view::{Frame, Stamp};
 use link_items::{Down, FromDevice, Presence};
 use ruled_links::{Link, Rx};
-use runner::{Fault, Worker};
+use runner::{Fault, Post, Signals, Who, Worker};
 use std::alloc::Global;
 use std::sync::Wait;
-use std::sync::atomic::AtomicBool;
 use std::test::Fail;
 
 /// Always open, or always shut.
@@ -80,7 +79,7 @@ fn changes(rt: &impl Wait, rx: &mut Rx<'_, Presence>) -> usize {
     seen
 }
 
-/// A hundred turns of a disk at port 3, with this FIS of the host on its link.
+/// A disk at port 3, with this FIS of the host on its link, until nothing moved in a hundred turns.
 fn worked(
     rt: &impl Wait,
     alloc: Global,
@@ -94,14 +93,15 @@ fn worked(
     let (given, mut frames) = wires.up.seats()?;
     let (posted, mut presence) = wires.told.seats()?;
     let _ = commands.send(rt, Down(frame));
-    let stop = AtomicBool::new(false);
+    let signals = Signals::new(alloc, 4).ok()?;
+    let post = Post::new(&signals, Who::Many(3), 100);
     let station = Station::new(alloc, 3, disk, taken, given, posted, pulls);
-    let end = DiskWorker::new(station, door, alloc).work(rt, &stop, 100);
+    let end = DiskWorker::new(station, door, alloc).work(rt, post);
     let (count, conn, number) = last(rt, &mut frames);
     Some((count, conn, number, changes(rt, &mut presence), end.fault))
 }
 
-/// A hundred turns of a disk that is pulled out after so many FISes, with IDENTIFY for this connection on its link.
+/// What is left of a disk that is pulled out after so many FISes, with IDENTIFY for this connection on its link.
 fn at_work(
     rt: &impl Wait,
     alloc: Global,

@@ -7,12 +7,10 @@ ghost use Rattle.disk_thread.specs.Runs.{GoesOnRunning, IsAtSamePort};
 use crate::gate::Gate;
 use crate::station::Station;
 use disk_model::Device;
-use runner::{Fault, Worker};
+use runner::{Fault, Post, Spent, Who, Worker};
 use std::alloc::Global;
 use std::marker::Model;
 use std::sync::Wait;
-use std::sync::atomic::{AtomicBool, Ordering};
-use std::thread;
 
 /// A device at its port, and the gate of its FISes.
 #[derive(Drop)]
@@ -30,11 +28,14 @@ impl<'a, 'g, D: Device + Drop, G: Gate> Model for DiskWorker<'a, 'g, D, G> {
     ghost view = { λ w. w.station };
 }
 
-/// What the thread of a device leaves, with the fault that ended it, if one did.
+/// What the thread of a device leaves.
 #[derive(Drop)]
 pub struct DiskEnd<'a, D: Device + Drop> {
     pub station: Station<'a, D>,
+    /// The fault that ended it, if one did.
     pub fault: Option<Fault>,
+    /// That its turns were spent, if they were.
+    pub spent: Option<Spent>,
 }
 
 impl<'a, 'g, D: Device + Drop, G: Gate> DiskWorker<'a, 'g, D, G> {
@@ -49,8 +50,8 @@ impl<'a, 'g, D: Device + Drop, G: Gate> DiskWorker<'a, 'g, D, G> {
         }
     }
 
-    /// Tries each step once, and says whether anything moved.
-    fn turn<R: Wait>(&mut self, rt: &R) -> Result<bool, Fault>
+    /// Tries each step once, and says whether anything moved. What went over a link is told to the multiplier.
+    fn turn<R: Wait>(&mut self, rt: &R, post: &Post<'_>) -> Result<bool, Fault>
         ensures run { OnOk result (GoesOnRunning D.plan_of D.stands_for D.may_send self.old self.new) }
         ensures port { IsAtSamePort self.old self.new }
         ensures gate { result ≡ Err fault.GateShut → G.may_refuse }
@@ -61,6 +62,9 @@ impl<'a, 'g, D: Device + Drop, G: Gate> DiskWorker<'a, 'g, D, G> {
         let took = self.station.take(rt, self.alloc, self.gate)?;
         let gave = self.station.give(self.alloc)?;
         let sent = self.station.send(rt);
+        if told || took || sent {
+            post.ring(Who::One);
+        }
         Ok(pulled || plugged || told || took || gave || sent)
     }
 }
@@ -68,35 +72,39 @@ impl<'a, 'g, D: Device + Drop, G: Gate> DiskWorker<'a, 'g, D, G> {
 impl<'a, 'g, D: Device + Drop + Send, G: Gate + Sync> Worker for DiskWorker<'a, 'g, D, G> {
     type End = DiskEnd<'a, D>;
 
-    ghost use Rattle.std.specs.Prelude.{◌≡◌, None, Some};
+    ghost use Rattle.std.specs.Prelude.{◌≡◌, IfSome, None, Some};
     ghost use Rattle.runner.specs.declared.worker.Fault.TheVariants as fault;
     ghost use Rattle.disk_thread.specs.Runs.{GoesOnRunning, IsAtSamePort};
 
-    ghost ended = { λ worker end. IsAtSamePort worker end.station
+    ghost ended = { λ worker turns end. IsAtSamePort worker end.station
         × (end.fault ≡ None → GoesOnRunning D.plan_of D.stands_for D.may_send worker end.station)
-        × (end.fault ≡ Some fault.GateShut → G.may_refuse) };
+        × (end.fault ≡ Some fault.GateShut → G.may_refuse)
+        × IfSome end.spent (λ spent. spent.turns ≡ turns) };
 
-    fn work<R: Wait>(mut self, rt: &R, stop: &AtomicBool, turns: u64) -> DiskEnd<'a, D> {
+    fn work<R: Wait>(mut self, rt: &R, mut post: Post<'_>) -> DiskEnd<'a, D> {
         let mut fault = None;
-        for _ in 0..turns {
-            if stop.load(Ordering::SeqCst) {
+        for _ in 0..u64::MAX {
+            if post.spent().is_some() || !post.begins() {
                 break;
             }
-            match self.turn(rt) {
-                Ok(true) => {}
-                Ok(false) => thread::yield_now(),
+            match self.turn(rt, &post) {
+                Ok(moved) => post.turned(rt, moved),
                 Err(e) => {
                     fault = Some(e);
                     break;
                 }
             }
         }
-        stop.store(true, Ordering::SeqCst);
+        post.end();
         let DiskWorker {
             station,
             gate: _,
             alloc: _,
         } = self;
-        DiskEnd { station, fault }
+        DiskEnd {
+            station,
+            fault,
+            spent: post.spent(),
+        }
     }
 }

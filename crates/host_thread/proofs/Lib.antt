@@ -1,3 +1,4 @@
+pub mod Counting
 pub mod Ends
 pub mod Polling
 pub mod Requests
@@ -5,3 +6,4 @@ pub mod Steps
 pub mod Takings
 pub mod Tallies
 pub mod Tickets
+pub mod Waiting

@@ -1,7 +1,7 @@
 -- What the host's thread does: there is one list of turns of the host, of which the lists of its
 -- seats are the projections, and port, driver and memory the outcome; and what it says of each
 -- request of its plan is in these turns, in the order of the plan and behind its barriers.
-use Rattle.std.specs.Prelude.{◌≡◌, ℕ, ◌<◌, ◌≤◌, ◌==◌, ⊤, Bool, true, false, List, ◌++◌, [], ◌∷◌, filter}
+use Rattle.std.specs.Prelude.{◌≡◌, ℕ, ◌<◌, ◌≤◌, ◌==◌, ◌⊎◌, ⊤, Bool, true, false, List, ◌++◌, [], ◌∷◌, filter}
 use Rattle.std.specs.Prelude.{length, map, slice_index_or, take, Option, Some}
 use Rattle.std.specs.List.{Contains, flat_map, list_any}
 use Rattle.std.specs.Option.{option_to_list}
@@ -104,6 +104,10 @@ was_taken s = false
 abbrev pub taken_before : ℕ → List State → ℕ
 taken_before i states = length (filter was_taken (take i states))
 
+-- how many are under way
+abbrev pub count_submitted : List State → ℕ
+count_submitted states = length (filter is_submitted states)
+
 -- a refusal that may pass: the device comes and recovers, its queue goes on, and slots get free
 abbrev pub is_for_now : SubmitError → Bool
 is_for_now refusal.NoDevice = true
@@ -111,6 +115,26 @@ is_for_now refusal.Recovering = true
 is_for_now refusal.QueueBusy = true
 is_for_now refusal.NoSlot = true
 is_for_now r = false
+
+-- the requests before this place were given to the driver, and none from it on
+pub record AreGiven (next : ℕ) (states : List State) : Type 0 where
+  pub before : (i : ℕ) (s : State) → i < next → i < length states
+      → is_waiting (slice_index_or states i s) ≡ false
+  pub later : (i : ℕ) (s : State) → next ≤ i → i < length states
+      → is_waiting (slice_index_or states i s) ≡ true
+
+-- the driver refuses a request now, and not for good
+pub record IsRefusedForNow (host : Host) (p : Planned) : Type 0 where
+  pub refusal : SubmitError
+  pub refused : submit_refusal host.driver host.memory p.dev p.request ≡ Some refusal
+  pub passes : is_for_now refusal ≡ true
+
+-- The next request of the plan, if there is one, is not given to the driver: it waits for others that are
+-- under way, or the driver refuses it for now.
+abbrev pub MayWait : HostView → Type 0
+MayWait w = (i : ℕ) (p : Planned) → AreGiven i w.states → i < length w.plan
+    → (((slice_index_or w.plan i p).wait ≡ true) × (list_any is_submitted w.states ≡ true))
+    ⊎ IsRefusedForNow w.host (slice_index_or w.plan i p)
 
 -- It was taken under this ticket, after turns of which this is so.
 pub record WasTaken (IsSo : List HostTurn → Type 0) (turns : List HostTurn) (p : Planned)
@@ -193,13 +217,6 @@ pub record AreTrue (start : Memory) (turns : List HostTurn) (plan : List Planned
   pub unpolled : (i : ℕ) (s : State) (ticket : Ticket) → i < length states
       → slice_index_or states i s ≡ state.Submitted ticket
       → list_any (λ y. y == ticket.0) (polled_in turns) ≡ false
-
--- the requests before this place were given to the driver, and none from it on
-pub record AreGiven (next : ℕ) (states : List State) : Type 0 where
-  pub before : (i : ℕ) (s : State) → i < next → i < length states
-      → is_waiting (slice_index_or states i s) ≡ false
-  pub later : (i : ℕ) (s : State) → next ≤ i → i < length states
-      → is_waiting (slice_index_or states i s) ≡ true
 
 -- ---- the run
 

@@ -1,8 +1,7 @@
 //! A plan of requests, and what becomes of them.
 
-ghost use Rattle.std.specs.Prelude.{◌≡◌, ◌<◌, ℕ, length, slice_index_or, IfNone, IfSome};
-ghost use Rattle.std.specs.List.{list_any};
-ghost use Rattle.host_thread.specs.Runs.{is_for_now, is_open, is_submitted};
+ghost use Rattle.std.specs.Prelude.{◌≡◌, ◌<◌, ℕ, true, false, length, slice_index_or, IfNone, IfSome};
+ghost use Rattle.host_thread.specs.Runs.{is_for_now, is_open};
 ghost use Rattle.host_thread.specs.declared.plan.State.{State};
 ghost use Rattle.host_thread.specs.declared.plan.State.TheVariants as state;
 
@@ -49,50 +48,33 @@ impl State {
             _ => true,
         }
     }
+}
 
-    /// Whether it was taken and not polled yet.
-    fn is_submitted(&self) -> bool
-        ensures { result ≡ is_submitted self.now }
-    {
-        match self {
-            State::Submitted(_) => true,
-            _ => false,
-        }
+/// Whether it was taken under this ticket and not polled yet.
+fn is_under(became: State, ticket: Ticket) -> bool
+    ensures yes { result ≡ true → became ≡ state.Submitted ticket }
+    ensures no { result ≡ false → became ≡ state.Submitted ticket → ⊥ }
+{
+    match became {
+        State::Submitted(other) => other.0 == ticket.0,
+        _ => false,
     }
 }
 
-/// Whether one of these was taken and not polled yet.
-pub(crate) fn any_submitted(states: &[State]) -> bool
-    ensures { result ≡ list_any is_submitted states.now }
-{
-    states.iter().any(|state| state.is_submitted())
-}
-
-/// Whether one of these has not ended. The last one is open longest, so it is looked at first.
-pub(crate) fn any_open(states: &[State]) -> bool
-    ensures { result ≡ list_any is_open states.now }
-{
-    if let Some(last) = states.last() {
-        if last.is_open() {
-            return true;
-        }
-    }
-    states.iter().any(|state| state.is_open())
-}
-
-/// The place of the request that was taken under this ticket.
-pub(crate) fn place_of(states: &[State], ticket: Ticket) -> Option<usize>
+/// The place of the request that was taken under this ticket. It is looked for at `first` before all others.
+pub(crate) fn place_of(states: &[State], first: usize, ticket: Ticket) -> Option<usize>
     ensures there { IfSome result (λ i. i < length states.now) }
     ensures submitted { IfSome result (λ i.
         slice_index_or states.now i state.Waits ≡ state.Submitted ticket) }
     ensures none { IfNone result ((i : ℕ) (s : State) → i < length states.now
         → slice_index_or states.now i s ≡ state.Submitted ticket → ⊥) }
 {
+    if first < states.len() && is_under(states[first], ticket) {
+        return Some(first);
+    }
     for i in 0..states.len() {
-        if let State::Submitted(other) = states[i] {
-            if other.0 == ticket.0 {
-                return Some(i);
-            }
+        if is_under(states[i], ticket) {
+            return Some(i);
         }
     }
     None

@@ -8,10 +8,9 @@ use hba_driver::{Request, Work};
 use host_memory::{HostMemory, Prd};
 use link_items::{Down, ToHost};
 use ruled_links::{Link, Rx, Tx};
-use runner::Worker;
+use runner::{Post, Signals, Who, Worker};
 use std::alloc::Global;
 use std::sync::Wait;
-use std::sync::atomic::AtomicBool;
 use std::test::Fail;
 
 /// A Set Device Bits FIS of the device at port 3.
@@ -67,7 +66,7 @@ fn first_down<R: Wait>(rt: &R, down: &mut Rx<'_, Down>) -> Option<u8> {
     down.take(rt).map(|item| item.0.pm_port())
 }
 
-/// A host with so many reads to do works for ten turns. Answers whether a read is open then, how
+/// A host with so many reads to do works until nothing moved in ten turns. Answers whether a read is open then, how
 /// many FISes were taken of connection 2 of port 3, and the PM Port of the first FIS that went
 /// down.
 fn worked<R: Wait>(
@@ -82,13 +81,14 @@ fn worked<R: Wait>(
     let memory = HostMemory::new(alloc, 0x20_0000)?;
     let worker = HostWorker::new(alloc, frames, commands, memory, reads(alloc, count)?)?;
     tell(rt, &mut sent, first(alloc)?);
-    let end = worker.work(rt, &AtomicBool::new(false), 10);
-    if end.fault().is_some() {
+    let signals = Signals::new(alloc, 1)?;
+    let end = worker.work(rt, Post::new(&signals, Who::Other, 10));
+    if end.fault.is_some() {
         return Err("a fault".into());
     }
     Ok((
-        end.is_open(),
-        end.taken_on(3, 2),
+        end.worker.is_open(),
+        end.worker.taken_on(3, 2),
         first_down(rt, &mut taken),
     ))
 }

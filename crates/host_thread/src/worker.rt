@@ -1,43 +1,50 @@
 //! The host's worker.
 
-ghost use Rattle.std.specs.Prelude.{◌≡◌, ◌<◌, [], length, IfOk};
-ghost use Rattle.multiplier.specs.Orders.{of_port};
+ghost use Rattle.std.specs.Prelude.{◌≡◌, ◌<◌, [], false, length, IfOk, Ok};
+ghost use Rattle.multiplier.specs.Orders.{InStampedOrder, of_port};
 ghost use Rattle.std.specs.List.{list_any};
-ghost use Rattle.host_thread.specs.Runs.{GoesOn, IsRun, Same, is_open};
+ghost use Rattle.host_thread.specs.Runs.{GoesOn, IsRun, MayWait, Same, is_open};
 
 use crate::end::HostEnd;
 use crate::host::Host;
-use crate::plan::{Ended, Planned, State, any_open, any_submitted, is_tried_again, place_of};
+use crate::plan::{Ended, Planned, State, is_tried_again, place_of};
 use crate::tally::{Row, make_room, note, taken_on};
 use fis_view::Frame;
+use hba_driver::Ticket;
 use host_memory::HostMemory;
 use link_items::{Down, ToHost};
 use ruled_links::{Full, Rx, Tx};
-use runner::{Fault, Worker};
+use runner::{Fault, Post, Who, Worker};
 use std::alloc::{AllocError, Global};
 use std::marker::Model;
 use std::sync::Wait;
-use std::sync::atomic::{AtomicBool, Ordering};
-use std::thread;
+
+/// A driver has so many requests at most.
+const SLOTS: u32 = 30;
 
 /// A host with its seats and its plan, and a place for a FIS that a full link did not take.
 #[derive(Drop)]
 pub struct HostWorker<'a> {
-    pub(crate) host: Host,
-    pub(crate) frames: Rx<'a, ToHost>,
-    pub(crate) commands: Tx<'a, Down>,
-    pub(crate) hand: Option<Frame>,
-    pub(crate) plan: Vec<Planned>,
-    pub(crate) states: Vec<State>,
-    /// The first request of the plan that was not taken.
-    pub(crate) next: usize,
+    host: Host,
+    frames: Rx<'a, ToHost>,
+    commands: Tx<'a, Down>,
+    hand: Option<Frame>,
+    plan: Vec<Planned>,
+    states: Vec<State>,
+    /// The first request of the plan that was not given to the driver.
+    next: usize,
+    /// How many were taken and not polled yet.
+    under_way: usize,
+    /// The places of those that were taken, in their order: tickets count up from 1.
+    places: Vec<usize>,
     /// How many FISes of each connection were taken.
-    pub(crate) rows: Vec<Row>,
-    pub(crate) alloc: Global,
+    rows: Vec<Row>,
+    alloc: Global,
 }
 
 impl<'a> Model for HostWorker<'a> {
-    ghost use Rattle.host_thread.specs.Runs.{AreGiven, HostView, IsSound};
+    ghost use Rattle.std.specs.Prelude.{◌≡◌};
+    ghost use Rattle.host_thread.specs.Runs.{AreGiven, HostView, IsSound, count_submitted};
     ghost use Rattle.host_thread.specs.Tally.{AreCounted};
 
     ghost Value = { HostView };
@@ -58,7 +65,8 @@ impl<'a> Model for HostWorker<'a> {
       hand = w.hand;
       plan = w.plan.items;
       states = w.states.items;
-    }) × AreCounted w.rows.items w.frames.taken × AreGiven w.next w.states.items };
+    }) × AreCounted w.rows.items w.frames.taken × AreGiven w.next w.states.items
+        × (w.under_way ≡ count_submitted w.states.items) };
 }
 
 impl<'a> HostWorker<'a> {
@@ -87,6 +95,8 @@ impl<'a> HostWorker<'a> {
             plan,
             states,
             next: 0,
+            under_way: 0,
+            places: Vec::new(alloc),
             rows: Vec::new(alloc),
             alloc,
         })
@@ -149,34 +159,46 @@ impl<'a> HostWorker<'a> {
     }
 
     /// Submits the next request of the plan, where it need not wait. One that is refused for now is
-    /// tried again.
-    fn submit(&mut self) -> bool
+    /// tried again. Room for its place is made before.
+    fn submit(&mut self) -> Result<bool, AllocError>
         ensures run { GoesOn self.old self.new }
         ensures same { Same self.old self.new }
+        ensures waits { result ≡ Ok false → MayWait self.old }
     {
         let i = self.next;
         if i >= self.plan.len() {
-            return false;
+            return Ok(false);
         }
         let planned = &self.plan[i];
-        if planned.wait && any_submitted(self.states.as_slice()) {
-            return false;
+        if planned.wait && self.under_way > 0 {
+            return Ok(false);
         }
+        self.places.reserve(1)?;
         match self.host.submit(planned.dev, &planned.request) {
             Ok(ticket) => {
                 self.states[i] = State::Submitted(ticket);
+                self.places.push_reserved(i);
+                self.under_way += 1;
                 self.next = i + 1;
-                return true;
+                return Ok(true);
             }
             Err(refusal) => {
                 if is_tried_again(refusal) {
-                    return false;
+                    return Ok(false);
                 }
                 self.states[i] = State::Ended(Ended::Refused(refusal));
             }
         }
         self.next = i + 1;
-        true
+        Ok(true)
+    }
+
+    /// Where the request of this ticket is.
+    fn place_under(&self, ticket: Ticket) -> usize {
+        match self.places.get((ticket.0 as usize).saturating_sub(1)) {
+            Some(place) => *place,
+            None => 0,
+        }
     }
 
     /// Polls a request that ended.
@@ -187,14 +209,31 @@ impl<'a> HostWorker<'a> {
         let Some(completion) = self.host.poll() else {
             return false;
         };
-        if let Some(i) = place_of(self.states.as_slice(), completion.ticket) {
+        let first = self.place_under(completion.ticket);
+        if let Some(i) = place_of(self.states.as_slice(), first, completion.ticket) {
             self.states[i] = State::Ended(Ended::Polled(completion.outcome));
+            self.under_way -= 1;
         }
         true
     }
 
-    /// Tries each step once, and says whether anything moved.
-    fn turn<R: Wait>(&mut self, rt: &R) -> Result<bool, AllocError>
+    /// Polls all requests that ended.
+    fn poll_all(&mut self) -> bool
+        ensures run { GoesOn self.old self.new }
+        ensures same { Same self.old self.new }
+    {
+        let mut polled = false;
+        for _ in 0..SLOTS {
+            if !self.poll() {
+                break;
+            }
+            polled = true;
+        }
+        polled
+    }
+
+    /// Tries each step once, and says whether anything moved. What went over a link is told to the multiplier.
+    fn turn<R: Wait>(&mut self, rt: &R, post: &Post<'_>) -> Result<bool, AllocError>
         ensures run { GoesOn self.old self.new }
         ensures same { Same self.old self.new }
     {
@@ -202,52 +241,91 @@ impl<'a> HostWorker<'a> {
         let ticked = self.tick();
         self.ask()?;
         let sent = self.send(rt);
-        let submitted = self.submit();
-        let polled = self.poll();
+        let submitted = self.submit()?;
+        let polled = self.poll_all();
+        if took || sent {
+            post.ring(Who::One);
+        }
         Ok(took || ticked || sent || submitted || polled)
     }
 
     /// How many FISes of this connection of a device port were taken.
-    pub(crate) fn taken_on(&self, port: u8, conn: u32) -> u64
+    pub fn taken_on(&self, port: u8, conn: u32) -> u64
         ensures { port < 15 → result ≡ length (of_port port conn self.now.frames.taken) }
     {
         taken_on(self.rows.as_slice(), port, conn)
     }
 
     /// Whether a request of the plan has not ended.
-    pub(crate) fn is_open(&self) -> bool
+    pub fn is_open(&self) -> bool
         ensures { result ≡ list_any is_open self.now.states }
     {
-        any_open(self.states.as_slice())
+        self.next < self.plan.len() || self.under_way > 0
+    }
+
+    /// The seats and the memory, and the plan with what became of each of its requests. What was
+    /// taken is in stamped order.
+    pub fn into_parts(
+        self,
+    ) -> (
+        Rx<'a, ToHost>,
+        Tx<'a, Down>,
+        HostMemory,
+        Vec<Planned>,
+        Vec<State>,
+    )
+        ensures frames { result.0 ≡ self.entry.frames }
+        ensures commands { result.1 ≡ self.entry.commands }
+        ensures memory { result.2 ≡ self.entry.host.memory }
+        ensures plan { result.3.items ≡ self.entry.plan }
+        ensures states { result.4.items ≡ self.entry.states }
+        ensures order { InStampedOrder self.entry.frames.taken }
+    {
+        let HostWorker {
+            host,
+            frames,
+            commands,
+            hand: _,
+            plan,
+            states,
+            next: _,
+            under_way: _,
+            places: _,
+            rows: _,
+            alloc: _,
+        } = self;
+        (frames, commands, host.into_memory(), plan, states)
     }
 }
 
 impl<'a> Worker for HostWorker<'a> {
     type End = HostEnd<'a>;
 
+    ghost use Rattle.std.specs.Prelude.{◌≡◌, IfSome};
     ghost use Rattle.host_thread.specs.Runs.{GoesOn, Same};
 
-    ghost ended = { λ worker end. GoesOn worker end × Same worker end };
+    ghost ended = { λ worker turns end. GoesOn worker end.worker × Same worker end.worker
+        × IfSome end.spent (λ spent. spent.turns ≡ turns) };
 
-    fn work<R: Wait>(mut self, rt: &R, stop: &AtomicBool, turns: u64) -> HostEnd<'a> {
+    fn work<R: Wait>(mut self, rt: &R, mut post: Post<'_>) -> HostEnd<'a> {
         let mut fault = None;
-        for _ in 0..turns {
-            if stop.load(Ordering::SeqCst) || !self.is_open() {
+        for _ in 0..u64::MAX {
+            if !self.is_open() || post.spent().is_some() || !post.begins() {
                 break;
             }
-            match self.turn(rt) {
-                Ok(true) => {}
-                Ok(false) => thread::yield_now(),
+            match self.turn(rt, &post) {
+                Ok(moved) => post.turned(rt, moved),
                 Err(_) => {
                     fault = Some(Fault::OutOfMemory);
                     break;
                 }
             }
         }
-        stop.store(true, Ordering::SeqCst);
+        post.end();
         HostEnd {
             worker: self,
             fault,
+            spent: post.spent(),
         }
     }
 }

@@ -9,10 +9,9 @@ use link_items::{Down, FromDevice, Presence, ToHost};
 use multiplier::Multiplier;
 use pm_registers::PSCR_STATUS;
 use ruled_links::{Link, Rx, Tx};
-use runner::Worker;
+use runner::{Post, Signals, Who, Worker};
 use std::alloc::Global;
 use std::sync::Wait;
-use std::sync::atomic::AtomicBool;
 use std::test::Fail;
 
 /// A Set Device Bits FIS as a device sends it.
@@ -127,8 +126,8 @@ fn worker<'a>(
     Ok(PmWorker::new(alloc, ports, host, commands))
 }
 
-/// The host opens port 0 and sends a read there, and the device there sends a FIS. So many turns
-/// are worked, over links with so many places. Answers how many FISes come to the host, whether the
+/// The host opens port 0 and sends a read there, and the device there sends a FIS. It works until nothing
+/// moved in so many turns, over links with so many places. Answers how many FISes come to the host, whether the
 /// read comes to the device, and what the status of the port is then.
 fn worked<R: Wait>(
     rt: &R,
@@ -149,11 +148,12 @@ fn worked<R: Wait>(
     let worker = worker(alloc, port, host, down)?;
     plug(rt, &mut comes, &mut device, first(alloc, &BITS)?);
     ask(rt, alloc, &mut sent)?;
-    let end = worker.work(rt, &AtomicBool::new(false), turns);
-    if end.fault().is_some() {
+    let signals = Signals::new(alloc, 1)?;
+    let end = worker.work(rt, Post::new(&signals, Who::One, turns));
+    if end.fault.is_some() {
         return Err("a fault".into());
     }
-    let (pm, _, _, _) = end.into_parts();
+    let (pm, _, _, _) = end.worker.into_parts();
     Ok((count(rt, &mut taken), reads.take(rt).is_some(), status(&pm)))
 }
 

@@ -1,7 +1,8 @@
 //! The multiplier's worker.
 
 ghost use Rattle.std.specs.Prelude.{◌≡◌, ◌<◌, ◌≤◌, [], length, All};
-ghost use Rattle.pm_thread.specs.Runs.{IsUnused, SameLinks};
+ghost use Rattle.pm_thread.specs.Passing.{Passes};
+ghost use Rattle.pm_thread.specs.Runs.{IsRun, IsUnused, SameLinks};
 
 use crate::end::PmEnd;
 use crate::port::PmPort;
@@ -9,23 +10,21 @@ use fis_view::Frame;
 use link_items::{Down, FromDevice, Presence, ToHost};
 use multiplier::{Multiplier, PmRefusal};
 use ruled_links::{Full, Rx, Tx};
-use runner::{Fault, Worker};
+use runner::{Fault, Post, Who, Worker};
 use std::alloc::{AllocError, Global};
 use std::marker::Model;
 use std::sync::Wait;
-use std::sync::atomic::{AtomicBool, Ordering};
-use std::thread;
 
 /// A multiplier with the seats of its links, and a place for a FIS of the host that it has not
 /// taken.
 #[derive(Drop)]
 pub struct PmWorker<'a> {
-    pub(crate) pm: Multiplier,
-    pub(crate) ports: Vec<PmPort<'a>>,
-    pub(crate) host: Tx<'a, ToHost>,
-    pub(crate) commands: Rx<'a, Down>,
-    pub(crate) hand: Option<Frame>,
-    pub(crate) alloc: Global,
+    pm: Multiplier,
+    ports: Vec<PmPort<'a>>,
+    host: Tx<'a, ToHost>,
+    commands: Rx<'a, Down>,
+    hand: Option<Frame>,
+    alloc: Global,
 }
 
 impl<'a> Model for PmWorker<'a> {
@@ -75,6 +74,27 @@ impl<'a> PmWorker<'a> {
             hand: None,
             alloc,
         }
+    }
+
+    /// The multiplier and its seats. It is a run; what went up is in stamped order, and of each connection a beginning of
+    /// what was taken of it, with what the port holds all of it as long as its removal is not recorded.
+    pub fn into_parts(self) -> (Multiplier, Vec<PmPort<'a>>, Tx<'a, ToHost>, Rx<'a, Down>)
+        ensures multiplier { result.0 ≡ self.entry.pm }
+        ensures ports { result.1.items ≡ self.entry.ports }
+        ensures host { result.2 ≡ self.entry.host }
+        ensures commands { result.3 ≡ self.entry.commands }
+        ensures run { IsRun self.entry }
+        ensures passes { Passes self.entry }
+    {
+        let PmWorker {
+            pm,
+            ports,
+            host,
+            commands,
+            hand: _,
+            alloc: _,
+        } = self;
+        (pm, ports, host, commands)
     }
 
     /// Has port `n` record what comes next on its presence link. A change that the port refuses
@@ -136,16 +156,18 @@ impl<'a> PmWorker<'a> {
     }
 
     /// Takes the next FIS of the host into the empty hand.
-    fn fetch<R: Wait>(&mut self, rt: &R)
+    fn fetch<R: Wait>(&mut self, rt: &R) -> bool
         ensures links { SameLinks self.old self.new }
         ensures count { length self.new.ports ≡ length self.old.ports }
     {
         if self.hand.is_some() {
-            return;
+            return false;
         }
-        if let Some(Down(frame)) = self.commands.take(rt) {
-            self.hand = Some(frame);
-        }
+        let Some(Down(frame)) = self.commands.take(rt) else {
+            return false;
+        };
+        self.hand = Some(frame);
+        true
     }
 
     /// Has the multiplier take the FIS in the hand. One that it gives back stays there.
@@ -198,56 +220,64 @@ impl<'a> PmWorker<'a> {
         recorded || received || passed
     }
 
-    /// Tries the steps of each port once.
-    fn turn_ports<R: Wait>(&mut self, rt: &R) -> bool
+    /// Tries the steps of each port once. What went over a link is told to the device there.
+    fn turn_ports<R: Wait>(&mut self, rt: &R, post: &Post<'_>) -> bool
         ensures { SameLinks self.old self.new }
     {
         let mut moved = false;
         for n in 0..self.ports.len() as u8 {
-            let turned = self.turn_at(rt, n);
-            moved = moved || turned;
+            if self.turn_at(rt, n) {
+                post.ring(Who::Many(usize::from(n)));
+                moved = true;
+            }
         }
         moved
     }
 
-    /// Tries each step once, those of the ports first, and says whether anything moved.
-    fn turn<R: Wait>(&mut self, rt: &R) -> Result<bool, AllocError>
+    /// Tries each step once, those of the ports first, and says whether anything moved. What went over a link is told to
+    /// the worker at its other end.
+    fn turn<R: Wait>(&mut self, rt: &R, post: &Post<'_>) -> Result<bool, AllocError>
         ensures { SameLinks self.old self.new }
     {
-        let moved = self.turn_ports(rt);
-        self.fetch(rt);
+        let moved = self.turn_ports(rt, post);
+        let fetched = self.fetch(rt);
         let heard = self.hear()?;
         let passed = self.pass_up(rt)?;
-        Ok(moved || heard || passed)
+        if fetched || passed {
+            post.ring(Who::Other);
+        }
+        Ok(moved || fetched || heard || passed)
     }
 }
 
 impl<'a> Worker for PmWorker<'a> {
     type End = PmEnd<'a>;
 
+    ghost use Rattle.std.specs.Prelude.{◌≡◌, IfSome};
     ghost use Rattle.pm_thread.specs.Runs.{SameLinks};
 
-    ghost ended = { λ worker end. SameLinks worker end };
+    ghost ended = { λ worker turns end. SameLinks worker end.worker
+        × IfSome end.spent (λ spent. spent.turns ≡ turns) };
 
-    fn work<R: Wait>(mut self, rt: &R, stop: &AtomicBool, turns: u64) -> PmEnd<'a> {
+    fn work<R: Wait>(mut self, rt: &R, mut post: Post<'_>) -> PmEnd<'a> {
         let mut fault = None;
-        for _ in 0..turns {
-            if stop.load(Ordering::SeqCst) {
+        for _ in 0..u64::MAX {
+            if post.spent().is_some() || !post.begins() {
                 break;
             }
-            match self.turn(rt) {
-                Ok(true) => {}
-                Ok(false) => thread::yield_now(),
+            match self.turn(rt, &post) {
+                Ok(moved) => post.turned(rt, moved),
                 Err(_) => {
                     fault = Some(Fault::OutOfMemory);
                     break;
                 }
             }
         }
-        stop.store(true, Ordering::SeqCst);
+        post.end();
         PmEnd {
             worker: self,
             fault,
+            spent: post.spent(),
         }
     }
 }

@@ -101,6 +101,10 @@ module _ {D E : Type 0} (station : E → StationState D) (R : StationState D →
 
 -- ---- faults
 
+pub first_false : (a b c : Bool) → (a || b || c) ≡ false → a ≡ false
+first_false true b c h = absurd cc
+first_false false b c h = refl
+
 module _ {E : Type 0} (fault_of : E → Option Fault) where
   quiet : (f : Option Fault) (s t : Bool) → (is_short f || s) ≡ false → (is_shut f || t) ≡ false → (f ≡ None) × (s ≡ false) × (t ≡ false)
   quiet None s t a b = (refl, a, b)

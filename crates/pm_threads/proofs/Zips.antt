@@ -3,6 +3,7 @@ use Rattle.std.proofs.Common.{◌≡◌, ◌∙◌, ◌+◌, ℕ, zero, suc, ari
 use Rattle.std.specs.Prelude.{All, map}
 use Rattle.std.specs.List.{AllZip, range_with_len}
 use Rattle.std.proofs.lemmas.List.{get_or_append_left, map-append}
+use Rattle.disk_thread.specs.declared.worker.DiskEnd.{DiskEnd}
 use Rattle.pm_threads.specs.Seats.{first_ports}
 
 module _ {A B : Type 0} (R : A → B → Type 0) where
@@ -42,11 +43,6 @@ module _ {A B : Type 0} (R S : A → B → Type 0) where
   none_left [] (y ∷ ys) e h = absurd h
   none_left (x ∷ xs) ys e h = absurd cc
 
-  pub none_right : (xs : List A) (ys : List B) → ys ≡ [] → AllZip R xs ys → AllZip S xs ys
-  none_right [] [] e h = tt
-  none_right (x ∷ xs) [] e h = absurd h
-  none_right xs (y ∷ ys) e h = absurd cc
-
 -- pairs with a part of each element
 module _ {A B E : Type 0} (f : E → A) (R : A → B → Type 0) where
   pub map_push : (es : List E) (ys : List B) (e : E) (y : B) → AllZip R (map f es) ys → R (f e) y → AllZip R (map f (es ++ e ∷ [])) (ys ++ y ∷ [])
@@ -54,6 +50,11 @@ module _ {A B E : Type 0} (f : E → A) (R : A → B → Type 0) where
 
   pub map_pop : (es : List E) (ys : List B) (e : E) (y : B) → AllZip R (map f (es ++ e ∷ [])) (ys ++ y ∷ []) → AllZip R (map f es) ys × R (f e) y
   map_pop es ys e y h = zip_pop R (map f es) ys (f e) y (subst (λ l. AllZip R l (ys ++ y ∷ [])) (map-append f es (e ∷ [])) h)
+
+  -- where there are none on the right, there is no last one on the left
+  pub map_last : (es : List E) (ys : List B) (e : E) → ys ≡ [] → AllZip R (map f (es ++ e ∷ [])) ys → ⊥
+  map_last es [] e is h = no_left R (map f es) (f e) (subst (λ l. AllZip R l []) (map-append f es (e ∷ [])) h)
+  map_last es (y ∷ ys) e is h = absurd cc
 
 -- the ports from 0 on, one more
 ports_from : (a n : ℕ) → range_with_len a (suc n) ≡ range_with_len a n ++ (a + n) ∷ []
@@ -75,3 +76,12 @@ ports_push port ws w n h is =
 -- what is true of all is true of those in front
 pub all_front : {A : Type 0} (P : A → Type 0) (xs ys : List A) → All P (xs ++ ys) → All P xs
 all_front P xs ys h k d lt = subst P (get_or_append_left xs ys d k lt) (h k d (omega (arith, lt, length-append xs ys)))
+
+-- the devices of these ends, and one more
+pub units_more : {D : Type 0} (units : List D) (ends : List (DiskEnd D)) (end : DiskEnd D) (unit : D)
+    → units ≡ map (λ s. s.unit) (map (λ e. e.station) ends) → unit ≡ end.station.unit
+    → units ++ unit ∷ [] ≡ map (λ s. s.unit) (map (λ e. e.station) (ends ++ end ∷ []))
+units_more units ends end unit are is =
+    ap (λ l. l ++ unit ∷ []) are ∙ ap (λ u. map (λ s. s.unit) (map (λ e. e.station) ends) ++ u ∷ []) is
+    ∙ sym (map-append (λ s. s.unit) (map (λ e. e.station) ends) (end.station ∷ []))
+    ∙ sym (ap (map (λ s. s.unit)) (map-append (λ e. e.station) ends (end ∷ [])))

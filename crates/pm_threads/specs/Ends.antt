@@ -1,6 +1,6 @@
 -- What is left of a run, and what is known of it.
-use Rattle.std.specs.Prelude.{◌≡◌, ℕ, zero, suc, ◌<◌, ◌≤◌, Bool, true, false, Option, Some, List, [], ◌∷◌}
-use Rattle.std.specs.Prelude.{length}
+use Rattle.std.specs.Prelude.{◌≡◌, ℕ, zero, suc, ◌<◌, ◌≤◌, ◌||◌, Bool, true, false, Option, Some, None, List}
+use Rattle.std.specs.Prelude.{[], ◌∷◌, length}
 use Rattle.std.specs.List.{AllZip, list_any}
 use Rattle.fis_view.specs.Frames.{Stamped}
 use Rattle.disk_model.specs.declared.unit.Unit.{Unit}
@@ -9,11 +9,13 @@ use Rattle.multiplier.specs.Passing.{of_conn}
 use Rattle.disk_model.specs.Histories.{Happening, Plan}
 use Rattle.disk_model.specs.Units.{plan_of, StandsFor, MaySend}
 use Rattle.disk_thread.specs.Runs.{StationState, IsRun}
+use Rattle.disk_thread.specs.declared.worker.DiskEnd.{DiskEnd}
 use Rattle.pm_thread.specs.Runs.{PmView}
 use Rattle.pm_thread.specs.Passing.{risen}
 use Rattle.host_memory.specs.Memory.{Memory}
 use Rattle.host_thread.specs.Runs.{HostView, IsRun as IsHostRun, is_open}
 use Rattle.host_thread.specs.declared.plan.Planned.{Planned}
+use Rattle.runner.specs.Posts.{PostState}
 use Rattle.runner.specs.declared.worker.Fault.{Fault}
 use Rattle.runner.specs.declared.worker.Fault.TheVariants as fault
 use Rattle.pm_threads.specs.Seats.{TiedTo}
@@ -69,6 +71,19 @@ is_short f = false
 abbrev pub is_shut : Option Fault → Bool
 is_shut (Some fault.GateShut) = true
 is_shut f = false
+
+-- whether a worker says that its turns were spent
+abbrev pub is_given : Option PostState → Bool
+is_given None = false
+is_given (Some spent) = true
+
+-- whether the worker of a device, of the multiplier or of the host ended by want of memory
+abbrev pub is_any_short : List (DiskEnd Unit) → (pm host : Option Fault) → Bool
+is_any_short disks pm host = list_any (λ e. is_short e.fault) disks || is_short pm || is_short host
+
+-- whether one of them says that its turns were spent
+abbrev pub is_any_spent : List (DiskEnd Unit) → (pm host : Option PostState) → Bool
+is_any_spent disks pm host = list_any (λ e. is_given e.spent) disks || is_given pm || is_given host
 
 -- The workers of these units with these pulls, and of a host with this plan beside this memory, ran until a
 -- request was open and none had a fault.

@@ -1,6 +1,7 @@
 -- What is told of a run once it is over.
 use Rattle.std.specs.Prelude.{◌≡◌, ℕ, zero, suc, ◌≤◌, if◌then◌else◌, List, [], ◌∷◌, ◌++◌, length, map, Option}
 use Rattle.std.specs.Prelude.{Some, None, Result, Ok, Err}
+use Rattle.std.specs.List.{flat_map}
 use Rattle.std.specs.Option.{ForSome}
 use Rattle.disk_model.specs.declared.unit.Unit.{Unit}
 use Rattle.fis_view.specs.Frames.{Stamped}
@@ -11,6 +12,9 @@ use Rattle.multiplier.specs.Orders.{of_connection, of_port}
 use Rattle.pm_world.specs.Counting.{AreSorted, row_of}
 use Rattle.pm_world.specs.declared.counts.ConnCount.{ConnCount}
 use Rattle.disk_thread.specs.Runs.{AreTold, StationState, all_given, all_told, has_come}
+use Rattle.host_memory.specs.Memory.{Memory}
+use Rattle.hba_driver.specs.HostTurns.{DoesAll, Host, HostTurn}
+use Rattle.host_thread.specs.Runs.{HostView, starting, took_by}
 use Rattle.host_thread.specs.declared.plan.Ended.TheVariants as ended
 use Rattle.host_thread.specs.declared.plan.State.{State}
 use Rattle.host_thread.specs.declared.plan.State.TheVariants as state
@@ -59,6 +63,17 @@ pub record CountsAt {D : Type 0} (old : List ConnCount) (n : ℕ) (s : StationSt
     (new : List ConnCount) : Type 0 where
   pub told : AreTold (all_told s) s.standing.conn
   pub added : new ≡ old ++ rows_on (row_for (all_given s) taken n) s.standing.conn
+
+-- ---- memory
+
+-- This memory is what turns of the host made of the one that it began with, and those of them that take a FIS
+-- took what was taken of its link.
+pub record IsMadeOf (start : Memory) (w : HostView) (memory : Memory) : Type 0 where
+  pub turns : List HostTurn
+  pub host : Host
+  pub does : DoesAll (starting start) turns host
+  pub taken : map (λ f. f.bytes) w.frames.taken ≡ flat_map took_by turns
+  pub memory_is : memory ≡ host.memory
 
 -- ---- results
 

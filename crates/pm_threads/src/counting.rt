@@ -5,7 +5,7 @@ ghost use Rattle.pm_threads.specs.Summaries.{AreCounted, CountsAt};
 
 use disk_model::{Device, Unit};
 use disk_thread::{DiskEnd, Station};
-use host_thread::HostEnd;
+use host_thread::HostWorker;
 use pm_world::ConnCount;
 use std::alloc::{AllocError, Global};
 
@@ -14,7 +14,7 @@ fn count_at<'a, D: Device + Drop>(
     rows: &mut Vec<ConnCount>,
     port: u8,
     station: &Station<'a, D>,
-    host: &HostEnd<'a>,
+    host: &HostWorker<'a>,
 ) -> Result<(), AllocError>
     requires { port < 15 }
     ensures { OnOk result (CountsAt rows.old.items port station.now host.now.frames.taken rows.new.items) }
@@ -35,7 +35,7 @@ fn count_at<'a, D: Device + Drop>(
 pub(crate) fn counted<'a>(
     alloc: Global,
     disks: &[DiskEnd<'a, Unit>],
-    host: &HostEnd<'a>,
+    host: &HostWorker<'a>,
 ) -> Result<Vec<ConnCount>, AllocError>
     requires { length disks.now ≤ 15 }
     ensures { IfOk result (λ rows.

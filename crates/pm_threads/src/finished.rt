@@ -7,16 +7,16 @@ ghost use Rattle.pm_threads.specs.Ends.{AreOfOneRun};
 
 use disk_model::Unit;
 use disk_thread::DiskEnd;
-use host_thread::HostEnd;
-use pm_thread::PmEnd;
+use host_thread::HostWorker;
+use pm_thread::PmWorker;
 use std::marker::Model;
 
 /// The ends of all workers of one run, with their seats. All requests have ended.
 #[derive(Drop)]
 pub struct Finished<'a> {
     pub(crate) disks: Vec<DiskEnd<'a, Unit>>,
-    pub(crate) pm: PmEnd<'a>,
-    pub(crate) host: HostEnd<'a>,
+    pub(crate) pm: PmWorker<'a>,
+    pub(crate) host: HostWorker<'a>,
 }
 
 impl<'a> Model for Finished<'a> {
@@ -38,7 +38,7 @@ impl<'a> Model for Finished<'a> {
 
 impl<'a> Finished<'a> {
     /// The ends one by one. Their seats are of the same links.
-    pub(crate) fn into_parts(self) -> (Vec<DiskEnd<'a, Unit>>, PmEnd<'a>, HostEnd<'a>)
+    pub(crate) fn into_parts(self) -> (Vec<DiskEnd<'a, Unit>>, PmWorker<'a>, HostWorker<'a>)
         ensures disks { map (λ e. e.station) result.0.items ≡ self.entry.disks }
         ensures pm { result.1 ≡ self.entry.pm }
         ensures host { result.2 ≡ self.entry.host }

@@ -1,6 +1,6 @@
 //! The seats of a device and of the multiplier at its port, brought together.
 
-ghost use Rattle.std.specs.Prelude.{map};
+ghost use Rattle.std.specs.Prelude.{◌≡◌, map, IfOk};
 ghost use Rattle.std.specs.List.{AllZip};
 ghost use Rattle.pm_threads.specs.Seats.{Handed, TiedTo};
 
@@ -8,15 +8,21 @@ use disk_model::Device;
 use disk_thread::DiskEnd;
 use pm_thread::PmPort;
 use ruled_links::meet;
+use std::alloc::{AllocError, Global};
 use std::sync::Wait;
 
-/// The three links of a device.
-fn meet_at<'a, D: Device + Drop, R: Wait>(rt: &R, end: DiskEnd<'a, D>, port: PmPort<'a>)
+/// The three links of a device, which is given back.
+fn meet_at<'a, D: Device + Drop, R: Wait>(rt: &R, end: DiskEnd<'a, D>, port: PmPort<'a>) -> D
     requires { TiedTo end.station port }
-    ensures { Handed end.entry.station port.entry }
+    ensures handed { Handed end.entry.station port.entry }
+    ensures unit { result ≡ end.entry.station.unit }
 {
-    let DiskEnd { station, fault: _ } = end;
-    let (taken, sent, told) = station.into_seats();
+    let DiskEnd {
+        station,
+        fault: _,
+        spent: _,
+    } = end;
+    let (unit, taken, sent, told) = station.into_parts();
     let PmPort {
         commands,
         frames,
@@ -25,23 +31,29 @@ fn meet_at<'a, D: Device + Drop, R: Wait>(rt: &R, end: DiskEnd<'a, D>, port: PmP
     let _ = meet(rt, sent, frames);
     let _ = meet(rt, commands, taken);
     let _ = meet(rt, told, presence);
+    unit
 }
 
-/// The links of all devices.
+/// The links of all devices, which are given back in their order. All meet, also where no memory is found for the list.
 pub(crate) fn meet_all<'a, D: Device + Drop, R: Wait>(
     rt: &R,
+    alloc: Global,
     mut disks: Vec<DiskEnd<'a, D>>,
     mut ports: Vec<PmPort<'a>>,
-)
+) -> Result<Vec<D>, AllocError>
     requires { AllZip TiedTo (map (λ e. e.station) disks.items) ports.items }
-    ensures { AllZip Handed (map (λ e. e.station) disks.entry.items) ports.entry.items }
+    ensures handed { AllZip Handed (map (λ e. e.station) disks.entry.items) ports.entry.items }
+    ensures units { IfOk result (λ units.
+        units.items ≡ map (λ s. s.unit) (map (λ e. e.station) disks.entry.items)) }
 {
     let Some(end) = disks.pop() else {
-        return;
+        return Ok(Vec::new(alloc));
     };
     let Some(port) = ports.pop() else {
-        return;
+        unreachable!()
     };
-    meet_at(rt, end, port);
-    meet_all(rt, disks, ports);
+    let unit = meet_at(rt, end, port);
+    let mut units = meet_all(rt, alloc, disks, ports)?;
+    units.push(unit)?;
+    Ok(units)
 }

@@ -1,9 +1,9 @@
 //! All workers at once.
 
-ghost use Rattle.std.specs.Prelude.{◌≡◌, ◌≤◌, ◌↔◌, true, false, length, map, None, Err, All, IfOk, OnOk};
+ghost use Rattle.std.specs.Prelude.{◌≡◌, ◌≤◌, ◌↔◌, ◌||◌, true, false, length, map, None, Err, All, IfOk, OnOk};
 ghost use Rattle.std.specs.List.{AllZip, list_any};
 ghost use Rattle.host_thread.specs.Runs.{GoesOn, IsRun as IsHostRun, is_open};
-ghost use Rattle.pm_threads.specs.Ends.{AllGoOn, AreOfOneRun, LeavesOpen, MayLeaveOpen, RanWith, is_short, is_shut};
+ghost use Rattle.pm_threads.specs.Ends.{AllGoOn, AreOfOneRun, LeavesOpen, MayLeaveOpen, RanWith, is_any_short, is_any_spent, is_given, is_short, is_shut};
 ghost use Rattle.pm_threads.specs.Seats.{TiedTo, first_ports};
 ghost use Rattle.pm_threads.specs.Setups.{can_run, memory_of};
 
@@ -15,20 +15,19 @@ use disk_model::Unit;
 use disk_thread::{DiskEnd, DiskWorker, Gate};
 use host_thread::{HostEnd, HostWorker};
 use pm_thread::{PmEnd, PmWorker};
-use runner::{Fault, run_three};
+use runner::{Fault, Spent, run_three};
 use std::alloc::{AllocError, Global};
 use std::sync::Wait;
-use std::sync::atomic::AtomicBool;
 use std::thread::Threads;
 use thiserror::Error;
 
 /// Why there is nothing left of a run.
 #[derive(Clone, Copy, Debug, PartialEq, Eq, Error)]
 pub enum RunError {
-    /// The allocator refused memory.
+    /// The allocator refused memory, or a thread could not be made. It comes before all others but BadSetup.
     #[error("out of memory")]
     OutOfMemory = 1,
-    /// All turns were spent, and a request has not ended.
+    /// A worker's turns were spent, and a request has not ended.
     #[error("turns spent")]
     TurnsSpent = 2,
     /// The gate of the disks did not open.
@@ -64,11 +63,25 @@ fn is_shut(fault: Option<Fault>) -> bool
     matches!(fault, Some(Fault::GateShut))
 }
 
+/// Whether there are turns that were spent.
+fn is_given(spent: Option<Spent>) -> bool
+    ensures { result ≡ is_given spent }
+{
+    spent.is_some()
+}
+
 /// Whether the worker of a device ended by want of memory.
 fn any_short(disks: &[DiskEnd<'_, Unit>]) -> bool
     ensures { result ≡ list_any (λ end. is_short end.fault) disks.now }
 {
     disks.iter().any(|end| is_short(end.fault))
+}
+
+/// Whether a worker ended by want of memory.
+fn is_any_short(disks: &[DiskEnd<'_, Unit>], pm: Option<Fault>, host: Option<Fault>) -> bool
+    ensures { result ≡ is_any_short disks.now pm host }
+{
+    any_short(disks) || is_short(pm) || is_short(host)
 }
 
 /// Whether one ended by its gate.
@@ -78,32 +91,55 @@ fn any_shut(disks: &[DiskEnd<'_, Unit>]) -> bool
     disks.iter().any(|end| is_shut(end.fault))
 }
 
+/// Whether the worker of a device says that its turns were spent.
+fn any_spent(disks: &[DiskEnd<'_, Unit>]) -> bool
+    ensures { result ≡ list_any (λ end. is_given end.spent) disks.now }
+{
+    disks.iter().any(|end| is_given(end.spent))
+}
+
+/// Whether a worker says that its turns were spent.
+fn is_any_spent(disks: &[DiskEnd<'_, Unit>], pm: Option<Spent>, host: Option<Spent>) -> bool
+    ensures { result ≡ is_any_spent disks.now pm host }
+{
+    any_spent(disks) || is_given(pm) || is_given(host)
+}
+
 /// What is left of a run, where no worker ended by a fault and no request is open.
 fn finished<'a>(
     disks: Vec<DiskEnd<'a, Unit>>,
     pm: PmEnd<'a>,
     host: HostEnd<'a>,
 ) -> Result<Finished<'a>, RunError>
-    requires { AreOfOneRun (record { disks = map (λ e. e.station) disks.items; pm = pm; host = host }) }
+    requires { AreOfOneRun (record { disks = map (λ e. e.station) disks.items; pm = pm.worker; host = host.worker }) }
     ensures disks { IfOk result (λ f. f.disks ≡ map (λ e. e.station) disks.entry.items) }
     ensures no_fault { OnOk result (All (λ e. e.fault ≡ None) disks.entry.items) }
-    ensures host { IfOk result (λ f. f.host ≡ host.entry) }
-    ensures closed { OnOk result (list_any is_open host.entry.states ≡ false) }
+    ensures host { IfOk result (λ f. f.host ≡ host.entry.worker) }
+    ensures closed { OnOk result (list_any is_open host.entry.worker.states ≡ false) }
     ensures bad_setup { result ≡ Err RunError.BadSetup → ⊥ }
+    ensures short { is_any_short disks.entry.items pm.entry.fault host.entry.fault ≡ true → result ≡ Err RunError.OutOfMemory }
     ensures gate { result ≡ Err RunError.GateShut → list_any (λ e. is_shut e.fault) disks.entry.items ≡ true }
+    ensures spent { result ≡ Err RunError.TurnsSpent → is_any_spent disks.entry.items pm.entry.spent host.entry.spent ≡ true }
     ensures quiet { result ≡ Err RunError.TurnsSpent → All (λ e. e.fault ≡ None) disks.entry.items }
-    ensures open { result ≡ Err RunError.TurnsSpent → list_any is_open host.entry.states ≡ true }
+    ensures open { result ≡ Err RunError.TurnsSpent → list_any is_open host.entry.worker.states ≡ true }
 {
-    if any_short(disks.as_slice()) || is_short(pm.fault()) || is_short(host.fault()) {
+    if is_any_short(disks.as_slice(), pm.fault, host.fault) {
         return Err(RunError::OutOfMemory);
     }
     if any_shut(disks.as_slice()) {
         return Err(RunError::GateShut);
     }
-    if host.is_open() {
-        return Err(RunError::TurnsSpent);
+    if host.worker.is_open() {
+        if is_any_spent(disks.as_slice(), pm.spent, host.spent) {
+            return Err(RunError::TurnsSpent);
+        }
+        return Err(RunError::OutOfMemory);
     }
-    Ok(Finished { disks, pm, host })
+    Ok(Finished {
+        disks,
+        pm: pm.worker,
+        host: host.worker,
+    })
 }
 
 /// Runs the workers side by side, until all have ended. Whatever units' runs the stations were, they go on to be, and so does
@@ -129,13 +165,12 @@ fn run_seated<'a, 'g, G: Gate + Sync, R: Threads + Wait + Sync>(
     ensures gate { result ≡ Err RunError.GateShut → G.may_refuse }
     ensures turns { MayLeaveOpen (result ≡ Err RunError.TurnsSpent) workers.entry.items host.entry }
 {
-    let stop = AtomicBool::new(false);
-    let (disks, pm, host) = run_three(rt, alloc, workers, pm, host, &stop, turns)?;
+    let (disks, pm, host) = run_three(rt, alloc, workers, pm, host, turns)?;
     finished(disks, pm, host)
 }
 
-/// Runs each device, the multiplier and the host in threads of their own, until all requests have ended or all turns are
-/// spent. The end of each device is a run of the unit that was given for its port, which was pulled out just when that was
+/// Runs each device, the multiplier and the host in threads of their own, until all requests have ended or a
+/// worker's turns are spent. The end of each device is a run of the unit that was given for its port, which was pulled out just when that was
 /// due, and that of the host one beside the memory with the puts.
 pub fn run_threads<'a, G: Gate + Sync, R: Threads + Wait + Sync>(
     rt: &R,

@@ -10,7 +10,7 @@ use host_memory::{HostMemory, MemoryError};
 use host_thread::Planned;
 use std::alloc::{AllocError, Global};
 
-/// The most turns of a run.
+/// The most turns in a row in which nothing moves.
 pub const MAX_TURNS: u64 = 16_777_216;
 
 /// The address at which the client area of the memory begins.
@@ -29,7 +29,7 @@ pub struct Setup {
     pub plan: Vec<Planned>,
     /// Which device is pulled out, and plugged in again, after how many of its FISes.
     pub pulls: Vec<(u8, u32)>,
-    /// How many turns each worker has at most.
+    /// In how many turns in a row of a worker nothing may move.
     pub turns: u64,
 }
 

@@ -2,12 +2,12 @@
 
 ghost use Rattle.std.specs.Prelude.{◌≡◌};
 
-use crate::{Worker, run_three};
+use crate::{Post, Worker, run_three};
 use std::alloc::{AllocError, Global};
 use std::sync::Wait;
-use std::sync::atomic::{AtomicBool, AtomicU64, Ordering};
+use std::sync::atomic::{AtomicU64, Ordering};
 use std::test::Fail;
-use std::thread;
+use std::thread::Threads;
 
 /// Says that it is there, and waits until so many others are.
 #[derive(Drop)]
@@ -22,26 +22,26 @@ impl<'a> Worker for Guest<'a> {
 
     ghost use Rattle.std.specs.Prelude.{◌≡◌, IfSome};
 
-    ghost ended = { λ guest end. IfSome end (λ n. n ≡ guest.number) };
+    ghost ended = { λ guest turns end. IfSome end (λ n. n ≡ guest.number) };
 
-    fn work<R: Wait>(self, _rt: &R, stop: &AtomicBool, turns: u64) -> Option<u64> {
+    fn work<R: Wait>(self, rt: &R, mut post: Post<'_>) -> Option<u64> {
         self.there.fetch_add(1, Ordering::SeqCst);
-        for _ in 0..turns {
-            if stop.load(Ordering::SeqCst) {
-                return None;
-            }
+        for _ in 0..u64::MAX {
             if self.there.load(Ordering::SeqCst) >= self.all {
                 return Some(self.number);
             }
-            thread::yield_now();
+            if post.spent().is_some() || !post.begins() {
+                break;
+            }
+            post.turned(rt, false);
         }
-        stop.store(true, Ordering::SeqCst);
+        post.end();
         None
     }
 }
 
 /// So many guests beside two more: who has met all others.
-fn met<R: Wait + thread::Threads + Sync>(
+fn met<R: Wait + Threads + Sync>(
     rt: &R,
     alloc: Global,
     many: u64,
@@ -66,8 +66,7 @@ fn met<R: Wait + thread::Threads + Sync>(
         there: &there,
         all,
     };
-    let stop = AtomicBool::new(false);
-    run_three(rt, alloc, guests, one, other, &stop, 100_000_000)
+    run_three(rt, alloc, guests, one, other, 100_000_000)
 }
 
 #[test]

@@ -1,7 +1,9 @@
 //! What runs in a thread.
 
+ghost use Rattle.std.specs.Prelude.{ℕ};
+
+use crate::post::Post;
 use std::sync::Wait;
-use std::sync::atomic::AtomicBool;
 
 /// Why a worker ended before its time.
 #[derive(Clone, Copy, Debug, PartialEq, Eq)]
@@ -12,13 +14,14 @@ pub enum Fault {
     GateShut,
 }
 
-/// What works in a thread of its own for a number of turns, and what is known of its end then. It may end early, and
-/// each does once `stop` is set, of which nothing is claimed.
+/// What works in a thread of its own, turn by turn, and what is known of its end then. It ends at the latest once its turns
+/// are spent or the run is over, as its [`Post`] tells, and then it ends the run.
 pub trait Worker: Send + Drop {
     type End: Send + Drop;
 
-    ghost ended: { Self → Self.End → Type 0 };
+    /// What is so of a worker, of how many turns in a row it may have in which nothing moves, and of its end.
+    ghost ended: { Self → ℕ → Self.End → Type 0 };
 
-    fn work<R: Wait>(self, rt: &R, stop: &AtomicBool, turns: u64) -> Self::End
-        ensures { ended self result };
+    fn work<R: Wait>(self, rt: &R, post: Post<'_>) -> Self::End
+        ensures { ended self post.entry.turns result };
 }

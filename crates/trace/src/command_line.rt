@@ -87,7 +87,7 @@ impl Watch {
     }
 }
 
-/// How many turns each thread of a run has at most.
+/// In how many turns in a row of a worker nothing may move.
 #[derive(Clone, Copy, Debug, PartialEq, Eq)]
 pub struct Turns {
     pub count: u64,

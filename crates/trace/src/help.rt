@@ -11,7 +11,7 @@ pm_trace run [WORDS] [FILE]            play a scenario, one step at a time
     --from N         only steps from number N on
     --json           the same as JSON, an object a line
 pm_trace threads [--turns N] [FILE]    run one with a thread for each disk, the multiplier and the host
-    --turns N        at most N turns of each thread, 1 to 16777216
+    --turns N        end once nothing moved in N turns of a thread, 1 to 16777216
 pm_trace decode [FILE]                 say what frames in hexadecimal mean, one a line
 pm_trace --help                        this; so does no word at all
 

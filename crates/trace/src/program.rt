@@ -189,7 +189,7 @@ fn play<E: Eprint, W: Write>(
     }
 }
 
-/// Runs the scenario of the input in threads, each of which has so many turns at most, and gives the exit
+/// Runs the scenario of the input in threads, until nothing moved in so many turns, and gives the exit
 /// status.
 fn work_in_threads<H: Threads + Wait + Sync + Files + Eprint, R: Read + Drop, W: Write + Drop>(
     rt: &H,

@@ -24,7 +24,7 @@ use std::thread::Threads;
 pub enum Ending {
     /// All requests have ended.
     Done,
-    /// All turns were spent, and a request had not ended.
+    /// The turns of a worker were spent, and a request had not ended.
     TurnsSpent,
 }
 

@@ -2,7 +2,7 @@ use Rattle.std.proofs.Common.{rules, ◌≡◌, ℕ, List, None, Some, sym, ap, 
 use Rattle.std.proofs.lemmas.List.{length-map}
 use Rattle.runner.specs.declared.worker.Fault.TheVariants as fault
 use Rattle.pm_threads.proofs.Zips.{zip_long}
-use Rattle.std.specs.Prelude.{map, All}
+use Rattle.std.specs.Prelude.{map, All, IfSome}
 use Rattle.std.specs.List.{AllZip}
 use Rattle.disk_model.specs.Units.{plan_of, StandsFor, MaySend}
 use Rattle.disk_model.specs.declared.unit.Unit.{Unit}
@@ -15,10 +15,11 @@ use Rattle.pm_threads.specs.Setups.{pulls_at}
 use Rattle.pm_threads.proofs.Ends.{all_at_ports, all_tied, all_ran, if_ok, on_ok, one_refused}
 use Rattle.pm_threads.proofs.run.run_seated.Goals as goal
 
-module _ (MayRefuse : Type 0) where
+module _ (MayRefuse : Type 0) (turns : ℕ) where
   abbrev pub Ended : StationState Unit → DiskEnd Unit → Type 0
   Ended w e =
       IsAtSamePort w e.station × (e.fault ≡ None → GoesOnRunning plan_of StandsFor MaySend w e.station) × (e.fault ≡ Some fault.GateShut → MayRefuse)
+      × IfSome e.spent (λ s. s.turns ≡ turns)
 
   still_ran : (pulls : List (ℕ × ℕ)) (u : Unit) (w : StationState Unit) (e : DiskEnd Unit) → Ended w e → e.fault ≡ None → RanWith pulls u w → RanWith pulls u e.station
   still_ran pulls u w e r quiet was =
@@ -26,51 +27,51 @@ module _ (MayRefuse : Type 0) where
 
 pub finished-requires : goal.finished-requires
 finished-requires g c =
-    let ended : AllZip (Ended g.G.Gate.may_refuse) c.args.workers.items c.in_ok-disks.disks.items = search rules in
-    let links : SameLinks c.args.pm c.in_ok-disks.pm = search rules in
-    let same : Same c.args.host c.in_ok-disks.host = search rules in
+    let ended : AllZip (Ended g.G.Gate.may_refuse c.args.turns) c.args.workers.items c.in_ok-disks.disks.items = search rules in
+    let links : SameLinks c.args.pm c.in_ok-disks.pm.worker = search rules in
+    let same : Same c.args.host c.in_ok-disks.host.worker = search rules in
     record {
-      few = (let few = c.requires.few in let long = zip_long (Ended g.G.Gate.may_refuse) _ _ ended in
+      few = (let few = c.requires.few in let long = zip_long (Ended g.G.Gate.may_refuse c.args.turns) _ _ ended in
           let same = length-map c.in_ok-disks.disks.items (λ (e : DiskEnd Unit). e.station) in omega (arith, few, long, same));
-      tied = all_tied (λ (e : DiskEnd Unit). e.station) (Ended g.G.Gate.may_refuse) (λ w e r. r.0) _ _ _ _ c.requires.tied ended links.ports;
+      tied = all_tied (λ (e : DiskEnd Unit). e.station) (Ended g.G.Gate.may_refuse c.args.turns) (λ w e r. r.0) _ _ _ _ c.requires.tied ended links.ports;
       up = ap (λ (x : LinkEnd). x.link) links.host ∙ c.requires.up ∙ sym (ap (λ (x : HostLinkEnd). x.link) same.frames);
       down = ap (λ (x : HostLinkEnd). x.link) same.commands ∙ c.requires.down ∙ sym (ap (λ (x : LinkEnd). x.link) links.commands);
     }
 
 pub returns-clause-disks : goal.returns-clause-disks
 returns-clause-disks g c =
-    let ended : AllZip (Ended g.G.Gate.may_refuse) c.args.workers.items c.in_ok-disks.disks.items = search rules in
+    let ended : AllZip (Ended g.G.Gate.may_refuse c.args.turns) c.args.workers.items c.in_ok-disks.disks.items = search rules in
     on_ok c.finished.result (All (λ (e : DiskEnd Unit). e.fault ≡ None) c.in_ok-disks.disks.items)
     (λ (f : Ends). f.disks ≡ map (λ (e : DiskEnd Unit). e.station) c.in_ok-disks.disks.items)
     (λ (f : Ends). AllGoOn c.args.workers.items f.disks) c.finished.ensures.disks c.finished.ensures.no_fault
     (λ f is none pulls units ran. subst (AllZip (RanWith pulls) units) (sym is)
-    (all_ran (λ (e : DiskEnd Unit). e.station) (Ended g.G.Gate.may_refuse) (λ (e : DiskEnd Unit). e.fault) (RanWith pulls) (still_ran g.G.Gate.may_refuse pulls)
+    (all_ran (λ (e : DiskEnd Unit). e.station) (Ended g.G.Gate.may_refuse c.args.turns) (λ (e : DiskEnd Unit). e.fault) (RanWith pulls) (still_ran g.G.Gate.may_refuse c.args.turns pulls)
     units _ _ ran ended none))
 
 pub returns-clause-ports : goal.returns-clause-ports
 returns-clause-ports g c =
-    let ended : AllZip (Ended g.G.Gate.may_refuse) c.args.workers.items c.in_ok-disks.disks.items = search rules in
+    let ended : AllZip (Ended g.G.Gate.may_refuse c.args.turns) c.args.workers.items c.in_ok-disks.disks.items = search rules in
     if_ok c.finished.result (λ (f : Ends). f.disks ≡ map (λ (e : DiskEnd Unit). e.station) c.in_ok-disks.disks.items)
     (λ (f : Ends). map (λ (s : StationState Unit). s.port) f.disks ≡ map (λ (s : StationState Unit). s.port) c.args.workers.items) c.finished.ensures.disks
     (λ f is. ap (map (λ (s : StationState Unit). s.port)) is
-    ∙ all_at_ports (λ (e : DiskEnd Unit). e.station) (Ended g.G.Gate.may_refuse) (λ w e r. r.0) c.args.workers.items c.in_ok-disks.disks.items ended)
+    ∙ all_at_ports (λ (e : DiskEnd Unit). e.station) (Ended g.G.Gate.may_refuse c.args.turns) (λ w e r. r.0) c.args.workers.items c.in_ok-disks.disks.items ended)
 
 pub returns-clause-gate : goal.returns-clause-gate
 returns-clause-gate g c shut =
-    let ended : AllZip (Ended g.G.Gate.may_refuse) c.args.workers.items c.in_ok-disks.disks.items = search rules in
-    one_refused (λ (e : DiskEnd Unit). e.fault) (Ended g.G.Gate.may_refuse) g.G.Gate.may_refuse (λ w e r is. r.2 is)
+    let ended : AllZip (Ended g.G.Gate.may_refuse c.args.turns) c.args.workers.items c.in_ok-disks.disks.items = search rules in
+    one_refused (λ (e : DiskEnd Unit). e.fault) (Ended g.G.Gate.may_refuse c.args.turns) g.G.Gate.may_refuse (λ w e r is. r.2 is)
     c.args.workers.items c.in_ok-disks.disks.items ended (c.finished.ensures.gate shut)
 
 pub returns-clause-turns : goal.returns-clause-turns
 returns-clause-turns g c units pulls start ran hosted spent =
-    let ended : AllZip (Ended g.G.Gate.may_refuse) c.args.workers.items c.in_ok-disks.disks.items = search rules in
-    let goes : GoesOn c.args.host c.in_ok-disks.host = search rules in
-    let same : Same c.args.host c.in_ok-disks.host = search rules in
+    let ended : AllZip (Ended g.G.Gate.may_refuse c.args.turns) c.args.workers.items c.in_ok-disks.disks.items = search rules in
+    let goes : GoesOn c.args.host c.in_ok-disks.host.worker = search rules in
+    let same : Same c.args.host c.in_ok-disks.host.worker = search rules in
     record {
       disks = map (λ (e : DiskEnd Unit). e.station) c.in_ok-disks.disks.items;
-      ran = all_ran (λ (e : DiskEnd Unit). e.station) (Ended g.G.Gate.may_refuse) (λ (e : DiskEnd Unit). e.fault) (RanWith pulls)
-          (still_ran g.G.Gate.may_refuse pulls) units _ _ ran ended (c.finished.ensures.quiet spent);
-      host = c.in_ok-disks.host;
+      ran = all_ran (λ (e : DiskEnd Unit). e.station) (Ended g.G.Gate.may_refuse c.args.turns) (λ (e : DiskEnd Unit). e.fault) (RanWith pulls)
+          (still_ran g.G.Gate.may_refuse c.args.turns pulls) units _ _ ran ended (c.finished.ensures.quiet spent);
+      host = c.in_ok-disks.host.worker;
       hosted = goes start hosted;
       plan_is = same.plan;
       open_is = c.finished.ensures.open spent;

@@ -16,7 +16,7 @@ returns-clause-run g c due opening r =
     let taken : c.take.new.self.taken ≡ c.self.inside.commands.taken ++ f ∷ [] = search rules in
     elim c.else-stamp-self.branch [
       | else-stamp-self-via-then-stamp-self+else-is_err-2 w ↦
-          let ok : GoesOn d.plan_of d.stands_for c.self.inside.unit (Received f.bytes) w.on_frame.new.self = search rules in
+          let ok : GoesOn d.plan_of d.stands_for c.self.inside.unit (Received f.bytes) w.hear.new.unit = search rules in
           let of_conn : (f.stamp.conn == c.self.inside.conn) ≡ true = search rules in
           rw w.self-is (run_heard d.plan_of d.stands_for d.may_send due opening _ _ f ok in_place of_conn refl refl taken refl refl refl was)
       | else-stamp-self-via-else-stamp-self w ↦

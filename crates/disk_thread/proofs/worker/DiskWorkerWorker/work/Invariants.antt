@@ -4,4 +4,5 @@ use Rattle.disk_thread.proofs.worker.DiskWorkerWorker.work.Given as goal
 
 abbrev pub invariant-loop : goal.invariant-loop
 invariant-loop g l =
-    IsAtSamePort l.fn.self l.self × GoesOnRunning g.D.Device.plan_of g.D.Device.stands_for g.D.Device.may_send l.fn.self l.self × (l.fault ≡ None)
+    IsAtSamePort l.fn.self l.self × GoesOnRunning g.D.Device.plan_of g.D.Device.stands_for g.D.Device.may_send l.fn.self l.self
+    × (l.fault ≡ None) × (l.post.turns ≡ l.fn.post.turns)

@@ -3,8 +3,9 @@ use Rattle.std.proofs.lemmas.List.{length-replicate}
 use Rattle.multiplier.specs.Orders.{InStampedOrder}
 use Rattle.link_items.specs.Beginnings.{stamped_starts}
 use Rattle.host_thread.specs.declared.plan.State.TheVariants.{Waits}
-use Rattle.host_thread.specs.Runs.{AreGiven, starting}
+use Rattle.host_thread.specs.Runs.{AreGiven, count_submitted, starting}
 use Rattle.host_thread.specs.Tally.{AreCounted}
+use Rattle.host_thread.proofs.Counting.{none_submitted}
 use Rattle.host_thread.proofs.Requests.{none_given}
 use Rattle.host_thread.proofs.Tallies.{none_counted}
 use Rattle.host_thread.proofs.Steps.{begins}
@@ -13,13 +14,14 @@ use Rattle.host_thread.proofs.worker.HostWorker.new.Goals as goal
 pub invariant_of-result : goal.invariant_of-result
 invariant_of-result c =
     let states : c.in_ok-states.states.items ≡ replicate (length c.args.plan.items) Waits = search rules in
-    let rows : c.new-2.result.items ≡ [] = search rules in (
+    let rows : c.new-3.result.items ≡ [] = search rules in (
       record {
         order = subst InStampedOrder (sym c.requires.up) stamped_starts;
         all = ap length states ∙ length-replicate _ _;
       },
       subst (λ l. AreCounted l c.args.frames.taken) (sym rows) (subst (AreCounted []) (sym c.requires.up) none_counted),
       subst (AreGiven 0) (sym states) (none_given (length c.args.plan.items)),
+      subst (λ l. 0 ≡ count_submitted l) (sym states) (none_submitted (length c.args.plan.items)),
     )
 
 pub returns-clause-run : goal.returns-clause-run

@@ -1,5 +1,7 @@
+use Rattle.std.proofs.Common.{◌≡◌}
 use Rattle.host_thread.specs.Runs.{GoesOn, Same}
 use Rattle.host_thread.proofs.worker.HostWorkerWorker.work.Given as goal
 
 abbrev pub invariant-loop : goal.invariant-loop
-invariant-loop g l = record { run : GoesOn l.initial.self l.self; same : Same l.initial.self l.self }
+invariant-loop g l =
+    record { run : GoesOn l.initial.self l.self; same : Same l.initial.self l.self; turns : l.post.turns ≡ l.initial.post.turns }

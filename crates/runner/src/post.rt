@@ -1,0 +1,149 @@
+//! The place of one worker in a run, and how it waits there.
+
+ghost use Rattle.std.specs.Prelude.{◌≡◌, ◌+◌, ◌<◌, ◌≤◌, true, IfNone, IfSome};
+
+use crate::signals::{Signals, Who};
+use std::marker::Model;
+use std::sync::Wait;
+use std::thread;
+
+/// In so many turns in a row a worker may move nothing before it sleeps.
+const WAKEFUL_TURNS: u64 = 256;
+
+/// A sleep that nothing ended counts for so many turns. So many of a worker that is awake last about as long.
+const TURNS_OF_A_NAP: u64 = 16_384;
+
+/// The place of one worker in a run. It counts the turns in a row in which nothing moved, neither at this place nor at any
+/// other of the run: once they are as many as there may be, the turns are spent.
+#[derive(Drop)]
+pub struct Post<'a> {
+    signals: &'a Signals,
+    who: Who,
+    /// How many turns in a row there may be in which nothing moves.
+    turns: u64,
+    /// In how many turns in a row nothing moved.
+    still: u64,
+    /// In how many turns in a row this worker moved nothing, since it was woken last.
+    idle: u64,
+    /// How often something had moved in the run, when that was looked at last.
+    moves: u64,
+    /// How often this worker was rung for, before its turn began.
+    rings: u64,
+}
+
+impl<'a> Model for Post<'a> {
+    ghost use Rattle.runner.specs.Posts.{PostState};
+
+    ghost Value = { PostState };
+
+    ghost view = { λ p. record { turns = p.turns; still = p.still } };
+}
+
+/// That the turns of a worker are spent: in so many in a row nothing moved. Only a [`Post`] makes one.
+#[derive(Clone, Copy, Debug, PartialEq, Eq)]
+pub struct Spent {
+    turns: u64,
+    still: u64,
+}
+
+impl Model for Spent {
+    ghost use Rattle.std.specs.Prelude.{◌≤◌};
+    ghost use Rattle.runner.specs.Posts.{PostState};
+
+    ghost Value = { PostState };
+
+    ghost view = { λ s. record { turns = s.turns; still = s.still } };
+
+    ghost inverse = { λ v. record { turns = v.turns; still = v.still } };
+
+    ghost invariant = { λ s. s.turns ≤ s.still };
+}
+
+impl<'a> Post<'a> {
+    /// The place of this worker, at which so many turns in a row may pass in which nothing moves. None has.
+    pub fn new(signals: &'a Signals, who: Who, turns: u64) -> Post<'a>
+        ensures turns { result.turns ≡ turns }
+        ensures still { result.still ≡ 0 }
+    {
+        Post {
+            signals,
+            who,
+            turns,
+            still: 0,
+            idle: 0,
+            moves: 0,
+            rings: 0,
+        }
+    }
+
+    /// Whether the worker has one more turn: the run has not been ended. What it is rung for from now on keeps it awake.
+    pub fn begins(&mut self) -> bool
+        ensures { self.new ≡ self.old }
+    {
+        self.rings = self.signals.rings(self.who);
+        !self.signals.are_over()
+    }
+
+    /// That the turns are spent; None as long as they are not.
+    pub fn spent(&self) -> Option<Spent>
+        ensures spent { IfSome result (λ spent. spent ≡ self.now) }
+        ensures none { IfNone result (self.now.still < self.now.turns) }
+    {
+        if self.still < self.turns {
+            return None;
+        }
+        Some(Spent {
+            turns: self.turns,
+            still: self.still,
+        })
+    }
+
+    /// Ends a turn in which the worker moved something, or did not. After some of the second kind it sleeps, until it is
+    /// rung for or some milliseconds are over.
+    pub fn turned<R: Wait>(&mut self, rt: &R, moved: bool)
+        ensures turns { self.new.turns ≡ self.old.turns }
+        ensures moved { moved ≡ true → self.new.still ≡ 0 }
+        ensures grows { self.new.still ≤ self.old.still + 16384 }
+    {
+        if moved {
+            self.moves = self.signals.count_move();
+            self.still = 0;
+            self.idle = 0;
+            return;
+        }
+        let passed = self.rest(rt);
+        let moves = self.signals.moves();
+        self.still = if moves == self.moves {
+            self.still.saturating_add(passed)
+        } else {
+            0
+        };
+        self.moves = moves;
+    }
+
+    /// Gives way to others, and says for how many turns that counts.
+    fn rest<R: Wait>(&mut self, rt: &R) -> u64
+        ensures same { self.new ≡ self.old }
+        ensures few { result ≤ 16384 }
+    {
+        if self.idle < WAKEFUL_TURNS {
+            self.idle += 1;
+            thread::yield_now();
+            return 1;
+        }
+        if self.signals.sleep(rt, self.who, self.rings) {
+            self.idle = 0;
+        }
+        TURNS_OF_A_NAP
+    }
+
+    /// Wakes another worker of the run, which may have something to do.
+    pub fn ring(&self, who: Who) {
+        self.signals.ring(who);
+    }
+
+    /// Has all workers of the run end.
+    pub fn end(&self) {
+        self.signals.end();
+    }
+}
