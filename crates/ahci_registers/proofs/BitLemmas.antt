@@ -1,0 +1,77 @@
+-- Dwords as sets of bits: what an addition and a clear keep and take.
+use Rattle.std.proofs.Common.{◌≡◌, ℕ, ◌-◌, ◌^◌, ◌<◌, min, max, false, sym, ap, ◌∙◌, arith, w32, bit_and, bit_or}
+use Rattle.std.specs.Prelude.{◌==◌}
+use Rattle.std.specs.Int.{bit_at}
+use Rattle.std.proofs.lemmas.Bool.{ne_eqb, eq-eqb, true≢false}
+use Rattle.std.proofs.lemmas.Nat.{and_le_r, and_or_self, and_or_apart}
+use Rattle.std.proofs.lemmas.Nat.Bits.{bit_at-lt, bit_at-zero, bit_at_and, bit_at_or, bit_at_not, same_from_bits, same_from_bits_below}
+use Rattle.ahci_registers.specs.Bits.{without, clearable, known, shadows}
+
+or_bit : (p x r : ℕ) → min p r ≡ r → min (max p x) r ≡ r
+or_bit p x r h = omega (arith, h)
+
+kept_bit : (p q r : ℕ) → p < 2 → q < 2 → r < 2 → min p r ≡ r → min r q ≡ 0 → min (min p (1 - q)) r ≡ r
+kept_bit p q r a b c h k = omega (arith, h, k)
+
+taken_bit : (p q : ℕ) → q < 2 → min (min p (1 - q)) q ≡ 0
+taken_bit p q b = omega arith
+
+shared_bit : (p q r : ℕ) → min p r ≡ r → min p q ≡ 0 → min r q ≡ 0
+shared_bit p q r h k = omega (arith, h, k)
+
+-- the bits of an equation of two sets
+each : (x y z i : ℕ) → bit_and x y ≡ z → min (bit_at x i) (bit_at y i) ≡ bit_at z i
+each x y z i h = sym (bit_at_and x y i) ∙ ap (λ (n : ℕ). bit_at n i) h
+
+-- what is added takes nothing
+pub or_keeps : (s x b : ℕ) → bit_and s b ≡ b → bit_and (bit_or s x) b ≡ b
+or_keeps s x b h = same_from_bits (bit_and (bit_or s x) b) b (λ i.
+    bit_at_and (bit_or s x) b i ∙ ap (λ (n : ℕ). min n (bit_at b i)) (bit_at_or s x i)
+    ∙ or_bit (bit_at s i) (bit_at x i) (bit_at b i) (each s b b i h))
+
+-- and it stands
+pub or_adds : (s b k : ℕ) → bit_and b k ≡ b → bit_and (bit_or s (bit_and b k)) b ≡ b
+or_adds s b k h = ap (λ (x : ℕ). bit_and (bit_or s x) b) h ∙ and_or_self b s
+
+-- a bit of what is left without y
+left_bit : (s y i : ℕ) → y < 2 ^ 32 → i < 32 → bit_at (without s y) i ≡ min (bit_at s i) (1 - bit_at y i)
+left_bit s y i fits below = bit_at_and s (4294967295 - y) i ∙ ap (λ (n : ℕ). min (bit_at s i) n) (bit_at_not w32 y i fits below)
+
+-- a clear takes nothing but what it names
+pub without_keeps : (s y b : ℕ) → y < 2 ^ 32 → b < 2 ^ 32 → bit_and s b ≡ b → bit_and b y ≡ 0 → bit_and (without s y) b ≡ b
+without_keeps s y b fits small h k =
+    let low : bit_and (without s y) b < 2 ^ 32 = omega (arith, and_le_r (without s y) b) in
+    same_from_bits_below 32 (bit_and (without s y) b) b low small (λ i below.
+    bit_at_and (without s y) b i ∙ ap (λ (n : ℕ). min n (bit_at b i)) (left_bit s y i fits below)
+    ∙ kept_bit (bit_at s i) (bit_at y i) (bit_at b i) (bit_at-lt s i) (bit_at-lt y i) (bit_at-lt b i) (each s b b i h) (each b y 0 i k ∙ bit_at-zero i))
+
+-- and it takes that
+pub without_takes : (s y : ℕ) → y < 2 ^ 32 → bit_and (without s y) y ≡ 0
+without_takes s y fits =
+    let low : bit_and (without s y) y < 2 ^ 32 = omega (arith, and_le_r (without s y) y) in
+    same_from_bits_below 32 (bit_and (without s y) y) 0 low (omega arith) (λ i below.
+    bit_at_and (without s y) y i ∙ ap (λ (n : ℕ). min n (bit_at y i)) (left_bit s y i fits below)
+    ∙ taken_bit (bit_at s i) (bit_at y i) (bit_at-lt y i) ∙ sym (bit_at-zero i))
+
+-- where bits stand, what shares none with all shares none with them
+shared : (s b m : ℕ) → bit_and s b ≡ b → bit_and s m ≡ 0 → bit_and b m ≡ 0
+shared s b m h k = same_from_bits (bit_and b m) 0 (λ i.
+    bit_at_and b m i ∙ shared_bit (bit_at s i) (bit_at m i) (bit_at b i) (each s b b i h) (each s m 0 i k ∙ bit_at-zero i)
+    ∙ sym (bit_at-zero i))
+
+pub still_shares : (s b m : ℕ) → bit_and s b ≡ b → (bit_and b m == 0) ≡ false → (bit_and s m == 0) ≡ false
+still_shares s b m h some = ne_eqb (bit_and s m) 0 (λ z. true≢false (sym (eq-eqb (bit_and b m) 0 (shared s b m h z)) ∙ some))
+
+-- what is added shares something where the two together do and the old ones do not
+pub new_shares : (s x m : ℕ) → bit_and s m ≡ 0 → (bit_and (bit_or s x) m == 0) ≡ false → (bit_and x m == 0) ≡ false
+new_shares s x m none some = ne_eqb (bit_and x m) 0 (λ z. true≢false (sym (eq-eqb (bit_and (bit_or s x) m) 0 (and_or_apart m s x z ∙ none)) ∙ some))
+
+-- the bits that writes name are bits of a dword
+pub causes_fit : (b : ℕ) → bit_and b known ≡ b → b < 2 ^ 32
+causes_fit b h = omega (arith, h, and_le_r b known)
+
+pub clearable_fits : (v : ℕ) → bit_and v clearable < 2 ^ 32
+clearable_fits v = omega (arith, and_le_r v clearable)
+
+pub shadows_fit : (v : ℕ) → shadows v < 2 ^ 32
+shadows_fit v = omega (arith, bit_at-lt v 25, bit_at-lt v 26, bit_at-lt v 16)

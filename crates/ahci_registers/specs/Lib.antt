@@ -1,0 +1,5 @@
+pub mod Offsets
+pub mod Fixed
+pub mod Bits
+pub mod Lines
+pub mod Laws
