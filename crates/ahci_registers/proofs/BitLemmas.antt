@@ -3,7 +3,8 @@ use Rattle.std.proofs.Common.{◌≡◌, ℕ, ◌-◌, ◌^◌, ◌<◌, min, ma
 use Rattle.std.specs.Prelude.{◌==◌}
 use Rattle.std.specs.Int.{bit_at}
 use Rattle.std.proofs.lemmas.Bool.{ne_eqb, eq-eqb, true≢false}
-use Rattle.std.proofs.lemmas.Nat.{and_le_r, and_or_self, and_or_apart}
+use Rattle.std.specs.Int.Bits.{and_self}
+use Rattle.std.proofs.lemmas.Nat.{and_assoc, and_le_r, and_or_self, and_or_apart}
 use Rattle.std.proofs.lemmas.Nat.Bits.{bit_at-lt, bit_at-zero, bit_at_and, bit_at_or, bit_at_not, same_from_bits, same_from_bits_below}
 use Rattle.ahci_registers.specs.Bits.{without, clearable, known, shadows}
 
@@ -65,6 +66,38 @@ still_shares s b m h some = ne_eqb (bit_and s m) 0 (λ z. true≢false (sym (eq-
 -- what is added shares something where the two together do and the old ones do not
 pub new_shares : (s x m : ℕ) → bit_and s m ≡ 0 → (bit_and (bit_or s x) m == 0) ≡ false → (bit_and x m == 0) ≡ false
 new_shares s x m none some = ne_eqb (bit_and x m) 0 (λ z. true≢false (sym (eq-eqb (bit_and (bit_or s x) m) 0 (and_or_apart m s x z ∙ none)) ∙ some))
+
+both_bit : (p q r : ℕ) → min p r ≡ p → min q r ≡ q → min (max p q) r ≡ max p q
+both_bit p q r h k = omega (arith, h, k)
+
+less_bit : (p q r : ℕ) → min p r ≡ p → min (min p q) r ≡ min p q
+less_bit p q r h = omega (arith, h)
+
+-- two parts of k together are a part of it
+pub or_within : (x y k : ℕ) → bit_and x k ≡ x → bit_and y k ≡ y → bit_and (bit_or x y) k ≡ bit_or x y
+or_within x y k h g = same_from_bits (bit_and (bit_or x y) k) (bit_or x y) (λ i.
+    bit_at_and (bit_or x y) k i ∙ ap (λ (n : ℕ). min n (bit_at k i)) (bit_at_or x y i)
+    ∙ both_bit (bit_at x i) (bit_at y i) (bit_at k i) (each x k x i h) (each y k y i g) ∙ sym (bit_at_or x y i))
+
+-- and so is what is left of one
+pub and_within : (x y k : ℕ) → bit_and x k ≡ x → bit_and (bit_and x y) k ≡ bit_and x y
+and_within x y k h = same_from_bits (bit_and (bit_and x y) k) (bit_and x y) (λ i.
+    bit_at_and (bit_and x y) k i ∙ ap (λ (n : ℕ). min n (bit_at k i)) (bit_at_and x y i)
+    ∙ less_bit (bit_at x i) (bit_at y i) (bit_at k i) (each x k x i h) ∙ sym (bit_at_and x y i))
+
+-- what is cut to k is a part of it
+pub cut_within : (x k : ℕ) → bit_and (bit_and x k) k ≡ bit_and x k
+cut_within x k = and_assoc k x k ∙ ap (bit_and x) (and_self k)
+
+none_bit : (b e v c : ℕ) → min b e ≡ b → min e c ≡ 0 → min b (min v c) ≡ 0
+none_bit b e v c h k = omega (arith, h, k)
+
+-- a part of e shares nothing with a part of c where these two share nothing
+pub parts_apart : (b e v c : ℕ) → bit_and b e ≡ b → bit_and e c ≡ 0 → bit_and b (bit_and v c) ≡ 0
+parts_apart b e v c h k = same_from_bits (bit_and b (bit_and v c)) 0 (λ i.
+    bit_at_and b (bit_and v c) i ∙ ap (λ (n : ℕ). min (bit_at b i) n) (bit_at_and v c i)
+    ∙ none_bit (bit_at b i) (bit_at e i) (bit_at v i) (bit_at c i) (each b e b i h) (each e c 0 i k ∙ bit_at-zero i)
+    ∙ sym (bit_at-zero i))
 
 -- the bits that writes name are bits of a dword
 pub causes_fit : (b : ℕ) → bit_and b known ≡ b → b < 2 ^ 32

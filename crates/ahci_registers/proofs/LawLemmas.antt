@@ -1,13 +1,14 @@
 -- The laws of interrupts: one step, then lists of events.
-use Rattle.std.proofs.Common.{◌≡◌, ℕ, Bool, true, false, not, ◌&&◌, refl, sym, ap, ◌∙◌, bit_and, bit_or, subst}
+use Rattle.std.proofs.Common.{◌≡◌, ℕ, ◌+◌, ◌-◌, ◌^◌, ◌<◌, Bool, true, false, not, ◌&&◌, refl, sym, ap, ◌∙◌, arith, bit_and, bit_or, subst}
 use Rattle.std.specs.Prelude.{◌==◌, ◌||◌, if◌then◌else◌, List, [], ◌∷◌}
 use Rattle.std.proofs.lemmas.Bool.{eqb-true, true≢false, false≢true}
-use Rattle.ahci_registers.specs.Bits.{has_bit, clearable, known, shadows}
+use Rattle.std.proofs.lemmas.Nat.{and_le_r}
+use Rattle.ahci_registers.specs.Bits.{has_bit, ufs, pcs, prcs, clearable, known, shadows}
 use Rattle.ahci_registers.specs.Lines.{LineEvent, after, asks, is_due, line, opening_lines}
 use Rattle.ahci_registers.specs.Lines.LineEvent.{Caused, WrotePortStatus, WrotePortMask, WroteStatus, WroteGlobal, WroteError}
-use Rattle.ahci_registers.specs.Laws.{after_all, is_told, Keeps, AllKeep, AreCauses, Stand, StandsUntilTaken, IsRaisedUntilTaken, NothingIsLostBetween, TakesOnlyOnes, TakesOnes, IsDueAtACause, RisesByAMessage, IsToldAgain}
+use Rattle.ahci_registers.specs.Laws.{after_all, is_told, Keeps, AllKeep, AreCauses, Stand, StandsUntilTaken, ErrorsStand, IsRaisedUntilTaken, NothingIsLostBetween, TakesOnlyOnes, TakesOnes, IsDueAtACause, RisesByAMessage, IsToldAgain, ShowKnown, ReservedReadZero}
 use Rattle.ahci_registers.specs.declared.lines.Lines.{Lines}
-use Rattle.ahci_registers.proofs.BitLemmas.{or_keeps, or_adds, without_keeps, without_takes, still_shares, new_shares, causes_fit, clearable_fits, shadows_fit}
+use Rattle.ahci_registers.proofs.BitLemmas.{or_keeps, or_adds, without_keeps, without_takes, still_shares, new_shares, parts_apart, or_within, and_within, cut_within, causes_fit, clearable_fits, shadows_fit}
 
 -- ---- causes stand
 
@@ -43,6 +44,34 @@ between l bits events are keep unread = step_keeps (after_all (after l (Caused b
 pub taken : TakesOnes
 unfolding after
 taken l value = (without_takes l.status (bit_and value clearable) (clearable_fits value), without_takes l.status (shadows value) (shadows_fit value))
+
+errors_fit : (bits : ℕ) → bit_and bits (ufs + pcs + prcs) ≡ bits → bits < 2 ^ 32
+errors_fit bits h = omega (arith, h, and_le_r bits (ufs + pcs + prcs))
+
+pub errors : ErrorsStand
+unfolding after
+errors l bits value own stand = without_keeps l.status (bit_and value clearable) bits (clearable_fits value) (errors_fit bits own) stand
+    (parts_apart bits (ufs + pcs + prcs) value clearable own refl)
+
+-- ---- reserved bits
+
+unreset_known : (b : Bool) (m : Lines) → ShowKnown m → ShowKnown (if b then opening_lines else m)
+unreset_known true m shows = record { status = refl; mask = refl }
+unreset_known false m shows = shows
+
+step_known : (l : Lines) (event : LineEvent) → ShowKnown l → ShowKnown (after l event)
+unfolding after
+step_known l (Caused bits) shows = record { status = or_within l.status (bit_and bits known) known shows.status (cut_within bits known); mask = shows.mask }
+step_known l (WrotePortStatus value) shows = record { status = and_within l.status (4294967295 - bit_and value clearable) known shows.status; mask = shows.mask }
+step_known l (WrotePortMask value) shows = record { status = shows.status; mask = cut_within value known }
+step_known l (WroteStatus value) shows = shows
+step_known l (WroteGlobal value) shows = unreset_known (has_bit value 0) (record l { enabled = has_bit value 1 }) (record { status = shows.status; mask = shows.mask })
+step_known l (WroteError value) shows = record { status = and_within l.status (4294967295 - shadows value) known shows.status; mask = shows.mask }
+
+pub reserved : ReservedReadZero
+unfolding after_all
+reserved l [] shows = shows
+reserved l (event ∷ events) shows = reserved (after l event) events (step_known l event shows)
 
 -- ---- the line
 

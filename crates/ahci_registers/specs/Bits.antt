@@ -31,7 +31,8 @@ prcs = 2 ^ 22
 -- the bits that are kept in PxIS and that ones clear: DHRS 0, PSS 1, DSS 2, SDBS 3, DPS 5, IPMS 23, OFS 24,
 -- INFS 26, IFS 27, HBDS 28, HBFS 29 and TFES 30
 abbrev pub clearable : ℕ
-clearable = 2 ^ 0 + 2 ^ 1 + 2 ^ 2 + 2 ^ 3 + 2 ^ 5 + 2 ^ 23 + 2 ^ 24 + 2 ^ 26 + 2 ^ 27 + 2 ^ 28 + 2 ^ 29 + 2 ^ 30
+clearable = 2 ^ 0 + 2 ^ 1 + 2 ^ 2 + 2 ^ 3 + 2 ^ 5
+    + 2 ^ 23 + 2 ^ 24 + 2 ^ 26 + 2 ^ 27 + 2 ^ 28 + 2 ^ 29 + 2 ^ 30
 
 -- all bits of PxIS: these, and the three that show bits of PxSERR
 abbrev pub known : ℕ

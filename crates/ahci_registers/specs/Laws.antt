@@ -1,7 +1,7 @@
--- What is true of interrupts over any list of events, for whoever serves them by the line or by messages: AHCI
--- 1.3.1, section 10.7 (Interrupts).
-use Rattle.std.specs.Prelude.{◌≡◌, ℕ, ◌==◌, ◌||◌, Bool, true, false, bit_and, List, [], ◌∷◌}
-use Rattle.ahci_registers.specs.Bits.{has_bit, clearable, known, shadows}
+-- What is true of interrupts over any list of events, for whoever serves them by the line or by messages:
+-- AHCI 1.3.1, section 10.7 (Interrupts).
+use Rattle.std.specs.Prelude.{◌≡◌, ℕ, ◌+◌, ◌==◌, ◌||◌, Bool, true, false, bit_and, List, [], ◌∷◌}
+use Rattle.ahci_registers.specs.Bits.{has_bit, ufs, pcs, prcs, clearable, known, shadows}
 use Rattle.ahci_registers.specs.Lines.{LineEvent, after, is_due, line}
 use Rattle.ahci_registers.specs.Lines.LineEvent.{Caused, WrotePortStatus, WroteStatus}
 use Rattle.ahci_registers.specs.Lines.LineEvent.{WroteGlobal, WroteError}
@@ -49,8 +49,8 @@ IsRaisedUntilTaken =
     → (last : Lines) → last ≡ after_all (after l (Caused bits)) events → last.enabled ≡ true
     → (bit_and bits last.mask == 0) ≡ false → line last ≡ true
 
--- Nothing is lost between a clear and a new cause: of the bits that come after PxIS was read, those that were not
--- read stand when what was read is written back, whatever comes between that takes none of them.
+-- Nothing is lost between a clear and a new cause: of the bits that come after PxIS was read, those that were
+-- not read stand when what was read is written back, whatever comes between that takes none of them.
 abbrev pub NothingIsLostBetween : Type 0
 NothingIsLostBetween =
     (l : Lines) (bits : ℕ) (events : List LineEvent) → AreCauses bits → AllKeep bits events
@@ -70,6 +70,12 @@ TakesOnes =
     → (bit_and (after l (WrotePortStatus value)).status (bit_and value clearable) ≡ 0)
     × (bit_and (after l (WroteError value)).status (shadows value) ≡ 0)
 
+-- What shows PxSERR stands, whatever is written to PxIS.
+abbrev pub ErrorsStand : Type 0
+ErrorsStand =
+    (l : Lines) (bits value : ℕ) → bit_and bits (ufs + pcs + prcs) ≡ bits → Stand bits l
+    → Stand bits (after l (WrotePortStatus value))
+
 -- A message is due at each cause that is enabled.
 abbrev pub IsDueAtACause : Type 0
 IsDueAtACause =
@@ -82,9 +88,18 @@ RisesByAMessage =
     (l : Lines) (events : List LineEvent) → line l ≡ false → line (after_all l events) ≡ true
     → is_told l events ≡ true
 
--- Whoever serves messages, and ends by a write of a one to IS, waits in vain for none: where the line is raised
--- at some time from that write on, a message was due at it or since.
+-- Whoever serves messages, and ends by a write of a one to IS, waits in vain for none: where the line is
+-- raised at some time from that write on, a message was due at it or since.
 abbrev pub IsToldAgain : Type 0
 IsToldAgain =
     (l : Lines) (value : ℕ) (events : List LineEvent) → has_bit value 0 ≡ true
     → line (after_all l events) ≡ true → is_told l (WroteStatus value ∷ events) ≡ true
+
+-- these registers have no bit that PxIS has not
+pub record ShowKnown (l : Lines) : Type 0 where
+  pub status : bit_and l.status known ≡ l.status
+  pub mask : bit_and l.mask known ≡ l.mask
+
+-- Reserved bits of PxIS and PxIE, and those of what is not there, read 0.
+abbrev pub ReservedReadZero : Type 0
+ReservedReadZero = (l : Lines) (events : List LineEvent) → ShowKnown l → ShowKnown (after_all l events)

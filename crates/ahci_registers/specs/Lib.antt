@@ -3,3 +3,5 @@ pub mod Fixed
 pub mod Bits
 pub mod Lines
 pub mod Laws
+pub mod Link
+pub mod LinkLaws

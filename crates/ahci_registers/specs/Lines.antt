@@ -44,8 +44,8 @@ pub data LineEvent : Type 0 where
   WroteGlobal : (value : ℕ) → LineEvent
   WroteError : (value : ℕ) → LineEvent
 
--- Causes are added. Ones written to PxIS take bits, but not those that show PxSERR; ones written to PxSERR take
--- these. A write of IS takes nothing: its bit is computed. GHC.HR is bit 0, GHC.IE bit 1.
+-- Causes are added. Ones written to PxIS take bits, but not those that show PxSERR; ones written to PxSERR
+-- take these. A write of IS takes nothing: its bit is computed. GHC.HR is bit 0, GHC.IE bit 1.
 unfoldable pub after : Lines → LineEvent → Lines
 after l (Caused bits) = record l { status = bit_or l.status (bit_and bits known) }
 after l (WrotePortStatus value) = record l { status = without l.status (bit_and value clearable) }
@@ -55,8 +55,8 @@ after l (WroteGlobal value) =
     if has_bit value 0 then opening_lines else record l { enabled = has_bit value 1 }
 after l (WroteError value) = record l { status = without l.status (shadows value) }
 
--- The event asks for a message: a cause that is enabled, a write of a one to the port's bit of IS (which takes
--- the bit back while the port may still pend), and each other event that raises the line.
+-- The event asks for a message: a cause that is enabled, a write of a one to the port's bit of IS (which
+-- takes the bit back while the port may still pend), and each other event that raises the line.
 unfoldable pub asks : Lines → LineEvent → Bool
 asks l (Caused bits) = not (bit_and (bit_and bits known) l.mask == 0)
 asks l (WroteStatus value) = has_bit value 0

@@ -9,12 +9,14 @@
 mod global;
 mod laws;
 mod lines;
+mod link;
 mod port;
 mod register;
 mod shadows;
 
 pub use global::{Capabilities, GlobalControl};
-pub use laws::interrupts_follow_events;
+pub use laws::{interrupts_follow_events, link_follows_writes};
 pub use lines::{GlobalWrite, Lines};
+pub use link::{Detected, Effect, LinkAction, LinkControl, LinkWrite};
 pub use port::{PortCommand, PortInterrupts, SataError};
 pub use register::Register;
