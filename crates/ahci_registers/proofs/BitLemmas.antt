@@ -1,10 +1,10 @@
 -- Dwords as sets of bits: what an addition and a clear keep and take.
-use Rattle.std.proofs.Common.{◌≡◌, ℕ, ◌-◌, ◌^◌, ◌<◌, min, max, false, sym, ap, ◌∙◌, arith, w32, bit_and, bit_or}
+use Rattle.std.proofs.Common.{◌≡◌, ℕ, ◌-◌, ◌^◌, ◌<◌, min, max, true, false, sym, ap, ◌∙◌, arith, w32, bit_and, bit_or}
 use Rattle.std.specs.Prelude.{◌==◌}
 use Rattle.std.specs.Int.{bit_at}
-use Rattle.std.proofs.lemmas.Bool.{ne_eqb, eq-eqb, true≢false}
-use Rattle.std.specs.Int.Bits.{and_self}
-use Rattle.std.proofs.lemmas.Nat.{and_assoc, and_le_r, and_or_self, and_or_apart}
+use Rattle.std.proofs.lemmas.Bool.{eqb-true, ne_eqb, eq-eqb, true≢false}
+use Rattle.std.specs.Int.Bits.{and_self, and_zero_r}
+use Rattle.std.proofs.lemmas.Nat.{and_assoc, and_comm, and_le_r, and_or_self, and_or_apart}
 use Rattle.std.proofs.lemmas.Nat.Bits.{bit_at-lt, bit_at-zero, bit_at_and, bit_at_or, bit_at_not, same_from_bits, same_from_bits_below}
 use Rattle.ahci_registers.specs.Bits.{without, clearable, known, shadows}
 
@@ -62,6 +62,11 @@ shared s b m h k = same_from_bits (bit_and b m) 0 (λ i.
 
 pub still_shares : (s b m : ℕ) → bit_and s b ≡ b → (bit_and b m == 0) ≡ false → (bit_and s m == 0) ≡ false
 still_shares s b m h some = ne_eqb (bit_and s m) 0 (λ z. true≢false (sym (eq-eqb (bit_and b m) 0 (shared s b m h z)) ∙ some))
+
+-- and a part of what shares none shares none
+pub still_apart : (s y m : ℕ) → (bit_and s m == 0) ≡ true → (bit_and (bit_and s y) m == 0) ≡ true
+still_apart s y m none = eq-eqb (bit_and (bit_and s y) m) 0 (ap (λ (x : ℕ). bit_and x m) (and_comm s y) ∙ and_assoc m y s
+    ∙ ap (bit_and y) (eqb-true (bit_and s m) 0 none) ∙ and_zero_r y)
 
 -- what is added shares something where the two together do and the old ones do not
 pub new_shares : (s x m : ℕ) → bit_and s m ≡ 0 → (bit_and (bit_or s x) m == 0) ≡ false → (bit_and x m == 0) ≡ false

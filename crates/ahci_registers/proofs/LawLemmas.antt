@@ -8,7 +8,7 @@ use Rattle.ahci_registers.specs.Lines.{LineEvent, after, asks, is_due, line, ope
 use Rattle.ahci_registers.specs.Lines.LineEvent.{Caused, WrotePortStatus, WrotePortMask, WroteStatus, WroteGlobal, WroteError}
 use Rattle.ahci_registers.specs.Laws.{after_all, is_told, Keeps, AllKeep, AreCauses, Stand, StandsUntilTaken, ErrorsStand, IsRaisedUntilTaken, NothingIsLostBetween, TakesOnlyOnes, TakesOnes, IsDueAtACause, RisesByAMessage, IsToldAgain, ShowKnown, ReservedReadZero}
 use Rattle.ahci_registers.specs.declared.lines.Lines.{Lines}
-use Rattle.ahci_registers.proofs.BitLemmas.{or_keeps, or_adds, without_keeps, without_takes, still_shares, new_shares, parts_apart, or_within, and_within, cut_within, causes_fit, clearable_fits, shadows_fit}
+use Rattle.ahci_registers.proofs.BitLemmas.{or_keeps, or_adds, without_keeps, without_takes, still_shares, still_apart, new_shares, parts_apart, or_within, and_within, cut_within, causes_fit, clearable_fits, shadows_fit}
 
 -- ---- causes stand
 
@@ -115,6 +115,24 @@ done true h = cc
 fresh : (e : Bool) (s x m : ℕ) → (e && not (bit_and s m == 0)) ≡ false → (e && not (bit_and (bit_or s x) m == 0)) ≡ true → not (bit_and x m == 0) ≡ true
 fresh false s x m down rose = absurd (false≢true rose)
 fresh true s x m down rose = ap not (new_shares s x m (eqb-true (bit_and s m) 0 (undone (bit_and s m == 0) down)) (done (bit_and (bit_or s x) m == 0) rose))
+
+-- a clear raises nothing
+unraised : (z y : Bool) → (y ≡ true → z ≡ true) → (not z && not (not y)) ≡ false
+unraised true y h = refl
+unraised false true h = absurd (false≢true (h refl))
+unraised false false h = refl
+
+cleared_is_silent : (e : Bool) (s y m : ℕ) → ((e && not (bit_and (bit_and s y) m == 0)) && not (e && not (bit_and s m == 0))) ≡ false
+cleared_is_silent false s y m = refl
+cleared_is_silent true s y m = unraised (bit_and (bit_and s y) m == 0) (bit_and s m == 0) (still_apart s y m)
+
+pub pxis_is_silent : (l : Lines) (value : ℕ) → is_due l (WrotePortStatus value) ≡ false
+unfolding line after asks
+pxis_is_silent l value = cleared_is_silent l.enabled l.status (4294967295 - bit_and value clearable) l.mask
+
+pub serr_is_silent : (l : Lines) (value : ℕ) → is_due l (WroteError value) ≡ false
+unfolding line after asks
+serr_is_silent l value = cleared_is_silent l.enabled l.status (4294967295 - shadows value) l.mask
 
 asks_as_it_rises : (l : Lines) (event : LineEvent) → line l ≡ false → line (after l event) ≡ true → asks l event ≡ true
 unfolding line after asks

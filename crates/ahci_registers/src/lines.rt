@@ -1,8 +1,8 @@
 //! The interrupts of a controller of one port.
 
-ghost use Rattle.std.specs.Prelude.{◌≡◌, ◌&&◌, not};
+ghost use Rattle.std.specs.Prelude.{◌≡◌, false};
 ghost use Rattle.ahci_registers.specs.Bits.{has_bit as has_bit_of, interrupt_bits};
-ghost use Rattle.ahci_registers.specs.Lines.{LineEvent, after, ghc_shown, is_due, is_shown, line as line_of, opening_lines, pends as pends_of, serr_shown};
+ghost use Rattle.ahci_registers.specs.Lines.{LineEvent, after, ghc_shown, is_due, is_shown, line as line_of, opening_lines, serr_shown};
 
 use crate::port::PortInterrupts;
 use crate::shadows::{clearable, has_bit, known, shadowed, shadows, without};
@@ -52,15 +52,13 @@ impl Lines {
         self.line() && causes & self.mask != 0
     }
 
-    /// A write of PxIS: ones clear bits, but for those that show PxSERR.
-    #[tactic(auto, unfolding(crate::specs::Lines::after, crate::specs::Lines::asks))]
-    pub fn write_pxis(&mut self, value: u32) -> bool
+    /// A write of PxIS: ones clear bits, but for those that show PxSERR. No message is due.
+    #[tactic(auto, unfolding(crate::specs::Lines::after))]
+    pub fn write_pxis(&mut self, value: u32)
         ensures after { self.new ≡ after self.old (LineEvent.WrotePortStatus value) }
-        ensures due { result ≡ is_due self.old (LineEvent.WrotePortStatus value) }
+        ensures silent { is_due self.old (LineEvent.WrotePortStatus value) ≡ false }
     {
-        let was = self.line();
         self.status = without(self.status, value & clearable());
-        self.line() && !was
     }
 
     /// A write of PxIE, of which the bits are kept that PxIS has. Answers whether a message is due.
@@ -104,15 +102,13 @@ impl Lines {
         }
     }
 
-    /// A write of PxSERR: ones clear bits, and with them those that show them in PxIS.
-    #[tactic(auto, unfolding(crate::specs::Lines::after, crate::specs::Lines::asks))]
-    pub fn write_serr(&mut self, value: u32) -> bool
+    /// A write of PxSERR: ones clear bits, and with them those that show them in PxIS. No message is due.
+    #[tactic(auto, unfolding(crate::specs::Lines::after))]
+    pub fn write_serr(&mut self, value: u32)
         ensures after { self.new ≡ after self.old (LineEvent.WroteError value) }
-        ensures due { result ≡ is_due self.old (LineEvent.WroteError value) }
+        ensures silent { is_due self.old (LineEvent.WroteError value) ≡ false }
     {
-        let was = self.line();
         self.status = without(self.status, shadows(value));
-        self.line() && !was
     }
 
     /// What PxIS reads.
