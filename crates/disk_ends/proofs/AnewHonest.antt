@@ -13,7 +13,7 @@ use Rattle.fis_view.proofs.MarkLemmas.{is_marked}
 use Rattle.port_errors.specs.declared.cause.DeviceCause.TheVariants as cause
 use Rattle.slots.specs.Commands.{answer_of, completed}
 use Rattle.slots.specs.Data.{after_arrive, may_activate}
-use Rattle.slots.specs.Setup.{new_context, pio_fault, pio_issue, setup_fault}
+use Rattle.slots.specs.Setup.{dma_context, pio_fault, pio_issue, setup_fault}
 use Rattle.slots.specs.Slots.{DeviceSlots, has_bit, is_pio, match_some, own_issue}
 use Rattle.slots.specs.Work.{is_queued}
 use Rattle.slots.specs.declared.answer.Answered.{Answered}
@@ -167,7 +167,7 @@ by_fis v sound payload mask (view.SetBits f) is =
     record { frame = f; is = refl; named_is = names.0; fine = names.1 }
 by_fis v sound payload mask (view.DmaActivate f) is = absurd (none_activate v.state payload (may_activate v.slots.context) mask is)
 by_fis v sound payload mask (view.DmaSetup f) is =
-    absurd (none_setup v.state (new_context (tag_of f) (field Setup table.Offset f) (field Setup table.Count f) (field Setup table.D f == 1)) payload
+    absurd (none_setup v.state (dma_context (tag_of f) (field Setup table.Offset f) (field Setup table.Count f) (field Setup table.D f == 1) (field Setup table.A f == 1)) payload
     (setup_fault (own_issue v.slots (tag_of f)) (field Setup table.Offset f) (field Setup table.Count f) (field Setup table.D f == 1)) mask is)
 by_fis v sound payload mask (view.PioSetup f) is =
     absurd (none_pio v.state (field Pio Status f) (field Pio table.Error f) (field Pio table.Transfer f) (field Pio table.D f == 1) (block_of f) payload

@@ -13,7 +13,7 @@ use Rattle.fis_view.specs.declared.view.FisFault.{FisFault}
 use Rattle.port_errors.specs.declared.cause.DeviceCause.TheVariants as cause
 use Rattle.slots.specs.Commands.{answer_of, completed, is_short}
 use Rattle.slots.specs.Data.{after_arrive, may_activate}
-use Rattle.slots.specs.Setup.{is_outstanding, new_context, pio_fault, pio_issue, setup_fault, transfer_fault}
+use Rattle.slots.specs.Setup.{dma_context, is_outstanding, pio_fault, pio_issue, setup_fault, transfer_fault}
 use Rattle.slots.specs.Slots.{DeviceSlots, Issue, has_bit, holds, is_queued_issue, is_short_issue, is_whole_issue, mask_of, match_some, own_issue}
 use Rattle.slots.specs.Work.{is_queued}
 use Rattle.slots.specs.declared.answer.Answered.{Answered}
@@ -253,7 +253,7 @@ module _ (dev : ℕ) (v : DeviceView) (sound : Bool) (frame : List ℕ) (command
       let lt : field Setup BufferId f < 32 = below (field Setup BufferId f) (issued (field Setup BufferId f) past) refl busy in
       let at : tag_of f ≡ field Setup BufferId f = omega (arith, lt) in
       let to_host = field Setup table.D f == 1 in
-      let c : Context = new_context (tag_of f) (field Setup Offset f) (field Setup table.Count f) (field Setup table.D f == 1) in
+      let c : Context = dma_context (tag_of f) (field Setup Offset f) (field Setup table.Count f) (field Setup table.D f == 1) (field Setup table.A f == 1) in
       let o : Option SetupError =
       setup_fault (own_issue v.slots (tag_of f)) (field Setup Offset f) (field Setup table.Count f) (field Setup table.D f == 1) in
       let accepts : setup_fault (own_issue v.slots (tag_of f)) (field Setup Offset f) (field Setup table.Count f)

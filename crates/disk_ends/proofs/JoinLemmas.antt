@@ -1,6 +1,6 @@
 -- The host port, a device's history and the ledger go on to agree at each FIS that the port hears or gives.
-use Rattle.std.proofs.Common.{◌≡◌, ◌==◌, eqb, ℕ, ◌+◌, ◌-◌, ◌<◌, Bool, true, false, List, ◌++◌, drop, get_or, length, set, refl, sym, ap, subst, ◌∙◌, inl, inr, Option, Some, None, Ok, Err, Result, arith, get_or-set_same, get_or-set_other}
-use Rattle.std.specs.Prelude.{MatchOption, is_ok, is_some, not, nat_lt, if◌then◌else◌}
+use Rattle.std.proofs.Common.{◌≡◌, ◌==◌, eqb, ℕ, ◌+◌, ◌-◌, ◌*◌, ◌<◌, Bool, true, false, List, [], ◌∷◌, ◌++◌, drop, get_or, length, set, refl, sym, ap, subst, ◌∙◌, inl, inr, Option, Some, None, Ok, Err, Result, arith, get_or-set_same, get_or-set_other}
+use Rattle.std.specs.Prelude.{MatchOption, find, is_ok, is_some, not, nat_lt, replicate, if◌then◌else◌}
 use Rattle.std.specs.Option.{option_map}
 use Rattle.std.proofs.lemmas.Bool.{cases_eq, cases_lt, eq-eqb, eqb-true, true≢false}
 use Rattle.std.proofs.lemmas.List.{get_or_past, length-set}
@@ -13,7 +13,7 @@ use Rattle.fis_view.specs.declared.view.FisFault.{FisFault}
 use Rattle.port_errors.specs.declared.cause.DeviceCause.TheVariants as cause
 use Rattle.slots.specs.Commands.{answer_of, answered_as, answered_issue, completed, is_done, is_slot, whole_pio, with_answered}
 use Rattle.slots.specs.Data.{activated, after_activate, after_arrive, arrive_answer, gone_over, may_activate, moved_on, moved_over}
-use Rattle.slots.specs.Setup.{after_setup_pio, came, new_context, pio_fault, pio_issue, setup_fault, with_own_context}
+use Rattle.slots.specs.Setup.{after_setup_pio, came, dma_context, new_context, pio_fault, pio_issue, setup_fault, with_own_context}
 use Rattle.slots.specs.Slots.{DeviceSlots, Issue, context_unless, freed, match_some, own_issue, sent_pio}
 use Rattle.slots.specs.Work.{is_queued}
 use Rattle.slots.specs.declared.answer.Answered.{Answered}
@@ -33,9 +33,11 @@ use Rattle.hba_fbs.specs.Tables.{is_sound}
 use Rattle.hba_fbs.specs.Taking.{admitted, heard, heard_now, ignores, port_of}
 use Rattle.hba_fbs.specs.Views.{DeviceView, view_of}
 use Rattle.disk_model.specs.Ends.{IsFree, IsRight, MovesOther}
-use Rattle.disk_model.specs.Laws.{ActivatesRight, AsksOnce, CarriesNext, CarriesRight, SetsUpRight, bytes_named}
-use Rattle.disk_model.specs.Ledger.{Ledger, Moving, activates, answered, listens_up}
+use Rattle.disk_model.specs.Laws.{ActivatesRight, AsksOnce, CarriesNext, CarriesRight, SetsUpNext, SetsUpRight, StartsOne, bytes_named}
+use Rattle.disk_model.specs.Ledger.{Ledger, Moving, activates, answered, is_auto, listens_up, sets_up, starts_moving, with_auto}
+use Rattle.disk_model.specs.declared.request.Command.{Command}
 use Rattle.disk_model.proofs.CrossLemmas.{bits_up}
+use Rattle.disk_model.proofs.ShowsLemmas.{write_of_auto}
 use Rattle.hba_laws.specs.Agreement.{ContextAgrees, IsHistoryOf, IsTold, end_of, IssueAgrees, SetupAgrees, is_for, work_of_transfer}
 use Rattle.hba_laws.specs.Client.{own}
 use Rattle.hba_laws.specs.History as event
@@ -43,7 +45,7 @@ use Rattle.hba_laws.specs.History.{Event, History, Transfer, carried, is_at, is_
 use Rattle.hba_laws.specs.Hosts.{TakesFrame, Took}
 use Rattle.hba_laws.proofs.AgreeLemmas.{unless_some}
 use Rattle.hba_laws.proofs.EventLemmas.{step}
-use Rattle.hba_laws.proofs.ViewLemmas.{own_freed}
+use Rattle.hba_laws.proofs.ViewLemmas.{IsOwn, is_own, own_below, own_freed}
 use Rattle.disk_ends.specs.Same.{InLife, IsMovingAt, SlotCommand}
 use Rattle.disk_ends.specs.Together.{NoneQueued, Same, is_sent, told}
 use Rattle.disk_ends.specs.Heard.{IsToldSo}
@@ -51,7 +53,7 @@ use Rattle.disk_ends.specs.Joined.{IsAskedBy, JoinsFrames}
 use Rattle.disk_ends.proofs.HeardLemmas.{IsThere, heard_as_told, not_ignored, there_by}
 use Rattle.disk_ends.proofs.MoveLemmas.{own_life}
 use Rattle.disk_ends.proofs.ShortLemmas.{short_up}
-use Rattle.disk_ends.proofs.TogetherLemmas.{same_goes_on}
+use Rattle.disk_ends.proofs.TogetherLemmas.{same_goes_on, set_up_beside}
 
 -- ## What was sent stays so
 
@@ -254,7 +256,7 @@ moved_before own happening.Activated quiet c now set = absurd quiet
 moved_before own (happening.Carried wrote finishes) quiet c now set =
     arrived_before own wrote.len own.context own.context c (block_before (after_arrive own wrote.len) finishes c now set) set
 
--- ---- a FIS that is no DMA Activate asks for none
+-- ---- a FIS that is no DMA Activate, nor a DMA Setup with auto-activate, asks for none
 
 quiet_register : (own : DeviceSlots) (state : DeviceState) (status error : ℕ) (resetting e busy : Bool)
     → NotActivated (if resetting then quietly (after_reset state status error) happening.Nothing
@@ -271,11 +273,6 @@ quiet_bits : (own : DeviceSlots) (state : DeviceState) (status error mask : ℕ)
     (with_bits state status error) mask).happening
 quiet_bits own state status error mask true = tt
 quiet_bits own state status error mask false = tt
-
-quiet_setup : (state : DeviceState) (c : Context) (o : Option SetupError) → c.activated ≡ false
-    → NotActivated (set_up o state None (happening.SetUp c)).happening
-quiet_setup state c None unset = unset
-quiet_setup state c (Some e) unset = tt
 
 quiet_pio : (state : DeviceState) (status error count : ℕ) (to_host : Bool) (block : Block) (e : Bool) (o : Option SetupError)
     → NotActivated (if e then faulty (with_file state status error) cause.TaskFile else set_up o (with_file state status error) (Some block)
@@ -411,8 +408,20 @@ asks_now commands v past k current c history same moving once now =
 
 -- ## A FIS comes
 
+-- the data of a write, for which its DMA Setup asks by auto-activate
+auto_asks : (c : Context) (x : Ledger) (w : Moving) → x.moving ≡ Some w → w.command.tag ≡ c.slot → w.command.write ≡ true
+    → c.left ≡ w.count → IsAskedBy c (with_auto true x)
+auto_asks c x w moving tag writes left = record {
+  current = record w { active = true };
+  moving = ap (λ (m : Option Moving). (activates x m).moving) moving;
+  tag = tag;
+  writes = writes;
+  asked = refl;
+  left = left;
+}
+
 module _ (dev : ℕ) (v : DeviceView) (sound : Bool) (frame : List ℕ) (commands : ℕ
-    → SlotCommand) (past : History) (k : Ledger) (history : IsTold v past) (same : Same commands past k) (active : (c : Context)
+    → SlotCommand) (past : History) (k : Ledger) (is : IsOwn dev v.slots) (history : IsTold v past) (same : Same commands past k) (active : (c : Context)
     → v.slots.context ≡ Some c → c.activated ≡ true → IsAskedBy c k) where
   abbrev Asks : Result Fis FisFault → Heard → Type 0
   Asks r h = (c : Context) → (moved h.happening v.slots).context ≡ Some c → c.activated ≡ true → IsAskedBy c (listens_up k r)
@@ -436,6 +445,78 @@ module _ (dev : ℕ) (v : DeviceView) (sound : Bool) (frame : List ℕ) (command
           let it : activated a ≡ c = let e : Some (activated a) ≡ Some c = sym after ∙ now in cc e in
           subst (λ (x : Context). IsAskedBy x (activates k k.moving)) it (asks_now commands v past k current a history same is once is_o)
 
+  tag_below : (s : ℕ) (o : Option Transfer) → issued s past ≡ o → (IsFree k s → ⊥) → s < 32
+  tag_below s None none busy = absurd (busy (same.free s (subst (λ (x : Option Transfer). NoneQueued x) (sym none) tt)))
+  tag_below s (Some t) here busy =
+      let at : IsThere v.slots s t =
+      there_by v.slots s t (own_issue v.slots s) refl (sym (ap (option_map work_of_transfer) here) ∙ history.issued s) in
+      own_below dev s v.slots at.issue is at.there
+
+  setup_tag : (f : List ℕ) → IsRight k (Ok (view.DmaSetup f)) → tag_of f ≡ field Setup table.BufferId f
+  setup_tag f right =
+      let busy : IsFree k (field Setup table.BufferId f) → ⊥ =
+      λ free. true≢false (sym (eq-eqb (field Setup table.BufferId f) (field Setup table.BufferId f) refl)
+      ∙ set_up_beside k k.moving (find (λ q. q.tag == field Setup table.BufferId f) k.outstanding) f (field Setup table.BufferId f) refl refl right free) in
+      let lt : field Setup table.BufferId f < 32 = tag_below (field Setup table.BufferId f) (issued (field Setup table.BufferId f) past) refl busy in
+      omega (arith, lt)
+
+  -- the context of a DMA Setup
+  abbrev context_of : List ℕ → Context
+  context_of f = dma_context (tag_of f) (field Setup table.Offset f) (field Setup table.Count f) (field Setup table.D f == 1) (field Setup table.A f == 1)
+
+  auto_asked : (f : List ℕ) (m : Option Moving) (o : Option Command) → k.moving ≡ m
+      → find (λ q. q.tag == field Setup table.BufferId f) k.outstanding ≡ o → IsRight k (Ok (view.DmaSetup f)) → is_auto f ≡ true
+      → IsAskedBy (context_of f) (listens_up k (Ok (view.DmaSetup f)))
+  auto_asked f None None moving found right auto =
+      let first : SetsUpRight k None f = subst (λ (m : Option Moving). SetsUpRight k m f) moving right.moves in
+      absurd (subst (λ (q : Option Command). StartsOne q f) found first)
+  auto_asked f None (Some q) moving found right auto =
+      let at = field Setup table.Offset f in
+      let count = field Setup table.Count f in
+      let first : SetsUpRight k None f = subst (λ (m : Option Moving). SetsUpRight k m f) moving right.moves in
+      let next : SetsUpNext q 0 [] f = subst (λ (q : Option Command). StartsOne q f) found first in
+      let now : Moving = record {
+        command = q;
+        before = k.writes;
+        bytes = replicate (512 * q.count) 0;
+        moved = 0;
+        setups = record { at = at; count = count } ∷ [];
+        offset = at;
+        count = count;
+        active = false;
+      } in
+      let up : sets_up k k.moving (field Setup table.BufferId f) at count ≡ starts_moving k at count (Some q) =
+      ap (λ (m : Option Moving). sets_up k m (field Setup table.BufferId f) at count) moving ∙ ap (starts_moving k at count) found in
+      subst (λ (b : Bool). IsAskedBy (context_of f) (with_auto b (sets_up k k.moving (field Setup table.BufferId f) at count))) (sym auto)
+      (auto_asks (context_of f) (sets_up k k.moving (field Setup table.BufferId f) at count) now (ap (λ (x : Ledger). x.moving) up)
+      (sym (setup_tag f right ∙ next.tag)) (write_of_auto (field Setup table.A f) (field Setup table.D f) q.write next.direction auto) refl)
+  auto_asked f (Some w) o moving found right auto =
+      let at = field Setup table.Offset f in
+      let count = field Setup table.Count f in
+      let right_now : SetsUpRight k (Some w) f = subst (λ (m : Option Moving). SetsUpRight k m f) moving right.moves in
+      let next : SetsUpNext w.command w.moved w.setups f = right_now.1 in
+      let now : Moving = record w {
+        setups = w.setups ++ record { at = at; count = count } ∷ [];
+        offset = at;
+        count = count;
+        active = false;
+      } in
+      subst (λ (b : Bool). IsAskedBy (context_of f) (with_auto b (sets_up k k.moving (field Setup table.BufferId f) at count))) (sym auto)
+      (auto_asks (context_of f) (sets_up k k.moving (field Setup table.BufferId f) at count) now
+      (ap (λ (m : Option Moving). (sets_up k m (field Setup table.BufferId f) at count).moving) moving)
+      (sym (setup_tag f right ∙ next.tag)) (write_of_auto (field Setup table.A f) (field Setup table.D f) w.command.write next.direction auto) refl)
+
+  asks_setup : (f : List ℕ) (o : Option SetupError) (auto : Bool) → is_auto f ≡ auto → IsRight k (Ok (view.DmaSetup f))
+      → Asks (Ok (view.DmaSetup f)) (set_up o v.state None (happening.SetUp (context_of f)))
+  asks_setup f (Some e) auto is_auto_so right c now set =
+      asks_quietly (Ok (view.DmaSetup f)) (faulty v.state (hear.cause_of_setup e)) right tt c now set
+  asks_setup f None false is_auto_so right c now set =
+      asks_quietly (Ok (view.DmaSetup f)) (set_up None v.state None (happening.SetUp (context_of f))) right is_auto_so c now set
+  asks_setup f None true is_auto_so right c now set =
+      let it : context_of f ≡ c = let e : Some (context_of f) ≡ Some c = now in cc e in
+      subst (λ (x : Context). IsAskedBy x (listens_up k (Ok (view.DmaSetup f)))) it
+      (auto_asked f k.moving (find (λ q. q.tag == field Setup table.BufferId f) k.outstanding) refl refl right is_auto_so)
+
   asks_fis : (fis : Fis) → IsRight k (Ok fis) → Asks (Ok fis) (heard_fis v.slots v.state sound fis)
   unfolding heard_fis
   asks_fis (view.RegH2D f) right = asks_quietly (Ok (view.RegH2D f)) (quietly v.state happening.Nothing) right tt
@@ -451,10 +532,8 @@ module _ (dev : ℕ) (v : DeviceView) (sound : Bool) (frame : List ℕ) (command
       (is_error (field table.Bits table.Status f)))
   asks_fis (view.DmaActivate f) right = asks_activate f (may_activate v.slots.context) refl right
   asks_fis (view.DmaSetup f) right =
-      asks_quietly (Ok (view.DmaSetup f))
-      (hear.heard_setup v.slots v.state (tag_of f) (field Setup table.Offset f) (field Setup table.Count f) (field Setup table.D f == 1)) right
-      (quiet_setup v.state (new_context (tag_of f) (field Setup table.Offset f) (field Setup table.Count f) (field Setup table.D f == 1))
-      (setup_fault (own_issue v.slots (tag_of f)) (field Setup table.Offset f) (field Setup table.Count f) (field Setup table.D f == 1)) refl)
+      asks_setup f (setup_fault (own_issue v.slots (tag_of f)) (field Setup table.Offset f) (field Setup table.Count f) (field Setup table.D f == 1))
+      (is_auto f) refl right
   asks_fis (view.PioSetup f) right =
       asks_quietly (Ok (view.PioSetup f))
       (hear.heard_pio v.slots v.state (field table.Pio table.Status f) (field table.Pio table.Error f) (field table.Pio table.Transfer f)
@@ -501,7 +580,8 @@ joins_frames host new frame report commands past k sound framed below well right
       short = short_up k (seen frame) right short joined.short;
       active = λ c now set.
           asks_heard (port_of frame) v
-          (is_sound host.memory host.port.commands v.slots) frame commands past k joined.history joined.same joined.active (seen frame) right c
+          (is_sound host.memory host.port.commands v.slots) frame commands past k (is_own (port_of frame) host.port.slots sound.slots)
+          joined.history joined.same joined.active (seen frame) right c
           (sym (ap (λ (o : DeviceSlots). o.context) slots_is) ∙ now) set;
     }
   where

@@ -1,6 +1,6 @@
 -- The ledger hears the same of a frame and of the marked one.
 use Rattle.std.proofs.Common.{◌≡◌, ◌==◌, ℕ, ◌%◌, ◌<◌, ◌≤◌, Bool, true, false, List, [], ◌∷◌, length, refl, sym, ap, subst, ◌∙◌, Option, Some, None, Ok, Err, Result}
-use Rattle.std.specs.Prelude.{if◌then◌else◌, find}
+use Rattle.std.specs.Prelude.{if◌then◌else◌, find, not, ◌&&◌}
 use Rattle.fis_view.specs.Frames.{IsFrame, marked}
 use Rattle.fis_view.specs.Marks.{IsMarked}
 use Rattle.fis_view.specs.Table.{Activate, Bits, BufferId, C, D2h, H2d, Kind, Name, Other, Pio, PmPort, SActive, Setup, field}
@@ -15,7 +15,7 @@ use Rattle.disk_model.specs.declared.request.Command.{Command}
 use Rattle.disk_model.specs.declared.request.Request.{Request}
 use Rattle.disk_model.specs.Ends.{Fits, FitsData, FitsRequest, IsRight}
 use Rattle.disk_model.specs.Laws.{AnswersFirst, CarriesRight, IsRegister, SetsUpNext, SetsUpRight, ShowsFirst, StartsOne}
-use Rattle.disk_model.specs.Ledger.{Accepts, Finishes, Ledger, Moving, Names, Refuses, Reply, ShowsPage, Signs, Stretch, answers, asks, has_error, listens_down, listens_up, sends_data, sets_up, takes_data}
+use Rattle.disk_model.specs.Ledger.{Accepts, Finishes, Ledger, Moving, Names, Refuses, Reply, ShowsPage, Signs, Stretch, answers, asks, has_error, is_auto, listens_down, listens_up, sends_data, sets_up, takes_data, with_auto}
 use Rattle.disk_model.specs.Requests.{request_of}
 use Rattle.disk_ends.specs.Joined.{IsShort}
 use Rattle.disk_ends.specs.Marked.{IsHeardAlike, MarksTellNothing}
@@ -136,6 +136,11 @@ module _ (k : Ledger) (old new : List ℕ) (port : ℕ) (m : IsMarked port old n
       (same_start (find (λ c. c.tag == field Setup BufferId old) k.outstanding) right)
   same_setup (Some v) right = (right.0, same_next v.command v.moved v.setups right.1)
 
+  same_auto : is_auto new ≡ is_auto old
+  same_auto =
+      ap (λ (n : ℕ). n == 1 && not (field Setup table.D new == 1)) (m.fields Setup table.A (λ e. cc e))
+      ∙ ap (λ (n : ℕ). field Setup table.A old == 1 && not (n == 1)) (m.fields Setup table.D (λ e. cc e))
+
   alike_setup : IsAlike (Ok (view.DmaSetup old)) (Ok (view.DmaSetup new))
   alike_setup =
       let tag = m.fields Setup BufferId (λ e. cc e) in
@@ -143,9 +148,10 @@ module _ (k : Ledger) (old new : List ℕ) (port : ℕ) (m : IsMarked port old n
       let count = m.fields Setup table.Count (λ e. cc e) in
       record {
         up =
-            ap (λ (n : ℕ). sets_up k k.moving n (field Setup table.Offset new) (field Setup table.Count new)) tag
-            ∙ ap (λ (n : ℕ). sets_up k k.moving (field Setup BufferId old) n (field Setup table.Count new)) offset
-            ∙ ap (λ (n : ℕ). sets_up k k.moving (field Setup BufferId old) (field Setup table.Offset old) n) count;
+            ap (λ (b : Bool). with_auto b (sets_up k k.moving (field Setup BufferId new) (field Setup table.Offset new) (field Setup table.Count new))) same_auto
+            ∙ ap (λ (n : ℕ). with_auto (is_auto old) (sets_up k k.moving n (field Setup table.Offset new) (field Setup table.Count new))) tag
+            ∙ ap (λ (n : ℕ). with_auto (is_auto old) (sets_up k k.moving (field Setup BufferId old) n (field Setup table.Count new))) offset
+            ∙ ap (λ (n : ℕ). with_auto (is_auto old) (sets_up k k.moving (field Setup BufferId old) (field Setup table.Offset old) n)) count;
         down = refl;
         right = λ right. record { moves = same_setup k.moving right.moves; answers = tt; replies = tt; asked = tt; fine = refl };
         fits = λ fits. absurd fits;

@@ -14,7 +14,7 @@ use Rattle.disk_model.specs.declared.request.Request.TheVariants.{Reset, Queue, 
 use Rattle.disk_model.specs.Chunks.{put}
 use Rattle.disk_model.specs.Ends.{Fits, FitsRequest, reports}
 use Rattle.disk_model.specs.Histories.{Happening, Received, Sent}
-use Rattle.disk_model.specs.Ledger.{Accepts, Finishes, IdentifyData, Ledger, LogOf, Moving, Refuses, Reply, ShowsPage, activates, answered, answers, asks, awaits, awaits_page, ends, has_error, ledger, listens_down, listens_up, mixes, moves, opens, reads_log, refuses, sends_data, sets_up, starts_moving, takes_data}
+use Rattle.disk_model.specs.Ledger.{Accepts, Finishes, IdentifyData, Ledger, LogOf, Moving, Refuses, Reply, ShowsPage, activates, answered, answers, asks, awaits, awaits_page, ends, has_error, is_auto, ledger, listens_down, listens_up, mixes, moves, opens, reads_log, refuses, sends_data, sets_up, starts_moving, takes_data, with_auto}
 use Rattle.disk_model.specs.Requests.{request_of}
 use Rattle.disk_model.proofs.EndsLemmas.{ledger_push}
 use Rattle.disk_ends.specs.Line.{EachReply, IsNoSignature, IsUnsigned}
@@ -190,6 +190,14 @@ leaves_active : (k : Ledger) (v : Option Moving) → LeavesReplies k (activates 
 leaves_active k None = leaves_same k
 leaves_active k (Some v) = record { resetting = refl; each = λ P all. all }
 
+-- one after the other
+leaves_then : (k x y : Ledger) → LeavesReplies k x → LeavesReplies x y → LeavesReplies k y
+leaves_then k x y first next = record { resetting = next.resetting ∙ first.resetting; each = λ P all. next.each P (first.each P all) }
+
+leaves_auto : (b : Bool) (x : Ledger) → LeavesReplies x (with_auto b x)
+leaves_auto true x = leaves_active x x.moving
+leaves_auto false x = leaves_same x
+
 leaves_sent : (k : Ledger) (v : Option Moving) (bytes : List ℕ) → LeavesReplies k (sends_data k v bytes)
 leaves_sent k None bytes = record { resetting = refl; each = λ P all. all }
 leaves_sent k (Some v) bytes = leaves_moved k v bytes
@@ -202,7 +210,10 @@ leaves_answered : (k : Ledger) → LeavesReplies k (answered k)
 leaves_answered k = record { resetting = refl; each = λ P all. each_drop P k.awaited all }
 
 pub leaves_up : (k : Ledger) (r : Result Fis FisFault) → LeavesReplies k (listens_up k r)
-leaves_up k (Ok (view.DmaSetup f)) = leaves_set_up k k.moving (field Setup BufferId f) (field Setup Offset f) (field Setup table.Count f)
+leaves_up k (Ok (view.DmaSetup f)) =
+    let x : Ledger = sets_up k k.moving (field Setup BufferId f) (field Setup Offset f) (field Setup table.Count f) in
+    leaves_then k x (with_auto (is_auto f) x) (leaves_set_up k k.moving (field Setup BufferId f) (field Setup Offset f) (field Setup table.Count f))
+    (leaves_auto (is_auto f) x)
 leaves_up k (Ok (view.DmaActivate f)) = leaves_active k k.moving
 leaves_up k (Ok (view.Payload f)) = leaves_sent k k.moving (drop 4 f)
 leaves_up k (Ok (view.SetBits f)) = leaves_named k (field Bits Error f) (has_error f)

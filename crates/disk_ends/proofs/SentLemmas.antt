@@ -1,5 +1,5 @@
 -- The FISes that a disk sends.
-use Rattle.std.proofs.Common.{◌≡◌, ℕ, List}
+use Rattle.std.proofs.Common.{◌≡◌, ℕ, Bool, List}
 use Rattle.fis_view.specs.Table.{EStatus, Pio, field, places}
 use Rattle.fis_view.specs.Built.{cut}
 use Rattle.fis_view.specs.Seen.{seen}
@@ -13,14 +13,14 @@ ends_fine : (b : List ℕ) → Shows page_follows b → field Pio EStatus b ≡ 
 unfolding places cut
 ends_fine b shows = shows.fields EStatus
 
-answers_by : (sectors : ℕ) (a : Answer) (b : List ℕ) → Shows (answer_sent sectors a) b → IsOfDisk (seen b)
-answers_by sectors Signature b shows = rw shows.viewed tt
-answers_by sectors Accepted b shows = rw shows.viewed tt
-answers_by sectors Finished b shows = rw shows.viewed tt
-answers_by sectors Refused b shows = rw shows.viewed tt
-answers_by sectors (Ended t) b shows = rw shows.viewed tt
-answers_by sectors PageFollows b shows = rw shows.viewed (ends_fine b shows)
-answers_by sectors (PageData page) b shows = rw shows.1 tt
+answers_by : (sectors : ℕ) (auto : Bool) (a : Answer) (b : List ℕ) → Shows (answer_sent sectors auto a) b → IsOfDisk (seen b)
+answers_by sectors auto Signature b shows = rw shows.viewed tt
+answers_by sectors auto Accepted b shows = rw shows.viewed tt
+answers_by sectors auto Finished b shows = rw shows.viewed tt
+answers_by sectors auto Refused b shows = rw shows.viewed tt
+answers_by sectors auto (Ended t) b shows = rw shows.viewed tt
+answers_by sectors auto PageFollows b shows = rw shows.viewed (ends_fine b shows)
+answers_by sectors auto (PageData page) b shows = rw shows.1 tt
 
 goes_by : (x : Sending) (b : List ℕ) → IsTransfer x → Shows x b → IsOfDisk (seen b)
 goes_by (Register f) b moves shows = absurd moves
@@ -32,7 +32,7 @@ goes_by (Carries bytes) b moves shows = rw shows.1 tt
 
 pub of_disk : DisksSendTheirs
 of_disk plan sectors disk b size run = sent_by plan sectors disk b _ size run (λ agrees. record {
-  answers = λ a later is shows. answers_by sectors a b shows;
+  answers = λ a later is shows. answers_by sectors plan.auto a b shows;
   fails = λ c f turn is none shows. rw shows.viewed tt;
   starts = λ c turn here is none shows. rw shows.viewed tt;
   goes_on = λ now x is moves shows. goes_by x b moves shows;

@@ -9,7 +9,7 @@ use Rattle.fis_view.specs.declared.view.FisFault.{FisFault}
 use Rattle.disk_model.specs.declared.request.Command.{Command}
 use Rattle.disk_model.specs.Ends.{IsAskedFor, IsRight}
 use Rattle.disk_model.specs.Laws.{ActivatesRight, CarriesNext, CarriesRight, SetsUpRight, StartsOne}
-use Rattle.disk_model.specs.Ledger.{Ledger, Moving, activates, listens_up, sends_data, sets_up, starts_moving, takes_data}
+use Rattle.disk_model.specs.Ledger.{Ledger, Moving, activates, is_auto, listens_up, sends_data, sets_up, starts_moving, takes_data, with_auto}
 use Rattle.disk_model.proofs.CrossLemmas.{after_bytes, bits_up, data_down, goes_by, is_all, with_bytes}
 use Rattle.disk_ends.specs.Joined.{AreShort, IsShort}
 
@@ -24,24 +24,33 @@ short_bytes k w bytes false write was short v now = subst (λ (n : ℕ). n ≤ 8
 
 short_setup : (k : Ledger) (f : List ℕ) (m : Option Moving) (o : Option Command) → k.moving ≡ m
     → find (λ q. q.tag == field Setup BufferId f) k.outstanding ≡ o → IsRight k (Ok (view.DmaSetup f)) → field Setup table.Count f ≤ 8192
-    → AreShort (listens_up k (Ok (view.DmaSetup f)))
+    → AreShort (sets_up k k.moving (field Setup BufferId f) (field Setup Offset f) (field Setup table.Count f))
 short_setup k f None None moving found right few v now =
     let first : SetsUpRight k None f = subst (λ (x : Option Moving). SetsUpRight k x f) moving right.moves in
     absurd (subst (λ (q : Option Command). StartsOne q f) found first)
 short_setup k f None (Some q) moving found right few v now =
     let at = field Setup Offset f in
     let count = field Setup table.Count f in
-    let up : listens_up k (Ok (view.DmaSetup f)) ≡ starts_moving k at count (Some q) =
+    let up : sets_up k k.moving (field Setup BufferId f) at count ≡ starts_moving k at count (Some q) =
     ap (λ (x : Option Moving). sets_up k x (field Setup BufferId f) at count) moving ∙ ap (starts_moving k at count) found in
     let here = sym (ap (λ (x : Ledger). x.moving) up) ∙ now in
     subst (λ (n : ℕ). n ≤ 8192) (same_count _ v here) few
 short_setup k f (Some w) o moving found right few v now =
     let at = field Setup Offset f in
     let count = field Setup table.Count f in
-    let up : listens_up k (Ok (view.DmaSetup f)) ≡ sets_up k (Some w) (field Setup BufferId f) at count =
+    let up : sets_up k k.moving (field Setup BufferId f) at count ≡ sets_up k (Some w) (field Setup BufferId f) at count =
     ap (λ (x : Option Moving). sets_up k x (field Setup BufferId f) at count) moving in
     let here = sym (ap (λ (x : Ledger). x.moving) up) ∙ now in
     subst (λ (n : ℕ). n ≤ 8192) (same_count _ v here) few
+
+short_active : (x : Ledger) (m : Option Moving) → x.moving ≡ m → AreShort x → AreShort (activates x m)
+short_active x None moving short v now = short v now
+short_active x (Some w) moving short v now =
+    subst (λ (n : ℕ). n ≤ 8192) (same_count (record w { active = true }) v now) (short w moving)
+
+short_auto : (b : Bool) (x : Ledger) → AreShort x → AreShort (with_auto b x)
+short_auto true x short = short_active x x.moving refl short
+short_auto false x short = short
 
 short_activate : (k : Ledger) (m : Option Moving) → k.moving ≡ m → ActivatesRight m → AreShort k → AreShort (activates k k.moving)
 short_activate k None moving right short v now = absurd right
@@ -66,7 +75,8 @@ short_up k (Ok (view.RegD2H f)) right few short = short
 short_up k (Ok (view.SetBits f)) right few short = λ v now. short v (sym (ap (λ (x : Ledger). x.moving) (bits_up k f right.fine)) ∙ now)
 short_up k (Ok (view.DmaActivate f)) right few short = short_activate k k.moving refl right.moves short
 short_up k (Ok (view.DmaSetup f)) right few short =
-    short_setup k f k.moving (find (λ q. q.tag == field Setup BufferId f) k.outstanding) refl refl right few
+    short_auto (is_auto f) (sets_up k k.moving (field Setup BufferId f) (field Setup Offset f) (field Setup table.Count f))
+    (short_setup k f k.moving (find (λ q. q.tag == field Setup BufferId f) k.outstanding) refl refl right few)
 short_up k (Ok (view.PioSetup f)) right few short = short
 short_up k (Ok (view.Payload f)) right few short = short_data k (drop 4 f) k.moving refl right.moves short
 short_up k (Ok (view.Unknown f)) right few short = short

@@ -1,8 +1,9 @@
 -- Both views of a disk go on to say the same.
-use Rattle.std.proofs.Common.{◌≡◌, ◌==◌, ◌&&◌, eqb, ℕ, Bool, true, false, List, [], ◌∷◌, ◌++◌, refl, sym, ap, subst, ◌∙◌, inl, inr, Option, Some, None, Ok, Err, Result, ◌≤◌, length}
-use Rattle.std.specs.Prelude.{◌≢◌, not, if◌then◌else◌, drop, find}
+use Rattle.std.proofs.Common.{◌≡◌, ◌==◌, ◌&&◌, eqb, ℕ, ◌+◌, ◌*◌, Bool, true, false, List, [], ◌∷◌, ◌++◌, refl, sym, ap, subst, ◌∙◌, inl, inr, Option, Some, None, Ok, Err, Result, ◌≤◌, length, arith}
+use Rattle.std.specs.Prelude.{◌≢◌, not, if◌then◌else◌, drop, find, replicate}
 use Rattle.std.specs.List.{list_any}
 use Rattle.std.proofs.lemmas.Bool.{and_parts, cases_Bool, eq-eqb, eqb-true, or_parts, true≢false}
+use Rattle.std.proofs.lemmas.List.Sums.{sum_by-append}
 use Rattle.fis_view.specs.Table.{Bits, BufferId, EStatus, Offset, Pio, SActive, Setup, field}
 use Rattle.fis_view.specs.Table as table
 use Rattle.fis_view.specs.declared.view.Fis.{Fis}
@@ -17,8 +18,8 @@ use Rattle.disk_model.specs.declared.request.Request.{Request}
 use Rattle.disk_model.specs.declared.request.Request.TheVariants.{Queue}
 use Rattle.disk_model.specs.declared.request.Request.TheVariants as asked
 use Rattle.disk_model.specs.Ends.{FitsData, FitsRequest, IsFree, IsRight, MovesOther, PageAsked, Rests, has}
-use Rattle.disk_model.specs.Laws.{ActivatesRight, AsksOnce, CarriesNext, CarriesRight, SetsUpNext, SetsUpRight, StartsOne}
-use Rattle.disk_model.specs.Ledger.{Ledger, Moving, Signs, activates, answers, asks, ends, listens_up, sends_data, sets_up, starts_moving, takes_data}
+use Rattle.disk_model.specs.Laws.{ActivatesRight, AsksOnce, CarriesNext, CarriesRight, SetsUpNext, SetsUpRight, StartsOne, bytes_named}
+use Rattle.disk_model.specs.Ledger.{Ledger, Moving, Signs, Stretch, activates, answers, asks, ends, is_auto, listens_up, sends_data, sets_up, starts_moving, takes_data, with_auto}
 use Rattle.disk_model.proofs.CrossLemmas.{after_bytes, alone, asks_fits, bits_up, but_free, data_down, found_not, goes_by, has_more, is_all, opened, opens_free, with_bytes}
 use Rattle.disk_model.proofs.EntersLemmas.{up_leaves}
 use Rattle.hba_laws.specs.History.{Answered, Carried, History, Issued, Named, Sent, SetUp, Transfer, completes, is_at, is_set_up, issued, unless, waiting_in}
@@ -383,6 +384,20 @@ asks_same commands slot t request past k there not_queued sent one none signed n
 
 -- ## FISes of the disk
 
+-- auto-activate of a write whose bytes the DMA Setup named
+auto_life : (b : Bool) (s : ℕ) (c : SlotCommand) (v : Moving) (past : History) (x : Ledger) → x.moving ≡ Some v → c.command.tag ≡ s
+    → v.moved + v.count ≡ bytes_named v.setups → InLife s c past x → InLife s c past (with_auto b x)
+auto_life true s c v past x moving tag in_turn life = activates_keep s c v past x moving tag in_turn life
+auto_life false s c v past x moving tag in_turn life = life
+
+-- what a DMA Setup names is the last that was named
+named_last : (moved at count : ℕ) (setups : List Stretch) → moved ≡ bytes_named setups
+    → moved + count ≡ bytes_named (setups ++ record { at = at; count = count } ∷ [])
+named_last moved at count setups is =
+    let all : bytes_named (setups ++ record { at = at; count = count } ∷ []) ≡ bytes_named setups + count =
+    sum_by-append (λ (x : Stretch). x.count) setups _ ∙ (omega arith) in
+    ap (λ (n : ℕ). n + count) is ∙ sym all
+
 takes_setup : (commands : ℕ → SlotCommand) (f : List ℕ) (past : History) (k : Ledger) (m : Option Moving) (o : Option Command) → k.moving ≡ m
     → find (λ q. q.tag == field Setup BufferId f) k.outstanding ≡ o
     → IsRight k (Ok (view.DmaSetup f)) → is_at (field Setup BufferId f) (waiting_in past) ≡ false → (s : ℕ) → (commands s).command.tag ≡ s
@@ -395,17 +410,49 @@ takes_setup commands f past k None (Some q) moving found right answered_yet s ta
     let count = field Setup table.Count f in
     let first : SetsUpRight k None f = subst (λ (v : Option Moving). SetsUpRight k v f) moving right.moves in
     let next : SetsUpNext q 0 [] f = subst (λ (q : Option Command). StartsOne q f) found first in
-    let up : listens_up k (Ok (view.DmaSetup f)) ≡ starts_moving k at count (Some q) =
+    let up : sets_up k k.moving (field Setup BufferId f) at count ≡ starts_moving k at count (Some q) =
     ap (λ (v : Option Moving). sets_up k v (field Setup BufferId f) at count) moving ∙ ap (starts_moving k at count) found in
-    subst (λ (x : Ledger). InLife s (commands s) (told (Ok (view.DmaSetup f)) ++ past) x) (sym up)
-    (setups_start s (field Setup BufferId f) at count (field Setup table.D f == 1) (commands s) q past k moving found answered_yet next.inside life)
+    let now : Moving = record {
+      command = q;
+      before = k.writes;
+      bytes = replicate (512 * q.count) 0;
+      moved = 0;
+      setups = record { at = at; count = count } ∷ [];
+      offset = at;
+      count = count;
+      active = false;
+    } in
+    subst (λ (x : Ledger). InLife s (commands s) (told (Ok (view.DmaSetup f)) ++ past) (with_auto (is_auto f) x)) (sym up)
+    (auto_life (is_auto f) s (commands s) now (told (Ok (view.DmaSetup f)) ++ past) (starts_moving k at count (Some q)) refl tag
+    (named_last 0 at count [] next.in_turn)
+    (setups_start s (field Setup BufferId f) at count (field Setup table.D f == 1) (commands s) q past k moving found answered_yet next.inside life))
 takes_setup commands f past k (Some v) o moving found right answered_yet s tag life =
     let at = field Setup Offset f in
     let count = field Setup table.Count f in
     let next : SetsUpRight k (Some v) f = subst (λ (m : Option Moving). SetsUpRight k m f) moving right.moves in
     let rest : SetsUpNext v.command v.moved v.setups f = next.1 in
-    subst (λ (n : ℕ). InLife s (commands s) (SetUp n at count (field Setup table.D f == 1) ∷ past) (sets_up k k.moving n at count)) (sym rest.tag)
-    (setups_go_on s at count (field Setup table.D f == 1) (commands s) v past k moving tag rest.inside life)
+    let now : Moving = record v {
+      setups = v.setups ++ record { at = at; count = count } ∷ [];
+      offset = at;
+      count = count;
+      active = false;
+    } in
+    let moves_now : (sets_up k k.moving v.command.tag at count).moving ≡ Some now =
+    ap (λ (m : Option Moving). (sets_up k m v.command.tag at count).moving) moving in
+    subst (λ (n : ℕ). InLife s (commands s) (SetUp n at count (field Setup table.D f == 1) ∷ past) (with_auto (is_auto f) (sets_up k k.moving n at count))) (sym rest.tag)
+    (auto_life (is_auto f) s (commands s) now (SetUp v.command.tag at count (field Setup table.D f == 1) ∷ past) (sets_up k k.moving v.command.tag at count)
+    moves_now tag (named_last v.moved at count v.setups rest.in_turn)
+    (setups_go_on s at count (field Setup table.D f == 1) (commands s) v past k moving tag rest.inside life))
+
+active_answers : (x : Ledger) (m : Option Moving)
+    → ((activates x m).awaited ≡ x.awaited) × ((activates x m).pages ≡ x.pages) × ((activates x m).failed ≡ x.failed)
+active_answers x None = (refl, refl, refl)
+active_answers x (Some v) = (refl, refl, refl)
+
+auto_answers : (b : Bool) (x : Ledger)
+    → ((with_auto b x).awaited ≡ x.awaited) × ((with_auto b x).pages ≡ x.pages) × ((with_auto b x).failed ≡ x.failed)
+auto_answers true x = active_answers x x.moving
+auto_answers false x = (refl, refl, refl)
 
 set_up_answers : (k : Ledger) (m : Option Moving) (o : Option Command) (f : List ℕ) → k.moving ≡ m
     → find (λ q. q.tag == field Setup BufferId f) k.outstanding ≡ o → IsRight k (Ok (view.DmaSetup f))
@@ -417,13 +464,17 @@ set_up_answers k None None f moving found right =
 set_up_answers k None (Some q) f moving found right =
     let at = field Setup Offset f in
     let count = field Setup table.Count f in
-    let up : listens_up k (Ok (view.DmaSetup f)) ≡ starts_moving k at count (Some q) =
+    let up : sets_up k k.moving (field Setup BufferId f) at count ≡ starts_moving k at count (Some q) =
     ap (λ (v : Option Moving). sets_up k v (field Setup BufferId f) at count) moving ∙ ap (starts_moving k at count) found in
-    (ap (λ (x : Ledger). x.awaited) up, ap (λ (x : Ledger). x.pages) up, ap (λ (x : Ledger). x.failed) up)
+    let auto = auto_answers (is_auto f) (sets_up k k.moving (field Setup BufferId f) at count) in
+    (auto.0 ∙ ap (λ (x : Ledger). x.awaited) up, auto.1 ∙ ap (λ (x : Ledger). x.pages) up, auto.2 ∙ ap (λ (x : Ledger). x.failed) up)
 set_up_answers k (Some v) o f moving found right =
-    let up : listens_up k (Ok (view.DmaSetup f)) ≡ sets_up k (Some v) (field Setup BufferId f) (field Setup Offset f) (field Setup table.Count f) =
-    ap (λ (m : Option Moving). sets_up k m (field Setup BufferId f) (field Setup Offset f) (field Setup table.Count f)) moving in
-    (ap (λ (x : Ledger). x.awaited) up, ap (λ (x : Ledger). x.pages) up, ap (λ (x : Ledger). x.failed) up)
+    let at = field Setup Offset f in
+    let count = field Setup table.Count f in
+    let up : sets_up k k.moving (field Setup BufferId f) at count ≡ sets_up k (Some v) (field Setup BufferId f) at count =
+    ap (λ (m : Option Moving). sets_up k m (field Setup BufferId f) at count) moving in
+    let auto = auto_answers (is_auto f) (sets_up k k.moving (field Setup BufferId f) at count) in
+    (auto.0 ∙ ap (λ (x : Ledger). x.awaited) up, auto.1 ∙ ap (λ (x : Ledger). x.pages) up, auto.2 ∙ ap (λ (x : Ledger). x.failed) up)
 
 -- a FIS that completes nothing that is queued
 up_same : (commands : ℕ → SlotCommand) (fis : Result Fis FisFault) (past later : History) (k : Ledger) (test : ℕ → Transfer → Bool) → IsRight k fis

@@ -18,7 +18,7 @@ use Rattle.disk_model.specs.declared.request.Request.TheVariants.{Reset, Queue, 
 use Rattle.disk_model.specs.Chunks.{put}
 use Rattle.disk_model.specs.Histories.{Received}
 use Rattle.disk_model.specs.Requests.{request_of}
-use Rattle.disk_model.specs.Ledger.{Accepts, Finishes, IdentifyData, Ledger, LogOf, Moving, Names, Refuses, activates, answers, asks, awaits, awaits_page, ends, goes_on, has_error, listens, listens_down, listens_up, mixes, moves, refuses, sends_data, sets_up, starts_moving, takes_data}
+use Rattle.disk_model.specs.Ledger.{Accepts, Finishes, IdentifyData, Ledger, LogOf, Moving, Names, Refuses, activates, answers, asks, awaits, awaits_page, ends, goes_on, has_error, is_auto, listens, listens_down, listens_up, mixes, moves, refuses, sends_data, sets_up, starts_moving, takes_data, with_auto}
 use Rattle.disk_model.specs.Laws.{ActivatesRight, AnswersFirst, AsksOnce, CarriesNext, CarriesRight, SetsUpRight, ShowsFirst, StartsOne}
 use Rattle.disk_model.specs.Ends.{Fits, FitsData, FitsRequest, IsAskedFor, IsFree, IsRight, MovesOther, PageAsked, Rests, has}
 use Rattle.disk_model.proofs.QueueLemmas.{has_tag}
@@ -283,6 +283,33 @@ queue_bits l c f can r = queue_by l (Ok (view.SetBits f)) c (record l { unanswer
     (record { moves = tt; answers = r.answers; replies = tt; asked = tt; fine = r.fine })
     (can.0, record { outstanding = can.1.outstanding; unanswered = has_left c.tag l.unanswered can.1.unanswered; moving = can.1.moving }, can.2)
 
+-- auto-activate and a new command, whichever comes first
+active_opened : (x : Ledger) (v : Option Moving) (c : Command) → activates (opened x c) v ≡ opened (activates x v) c
+active_opened x None c = refl
+active_opened x (Some v) c = refl
+
+auto_opened : (b : Bool) (x : Ledger) (c : Command) → with_auto b (opened x c) ≡ opened (with_auto b x) c
+auto_opened true x c = active_opened x x.moving c
+auto_opened false x c = refl
+
+active_open : (x : Ledger) (v : Option Moving) (c : Command) → x.moving ≡ v → IsOpen x c → IsOpen (activates x v) c
+active_open x None c moving can = can
+active_open x (Some v) c moving can =
+    (can.0, record { outstanding = can.1.outstanding; unanswered = can.1.unanswered; moving = subst (MovesOther c.tag) moving can.1.moving }, can.2)
+
+auto_open : (b : Bool) (x : Ledger) (c : Command) → IsOpen x c → IsOpen (with_auto b x) c
+auto_open true x c can = active_open x x.moving c refl can
+auto_open false x c can = can
+
+-- a DMA Setup leaves this, but for auto-activate
+queue_up : (l : Ledger) (f : List ℕ) (c : Command) (x : Ledger)
+    → sets_up l l.moving (field Setup BufferId f) (field Setup Offset f) (field Setup table.Count f) ≡ x
+    → sets_up (opened l c) l.moving (field Setup BufferId f) (field Setup Offset f) (field Setup table.Count f) ≡ opened x c
+    → IsRight (opened l c) (Ok (view.DmaSetup f)) → IsOpen x c → CrossesQueue l (Ok (view.DmaSetup f)) c
+queue_up l f c x before after right can =
+    queue_by l (Ok (view.DmaSetup f)) c (with_auto (is_auto f) x) (ap (with_auto (is_auto f)) before)
+    (ap (with_auto (is_auto f)) after ∙ auto_opened (is_auto f) x c) right (auto_open (is_auto f) x c can)
+
 -- the tag of a DMA Setup, its offset and its count
 queue_setup : (l : Ledger) (c : Command) (f : List ℕ) (v : Option Moving) (o : Option Command) → l.moving ≡ v → find (λ q. q.tag == field Setup BufferId f) l.outstanding ≡ o → IsOpen l c → IsRight l (Ok (view.DmaSetup f)) → CrossesQueue l (Ok (view.DmaSetup f)) c
 queue_setup l c f None None moving found can r =
@@ -295,11 +322,11 @@ queue_setup l c f None (Some q) moving found can r =
     let starts : StartsOne (Some q) f = subst (λ (o : Option Command). StartsOne o f) found first in
     let again : find (λ q. q.tag == field Setup BufferId f) (l.outstanding ++ c ∷ []) ≡ Some q =
     find-append (λ (q : Command). q.tag == field Setup BufferId f) l.outstanding (c ∷ []) ∙ ap (λ (o : Option Command). option_or o (find (λ (q : Command). q.tag == field Setup BufferId f) (c ∷ []))) found in
-    let up : listens_up l (Ok (view.DmaSetup f)) ≡ starts_moving l at count (Some q) =
+    let up : sets_up l l.moving (field Setup BufferId f) at count ≡ starts_moving l at count (Some q) =
     ap (λ (m : Option Moving). sets_up l m (field Setup BufferId f) at count) moving ∙ ap (starts_moving l at count) found in
-    let later : listens_up (opened l c) (Ok (view.DmaSetup f)) ≡ starts_moving (opened l c) at count (Some q) =
+    let later : sets_up (opened l c) l.moving (field Setup BufferId f) at count ≡ starts_moving (opened l c) at count (Some q) =
     ap (λ (m : Option Moving). sets_up (opened l c) m (field Setup BufferId f) at count) moving ∙ ap (starts_moving (opened l c) at count) again in
-    queue_by l (Ok (view.DmaSetup f)) c (starts_moving l at count (Some q)) up later
+    queue_up l f c (starts_moving l at count (Some q)) up later
     (record { moves = subst (λ v. SetsUpRight (opened l c) v f) (sym moving) (subst (λ (o : Option Command). StartsOne o f) (sym again) starts); answers = tt; replies = tt; asked = tt; fine = refl })
     (can.0, record { outstanding = can.1.outstanding; unanswered = can.1.unanswered; moving = found_not (λ (x : Command). x.tag == field Setup BufferId f) (λ (x : Command). x.tag == c.tag) l.outstanding q found can.1.outstanding }, can.2)
 queue_setup l c f (Some v) o moving found can r =
@@ -307,7 +334,7 @@ queue_setup l c f (Some v) o moving found can r =
     let count = field Setup table.Count f in
     let x : Ledger = sets_up l (Some v) (field Setup BufferId f) at count in
     let next : SetsUpRight l (Some v) f = subst (λ v. SetsUpRight l v f) moving r.moves in
-    queue_by l (Ok (view.DmaSetup f)) c x (ap (λ (m : Option Moving). sets_up l m (field Setup BufferId f) at count) moving) (ap (λ (m : Option Moving). sets_up (opened l c) m (field Setup BufferId f) at count) moving)
+    queue_up l f c x (ap (λ (m : Option Moving). sets_up l m (field Setup BufferId f) at count) moving) (ap (λ (m : Option Moving). sets_up (opened l c) m (field Setup BufferId f) at count) moving)
     (record { moves = subst (λ v. SetsUpRight (opened l c) v f) (sym moving) next; answers = tt; replies = tt; asked = tt; fine = refl })
     (can.0, record { outstanding = can.1.outstanding; unanswered = can.1.unanswered; moving = subst (MovesOther c.tag) moving can.1.moving }, can.2)
 

@@ -17,7 +17,7 @@ use Rattle.disk_model.specs.Histories.{Happening, Received, Sent, Plugged}
 use Rattle.disk_model.specs.Requests.{request_of}
 use Rattle.disk_model.specs.Disks.{opening}
 use Rattle.disk_model.specs.Runs.{IsDiskRun}
-use Rattle.disk_model.specs.Ledger.{IsRead, IsSize, Ledger, Moving, ReadOut, activates, answers, asks, empty, ends, goes_on, has_error, ledger, ledger_after, listens, listens_down, listens_up, sends_data, sets_up, starts_moving, takes_data}
+use Rattle.disk_model.specs.Ledger.{IsRead, IsSize, Ledger, Moving, ReadOut, activates, answers, asks, empty, ends, goes_on, has_error, is_auto, ledger, ledger_after, listens, listens_down, listens_up, sends_data, sets_up, starts_moving, takes_data, with_auto}
 use Rattle.disk_model.specs.Laws.{ErrsRight, IsPage, PageRight}
 use Rattle.disk_model.specs.Ends.{AreRight, DataAsked, EndsAgree, EndsTellTheSame, Fits, FitsAll, FitsData, FitsRequest, IsCareful, IsLinked, IsRight, MovesOther, PageAsked, Rests, begins, comes, gives, reports, sends, takes, with_down, with_up}
 use Rattle.disk_model.proofs.AnswerLaws.{answers_right}
@@ -335,6 +335,10 @@ reads_set_up : (P : ReadOut → Type 0) (l : Ledger) (v : Option Moving) (tag at
 reads_set_up P l None tag at count all = reads_started P l at count (find (λ c. c.tag == tag) l.outstanding) all
 reads_set_up P l (Some v) tag at count all = all
 
+reads_auto : (P : ReadOut → Type 0) (l : Ledger) (b : Bool) → All P (with_auto b l).reads → All P l.reads
+reads_auto P l true all = reads_activated P l l.moving all
+reads_auto P l false all = all
+
 reads_ended : (P : ReadOut → Type 0) (l : Ledger) (v : Moving) (b write : Bool) → All P (after_bytes l v b write).reads → All P l.reads
 reads_ended P l v true true all = all
 reads_ended P l v true false all = (All-pop P (ends l v false).reads l.reads (Some (record { command = v.command; before = v.before; bytes = v.bytes })) refl all).0
@@ -352,7 +356,9 @@ reads_up P l (Ok (view.RegH2D f)) all = all
 reads_up P l (Ok (view.RegD2H f)) all = all
 reads_up P l (Ok (view.SetBits f)) all = reads_answered P l (field Bits Error f) (has_error f) all
 reads_up P l (Ok (view.DmaActivate f)) all = reads_activated P l l.moving all
-reads_up P l (Ok (view.DmaSetup f)) all = reads_set_up P l l.moving (field Setup BufferId f) (field Setup Offset f) (field Setup table.Count f) all
+reads_up P l (Ok (view.DmaSetup f)) all =
+    reads_set_up P l l.moving (field Setup BufferId f) (field Setup Offset f) (field Setup table.Count f)
+    (reads_auto P (sets_up l l.moving (field Setup BufferId f) (field Setup Offset f) (field Setup table.Count f)) (is_auto f) all)
 reads_up P l (Ok (view.PioSetup f)) all = all
 reads_up P l (Ok (view.Payload f)) all = reads_sent P l l.moving (drop 4 f) all
 reads_up P l (Ok (view.Unknown f)) all = all

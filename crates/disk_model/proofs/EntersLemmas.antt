@@ -16,7 +16,7 @@ use Rattle.disk_model.specs.declared.request.Request.{Request}
 use Rattle.disk_model.specs.declared.request.Request.TheVariants.{Reset, Queue, ReadErrorLog, Identify, Flush, Other}
 use Rattle.disk_model.specs.Histories.{Received, Sent}
 use Rattle.disk_model.specs.Requests.{request_of}
-use Rattle.disk_model.specs.Ledger.{Ledger, Moving, Written, activates, answered, ends, listens, listens_down, listens_up, sends_data, sets_up, starts_moving}
+use Rattle.disk_model.specs.Ledger.{Ledger, Moving, Written, activates, answered, ends, is_auto, listens, listens_down, listens_up, sends_data, sets_up, starts_moving, with_auto}
 use Rattle.disk_model.specs.Laws.{ActivatesRight, CarriesNext, CarriesRight, SetsUpRight, StartsOne}
 use Rattle.disk_model.specs.Ends.{AnswersNext, AreEntered, AreRight, Fits, FitsData, FitsRequest, IsBits, IsFree, IsRight, MovesOther, Rests, has, with_down, with_up}
 use Rattle.disk_model.proofs.QueueLemmas.{has_tag}
@@ -120,6 +120,27 @@ up_activate : (l : Ledger) (f : List ℕ) (v : Option Moving) → l.moving ≡ v
 up_activate l f None moving r = absurd (subst ActivatesRight moving r.moves)
 up_activate l f (Some v) moving r = up_by l (activates l (Some v)) (Ok (view.DmaActivate f)) (ap (activates l) moving) refl refl (λ tag o m. (o, subst (MovesOther tag) moving m))
 
+active_same : (x : Ledger) (v : Option Moving)
+    → ((activates x v).writes ≡ x.writes) × ((activates x v).unanswered ≡ x.unanswered) × ((activates x v).outstanding ≡ x.outstanding)
+active_same x None = (refl, refl, refl)
+active_same x (Some v) = (refl, refl, refl)
+
+active_other : (x : Ledger) (v : Option Moving) (tag : ℕ) → x.moving ≡ v → MovesOther tag x.moving → MovesOther tag (activates x v).moving
+active_other x None tag is m = m
+active_other x (Some v) tag is m = subst (MovesOther tag) is m
+
+-- a DMA Setup leaves this, but for auto-activate
+up_auto : (b : Bool) (l x : Ledger) (f : List ℕ) → is_auto f ≡ b
+    → sets_up l l.moving (field Setup BufferId f) (field Setup Offset f) (field Setup table.Count f) ≡ x → x.writes ≡ l.writes
+    → x.unanswered ≡ l.unanswered → Less l x → UpLeaves l (Ok (view.DmaSetup f))
+up_auto true l x f auto up writes same less =
+    let kept = active_same x x.moving in
+    up_by l (activates x x.moving) (Ok (view.DmaSetup f)) (ap (λ (t : Bool). with_auto t (sets_up l l.moving (field Setup BufferId f) (field Setup Offset f) (field Setup table.Count f))) auto ∙ ap (with_auto true) up)
+    (kept.0 ∙ writes) (kept.1 ∙ same)
+    (λ tag o m. (subst (λ (cs : List Command). has_tag tag cs ≡ false) (sym kept.2) (less tag o m).0, active_other x x.moving tag refl (less tag o m).1))
+up_auto false l x f auto up writes same less =
+    up_by l x (Ok (view.DmaSetup f)) (ap (λ (t : Bool). with_auto t (sets_up l l.moving (field Setup BufferId f) (field Setup Offset f) (field Setup table.Count f))) auto ∙ up) writes same less
+
 up_setup : (l : Ledger) (f : List ℕ) (v : Option Moving) (o : Option Command) → l.moving ≡ v → find (λ q. q.tag == field Setup BufferId f) l.outstanding ≡ o → IsRight l (Ok (view.DmaSetup f)) → UpLeaves l (Ok (view.DmaSetup f))
 up_setup l f None None moving found r =
     let first : SetsUpRight l None f = subst (λ v. SetsUpRight l v f) moving r.moves in
@@ -127,14 +148,14 @@ up_setup l f None None moving found r =
 up_setup l f None (Some q) moving found r =
     let at = field Setup Offset f in
     let count = field Setup table.Count f in
-    let up : listens_up l (Ok (view.DmaSetup f)) ≡ starts_moving l at count (Some q) =
+    let up : sets_up l l.moving (field Setup BufferId f) at count ≡ starts_moving l at count (Some q) =
     ap (λ (m : Option Moving). sets_up l m (field Setup BufferId f) at count) moving ∙ ap (starts_moving l at count) found in
-    up_by l (starts_moving l at count (Some q)) (Ok (view.DmaSetup f)) up refl refl
+    up_auto (is_auto f) l (starts_moving l at count (Some q)) f refl up refl refl
     (λ tag o m. (o, found_not (λ (x : Command). x.tag == field Setup BufferId f) (λ (x : Command). x.tag == tag) l.outstanding q found o))
 up_setup l f (Some v) o moving found r =
     let at = field Setup Offset f in
     let count = field Setup table.Count f in
-    up_by l (sets_up l (Some v) (field Setup BufferId f) at count) (Ok (view.DmaSetup f)) (ap (λ (m : Option Moving). sets_up l m (field Setup BufferId f) at count) moving) refl refl
+    up_auto (is_auto f) l (sets_up l (Some v) (field Setup BufferId f) at count) f refl (ap (λ (m : Option Moving). sets_up l m (field Setup BufferId f) at count) moving) refl refl
     (λ tag o m. (o, subst (MovesOther tag) moving m))
 
 up_read : (l : Ledger) (s : Result Fis FisFault) (v : Moving) (w : Moving) (b : Bool) → l.moving ≡ Some v → w.command ≡ v.command → listens_up l s ≡ after_bytes l w b false → UpLeaves l s

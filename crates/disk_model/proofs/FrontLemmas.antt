@@ -14,7 +14,7 @@ use Rattle.disk_model.specs.declared.request.Request.{Request}
 use Rattle.disk_model.specs.declared.request.Request.TheVariants.{Reset, Queue, ReadErrorLog, Identify, Flush, Other}
 use Rattle.disk_model.specs.Histories.{Happening, Received, Sent, Plugged}
 use Rattle.disk_model.specs.Requests.{request_of}
-use Rattle.disk_model.specs.Ledger.{Accepts, Ledger, Moving, ReadOut, Written, activates, answers, asks, awaits, empty, ends, has_error, ledger, ledger_after, listens, listens_down, listens_up, mixes, moves, reads_log, refuses, restarts, sends_data, sets_up, starts_moving, takes_data}
+use Rattle.disk_model.specs.Ledger.{Accepts, Ledger, Moving, ReadOut, Written, activates, answers, asks, awaits, empty, ends, has_error, is_auto, ledger, ledger_after, listens, listens_down, listens_up, mixes, moves, reads_log, refuses, restarts, sends_data, sets_up, starts_moving, takes_data, with_auto}
 use Rattle.disk_model.proofs.CrossLemmas.{with_bytes}
 use Rattle.disk_model.specs.Ends.{with_down}
 use Rattle.disk_model.specs.Fronts.{BeforeIsFront, HostIsAhead, IsFront}
@@ -135,6 +135,10 @@ activated : (l : Ledger) (v : Option Moving) → AreFronts l → OfMoving v l.wr
 activated l None f g = f
 activated l (Some v) f g = record { reads = f.reads; moving = record { later = g.later; same = g.same } }
 
+autos : (b : Bool) (l : Ledger) → AreFronts l → AreFronts (with_auto b l)
+autos true l f = activated l l.moving f f.moving
+autos false l f = f
+
 answered_so : (l : Ledger) (error : ℕ) (b : Bool) → AreFronts l → AreFronts (answers l error b)
 answered_so l error true f = record { reads = f.reads; moving = tt }
 answered_so l error false f = record { reads = f.reads; moving = f.moving }
@@ -158,7 +162,9 @@ up l (Ok (view.Payload f)) g = sent l l.moving (drop 4 f) g g.moving
 up l (Ok (view.RegD2H f)) g = record { reads = g.reads; moving = g.moving }
 up l (Ok (view.SetBits f)) g = answered_so l (field Bits Error f) (has_error f) g
 up l (Ok (view.DmaActivate f)) g = activated l l.moving g g.moving
-up l (Ok (view.DmaSetup f)) g = set_up l l.moving (field Setup BufferId f) (field Setup Offset f) (field Setup table.Count f) g g.moving
+up l (Ok (view.DmaSetup f)) g =
+    autos (is_auto f) (sets_up l l.moving (field Setup BufferId f) (field Setup Offset f) (field Setup table.Count f))
+    (set_up l l.moving (field Setup BufferId f) (field Setup Offset f) (field Setup table.Count f) g g.moving)
 up l (Ok (view.PioSetup f)) g = record { reads = g.reads; moving = g.moving }
 up l (Ok (view.Unknown f)) g = g
 up l (Err e) g = g

@@ -15,7 +15,7 @@ use Rattle.disk_model.specs.declared.request.Request.TheVariants.{Reset, Queue, 
 use Rattle.disk_model.specs.Histories.{Happening, Received, Sent, Plugged}
 use Rattle.disk_model.specs.Requests.{request_of}
 use Rattle.disk_model.specs.Laws.{ActivatesRight, CarriesRight, SetsUpRight}
-use Rattle.disk_model.specs.Ledger.{Ledger, Moving, ReadOut, Written, activates, answers, empty, ends, has_error, ledger, ledger_after, listens, listens_down, listens_up, moves, sends_data, sets_up, starts_moving, takes_data}
+use Rattle.disk_model.specs.Ledger.{Ledger, Moving, ReadOut, Written, activates, answers, empty, ends, has_error, is_auto, ledger, ledger_after, listens, listens_down, listens_up, moves, sends_data, sets_up, starts_moving, takes_data, with_auto}
 use Rattle.disk_model.specs.Ends.{Fits, FitsAll, FitsData, FitsRequest, IsCareful, IsLinked, IsRight, MovesOther, PageAsked, Rests}
 use Rattle.disk_model.specs.Ends as link
 use Rattle.disk_model.specs.Anew.{IsLinkedOn}
@@ -120,6 +120,10 @@ module _ (ws : List Written) (rs : List ReadOut) (resetting : Bool) where
   later_activates l None = refl
   later_activates l (Some v) = refl
 
+  later_autos : (l : Ledger) (b : Bool) → with_auto b (later l) ≡ later (with_auto b l)
+  later_autos l true = later_activates l l.moving
+  later_autos l false = refl
+
   later_answers : (l : Ledger) (error : ℕ) (b : Bool) → answers (later l) error b ≡ later (answers l error b)
   later_answers l error true = refl
   later_answers l error false = refl
@@ -129,7 +133,9 @@ module _ (ws : List Written) (rs : List ReadOut) (resetting : Bool) where
   later_up l (Ok (view.RegD2H f)) = refl
   later_up l (Ok (view.SetBits f)) = later_answers l (field Bits Error f) (has_error f)
   later_up l (Ok (view.DmaActivate f)) = later_activates l l.moving
-  later_up l (Ok (view.DmaSetup f)) = later_sets l l.moving (field Setup BufferId f) (field Setup Offset f) (field Setup table.Count f)
+  later_up l (Ok (view.DmaSetup f)) =
+      ap (with_auto (is_auto f)) (later_sets l l.moving (field Setup BufferId f) (field Setup Offset f) (field Setup table.Count f))
+      ∙ later_autos (sets_up l l.moving (field Setup BufferId f) (field Setup Offset f) (field Setup table.Count f)) (is_auto f)
   later_up l (Ok (view.PioSetup f)) = refl
   later_up l (Ok (view.Payload f)) = later_sends l l.moving (drop 4 f)
   later_up l (Ok (view.Unknown f)) = refl

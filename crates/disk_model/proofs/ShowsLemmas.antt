@@ -1,12 +1,14 @@
 -- What the FISes that a disk sends tell.
-use Rattle.std.proofs.Common.{◌≡◌, ℕ, ◌%◌, ◌^◌, ◌<◌, Bool, true, false, List, [], ◌∷◌, Ok, refl, ◌∙◌, arith}
-use Rattle.fis_view.specs.Table.{Run, Setup, Bits, BufferId, Offset, D, Count, Status, Error, SActive, field, places}
+use Rattle.std.proofs.Common.{◌≡◌, ◌==◌, ℕ, ◌%◌, ◌^◌, ◌<◌, Bool, true, false, List, [], ◌∷◌, Ok, refl, sym, subst, ◌∙◌, arith}
+use Rattle.std.proofs.lemmas.Bool.{and_parts, true≢false}
+use Rattle.std.specs.Prelude.{not, ◌&&◌}
+use Rattle.fis_view.specs.Table.{A, Run, Setup, Bits, BufferId, Offset, D, Count, Status, Error, SActive, field, places}
 use Rattle.std.specs.Int.{from_bool}
 use Rattle.fis_view.specs.Built.{cut}
 use Rattle.fis_view.specs.Seen.{seen}
 use Rattle.fis_view.specs.declared.view.Fis.TheVariants as view
 use Rattle.disk_model.specs.Sendings.{Shows, setup, bits}
-use Rattle.disk_model.specs.Ledger.{has_error}
+use Rattle.disk_model.specs.Ledger.{has_error, is_auto}
 
 cut_run : (byte low n x : ℕ) → x % 2 ^ n ≡ x → cut (Run byte low n ∷ []) x ≡ x
 unfolding cut
@@ -23,9 +25,9 @@ pub record TellsSetup (tag offset count : ℕ) (d : Bool) (b : List ℕ) : Type 
   pub count_is : field Setup Count b ≡ count
   pub direction_is : field Setup D b ≡ from_bool d
 
-pub setup_tells : (tag offset count : ℕ) (d : Bool) (b : List ℕ) → tag < 32 → offset < 4294967296 → count < 4294967296 → Shows (setup tag offset count d) b → TellsSetup tag offset count d b
+pub setup_tells : (tag offset count : ℕ) (d auto : Bool) (b : List ℕ) → tag < 32 → offset < 4294967296 → count < 4294967296 → Shows (setup tag offset count d auto) b → TellsSetup tag offset count d b
 unfolding places
-setup_tells tag offset count d b t o n shows =
+setup_tells tag offset count d auto b t o n shows =
     let small_tag : tag % 2 ^ 64 ≡ tag = omega arith in
     let small_offset : offset % 2 ^ 32 ≡ offset = omega arith in
     let small_count : count % 2 ^ 32 ≡ count = omega arith in
@@ -36,6 +38,38 @@ setup_tells tag offset count d b t o n shows =
       count_is = shows.fields Count ∙ cut_run 20 0 32 count small_count;
       direction_is = shows.fields D ∙ cut_run 1 5 1 (from_bool d) (small_bool d);
     }
+
+bits_of_auto : (d auto : Bool) → (from_bool (auto && not d) == 1 && not (from_bool d == 1)) ≡ (auto && not d)
+bits_of_auto true true = refl
+bits_of_auto true false = refl
+bits_of_auto false true = refl
+bits_of_auto false false = refl
+
+-- whether it has auto-activate
+pub auto_tells : (tag offset count : ℕ) (d auto : Bool) (b : List ℕ) → Shows (setup tag offset count d auto) b
+    → is_auto b ≡ (auto && not d)
+unfolding places
+auto_tells tag offset count d auto b shows =
+    let a : field Setup A b ≡ from_bool (auto && not d) = shows.fields A ∙ cut_run 1 7 1 (from_bool (auto && not d)) (small_bool (auto && not d)) in
+    let way : field Setup D b ≡ from_bool d = shows.fields D ∙ cut_run 1 5 1 (from_bool d) (small_bool d) in
+    rw (a, way) (bits_of_auto d auto)
+
+-- towards the host it has none
+pub auto_none : (auto write : Bool) → write ≡ false → (auto && not (not write)) ≡ false
+auto_none true write reads = rw reads refl
+auto_none false write reads = refl
+
+-- towards the device it has what the plan says
+pub auto_same : (auto write : Bool) → write ≡ true → (auto && not (not write)) ≡ auto
+auto_same true write writes = rw writes refl
+auto_same false write writes = refl
+
+-- Data towards the device: D is clear
+pub write_of_auto : (a d : ℕ) (write : Bool) → d ≡ from_bool (not write) → (a == 1 && not (d == 1)) ≡ true → write ≡ true
+write_of_auto a d true is auto = refl
+write_of_auto a d false is auto =
+    let clear : not (d == 1) ≡ true = (and_parts (a == 1) (not (d == 1)) auto).1 in
+    absurd (true≢false (sym (subst (λ (n : ℕ). not (n == 1) ≡ true) is clear)))
 
 pub error_tells : (error : ℕ) (b : List ℕ) → Shows (bits 0x41 error 0) b → has_error b ≡ true
 unfolding places cut

@@ -1,6 +1,6 @@
 -- The ledger and the disk go on agreeing at each FIS that the disk sends.
 use Rattle.std.proofs.Common.{◌≡◌, eqb, ℕ, ◌+◌, ◌-◌, ◌*◌, ◌<◌, ◌≤◌, Bool, true, false, List, [], ◌∷◌, Option, Some, None, length, drop, refl, ap, sym, subst, ◌∙◌, arith}
-use Rattle.std.specs.Prelude.{replicate, not}
+use Rattle.std.specs.Prelude.{replicate, not, ◌++◌}
 use Rattle.std.proofs.lemmas.Bool.{eq-eqb}
 use Rattle.std.proofs.lemmas.Bool.Decides.{nat_tests}
 use Rattle.std.proofs.lemmas.List.{length-replicate}
@@ -13,20 +13,21 @@ use Rattle.disk_model.specs.declared.answer.Answer.{Answer}
 use Rattle.disk_model.specs.declared.answer.Fault.{Fault}
 use Rattle.disk_model.specs.declared.answer.Fault.TheVariants.{Failed, Held, Mixed}
 use Rattle.disk_model.specs.Sendings.{Sending, Carries}
-use Rattle.disk_model.specs.Chunks.{chunks, chunk_from, chunk_count, sends_left, sectors_at, fault_of, error_of}
-use Rattle.disk_model.specs.Disks.{Moment, Started, Writing, turn, read_turn, write_turn, begun, starts, pick_turn, picked, went}
+use Rattle.disk_model.specs.Chunks.{activations, chunks, chunk_from, chunk_count, sends_left, sectors_at, fault_of, error_of}
+use Rattle.disk_model.specs.Disks.{Moment, Started, Writing, turn, read_turn, write_turn, begun, begun_write, starts, pick_turn, picked, went}
 use Rattle.disk_model.specs.Runs.{IsTurn}
-use Rattle.disk_model.specs.Ledger.{Failure, Ledger, Moving, moves, listens_up}
+use Rattle.disk_model.specs.Ledger.{Failure, Ledger, Moving, is_auto, moves, listens_up, sets_up, with_auto}
 use Rattle.disk_model.proofs.SendLemmas.{sends_left_next}
 use Rattle.disk_model.proofs.ShowsLemmas.{TellsSetup, error_tells, error_field_tells}
 use Rattle.disk_model.proofs.FaultLemmas.{can_be_done, fault_is, fault_small, noted}
-use Rattle.fis_view.specs.Table.{Bits, Error, field}
+use Rattle.fis_view.specs.Table.{Bits, BufferId, Error, Offset, Setup, field}
+use Rattle.fis_view.specs.Table as table
 use Rattle.disk_model.proofs.GeometryLemmas.{moved_sectors, moved_none, chunk_part, some_chunks, ChunkPart}
 use Rattle.disk_model.proofs.SetupLemmas.{AreSetUp, chunk_stretch, set_up_none, set_up_next}
 use Rattle.disk_model.proofs.QueueLemmas.{IsQueue, IsIn, is_in}
-use Rattle.disk_model.proofs.AgreeLemmas.{Agrees, Asked, Beside, Fresh, IsHeld, IsReading, IsWriting, Moves, SetUp, Stage, Stands, along, gives_up, idle, moved_bytes, reading, shown, under, writing}
+use Rattle.disk_model.proofs.AgreeLemmas.{Agrees, Asked, Beside, Fresh, IsHeld, IsMoving, IsReading, IsSetUp, IsWriting, Moves, SetUp, Stage, Stands, along, gives_up, idle, moved_bytes, reading, shown, under, writing}
 use Rattle.disk_model.proofs.StoreLemmas.{IsSized}
-use Rattle.disk_model.proofs.TransferLemmas.{Carried, Follows, IsSending, chunk_bytes, length-sectors_at, none_moved, read_ends, read_goes_on, read_sets_up, same_moving, sent_so_far, setup_of_chunk, so_far}
+use Rattle.disk_model.proofs.TransferLemmas.{auto_of_read, auto_of_write, Carried, Follows, IsSending, chunk_bytes, length-sectors_at, none_moved, read_ends, read_goes_on, read_sets_up, same_moving, sent_so_far, setup_of_chunk, so_far}
 use Rattle.disk_model.proofs.ListenLemmas.{step_answer}
 
 -- ## A read's Data
@@ -86,6 +87,69 @@ read_carries plan sectors m k s v left b sized r held a may =
 
 -- ## A write asks
 
+-- a write whose next chunk was just set up: with auto-activate its Data may come
+write_set_up : (plan : DiskPlan) (sectors : ℕ) (m : Moment) (k : Beside) (s0 : Option Started) (w0 : Option Writing)
+    (v0 : Option Moving) (w : Writing) (v : Moving) (auto : Bool) → IsMoving plan sectors w.command w.left v
+    → w.command.write ≡ true → v.bytes ≡ w.staged → length w.staged ≡ 512 * w.command.count → v.active ≡ false
+    → IsSetUp plan w.command w.left v → AreSetUp plan w.command (w.left - 1) v.setups → IsHeld m.queued [] w.command.tag
+    → Stands plan sectors (under m [] s0 w0) (along k v0)
+    → Agrees plan sectors (writing m [] (record w { sends = activations auto }))
+    (with_auto auto (shown (writing m [] (record w { sends = activations auto })) (along k (Some v))))
+write_set_up plan sectors m k s0 w0 v0 w v true mv writes bytes whole idle up setups held a = record {
+  outstanding = refl;
+  failed = refl;
+  unanswered = refl;
+  medium = a.medium;
+  length_is = a.length_is;
+  queue = a.queue;
+  tags = a.tags;
+  reads = a.reads;
+  moving = (
+    Asked,
+    record {
+      moving = record { same = mv.same; more = mv.more; among = mv.among; inside = mv.inside; some = mv.some; tag = mv.tag; moved = mv.moved };
+      writes = writes;
+      bytes = bytes;
+      whole = whole;
+      stage = (refl, refl, up);
+      setups = setups;
+    },
+    held,
+  );
+  failure = a.failure;
+  resetting = refl;
+  in_reset = refl;
+  awaited = refl;
+  pages = a.pages;
+}
+write_set_up plan sectors m k s0 w0 v0 w v false mv writes bytes whole idle up setups held a = record {
+  outstanding = refl;
+  failed = refl;
+  unanswered = refl;
+  medium = a.medium;
+  length_is = a.length_is;
+  queue = a.queue;
+  tags = a.tags;
+  reads = a.reads;
+  moving = (
+    SetUp,
+    record {
+      moving = record { same = mv.same; more = mv.more; among = mv.among; inside = mv.inside; some = mv.some; tag = mv.tag; moved = mv.moved };
+      writes = writes;
+      bytes = bytes;
+      whole = whole;
+      stage = (refl, idle, up);
+      setups = setups;
+    },
+    held,
+  );
+  failure = a.failure;
+  resetting = refl;
+  in_reset = refl;
+  awaited = refl;
+  pages = a.pages;
+}
+
 write_asks : (plan : DiskPlan) (sectors : ℕ) (m : Moment) (k : Beside) (w : Writing) (v : Moving) (stage : Stage) (b : List ℕ)
     → IsSized plan sectors → IsWriting plan sectors w v stage → IsHeld m.queued [] w.command.tag
     → Stands plan sectors (writing m [] w) (along k (Some v)) → IsTurn (write_turn (writing m [] w) w w.sends) b
@@ -98,33 +162,28 @@ write_asks plan sectors m k w v Fresh b sized r held a may =
     let part : ChunkPart plan c w.left = chunk_part plan c w.left sized.low mv.some mv.more mv.among in
     let told : TellsSetup c.tag (512 * chunk_from plan c w.left) (512 * chunk_count plan c w.left) (not c.write) b =
     setup_of_chunk plan sectors c w.left b sized part mv.inside mv.tag shows in
-    subst (λ (xs : List Sending). Follows plan sectors n (along k (Some v)) (write_turn n w xs) b) (sym r.stage.0) (rw told.viewed (record {
-      outstanding = refl;
-      failed = refl;
-      unanswered = refl;
-      medium = a.medium;
-      length_is = a.length_is;
-      queue = a.queue;
-      tags = a.tags;
-      reads = a.reads;
-      moving = (
-        SetUp,
-        record {
-          moving = record { same = mv.same; more = mv.more; among = mv.among; inside = mv.inside; some = mv.some; tag = mv.tag; moved = mv.moved };
-          writes = r.writes;
-          bytes = r.bytes;
-          whole = r.whole;
-          stage = (refl, refl, (told.offset_is, told.count_is));
-          setups = rw (told.offset_is, told.count_is) (set_up_next plan c w.left v.setups part r.setups);
-        },
-        held,
-      );
-      failure = a.failure;
-      resetting = refl;
-      in_reset = refl;
-      awaited = refl;
-      pages = a.pages;
-    }))
+    let offset : ℕ = 512 * chunk_from plan c w.left in
+    let count : ℕ = 512 * chunk_count plan c w.left in
+    let now : Moving = record v {
+      setups = v.setups ++ record { at = offset; count = count } ∷ [];
+      offset = offset;
+      count = count;
+      active = false;
+    } in
+    let auto : is_auto b ≡ plan.auto = auto_of_write plan c w.left b r.writes shows in
+    let at : field Setup Offset b ≡ offset = told.offset_is in
+    let long : field Setup table.Count b ≡ count = told.count_is in
+    let goes = write_set_up plan sectors m k None (Some w) (Some v) w now plan.auto
+    (record { same = mv.same; more = mv.more; among = mv.among; inside = mv.inside; some = mv.some; tag = mv.tag; moved = mv.moved })
+    r.writes r.bytes r.whole refl (refl, refl) (set_up_next plan c w.left v.setups part r.setups) held a in
+    let heard : listens_up (shown n (along k (Some v))) (seen b) ≡ with_auto plan.auto (shown n (along k (Some now))) =
+    ap (listens_up (shown n (along k (Some v)))) told.viewed
+    ∙ ap (λ (t : Bool). with_auto t (sets_up (shown n (along k (Some v))) (Some v) (field Setup BufferId b) (field Setup Offset b) (field Setup table.Count b))) auto
+    ∙ ap (λ (x : ℕ). with_auto plan.auto (sets_up (shown n (along k (Some v))) (Some v) (field Setup BufferId b) x (field Setup table.Count b))) at
+    ∙ ap (λ (x : ℕ). with_auto plan.auto (sets_up (shown n (along k (Some v))) (Some v) (field Setup BufferId b) offset x)) long in
+    let next : Moment = writing m [] (record w { sends = activations plan.auto }) in
+    subst (λ (xs : List Sending). Follows plan sectors n (along k (Some v)) (write_turn n w xs) b) (sym r.stage.0)
+    (subst (λ (l : Ledger). Agrees plan sectors next l) (sym heard) goes)
 write_asks plan sectors m k w v SetUp b sized r held a may =
     let n : Moment = writing m [] w in
     let mv = r.moving in
@@ -182,14 +241,15 @@ first_moving plan k c = record {
 -- that DMA Setup, as it is heard
 starts_told : (plan : DiskPlan) (m : Moment) (k : Beside) (c : Command) (b : List ℕ) → IsIn m.queued c
     → TellsSetup c.tag (512 * chunk_from plan c (chunks plan c)) (512 * chunk_count plan c (chunks plan c)) (not c.write) b
-    → listens_up (shown m (along k None)) (seen b) ≡ shown m (along k (Some (first_moving plan k c)))
-starts_told plan m k c b here told =
+    → (auto : Bool) → is_auto b ≡ auto
+    → listens_up (shown m (along k None)) (seen b) ≡ with_auto auto (shown m (along k (Some (first_moving plan k c))))
+starts_told plan m k c b here told auto is =
     let found = here.found in
     let tag = told.tag_is in
     let offset = told.offset_is in
     let count = told.count_is in
     let viewed = told.viewed in
-    rw (viewed, tag, offset, count, found) refl
+    rw (viewed, is, tag, offset, count, found) refl
 
 start_of : (plan : DiskPlan) (sectors : ℕ) (m : Moment) (k : Beside) (c : Command) (write : Bool) (b : List ℕ)
     → IsSized plan sectors → c.write ≡ write → IsIn m.queued c → c.lba + c.count ≤ sectors
@@ -209,7 +269,7 @@ start_of plan sectors m k c false b sized is here inside a may =
     let s : List ℕ = sectors_at m.medium c.lba c.count in
     let zeros = sym (none_moved plan.last_first s (512 * c.count) (length-sectors_at m.medium c.lba c.count room))
     ∙ ap (λ n. moved_bytes plan.last_first s (512 * c.count) (512 * n)) (sym nothing) in
-    subst (λ (xs : List Sending). Follows plan sectors n (along k None) (read_turn n c xs) b) (sym next) (rw (starts_told plan n k c b here told) (record {
+    subst (λ (xs : List Sending). Follows plan sectors n (along k None) (read_turn n c xs) b) (sym next) (rw (starts_told plan n k c b here told false (auto_of_read plan c all b is shows)) (record {
       outstanding = refl;
       failed = refl;
       unanswered = refl;
@@ -254,41 +314,20 @@ start_of plan sectors m k c true b sized is here inside a may =
     let told : TellsSetup c.tag (512 * chunk_from plan c all) (512 * chunk_count plan c all) (not c.write) b =
     setup_of_chunk plan sectors c all b sized part inside here.tag may in
     let nothing : moved_sectors plan c all ≡ 0 = moved_none plan c sized.low here.some in
-    rw (starts_told plan n k c b here told) (record {
-      outstanding = refl;
-      failed = refl;
-      unanswered = refl;
-      medium = a.medium;
-      length_is = a.length_is;
-      queue = a.queue;
-      tags = a.tags;
-      reads = a.reads;
-      moving = (
-        SetUp,
-        record {
-          moving = record {
-            same = refl;
-            more = more;
-            among = omega arith;
-            inside = inside;
-            some = here.some;
-            tag = here.tag;
-            moved = ap (λ n. 512 * n) (sym nothing);
-          };
-          writes = is;
-          bytes = refl;
-          whole = length-replicate (512 * c.count) 0;
-          stage = (refl, refl, (refl, refl));
-          setups = set_up_next plan c all [] part (set_up_none plan c sized.low here.some);
-        },
-        record { has = here.has; quiet = refl },
-      );
-      failure = a.failure;
-      resetting = refl;
-      in_reset = refl;
-      awaited = refl;
-      pages = a.pages;
-    })
+    let moving : IsMoving plan sectors c all (first_moving plan k c) = record {
+      same = refl;
+      more = more;
+      among = omega arith;
+      inside = inside;
+      some = here.some;
+      tag = here.tag;
+      moved = ap (λ n. 512 * n) (sym nothing);
+    } in
+    let goes = write_set_up plan sectors m k None None None (begun_write plan c) (first_moving plan k c) plan.auto moving is refl
+    (length-replicate (512 * c.count) 0) refl (refl, refl) (set_up_next plan c all [] part (set_up_none plan c sized.low here.some))
+    (record { has = here.has; quiet = refl }) a in
+    let next : Moment = writing m [] (record (begun_write plan c) { sends = activations plan.auto }) in
+    subst (λ (l : Ledger). Agrees plan sectors next l) (sym (starts_told plan n k c b here told plan.auto (auto_of_write plan c all b is may))) goes
 
 begin_of : (plan : DiskPlan) (sectors : ℕ) (m : Moment) (k : Beside) (c : Command) (bad : Option Fault) (b : List ℕ)
     → IsSized plan sectors → fault_of plan sectors c ≡ bad → picked plan.order m.queued ≡ Some c → IsIn m.queued c

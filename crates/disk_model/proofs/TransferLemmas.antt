@@ -10,12 +10,12 @@ use Rattle.fis_view.specs.Seen.{seen}
 use Rattle.disk_model.specs.declared.plan.DiskPlan.{DiskPlan}
 use Rattle.disk_model.specs.declared.request.Command.{Command}
 use Rattle.disk_model.specs.Sendings.{Sending, Shows}
-use Rattle.disk_model.specs.Chunks.{chunk_from, chunk_count, chunk_setup, sends_left, sectors_at, put}
+use Rattle.disk_model.specs.Chunks.{activations, chunk_from, chunk_count, chunk_setup, sends_left, sectors_at, put}
 use Rattle.disk_model.specs.Disks.{Moment, Started, Turn, Writing, data_taken, stored, read_turn, went, after_turn}
 use Rattle.disk_model.specs.Runs.{IsTurn}
-use Rattle.disk_model.specs.Ledger.{Ledger, Moving, ReadOut, IsRead, moves, takes_data, listens_up, medium_with}
+use Rattle.disk_model.specs.Ledger.{Ledger, Moving, ReadOut, IsRead, is_auto, moves, takes_data, listens_up, medium_with}
 use Rattle.disk_model.proofs.SendLemmas.{sends_left_next}
-use Rattle.disk_model.proofs.ShowsLemmas.{setup_tells, TellsSetup}
+use Rattle.disk_model.proofs.ShowsLemmas.{auto_none, auto_same, auto_tells, setup_tells, TellsSetup}
 use Rattle.disk_model.proofs.PlaceLemmas.{from_front, from_back, put_front, put_back, chunk_of_sectors}
 use Rattle.disk_model.proofs.GeometryLemmas.{moved_sectors, chunk_part, ChunkPart}
 use Rattle.disk_model.proofs.SetupLemmas.{AreSetUp, set_up_next}
@@ -98,6 +98,11 @@ nothing_stored : (plan : DiskPlan) (m : Moment) (w : Writing) (bytes : List ℕ)
 nothing_stored plan m w bytes e =
     ap (λ (b : Bool). if b && (length bytes == 512 * chunk_count plan w.command w.left) then stored plan m w bytes else m) e
 
+-- a write asks for each chunk
+some_asks : (x : Sending) (auto : Bool) → (length (x ∷ activations auto) == 0) ≡ false
+some_asks x true = refl
+some_asks x false = refl
+
 -- Data that is not asked for changes nothing
 not_asked : (plan : DiskPlan) (sectors : ℕ) (m : Moment) (k : Beside) (w : Writing) (v : Moving) (bytes : List ℕ)
     → (length w.sends == 0) ≡ false → v.active ≡ false → Stands plan sectors m (along k (Some v))
@@ -118,7 +123,7 @@ step_data plan sectors m k (Some s) None (Some v) bytes sized moves a =
     rw (nothing_taken (shown (under m m.owed (Some s) None) (along k (Some v))) v bytes idle) a
 step_data plan sectors m k None (Some w) None bytes sized moves a = absurd moves
 step_data plan sectors m k None (Some w) (Some v) bytes sized (Fresh, r, held) a =
-    let more : (length w.sends == 0) ≡ false = rw r.stage.0 refl in
+    let more : (length w.sends == 0) ≡ false = rw r.stage.0 (some_asks (chunk_setup plan w.command w.left) plan.auto) in
     not_asked plan sectors (writing m m.owed w) k w v bytes more r.stage.1 a
 step_data plan sectors m k None (Some w) (Some v) bytes sized (SetUp, r, held) a =
     let more : (length w.sends == 0) ≡ false = rw r.stage.0 refl in
@@ -190,8 +195,21 @@ pub setup_of_chunk : (plan : DiskPlan) (sectors : ℕ) (c : Command) (left : ℕ
 setup_of_chunk plan sectors c left b sized part inside tag shows =
     let offset = 512 * chunk_from plan c left in
     let count = 512 * chunk_count plan c left in
-    setup_tells c.tag offset count (not c.write) b tag
+    setup_tells c.tag offset count (not c.write) plan.auto b tag
     (omega (arith, part.inside, sized.most)) (omega (arith, part.inside, sized.most)) shows
+
+-- the DMA Setup of a read has no auto-activate, and that of a write has what the plan says
+pub auto_of_read : (plan : DiskPlan) (c : Command) (left : ℕ) (b : List ℕ) → c.write ≡ false → Shows (chunk_setup plan c left) b
+    → is_auto b ≡ false
+auto_of_read plan c left b reads shows =
+    auto_tells c.tag (512 * chunk_from plan c left) (512 * chunk_count plan c left) (not c.write) plan.auto b shows
+    ∙ auto_none plan.auto c.write reads
+
+pub auto_of_write : (plan : DiskPlan) (c : Command) (left : ℕ) (b : List ℕ) → c.write ≡ true → Shows (chunk_setup plan c left) b
+    → is_auto b ≡ plan.auto
+auto_of_write plan c left b writes shows =
+    auto_tells c.tag (512 * chunk_from plan c left) (512 * chunk_count plan c left) (not c.write) plan.auto b shows
+    ∙ auto_same plan.auto c.write writes
 
 pub read_sets_up : (plan : DiskPlan) (sectors : ℕ) (m : Moment) (k : Beside) (c : Command) (sends : List Sending) (v : Moving)
     (left : ℕ) (b : List ℕ) → IsSized plan sectors
@@ -207,7 +225,8 @@ read_sets_up plan sectors m k c sends v left b sized r held a may =
     let part : ChunkPart plan c left = chunk_part plan c left sized.low mv.some mv.more mv.among in
     let told : TellsSetup c.tag (512 * chunk_from plan c left) (512 * chunk_count plan c left) (not c.write) b =
     setup_of_chunk plan sectors c left b sized part mv.inside mv.tag shows in
-    rw (is, told.viewed) (record {
+    let plain : is_auto b ≡ false = auto_of_read plan c left b r.reads shows in
+    rw (is, told.viewed, plain) (record {
       outstanding = refl;
       failed = refl;
       unanswered = refl;

@@ -1,6 +1,6 @@
 -- What a disk's turn is, from the facts that its code has at hand.
 use Rattle.std.proofs.lemmas.Bool.Decides.{nat_tests}
-use Rattle.std.proofs.Common.{◌≡◌, ◌≢◌, ◌==◌, ◌≤◌, length-drop, rules, tests, ℕ, ◌-◌, ◌*◌, ◌<◌, Bool, true, false, List, [], ◌∷◌, Some, None, length, get_or, drop, refl, ap, sym, ◌∙◌, arith}
+use Rattle.std.proofs.Common.{◌≡◌, ◌≢◌, ◌==◌, ◌≤◌, length-drop, rules, tests, ℕ, ◌+◌, ◌-◌, ◌*◌, ◌<◌, Bool, true, false, List, [], ◌∷◌, Some, None, length, get_or, drop, refl, ap, sym, ◌∙◌, arith}
 use Rattle.std.specs.Prelude.{Result, Ok, Err, OnErr}
 use Rattle.disk_model.specs.declared.request.Command.{Command}
 use Rattle.disk_model.specs.declared.answer.Answer.{Answer}
@@ -9,7 +9,7 @@ use Rattle.disk_model.specs.declared.plan.DiskPlan.{DiskPlan}
 use Rattle.disk_model.specs.declared.disk.Reading.{Reading}
 use Rattle.disk_model.specs.declared.disk.Transfer.TheVariants.{Read}
 use Rattle.disk_model.specs.Sendings.{Sending, Shows, answer_sent}
-use Rattle.disk_model.specs.Chunks.{sends_left, asks_for, chunks, chunk_from, chunk_count, fault_of, report, put}
+use Rattle.disk_model.specs.Chunks.{activations, sends_left, asks_for, chunks, chunk_from, chunk_count, fault_of, report, put}
 use Rattle.disk_model.specs.Disks.{Moment, Turn, turn, went, ended, stopped, picked, starts, read_turn, write_turn, begun_write, data_taken}
 use Rattle.disk_model.specs.Runs.{Takes}
 use Rattle.disk_model.specs.Insides.{sends_of, sends_after, moved, started_by, Leads}
@@ -22,10 +22,10 @@ pub takes : (t : Turn) (s : Sending) (bytes : List ℕ) (m n : Moment) → t ≡
 takes t s bytes m n is shows same = rw is (shows, same)
 
 pub takes_answer : (plan : DiskPlan) (sectors : ℕ) (m n : Moment) (a : Answer) (later : List Answer) (bytes : List ℕ)
-    → m.owed ≡ a ∷ later → Shows (answer_sent sectors a) bytes → n ≡ record m { owed = later }
+    → m.owed ≡ a ∷ later → Shows (answer_sent sectors plan.auto a) bytes → n ≡ record m { owed = later }
     → Takes (turn plan sectors m) bytes n
 takes_answer plan sectors m n a later bytes owed shows same =
-    takes _ (answer_sent sectors a) bytes (record m { owed = later }) n (rw owed refl) shows same
+    takes _ (answer_sent sectors plan.auto a) bytes (record m { owed = later }) n (rw owed refl) shows same
 
 takes_first : (m n : Moment) (c : Command) (sends later : List Sending) (bytes : List ℕ) → Leads sends bytes later
     → n ≡ went m c later → Takes (read_turn m c sends) bytes n
@@ -136,7 +136,8 @@ pub same_moment : (m n : Moment) → m.medium ≡ n.medium → m.queued ≡ n.qu
 same_moment m n a b c d e f g = λ i. record { medium = a i; queued = b i; fault = c i; resetting = d i; owed = e i; started = f i; writing = g i }
 
 -- a chunk came that is not the last
-pub stored_more : (plan : DiskPlan) (m : Moment) (c : Command) (left gone : ℕ) (staged bytes : List ℕ) → 2 ≤ gone
+pub stored_more : (plan : DiskPlan) (m : Moment) (c : Command) (left gone : ℕ) (staged bytes : List ℕ)
+    → 1 + length (activations plan.auto) ≤ gone
     → length bytes ≡ 512 * chunk_count plan c left → (left ≡ 1 → ⊥)
     → data_taken plan m (Some (record { command = c; sends = drop gone (asks_for plan c left); left = left; staged = staged })) bytes ≡ record m { writing = Some (record { command = c; sends = asks_for plan c (left - 1); left = left - 1; staged = put staged (512 * chunk_from plan c left) bytes }) }
 stored_more plan m c left gone staged bytes past is more =

@@ -14,7 +14,7 @@ use Rattle.disk_model.specs.declared.request.Request.{Request}
 use Rattle.disk_model.specs.declared.request.Request.TheVariants.{Reset, Queue, ReadErrorLog, Identify, Flush, Other}
 use Rattle.disk_model.specs.Histories.{Happening, Received, Sent, Plugged}
 use Rattle.disk_model.specs.Requests.{request_of}
-use Rattle.disk_model.specs.Ledger.{Accepts, Ledger, Moving, Written, activates, answers, asks, awaits, empty, ends, has_error, ledger, ledger_after, listens, listens_down, listens_up, mixes, moves, reads_log, refuses, restarts, sends_data, sets_up, starts_moving, takes_data}
+use Rattle.disk_model.specs.Ledger.{Accepts, Ledger, Moving, Written, activates, answers, asks, awaits, empty, ends, has_error, is_auto, ledger, ledger_after, listens, listens_down, listens_up, mixes, moves, reads_log, refuses, restarts, sends_data, sets_up, starts_moving, takes_data, with_auto}
 use Rattle.disk_model.specs.Anew.{WritesStay}
 use Rattle.disk_model.specs.Ends.{with_down}
 use Rattle.disk_model.proofs.AnewLemmas.{after_more}
@@ -96,6 +96,10 @@ activated : (l : Ledger) (v : Option Moving) → (activates l v).writes ≡ l.wr
 activated l None = refl
 activated l (Some v) = refl
 
+autos : (l : Ledger) (b : Bool) → (with_auto b l).writes ≡ l.writes
+autos l true = activated l l.moving
+autos l false = refl
+
 answered_so : (l : Ledger) (error : ℕ) (b : Bool) → (answers l error b).writes ≡ l.writes
 answered_so l error true = refl
 answered_so l error false = refl
@@ -120,8 +124,9 @@ up l (Ok (view.RegD2H f)) = stays l (listens_up l (Ok (view.RegD2H f))) refl
 up l (Ok (view.SetBits f)) = stays l (answers l (field Bits Error f) (has_error f)) (answered_so l (field Bits Error f) (has_error f))
 up l (Ok (view.DmaActivate f)) = stays l (activates l l.moving) (activated l l.moving)
 up l (Ok (view.DmaSetup f)) =
-    stays l (sets_up l l.moving (field Setup BufferId f) (field Setup Offset f) (field Setup table.Count f))
-    (set_up l l.moving (field Setup BufferId f) (field Setup Offset f) (field Setup table.Count f))
+    let up : Ledger = sets_up l l.moving (field Setup BufferId f) (field Setup Offset f) (field Setup table.Count f) in
+    stays l (with_auto (is_auto f) up)
+    (autos up (is_auto f) ∙ set_up l l.moving (field Setup BufferId f) (field Setup Offset f) (field Setup table.Count f))
 up l (Ok (view.PioSetup f)) = stays l (listens_up l (Ok (view.PioSetup f))) refl
 up l (Ok (view.Unknown f)) = stays l l refl
 up l (Err e) = stays l l refl

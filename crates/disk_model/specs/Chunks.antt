@@ -1,8 +1,9 @@
 -- The chunks in which a disk moves the data of a queued command (Serial ATA 3.x, 10.5.9, DMA Setup FIS, and
 -- 13.6, native command queuing), and what keeps it from doing so (ACS-3, READ and WRITE FPDMA QUEUED,
 -- errors).
-use Rattle.std.specs.Prelude.{ℕ, zero, suc, ◌+◌, ◌-◌, ◌*◌, ◌/◌, ◌==◌, min, not, nat_lt, Bool, List, [], ◌∷◌}
-use Rattle.std.specs.Prelude.{◌++◌, drop, take, length, if◌then◌else◌, Option, Some, None, option_map}
+use Rattle.std.specs.Prelude.{ℕ, zero, suc, ◌+◌, ◌-◌, ◌*◌, ◌/◌, ◌==◌, min, not, nat_lt, Bool, true, false}
+use Rattle.std.specs.Prelude.{List, [], ◌∷◌, ◌++◌, drop, take, length, if◌then◌else◌, Option, Some, None}
+use Rattle.std.specs.Prelude.{option_map}
 use Rattle.std.specs.List.{find, list_any, range_with_len}
 use Rattle.disk_model.specs.declared.request.Command.{Command}
 use Rattle.disk_model.specs.declared.answer.Fault.{Fault}
@@ -36,7 +37,7 @@ put xs at ys = take at xs ++ ys ++ drop (at + length ys) xs
 -- the DMA Setup of a chunk; d is its direction, to the host where true
 abbrev pub chunk_setup : DiskPlan → Command → (left : ℕ) → Sending
 chunk_setup plan c left =
-    setup c.tag (512 * chunk_from plan c left) (512 * chunk_count plan c left) (not c.write)
+    setup c.tag (512 * chunk_from plan c left) (512 * chunk_count plan c left) (not c.write) plan.auto
 
 -- What a read sends when so many chunks are left: DMA Setup and Data of each (Serial ATA 3.x, first party
 -- DMA).
@@ -46,9 +47,14 @@ sends_left plan medium c (suc k) =
     chunk_setup plan c (suc k) ∷ Carries (sectors_at medium (c.lba + chunk_from plan c (suc k))
     (chunk_count plan c (suc k))) ∷ sends_left plan medium c k
 
+-- what asks for the data of a write after its DMA Setup: nothing, where that has auto-activate
+abbrev pub activations : (auto : Bool) → List Sending
+activations true = []
+activations false = Activates ∷ []
+
 -- what a write sends before a chunk
 abbrev pub asks_for : DiskPlan → Command → (left : ℕ) → List Sending
-asks_for plan c left = chunk_setup plan c left ∷ Activates ∷ []
+asks_for plan c left = chunk_setup plan c left ∷ activations plan.auto
 
 -- the sector is one of the bad ones
 abbrev pub is_bad : List ℕ → ℕ → Bool

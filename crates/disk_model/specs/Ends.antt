@@ -76,7 +76,7 @@ FitsRequest l (Reset on) = ⊥
 FitsRequest l (Queue c) = IsFree l c.tag × (l.awaited ≡ [])
 FitsRequest l request = Rests l
 
--- all Data of a DMA Setup, where a DMA Activate asked for it
+-- all Data of a DMA Setup, where a DMA Activate, or auto-activate, asked for it
 pub record IsAskedFor (v : Moving) (bytes : List ℕ) : Type 0 where
   pub writes : v.command.write ≡ true
   pub asked : v.active ≡ true

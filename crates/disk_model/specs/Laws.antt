@@ -127,7 +127,7 @@ LogsNext plan sectors (Some c) error bytes =
 -- the page that was asked for first
 abbrev pub IsPage : DiskPlan → ℕ → List Wanted → List ℕ → Type 0
 IsPage plan sectors [] bytes = ⊥
-IsPage plan sectors (IdentifyData ∷ later) bytes = bytes ≡ identify_data sectors
+IsPage plan sectors (IdentifyData ∷ later) bytes = bytes ≡ identify_data sectors plan.auto
 IsPage plan sectors (LogOf None ∷ later) bytes = bytes ≡ error_log None
 IsPage plan sectors (LogOf (Some f) ∷ later) bytes =
     LogsNext plan sectors (picked plan.order f.among) f.error bytes
@@ -187,7 +187,7 @@ AnswersRight l _ = Unit {0}
 
 -- ## Silence
 
--- a write waits for the Data that a DMA Activate asked for, or no command is outstanding
+-- a write waits for the Data that was asked for, or no command is outstanding
 abbrev pub WaitsWell : Ledger → Option Moving → Type 0
 WaitsWell l None = l.outstanding ≡ []
 WaitsWell l (Some v) = (v.command.write ≡ true) × (v.active ≡ true)

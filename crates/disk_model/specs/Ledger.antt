@@ -7,7 +7,7 @@ use Rattle.std.specs.Prelude.{ℕ, ◌≡◌, ◌+◌, ◌*◌, ◌%◌, ◌^◌
 use Rattle.std.specs.Prelude.{◌++◌, drop, length, replicate, filter, find, if◌then◌else◌, Option, Some, None}
 use Rattle.std.specs.Prelude.{Result, Ok}
 use Rattle.std.specs.List.{list_any}
-use Rattle.fis_view.specs.Table.{Bits, Setup, BufferId, Offset, SActive, Status, Error, field}
+use Rattle.fis_view.specs.Table.{A, Bits, D, Setup, BufferId, Offset, SActive, Status, Error, field}
 use Rattle.fis_view.specs.Table as table
 use Rattle.fis_view.specs.Seen.{seen}
 use Rattle.fis_view.specs.declared.view.Fis.{Fis}
@@ -46,7 +46,8 @@ pub record Moving : Type 0 where
   pub moved : ℕ
   -- what its DMA Setups named, in order
   pub setups : List Stretch
-  -- of the last of them: where its bytes belong, how many they are, and whether a DMA Activate came after it
+  -- of the last of them: where its bytes belong, how many they are, and whether Data of the host may come: a
+  -- DMA Activate came after it, or it has auto-activate
   pub offset : ℕ
   pub count : ℕ
   pub active : Bool
@@ -207,7 +208,8 @@ moves l v bytes = goes_on l (record v {
   active = false;
 })
 
--- Data of the host: it is the write's where a DMA Activate asked for it and it has the DMA Setup's length
+-- Data of the host: it is the write's where a DMA Activate, or auto-activate, asked for it and it has the DMA
+-- Setup's length
 abbrev pub takes_data : Ledger → Option Moving → List ℕ → Ledger
 takes_data l None bytes = l
 takes_data l (Some v) bytes = (if v.active && (length bytes == v.count) then moves l v bytes else l)
@@ -250,6 +252,15 @@ abbrev pub activates : Ledger → Option Moving → Ledger
 activates l None = l
 activates l (Some v) = record l { moving = Some (record v { active = true }) }
 
+-- a DMA Setup with auto-activate: A is set, and the data goes to the device
+abbrev pub is_auto : List ℕ → Bool
+is_auto f = field Setup A f == 1 && not (field Setup D f == 1)
+
+-- with auto-activate a DMA Setup is as good as one that a DMA Activate follows at once
+abbrev pub with_auto : Bool → Ledger → Ledger
+with_auto true l = activates l l.moving
+with_auto false l = l
+
 -- ## Set Device Bits
 
 -- whether ERR, bit 0 of Status, is set
@@ -275,7 +286,8 @@ listens_down l _ = l
 
 abbrev pub listens_up : Ledger → Result Fis FisFault → Ledger
 listens_up l (Ok (view.DmaSetup f)) =
-    sets_up l l.moving (field Setup BufferId f) (field Setup Offset f) (field Setup table.Count f)
+    with_auto (is_auto f)
+    (sets_up l l.moving (field Setup BufferId f) (field Setup Offset f) (field Setup table.Count f))
 listens_up l (Ok (view.DmaActivate f)) = activates l l.moving
 listens_up l (Ok (view.Payload f)) = sends_data l l.moving (drop 4 f)
 listens_up l (Ok (view.SetBits f)) = answers l (field Bits Error f) (has_error f)

@@ -1,6 +1,6 @@
 -- The 512 bytes that READ LOG EXT and IDENTIFY DEVICE read (ACS-3, NCQ Command Error log and 7.12).
-use Rattle.std.specs.Prelude.{ℕ, ◌-◌, ◌/◌, ◌%◌, List, [], ◌∷◌, ◌++◌, length, replicate, sum, Option, Some}
-use Rattle.std.specs.Prelude.{None}
+use Rattle.std.specs.Prelude.{ℕ, ◌-◌, ◌/◌, ◌%◌, Bool, if◌then◌else◌, List, [], ◌∷◌, ◌++◌, length, replicate}
+use Rattle.std.specs.Prelude.{sum, Option, Some, None}
 use Rattle.std.specs.Int.{to_le_bytes, w64}
 use Rattle.disk_model.specs.declared.answer.Fault.{Fault}
 use Rattle.disk_model.specs.declared.answer.Fault.TheVariants.{Held, Mixed, Failed}
@@ -32,13 +32,18 @@ error_log fault = filled_to 511 (error_head fault) ++ checksum (filled_to 511 (e
 
 -- IDENTIFY DEVICE data (ACS-3, 7.12): 256 words of two bytes, the low one first. Word 75 is the queue depth
 -- less one, word 76 bit 8 that native command queuing is supported, words 78 and 79 bit 1 that DMA Setups
--- with an offset other than zero are supported and enabled, words 100 to 103 the number of sectors. The other
--- words are 0.
-unfoldable pub identify_data : ℕ → List ℕ
-identify_data sectors =
-    filled_to 512 (filled_to 200 (filled_to 150 [] ++ (0x1F ∷ 0 ∷ 0 ∷ 1 ∷ 0 ∷ 0 ∷ 2 ∷ 0 ∷ 2 ∷ 0 ∷ []))
-    ++ to_le_bytes w64 sectors)
+-- with an offset other than zero are supported and enabled, and bit 2 the same of auto-activate, words 100 to
+-- 103 the number of sectors. The other words are 0.
+abbrev pub setups_byte : (auto : Bool) → ℕ
+setups_byte auto = if auto then 6 else 2
 
-abbrev pub page_bytes : (sectors : ℕ) → Page → List ℕ
-page_bytes sectors (page.ErrorLog fault) = error_log fault
-page_bytes sectors page.Identity = identify_data sectors
+abbrev pub queuing_words : (auto : Bool) → List ℕ
+queuing_words auto = 0x1F ∷ 0 ∷ 0 ∷ 1 ∷ 0 ∷ 0 ∷ setups_byte auto ∷ 0 ∷ setups_byte auto ∷ 0 ∷ []
+
+unfoldable pub identify_data : (sectors : ℕ) (auto : Bool) → List ℕ
+identify_data sectors auto =
+    filled_to 512 (filled_to 200 (filled_to 150 [] ++ queuing_words auto) ++ to_le_bytes w64 sectors)
+
+abbrev pub page_bytes : (sectors : ℕ) (auto : Bool) → Page → List ℕ
+page_bytes sectors auto (page.ErrorLog fault) = error_log fault
+page_bytes sectors auto page.Identity = identify_data sectors auto

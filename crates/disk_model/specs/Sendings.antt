@@ -1,5 +1,5 @@
 -- The FISes that a disk sends, by their fields (Serial ATA 3.x, 10.5). All have PM Port 0.
-use Rattle.std.specs.Prelude.{ℕ, ◌≡◌, ◌%◌, ◌^◌, Bool, true, false, List, ◌∷◌, Ok}
+use Rattle.std.specs.Prelude.{ℕ, ◌≡◌, ◌%◌, ◌^◌, ◌&&◌, Bool, true, false, not, List, ◌∷◌, Ok}
 use Rattle.fis_view.specs.Table.{D2h, Bits, Setup, Activate, Pio}
 use Rattle.fis_view.specs.Built.{IsBuilt, d2h_given, set_bits_given, dma_setup_given, dma_activate_given}
 use Rattle.fis_view.specs.Built.{pio_setup_given}
@@ -55,11 +55,11 @@ abbrev pub bits : (status error sactive : ℕ) → Sending
 bits status error sactive =
     SetsBits (record { pm_port = 0; n = false; i = true; status = status; error = error; sactive = sactive })
 
--- a DMA Setup; d is its direction, to the host where true
-abbrev pub setup : (tag offset count : ℕ) (d : Bool) → Sending
-setup tag offset count d = SetsUp (record {
+-- a DMA Setup; d is its direction, to the host where true; auto says that data of the host may come at once
+abbrev pub setup : (tag offset count : ℕ) (d auto : Bool) → Sending
+setup tag offset count d auto = SetsUp (record {
   pm_port = 0;
-  a = false;
+  a = auto && not d;
   i = false;
   d = d;
   buffer_id = tag;
@@ -83,11 +83,11 @@ page_follows = SetsUpPio (record {
 })
 
 -- the FIS of an answer
-abbrev pub answer_sent : (sectors : ℕ) → Answer → Sending
-answer_sent sectors Signature = register false 0x50 1 1
-answer_sent sectors Accepted = register false 0x50 0 0
-answer_sent sectors Finished = register true 0x50 0 0
-answer_sent sectors Refused = register true 0x51 4 0
-answer_sent sectors (Ended tag) = bits 0x50 0 (2 ^ (tag % 32))
-answer_sent sectors PageFollows = page_follows
-answer_sent sectors (PageData page) = Carries (page_bytes sectors page)
+abbrev pub answer_sent : (sectors : ℕ) (auto : Bool) → Answer → Sending
+answer_sent sectors auto Signature = register false 0x50 1 1
+answer_sent sectors auto Accepted = register false 0x50 0 0
+answer_sent sectors auto Finished = register true 0x50 0 0
+answer_sent sectors auto Refused = register true 0x51 4 0
+answer_sent sectors auto (Ended tag) = bits 0x50 0 (2 ^ (tag % 32))
+answer_sent sectors auto PageFollows = page_follows
+answer_sent sectors auto (PageData page) = Carries (page_bytes sectors auto page)

@@ -117,21 +117,22 @@ fn page_follows_frame(alloc: Global, stamp: Stamp) -> Result<Frame, AllocError>
 }
 
 /// The DMA Setup of a chunk: its tag, where it lies in the command and how long it is, in bytes,
-/// and whether it goes to the host.
+/// whether it goes to the host, and whether data of the host may come without a DMA Activate.
 pub fn setup_frame(
     alloc: Global,
     tag: u8,
     offset: u32,
     count: u32,
     d: bool,
+    auto: bool,
     stamp: Stamp,
 ) -> Result<Frame, AllocError>
-    ensures shows { IfOk result (λ f. Shows (setup tag offset count d) f.bytes) }
+    ensures shows { IfOk result (λ f. Shows (setup tag offset count d auto) f.bytes) }
     ensures stamp { IfOk result (λ f. f.stamp ≡ stamp) }
 {
     let fields = DmaSetupFields {
         pm_port: 0,
-        a: false,
+        a: auto && !d,
         i: false,
         d,
         buffer_id: tag as u64,
@@ -177,9 +178,15 @@ pub fn report_frame(alloc: Global, fault: Fault, stamp: Stamp) -> Result<Frame, 
 }
 
 impl Answer {
-    /// The FIS of the answer, of a disk with so many sectors.
-    pub fn frame(self, alloc: Global, sectors: u32, stamp: Stamp) -> Result<Frame, AllocError>
-        ensures shows { IfOk result (λ f. Shows (answer_sent sectors self) f.bytes) }
+    /// The FIS of the answer, of a disk with so many sectors, with auto-activate or without.
+    pub fn frame(
+        self,
+        alloc: Global,
+        sectors: u32,
+        auto: bool,
+        stamp: Stamp,
+    ) -> Result<Frame, AllocError>
+        ensures shows { IfOk result (λ f. Shows (answer_sent sectors auto self) f.bytes) }
         ensures stamp { IfOk result (λ f. f.stamp ≡ stamp) }
     {
         match self {
@@ -190,7 +197,7 @@ impl Answer {
             Answer::Ended(tag) => bits_frame(alloc, 0x50, 0, 1 << (tag % 32), stamp),
             Answer::PageFollows => page_follows_frame(alloc, stamp),
             Answer::PageData(page) => {
-                let bytes = page.bytes(alloc, sectors)?;
+                let bytes = page.bytes(alloc, sectors, auto)?;
                 data_frame(alloc, &bytes, stamp)
             }
         }

@@ -1,7 +1,7 @@
 //! The chunks in which a disk moves the data of a command, and what keeps it from doing so.
 
-ghost use Rattle.std.specs.Prelude.{◌≡◌, ◌+◌, ◌-◌, ◌*◌, ◌/◌, ◌<◌, ◌≤◌, fold, None};
-ghost use Rattle.disk_model.specs.Chunks.{chunk_count, chunk_from, chunks, fault_of};
+ghost use Rattle.std.specs.Prelude.{◌≡◌, ◌+◌, ◌-◌, ◌*◌, ◌/◌, ◌<◌, ◌≤◌, fold, length, None};
+ghost use Rattle.disk_model.specs.Chunks.{activations, chunk_count, chunk_from, chunks, fault_of};
 ghost use Rattle.disk_model.specs.Insides.{lower_bad};
 
 use crate::answer::Fault;
@@ -63,6 +63,14 @@ pub fn chunks_of(plan: &DiskPlan, command: Command) -> u32
 {
     let size = plan.chunk as u32 / 512;
     (command.count + (size - 1)) / size
+}
+
+/// How many FISes of a write ask for a chunk: its DMA Setup, and without auto-activate a DMA Activate.
+pub fn asks(plan: &DiskPlan) -> u8
+    ensures value { result ≡ 1 + length (activations plan.now.auto) }
+    ensures few { result ≤ 2 }
+{
+    if plan.auto { 1 } else { 2 }
 }
 
 /// The part of a command that one chunk moves, in sectors from its first one.

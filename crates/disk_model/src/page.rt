@@ -1,7 +1,7 @@
 //! The pages of 512 bytes that READ LOG EXT and IDENTIFY DEVICE read (ACS-3).
 
 ghost use Rattle.std.specs.Prelude.{◌≡◌, ◌≤◌, ◌<◌, IfOk, OnOk, length, sum, vec_len};
-ghost use Rattle.disk_model.specs.Pages.{checksum, error_head, error_log, filled_to, identify_data, page_bytes};
+ghost use Rattle.disk_model.specs.Pages.{checksum, error_head, error_log, filled_to, identify_data, page_bytes, queuing_words};
 ghost use Rattle.disk_model.specs.declared.answer.Fault.TheVariants.{Failed};
 
 use crate::answer::{Fault, Page};
@@ -78,19 +78,24 @@ fn error_log_page(alloc: Global, fault: Option<Fault>) -> Result<Vec<u8>, AllocE
 
 /// Words 75 to 79 of the IDENTIFY DEVICE data, little endian: a queue of 32 commands, less one;
 /// native command queuing is supported, bit 8; nothing; DMA Setups with an offset other than 0 are
-/// supported, bit 1; and enabled, bit 1.
-const QUEUING: [u8; 10] = [0x1F, 0, 0, 1, 0, 0, 2, 0, 2, 0];
+/// supported, bit 1, and auto-activate, bit 2; and enabled, the same bits.
+fn queuing(auto: bool) -> [u8; 10]
+    ensures { result ≡ queuing_words auto }
+{
+    let setups = if auto { 6 } else { 2 };
+    [0x1F, 0, 0, 1, 0, 0, setups, 0, setups, 0]
+}
 
 /// The IDENTIFY DEVICE data (ACS-3, 7.12): words 75 to 79 and the number of sectors in words 100 to
 /// 103.
 #[tactic(auto, unfolding(crate::specs::Pages::identify_data))]
-fn identify_page(alloc: Global, sectors: u32) -> Result<Vec<u8>, AllocError>
-    ensures items { IfOk result (λ page. page.items ≡ identify_data sectors) }
+fn identify_page(alloc: Global, sectors: u32, auto: bool) -> Result<Vec<u8>, AllocError>
+    ensures items { IfOk result (λ page. page.items ≡ identify_data sectors auto) }
     ensures len { IfOk result (λ page. vec_len page ≡ 512) }
 {
     let mut page = Vec::with_capacity(alloc, 512)?;
     fill(&mut page, 2 * 75)?;
-    page.extend_from_slice(&QUEUING)?;
+    page.extend_from_slice(&queuing(auto))?;
     fill(&mut page, 2 * 100)?;
     page.extend_from_slice(&(sectors as u64).to_le_bytes())?;
     fill(&mut page, 512)?;
@@ -98,14 +103,14 @@ fn identify_page(alloc: Global, sectors: u32) -> Result<Vec<u8>, AllocError>
 }
 
 impl Page {
-    /// The bytes of the page, of a disk with so many sectors.
-    pub fn bytes(self, alloc: Global, sectors: u32) -> Result<Vec<u8>, AllocError>
-        ensures items { IfOk result (λ page. page.items ≡ page_bytes sectors self) }
+    /// The bytes of the page, of a disk with so many sectors, with auto-activate or without.
+    pub fn bytes(self, alloc: Global, sectors: u32, auto: bool) -> Result<Vec<u8>, AllocError>
+        ensures items { IfOk result (λ page. page.items ≡ page_bytes sectors auto self) }
         ensures len { IfOk result (λ page. vec_len page ≡ 512) }
     {
         match self {
             Page::ErrorLog(fault) => error_log_page(alloc, fault),
-            Page::Identity => identify_page(alloc, sectors),
+            Page::Identity => identify_page(alloc, sectors, auto),
         }
     }
 }

@@ -24,21 +24,25 @@ pub struct DiskPlan {
     pub last_first: bool,
     /// Sectors, by their LBA, that cannot be read.
     pub bad: ArrayVec<u32, 16>,
+    /// Whether the DMA Setup of a write says by its bit A that the data may come at once. No DMA Activate is sent then.
+    pub auto: bool,
 }
 
 impl DiskPlan {
-    /// The oldest command first, 8,192 bytes a chunk, chunks upwards, no bad sectors.
+    /// The oldest command first, 8,192 bytes a chunk, chunks upwards, no bad sectors, no auto-activate.
     pub fn plain() -> Self
         ensures order { result.order ≡ Order.Oldest }
         ensures chunk { result.chunk ≡ 8192 }
         ensures last_first { result.last_first ≡ false }
         ensures bad { result.bad.items ≡ [] }
+        ensures auto { result.auto ≡ false }
     {
         DiskPlan {
             order: Order::Oldest,
             chunk: 8192,
             last_first: false,
             bad: ArrayVec::new(),
+            auto: false,
         }
     }
 }

@@ -15,7 +15,7 @@ use Rattle.disk_model.specs.declared.request.Request.TheVariants.{Reset, Queue, 
 use Rattle.disk_model.specs.Chunks.{put}
 use Rattle.disk_model.specs.Ends.{Fits, FitsAll, FitsRequest, IsCareful, reports}
 use Rattle.disk_model.specs.Histories.{Happening, Plugged, Received, Sent}
-use Rattle.disk_model.specs.Ledger.{Accepts, Finishes, Ledger, Moving, Refuses, Reply, ShowsPage, Signs, activates, answers, asks, empty, ends, has_error, ledger, ledger_after, listens, listens_down, listens_up, mixes, moves, sends_data, sets_up, starts_moving, takes_data}
+use Rattle.disk_model.specs.Ledger.{Accepts, Finishes, Ledger, Moving, Refuses, Reply, ShowsPage, Signs, activates, answers, asks, empty, ends, has_error, is_auto, ledger, ledger_after, listens, listens_down, listens_up, mixes, moves, sends_data, sets_up, starts_moving, takes_data, with_auto}
 use Rattle.disk_model.specs.Requests.{request_of}
 use Rattle.hba_laws.specs.History.{History}
 use Rattle.disk_ends.specs.Together.{AtMostAccepts, InTalk, Pages, Queues, Replies, Shows}
@@ -126,6 +126,10 @@ activates_same : (l : Ledger) (o : Option Moving) → (activates l o).awaited �
 activates_same l None = refl
 activates_same l (Some v) = refl
 
+auto_same : (b : Bool) (l : Ledger) → (with_auto b l).awaited ≡ l.awaited
+auto_same true l = activates_same l l.moving
+auto_same false l = refl
+
 sends_same : (l : Ledger) (o : Option Moving) (bytes : List ℕ) → (sends_data l o bytes).awaited ≡ l.awaited
 sends_same l None bytes = refl
 sends_same l (Some v) bytes = moves_same l v bytes
@@ -159,7 +163,9 @@ dropped past l (Pages page idle is pages waits) = ap (λ (xs : List Reply). drop
 signed_up : (past : History) (l : Ledger) (fis : Result Fis FisFault) → InTalk past l → reports fis ≡ false → l.awaited ≢ Signs ∷ [] → (listens_up l fis).awaited ≢ Signs ∷ []
 signed_up past l (Ok (view.RegD2H f)) talk fine was = none_not (drop 1 l.awaited) (dropped past l talk)
 signed_up past l (Ok (view.PioSetup f)) talk fine was = none_not (drop 1 l.awaited) (dropped past l talk)
-signed_up past l (Ok (view.DmaSetup f)) talk fine was = λ is. was (sym (sets_same l l.moving (field Setup BufferId f) (field Setup Offset f) (field Setup table.Count f)) ∙ is)
+signed_up past l (Ok (view.DmaSetup f)) talk fine was =
+    let x : Ledger = sets_up l l.moving (field Setup BufferId f) (field Setup Offset f) (field Setup table.Count f) in
+    λ is. was (sym (auto_same (is_auto f) x ∙ sets_same l l.moving (field Setup BufferId f) (field Setup Offset f) (field Setup table.Count f)) ∙ is)
 signed_up past l (Ok (view.DmaActivate f)) talk fine was = λ is. was (sym (activates_same l l.moving) ∙ is)
 signed_up past l (Ok (view.Payload f)) talk fine was = λ is. was (sym (sends_same l l.moving (drop 4 f)) ∙ is)
 signed_up past l (Ok (view.SetBits f)) talk fine was = λ is. was (sym (answers_same l (field Bits table.Error f) (has_error f) fine) ∙ is)

@@ -2,7 +2,7 @@
 use Rattle.std.proofs.Common.{◌≡◌, ◌==◌, ◌&&◌, ℕ, zero, suc, ◌+◌, ◌*◌, Bool, true, false, List, [], ◌∷◌, ◌++◌, append_assoc, drop, length, refl, sym}
 use Rattle.std.proofs.Common.{ap, subst, ◌∙◌}
 use Rattle.std.proofs.Common.{Option, Some, None, Result, Ok}
-use Rattle.std.specs.Prelude.{if◌then◌else◌, slice_get, find}
+use Rattle.std.specs.Prelude.{if◌then◌else◌, slice_get, find, replicate}
 use Rattle.std.specs.List.{list_any}
 use Rattle.std.proofs.lemmas.List.{append-nil}
 use Rattle.fis_view.specs.Seen.{seen}
@@ -19,14 +19,15 @@ use Rattle.disk_model.specs.Chunks.{put}
 use Rattle.disk_model.specs.Anew.{IsCarefulSince, IsLinkedOn}
 use Rattle.disk_model.specs.Ends.{EndsAgree, with_down, with_up}
 use Rattle.disk_model.specs.Histories.{Happening, Plugged, Received, Sent}
-use Rattle.disk_model.specs.Laws.{ActivatesRight, MovesRight}
-use Rattle.disk_model.specs.Ledger.{Accepts, IsSize, Ledger, Moving, ReadOut, Refuses, activates, answers, asks, awaits, empty, ends, has_error}
+use Rattle.disk_model.specs.Laws.{ActivatesRight, MovesRight, SetsUpNext, SetsUpRight, StartsOne}
+use Rattle.disk_model.specs.Ledger.{Accepts, IsSize, Ledger, Moving, ReadOut, Refuses, activates, answers, asks, awaits, empty, ends, has_error, is_auto}
 use Rattle.disk_model.specs.Ledger.{ledger, ledger_after, listens}
-use Rattle.disk_model.specs.Ledger.{listens_down, listens_up, mixes, moves, reads_log, refuses, restarts, sends_data, sets_up, starts_moving, takes_data}
+use Rattle.disk_model.specs.Ledger.{listens_down, listens_up, mixes, moves, reads_log, refuses, restarts, sends_data, sets_up, starts_moving, takes_data, with_auto}
 use Rattle.disk_model.specs.Requests.{request_of}
 use Rattle.disk_model.specs.Runs.{IsDiskRun}
 use Rattle.disk_model.proofs.AnewLemmas.{ends_agree_anew}
 use Rattle.disk_model.proofs.MovesLemmas.{moves_right}
+use Rattle.disk_model.proofs.ShowsLemmas.{write_of_auto}
 use Rattle.disk_ends.specs.Followed.{IsFollowed}
 use Rattle.disk_ends.proofs.FollowedLemmas.{run_to}
 
@@ -136,6 +137,55 @@ asked_activates : (l : Ledger) (o : Option Moving) → ActivatesRight o → IsAs
 asked_activates l None right = absurd right
 asked_activates l (Some v) right = λ e. right.writes
 
+-- a DMA Setup that is right and has auto-activate is that of a write
+asked_auto : (b : Bool) (x : Ledger) (w : Moving) → x.moving ≡ Some w → (b ≡ true → w.command.write ≡ true) → IsAsked x.moving
+    → IsAsked (with_auto b x).moving
+asked_auto true x w moving writes a = subst (λ (m : Option Moving). IsAsked (activates x m).moving) (sym moving) (λ e. writes refl)
+asked_auto false x w moving writes a = a
+
+asked_set_up : (l : Ledger) (f : List ℕ) (m : Option Moving) (o : Option Command) → l.moving ≡ m
+    → find (λ c. c.tag == field Setup BufferId f) l.outstanding ≡ o → SetsUpRight l l.moving f → IsAsked l.moving
+    → IsAsked (listens_up l (Ok (view.DmaSetup f))).moving
+asked_set_up l f None None moving found right a =
+    let first : SetsUpRight l None f = subst (λ (m : Option Moving). SetsUpRight l m f) moving right in
+    absurd (subst (λ (q : Option Command). StartsOne q f) found first)
+asked_set_up l f None (Some q) moving found right a =
+    let at = field Setup Offset f in
+    let count = field Setup table.Count f in
+    let x : Ledger = sets_up l l.moving (field Setup BufferId f) at count in
+    let first : SetsUpRight l None f = subst (λ (m : Option Moving). SetsUpRight l m f) moving right in
+    let next : SetsUpNext q 0 [] f = subst (λ (q : Option Command). StartsOne q f) found first in
+    let now : Moving = record {
+      command = q;
+      before = l.writes;
+      bytes = replicate (512 * q.count) 0;
+      moved = 0;
+      setups = record { at = at; count = count } ∷ [];
+      offset = at;
+      count = count;
+      active = false;
+    } in
+    let moves_now : x.moving ≡ Some now =
+    ap (λ (m : Option Moving). (sets_up l m (field Setup BufferId f) at count).moving) moving ∙ ap (λ (o : Option Command). (starts_moving l at count o).moving) found in
+    asked_auto (is_auto f) x now moves_now (λ auto. write_of_auto (field Setup table.A f) (field Setup table.D f) q.write next.direction auto)
+    (asked_setup l l.moving (field Setup BufferId f) at count a)
+asked_set_up l f (Some v) o moving found right a =
+    let at = field Setup Offset f in
+    let count = field Setup table.Count f in
+    let x : Ledger = sets_up l l.moving (field Setup BufferId f) at count in
+    let right_now : SetsUpRight l (Some v) f = subst (λ (m : Option Moving). SetsUpRight l m f) moving right in
+    let next : SetsUpNext v.command v.moved v.setups f = right_now.1 in
+    let now : Moving = record v {
+      setups = v.setups ++ record { at = at; count = count } ∷ [];
+      offset = at;
+      count = count;
+      active = false;
+    } in
+    let moves_now : x.moving ≡ Some now =
+    ap (λ (m : Option Moving). (sets_up l m (field Setup BufferId f) at count).moving) moving in
+    asked_auto (is_auto f) x now moves_now (λ auto. write_of_auto (field Setup table.A f) (field Setup table.D f) v.command.write next.direction auto)
+    (asked_setup l l.moving (field Setup BufferId f) at count a)
+
 asked_data : (l : Ledger) (o : Option Moving) (bytes : List ℕ) → IsAsked l.moving → IsAsked (sends_data l o bytes).moving
 asked_data l None bytes a = a
 asked_data l (Some v) bytes a =
@@ -147,7 +197,8 @@ asked_answers l error true a = tt
 asked_answers l error false a = a
 
 asked_up : (l : Ledger) (f : Result Fis FisFault) → MovesRight l f → IsAsked l.moving → IsAsked (listens_up l f).moving
-asked_up l (Ok (view.DmaSetup f)) right a = asked_setup l l.moving (field Setup BufferId f) (field Setup Offset f) (field Setup table.Count f) a
+asked_up l (Ok (view.DmaSetup f)) right a =
+    asked_set_up l f l.moving (find (λ c. c.tag == field Setup BufferId f) l.outstanding) refl refl right a
 asked_up l (Ok (view.DmaActivate f)) right a = asked_activates l l.moving right
 asked_up l (Ok (view.Payload f)) right a = asked_data l l.moving (drop 4 f) a
 asked_up l (Ok (view.SetBits f)) right a = asked_answers l (field Bits Error f) (has_error f) a
@@ -224,6 +275,10 @@ more_activates : (l : Ledger) (o : Option Moving) → (activates l o).reads ≡ 
 more_activates l None = refl
 more_activates l (Some v) = refl
 
+more_auto : (b : Bool) (l : Ledger) → (with_auto b l).reads ≡ l.reads
+more_auto true l = more_activates l l.moving
+more_auto false l = refl
+
 more_data : (l : Ledger) (o : Option Moving) (bytes : List ℕ) → HasMore l (sends_data l o bytes)
 more_data l None bytes = none_more l (sends_data l None bytes) refl
 more_data l (Some v) bytes =
@@ -236,8 +291,9 @@ more_answers l error false = refl
 
 more_up : (l : Ledger) (f : Result Fis FisFault) → HasMore l (listens_up l f)
 more_up l (Ok (view.DmaSetup f)) =
-    none_more l (sets_up l l.moving (field Setup BufferId f) (field Setup Offset f) (field Setup table.Count f))
-    (more_setup l l.moving (field Setup BufferId f) (field Setup Offset f) (field Setup table.Count f))
+    let x : Ledger = sets_up l l.moving (field Setup BufferId f) (field Setup Offset f) (field Setup table.Count f) in
+    none_more l (with_auto (is_auto f) x)
+    (more_auto (is_auto f) x ∙ more_setup l l.moving (field Setup BufferId f) (field Setup Offset f) (field Setup table.Count f))
 more_up l (Ok (view.DmaActivate f)) = none_more l (activates l l.moving) (more_activates l l.moving)
 more_up l (Ok (view.Payload f)) = more_data l l.moving (drop 4 f)
 more_up l (Ok (view.SetBits f)) = none_more l (answers l (field Bits Error f) (has_error f)) (more_answers l (field Bits Error f) (has_error f))

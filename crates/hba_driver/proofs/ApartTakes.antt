@@ -10,7 +10,7 @@ use Rattle.fis_view.specs.declared.view.Fis.TheVariants as view
 use Rattle.hba_commands.specs.declared.command.Command.{Command}
 use Rattle.hba_commands.specs.Requests.{request_of, work_of}
 use Rattle.slots.specs.Commands.{answer_for, answer_of, is_done}
-use Rattle.slots.specs.Setup.{new_context, pio_fault, pio_issue, setup_fault, transfer_fault}
+use Rattle.slots.specs.Setup.{dma_context, pio_fault, pio_issue, setup_fault, transfer_fault}
 use Rattle.slots.specs.Data.{may_activate}
 use Rattle.slots.specs.Slots.{DeviceSlots, Issue, context_unless, has_bit, holds, is_done_issue, is_sent_pio, is_waiting, match_some, new_issue, own_issue, sent_pio, waiting}
 use Rattle.slots.specs.Work.{is_queued}
@@ -120,8 +120,8 @@ module _ (w : DeviceView) (none : w.slots.context ≡ None) (reset : w.state.res
   refused_stays : (o : Option SetupError) (state : DeviceState) (block : Option Block) (h : Happening) → state.resetting ≡ false → o ≡ Some refused.NotOutstanding → Hears (set_up o state block h)
   refused_stays o state block h res is = subst (λ (x : Option SetupError). Hears (set_up x state block h)) (sym is) (record { issue = refl; context = none; resetting = res })
 
-  setup_stays : (tag offset count : ℕ) (to_host : Bool) → Hears (heard_setup w.slots w.state tag offset count to_host)
-  setup_stays tag offset count to_host = refused_stays (setup_fault (own_issue w.slots tag) offset count to_host) w.state None (happening.SetUp (new_context tag offset count to_host)) reset (no_setup w.slots idle tag offset count to_host)
+  setup_stays : (tag offset count : ℕ) (to_host auto : Bool) → Hears (heard_setup w.slots w.state tag offset count to_host auto)
+  setup_stays tag offset count to_host auto = refused_stays (setup_fault (own_issue w.slots tag) offset count to_host) w.state None (happening.SetUp (dma_context tag offset count to_host auto)) reset (no_setup w.slots idle tag offset count to_host)
 
   pio_stays : (status error count : ℕ) (to_host : Bool) (block : Block) → Hears (heard_pio w.slots w.state status error count to_host block)
   pio_stays status error count to_host block =
@@ -145,7 +145,7 @@ module _ (w : DeviceView) (none : w.slots.context ≡ None) (reset : w.state.res
       (record { issue = named_slots (field table.Bits table.SActive f); context = ap (context_unless (is_done (field table.Bits table.SActive f) w.slots)) none; resetting = reset })
   fis_stays sound (view.DmaActivate f) =
       subst (λ (c : Option Context). Hears (if may_activate c then quietly w.state happening.Activated else faulty w.state cause.Stray)) (sym none) (record { issue = refl; context = none; resetting = reset })
-  fis_stays sound (view.DmaSetup f) = setup_stays (tag_of f) (field table.Setup table.Offset f) (field table.Setup table.Count f) (field table.Setup table.D f == 1)
+  fis_stays sound (view.DmaSetup f) = setup_stays (tag_of f) (field table.Setup table.Offset f) (field table.Setup table.Count f) (field table.Setup table.D f == 1) (field table.Setup table.A f == 1)
   fis_stays sound (view.PioSetup f) = pio_stays (field table.Pio table.Status f) (field table.Pio table.Error f) (field table.Pio table.Transfer f) (field table.Pio table.D f == 1) (block_of f)
   fis_stays sound (view.Payload f) = data_stays sound (length f - 4)
   fis_stays sound (view.Unknown f) = record { issue = refl; context = none; resetting = reset }

@@ -10,7 +10,7 @@ use Rattle.fis_view.specs.declared.view.Fis.{Fis}
 use Rattle.fis_view.specs.declared.view.Fis.TheVariants as view
 use Rattle.slots.specs.Commands.{after_complete, after_sent, answer_for, answer_of, answered_as, is_done, is_slot, sent_issue, with_sent}
 use Rattle.slots.specs.Data.{after_activate, after_arrive, after_payload, arrive_answer, gone_over, may_activate, moved_over, payload, payload_len}
-use Rattle.slots.specs.Setup.{after_setup_pio, new_context, pio_fault, pio_issue, setup_fault, with_own_context}
+use Rattle.slots.specs.Setup.{after_setup_pio, dma_context, new_context, pio_fault, pio_issue, setup_fault, with_own_context}
 use Rattle.slots.specs.Slots.{DeviceSlots, Issue, freed, has_bit, holds, is_control, is_done_issue, is_pio, is_queued_issue, is_whole_issue, match_some, own_issue, sent_pio, waiting}
 use Rattle.slots.specs.Work.{is_queued, is_read}
 use Rattle.slots.specs.declared.answer.Answered.{Answered}
@@ -235,7 +235,7 @@ stays_heard own state sound (view.SetBits f) =
     stays_if own (is_error (field table.Bits table.Status f)) _ _ (λ none short. short) (λ none short. short_named own (field table.Bits table.SActive f) short)
 stays_heard own state sound (view.DmaActivate f) = stays_if own (may_activate own.context) _ _ (λ none short. short_activated own short) (λ none short. short)
 stays_heard own state sound (view.DmaSetup f) =
-    let c : Context = new_context (hearing.tag_of f) (field table.Setup table.Offset f) (field table.Setup table.Count f) (field table.Setup table.D f == 1) in
+    let c : Context = dma_context (hearing.tag_of f) (field table.Setup table.Offset f) (field table.Setup table.Count f) (field table.Setup table.D f == 1) (field table.Setup table.A f == 1) in
     stays_set own (setup_fault (own_issue own (hearing.tag_of f)) (field table.Setup table.Offset f) (field table.Setup table.Count f) (field table.Setup table.D f == 1)) state None (happening.SetUp c)
     (λ short. short_as own (with_own_context own c) refl short)
 stays_heard own state sound (view.PioSetup f) =

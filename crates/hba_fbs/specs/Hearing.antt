@@ -19,7 +19,7 @@ use Rattle.slots.specs.declared.answer.SetupError.TheVariants as refused
 use Rattle.slots.specs.declared.table.Context.{Context}
 use Rattle.slots.specs.Slots.{DeviceSlots, match_some, own_issue}
 use Rattle.slots.specs.Commands.{after_complete, after_pio_done, answer_of, answered_as, completed, whole_pio}
-use Rattle.slots.specs.Setup.{after_setup_pio, new_context, pio_fault, pio_issue, setup_fault}
+use Rattle.slots.specs.Setup.{after_setup_pio, dma_context, pio_fault, pio_issue, setup_fault}
 use Rattle.slots.specs.Setup.{with_own_context}
 use Rattle.slots.specs.Data.{after_activate, after_arrive, may_activate}
 use Rattle.hba_fbs.specs.declared.hearing.Fault.{Fault}
@@ -132,10 +132,10 @@ abbrev pub set_up : Option SetupError → DeviceState → Option Block → Happe
 set_up None state block h = quietly (with_block state block) h
 set_up (Some e) state block h = faulty state (cause_of_setup e)
 
-abbrev pub heard_setup : DeviceSlots → DeviceState → ℕ → ℕ → ℕ → Bool → Heard
-heard_setup own state tag offset count to_host =
+abbrev pub heard_setup : DeviceSlots → DeviceState → ℕ → ℕ → ℕ → (to_host auto : Bool) → Heard
+heard_setup own state tag offset count to_host auto =
     set_up (setup_fault (own_issue own tag) offset count to_host) state None
-    (happening.SetUp (new_context tag offset count to_host))
+    (happening.SetUp (dma_context tag offset count to_host auto))
 
 -- with ERR it is an error of the task file
 abbrev pub heard_pio : DeviceSlots → DeviceState → ℕ → ℕ → ℕ → Bool → Block → Heard
@@ -269,7 +269,7 @@ heard_fis own state sound (view.SetBits f) =
 heard_fis own state sound (view.DmaActivate f) = heard_activate own state
 heard_fis own state sound (view.DmaSetup f) =
     heard_setup own state (tag_of f) (field table.Setup table.Offset f) (field table.Setup table.Count f)
-    (field table.Setup table.D f == 1)
+    (field table.Setup table.D f == 1) (field table.Setup table.A f == 1)
 heard_fis own state sound (view.PioSetup f) =
     heard_pio own state (field table.Pio table.Status f) (field table.Pio table.Error f)
     (field table.Pio table.Transfer f)

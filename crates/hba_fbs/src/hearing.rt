@@ -231,11 +231,12 @@ fn hear_setup(
     offset: u32,
     count: u32,
     to_host: bool,
+    auto: bool,
 ) -> Heard
     requires dev { dev < 16 }
     requires tag { tag < 32 }
     ensures heard { result
-        ≡ heard_setup (slots_of dev slots.old) state tag offset count to_host }
+        ≡ heard_setup (slots_of dev slots.old) state tag offset count to_host auto }
     ensures own { slots_of dev slots.new ≡ moved result.happening (slots_of dev slots.old) }
     ensures others { LeavesOthers dev slots.old slots.new }
     ensures frees { KeepsFree slots.old slots.new }
@@ -246,9 +247,9 @@ fn hear_setup(
         next: offset,
         left: count,
         to_host,
-        activated: false,
+        activated: auto && !to_host,
     };
-    match slots.setup(dev, tag, offset, count, to_host) {
+    match slots.setup(dev, tag, offset, count, to_host, auto) {
         Ok(()) => quietly(state.with_block(None), Happening::SetUp(context)),
         Err(error) => faulty(state, cause_of_setup(error)),
     }
@@ -346,7 +347,8 @@ pub(crate) fn hear(
         Fis::SetBits(fis) => hear_bits(slots, dev, state, fis.status(), fis.error(), fis.sactive()),
         Fis::DmaSetup(fis) => {
             let tag = (fis.buffer_id() % 32) as u8;
-            hear_setup(slots, dev, state, tag, fis.offset(), fis.count(), fis.d())
+            let (offset, count) = (fis.offset(), fis.count());
+            hear_setup(slots, dev, state, tag, offset, count, fis.d(), fis.a())
         }
         Fis::PioSetup(fis) => {
             let count = u32::from(fis.transfer());

@@ -4,7 +4,7 @@ use Rattle.std.specs.Prelude.{MatchOption, is_some, ◌&&◌, not}
 use Rattle.std.proofs.lemmas.Bool.{cases_eq, eq-eqb, ne_eqb, eqb-true, false≢true}
 use Rattle.slots.specs.Bytes.{came_of, is_over}
 use Rattle.slots.specs.Commands.{answered_issue, sent_issue}
-use Rattle.slots.specs.Setup.{came, new_context}
+use Rattle.slots.specs.Setup.{came, dma_context, new_context}
 use Rattle.slots.specs.Slots.{Issue, context_unless, holds, is_pio, is_waiting, match_some}
 use Rattle.slots.specs.declared.table.Context.{Context}
 use Rattle.slots.specs.declared.work.Work.{Work}
@@ -199,13 +199,13 @@ module _ (issues : ℕ → Option Issue) (context : Option Context) (ends : Opti
   }
 
   -- a DMA Setup is accepted for a queued command
-  pub agrees_set_up : (tag offset count : ℕ) (to_host : Bool) (j : Issue) → issues tag ≡ Some j → is_pio j.work.kind ≡ false
-      → Agrees issues (Some (new_context tag offset count to_host)) None (SetUp tag offset count to_host ∷ past)
-  agrees_set_up tag offset count to_host j at queued = record {
+  pub agrees_set_up : (tag offset count : ℕ) (to_host auto : Bool) (j : Issue) → issues tag ≡ Some j → is_pio j.work.kind ≡ false
+      → Agrees issues (Some (dma_context tag offset count to_host auto)) None (SetUp tag offset count to_host ∷ past)
+  agrees_set_up tag offset count to_host auto j at queued = record {
     issues_agree = λ s i e.
         let x = a.issues_agree s i e in
         record { over_is = x.over_is; came_is = x.came_is; waits_is = x.waits_is; set_up_is = refl };
-    context_agrees = λ c e. subst (λ d. ContextAgrees issues d None (SetUp tag offset count to_host ∷ past)) (some_inj (new_context tag offset count to_host) c e)
+    context_agrees = λ c e. subst (λ d. ContextAgrees issues d None (SetUp tag offset count to_host ∷ past)) (some_inj (dma_context tag offset count to_host auto) c e)
         (record {
           of_setup = record { slot_is = refl; way_is = refl; next_is = omega arith; left_is = omega arith; ends_is = refl };
           of_issue = ap is_some at;

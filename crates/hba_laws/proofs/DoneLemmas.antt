@@ -13,7 +13,7 @@ use Rattle.fis_view.specs.declared.view.Fis.TheVariants as view
 use Rattle.port_errors.specs.declared.cause.DeviceCause.TheVariants as cause
 use Rattle.slots.specs.Commands.{answer_for, answered_issue, answer_of, answered_as, completed, is_done, is_slot, whole_pio, with_answered}
 use Rattle.slots.specs.Data.{activated, after_activate, after_arrive, arrive_answer, gone_over, may_activate, moved_over}
-use Rattle.slots.specs.Setup.{after_setup_pio, came, new_context, pio_fault, pio_issue, setup_fault, with_own_context}
+use Rattle.slots.specs.Setup.{after_setup_pio, came, dma_context, new_context, pio_fault, pio_issue, setup_fault, with_own_context}
 use Rattle.slots.specs.Slots.{DeviceSlots, Issue, freed, has_bit, holds, is_done_issue, is_pio, is_queued_issue, is_waiting, is_whole_issue, match_some, own_issue, owned_by, sent_pio, waiting}
 use Rattle.slots.specs.declared.answer.Answered.{Answered}
 use Rattle.slots.specs.declared.answer.Answered.TheVariants as answer
@@ -241,7 +241,7 @@ module _ (n : ℕ) (own : DeviceSlots) (state : DeviceState) (is : IsOwn n own) 
   fis_frees sound (view.SetBits f) = bits (field table.Bits table.Status f) (field table.Bits table.Error f) (field table.Bits table.SActive f) (is_error (field table.Bits table.Status f))
   fis_frees sound (view.DmaActivate f) = activate (may_activate own.context)
   fis_frees sound (view.DmaSetup f) =
-      setup (new_context (tag_of f) (field table.Setup table.Offset f) (field table.Setup table.Count f) (eqb (field table.Setup table.D f) 1))
+      setup (dma_context (tag_of f) (field table.Setup table.Offset f) (field table.Setup table.Count f) (eqb (field table.Setup table.D f) 1) (eqb (field table.Setup table.A f) 1))
       (setup_fault (own_issue own (tag_of f)) (field table.Setup table.Offset f) (field table.Setup table.Count f) (eqb (field table.Setup table.D f) 1))
   fis_frees sound (view.PioSetup f) =
       pio (field table.Pio table.Status f) (field table.Pio table.Error f) (field table.Pio table.Transfer f) (eqb (field table.Pio table.D f) 1) (block_of f) (is_error (field table.Pio table.Status f))

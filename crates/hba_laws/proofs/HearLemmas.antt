@@ -14,7 +14,7 @@ use Rattle.fis_view.specs.declared.view.FisFault.TheVariants.{WrongLength}
 use Rattle.port_errors.specs.declared.cause.DeviceCause.TheVariants as cause
 use Rattle.slots.specs.Commands.{answer_for, answer_of, answered_as, completed}
 use Rattle.slots.specs.Data.{activated, after_arrive, arrive_answer, gone_over, may_activate}
-use Rattle.slots.specs.Setup.{pio_fault, pio_issue, setup_fault}
+use Rattle.slots.specs.Setup.{dma_context, pio_fault, pio_issue, setup_fault}
 use Rattle.slots.specs.Slots.{DeviceSlots, Issue, holds, is_pio, is_queued_issue, is_waiting, is_whole_issue, match_some, own_issue, waiting}
 use Rattle.slots.specs.declared.answer.Answered.{Answered}
 use Rattle.slots.specs.declared.answer.Answered.TheVariants as answer
@@ -86,12 +86,12 @@ module _ (n : ℕ) (own : DeviceSlots) (state : DeviceState) (payload : List ℕ
 
   -- ---- setups
 
-  setup : (tag offset count : ℕ) (to_host : Bool) → Follows own payload past (heard_setup own state tag offset count to_host)
-  setup tag offset count to_host = by_fault (setup_fault (own_issue own tag) offset count to_host) refl
+  setup : (tag offset count : ℕ) (to_host auto : Bool) → Follows own payload past (heard_setup own state tag offset count to_host auto)
+  setup tag offset count to_host auto = by_fault (setup_fault (own_issue own tag) offset count to_host) refl
     where
       by_fault : (o : Option SetupError) → setup_fault (own_issue own tag) offset count to_host ≡ o
-          → Follows own payload past (set_up o state None (happening.SetUp (record { slot = tag; next = offset; left = count; to_host = to_host; activated = false })))
-      by_fault None e = says_set_up n own ends past is says tag offset count to_host e
+          → Follows own payload past (set_up o state None (happening.SetUp (dma_context tag offset count to_host auto)))
+      by_fault None e = says_set_up n own ends past is says tag offset count to_host auto e
       by_fault (Some fault) e = says
 
   pio : (status error count : ℕ) (to_host : Bool) (block : Block) (e : Bool)
@@ -170,7 +170,7 @@ module _ (n : ℕ) (own : DeviceSlots) (state : DeviceState) (payload : List ℕ
   fis_follows sound (view.RegD2H f) is_data = register (field table.D2h table.Status f) (field table.D2h table.Error f) state.resetting
   fis_follows sound (view.SetBits f) is_data = bits (field table.Bits table.Status f) (field table.Bits table.Error f) (field table.Bits table.SActive f) (is_error (field table.Bits table.Status f))
   fis_follows sound (view.DmaActivate f) is_data = activate (may_activate own.context) refl
-  fis_follows sound (view.DmaSetup f) is_data = setup (tag_of f) (field table.Setup table.Offset f) (field table.Setup table.Count f) (eqb (field table.Setup table.D f) 1)
+  fis_follows sound (view.DmaSetup f) is_data = setup (tag_of f) (field table.Setup table.Offset f) (field table.Setup table.Count f) (eqb (field table.Setup table.D f) 1) (eqb (field table.Setup table.A f) 1)
   fis_follows sound (view.PioSetup f) is_data =
       pio (field table.Pio table.Status f) (field table.Pio table.Error f) (field table.Pio table.Transfer f) (eqb (field table.Pio table.D f) 1) (block_of f) (is_error (field table.Pio table.Status f))
   fis_follows sound (view.Payload f) is_data =

@@ -6,7 +6,7 @@ use Rattle.std.specs.Option.{option_map}
 use Rattle.std.proofs.lemmas.Bool.{cases_Bool, cases_eq, eq-eqb, ne_eqb, eqb-false, false≢true, true≢false, and_parts}
 use Rattle.slots.specs.Bytes.{is_over, is_whole}
 use Rattle.slots.specs.Commands.{after_complete, after_sent, answered_issue, is_done, is_slot, sent_issue, with_answered, with_sent}
-use Rattle.slots.specs.Setup.{after_setup_pio, came, is_outstanding, new_context, pio_fault, pio_issue, setup_fault, transfer_fault, with_own_context}
+use Rattle.slots.specs.Setup.{after_setup_pio, came, dma_context, is_outstanding, new_context, pio_fault, pio_issue, setup_fault, transfer_fault, with_own_context}
 use Rattle.slots.specs.Slots.{DeviceSlots, Issue, context_unless, freed, has_bit, holds, is_control, is_done_issue, is_pio, is_queued_issue, is_sent_pio, is_waiting, is_whole_issue, match_some, no_own_slots, own_issue, sent_pio, waiting}
 use Rattle.slots.specs.Table.{IsIssue}
 use Rattle.slots.specs.Work.{is_queued}
@@ -220,20 +220,20 @@ module _ (n : ℕ) (own : DeviceSlots) (ends : Option ℕ) (past : History) (is 
 
   -- ---- setups
 
-  pub says_set_up : (tag offset count : ℕ) (to_host : Bool) → setup_fault (own_issue own tag) offset count to_host ≡ None
-      → Says (with_own_context own (new_context tag offset count to_host)) None (SetUp tag offset count to_host ∷ past)
-  says_set_up tag offset count to_host sound = by_issue (own_issue own tag) refl sound
+  pub says_set_up : (tag offset count : ℕ) (to_host auto : Bool) → setup_fault (own_issue own tag) offset count to_host ≡ None
+      → Says (with_own_context own (dma_context tag offset count to_host auto)) None (SetUp tag offset count to_host ∷ past)
+  says_set_up tag offset count to_host auto sound = by_issue (own_issue own tag) refl sound
     where
       by_test : (j : Issue) → own_issue own tag ≡ Some j → (b : Bool) → is_outstanding j ≡ b → cond b (transfer_fault j offset count to_host) (Some NotOutstanding) ≡ None
-          → Says (with_own_context own (new_context tag offset count to_host)) None (SetUp tag offset count to_host ∷ past)
+          → Says (with_own_context own (dma_context tag offset count to_host auto)) None (SetUp tag offset count to_host ∷ past)
       by_test j at false out e = cc
       by_test j at true out e = record {
         issued = kept (λ s w. false) (own_issue own) past says.issued (λ s i at. refl);
-        agrees = agrees_set_up (own_issue own) own.context ends past says.agrees tag offset count to_host j at (not_pio j.work.kind ((and_parts (is_queued_issue j) j.answered out).0));
+        agrees = agrees_set_up (own_issue own) own.context ends past says.agrees tag offset count to_host auto j at (not_pio j.work.kind ((and_parts (is_queued_issue j) j.answered out).0));
       }
 
       by_issue : (o : Option Issue) → own_issue own tag ≡ o → setup_fault o offset count to_host ≡ None
-          → Says (with_own_context own (new_context tag offset count to_host)) None (SetUp tag offset count to_host ∷ past)
+          → Says (with_own_context own (dma_context tag offset count to_host auto)) None (SetUp tag offset count to_host ∷ past)
       by_issue None at e = cc
       by_issue (Some j) at e = by_test j at (is_outstanding j) refl e
 

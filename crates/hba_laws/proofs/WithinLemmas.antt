@@ -12,7 +12,7 @@ use Rattle.fis_view.specs.declared.view.FisFault.{FisFault}
 use Rattle.port_errors.specs.declared.cause.DeviceCause.TheVariants as cause
 use Rattle.slots.specs.Commands.{answer_of, completed}
 use Rattle.slots.specs.Data.{after_arrive, may_activate}
-use Rattle.slots.specs.Setup.{new_context, pio_fault, pio_issue, setup_fault}
+use Rattle.slots.specs.Setup.{dma_context, pio_fault, pio_issue, setup_fault}
 use Rattle.slots.specs.Slots.{DeviceSlots, Issue, match_some, own_issue}
 use Rattle.slots.specs.Work.{is_read}
 use Rattle.slots.specs.declared.answer.SetupError.{SetupError}
@@ -173,7 +173,7 @@ module _ (own : DeviceSlots) (state : DeviceState) (sound : Bool) (len : ℕ) wh
   fis_carries (view.SetBits f) is_data = bits (field table.Bits table.Status f) (field table.Bits table.Error f) (field table.Bits table.SActive f) (is_error (field table.Bits table.Status f))
   fis_carries (view.DmaActivate f) is_data = activate (may_activate own.context)
   fis_carries (view.DmaSetup f) is_data =
-      setup (new_context (tag_of f) (field table.Setup table.Offset f) (field table.Setup table.Count f) (eqb (field table.Setup table.D f) 1))
+      setup (dma_context (tag_of f) (field table.Setup table.Offset f) (field table.Setup table.Count f) (eqb (field table.Setup table.D f) 1) (eqb (field table.Setup table.A f) 1))
       (setup_fault (own_issue own (tag_of f)) (field table.Setup table.Offset f) (field table.Setup table.Count f) (eqb (field table.Setup table.D f) 1))
   fis_carries (view.PioSetup f) is_data =
       pio (field table.Pio table.Status f) (field table.Pio table.Error f) (field table.Pio table.Transfer f) (eqb (field table.Pio table.D f) 1) (block_of f) (is_error (field table.Pio table.Status f))

@@ -46,20 +46,26 @@ abbrev pub pio_fault : Option Issue → ℕ → Bool → Option SetupError
 pio_fault None count to_host = Some NotOutstanding
 pio_fault (Some issue) count to_host = transfer_fault issue (came issue) count to_host
 
--- the context of a setup that is accepted
+-- the context of a PIO Setup that is accepted
 abbrev pub new_context : ℕ → ℕ → ℕ → Bool → Context
 new_context slot offset count to_host =
     record { slot = slot; next = offset; left = count; to_host = to_host; activated = false }
+
+-- The context of a DMA Setup that is accepted. With auto-activate (Serial ATA 3.x, 10.5, DMA Setup FIS, bit A)
+-- the first Data towards the device may go at once.
+abbrev pub dma_context : ℕ → ℕ → ℕ → (to_host auto : Bool) → Context
+dma_context slot offset count to_host auto =
+    record { slot = slot; next = offset; left = count; to_host = to_host; activated = auto && not to_host }
 
 -- a setup that is accepted replaces the device's context
 abbrev pub with_own_context : DeviceSlots → Context → DeviceSlots
 with_own_context own c = record own { context = Some c }
 
 -- the device's own part after a DMA Setup
-abbrev pub after_setup : DeviceSlots → ℕ → ℕ → ℕ → Bool → DeviceSlots
-after_setup own tag offset count to_host =
+abbrev pub after_setup : DeviceSlots → ℕ → ℕ → ℕ → (to_host auto : Bool) → DeviceSlots
+after_setup own tag offset count to_host auto =
     if is_some (setup_fault (own_issue own tag) offset count to_host) then own
-    else with_own_context own (new_context tag offset count to_host)
+    else with_own_context own (dma_context tag offset count to_host auto)
 
 -- the issue of the PIO data-in that was sent
 abbrev pub pio_issue : DeviceSlots → Option Issue

@@ -6,7 +6,7 @@ ghost use Rattle.std.specs.Result.{result_err};
 ghost use Rattle.slots.specs.Commands.{IsSlotAnswer, MayBeSent, StaysWithout, after_answer, after_complete, after_issue, after_pio_done, after_sent, answer_of, completed, is_any, is_slot, is_unanswered, may_go as may_go_of, next_slot, own_slots, slots_where, table_after_issue, whole_pio, with_answered, with_sent};
 ghost use Rattle.slots.specs.Data.{IsWriteOf, activated as activated_context, after_activate, after_arrive, after_payload, arrive_answer, gone_over, may_activate, payload, payload_len as payload_len_of, receiving_slot};
 ghost use Rattle.slots.specs.Issued.{with_flags};
-ghost use Rattle.slots.specs.Setup.{after_setup, after_setup_pio, new_context, pio_fault, pio_issue, setup_fault, with_own_context};
+ghost use Rattle.slots.specs.Setup.{after_setup, after_setup_pio, dma_context, new_context, pio_fault, pio_issue, setup_fault, with_own_context};
 ghost use Rattle.slots.specs.Slots.{KeepsFree, LeavesOthers, context_of, context_unless, freed, has_bit as has_bit_of, holds, is_control, is_queued_issue, is_waiting, issue_at, no_own_slots, no_slots, own_issue, owned_by, slots_of, waiting};
 ghost use Rattle.slots.specs.Table.{IsContext, IsTable};
 ghost use Rattle.slots.specs.Work.{IsWork};
@@ -34,7 +34,7 @@ pub struct Context {
     pub left: u32,
     /// Whether they go to the host.
     pub to_host: bool,
-    /// Whether the device asked for the next Data.
+    /// Whether the next Data may go to the device: it asked for it, or its DMA Setup has auto-activate.
     pub activated: bool,
 }
 
@@ -48,6 +48,16 @@ impl Context {
             left: count,
             to_host,
             activated: false,
+        }
+    }
+
+    // The next data may go to the device.
+    fn activated(self) -> Context
+        ensures { result ≡ activated_context self }
+    {
+        Context {
+            activated: true,
+            ..self
         }
     }
 
@@ -214,7 +224,8 @@ impl SlotTable {
     }
 
     /// A DMA Setup FIS of a device for one of its queued slots: `count` bytes from byte `offset` on. Where it is accepted it
-    /// replaces the device's last setup, and holds until its slot becomes free.
+    /// replaces the device's last setup, and holds until its slot becomes free. With `auto` the first data towards the
+    /// device needs no DMA Activate.
     pub fn setup(
         &mut self,
         dev: u8,
@@ -222,13 +233,14 @@ impl SlotTable {
         offset: u32,
         count: u32,
         to_host: bool,
+        auto: bool,
     ) -> Result<(), SetupError>
         requires dev { dev < 16 }
         requires tag { tag < 32 }
         ensures refusal { result_err result
             ≡ setup_fault (own_issue (slots_of dev self.old) tag) offset count to_host }
         ensures own { slots_of dev self.new
-            ≡ after_setup (slots_of dev self.old) tag offset count to_host }
+            ≡ after_setup (slots_of dev self.old) tag offset count to_host auto }
         ensures others { LeavesOthers dev self.old self.new }
         ensures frees { KeepsFree self.old self.new }
         ensures err { OnErr result (self.new ≡ self.old) }
@@ -236,7 +248,12 @@ impl SlotTable {
         if let Some(fault) = self.slots[tag as usize].setup_fault(dev, offset, count, to_host) {
             return Err(fault);
         }
-        self.set_context(dev, Context::new(tag, offset, count, to_host));
+        let context = Context::new(tag, offset, count, to_host);
+        if auto && !to_host {
+            self.set_context(dev, context.activated());
+        } else {
+            self.set_context(dev, context);
+        }
         Ok(())
     }
 

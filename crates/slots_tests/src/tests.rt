@@ -54,14 +54,14 @@ fn setup(table: &mut SlotTable, dev: u8, tag: u8, offset: u32, count: u32) -> Op
     requires dev { dev < 16 }
     requires tag { tag < 32 }
 {
-    table.setup(dev, tag, offset, count, true).err()
+    table.setup(dev, tag, offset, count, true, false).err()
 }
 
 fn setup_out(table: &mut SlotTable, dev: u8, tag: u8, offset: u32, count: u32) -> Option<SetupError>
     requires dev { dev < 16 }
     requires tag { tag < 32 }
 {
-    table.setup(dev, tag, offset, count, false).err()
+    table.setup(dev, tag, offset, count, false, false).err()
 }
 
 fn setup_pio(table: &mut SlotTable, dev: u8, count: u32, to_host: bool) -> Option<SetupError>
@@ -268,6 +268,25 @@ fn data_goes_to_the_device(rt: HostRuntime) {
     assert!(rt; activate(&mut table, 2));
     assert_eq!(rt; take_payload(&mut table, 2), Some((9, 8192, 4096)));
     assert!(rt; !activate(&mut table, 2));
+    assert_eq!(rt; complete(&mut table, 2, 512), (512, 0));
+}
+
+#[test]
+fn auto_activate_asks_for_the_first_data(rt: HostRuntime) {
+    let mut table = SlotTable::new();
+    let write = Work {
+        kind: Kind::QueuedWrite,
+        len: 12288,
+    };
+    assert!(rt; issue(&mut table, 9, 2, write));
+    assert_eq!(rt; send(&mut table, 4), Some(9));
+    assert_eq!(rt; answer(&mut table, 2), Answered::Queued(9));
+    assert!(rt; table.setup(2, 9, 0, 12288, false, true).is_ok());
+    assert!(rt; !activate(&mut table, 2));
+    assert_eq!(rt; take_payload(&mut table, 2), Some((9, 0, 8192)));
+    assert_eq!(rt; take_payload(&mut table, 2), None);
+    assert!(rt; activate(&mut table, 2));
+    assert_eq!(rt; take_payload(&mut table, 2), Some((9, 8192, 4096)));
     assert_eq!(rt; complete(&mut table, 2, 512), (512, 0));
 }
 

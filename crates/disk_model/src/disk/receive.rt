@@ -7,7 +7,7 @@ ghost use Rattle.disk_model.specs.Requests.{Asks};
 
 use super::{Disk, Transfer, Waiting, is_queued, put_at, remove_tag};
 use crate::answer::{Answer, Fault, Page};
-use crate::chunk::Chunk;
+use crate::chunk::{Chunk, asks};
 use crate::request::{Command, Request};
 use std::alloc::AllocError;
 
@@ -198,7 +198,7 @@ impl Disk {
             gone,
         } = waiting;
         let chunk = Chunk::at(&self.plan, command, left);
-        if gone < 2 || bytes.len() != 512 * chunk.count as usize {
+        if gone < asks(&self.plan) || bytes.len() != 512 * chunk.count as usize {
             return Ok(());
         }
         let at = 512 * chunk.from as usize;

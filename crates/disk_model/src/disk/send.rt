@@ -1,14 +1,14 @@
 //! What a disk sends next.
 
 ghost use Rattle.std.specs.Prelude.{◌≡◌, ◌+◌, ◌*◌, ◌<◌, ◌≤◌, [], drop, length, replicate, true, None, IfOk, IfSome, OnErr};
-ghost use Rattle.disk_model.specs.Chunks.{asks_for, chunks};
+ghost use Rattle.disk_model.specs.Chunks.{activations, asks_for, chunks};
 ghost use Rattle.disk_model.specs.Disks.{picked};
 ghost use Rattle.disk_model.specs.Insides.{Gives, HasTurn, IsTransfer, Leads, moved, sends_after, sends_of};
 ghost use Rattle.disk_model.specs.declared.disk.Transfer.TheVariants.{Read};
 
 use super::{Disk, Reading, Transfer, Waiting, remove_tag};
 use crate::answer::{Answer, activate_frame, data_frame, report_frame, setup_frame};
-use crate::chunk::{Chunk, chunks_of, command_fault};
+use crate::chunk::{Chunk, asks, chunks_of, command_fault};
 use crate::plan::{DiskPlan, Order};
 use crate::request::Command;
 use fis_view::{Frame, Stamp};
@@ -46,6 +46,7 @@ fn reading_frame(
             512 * chunk.from,
             512 * chunk.count,
             !command.write,
+            plan.auto,
             stamp,
         )
     }
@@ -63,7 +64,7 @@ fn asking_frame(
     requires short { waiting.command.count ≤ 65536 }
     requires some { 0 < waiting.left }
     requires among { waiting.left ≤ chunks plan.now waiting.command }
-    requires more { waiting.gone < 2 }
+    requires more { waiting.gone < 1 + length (activations plan.now.auto) }
     ensures leads { IfOk result (λ f. Leads
         (drop waiting.gone (asks_for plan.now waiting.command waiting.left)) f.bytes
         (drop (waiting.gone + 1) (asks_for plan.now waiting.command waiting.left))) }
@@ -78,6 +79,7 @@ fn asking_frame(
             512 * chunk.from,
             512 * chunk.count,
             !command.write,
+            plan.auto,
             stamp,
         )
     } else {
@@ -153,7 +155,7 @@ impl Disk {
     {
         match self.answers.front() {
             Some(answer) => {
-                let frame = answer.frame(alloc, self.sectors, stamp)?;
+                let frame = answer.frame(alloc, self.sectors, self.plan.auto, stamp)?;
                 self.answers.pop_front();
                 Ok(Some(frame))
             }
@@ -204,7 +206,7 @@ impl Disk {
         let Transfer::Write(waiting) = self.transfer else {
             return self.give_start(alloc, stamp);
         };
-        if waiting.gone >= 2 {
+        if waiting.gone >= asks(&self.plan) {
             return Ok(None);
         }
         let frame = asking_frame(alloc, &self.plan, waiting, stamp)?;

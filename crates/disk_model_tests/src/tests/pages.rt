@@ -2,6 +2,8 @@
 
 use super::disk::{command, give, next, sends};
 use disk_model::{Disk, DiskPlan, Fault, Page};
+use std::alloc::Global;
+use std::process::Abort;
 use std::test::Fail;
 
 /// NCQ Command Error logs that `ata_eh_read_log_10h` accepts: the bytes up to Count and the last
@@ -42,7 +44,7 @@ const LOGS: [(&str, &str, u8, u8, u64); 4] = [
 fn logs_of_errors(rt: HostRuntime) -> Result<(), Fail> {
     let alloc = rt.alloc();
     for (head, last, tag, error, lba) in LOGS {
-        let page = Page::ErrorLog(Some(Fault::Failed(tag, error, lba))).bytes(alloc, 16)?;
+        let page = Page::ErrorLog(Some(Fault::Failed(tag, error, lba))).bytes(alloc, 16, false)?;
         assert_eq!(rt; page.len(), 512);
         let front = hex::encode(alloc, &page[..14])?;
         assert_eq!(rt; front.as_str(), head);
@@ -60,7 +62,7 @@ fn logs_of_errors(rt: HostRuntime) -> Result<(), Fail> {
 fn log_of_no_error(rt: HostRuntime) -> Result<(), Fail> {
     let alloc = rt.alloc();
     for fault in [None, Some(Fault::Mixed)] {
-        let page = Page::ErrorLog(fault).bytes(alloc, 16)?;
+        let page = Page::ErrorLog(fault).bytes(alloc, 16, false)?;
         assert_eq!(rt; page.len(), 512);
         assert_eq!(rt; page[0], 0x80);
         for byte in &page[1..511] {
@@ -97,22 +99,25 @@ fn word(page: &[u8], n: u8) -> u16 {
 }
 
 #[test]
-fn identify(rt: HostRuntime) -> Result<(), Fail> {
-    let alloc = rt.alloc();
+fn identify_words_of_other_disks(rt: HostRuntime) {
     for (w75, w76, w78, w79, queuing, depth, auto_activate) in WORDS {
         let (a, b, c) = answers(w75, w76, w78, w79);
         assert_eq!(rt; a, queuing);
         assert_eq!(rt; b, depth);
         assert_eq!(rt; c, auto_activate);
     }
-    let mut disk = Disk::new(alloc, 0xABCD, DiskPlan::plain())?;
+}
+
+/// The words of a disk with auto-activate or without, of which 78 and 79 are these, and what is read in them.
+fn identifies(rt: &impl Abort, alloc: Global, auto: bool, w78: u16) -> Result<(), Fail> {
+    let plan = DiskPlan {
+        auto,
+        ..DiskPlan::plain()
+    };
+    let mut disk = Disk::new(alloc, 0xABCD, plan)?;
     give(alloc, &mut disk, &command(0xEC, 0, 0, 0))?;
-    sends(
-        &rt,
-        alloc,
-        &mut disk,
-        "5f60580000000000000000000000005000020000",
-    )?;
+    let setup = "5f60580000000000000000000000005000020000";
+    sends(rt, alloc, &mut disk, setup)?;
     let frame = next(alloc, &mut disk)?.ok_or("no page")?;
     let page = &frame.bytes()[4..];
     assert_eq!(rt; page.len(), 512);
@@ -120,7 +125,7 @@ fn identify(rt: HostRuntime) -> Result<(), Fail> {
         let wanted = match n {
             75 => 0x001F,
             76 => 0x0100,
-            78 | 79 => 2,
+            78 | 79 => w78,
             100 => 0xABCD,
             _ => 0,
         };
@@ -134,6 +139,13 @@ fn identify(rt: HostRuntime) -> Result<(), Fail> {
     );
     assert_eq!(rt; a, 1);
     assert_eq!(rt; b, 32);
-    assert_eq!(rt; c, 0);
+    assert_eq!(rt; c, auto as u16);
     Ok(())
+}
+
+#[test]
+fn identify(rt: HostRuntime) -> Result<(), Fail> {
+    let alloc = rt.alloc();
+    identifies(&rt, alloc, false, 2)?;
+    identifies(&rt, alloc, true, 6)
 }

@@ -44,3 +44,37 @@ fn write_of_one_sector(rt: HostRuntime) -> Result<(), Fail> {
     assert_eq!(rt; disk.sector(9).ok_or("no sector")?[0], 9);
     Ok(())
 }
+
+/// The DMA Setup of an `auto` disk asks for the Data, and none of a read does.
+#[test]
+fn write_with_auto_activate(rt: HostRuntime) -> Result<(), Fail> {
+    let alloc = rt.alloc();
+    let plan = DiskPlan {
+        chunk: 512,
+        auto: true,
+        ..DiskPlan::plain()
+    };
+    let mut disk = Disk::new(alloc, 16, plan)?;
+    let bytes = hex::decode(alloc, "2780610208000040000000000000000000000000")?;
+    give_frame(alloc, &mut disk, &Frame::from_bytes(alloc, &bytes, STAMP)?)?;
+    sends(&rt, alloc, &mut disk, ACCEPTED)?;
+    // Data that comes before the DMA Setup went is dropped.
+    give_frame(alloc, &mut disk, &data(alloc, 0xAA, 512)?)?;
+    let first = "41800000000000000000000000000000000000000002000000000000";
+    sends(&rt, alloc, &mut disk, first)?;
+    is_silent(&rt, alloc, &mut disk)?;
+    give_frame(alloc, &mut disk, &data(alloc, 0xAB, 512)?)?;
+    let second = "41800000000000000000000000000000000200000002000000000000";
+    sends(&rt, alloc, &mut disk, second)?;
+    is_silent(&rt, alloc, &mut disk)?;
+    give_frame(alloc, &mut disk, &data(alloc, 0xAC, 512)?)?;
+    sends(&rt, alloc, &mut disk, "a140500001000000")?;
+    is_silent(&rt, alloc, &mut disk)?;
+    holds(&rt, &disk, 8, 0xAB)?;
+    holds(&rt, &disk, 9, 0xAC)?;
+    let bytes = hex::decode(alloc, "2780600107000040000000000000000000000000")?;
+    give_frame(alloc, &mut disk, &Frame::from_bytes(alloc, &bytes, STAMP)?)?;
+    sends(&rt, alloc, &mut disk, ACCEPTED)?;
+    let read = "41200000000000000000000000000000000000000002000000000000";
+    sends(&rt, alloc, &mut disk, read)
+}

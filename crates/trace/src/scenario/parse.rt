@@ -230,6 +230,7 @@ fn disk(words: &mut Words<'_>, opening: &Opening) -> Result<Setting, Failure> {
         chunk: chunk(words)?,
         last_first: words.takes(b"lastfirst"),
         bad: bad_sectors(words)?,
+        auto: words.takes(b"auto"),
     };
     Ok(Setting::Disk(port, Shape { sectors, plan }))
 }
