@@ -175,7 +175,7 @@ pub over_append : {T : Type 0} (tell : Telling T) (a b c : Places) (first : List
     (run : Run a first told b) (next : Run b second more c)
     → over tell a (first ++ second) (told ++ more) c (run_append a b c first told second more run next)
     ≡ over tell a first told b run ++ over tell b second more c next
-  unfolding run_append
+unfolding run_append
 over_append tell a b c [] [] second more run next = moved tell a b c second more run next
 over_append tell a b c (s ∷ first) (x ∷ told) second more run next =
     ap (λ (l : List _). tell a s x run.0 ++ l) (over_append tell run.0 b c first told second more run.2 next)

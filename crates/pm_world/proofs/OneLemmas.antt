@@ -84,8 +84,11 @@ kept_over old (s ∷ steps) (a ∷ answers) new run slot f here unended = elim (
     | inl stood ↦
         inl (
           record { entry = stood.entry; here = stood.here; same = stood.same ∙ from.0.same; unended = λ h. stood.unended (from.0.unended h) },
-          (subst (λ (n : ℕ). orders_clear n old a ≡ false) (ap (λ (x : Entry). x.head.dev) from.0.same)
-              (unflushed old s a run.0 run.1 slot from.0.entry from.0.here (from.0.unended unended)), from.1),
+          (
+            subst (λ (n : ℕ). orders_clear n old a ≡ false) (ap (λ (x : Entry). x.head.dev) from.0.same)
+                (unflushed old s a run.0 run.1 slot from.0.entry from.0.here (from.0.unended unended)),
+            from.1,
+          ),
         )
     | inr fresh ↦
         inr (first_kept s a steps answers old new run slot f from.0.entry fresh from.0.same from.1)

@@ -1,5 +1,5 @@
 use Rattle.pm_world.proofs.InOrderLemmas.{reads_follow_writes}
 use Rattle.pm_world.proofs.theorems.bytes.reads_follow_writes.Goals as goal
 
-pub returns-clause : goal.returns-clause
-returns-clause c = reads_follow_writes
+pub returns : goal.returns
+returns c = reads_follow_writes
