@@ -85,6 +85,25 @@ fn runs(rig: &mut Rig, steps: &[Step], all: &[Told]) -> bool {
     }
 }
 
+/// The steps from number i on, whose answers go behind those of the steps before.
+fn goes_on(rig: &mut Rig, steps: &[Step], i: usize, answers: &mut Vec<Answer>) -> bool {
+    match steps.get(i..) {
+        Some(rest) => answers.len() == i && rig.runs_into(rest, answers).is_ok(),
+        None => false,
+    }
+}
+
+/// Where memory is refused to a step, the answers of those before it are there, and those of the rest, given again, go
+/// behind them: together they tell what all steps tell.
+fn runs_into(rig: &mut Rig, steps: &[Step], all: &[Told], answers: &mut Vec<Answer>) -> bool {
+    let ended = match rig.runs_into(steps, answers) {
+        Ok(()) => true,
+        Err((i, StepError::OutOfMemory)) => goes_on(rig, steps, i, answers),
+        Err(_) => false,
+    };
+    ended && tell(answers, all)
+}
+
 /// The read ends last, and seven FISes of the disk were sent.
 fn ends_well(all: &[Told]) -> bool {
     let sent = all.iter().filter(|one| matches!(one, Told::Sent(..)));
@@ -103,6 +122,24 @@ fn refused_memory_changes_nothing(rt: HostRuntime) -> Result<(), Fail> {
         ends_well(&all),
         by_steps.holds_sector(PLACE, 5),
         runs(&mut by_run, &steps, &all),
+        by_run.holds_sector(PLACE, 5),
+    ];
+    all_held(&rt, &held);
+    Ok(())
+}
+
+/// What was answered before memory was refused is not lost.
+#[test]
+fn answers_before_a_refusal_are_kept(rt: HostRuntime) -> Result<(), Fail> {
+    let alloc = rt.alloc();
+    let steps = whole(alloc)?;
+    let mut by_steps = Rig::new(alloc, 1, 2)?;
+    let all = tell_all(&mut by_steps, alloc, &steps)?;
+    let mut by_run = Rig::new(alloc, 1, 2)?;
+    let mut answers = Vec::new(alloc);
+    let held = [
+        ends_well(&all),
+        runs_into(&mut by_run, &steps, &all, &mut answers),
         by_run.holds_sector(PLACE, 5),
     ];
     all_held(&rt, &held);

@@ -249,6 +249,16 @@ fn run(
     world.run(alloc, steps)
 }
 
+/// A run of a world, whose answers go behind these.
+fn run_into(
+    world: &mut World,
+    alloc: Global,
+    steps: &[Step],
+    answers: &mut Vec<Answer>,
+) -> Result<(), (usize, StepError)> {
+    world.run_into(alloc, steps, answers)
+}
+
 /// The byte of the client area at an address.
 fn byte_at(world: &World, at: u32) -> Option<u8> {
     let place = at.checked_sub(CLIENT_START)?;
@@ -362,6 +372,15 @@ impl Rig {
     /// Gives the world a run of steps.
     pub(super) fn runs(&mut self, steps: &[Step]) -> Result<Vec<Answer>, (usize, StepError)> {
         run(&mut self.world, self.alloc, steps)
+    }
+
+    /// Gives the world a run of steps, whose answers go behind these.
+    pub(super) fn runs_into(
+        &mut self,
+        steps: &[Step],
+        answers: &mut Vec<Answer>,
+    ) -> Result<(), (usize, StepError)> {
+        run_into(&mut self.world, self.alloc, steps, answers)
     }
 
     /// Counts the answer and keeps its bytes. An echo that can not follow is let go.

@@ -78,6 +78,39 @@ fn a_disk_comes_once(rt: HostRuntime) -> Result<(), Fail> {
     Ok(())
 }
 
+/// Whether a run of the steps stops at this one, since a device is there already.
+fn stops_into(rig: &mut Rig, steps: &[Step], answers: &mut Vec<Answer>, i: usize) -> bool {
+    match rig.runs_into(steps, answers) {
+        Ok(()) => false,
+        Err((at, e)) => at == i && e == StepError::AlreadyThere,
+    }
+}
+
+/// Whether these are the answers so far, and one more step adds its own.
+fn goes_on(rig: &mut Rig, step: &[Step], answers: &mut Vec<Answer>) -> bool {
+    let before = are_two(answers);
+    let more = rig.runs_into(step, answers).is_ok();
+    let last = answers.last().map(telling);
+    before && more && answers.len() == 3 && last == Some(Told::Offered(0, false))
+}
+
+/// The answers before a refused step are there, and those of a further run go behind them.
+#[test]
+fn answers_stay(rt: HostRuntime) -> Result<(), Fail> {
+    let alloc = rt.alloc();
+    let refused = steps(alloc, &[Act::Came(0), Act::DiskSend(0), Act::Came(0)])?;
+    let further = steps(alloc, &[Act::PmFromDevice(0)])?;
+    let mut rig = Rig::new(alloc, 1, 1)?;
+    let mut answers = Vec::new(alloc);
+    let held = [
+        stops_into(&mut rig, &refused, &mut answers, 2),
+        stops_into(&mut rig, &refused, &mut answers, 0),
+        goes_on(&mut rig, &further, &mut answers),
+    ];
+    all_held(&rt, &held);
+    Ok(())
+}
+
 /// A run of no steps has no answers.
 fn answers_nothing(rig: &mut Rig) -> bool {
     match rig.runs(&[]) {

@@ -88,7 +88,8 @@ pub struct Agenda {
     views: Vec<View>,
     /// Whether the next request waits until all earlier ones have ended.
     waits: bool,
-    ghost puts_fit: { list_all (λ put. lies_in (1048576 * opening.sizes.memory) put.0 (length put.1.items)) puts.items ≡ true },
+    ghost puts_fit: { list_all (λ put. lies_in (1048576 * opening.sizes.memory) put.0
+        (length put.1.items)) puts.items ≡ true },
     ghost plan_fits: { list_all (λ planned. nat_lt planned.dev opening.sizes.ports) plan.items ≡ true },
     ghost pulls_fit: { list_all (λ pull. nat_lt pull.0 opening.sizes.ports) pulls.items ≡ true },
 }
