@@ -22,11 +22,11 @@ use Rattle.hba_fbs.specs.declared.register.Register.TheVariants.{Ci, Clb, Clbu, 
 use Rattle.hba_fbs.specs.declared.report.TakeReport.{TakeReport}
 use Rattle.hba_fbs.specs.declared.status.Block.{Block}
 use Rattle.hba_fbs.specs.Bits.{dec}
-use Rattle.hba_fbs.specs.Issuing.{asked, view_issued}
+use Rattle.hba_fbs.specs.Issuing.{aimed, asked, view_issued}
 use Rattle.hba_fbs.specs.Posting.{signs}
 use Rattle.hba_fbs.specs.Registers.{falls}
 use Rattle.hba_fbs.specs.Sending.{Data, Gives, Nothing, Order, Outgoing, Sends, Unreadable, outgoing, view_fed, view_sent}
-use Rattle.hba_fbs.specs.Taking.{admitted, errors_with, heard_now, heard_report, ignores, is_running, port_cause, port_of}
+use Rattle.hba_fbs.specs.Taking.{admitted, errors_in, errors_with, heard_now, heard_report, ignores, is_ignored, is_running, passes_over, port_cause, port_of}
 use Rattle.hba_fbs.specs.Views.{DeviceView, Port, view_of}
 use Rattle.hba_fbs.specs.Writing.{cleared_by, errors_after, view_after}
 use Rattle.hba_laws.specs.Client.{By, Stops, own}
@@ -153,19 +153,32 @@ stands_still started X None is = cc is
 stands_still true X (Some x) is = refl
 stands_still false X (Some x) is = refl
 
+or_last : (b c : Bool) → c ≡ true → (b || c) ≡ true
+or_last true c is = refl
+or_last false c is = is
+
+ignored_over : (host : Host) (frame : List ℕ)
+    → is_ignored (is_running host.port) (view_of (port_of frame) host.port) (seen frame) ≡ true
+    → ignores (port_of frame) host.port frame ≡ true
+ignored_over host frame is =
+    or_last (passes_over host.port.registers.switching (port_of frame) (view_of (port_of frame) host.port) (seen frame))
+    (is_ignored (is_running host.port) (view_of (port_of frame) host.port) (seen frame)) is
+
 ignored_faulty : (n : ℕ) (host : Host) (frame : List ℕ) → port_of frame ≡ n → is_some (view_of n host.port).fault ≡ true
     → ignores (port_of frame) host.port frame ≡ true
 ignored_faulty n host frame from is =
     let v : DeviceView = view_of (port_of frame) host.port in
     let here : is_some (view_of (port_of frame) host.port).fault ≡ true =
     subst (λ (m : ℕ). is_some (view_of m host.port).fault ≡ true) (sym from) is in
-    or_middle (not (is_running host.port)) (is_some v.fault) (v.state.resetting && not (signs (seen frame))) here
+    ignored_over host frame
+    (or_middle (not (is_running host.port)) (is_some v.fault) (v.state.resetting && not (signs (seen frame))) here)
 
 ignored_halted : (host : Host) (frame : List ℕ) → is_some host.port.errors.port ≡ true → ignores (port_of frame) host.port frame ≡ true
 ignored_halted host frame is =
     let v : DeviceView = view_of (port_of frame) host.port in
-    or_first (not (is_running host.port)) (is_some v.fault) (v.state.resetting && not (signs (seen frame)))
-    (stands_still host.port.registers.started _ host.port.errors.port is)
+    ignored_over host frame
+    (or_first (not (is_running host.port)) (is_some v.fault) (v.state.resetting && not (signs (seen frame)))
+    (stands_still host.port.registers.started _ host.port.errors.port is))
 
 stays_by : (host new : Host) (frame : List ℕ) (report : TakeReport) → ignores (port_of frame) host.port frame ≡ true → TakesFrame host frame report new
     → new.port ≡ host.port
@@ -308,7 +321,7 @@ issue_fault n value port memory false = refl
 
 issued_fault : (n value : ℕ) (port : Port) (memory : Memory) → (view_after Ci port memory value n).fault ≡ (view_of n port).fault
 unfolding view_after
-issued_fault n value port memory = issue_fault n value port memory (n == port.registers.chosen)
+issued_fault n value port memory = issue_fault n value port memory (n == aimed port.registers memory.structure value)
 
 ci_aside : (n : ℕ) (host new : Host) (value : ℕ) (past : History) → n < 16 → Does host (Wrote Ci value) new → WritesNoneQueued n host Ci value
     → IsAside n host past → IsAside n new (own n (touched host (Wrote Ci value)) ++ past)
@@ -316,7 +329,7 @@ ci_aside n host new value past below does alone (Halted is) =
     Halted (halted_by host new Ci value does (keeps_halt Ci host.port value (λ e. cc e)) is)
 ci_aside n host new value past below does alone (Faulty is) =
     Faulty (ap (λ (v : DeviceView). is_some v.fault) (does.1.views n below) ∙ ap is_some (issued_fault n value host.port host.memory) ∙ is)
-ci_aside n host new value past below does alone (Spared none) = elim (cases_eq host.port.registers.chosen n) [
+ci_aside n host new value past below does alone (Spared none) = elim (cases_eq (aimed host.port.registers host.memory.structure value) n) [
   | inl chosen ↦
       let r = host.port.registers in
       let asks = asked r host.memory value in
@@ -324,7 +337,7 @@ ci_aside n host new value past below does alone (Spared none) = elim (cases_eq h
       Spared (subst AreUnqueued (sym is) (spared_below host.memory asks past (alone chosen) none 32))
   | inr other ↦
       let r = host.port.registers in
-      let nothing = other_below n r.chosen host.memory (asked r host.memory value) 32 other in
+      let nothing = other_below n (aimed r host.memory.structure value) host.memory (asked r host.memory value) 32 other in
       Spared (subst (λ (h : History). AreUnqueued (h ++ past)) (sym nothing) none)
 ]
 
@@ -413,6 +426,13 @@ halts errors dev None is = cc is
 halts errors dev (Some (fault.Device c)) is = cc is
 halts errors dev (Some (fault.Port c)) is = refl
 
+halts_in : (on : Bool) (errors : Errors) (dev : ℕ) (o : Option Fault) → is_some (port_cause o) ≡ true
+    → is_some (errors_in on errors dev o).port ≡ true
+halts_in true errors dev o is = halts errors dev o is
+halts_in false errors dev None is = cc is
+halts_in false errors dev (Some (fault.Device c)) is = cc is
+halts_in false errors dev (Some (fault.Port c)) is = refl
+
 took_fault : (host new : Host) (frame : List ℕ) (report : TakeReport) (b : Bool) → ignores (port_of frame) host.port frame ≡ b
     → TakesFrame host frame report new → is_some report.fault ≡ true → is_some (view_of (port_of frame) new.port).fault ≡ true
 unfolding heard_report
@@ -433,7 +453,7 @@ took_stop host new frame report false is takes stopped =
     let t = takes.heard is in
     let h : Heard = heard_now host.port host.memory (port_of frame) (admitted (port_of frame) (seen frame)) in
     ap (λ (e : Errors). is_some e.port) t.errors
-    ∙ halts host.port.errors (port_of frame) h.fault (sym (ap (λ (r : TakeReport). is_some r.stopped) t.reports) ∙ stopped)
+    ∙ halts_in host.port.registers.switching host.port.errors (port_of frame) h.fault (sym (ap (λ (r : TakeReport). is_some r.stopped) t.reports) ∙ stopped)
 
 fails : (n : ℕ) (host new : Host) (out : Outgoing) (frame : Option Stamped) (past : History)
     → Gives out host.port host.memory frame new.port → fails_by_bus out ≡ true → is_some new.port.errors.port ≡ true

@@ -6,7 +6,7 @@ use Rattle.fis_view.specs.Frames.{Stamped}
 use Rattle.hba_fbs.specs.declared.register.Register.{Register}
 use Rattle.hba_fbs.specs.declared.register.Register.TheVariants.{Ci, Clb, Clbu, Cmd, Fb, Fbs, Fbu, Ie, Is, Sact, Serr, Sig, Sntf, Tfd}
 use Rattle.hba_fbs.specs.declared.report.TakeReport.{TakeReport}
-use Rattle.hba_fbs.specs.Issuing.{asked, view_issued}
+use Rattle.hba_fbs.specs.Issuing.{aimed, asked, view_issued}
 use Rattle.hba_fbs.specs.Sending.{Data, Gives, Nothing, Order, Outgoing, Unreadable, outgoing}
 use Rattle.hba_fbs.specs.Taking.{ignores, port_of}
 use Rattle.hba_fbs.specs.Views.{Port, stopped_view, view_of}
@@ -43,7 +43,7 @@ unfolding view_after
 view_kept n value Cmd old other = ap (λ (b : Bool). if b then stopped_view (view_of n old.port) else view_of n old.port) other
 view_kept n value Ci old other =
     ap (λ (b : Bool). if b then view_issued old.port.registers old.memory value (view_of n old.port) else view_of n old.port)
-    (ne_eqb n old.port.registers.chosen other)
+    (ne_eqb n (aimed old.port.registers old.memory.structure value) other)
 view_kept n value Fbs old other =
     ap (λ (b : Bool). if b then stopped_view (view_of n old.port) else view_of n old.port) (not_cleared n (cleared_by old.port.errors value) other)
 view_kept n value Clb old other = refl
@@ -62,7 +62,7 @@ none_written : (n value : ℕ) (register : Register) (old : Host) → WritesElse
     → own n (touched_by_write register old value) ≡ []
 none_written n value Cmd old other = ap (λ (b : Bool). own n (if b then Stops ∷ [] else [])) other
 none_written n value Ci old other =
-    other_below n old.port.registers.chosen old.memory (asked old.port.registers old.memory value) 32 (λ same. other (sym same))
+    other_below n (aimed old.port.registers old.memory.structure value) old.memory (asked old.port.registers old.memory value) 32 (λ same. other (sym same))
 none_written n value Fbs old other = none_cleared n (cleared_by old.port.errors value) other
 none_written n value Clb old other = refl
 none_written n value Clbu old other = refl

@@ -12,7 +12,7 @@ use Rattle.slots.specs.declared.table.Context.{Context}
 use Rattle.hba_commands.specs.declared.command.Command.{Command}
 use Rattle.hba_fbs.specs.declared.register.Register.TheVariants.{Ci}
 use Rattle.hba_fbs.specs.declared.state.DeviceState.{DeviceState}
-use Rattle.hba_fbs.specs.Issuing.{view_issued}
+use Rattle.hba_fbs.specs.Issuing.{aimed, view_issued}
 use Rattle.hba_fbs.specs.Sending.{Data, Gives, Nothing, Order, Outgoing, Sends, Unreadable, outgoing, resets, state_sent, view_fed, view_sent}
 use Rattle.hba_fbs.specs.Status.{is_error}
 use Rattle.hba_fbs.specs.Views.{DeviceView, Port, view_of}
@@ -107,7 +107,7 @@ unfolding view_after
 issues_file n value host new below does fine =
     let v : DeviceView = view_of n host.port in
     subst IsFineFile (sym (does.1.views n below))
-    (issued_by v (view_issued host.port.registers host.memory value v) (n == host.port.registers.chosen) refl refl fine)
+    (issued_by v (view_issued host.port.registers host.memory value v) (n == aimed host.port.registers host.memory.structure value) refl refl fine)
 
 pub files_are_left : FilesAreLeft
 files_are_left = record {

@@ -8,7 +8,7 @@ use Rattle.hba_commands.specs.declared.command.Command as issued_command
 use Rattle.slots.specs.Slots.{Issue, new_issue, own_issue, owned_by}
 use Rattle.slots.specs.declared.table.Context.{Context}
 use Rattle.hba_fbs.specs.declared.register.Register.TheVariants.{Ci}
-use Rattle.hba_fbs.specs.Issuing.{asked, issue_with, issued_slots, view_issued}
+use Rattle.hba_fbs.specs.Issuing.{aimed, asked, issue_with, issued_slots, view_issued}
 use Rattle.hba_fbs.specs.Views.{DeviceView, Port, view_of}
 use Rattle.hba_fbs.specs.Writing.{view_after}
 use Rattle.disk_model.specs.Ledger.{Ledger}
@@ -140,12 +140,12 @@ none_asked None p t free there = refl
 none_asked (Some command) p t free there = absurd (some_issued p t (free refl) there)
 
 -- the view of the device for which commands are issued
-view_issued_is : (n value : ℕ) (port : Port) (memory : Memory) → port.registers.chosen ≡ n
+view_issued_is : (n value : ℕ) (port : Port) (memory : Memory) → aimed port.registers memory.structure value ≡ n
     → view_after Ci port memory value n ≡ view_issued port.registers memory value (view_of n port)
 unfolding view_after
 view_issued_is n value port memory chosen =
     ap (λ (b : Bool). if b then view_issued port.registers memory value (view_of n port) else view_of n port)
-    (eq-eqb n port.registers.chosen (sym chosen))
+    (eq-eqb n (aimed port.registers memory.structure value) (sym chosen))
 
 pub joins_issues : JoinsIssues
 joins_issues n value host new commands next past k sound below chosen does tags names counted joined =
@@ -173,21 +173,21 @@ joins_issues n value host new commands next past k sound below chosen does tags 
           subst (λ (h : History). Same next h k) (sym touch_is)
           (same_below host.memory (asked host.port.registers host.memory value) next past k free counted 32 (omega arith) named);
       sent = λ s i there.
-          let here : own_issue (issued_slots host.port.registers.chosen (asked host.port.registers host.memory value) v.slots) s ≡ Some i =
+          let here : own_issue (issued_slots (aimed host.port.registers host.memory.structure value) (asked host.port.registers host.memory value) v.slots) s ≡ Some i =
           sym (ap (λ (w : DeviceView). own_issue w.slots s) view_is) ∙ there in
-          let by_slot : issue_below host.port.registers.chosen (asked host.port.registers host.memory value) (own_issue v.slots) 32 s ≡ Some i =
+          let by_slot : issue_below (aimed host.port.registers host.memory.structure value) (asked host.port.registers host.memory value) (own_issue v.slots) 32 s ≡ Some i =
           sym (ap (λ (f : ℕ → Option Issue). f s)
-          (own_issued host.port.registers.chosen (asked host.port.registers host.memory value) v.slots 32 owns.long)) ∙ here in
+          (own_issued (aimed host.port.registers host.memory.structure value) (asked host.port.registers host.memory value) v.slots 32 owns.long)) ∙ here in
           ap (is_sent s) touch_is ∙ elim (cases_lt s 32) [
             | inl lt ↦
                 let with_it =
-                sym (ap (λ (b : Bool). if b then issue_with host.port.registers.chosen (asked host.port.registers host.memory value s)
+                sym (ap (λ (b : Bool). if b then issue_with (aimed host.port.registers host.memory.structure value) (asked host.port.registers host.memory value s)
                 (own_issue v.slots s) else own_issue v.slots s) (lt-ltb s 32 lt)) ∙ by_slot in
-                sent_with host.memory (asked host.port.registers host.memory value) next past k free counted host.port.registers.chosen s i
+                sent_with host.memory (asked host.port.registers host.memory value) next past k free counted (aimed host.port.registers host.memory.structure value) s i
                 (asked host.port.registers host.memory value s) (own_issue v.slots s) lt refl (λ j old. joined.sent s j old) with_it
             | inr ge ↦
                 let old : own_issue v.slots s ≡ Some i =
-                sym (ap (λ (b : Bool). if b then issue_with host.port.registers.chosen (asked host.port.registers host.memory value s)
+                sym (ap (λ (b : Bool). if b then issue_with (aimed host.port.registers host.memory.structure value) (asked host.port.registers host.memory value s)
                 (own_issue v.slots s) else own_issue v.slots s) (le-ltb s 32 ge)) ∙ by_slot in
                 let lt : s < 32 = own_below n s v.slots i owns old in
                 absurd (omega (arith, lt, ge))

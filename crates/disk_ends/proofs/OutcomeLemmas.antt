@@ -10,7 +10,7 @@ use Rattle.fis_view.specs.declared.view.FisFault.{FisFault}
 use Rattle.slots.specs.Slots.{DeviceSlots}
 use Rattle.hba_fbs.specs.declared.register.Register.TheVariants.{Ci}
 use Rattle.hba_fbs.specs.declared.report.TakeReport.{TakeReport}
-use Rattle.hba_fbs.specs.Issuing.{view_issued}
+use Rattle.hba_fbs.specs.Issuing.{aimed, view_issued}
 use Rattle.hba_fbs.specs.Views.{DeviceView, view_of}
 use Rattle.hba_fbs.specs.Writing.{view_after}
 use Rattle.disk_model.specs.declared.plan.DiskPlan.{DiskPlan}
@@ -87,7 +87,7 @@ module _ (n : ℕ) (base : List Happening) (below : n < 15) where
   issued_unset old new value does unset =
       let small : n < 16 = omega (arith, below) in
       let v : DeviceView = view_of n old.port in
-      ap (λ (w : DeviceView). w.slots.context) (does.1.views n small) ∙ issued_by (n == old.port.registers.chosen)
+      ap (λ (w : DeviceView). w.slots.context) (does.1.views n small) ∙ issued_by (n == aimed old.port.registers old.memory.structure value)
     where
       issued_by : (b : Bool) → (if b then view_issued old.port.registers old.memory value (view_of n old.port) else view_of n old.port).slots.context ≡ None
       issued_by true = unset

@@ -1,7 +1,7 @@
 -- The signature that ends a device's software reset.
 use Rattle.std.proofs.Common.{◌≡◌, ◌==◌, ◌&&◌, ◌||◌, eqb, ℕ, ◌%◌, Bool, true, false, List, [], ◌∷◌, drop, refl, sym, ap, subst, ◌∙◌, None, Ok, Err, Result}
 use Rattle.std.specs.Prelude.{not, is_some, if◌then◌else◌}
-use Rattle.std.proofs.lemmas.Bool.{and_parts, true≢false}
+use Rattle.std.proofs.lemmas.Bool.{and_parts, or_parts, true≢false}
 use Rattle.fis_view.specs.Table.{D2h, Status, Error, field}
 use Rattle.fis_view.specs.Table as table
 use Rattle.fis_view.specs.Seen.{seen}
@@ -16,7 +16,7 @@ use Rattle.hba_fbs.specs.Hearing.{heard_d2h, heard_fis, quietly}
 use Rattle.hba_fbs.specs.Posting.{is_signature, signs}
 use Rattle.hba_fbs.specs.Status.{after_reset, is_quiet}
 use Rattle.hba_fbs.specs.Tables.{is_sound}
-use Rattle.hba_fbs.specs.Taking.{admitted, heard, heard_now, ignores, is_running, port_of, view_after_hearing}
+use Rattle.hba_fbs.specs.Taking.{admitted, heard, heard_now, ignores, is_ignored, is_running, passes_over, port_of, view_after_hearing}
 use Rattle.hba_fbs.specs.Views.{DeviceView, view_of}
 use Rattle.disk_model.specs.Ends.{IsRight}
 use Rattle.disk_model.specs.Laws.{AnswersFirst}
@@ -75,8 +75,9 @@ pub signed : (host new : Host) (frame : List ℕ) (report : TakeReport) → IsSi
 signed host new frame report well =
     let v : DeviceView = view_of (port_of frame) host.port in
     signed_by (seen frame)
-    (not_test (not (is_running host.port)) (is_some v.fault) v.state.resetting (signs (seen frame)) (not_ignored host new frame report well)
-    well.resetting)
+    (not_test (not (is_running host.port)) (is_some v.fault) v.state.resetting (signs (seen frame))
+    (or_parts (passes_over host.port.registers.switching (port_of frame) v (seen frame)) (is_ignored (is_running host.port) v (seen frame))
+    (not_ignored host new frame report well)).1 well.resetting)
 
 -- ## What the port makes of it
 

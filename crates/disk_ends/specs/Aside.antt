@@ -10,7 +10,7 @@ use Rattle.hba_commands.specs.declared.command.Command as issued_command
 use Rattle.hba_fbs.specs.declared.register.Register.{Register}
 use Rattle.hba_fbs.specs.declared.register.Register.TheVariants.{Ci, Cmd, Fbs}
 use Rattle.hba_fbs.specs.declared.report.TakeReport.{TakeReport}
-use Rattle.hba_fbs.specs.Issuing.{asked}
+use Rattle.hba_fbs.specs.Issuing.{aimed, asked}
 use Rattle.hba_fbs.specs.Registers.{falls}
 use Rattle.hba_fbs.specs.Sending.{outgoing}
 use Rattle.hba_fbs.specs.Taking.{port_of}
@@ -61,7 +61,7 @@ SetsAside n host (Put at bytes) = ⊥
 -- a write of PxCI issues no queued command for the device
 abbrev pub WritesNoneQueued : ℕ → Host → Register → ℕ → Type 0
 WritesNoneQueued n host Ci value =
-    host.port.registers.chosen ≡ n → (s : ℕ) (command : issued_command.Command)
+    aimed host.port.registers host.memory.structure value ≡ n → (s : ℕ) (command : issued_command.Command)
     → asked host.port.registers host.memory value s ≡ Some command
     → is_queued command.work.kind ≡ false
 WritesNoneQueued n host register value = Unit {0}

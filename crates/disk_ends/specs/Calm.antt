@@ -3,7 +3,7 @@
 use Rattle.std.specs.Prelude.{ℕ, ◌≡◌, ◌<◌, ◌⊎◌, List, [], ◌∷◌, None}
 use Rattle.hba_fbs.specs.declared.register.Register.{Register}
 use Rattle.hba_fbs.specs.declared.register.Register.TheVariants.{Ci}
-use Rattle.hba_fbs.specs.Issuing.{asked}
+use Rattle.hba_fbs.specs.Issuing.{aimed, asked}
 use Rattle.disk_model.specs.Histories.{Happening}
 use Rattle.disk_model.specs.Ledger.{Ledger, ledger}
 use Rattle.hba_laws.specs.Delivering.{history_after}
@@ -20,7 +20,7 @@ use Rattle.disk_ends.specs.Same.{SlotCommand}
 abbrev pub WritesIssues : ℕ → Ledger → Host → (ℕ → SlotCommand) → Register → ℕ
     → (ℕ → SlotCommand) → Type 0
 WritesIssues n k host commands Ci value next =
-    (host.port.registers.chosen ≡ n) × ((s : ℕ) → (next s).command.tag ≡ s)
+    (aimed host.port.registers host.memory.structure value ≡ n) × ((s : ℕ) → (next s).command.tag ≡ s)
     × ((s : ℕ) → asked host.port.registers host.memory value s ≡ None → next s ≡ commands s)
     × AreCounted (asked host.port.registers host.memory value) next k
 WritesIssues n k host commands register value next = ⊥

@@ -3,6 +3,7 @@
 use Rattle.std.specs.Prelude.{ℕ, ◌≡◌, ◌≢◌, ◌<◌, false, [], Some}
 use Rattle.hba_fbs.specs.declared.register.Register.{Register}
 use Rattle.hba_fbs.specs.declared.register.Register.TheVariants.{Ci, Cmd, Fbs}
+use Rattle.hba_fbs.specs.Issuing.{aimed}
 use Rattle.hba_fbs.specs.Registers.{falls}
 use Rattle.hba_fbs.specs.Sending.{Data, Nothing, Order, Outgoing, Unreadable, outgoing}
 use Rattle.hba_fbs.specs.Taking.{port_of}
@@ -23,7 +24,7 @@ IsForOther n (Order dev slot command) = n ≢ dev
 -- a write of PxCI issues for another device, ST does not fall, and the error of n is not cleared
 abbrev pub WritesElsewhere : ℕ → Host → Register → ℕ → Type 0
 WritesElsewhere n host Cmd value = falls host.port.registers value ≡ false
-WritesElsewhere n host Ci value = n ≢ host.port.registers.chosen
+WritesElsewhere n host Ci value = n ≢ aimed host.port.registers host.memory.structure value
 WritesElsewhere n host Fbs value = cleared_by host.port.errors value ≢ Some n
 WritesElsewhere n host register value = Unit {0}
 

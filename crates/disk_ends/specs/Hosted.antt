@@ -11,7 +11,7 @@ use Rattle.slots.specs.Slots.{is_control, own_issue}
 use Rattle.slots.specs.Work.{is_queued}
 use Rattle.hba_fbs.specs.declared.register.Register.TheVariants.{Ci}
 use Rattle.hba_fbs.specs.declared.report.TakeReport.{TakeReport}
-use Rattle.hba_fbs.specs.Issuing.{asked}
+use Rattle.hba_fbs.specs.Issuing.{aimed, asked}
 use Rattle.hba_fbs.specs.Sending.{Data, Order, gathered, outgoing}
 use Rattle.hba_fbs.specs.Tables.{prds_of}
 use Rattle.hba_fbs.specs.Taking.{port_of}
@@ -62,7 +62,8 @@ pub data IsHosted (n : ℕ) : Host → List Happening → (ℕ → SlotCommand) 
   -- commands are issued in its slots
   issues : (host new : Host) (value : ℕ) (given : List Happening) (commands next : ℕ
       → SlotCommand) (past : History)
-      → IsHost host → host.port.registers.chosen ≡ n → Does host (Wrote Ci value) new
+      → IsHost host → aimed host.port.registers host.memory.structure value ≡ n
+      → Does host (Wrote Ci value) new
       → ((s : ℕ) → (next s).command.tag ≡ s)
       → ((s : ℕ) → asked host.port.registers host.memory value s ≡ None → next s ≡ commands s)
       → AreCounted (asked host.port.registers host.memory value) next (ledger given)

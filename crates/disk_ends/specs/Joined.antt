@@ -16,7 +16,7 @@ use Rattle.slots.specs.Work.{is_queued}
 use Rattle.slots.specs.declared.table.Context.{Context}
 use Rattle.hba_fbs.specs.declared.register.Register.TheVariants.{Ci}
 use Rattle.hba_fbs.specs.declared.report.TakeReport.{TakeReport}
-use Rattle.hba_fbs.specs.Issuing.{asked}
+use Rattle.hba_fbs.specs.Issuing.{aimed, asked}
 use Rattle.hba_fbs.specs.Sending.{Data, Order, gathered, outgoing}
 use Rattle.hba_fbs.specs.Tables.{prds_of}
 use Rattle.hba_fbs.specs.Taking.{port_of}
@@ -140,7 +140,8 @@ AreCounted asks next k = (s : ℕ) → is_some (asks s) ≡ true → (next s).si
 abbrev pub JoinsIssues : Type 0
 JoinsIssues =
     (n value : ℕ) (host new : Host) (commands next : ℕ → SlotCommand) (past : History) (k : Ledger)
-    → IsHost host → n < 15 → host.port.registers.chosen ≡ n → Does host (Wrote Ci value) new
+    → IsHost host → n < 15 → aimed host.port.registers host.memory.structure value ≡ n
+    → Does host (Wrote Ci value) new
     → ((s : ℕ) → (next s).command.tag ≡ s)
     → ((s : ℕ) → asked host.port.registers host.memory value s ≡ None → next s ≡ commands s)
     → AreCounted (asked host.port.registers host.memory value) next k

@@ -2,6 +2,7 @@ pub mod CmdLemmas
 pub mod SlotLemmas
 pub mod FillLemmas
 pub mod AnyLemmas
+pub mod AimLemmas
 pub mod IssueLemmas
 pub mod WriteLemmas
 pub mod DataLemmas

@@ -12,7 +12,7 @@ use Rattle.host_memory.specs.declared.table.Prd.{Prd}
 use Rattle.hba_commands.specs.declared.command.Command.{Command}
 use Rattle.slots.specs.Data.{payload}
 use Rattle.slots.specs.Slots.{Issue, context_of, issue_at}
-use Rattle.port_errors.specs.declared.cause.PortCause.{PortCause}
+use Rattle.port_errors.specs.declared.cause.Stop.{Stop}
 use Rattle.hba_fbs.specs.Sending.{Gives, Nothing, Sends, data_due, data_fis, data_with, gathered, is_sent, next_receiver, next_to_send, order_due, outgoing, view_fed, view_sent}
 use Rattle.hba_fbs.specs.Tables.{IsTableOf, areas, sound_command}
 use Rattle.hba_fbs.specs.Taking.{is_running}
@@ -91,7 +91,7 @@ pub rests_idle : (port : Port) (memory : Memory) → is_running port ≡ true �
 rests_idle port memory run none idle = rw run (rw none (rw idle refl))
 
 -- a port that runs was not stopped by an error
-not_stopped : (started : Bool) (o : Option PortCause) → (started && is_none o) ≡ true → is_some o ≡ false
+not_stopped : (started : Bool) (o : Option Stop) → (started && is_none o) ≡ true → is_some o ≡ false
 not_stopped started None h = refl
 not_stopped false (Some c) h = cc
 not_stopped true (Some c) h = cc

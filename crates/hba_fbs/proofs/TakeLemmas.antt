@@ -18,9 +18,9 @@ whole_of seen fis bytes is h = subst (λ (x : Result Fis FisFault). IfOk x (λ f
 pub takes_from : (old : Port) (before : Memory) (dev : ℕ) (admitted : Option Fis) (fis : Fis) (bytes : List ℕ) (report : TakeReport) (new : Port) (after : Memory) → admitted ≡ Some fis → frame_of fis ≡ bytes
     → view_of dev new ≡ heard_view dev (view_of dev old) (is_sound before old.commands (view_of dev old).slots) (Some fis) → LeavesOtherViews dev old new
     → report ≡ heard_report dev (place_in (row_for old dev) (Some fis)) (heard_now old before dev (Some fis)) → new.registers ≡ settled (posted old.registers dev (view_of dev old).state.resetting fis) (heard_now old before dev (Some fis))
-    → new.errors ≡ errors_in old.registers.switching old.errors dev (heard_now old before dev (Some fis)).fault → new.commands ≡ old.commands → new.number ≡ old.number → KeepsFree old.slots new.slots → PostsIn old.registers.fb (row_for old dev) (Some fis) before.structure after.structure
+    → new.errors ≡ errors_in old.registers.switching old.errors dev (heard_now old before dev (Some fis)).fault → new.commands ≡ old.commands → new.number ≡ old.number → new.active ≡ old.active → KeepsFree old.slots new.slots → PostsIn old.registers.fb (row_for old dev) (Some fis) before.structure after.structure
     → Delivers before old.commands (drop 4 (frame_of fis)) (wrote_by (heard_now old before dev (Some fis)).happening) after.client → Takes old before dev admitted (drop 4 bytes) report new after
-takes_from old before dev admitted fis bytes report new after is whole own others reports registers errors commands number frees structure client =
+takes_from old before dev admitted fis bytes report new after is whole own others reports registers errors commands number active frees structure client =
     subst (λ (o : Option Fis). Takes old before dev o (drop 4 bytes) report new after) (sym is)
     (record {
       own = own;
@@ -30,6 +30,7 @@ takes_from old before dev admitted fis bytes report new after is whole own other
       errors = errors;
       commands = commands;
       number = number;
+      active = active;
       frees = frees;
       structure = structure;
       client = subst (λ (b : List ℕ). Delivers before old.commands (drop 4 b) (wrote_by (heard_now old before dev (Some fis)).happening) after.client) whole client;

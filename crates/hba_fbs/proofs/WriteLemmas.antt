@@ -1,8 +1,8 @@
 -- A write of PxCI that is not refused.
-use Rattle.std.proofs.Common.{◌≡◌, ℕ, Bool, true, false, not, ◌&&◌, refl, ap, Option, Some, None}
+use Rattle.std.proofs.Common.{◌≡◌, ℕ, Bool, true, false, not, ◌&&◌, refl, sym, ap, Option, Some, None}
 use Rattle.std.specs.Prelude.{if◌then◌else◌, ◌==◌}
 use Rattle.std.specs.Option.{option_or}
-use Rattle.std.proofs.lemmas.Bool.{eqb-true, false≢true, true≢false}
+use Rattle.std.proofs.lemmas.Bool.{eq-eqb, eqb-true, false≢true, true≢false}
 use Rattle.host_memory.specs.Memory.{Memory}
 use Rattle.slots.specs.Slots.{DeviceSlots}
 use Rattle.hba_fbs.specs.declared.error.WriteError.{WriteError}
@@ -11,7 +11,7 @@ use Rattle.hba_fbs.specs.declared.register.Register.TheVariants.{Ci}
 use Rattle.hba_fbs.specs.Issuing.{aimed, any_slot, asked, is_busy, view_issued}
 use Rattle.hba_fbs.specs.Registers.{own_refusal}
 use Rattle.hba_fbs.specs.Views.{DeviceView, Port, view_of}
-use Rattle.hba_fbs.specs.Writing.{commands_after, refusal_of, slots_refusal, view_after}
+use Rattle.hba_fbs.specs.Writing.{active_after, commands_after, refusal_of, slots_refusal, view_after}
 use Rattle.hba_fbs.proofs.IssueLemmas.{commands_none, issued_none, nothing_asked}
 
 not_one : (b : Bool) (e : WriteError) (o : Option WriteError) → (if b then Some e else o) ≡ None → b ≡ false
@@ -55,3 +55,7 @@ idle_views port memory value zero n =
 pub idle_commands : (port : Port) (memory : Memory) (value : ℕ) → value ≡ 0 → port.commands ≡ commands_after Ci port memory value
 unfolding commands_after
 idle_commands port memory value zero = commands_none (asked port.registers memory value) port.commands (λ slot. nothing_asked port.registers memory value slot zero)
+
+pub idle_active : (port : Port) (memory : Memory) (value : ℕ) → value ≡ 0 → port.active ≡ active_after Ci port memory value
+unfolding active_after
+idle_active port memory value zero = sym (ap (λ (b : Bool). if b then port.active else aimed port.registers memory.structure value) (eq-eqb value 0 zero))

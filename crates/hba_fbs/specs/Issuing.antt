@@ -4,7 +4,8 @@ use Rattle.std.specs.Prelude.{is_some, is_none, slice_index_or, slice_set}
 use Rattle.std.specs.List.{range_with_len}
 use Rattle.std.specs.Option.{option_or}
 use Rattle.host_memory.specs.Memory.{Memory}
-use Rattle.slots.specs.Slots.{DeviceSlots, Issue, Slots, has_bit, issue_at, lowest, new_issue}
+use Rattle.slots.specs.Slots.{DeviceSlots, Issue, Slots, has_bit, holds, issue_at, lowest, match_some}
+use Rattle.slots.specs.Slots.{new_issue}
 use Rattle.slots.specs.Commands.{after_issue}
 use Rattle.hba_commands.specs.Commands.{command_at}
 use Rattle.hba_commands.specs.Headers.{header_at}
@@ -20,9 +21,25 @@ any_slot value test = is_some (lowest (λ slot. has_bit value slot && test slot)
 abbrev pub is_busy : Slots → ℕ → Bool
 is_busy slots slot = is_some (issue_at slots slot)
 
+-- the device that its header names: PMP
+abbrev pub named_in : Registers → (structure : List ℕ) → (slot : ℕ) → ℕ
+named_in r structure slot = (header_at structure r.clb slot).pmp
+
+-- its header names a device other than this one
+abbrev pub names_other : Registers → (structure : List ℕ) → (dev slot : ℕ) → Bool
+names_other r structure dev slot = not (named_in r structure slot == dev)
+
 -- its header names a device other than PxFBS.DEV
 abbrev pub is_foreign : Registers → List ℕ → ℕ → Bool
-is_foreign r structure slot = not ((header_at structure r.clb slot).pmp == r.chosen)
+is_foreign r structure slot = names_other r structure r.chosen slot
+
+-- a command is issued in it for a device other than this one
+abbrev pub is_beside : Slots → (dev slot : ℕ) → Bool
+is_beside slots dev slot = holds (λ issue. not (issue.dev == dev)) (issue_at slots slot)
+
+-- such a command is issued in some slot
+abbrev pub any_beside : Slots → ℕ → Bool
+any_beside slots dev = is_some (lowest (is_beside slots dev))
 
 -- its header or its command table is bad
 abbrev pub is_bad : Registers → Memory → ℕ → Bool
@@ -67,9 +84,14 @@ commands_with commands old =
 
 -- ---- what a write of PxCI issues
 
--- the device for which it issues: the one that PxFBS.DEV names
+-- without FIS-based switching, the device in the header of the lowest of these slots
+abbrev pub first_named : Registers → (structure : List ℕ) → (value : ℕ) → ℕ
+first_named r structure value = match_some (lowest (has_bit value)) r.chosen (named_in r structure)
+
+-- The device for which it issues: with FIS-based switching (AHCI 1.3.1, 9.3) the one in PxFBS.DEV. With
+-- command-based switching (9.2) the headers alone name it.
 abbrev pub aimed : Registers → (structure : List ℕ) → (value : ℕ) → ℕ
-aimed r structure value = r.chosen
+aimed r structure value = if r.switching then r.chosen else first_named r structure value
 
 -- only the slots of that device's view change
 abbrev pub view_issued : Registers → Memory → ℕ → DeviceView → DeviceView

@@ -1,5 +1,5 @@
 -- What a register shows: AHCI 1.3.1, section 3.3.
-use Rattle.std.specs.Prelude.{ℕ, ◌+◌, ◌*◌, bit_or, Result, Ok, Err}
+use Rattle.std.specs.Prelude.{ℕ, ◌+◌, ◌*◌, bit_or, if◌then◌else◌, Result, Ok, Err}
 use Rattle.slots.specs.Slots.{is_queued_issue, match_some}
 use Rattle.slots.specs.Commands.{is_unanswered, slots_where}
 use Rattle.port_errors.specs.Errors.{shown}
@@ -17,9 +17,9 @@ use Rattle.hba_fbs.specs.Views.{Port, state_at, task_file}
 abbrev pub fbs_errors : FbsBits → ℕ
 fbs_errors bits = bit sde bits.sde + dwe_unit * bits.dwe
 
--- the device whose task file PxTFD shows: the one in PxFBS.DEV
+-- the device whose task file PxTFD shows: the one in PxFBS.DEV, and without FIS-based switching the active one
 abbrev pub shown_device : Port → ℕ
-shown_device port = port.registers.chosen
+shown_device port = if port.registers.switching then port.registers.chosen else port.active
 
 -- The value of a register. PxIS.UFS shows DIAG.F of PxSERR. PxTFD is that of the device that is shown. PxSACT
 -- shows the slots that are armed and those in which a queued command is issued. PxCI shows the slots that are

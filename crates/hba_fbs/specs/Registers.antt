@@ -69,7 +69,6 @@ cmd_refusal r starts receives =
     if r.receives && not receives && starts then Some refusal.Running
     else if receives && not r.receives && is_area_outside r then Some refusal.BadTable
     else if starts && not r.started && (not receives || is_list_outside r) then Some refusal.BadTable
-    else if starts && not r.started && not r.switching then Some refusal.NoSwitching
     else None
 
 abbrev pub running_if : Bool → Option WriteError

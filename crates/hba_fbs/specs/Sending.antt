@@ -145,6 +145,7 @@ pub record Sends (old : Port) (dev : ℕ) (bytes : List ℕ) (view : DeviceView)
   pub errors : new.errors ≡ old.errors
   pub commands : new.commands ≡ old.commands
   pub number : new.number ≡ counted old.number
+  pub active : new.active ≡ old.active
 
 -- a host bus error stops the port and sets its bits of PxIS
 abbrev pub stopped_by_bus : Port → Port

@@ -1,16 +1,17 @@
 -- Taking a FIS: AHCI 1.3.1, 5.3.13 and 9.3 (FIS-based Switching: errors of one device and of the port).
-use Rattle.std.specs.Prelude.{ℕ, ◌≡◌, ◌%◌, ◌&&◌, ◌||◌, Bool, true, false, not, if◌then◌else◌, bit_or, List}
+use Rattle.std.specs.Prelude.{ℕ, ◌≡◌, ◌%◌, ◌==◌, ◌&&◌, ◌||◌, Bool, true, false, not, if◌then◌else◌, bit_or, List}
 use Rattle.std.specs.Prelude.{drop, slice_index, Option, Some, None, is_none, is_some, Result, Ok, Err}
 use Rattle.fis_view.specs.Seen.{seen}
 use Rattle.fis_view.specs.declared.view.Fis.{Fis}
+use Rattle.fis_view.specs.declared.view.Fis.TheVariants as kind
 use Rattle.fis_view.specs.declared.view.FisFault.{FisFault}
 use Rattle.host_memory.specs.Memory.{Memory}
-use Rattle.port_errors.specs.Errors.{Errors, with_device, with_port}
+use Rattle.port_errors.specs.Errors.{Errors, with_alone, with_device, with_port}
 use Rattle.port_errors.specs.Interrupts.{device_interrupts, port_interrupts}
 use Rattle.port_errors.specs.declared.cause.DeviceCause.{DeviceCause}
 use Rattle.port_errors.specs.declared.cause.PortCause.{PortCause}
 use Rattle.rx_area.specs.Area as rx
-use Rattle.slots.specs.Slots.{KeepsFree}
+use Rattle.slots.specs.Slots.{DeviceSlots, KeepsFree, lowest, own_issue}
 use Rattle.rx_area.specs.declared.area.Posted.{Posted}
 use Rattle.rx_area.specs.declared.area.Posted.TheVariants as place
 use Rattle.hba_fbs.specs.declared.hearing.Fault.{Fault}
@@ -42,9 +43,23 @@ is_running port = port.registers.started && is_none port.errors.port
 abbrev pub is_ignored : (running : Bool) → DeviceView → Result Fis FisFault → Bool
 is_ignored running view fis = not running || is_some view.fault || (view.state.resetting && not (signs fis))
 
--- what is ignored besides, by what the device's view has: nothing
+-- a FIS of a transfer: DMA Setup, PIO Setup, DMA Activate or Data
+abbrev pub is_of_transfer : Result Fis FisFault → Bool
+is_of_transfer (Ok (kind.DmaActivate f)) = true
+is_of_transfer (Ok (kind.DmaSetup f)) = true
+is_of_transfer (Ok (kind.PioSetup f)) = true
+is_of_transfer (Ok (kind.Payload f)) = true
+is_of_transfer fis = false
+
+-- nothing is issued for the device
+abbrev pub owns_none : DeviceSlots → Bool
+owns_none own = is_none (lowest (λ slot. is_some (own_issue own slot)))
+
+-- Without FIS-based switching a FIS of a transfer is ignored if nothing is issued for its device. The control
+-- port may not send one.
 abbrev pub passes_over : (switching : Bool) → ℕ → DeviceView → Result Fis FisFault → Bool
-passes_over switching dev view fis = false
+passes_over switching dev v fis =
+    not switching && not (dev == 15) && is_of_transfer fis && owns_none v.slots
 
 -- a frame from this PM Port is ignored, with the port as it is now
 abbrev pub ignores : ℕ → Port → List ℕ → Bool
@@ -87,13 +102,19 @@ errors_with errors dev None = errors
 errors_with errors dev (Some (fault.Device c)) = with_device errors dev c
 errors_with errors dev (Some (fault.Port c)) = with_port errors c
 
--- so it is in each mode
-abbrev pub errors_in : (switching : Bool) → Errors → ℕ → Option Fault → Errors
-errors_in switching errors dev f = errors_with errors dev f
+-- without FIS-based switching the fault of a device stops the port
+abbrev pub errors_alone : Errors → ℕ → Option Fault → Errors
+errors_alone errors dev None = errors
+errors_alone errors dev (Some (fault.Device c)) = with_alone errors dev c
+errors_alone errors dev (Some (fault.Port c)) = with_port errors c
 
--- the fault stops the port: one of a device does not
+abbrev pub errors_in : (switching : Bool) → Errors → ℕ → Option Fault → Errors
+errors_in switching errors dev f =
+    if switching then errors_with errors dev f else errors_alone errors dev f
+
+-- the fault stops the port
 abbrev pub stops_with : (switching : Bool) → Option Fault → Bool
-stops_with switching f = is_some (port_cause f)
+stops_with switching f = not switching && is_some f || is_some (port_cause f)
 
 -- the bits of PxIS that a fault sets
 abbrev pub fault_interrupts : Option Fault → ℕ
@@ -110,9 +131,11 @@ abbrev pub posted_of : Registers → ℕ → (resetting : Bool) → Option Fis �
 posted_of r dev resetting None = r
 posted_of r dev resetting (Some fis) = posted r dev resetting fis
 
--- the row of the received area in which FISes of a device are posted, if they are: its own
+-- the row of the received area in which FISes of a device are posted, if they are: its own, and without
+-- FIS-based switching row 0 for the active device alone
 abbrev pub row_for : Port → ℕ → Option ℕ
-row_for port dev = Some dev
+row_for port dev =
+    if port.registers.switching then Some dev else if dev == port.active then Some 0 else None
 
 abbrev pub place_of : Option Fis → Posted
 place_of None = place.Nothing
@@ -187,6 +210,7 @@ pub record Takes (old : Port) (before : Memory) (dev : ℕ) (fis : Option Fis) (
       ≡ errors_in old.registers.switching old.errors dev (heard_now old before dev fis).fault
   pub commands : new.commands ≡ old.commands
   pub number : new.number ≡ old.number
+  pub active : new.active ≡ old.active
   -- no free slot is filled
   pub frees : KeepsFree old.slots new.slots
   -- the FIS is posted, and Data is written to the places of its slot's bytes

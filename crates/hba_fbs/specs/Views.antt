@@ -21,6 +21,9 @@ pub record Port : Type 0 where
   pub commands : List (Option Command)
   -- the running number of the next frame that goes out
   pub number : ℕ
+  -- the device of the slot that was issued last, the control port before any; with command-based switching it
+  -- is the active device
+  pub active : ℕ
 
 -- the state of a device that has sent nothing: Status 50h, Error 0
 abbrev pub opening_state : DeviceState
@@ -35,6 +38,7 @@ opening_port = record {
   states = replicate 16 opening_state;
   commands = replicate 32 None;
   number = 0;
+  active = 15;
 }
 
 abbrev pub state_at : List DeviceState → ℕ → DeviceState
@@ -56,6 +60,7 @@ HaveCommands slots commands = (slot : ℕ) → last_command commands slot ≡ No
 pub record IsPort (port : Port) : Type 0 where
   pub registers : AreRegisters port.registers
   pub commands : HaveCommands port.slots port.commands
+  pub active : port.active < 16
 
 -- ---- the view of one device
 
@@ -87,6 +92,7 @@ pub record Flushes (old : Port) (dev : ℕ) (new : Port) : Type 0 where
   pub errors : new.errors ≡ without old.errors dev
   pub commands : new.commands ≡ old.commands
   pub number : new.number ≡ old.number
+  pub active : new.active ≡ old.active
 
 -- After ST falls, or after the device is cleared, BSY and DRQ (bits 7 and 3 of Status) are 0, and no reset
 -- and no block is under way.

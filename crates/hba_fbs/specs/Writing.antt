@@ -1,7 +1,7 @@
 -- A write of a register: when it is refused, and what an accepted write leaves (AHCI 1.3.1, section 3.3 and
 -- chapter 9; for PxFBS.DEC section 9.3, error handling).
-use Rattle.std.specs.Prelude.{ℕ, ◌≡◌, ◌<◌, ◌==◌, Bool, false, if◌then◌else◌, List, Option, Some, None}
-use Rattle.std.specs.Prelude.{MatchOption}
+use Rattle.std.specs.Prelude.{ℕ, ◌≡◌, ◌<◌, ◌==◌, ◌&&◌, ◌||◌, Bool, false, not, if◌then◌else◌, List, Option}
+use Rattle.std.specs.Prelude.{Some, None, MatchOption}
 use Rattle.std.specs.Option.{option_map_or, option_or}
 use Rattle.host_memory.specs.Memory.{Memory}
 use Rattle.slots.specs.Slots.{has_bit, match_some}
@@ -13,8 +13,8 @@ use Rattle.hba_fbs.specs.declared.register.Register.{Register}
 use Rattle.hba_fbs.specs.declared.register.Register.TheVariants.{Cmd, Sact, Ci, Fbs}
 use Rattle.hba_fbs.specs.declared.registers.Registers.{Registers}
 use Rattle.hba_fbs.specs.Bits.{dec}
-use Rattle.hba_fbs.specs.Issuing.{aimed, any_slot, commands_issued, is_bad, is_busy, is_foreign}
-use Rattle.hba_fbs.specs.Issuing.{view_issued}
+use Rattle.hba_fbs.specs.Issuing.{aimed, any_beside, any_slot, commands_issued, is_bad, is_busy}
+use Rattle.hba_fbs.specs.Issuing.{names_other, view_issued}
 use Rattle.hba_fbs.specs.Offsets.{register_at}
 use Rattle.hba_fbs.specs.Registers.{falls, own_refusal, written}
 use Rattle.hba_fbs.specs.Views.{DeviceView, Port, stopped_view, view_of}
@@ -24,14 +24,16 @@ use Rattle.hba_fbs.specs.Views.{DeviceView, Port, stopped_view, view_of}
 abbrev pub busy_refusal : Port → ℕ → Option WriteError
 busy_refusal port value = if any_slot value (is_busy port.slots) then Some refusal.SlotBusy else None
 
--- a header of the slots to issue names a device for which nothing may be issued now: another one than that in
--- PxFBS.DEV
+-- One of the slots to issue is not for the device at which the write is aimed. Without FIS-based switching
+-- nothing is issued beside a command of another device either.
 abbrev pub is_apart : Port → Memory → ℕ → Bool
-is_apart port memory value = any_slot value (is_foreign port.registers memory.structure)
+is_apart port memory value = let dev = aimed port.registers memory.structure value in
+    not port.registers.switching && not (value == 0) && any_beside port.slots dev
+    || any_slot value (names_other port.registers memory.structure dev)
 
 -- the refusal of this
 abbrev pub apart_refusal : Registers → WriteError
-apart_refusal r = refusal.WrongDevice
+apart_refusal r = if r.switching then refusal.WrongDevice else refusal.OtherDevice
 
 -- what is wrong with the slots to issue; each test goes over all of them before the next test
 abbrev pub issue_refusal : Port → Memory → ℕ → Option WriteError
@@ -92,6 +94,12 @@ unfoldable pub commands_after : Register → Port → Memory → ℕ → List (O
 commands_after Ci old memory value = commands_issued old.registers memory value old.commands
 commands_after register old memory value = old.commands
 
+-- the active device: that of a write of PxCI that issues
+unfoldable pub active_after : Register → Port → Memory → ℕ → ℕ
+active_after Ci old memory value =
+    if value == 0 then old.active else aimed old.registers memory.structure value
+active_after register old memory value = old.active
+
 -- An accepted write of a register. The slots, the task files and the resets are parts of the views.
 pub record Accepts (old : Port) (memory : Memory) (register : Register) (value : ℕ)
     (new : Port) : Type 0 where
@@ -100,6 +108,7 @@ pub record Accepts (old : Port) (memory : Memory) (register : Register) (value :
   pub errors : new.errors ≡ errors_after register old value
   pub commands : new.commands ≡ commands_after register old memory value
   pub number : new.number ≡ old.number
+  pub active : new.active ≡ active_after register old memory value
 
 -- the same for the register at an offset
 abbrev pub Writes : Port → Memory → ℕ → ℕ → Port → Type 0

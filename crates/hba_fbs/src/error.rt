@@ -29,7 +29,8 @@ pub enum WriteError {
     /// or the header or the command table of one of the slots is bad.
     #[error("bad table")]
     BadTable = 6,
-    /// PxFBS.EN is 0. The port runs only with FIS-based switching.
-    #[error("FIS-based switching is not enabled")]
-    NoSwitching = 7,
+    /// Without FIS-based switching: the headers of the slots name more than one device, or a command of
+    /// another device is issued.
+    #[error("a header names another device than the active one")]
+    OtherDevice = 8,
 }

@@ -4,7 +4,7 @@ ghost use Rattle.std.specs.Prelude.{◌≡◌, ◌<◌, ◌+◌, ◌≤◌, ◌&
 ghost use Rattle.hba_commands.specs.Commands.{command_at};
 ghost use Rattle.slots.specs.Slots.{LeavesOthers, has_bit as has_bit_of, slots_of};
 ghost use Rattle.slots.specs.Work.{IsWork};
-ghost use Rattle.hba_fbs.specs.Issuing.{any_slot, asked as asked_of, commands_issued, is_bad as is_bad_slot, is_busy as is_busy_slot, is_foreign as is_foreign_slot, issued_slots, slots_after, with_command};
+ghost use Rattle.hba_fbs.specs.Issuing.{aimed as aimed_of, any_beside as any_beside_of, any_slot, asked as asked_of, commands_issued, is_bad as is_bad_slot, is_beside as is_beside_of, is_busy as is_busy_slot, issued_slots, names_other as names_other_of, slots_after, with_command};
 ghost use Rattle.hba_fbs.specs.Views.{HaveCommands};
 
 use crate::bits::has_bit;
@@ -32,25 +32,74 @@ pub(crate) fn any_busy(slots: &SlotTable, value: u32) -> bool
     false
 }
 
-fn is_foreign(registers: Registers, structure: &[u8], value: u32, slot: u8) -> bool
+fn names_other(registers: Registers, structure: &[u8], dev: u8, value: u32, slot: u8) -> bool
     requires slot { slot < 32 }
     requires list { registers.clb + 1024 ≤ length structure.now }
-    ensures { result ≡ (has_bit_of value slot && is_foreign_slot registers structure.now slot) }
+    ensures { result ≡ (has_bit_of value slot && names_other_of registers structure.now dev slot) }
 {
-    has_bit(value, u32::from(slot)) && pmp(structure, registers.clb, slot) != registers.chosen
+    has_bit(value, u32::from(slot)) && pmp(structure, registers.clb, slot) != dev
 }
 
-/// Whether the header of one of these slots names a device other than PxFBS.DEV.
-pub(crate) fn any_foreign(registers: Registers, structure: &[u8], value: u32) -> bool
+/// Whether the header of one of these slots names a device other than this one.
+pub(crate) fn any_other(registers: Registers, structure: &[u8], dev: u8, value: u32) -> bool
     requires { registers.clb + 1024 ≤ length structure.now }
-    ensures { result ≡ any_slot value (is_foreign_slot registers structure.now) }
+    ensures { result ≡ any_slot value (names_other_of registers structure.now dev) }
 {
     for slot in 0..32_u8 {
-        if is_foreign(registers, structure, value, slot) {
+        if names_other(registers, structure, dev, value, slot) {
             return true;
         }
     }
     false
+}
+
+fn is_beside(slots: &SlotTable, dev: u8, slot: u8) -> bool
+    requires { slot < 32 }
+    ensures { result ≡ is_beside_of slots.now dev slot }
+{
+    match slots.owner(slot) {
+        Some(owner) => owner != dev,
+        None => false,
+    }
+}
+
+/// Whether a command is issued for a device other than this one.
+pub(crate) fn any_beside(slots: &SlotTable, dev: u8) -> bool
+    ensures { result ≡ any_beside_of slots.now dev }
+{
+    for slot in 0..32_u8 {
+        if is_beside(slots, dev, slot) {
+            return true;
+        }
+    }
+    false
+}
+
+// Whether the slot is one of these.
+fn is_set(value: u32, slot: u8) -> bool
+    requires { slot < 32 }
+    ensures { result ≡ has_bit_of value slot }
+{
+    has_bit(value, u32::from(slot))
+}
+
+/// The device for which a write of PxCI issues these slots: with FIS-based switching the one in PxFBS.DEV,
+/// and else the one in the header of the lowest of them.
+pub(crate) fn aimed(registers: Registers, structure: &[u8], value: u32) -> u8
+    requires list { registers.clb + 1024 ≤ length structure.now }
+    requires chosen { registers.chosen < 16 }
+    ensures is { result ≡ aimed_of registers structure.now value }
+    ensures low { result < 16 }
+{
+    if registers.switching {
+        return registers.chosen;
+    }
+    for slot in 0..32_u8 {
+        if is_set(value, slot) {
+            return pmp(structure, registers.clb, slot);
+        }
+    }
+    registers.chosen
 }
 
 // The command in a slot, as it is in memory now.

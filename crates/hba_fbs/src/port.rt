@@ -1,19 +1,19 @@
 //! The host port.
 
-ghost use Rattle.std.specs.Prelude.{◌≡◌, ◌<◌, ◌+◌, ◌≤◌, ℕ, List, None, false, OnErr, OnOk};
+ghost use Rattle.std.specs.Prelude.{◌≡◌, ◌<◌, ◌+◌, ◌≤◌, ◌==◌, ◌&&◌, not, if◌then◌else◌, ℕ, None, false, OnErr, OnOk};
 ghost use Rattle.slots.specs.Commands.{own_slots};
 ghost use Rattle.slots.specs.Slots.{slots_of};
 ghost use Rattle.slots.specs.Table.{IsTable};
-ghost use Rattle.port_errors.specs.Errors.{AreErrors, after_clear, cleared_device, no_errors};
+ghost use Rattle.port_errors.specs.Errors.{AreErrors, after_clear, cleared_device, no_errors, port_cause_in};
 ghost use Rattle.std.specs.Result.{result_err};
-ghost use Rattle.hba_fbs.specs.Issuing.{aimed as aimed_at, any_slot, asked, commands_issued, is_busy, view_issued, view_with};
-ghost use Rattle.hba_fbs.specs.Writing.{Writes, commands_after, errors_after, issue_refusal as issue_refusal_of, refusal_of, slots_refusal as slots_refusal_of, view_after, view_cleared, write_refusal};
+ghost use Rattle.hba_fbs.specs.Issuing.{aimed as aimed_at, any_beside as any_beside_of, any_slot, asked, commands_issued, is_busy, view_issued, view_with};
+ghost use Rattle.hba_fbs.specs.Writing.{Writes, active_after, apart_refusal as apart_refusal_of, commands_after, errors_after, is_apart as is_apart_of, issue_refusal as issue_refusal_of, refusal_of, slots_refusal as slots_refusal_of, view_after, view_cleared, write_refusal};
 ghost use Rattle.hba_fbs.specs.Reading.{read_at, shown_device as shown_device_of, value_of};
 ghost use Rattle.hba_fbs.specs.Views.{Flushes, IsPort, LeavesOtherViews, opening_port, stopped_view, view_of};
 
 use crate::bits::{DEC, UNKNOWN, bit, has_bit, raised};
 use crate::error::{NoRegister, WriteError};
-use crate::issue::{any_bad, any_busy, any_foreign, issue_all};
+use crate::issue::{aimed, any_bad, any_beside, any_busy, any_other, issue_all};
 use crate::register::Register;
 use crate::registers::Registers;
 use crate::state::{DeviceState, state_of, stop_all};
@@ -38,6 +38,9 @@ pub struct HostPort {
     pub(crate) commands: [Option<Command>; 32],
     /// The running number of the next frame that goes out.
     pub(crate) number: u32,
+    /// The device of the slot that was issued last, 15 before any. Without FIS-based switching it is the active
+    /// device.
+    pub(crate) active: u8,
 }
 
 impl Model for HostPort {
@@ -52,6 +55,7 @@ impl Model for HostPort {
       states = p.states;
       commands = p.commands;
       number = p.number;
+      active = p.active;
     } };
 
     ghost invariant = { λ p. IsPort (record {
@@ -61,7 +65,18 @@ impl Model for HostPort {
       states = p.states;
       commands = p.commands;
       number = p.number;
+      active = p.active;
     }) };
+}
+
+// The active device after a write of PxCI for a device.
+fn active_with(active: u8, dev: u8, value: u32) -> u8
+    requires active { active < 16 }
+    requires dev { dev < 16 }
+    ensures value { result ≡ (if value == 0 then active else dev) }
+    ensures low { result < 16 }
+{
+    if value == 0 { active } else { dev }
 }
 
 impl HostPort {
@@ -76,6 +91,7 @@ impl HostPort {
             states: [DeviceState::new(); 16],
             commands: [None; 32],
             number: 0,
+            active: 15,
         }
     }
 
@@ -94,7 +110,11 @@ impl HostPort {
         ensures is { result ≡ shown_device_of self.now }
         ensures low { result < 16 }
     {
-        self.registers.chosen
+        if self.registers.switching {
+            self.registers.chosen
+        } else {
+            self.active
+        }
     }
 
     // The value of a register.
@@ -143,7 +163,7 @@ impl HostPort {
     /// The first cause that stopped the whole port, None while no error has stopped it. The cause stands
     /// until PxCMD.ST falls.
     pub fn port_cause(&self) -> Option<PortCause>
-        ensures { result ≡ self.now.errors.port }
+        ensures { result ≡ port_cause_in self.now.errors.port }
     {
         self.errors.port_cause()
     }
@@ -171,12 +191,40 @@ impl HostPort {
     }
 
     // The device for which a write of PxCI issues.
-    fn aimed(&self) -> u8
-        ensures is { (structure : List ℕ) → (value : ℕ)
-            → result ≡ aimed_at self.now.registers structure value }
+    fn aimed(&self, value: u32, memory: &HostMemory) -> u8
+        requires { self.now.registers.clb + 1024 ≤ 1048576 }
+        ensures is { result ≡ aimed_at self.now.registers memory.now.structure value }
         ensures low { result < 16 }
     {
-        self.registers.chosen
+        aimed(self.registers, memory.structure(), value)
+    }
+
+    // Whether, without FIS-based switching, a write of PxCI for a device would issue beside another one.
+    fn is_beside(&self, value: u32, dev: u8) -> bool
+        ensures { result
+            ≡ (not self.now.registers.switching && not (value == 0) && any_beside_of self.now.slots dev) }
+    {
+        !self.registers.switching && value != 0 && any_beside(&self.slots, dev)
+    }
+
+    // Whether a slot that a write of PxCI is to issue is not for the device at which the write is aimed.
+    fn is_apart(&self, value: u32, memory: &HostMemory) -> bool
+        requires { self.now.registers.clb + 1024 ≤ 1048576 }
+        ensures { result ≡ is_apart_of self.now memory.now value }
+    {
+        let dev = self.aimed(value, memory);
+        self.is_beside(value, dev) || any_other(self.registers, memory.structure(), dev, value)
+    }
+
+    // The refusal of this.
+    fn apart_refusal(&self) -> WriteError
+        ensures { result ≡ apart_refusal_of self.now.registers }
+    {
+        if self.registers.switching {
+            WriteError::WrongDevice
+        } else {
+            WriteError::OtherDevice
+        }
     }
 
     // Why a write of PxCI is refused because of its slots.
@@ -187,8 +235,8 @@ impl HostPort {
         if any_busy(&self.slots, value) {
             return Some(WriteError::SlotBusy);
         }
-        if any_foreign(self.registers, memory.structure(), value) {
-            return Some(WriteError::WrongDevice);
+        if self.is_apart(value, memory) {
+            return Some(self.apart_refusal());
         }
         if any_bad(self.registers, memory, value) {
             return Some(WriteError::BadTable);
@@ -229,6 +277,7 @@ impl HostPort {
         ensures errors { self.new.errors ≡ no_errors }
         ensures commands { self.new.commands ≡ self.old.commands }
         ensures number { self.new.number ≡ self.old.number }
+        ensures active { self.new.active ≡ self.old.active }
     {
         let _ = self.slots.flush_all();
         self.errors.stop();
@@ -244,6 +293,7 @@ impl HostPort {
         ensures errors { self.new.errors ≡ after_clear self.old.errors }
         ensures commands { self.new.commands ≡ self.old.commands }
         ensures number { self.new.number ≡ self.old.number }
+        ensures active { self.new.active ≡ self.old.active }
     {
         if let Some(dev) = self.errors.clear_device() {
             let _ = self.slots.flush(dev);
@@ -265,6 +315,7 @@ impl HostPort {
         ensures commands { self.new.commands
             ≡ commands_issued self.old.registers memory.now value self.old.commands }
         ensures number { self.new.number ≡ self.old.number }
+        ensures active { self.new.active ≡ (if value == 0 then self.old.active else dev) }
     {
         let registers = self.registers;
         issue_all(
@@ -275,6 +326,7 @@ impl HostPort {
             dev,
             value,
         );
+        self.active = active_with(self.active, dev, value);
     }
 
     // Issues the commands in these slots.
@@ -290,13 +342,15 @@ impl HostPort {
         ensures commands { self.new.commands
             ≡ commands_issued self.old.registers memory.now value self.old.commands }
         ensures number { self.new.number ≡ self.old.number }
+        ensures active { self.new.active ≡ (if value == 0 then self.old.active
+            else aimed_at self.old.registers memory.now.structure value) }
     {
-        let dev = self.aimed();
+        let dev = self.aimed(value, memory);
         self.issue_for(dev, value, memory);
     }
 
     // What an accepted write changes apart from the port's own registers.
-    #[tactic(auto, unfolding(crate::specs::Writing::view_after, crate::specs::Writing::errors_after, crate::specs::Writing::commands_after))]
+    #[tactic(auto, unfolding(crate::specs::Writing::view_after, crate::specs::Writing::errors_after, crate::specs::Writing::commands_after, crate::specs::Writing::active_after))]
     fn act(&mut self, register: Register, value: u32, memory: &HostMemory)
         requires accepted { refusal_of register self.old memory.now value ≡ None }
         ensures views { (n : ℕ) → n < 16
@@ -305,6 +359,7 @@ impl HostPort {
         ensures errors { self.new.errors ≡ errors_after register self.old value }
         ensures commands { self.new.commands ≡ commands_after register self.old memory.now value }
         ensures number { self.new.number ≡ self.old.number }
+        ensures active { self.new.active ≡ active_after register self.old memory.now value }
     {
         match register {
             Register::Cmd => {

@@ -129,9 +129,6 @@ impl Registers {
         if starts && !self.started && (!receives || self.is_list_outside()) {
             return Some(WriteError::BadTable);
         }
-        if starts && !self.started && !self.switching {
-            return Some(WriteError::NoSwitching);
-        }
         None
     }
 

@@ -253,6 +253,7 @@ impl HostPort {
         ensures errors { self.new.errors ≡ self.old.errors }
         ensures commands { self.new.commands ≡ self.old.commands }
         ensures number { self.new.number ≡ counted self.old.number }
+        ensures active { self.new.active ≡ self.old.active }
     {
         self.slots.payload_gone(dev);
         self.number = self.number.saturating_add(1);
@@ -300,6 +301,7 @@ impl HostPort {
         ensures errors { self.new.errors ≡ self.old.errors }
         ensures commands { self.new.commands ≡ self.old.commands }
         ensures number { self.new.number ≡ counted self.old.number }
+        ensures active { self.new.active ≡ self.old.active }
     {
         send_slot(&mut self.slots, slot, dev);
         self.states[dev as usize] = sent_to(state_of(&self.states, dev), command);

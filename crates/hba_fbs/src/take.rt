@@ -1,14 +1,14 @@
 //! Taking a FIS from a device.
 
-ghost use Rattle.std.specs.Prelude.{ℕ, List, ◌≡◌, ◌≢◌, ◌<◌, ◌-◌, ◌||◌, None, Some, Ok, false, true, drop, length, IfSome};
+ghost use Rattle.std.specs.Prelude.{ℕ, List, ◌≡◌, ◌≢◌, ◌<◌, ◌≤◌, ◌+◌, ◌-◌, ◌||◌, None, Some, Ok, false, true, drop, is_some, length, IfSome};
 ghost use Rattle.fis_view.specs.Seen.{frame_of, seen};
 ghost use Rattle.host_memory.specs.Memory.{Memory};
 ghost use Rattle.port_errors.specs.Errors.{KeepsCauses, cause_of};
-ghost use Rattle.slots.specs.Slots.{KeepsFree};
+ghost use Rattle.slots.specs.Slots.{KeepsFree, issue_at, owned_by, slots_of};
 ghost use Rattle.hba_fbs.specs.Posting.{posted as posted_registers};
 ghost use Rattle.hba_fbs.specs.Registers.{AreRegisters};
 ghost use Rattle.hba_fbs.specs.Tables.{Delivers, is_sound};
-ghost use Rattle.hba_fbs.specs.Taking.{Hears, Ignores, PostsIn, Takes, admitted, device_cause, errors_in, errors_with, fault_interrupts, heard_now, heard_report, heard_view, ignored_report, ignores, is_ignored as is_ignored_of, is_running as is_running_of, passes_over, place_in, port_of, row_for, settled as settled_registers, wrote_by};
+ghost use Rattle.hba_fbs.specs.Taking.{Hears, Ignores, PostsIn, Takes, admitted, device_cause, errors_in, fault_interrupts, heard_now, heard_report, heard_view, ignored_report, ignores, is_ignored as is_ignored_of, is_running as is_running_of, is_of_transfer as is_of_transfer_of, owns_none as owns_none_of, passes_over as passes_over_of, place_in, port_of, row_for, settled as settled_registers, wrote_by};
 ghost use Rattle.hba_fbs.specs.Views.{LeavesOtherViews, view_of};
 
 use crate::bits::raised;
@@ -23,12 +23,13 @@ use fis_view::{Fis, FisFault, Frame};
 use host_memory::HostMemory;
 use port_errors::{Interrupts, PortErrors};
 use rx_area::Posted;
+use slots::SlotTable;
 
 // Records what is wrong with a FIS and answers the bits of PxIS that it sets.
-fn mark(errors: &mut PortErrors, dev: u8, fault: Option<Fault>) -> u32
+fn mark(errors: &mut PortErrors, switching: bool, dev: u8, fault: Option<Fault>) -> u32
     requires { dev < 16 }
     ensures interrupts { result ≡ fault_interrupts fault }
-    ensures after { errors.new ≡ errors_with errors.old dev fault }
+    ensures after { errors.new ≡ errors_in switching errors.old dev fault }
     ensures own { cause_of errors.old dev ≡ None → cause_of errors.new dev ≡ device_cause fault }
     ensures others { (other : ℕ) → other ≢ dev
         → cause_of errors.new other ≡ cause_of errors.old other }
@@ -36,7 +37,8 @@ fn mark(errors: &mut PortErrors, dev: u8, fault: Option<Fault>) -> u32
 {
     match fault {
         None => 0,
-        Some(Fault::Device(cause)) => errors.device(dev, cause).bits(),
+        Some(Fault::Device(cause)) if switching => errors.device(dev, cause).bits(),
+        Some(Fault::Device(cause)) => errors.alone(dev, cause).bits(),
         Some(Fault::Port(cause)) => errors.port(cause).bits(),
     }
 }
@@ -66,6 +68,54 @@ fn admit(dev: u8, fis: Result<Fis<'_>, FisFault>) -> Option<Fis<'_>>
     }
 }
 
+// Whether it is a FIS of a transfer.
+fn is_of_transfer(fis: &Result<Fis<'_>, FisFault>) -> bool
+    ensures { result ≡ is_of_transfer_of fis.now }
+{
+    matches!(
+        fis,
+        Ok(Fis::DmaActivate(_) | Fis::DmaSetup(_) | Fis::PioSetup(_) | Fis::Payload(_))
+    )
+}
+
+// Whether a command is issued in a slot for a device.
+fn is_own(slots: &SlotTable, dev: u8, slot: u8) -> bool
+    requires { slot < 32 }
+    ensures { result ≡ is_some (owned_by dev (issue_at slots.now slot)) }
+{
+    match slots.owner(slot) {
+        Some(owner) => owner == dev,
+        None => false,
+    }
+}
+
+// Whether nothing is issued for a device.
+fn owns_none(slots: &SlotTable, dev: u8) -> bool
+    requires { dev < 16 }
+    ensures { result ≡ owns_none_of (slots_of dev slots.now) }
+{
+    for slot in 0..32_u8 {
+        if is_own(slots, dev, slot) {
+            return false;
+        }
+    }
+    true
+}
+
+// Posts a FIS in a row of the received area at `fb`, if there is one.
+fn post_in(memory: &mut HostMemory, fb: u32, row: Option<u8>, fis: &Fis<'_>) -> Posted
+    requires area { fb + 4096 ≤ 1048576 }
+    requires row { IfSome row (λ n. n < 16) }
+    ensures posted { result ≡ place_in row (Some fis.now) }
+    ensures posts { PostsIn fb row (Some fis.now) memory.old.structure memory.new.structure }
+    ensures client { memory.new.client ≡ memory.old.client }
+{
+    match row {
+        Some(row) => post(memory, fb, row, fis),
+        None => Posted::Nothing,
+    }
+}
+
 impl HostPort {
     pub(crate) fn is_running(&self) -> bool
         ensures { result ≡ is_running_of self.now }
@@ -76,12 +126,37 @@ impl HostPort {
     fn is_ignored(&self, dev: u8, fis: &Result<Fis<'_>, FisFault>) -> bool
         requires { dev < 16 }
         ensures { result
-            ≡ (passes_over self.now.registers.switching dev (view_of dev self.now) fis.now
+            ≡ (passes_over_of self.now.registers.switching dev (view_of dev self.now) fis.now
             || is_ignored_of (is_running_of self.now) (view_of dev self.now) fis.now) }
     {
-        !self.is_running()
+        self.passes_over(dev, fis)
+            || !self.is_running()
             || self.errors.faulty(dev)
             || self.states[dev as usize].resetting && !signs(fis)
+    }
+
+    // Whether it is a FIS of a transfer, and nothing is issued for its device, without FIS-based switching.
+    fn passes_over(&self, dev: u8, fis: &Result<Fis<'_>, FisFault>) -> bool
+        requires { dev < 16 }
+        ensures { result
+            ≡ passes_over_of self.now.registers.switching dev (view_of dev self.now) fis.now }
+    {
+        !self.registers.switching && dev != 15 && is_of_transfer(fis) && owns_none(&self.slots, dev)
+    }
+
+    // The row of the received area in which FISes of a device are posted.
+    fn row(&self, dev: u8) -> Option<u8>
+        requires { dev < 16 }
+        ensures is { result ≡ row_for self.now dev }
+        ensures low { IfSome result (λ row. row < 16) }
+    {
+        if self.registers.switching {
+            Some(dev)
+        } else if dev == self.active {
+            Some(0)
+        } else {
+            None
+        }
     }
 
     // Hears a frame that is no FIS, or a FIS that may not come from this PM Port.
@@ -93,7 +168,8 @@ impl HostPort {
         ensures kept { KeepsCauses self.old.errors self.new.errors }
     {
         let heard = bad(dev, state_of(&self.states, dev));
-        let interrupts = mark(&mut self.errors, dev, heard.fault);
+        let switching = self.registers.switching;
+        let interrupts = mark(&mut self.errors, switching, dev, heard.fault);
         self.registers = settled(self.registers, heard, interrupts);
         TakeReport::heard(dev, Posted::Nothing, heard)
     }
@@ -119,6 +195,7 @@ impl HostPort {
             (heard_now self.old memory.old dev (Some fis.now)).fault }
         ensures commands { self.new.commands ≡ self.old.commands }
         ensures number { self.new.number ≡ self.old.number }
+        ensures active { self.new.active ≡ self.old.active }
         ensures frees { KeepsFree self.old.slots self.new.slots }
         ensures posts { PostsIn self.old.registers.fb (row_for self.old dev) (Some fis.now)
             memory.old.structure memory.new.structure }
@@ -129,9 +206,10 @@ impl HostPort {
     {
         let state = state_of(&self.states, dev);
         let heard = hear(&mut self.slots, memory, &self.commands, dev, state, fis);
-        let place = post(memory, self.registers.fb, dev, fis);
+        let place = post_in(memory, self.registers.fb, self.row(dev), fis);
+        let switching = self.registers.switching;
         let registers = posted(self.registers, dev, state.resetting, fis);
-        let interrupts = mark(&mut self.errors, dev, heard.fault);
+        let interrupts = mark(&mut self.errors, switching, dev, heard.fault);
         self.registers = settled(registers, heard, interrupts);
         self.states[dev as usize] = heard.state;
         TakeReport::heard(dev, place, heard)

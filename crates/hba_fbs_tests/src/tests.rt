@@ -1,5 +1,6 @@
 //! What no clause says: values from outside, and that calls succeed.
 
+mod alone;
 mod auto;
 mod causes;
 mod clearing;
@@ -166,12 +167,13 @@ fn a_stop_clears_busy(rt: HostRuntime) -> Result<(), Fail> {
     Ok(())
 }
 
-/// ST wants switching; while it is 1 some registers stay; it falls and rises, and leaves PxFBS as written.
+/// While ST is 1 some registers stay; it falls and rises, and leaves PxFBS as written.
 #[test]
 fn starts_and_stops(rt: HostRuntime) -> Result<(), MemoryError> {
     let mut rig = Rig::new(rt.alloc())?;
     let rows = [
-        (0x18, 0x11, Err(WriteError::NoSwitching), 0x18, 0x0040_0000),
+        (0x18, 0x11, Ok(()), 0x18, 0x0040_C011),
+        (0x18, 0, Ok(()), 0x18, 0x0040_0000),
         (0x08, 0x1000, Ok(()), 0x08, 0x1000),
         (0x40, 1, Ok(()), 0x40, 0xF001),
         (0x18, 0x11, Ok(()), 0x18, 0x0040_C011),
@@ -217,8 +219,6 @@ fn areas_lie_inside(rt: HostRuntime) -> Result<(), MemoryError> {
         (0x04, 1, Ok(()), 0x04, 1),
         (0x18, 0x11, Err(WriteError::BadTable), 0x18, 0x0040_0000),
         (0x04, 0, Ok(()), 0x04, 0),
-        (0x18, 0x11, Err(WriteError::NoSwitching), 0x18, 0x0040_0000),
-        (0x40, 1, Ok(()), 0x40, 0xF001),
         (0x18, 0x11, Ok(()), 0x18, 0x0040_C011),
     ];
     assert_eq!(rt; rig.first_wrong(&rows), None);
@@ -295,9 +295,9 @@ fn refusals_have_numbers_and_texts(rt: HostRuntime) -> Result<(), AllocError> {
         (5, WriteError::WrongDevice, "a header names another device"),
         (6, WriteError::BadTable, "bad table"),
         (
-            7,
-            WriteError::NoSwitching,
-            "FIS-based switching is not enabled",
+            8,
+            WriteError::OtherDevice,
+            "a header names another device than the active one",
         ),
     ] {
         assert_eq!(rt; error as u8, number);

@@ -1,11 +1,12 @@
 -- The history of a device is told by its own events.
-use Rattle.std.proofs.Common.{◌≡◌, ◌≢◌, ℕ, zero, suc, ◌<◌, Bool, true, false, ◌&&◌, List, [], ◌∷◌, ◌++◌, length, drop, refl, sym, ◌∙◌, ap, subst, arith, inl, inr, Option, Some, None}
+use Rattle.std.proofs.Common.{◌≡◌, ◌≢◌, ℕ, zero, suc, ◌<◌, Bool, true, false, ◌&&◌, ◌||◌, List, [], ◌∷◌, ◌++◌, length, drop, refl, sym, ◌∙◌, ap, subst, arith, inl, inr, Option, Some, None}
 use Rattle.std.specs.Prelude.{◌==◌, if◌then◌else◌, map, not, is_none, is_some, Result}
 use Rattle.std.proofs.lemmas.Bool.{and_parts, cond-false, cond-true, eqb-false, eqb-true, not-false, or_parts, true≢false}
 use Rattle.fis_view.specs.Frames.{Stamped}
 use Rattle.fis_view.specs.Seen.{seen}
 use Rattle.fis_view.specs.declared.view.Fis.{Fis}
 use Rattle.fis_view.specs.declared.view.FisFault.{FisFault}
+use Rattle.hba_fbs.specs.declared.hearing.Fault.{Fault}
 use Rattle.hba_commands.specs.declared.command.Command.{Command}
 use Rattle.host_memory.specs.Memory.{Memory}
 use Rattle.host_memory.specs.declared.table.Prd.{Prd}
@@ -19,7 +20,7 @@ use Rattle.hba_fbs.specs.Issuing.{aimed, asked}
 use Rattle.hba_fbs.specs.Registers.{falls}
 use Rattle.hba_fbs.specs.Sending.{Data, Gives, Nothing, Order, Outgoing, Unreadable, data_fis, gathered, next_receiver, next_to_send, outgoing}
 use Rattle.hba_fbs.specs.Tables.{is_sound, prds_of}
-use Rattle.hba_fbs.specs.Taking.{admitted, heard, ignores, is_ignored, is_running, port_cause, port_of}
+use Rattle.hba_fbs.specs.Taking.{admitted, heard, ignores, is_ignored, is_running, passes_over, port_cause, port_of, stops_with}
 use Rattle.hba_fbs.specs.Views.{DeviceView, view_of}
 use Rattle.hba_fbs.specs.Writing.{cleared_by, is_device}
 use Rattle.hba_laws.specs.Alike.{AreFilledAlike, Brought, HistoriesByOwn, OwnFillAlike, brought, brought_over, history_by, tables_in, told_came, told_going, told_issue, told_issued, told_order, told_own, with_memory}
@@ -28,11 +29,11 @@ use Rattle.hba_laws.specs.Delivering.{by_device, event_heard, event_sent, event_
 use Rattle.hba_laws.specs.History as event
 use Rattle.hba_laws.specs.History.{Event, History, filled, issued}
 use Rattle.hba_laws.specs.Hosts.{Does, Flushed, Gave, Host, HostEvent, Put, Rewrote, Runs, Stored, Took, Wrote}
-use Rattle.hba_laws.specs.Isolation.{AreOfDevices, Came, Cleared, Emptied, Issued, OwnEvent, Went, gone_to, is_port_event, lowers_st, next_own, own_events, part_after, part_after_all, stops, stops_port, written_to}
+use Rattle.hba_laws.specs.Isolation.{AreOfDevices, Came, Cleared, Emptied, Issued, OwnEvent, Went, gone_to, is_port_event, lowers_st, next_own, own_events, part_after, part_after_all, skips, stops, stops_port, written_to}
 use Rattle.hba_laws.specs.Parts.{DevicePart, part_of}
 use Rattle.hba_laws.specs.Sound.{AreHosts, IsHost}
 use Rattle.hba_laws.proofs.EventLemmas.{other_one, own_one}
-use Rattle.hba_laws.proofs.IsolationLemmas.{heard_alike, own_step}
+use Rattle.hba_laws.proofs.IsolationLemmas.{heard_alike, own_step, row_shows}
 use Rattle.hba_laws.proofs.IssueLemmas.{history_below, other_below, own_below_is, with_issued}
 use Rattle.hba_laws.proofs.KeptLemmas.{first_host}
 use Rattle.hba_laws.proofs.OutgoingLemmas.{IsOrder, data_is_own, order_is, order_is_own, order_no_payload, order_stands}
@@ -47,15 +48,26 @@ one_told n p past h f false e here away = away refl
 
 -- ---- a frame is taken
 
-came_as : (n : ℕ) (v : DeviceView) (running ignored sound : Bool) (fis : Result Fis FisFault) (bytes : List ℕ) → running ≡ true → is_ignored running v fis ≡ ignored
-    → (not ignored && is_some (port_cause (heard n v sound (admitted n fis)).fault)) ≡ false
-    → (if is_ignored true v fis then None else event_heard (heard n v true (admitted n fis)) bytes) ≡ (if ignored then None else event_heard (heard n v sound (admitted n fis)) bytes)
-came_as n v running true sound fis bytes runs is none =
-    let e : is_ignored true v fis ≡ true = subst (λ (r : Bool). is_ignored r v fis ≡ true) runs is in
-    rw e refl
-came_as n v running false sound fis bytes runs is none =
-    let e : is_ignored true v fis ≡ false = subst (λ (r : Bool). is_ignored r v fis ≡ false) runs is in
-    rw e (ap (λ (h : Heard). event_heard h bytes) (sym (heard_alike n v sound (admitted n fis) none)))
+came_as : (n : ℕ) (p : DevicePart) (on running ignored sound : Bool) (fis : Result Fis FisFault) (bytes : List ℕ) → is_some p.row ≡ on → running ≡ true
+    → (passes_over on n p.view fis || is_ignored running p.view fis) ≡ ignored → (not ignored && stops_with on (heard n p.view sound (admitted n fis)).fault) ≡ false
+    → (if skips n p fis then None else event_heard (heard n p.view true (admitted n fis)) bytes) ≡ (if ignored then None else event_heard (heard n p.view sound (admitted n fis)) bytes)
+came_as n p on running ignored sound fis bytes mode runs is none = by_case ignored is none
+  where
+    skipped : skips n p fis ≡ (passes_over on n p.view fis || is_ignored running p.view fis)
+    skipped =
+        ap (λ (b : Bool). passes_over b n p.view fis || is_ignored true p.view fis) mode
+        ∙ ap (λ (r : Bool). passes_over on n p.view fis || is_ignored r p.view fis) (sym runs)
+
+    told : Option Event
+    told = event_heard (heard n p.view true (admitted n fis)) bytes
+
+    by_case : (i : Bool) → (passes_over on n p.view fis || is_ignored running p.view fis) ≡ i → (not i && stops_with on (heard n p.view sound (admitted n fis)).fault) ≡ false
+        → (if skips n p fis then None else told) ≡ (if i then None else event_heard (heard n p.view sound (admitted n fis)) bytes)
+    by_case true is none = cond-true (skips n p fis) None told (skipped ∙ is)
+    by_case false is none =
+        let f : Option Fault = (heard n p.view sound (admitted n fis)).fault in
+        let quiet : is_some (port_cause f) ≡ false = (or_parts (not on && is_some f) (is_some (port_cause f)) none).1 in
+        cond-false (skips n p fis) None told (skipped ∙ is) ∙ ap (λ (h : Heard). event_heard h bytes) (sym (heard_alike n p.view sound (admitted n fis) quiet))
 
 told_one : (n dev : ℕ) (o : Option Event) (past : History) → dev ≡ n → match_some o [] (λ e. e ∷ []) ++ past ≡ own n (by_device dev o) ++ past
 told_one n dev None past same = refl
@@ -70,7 +82,8 @@ took : (n : ℕ) (old : Host) (frame : List ℕ) (report : TakeReport) (past : H
 took n old frame report past runs none =
     let dev : ℕ = port_of frame in
     let here : told_came (port_of frame) (part_of (port_of frame) old) frame ≡ event_taken old frame =
-    came_as dev (view_of dev old.port) (is_running old.port) (ignores dev old.port frame) (is_sound old.memory old.port.commands (view_of dev old.port).slots) (seen frame) (drop 4 frame) runs refl none in
+    came_as dev (part_of dev old) old.port.registers.switching (is_running old.port) (ignores dev old.port frame) (is_sound old.memory old.port.commands (view_of dev old.port).slots) (seen frame)
+    (drop 4 frame) (row_shows old.port.registers.switching old.port.registers.fb old.memory.structure dev) runs refl none in
     one_told n (part_of n old) past (own n (by_device dev (event_taken old frame)) ++ past) (with_memory old (Took frame report)) (dev == n) (Came frame)
     (λ same.
     let at : dev ≡ n = eqb-true dev n same in

@@ -1,5 +1,5 @@
 -- The structure area: rows of the received area, and bytes apart from it.
-use Rattle.std.proofs.Common.{◌≡◌, ◌≢◌, ℕ, ◌+◌, ◌-◌, ◌*◌, ◌<◌, ◌≤◌, List, ◌++◌, get_or, length, take, drop, refl, sym, ◌∙◌, ap, arith, inl, inr, length-append, length-drop, length-take, get_or-drop, get_or-take, ext_get_or}
+use Rattle.std.proofs.Common.{◌≡◌, ◌≢◌, ℕ, Bool, true, false, subst, ◌+◌, ◌-◌, ◌*◌, ◌<◌, ◌≤◌, List, ◌++◌, get_or, length, take, drop, refl, sym, ◌∙◌, ap, arith, inl, inr, length-append, length-drop, length-take, get_or-drop, get_or-take, ext_get_or}
 use Rattle.std.specs.Prelude.{slice_index, Option, Some, None}
 use Rattle.std.proofs.lemmas.Bool.{cases_lt}
 use Rattle.std.proofs.lemmas.List.{length-take-le, get_or_append_left, get_or-append_right}
@@ -9,18 +9,34 @@ use Rattle.host_memory.specs.Reading.{AgreeFrom, LieApart}
 use Rattle.host_memory.proofs.AgreeLemmas.{agree_beside, length-overwritten, overwritten_beside}
 use Rattle.rx_area.specs.Area.{row_of}
 use Rattle.hba_fbs.specs.Posting.{area_at}
-use Rattle.hba_fbs.specs.Taking.{PostsOf}
+use Rattle.hba_fbs.specs.Taking.{PostsIn, PostsOf}
 use Rattle.hba_laws.specs.Isolation.{row_with}
+use Rattle.hba_laws.specs.Parts.{own_row}
 
 -- ---- a FIS is posted
 
-pub row_posted : (dev fb : ℕ) (fis : Option Fis) (s t : List ℕ) → PostsOf fb dev fis s t → row_of (area_at t fb) dev ≡ row_with (row_of (area_at s fb) dev) fis
-row_posted dev fb None s t posts = ap (λ (x : List ℕ). row_of (area_at x fb) dev) posts
-row_posted dev fb (Some fis) s t posts = posts.own
+-- in the row of its device
+row_filled : (dev fb : ℕ) (fis : Option Fis) (s t : List ℕ) → PostsOf fb dev fis s t → Some (row_of (area_at t fb) dev) ≡ row_with (Some (row_of (area_at s fb) dev)) fis
+row_filled dev fb None s t posts = ap (λ (x : List ℕ). Some (row_of (area_at x fb) dev)) posts
+row_filled dev fb (Some fis) s t posts = ap Some posts.own
 
-pub row_beside_posted : (n dev fb : ℕ) (fis : Option Fis) (s t : List ℕ) → n ≢ dev → PostsOf fb dev fis s t → row_of (area_at t fb) n ≡ row_of (area_at s fb) n
-row_beside_posted n dev fb None s t ne posts = ap (λ (x : List ℕ). row_of (area_at x fb) n) posts
-row_beside_posted n dev fb (Some fis) s t ne posts = posts.others n ne
+no_row : (fis : Option Fis) → None ≡ row_with None fis
+no_row None = refl
+no_row (Some fis) = refl
+
+pub row_posted : (dev fb : ℕ) (on : Bool) (row : Option ℕ) (fis : Option Fis) (s t : List ℕ) → (on ≡ true → row ≡ Some dev) → PostsIn fb row fis s t
+    → own_row on fb t dev ≡ row_with (own_row on fb s dev) fis
+row_posted dev fb true row fis s t is posts = row_filled dev fb fis s t (subst (λ (o : Option ℕ). PostsIn fb o fis s t) (is refl) posts)
+row_posted dev fb false row fis s t is posts = no_row fis
+
+beside_posted : (n dev fb : ℕ) (fis : Option Fis) (s t : List ℕ) → n ≢ dev → PostsOf fb dev fis s t → row_of (area_at t fb) n ≡ row_of (area_at s fb) n
+beside_posted n dev fb None s t ne posts = ap (λ (x : List ℕ). row_of (area_at x fb) n) posts
+beside_posted n dev fb (Some fis) s t ne posts = posts.others n ne
+
+pub row_beside_posted : (n dev fb : ℕ) (on : Bool) (row : Option ℕ) (fis : Option Fis) (s t : List ℕ) → n ≢ dev → (on ≡ true → row ≡ Some dev) → PostsIn fb row fis s t
+    → own_row on fb t n ≡ own_row on fb s n
+row_beside_posted n dev fb true row fis s t ne is posts = ap Some (beside_posted n dev fb fis s t ne (subst (λ (o : Option ℕ). PostsIn fb o fis s t) (is refl) posts))
+row_beside_posted n dev fb false row fis s t ne is posts = refl
 
 bytes_below : (k i : ℕ) (s t : List ℕ) → i < k → take k t ≡ take k s → slice_index s i ≡ slice_index t i
 bytes_below k i s t lt same = sym (get_or-take k s i 0 lt) ∙ ap (λ (x : List ℕ). get_or x i 0) (sym same) ∙ get_or-take k t i 0 lt
@@ -31,13 +47,17 @@ bytes_behind k i s t le same =
     ap (slice_index s) (sym at) ∙ sym (get_or-drop k s (i - k) 0) ∙ ap (λ (x : List ℕ). get_or x (i - k) 0) (sym same) ∙ get_or-drop k t (i - k) 0 ∙ ap (slice_index t) at
 
 -- bytes apart from the received area stay
-pub apart_posted : (at count fb dev : ℕ) (fis : Option Fis) (s t : List ℕ) → LieApart at count fb 4096 → PostsOf fb dev fis s t → AgreeFrom at count s t
-apart_posted at count fb dev None s t apart posts = λ i h. ap (λ (x : List ℕ). slice_index x (at + i)) (sym posts)
-apart_posted at count fb dev (Some fis) s t apart posts = λ i h.
+apart_of : (at count fb dev : ℕ) (fis : Option Fis) (s t : List ℕ) → LieApart at count fb 4096 → PostsOf fb dev fis s t → AgreeFrom at count s t
+apart_of at count fb dev None s t apart posts = λ i h. ap (λ (x : List ℕ). slice_index x (at + i)) (sym posts)
+apart_of at count fb dev (Some fis) s t apart posts = λ i h.
     elim apart [
       | inl before ↦ bytes_below fb (at + i) s t (omega (arith, before, h)) posts.before
       | inr after ↦ bytes_behind (fb + 4096) (at + i) s t (omega (arith, after, h)) posts.behind
     ]
+
+pub apart_posted : (at count fb : ℕ) (row : Option ℕ) (fis : Option Fis) (s t : List ℕ) → LieApart at count fb 4096 → PostsIn fb row fis s t → AgreeFrom at count s t
+apart_posted at count fb None fis s t apart posts = λ i h. ap (λ (x : List ℕ). slice_index x (at + i)) (sym posts)
+apart_posted at count fb (Some row) fis s t apart posts = apart_of at count fb row fis s t apart posts
 
 -- ---- the software writes a row
 

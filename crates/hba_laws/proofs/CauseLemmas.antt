@@ -7,7 +7,8 @@ use Rattle.fis_view.specs.Frames.{Stamped}
 use Rattle.host_memory.specs.Memory.{Memory}
 use Rattle.port_errors.specs.Errors.{Errors, after_clear, cleared_device, no_errors, without}
 use Rattle.port_errors.specs.declared.cause.DeviceCause.{DeviceCause}
-use Rattle.port_errors.specs.declared.cause.PortCause.{PortCause}
+use Rattle.port_errors.specs.declared.cause.Stop.{Stop}
+use Rattle.port_errors.specs.declared.cause.Stop.TheVariants as stop
 use Rattle.port_errors.specs.declared.cause.PortCause.TheVariants.{Bus}
 use Rattle.slots.specs.Slots.{has_bit}
 use Rattle.hba_fbs.specs.declared.register.Register.{Register}
@@ -42,16 +43,16 @@ took_apart n old new frame report does apart = elim (cases_Bool (ignores (port_o
 ]
 
 -- a faulty device is not heard
-faulty_ignored : (running resets : Bool) (o : Option DeviceCause) (cause : DeviceCause) → o ≡ Some cause → (not running || is_some o || resets) ≡ true
-faulty_ignored false resets None cause is = cc
-faulty_ignored true resets None cause is = cc
-faulty_ignored false resets (Some c) cause is = refl
-faulty_ignored true resets (Some c) cause is = refl
+faulty_ignored : (over running resets : Bool) (o : Option DeviceCause) (cause : DeviceCause) → o ≡ Some cause → (over || (not running || is_some o || resets)) ≡ true
+faulty_ignored true running resets o cause is = refl
+faulty_ignored false false resets o cause is = refl
+faulty_ignored false true resets None cause is = cc
+faulty_ignored false true resets (Some c) cause is = refl
 
 took_own : (n : ℕ) (cause : DeviceCause) (old new : Host) (frame : List ℕ) (report : TakeReport) → Does old (Took frame report) new → port_of frame ≡ n → fault_of n old.port ≡ Some cause
     → fault_of n new.port ≡ fault_of n old.port
 took_own n cause old new frame report does from is =
-    same_fault n old.port new.port (does.ignored (faulty_ignored _ _ (fault_of (port_of frame) old.port) cause (ap (λ (k : ℕ). fault_of k old.port) from ∙ is))).port
+    same_fault n old.port new.port (does.ignored (faulty_ignored _ _ _ (fault_of (port_of frame) old.port) cause (ap (λ (k : ℕ). fault_of k old.port) from ∙ is))).port
 
 -- ---- a register is written
 
@@ -136,13 +137,14 @@ others_fault_none n lt old new (event ∷ events) run none =
 
 -- ---- the port
 
-abbrev stopped_by : Port → Option PortCause
+abbrev stopped_by : Port → Option Stop
 stopped_by port = port.errors.port
 
-stopped_ignored : (started marked resets : Bool) (o : Option PortCause) (cause : PortCause) → o ≡ Some cause → (not (started && is_none o) || marked || resets) ≡ true
-stopped_ignored false marked resets o cause is = refl
-stopped_ignored true marked resets None cause is = cc
-stopped_ignored true marked resets (Some c) cause is = refl
+stopped_ignored : (over started marked resets : Bool) (o : Option Stop) (cause : Stop) → o ≡ Some cause → (over || (not (started && is_none o) || marked || resets)) ≡ true
+stopped_ignored true started marked resets o cause is = refl
+stopped_ignored false false marked resets o cause is = refl
+stopped_ignored false true marked resets None cause is = cc
+stopped_ignored false true marked resets (Some c) cause is = refl
 
 cleared_port : (errors : Errors) → (after_clear errors).port ≡ errors.port
 cleared_port errors = by_device (cleared_device errors)
@@ -168,17 +170,17 @@ written_port register port value none = refl
 port_in : (e f : Errors) → e ≡ f → e.port ≡ f.port
 port_in e f is = ap (λ (x : Errors). x.port) is
 
-gave_port : (o : Outgoing) (cause : PortCause) (old : Port) (memory : Memory) (frame : Option Stamped) (new : Port) → Gives o old memory frame new → stopped_by old ≡ Some cause → stopped_by new ≡ Some cause
+gave_port : (o : Outgoing) (cause : Stop) (old : Port) (memory : Memory) (frame : Option Stamped) (new : Port) → Gives o old memory frame new → stopped_by old ≡ Some cause → stopped_by new ≡ Some cause
 gave_port Nothing cause old memory frame new gives is = ap (λ (p : Port). stopped_by p) gives.1 ∙ is
-gave_port (Unreadable dev) cause old memory frame new gives is = ap (λ (p : Port). stopped_by p) gives.1 ∙ ap (λ (o : Option PortCause). Some (unwrap_or o Bus)) is
+gave_port (Unreadable dev) cause old memory frame new gives is = ap (λ (p : Port). stopped_by p) gives.1 ∙ ap (λ (o : Option Stop). Some (unwrap_or o (stop.Port Bus))) is
 gave_port (Data dev offset len command) cause old memory None new gives is = absurd gives
 gave_port (Data dev offset len command) cause old memory (Some f) new gives is = port_in new.errors old.errors gives.errors ∙ is
 gave_port (Order dev slot command) cause old memory None new gives is = absurd gives
 gave_port (Order dev slot command) cause old memory (Some f) new gives is = port_in new.errors old.errors gives.errors ∙ is
 
-event_stops : (cause : PortCause) (old new : Host) (event : HostEvent) → Does old event new → clears_port old event ≡ false → stopped_by old.port ≡ Some cause → stopped_by new.port ≡ Some cause
+event_stops : (cause : Stop) (old new : Host) (event : HostEvent) → Does old event new → clears_port old event ≡ false → stopped_by old.port ≡ Some cause → stopped_by new.port ≡ Some cause
 event_stops cause old new (Took frame report) does none is =
-    ap (λ (p : Port). stopped_by p) (does.ignored (stopped_ignored old.port.registers.started _ _ old.port.errors.port cause is)).port ∙ is
+    ap (λ (p : Port). stopped_by p) (does.ignored (stopped_ignored _ old.port.registers.started _ _ old.port.errors.port cause is)).port ∙ is
 event_stops cause old new (Wrote register value) does none is =
     port_in new.port.errors (errors_after register old.port value) does.1.errors ∙ written_port register old.port value none ∙ is
 event_stops cause old new (Flushed dev) does none is = port_in new.port.errors (without old.port.errors dev) does.0.errors ∙ is

@@ -1,4 +1,4 @@
--- What an event keeps: the place of the received area, and the sizes of memory.
+-- What an event keeps: the place of the received area, the mode, and the sizes of memory.
 use Rattle.std.proofs.Common.{◌≡◌, ℕ, ◌+◌, ◌-◌, ◌≤◌, Bool, true, false, List, [], ◌∷◌, length, refl, sym, ◌∙◌, ap, subst, arith, inl, inr, Option, Some, None}
 use Rattle.std.specs.Prelude.{◌==◌, drop, MatchOption, is_none, not}
 use Rattle.std.proofs.lemmas.Bool.{and_parts, cases_Bool, eq-eqb, eqb-true, not-false}
@@ -21,10 +21,11 @@ use Rattle.hba_fbs.specs.Sending.{Data, Gives, Nothing, Order, Outgoing, Unreada
 use Rattle.hba_fbs.specs.Tables.{Delivers, prds_of}
 use Rattle.hba_fbs.specs.Taking.{admitted, heard_now, ignores, is_running, port_of, posted_of, settled, wrote_by}
 use Rattle.hba_fbs.specs.Views.{Port, last_command, view_of}
+use Rattle.hba_fbs.specs.Writing.{refusal_of}
 use Rattle.hba_laws.specs.Hosts.{Does, Flushed, Gave, Host, HostEvent, Put, Rewrote, Runs, Stored, Took, Wrote}
 use Rattle.hba_laws.specs.Sound.{AreHosts, IsHost}
 use Rattle.hba_laws.specs.Tables.{moves_area}
-use Rattle.hba_laws.proofs.WriteLemmas.{fb_refused}
+use Rattle.hba_laws.proofs.WriteLemmas.{fb_refused, mode_stays}
 
 -- ---- the place of the received area
 
@@ -62,6 +63,73 @@ gives_fb (Data dev offset len command) old memory None new gives = absurd gives
 gives_fb (Data dev offset len command) old memory (Some f) new gives = ap (λ (r : Registers). r.fb) gives.registers
 gives_fb (Order dev slot command) old memory None new gives = absurd gives
 gives_fb (Order dev slot command) old memory (Some f) new gives = ap (λ (r : Registers). r.fb) gives.registers
+
+-- ---- nor does the mode change while the port runs
+
+posted_mode : (r : Registers) (dev : ℕ) (b : Bool) (fis : Fis) → (posted r dev b fis).switching ≡ r.switching
+unfolding posted
+posted_mode r dev b (view.RegH2D f) = refl
+posted_mode r dev b (view.RegD2H f) = refl
+posted_mode r dev b (view.SetBits f) = refl
+posted_mode r dev b (view.DmaActivate f) = refl
+posted_mode r dev b (view.DmaSetup f) = refl
+posted_mode r dev b (view.PioSetup f) = refl
+posted_mode r dev b (view.Payload f) = refl
+posted_mode r dev b (view.Unknown f) = refl
+
+settled_mode : (r : Registers) (h : Heard) → (settled r h).switching ≡ r.switching
+unfolding settled
+settled_mode r h = refl
+
+posted_of_mode : (r : Registers) (dev : ℕ) (b : Bool) (fis : Option Fis) → (posted_of r dev b fis).switching ≡ r.switching
+posted_of_mode r dev b None = refl
+posted_of_mode r dev b (Some fis) = posted_mode r dev b fis
+
+taken_mode : (r next : Registers) (dev : ℕ) (b : Bool) (fis : Option Fis) (h : Heard) → next ≡ settled (posted_of r dev b fis) h → next.switching ≡ r.switching
+taken_mode r next dev b fis h is = ap (λ (x : Registers). x.switching) is ∙ settled_mode (posted_of r dev b fis) h ∙ posted_of_mode r dev b fis
+
+written_mode : (host : Host) (register : Register) (value : ℕ) → host.port.registers.started ≡ true → refusal_of register host.port host.memory value ≡ None
+    → (written register host.port.registers value).switching ≡ host.port.registers.switching
+unfolding written
+written_mode host Fbs value started accepted = mode_stays host.port host.memory value started accepted
+written_mode host Clb value started accepted = refl
+written_mode host Clbu value started accepted = refl
+written_mode host Fb value started accepted = refl
+written_mode host Fbu value started accepted = refl
+written_mode host Is value started accepted = refl
+written_mode host Ie value started accepted = refl
+written_mode host Cmd value started accepted = refl
+written_mode host Tfd value started accepted = refl
+written_mode host Sig value started accepted = refl
+written_mode host Serr value started accepted = refl
+written_mode host Sact value started accepted = refl
+written_mode host Ci value started accepted = refl
+written_mode host Sntf value started accepted = refl
+
+gives_mode : (o : Outgoing) (old : Port) (memory : Memory) (frame : Option Stamped) (new : Port) → Gives o old memory frame new → new.registers.switching ≡ old.registers.switching
+gives_mode Nothing old memory frame new gives = ap (λ (p : Port). p.registers.switching) gives.1
+gives_mode (Unreadable dev) old memory frame new gives = ap (λ (p : Port). p.registers.switching) gives.1
+gives_mode (Data dev offset len command) old memory None new gives = absurd gives
+gives_mode (Data dev offset len command) old memory (Some f) new gives = ap (λ (r : Registers). r.switching) gives.registers
+gives_mode (Order dev slot command) old memory None new gives = absurd gives
+gives_mode (Order dev slot command) old memory (Some f) new gives = ap (λ (r : Registers). r.switching) gives.registers
+
+pub mode_kept : (old new : Host) (event : HostEvent) → is_running old.port ≡ true → Does old event new → new.port.registers.switching ≡ old.port.registers.switching
+mode_kept old new (Took frame report) runs does =
+    elim (cases_Bool (ignores (port_of frame) old.port frame)) [
+      | inl t ↦ ap (λ (p : Port). p.registers.switching) (does.ignored t).port
+      | inr f ↦
+          taken_mode old.port.registers new.port.registers (port_of frame) (view_of (port_of frame) old.port).state.resetting (admitted (port_of frame) (seen frame))
+          (heard_now old.port old.memory (port_of frame) (admitted (port_of frame) (seen frame))) (does.heard f).registers
+    ]
+mode_kept old new (Wrote register value) runs does =
+    ap (λ (r : Registers). r.switching) does.1.registers
+    ∙ written_mode old register value (and_parts old.port.registers.started (is_none old.port.errors.port) runs).0 does.0
+mode_kept old new (Flushed dev) runs does = ap (λ (r : Registers). r.switching) does.0.registers
+mode_kept old new (Gave frame) runs does = gives_mode (outgoing old.port old.memory) old.port old.memory frame new.port does.0
+mode_kept old new (Stored structure) runs does = ap (λ (p : Port). p.registers.switching) does.1
+mode_kept old new (Rewrote dev row) runs does = ap (λ (p : Port). p.registers.switching) does.1
+mode_kept old new (Put at bytes) runs does = ap (λ (p : Port). p.registers.switching) does.1
 
 -- an event that does not move it leaves its place
 pub fb_kept : (old new : Host) (event : HostEvent) → Does old event new → moves_area old event ≡ false → new.port.registers.fb ≡ old.port.registers.fb

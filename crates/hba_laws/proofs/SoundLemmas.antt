@@ -28,7 +28,7 @@ use Rattle.hba_fbs.specs.Bits.{dec, fre, pma, st}
 use Rattle.hba_fbs.specs.Posting.{posted}
 use Rattle.hba_fbs.specs.Registers.{AreRegisters, cmd_refusal, falls, opening_registers, own_refusal, running_if, written}
 use Rattle.hba_fbs.specs.Sending.{Data, Gives, Nothing, Order, Outgoing, Unreadable, outgoing}
-use Rattle.hba_fbs.specs.Taking.{admitted, errors_with, heard_now, ignores, port_of, posted_of, settled}
+use Rattle.hba_fbs.specs.Taking.{admitted, errors_alone, errors_in, errors_with, heard_now, ignores, port_of, posted_of, settled}
 use Rattle.hba_fbs.specs.Views.{Port, view_of}
 use Rattle.hba_fbs.specs.Writing.{errors_after, refusal_of, slots_refusal}
 use Rattle.hba_fbs.proofs.CmdLemmas.{cmd_are}
@@ -62,6 +62,18 @@ heard_errors errors dev None lt are = are
 heard_errors errors dev (Some (fault.Device c)) lt are =
     with_device_keeps errors.causes errors.reported errors.port dev (unwrap_or errors.reported dev) (unwrap_or (cause_of errors dev) c) are lt refl
 heard_errors errors dev (Some (fault.Port c)) lt are = stopped_errors errors c are
+
+-- without FIS-based switching
+alone_errors : (errors : Errors) (dev : ℕ) (f : Option Fault) → dev < 16 → AreErrors errors → AreErrors (errors_alone errors dev f)
+alone_errors errors dev None lt are = are
+alone_errors errors dev (Some (fault.Device c)) lt are =
+    let marked = with_device_keeps errors.causes errors.reported errors.port dev (unwrap_or errors.reported dev) (unwrap_or (cause_of errors dev) c) are lt refl in
+    record { ports = marked.ports; reported_is_marked = marked.reported_is_marked; none_is_marked = marked.none_is_marked }
+alone_errors errors dev (Some (fault.Port c)) lt are = stopped_errors errors c are
+
+errors_either : (on : Bool) (errors : Errors) (dev : ℕ) (f : Option Fault) → dev < 16 → AreErrors errors → AreErrors (errors_in on errors dev f)
+errors_either true errors dev f lt are = heard_errors errors dev f lt are
+errors_either false errors dev f lt are = alone_errors errors dev f lt are
 
 not_reported : (reported : Option ℕ) (dev : ℕ) → option_map_or (λ other. other == dev) reported false ≡ false → option_eq eqb reported (Some dev) ≡ false
 not_reported None dev h = refl
@@ -174,8 +186,8 @@ stays_by old new (Took frame report) are does =
       | inr f ↦
           let h : Heard = heard_now old.port old.memory dev fis in
           let resets : Bool = (view_of dev old.port).state.resetting in
-          sound_by new.port.registers (settled (posted_of old.port.registers dev resets fis) h) new.port.errors (errors_with old.port.errors dev h.fault) (does.heard f).registers (does.heard f).errors
-          (settled_are (posted_of old.port.registers dev resets fis) h (posted_are old.port.registers dev resets fis are.0), heard_errors old.port.errors dev h.fault (port_below frame) are.1)
+          sound_by new.port.registers (settled (posted_of old.port.registers dev resets fis) h) new.port.errors (errors_in old.port.registers.switching old.port.errors dev h.fault) (does.heard f).registers (does.heard f).errors
+          (settled_are (posted_of old.port.registers dev resets fis) h (posted_are old.port.registers dev resets fis are.0), errors_either old.port.registers.switching old.port.errors dev h.fault (port_below frame) are.1)
     ]
 stays_by old new (Wrote register value) are does =
     sound_by new.port.registers (written register old.port.registers value) new.port.errors (errors_after register old.port value) does.1.registers does.1.errors
@@ -203,7 +215,7 @@ opens_sound len h =
     let parts = and_parts (nat_le 2097152 len && nat_le len 16777216) (len % 2 == 0) h in
     let sizes = and_parts (nat_le 2097152 len) (nat_le len 16777216) parts.0 in
     record {
-      port = record { registers = opening_are; commands = none_have (replicate 32 None) };
+      port = record { registers = opening_are; commands = none_have (replicate 32 None); active = omega arith };
       slots = new_table 32 16 refl refl;
       errors = no_faults;
       memory = zeros_sized (zeros client_start) (zeros (len - client_start)) len refl refl (leb-true 2097152 len sizes.0) (leb-true len 16777216 sizes.1) (eqb-true (len % 2) 0 parts.1);

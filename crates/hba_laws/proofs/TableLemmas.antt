@@ -15,7 +15,7 @@ use Rattle.host_memory.specs.declared.table.PrdError.{PrdError}
 use Rattle.host_memory.proofs.AgreeLemmas.{says_the_same}
 use Rattle.slots.specs.Slots.{Issue, match_some, own_issue}
 use Rattle.hba_fbs.specs.Tables.{is_readable, prds_of}
-use Rattle.hba_fbs.specs.Taking.{admitted, ignores, port_of}
+use Rattle.hba_fbs.specs.Taking.{admitted, ignores, port_of, row_for}
 use Rattle.hba_fbs.specs.Views.{last_command}
 use Rattle.hba_laws.specs.Hosts.{Does, Flushed, Gave, Host, HostEvent, Put, Rewrote, Runs, Stored, Took, Wrote}
 use Rattle.hba_laws.specs.Sound.{AreHosts, IsHost}
@@ -42,7 +42,7 @@ step at count old new (Took frame report) is next does apart spares =
     elim (cases_Bool (ignores (port_of frame) old.port frame)) [
       | inl t ↦ same_bytes at count old.memory.structure new.memory.structure (ap (λ (m : Memory). m.structure) (does.ignored t).memory)
       | inr f ↦
-          apart_posted at count old.port.registers.fb (port_of frame) (admitted (port_of frame) (seen frame)) old.memory.structure new.memory.structure apart (does.heard f).structure
+          apart_posted at count old.port.registers.fb (row_for old.port (port_of frame)) (admitted (port_of frame) (seen frame)) old.memory.structure new.memory.structure apart (does.heard f).structure
     ]
 step at count old new (Wrote register value) is next does apart spares = same_bytes at count old.memory.structure new.memory.structure (ap (λ (m : Memory). m.structure) does.2)
 step at count old new (Flushed dev) is next does apart spares = same_bytes at count old.memory.structure new.memory.structure (ap (λ (m : Memory). m.structure) does.1)

@@ -1,6 +1,7 @@
 -- The commands of a device's slots after a write of PxCI that is not refused.
 use Rattle.std.proofs.Common.{◌≡◌, ℕ, ◌<◌, Bool, true, false, ◌&&◌, List, length, map, refl, sym, ◌∙◌, ap, arith, inl, inr, Option, Some, None}
-use Rattle.std.specs.Prelude.{if◌then◌else◌, is_some}
+use Rattle.std.specs.Bool.{beq}
+use Rattle.std.specs.Prelude.{if◌then◌else◌, is_some, not}
 use Rattle.std.specs.List.{range_with_len}
 use Rattle.std.specs.Option.{option_or}
 use Rattle.std.proofs.Math.Path.{fun_ext}
@@ -16,11 +17,12 @@ use Rattle.slots.proofs.MaskLemmas.{none_below}
 use Rattle.slots.proofs.TableLemmas.{own_at}
 use Rattle.hba_fbs.specs.declared.error.WriteError.{WriteError}
 use Rattle.hba_fbs.specs.declared.error.WriteError.TheVariants as refusal
-use Rattle.hba_fbs.specs.declared.register.Register.TheVariants.{Ci, Fb}
-use Rattle.hba_fbs.specs.Issuing.{any_slot, asked, commands_with, is_bad, is_busy, is_foreign, issue_with, issued_slots, issues_with}
+use Rattle.hba_fbs.specs.declared.register.Register.TheVariants.{Ci, Fb, Fbs}
+use Rattle.hba_fbs.specs.Bits.{en}
+use Rattle.hba_fbs.specs.Issuing.{any_slot, asked, commands_with, is_bad, is_busy, issue_with, issued_slots, issues_with}
 use Rattle.hba_fbs.specs.Registers.{own_refusal, running_if}
 use Rattle.hba_fbs.specs.Views.{HaveCommands, Port, last_command}
-use Rattle.hba_fbs.specs.Writing.{issue_refusal, refusal_of, slots_refusal}
+use Rattle.hba_fbs.specs.Writing.{apart_refusal, is_apart, issue_refusal, refusal_of, slots_refusal}
 use Rattle.hba_laws.specs.Parts.{commands_of}
 
 -- ---- refusals
@@ -44,7 +46,7 @@ none_busy port memory value started h =
     let both : (if port.registers.started then issue_refusal port memory value else None) ≡ None = second_none (own_refusal Ci port.registers value) (slots_refusal Ci port memory value) h in
     let issue : issue_refusal port memory value ≡ None = sym (cond-true port.registers.started (issue_refusal port memory value) None started) ∙ both in
     test_false (any_slot value (is_busy port.slots)) refusal.SlotBusy
-    (if any_slot value (is_foreign port.registers memory.structure) then Some refusal.WrongDevice
+    (if is_apart port memory value then Some (apart_refusal port.registers)
     else if any_slot value (is_bad port.registers memory) then Some refusal.BadTable
     else None) issue
 
@@ -54,6 +56,26 @@ unfolding own_refusal
 fb_refused port memory value receives h =
     let is : running_if port.registers.receives ≡ None = first_none (running_if port.registers.receives) (slots_refusal Fb port memory value) h in
     true≢false (sym receives ∙ test_false port.registers.receives refusal.Running None is)
+
+-- and while ST is 1, EN stays
+started_off : (started same : Bool) → started ≡ true → (started && not same) ≡ false → same ≡ true
+started_off true true on h = refl
+started_off true false on h = absurd (true≢false h)
+started_off false same on h = absurd (false≢true on)
+
+same_bits : (a b : Bool) → beq a b ≡ true → a ≡ b
+same_bits true true h = refl
+same_bits false false h = refl
+same_bits true false h = absurd (false≢true h)
+same_bits false true h = absurd (false≢true h)
+
+pub mode_stays : (port : Port) (memory : Memory) (value : ℕ) → port.registers.started ≡ true → refusal_of Fbs port memory value ≡ None → has_bit value en ≡ port.registers.switching
+unfolding own_refusal
+mode_stays port memory value started h =
+    let same : Bool = beq (has_bit value en) port.registers.switching in
+    let is : running_if (port.registers.started && not same) ≡ None = first_none (running_if (port.registers.started && not same)) (slots_refusal Fbs port memory value) h in
+    same_bits (has_bit value en) port.registers.switching
+    (started_off port.registers.started same started (test_false (port.registers.started && not same) refusal.Running None is))
 
 -- ---- commands
 

@@ -2,7 +2,7 @@
 -- and of the port).
 use Rattle.std.specs.Prelude.{ℕ, ◌≡◌, ◌<◌, ◌==◌, ◌||◌, Bool, false, List, [], ◌∷◌, Some}
 use Rattle.port_errors.specs.declared.cause.DeviceCause.{DeviceCause}
-use Rattle.port_errors.specs.declared.cause.PortCause.{PortCause}
+use Rattle.port_errors.specs.declared.cause.Stop.{Stop}
 use Rattle.hba_fbs.specs.declared.register.Register.{Register}
 use Rattle.hba_fbs.specs.declared.register.Register.TheVariants.{Fbs}
 use Rattle.hba_fbs.specs.Taking.{port_of}
@@ -55,10 +55,10 @@ DeviceCausesStay =
 -- What stopped the port stands until ST falls.
 abbrev pub PortCausesStay : Type 0
 PortCausesStay =
-    (cause : PortCause)
+    (first : Stop)
     → (old new : Host) (events : List HostEvent) (run : Runs old events new)
     → NoneIn clears_port old new events run
-    → old.port.errors.port ≡ Some cause → new.port.errors.port ≡ Some cause
+    → old.port.errors.port ≡ Some first → new.port.errors.port ≡ Some first
 
 -- Over events that are not a FIS of a device and do not clear it, the device keeps its fault, or stays
 -- without one. So no FIS of another device, and nothing that goes out, gives it a fault or changes its cause.

@@ -2,7 +2,7 @@
 -- Switching): what belongs to a device is the fold of its own events alone.
 use Rattle.std.specs.Prelude.{ℕ, ◌≡◌, ◌<◌, ◌==◌, ◌&&◌, ◌||◌, Bool, true, false, not, if◌then◌else◌, List, []}
 use Rattle.std.specs.Prelude.{◌∷◌, ◌++◌, Option, Some, None, Result, is_none, is_some}
-use Rattle.std.specs.Option.{option_or}
+use Rattle.std.specs.Option.{option_map, option_or}
 use Rattle.fis_view.specs.Frames.{Stamped}
 use Rattle.fis_view.specs.Seen.{seen}
 use Rattle.fis_view.specs.declared.view.Fis.{Fis}
@@ -20,8 +20,8 @@ use Rattle.hba_fbs.specs.Registers.{falls}
 use Rattle.hba_fbs.specs.Sending.{Data, Nothing, Order, Outgoing, Unreadable, data_fis, gathered, is_ready}
 use Rattle.hba_fbs.specs.Sending.{outgoing, view_fed, view_sent}
 use Rattle.hba_fbs.specs.Tables.{prds_of}
-use Rattle.hba_fbs.specs.Taking.{admitted, heard_now, heard_view, ignores, is_ignored, is_running, port_of}
-use Rattle.hba_fbs.specs.Taking.{stops_with}
+use Rattle.hba_fbs.specs.Taking.{admitted, heard_now, heard_view, ignores, is_ignored, is_running}
+use Rattle.hba_fbs.specs.Taking.{passes_over, port_of, stops_with}
 use Rattle.hba_fbs.specs.Views.{DeviceView, Port, flushed_view, stopped_view}
 use Rattle.hba_fbs.specs.Writing.{cleared_by, is_device}
 use Rattle.hba_laws.specs.Hosts.{Does, Flushed, Gave, Host, HostEvent, Put, Rewrote, Runs, Stored, Took}
@@ -109,10 +109,10 @@ own_events n host (Put at bytes) = []
 
 -- ---- what they leave
 
--- a FIS that has a place is posted in the row
-abbrev pub row_with : List ℕ → Option Fis → List ℕ
+-- a FIS that has a place is posted in the row, if the device has one
+abbrev pub row_with : Option (List ℕ) → Option Fis → Option (List ℕ)
 row_with row None = row
-row_with row (Some fis) = row_after row fis
+row_with row (Some fis) = option_map (λ bytes. row_after bytes fis) row
 
 -- the PRD table of a Data FIS that does not stop the port can be used
 abbrev pub after_fis : ℕ → DevicePart → Option Fis → DevicePart
@@ -149,7 +149,7 @@ after_going part =
 
 -- a FIS of the device that it does not hear, while the port runs
 abbrev pub skips : ℕ → DevicePart → Result Fis FisFault → Bool
-skips n part fis = is_ignored true part.view fis
+skips n part fis = passes_over (is_some part.row) n part.view fis || is_ignored true part.view fis
 
 -- What belongs to a device after one of its own events. It sees no register, no memory and no other device.
 abbrev pub part_after : ℕ → DevicePart → OwnEvent → DevicePart
@@ -160,7 +160,7 @@ part_after n part (Issued commands) = after_issue n commands part
 part_after n part Went = after_going part
 part_after n part Cleared = with_view part (stopped_view part.view)
 part_after n part Emptied = with_view part flushed_view
-part_after n part (Rewritten row) = record part { row = row }
+part_after n part (Rewritten row) = record part { row = option_map (λ old. row) part.row }
 
 -- and after a list of them, the first event first
 abbrev pub part_after_all : ℕ → DevicePart → List OwnEvent → DevicePart

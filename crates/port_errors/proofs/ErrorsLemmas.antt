@@ -9,7 +9,7 @@ use Rattle.std.proofs.lemmas.List.Sums.{fails_before_first}
 use Rattle.std.proofs.lemmas.Bool.{cases_eq, cases_lt, cond-false, cond-true, lt-ltb}
 use Rattle.std.proofs.Math.ListN.{get_or-eq_default}
 use Rattle.port_errors.specs.declared.cause.DeviceCause.{DeviceCause}
-use Rattle.port_errors.specs.declared.cause.PortCause.{PortCause}
+use Rattle.port_errors.specs.declared.cause.Stop.{Stop}
 use Rattle.port_errors.specs.declared.errors.FbsBits.{FbsBits}
 use Rattle.port_errors.specs.Errors.{AreErrors, Errors, after_clear, cleared_device, lowest_marked, named_by, shown, without}
 
@@ -35,7 +35,7 @@ reported_then causes (Some r) dev now cause below low known is =
     (omega (arith, was.0), marked_still causes dev now cause below (ap (λ n. is_some (get_or causes n None)) is ∙ was.1))
 
 -- a device is marked
-pub with_device_keeps : (causes : List (Option DeviceCause)) (reported : Option ℕ) (port : Option PortCause) (dev now : ℕ) (cause : DeviceCause)
+pub with_device_keeps : (causes : List (Option DeviceCause)) (reported : Option ℕ) (port : Option Stop) (dev now : ℕ) (cause : DeviceCause)
     → AreErrors (record { causes = causes; reported = reported; port = port }) → dev < 16 → now ≡ unwrap_or reported dev
     → AreErrors (record { causes = set causes dev (Some cause); reported = Some now; port = port })
 with_device_keeps causes reported port dev now cause are low is =
@@ -67,7 +67,7 @@ unmarked causes d none =
     ]
 
 -- the mark of the reported device is taken, and the lowest of the others is reported
-pub without_reported : (causes : List (Option DeviceCause)) (reported now : Option ℕ) (port : Option PortCause) (dev : ℕ)
+pub without_reported : (causes : List (Option DeviceCause)) (reported now : Option ℕ) (port : Option Stop) (dev : ℕ)
     → AreErrors (record { causes = causes; reported = reported; port = port }) → now ≡ lowest_marked (set causes dev None)
     → AreErrors (record { causes = set causes dev None; reported = now; port = port })
 without_reported causes reported now port dev are is =
@@ -81,7 +81,7 @@ without_reported causes reported now port dev are is =
     }
 
 -- the mark of another device is taken
-pub without_other : (causes : List (Option DeviceCause)) (reported : Option ℕ) (port : Option PortCause) (dev : ℕ)
+pub without_other : (causes : List (Option DeviceCause)) (reported : Option ℕ) (port : Option Stop) (dev : ℕ)
     → AreErrors (record { causes = causes; reported = reported; port = port }) → dev < 16 → option_eq eqb reported (Some dev) ≡ false
     → AreErrors (record { causes = set causes dev None; reported = reported; port = port })
 without_other causes reported port dev are low differs =
@@ -105,7 +105,7 @@ without_other causes reported port dev are low differs =
 -- ---- the device that PxFBS shows is cleared
 
 -- it is the one that is reported
-pub shown_reported : (reported : Option ℕ) (port : Option PortCause) → (shown reported port).sde ≡ true → reported ≡ Some (shown reported port).dwe
+pub shown_reported : (reported : Option ℕ) (port : Option Stop) → (shown reported port).sde ≡ true → reported ≡ Some (shown reported port).dwe
 shown_reported None port h = cc
 shown_reported (Some dev) None h = refl
 shown_reported (Some dev) (Some c) h = cc
@@ -119,7 +119,7 @@ cleared_none errors bits is off = sym (ap named_by is) ∙ cond-false bits.sde (
 pub cleared_reported : (errors : Errors) (dev : ℕ) → cleared_device errors ≡ Some dev → errors.reported ≡ Some dev
 cleared_reported errors dev h = by_shown errors.reported errors.port h
   where
-    by_shown : (reported : Option ℕ) (port : Option PortCause) → named_by (shown reported port) ≡ Some dev → reported ≡ Some dev
+    by_shown : (reported : Option ℕ) (port : Option Stop) → named_by (shown reported port) ≡ Some dev → reported ≡ Some dev
     by_shown None port e = cc
     by_shown (Some d) None e = e
     by_shown (Some d) (Some c) e = cc

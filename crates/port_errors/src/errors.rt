@@ -1,11 +1,11 @@
 //! The errors of a host port.
 
-ghost use Rattle.std.specs.Prelude.{◌≡◌, ◌+◌, ◌*◌, ◌<◌, Some, None, is_some, length, unwrap_or, IfSome};
+ghost use Rattle.std.specs.Prelude.{◌≡◌, ◌+◌, ◌*◌, ◌<◌, Some, None, is_some, length, true, unwrap_or, IfSome};
 ghost use Rattle.std.specs.Int.{from_bool};
 ghost use Rattle.port_errors.specs.Interrupts.{device_interrupts, interrupt_bits, port_interrupts};
-ghost use Rattle.port_errors.specs.Errors.{AreErrors, Clears, KeepsCauses, LeavesOthers, after_clear, cause_of, cleared_device, lowest_marked as lowest_marked_of, no_errors, shown, with_device, with_port, without};
+ghost use Rattle.port_errors.specs.Errors.{AreErrors, Clears, KeepsCauses, LeavesOtherCauses, LeavesOthers, after_clear, cause_of, cleared_device, lowest_marked as lowest_marked_of, no_errors, port_cause_in, shown, with_alone, with_device, with_port, without};
 
-use crate::cause::{DeviceCause, PortCause};
+use crate::cause::{DeviceCause, PortCause, Stop};
 use crate::interrupts::Interrupts;
 use std::marker::Model;
 
@@ -34,7 +34,7 @@ impl FbsBits {
 pub struct PortErrors {
     causes: [Option<DeviceCause>; 16],
     reported: Option<u8>,
-    port: Option<PortCause>,
+    port: Option<Stop>,
 }
 
 impl Model for PortErrors {
@@ -110,12 +110,28 @@ impl PortErrors {
     pub fn port(&mut self, cause: PortCause) -> Interrupts
         ensures interrupts { interrupt_bits result ≡ port_interrupts cause }
         ensures after { self.new ≡ with_port self.old cause }
-        ensures own { self.new.port ≡ Some (unwrap_or self.old.port cause) }
+        ensures own { self.new.port ≡ Some (unwrap_or self.old.port (Stop.Port cause)) }
         ensures devices { self.new.causes ≡ self.old.causes }
         ensures kept { KeepsCauses self.old self.new }
     {
-        self.port = Some(self.port.unwrap_or(cause));
+        self.port = Some(self.port.unwrap_or(Stop::Port(cause)));
         cause.interrupts()
+    }
+
+    /// Marks a device that is alone at the port as faulty, which stops the port too, and returns the bits of
+    /// PxIS that this cause sets. The first cause of a device is kept, and so is what stopped the port first.
+    pub fn alone(&mut self, dev: u8, cause: DeviceCause) -> Interrupts
+        requires { dev < 16 }
+        ensures interrupts { interrupt_bits result ≡ device_interrupts cause }
+        ensures after { self.new ≡ with_alone self.old dev cause }
+        ensures own { cause_of self.new dev ≡ Some (unwrap_or (cause_of self.old dev) cause) }
+        ensures others { LeavesOtherCauses dev self.old self.new }
+        ensures stopped { self.new.port ≡ Some (unwrap_or self.old.port Stop.Device) }
+        ensures kept { KeepsCauses self.old self.new }
+    {
+        let interrupts = self.device(dev, cause);
+        self.port = Some(self.port.unwrap_or(Stop::Device));
+        interrupts
     }
 
     /// Clears the fault of a device. Where it was the reported one, the lowest device that is still faulty is
@@ -173,19 +189,22 @@ impl PortErrors {
         self.causes[dev as usize]
     }
 
-    /// Whether the port as a whole is stopped by an error.
+    /// Whether an error stopped the port: one of the port, or of a device that is alone at it.
     pub fn stopped(&self) -> bool
         ensures { result ≡ is_some self.now.port }
     {
         self.port.is_some()
     }
 
-    /// The first cause that stopped the port, None where it is not stopped. Only [`stop`](PortErrors::stop)
-    /// ends it.
+    /// The first cause that stopped the port as a whole, None where it is not stopped or a device stopped it.
+    /// Only [`stop`](PortErrors::stop) ends it.
     pub fn port_cause(&self) -> Option<PortCause>
-        ensures { result ≡ self.now.port }
+        ensures { result ≡ port_cause_in self.now.port }
     {
-        self.port
+        match self.port {
+            Some(Stop::Port(cause)) => Some(cause),
+            Some(Stop::Device) | None => None,
+        }
     }
 
     /// What PxFBS shows.

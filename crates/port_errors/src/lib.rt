@@ -9,6 +9,6 @@ mod cause;
 mod errors;
 mod interrupts;
 
-pub use cause::{DeviceCause, PortCause};
+pub use cause::{DeviceCause, PortCause, Stop};
 pub use errors::{FbsBits, PortErrors};
 pub use interrupts::Interrupts;

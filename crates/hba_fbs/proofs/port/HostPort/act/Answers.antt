@@ -1,6 +1,6 @@
 use Rattle.std.proofs.Common.{◌≡◌, true, false, sym, ap, ◌∙◌}
 use Rattle.hba_fbs.specs.Views.{Port}
-use Rattle.hba_fbs.proofs.WriteLemmas.{accepted_free, idle_commands, idle_views, stopped_zero}
+use Rattle.hba_fbs.proofs.WriteLemmas.{accepted_free, idle_active, idle_commands, idle_views, stopped_zero}
 use Rattle.hba_fbs.proofs.port.HostPort.act.Goals as goal
 
 pub issue-requires-clause-free : goal.issue-requires-clause-free
@@ -19,3 +19,9 @@ returns-else-self-clause-commands c =
     let stop : c.args.self.now.registers.started ≡ false = ap (λ (p : Port). p.registers.started) (sym c.self-in-Ci.view_is) ∙ c.if-self.false in
     let zero : c.args.value ≡ 0 = stopped_zero c.args.self.now c.args.memory.now c.args.value stop (rw c.in-Ci.is at c.requires.accepted) in
     rw c.in-Ci.is (idle_commands c.args.self.now c.args.memory.now c.args.value zero)
+
+pub returns-else-self-clause-active : goal.returns-else-self-clause-active
+returns-else-self-clause-active c =
+    let stop : c.args.self.now.registers.started ≡ false = ap (λ (p : Port). p.registers.started) (sym c.self-in-Ci.view_is) ∙ c.if-self.false in
+    let zero : c.args.value ≡ 0 = stopped_zero c.args.self.now c.args.memory.now c.args.value stop (rw c.in-Ci.is at c.requires.accepted) in
+    rw c.in-Ci.is (idle_active c.args.self.now c.args.memory.now c.args.value zero)

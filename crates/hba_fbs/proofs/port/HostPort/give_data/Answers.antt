@@ -33,4 +33,5 @@ returns-clause-gives c =
       errors = c.feed.ensures.errors;
       commands = c.feed.ensures.commands;
       number = c.feed.ensures.number;
+      active = c.feed.ensures.active;
     })

@@ -15,4 +15,5 @@ returns-clause-gives c memory =
       errors = c.send.ensures.errors;
       commands = c.send.ensures.commands;
       number = c.send.ensures.number;
+      active = c.send.ensures.active;
     })

@@ -1,4 +1,4 @@
-use Rattle.std.proofs.Common.{replicate, None}
+use Rattle.std.proofs.Common.{arith, replicate, None}
 use Rattle.hba_fbs.proofs.SlotLemmas.{none_have}
 use Rattle.hba_fbs.proofs.port.HostPort.new.Goals as goal
 
@@ -6,4 +6,5 @@ pub invariant_of-result : goal.invariant_of-result
 invariant_of-result c = record {
   registers = c.new.ensures.are;
   commands = rw c.new-2.ensures (none_have (replicate 32 None));
+  active = omega arith;
 }

@@ -1,8 +1,0 @@
-use Rattle.std.proofs.Common.{◌≡◌, ℕ, ◌<◌, ◌&&◌, false}
-use Rattle.slots.specs.Slots.{has_bit}
-use Rattle.hba_fbs.specs.Issuing.{is_foreign}
-use Rattle.hba_fbs.proofs.issue.any_foreign.Given as goal
-
--- none so far
-abbrev pub invariant-loop-slot : goal.invariant-loop-slot
-invariant-loop-slot l = (k : ℕ) → k < l.slot → (has_bit l.value k && is_foreign l.registers l.structure k) ≡ false
