@@ -79,7 +79,7 @@ data_nowhere : (l : Ledger) (v : Option Moving) (bytes : List ℕ) → v ≡ Non
 data_nowhere l v bytes none = rw none refl
 
 pub step_answer : (plan : DiskPlan) (sectors : ℕ) (m : Moment) (k : Beside) (a : Answer) (later : List Answer) (b : List ℕ)
-    → Shows (answer_sent sectors plan.auto a) b → Stands plan sectors (record m { owed = a ∷ later }) k
+    → Shows (answer_sent sectors plan a) b → Stands plan sectors (record m { owed = a ∷ later }) k
     → Agrees plan sectors (record m { owed = later }) (listens_up (shown (record m { owed = a ∷ later }) k) (seen b))
 step_answer plan sectors m k Signature later b shows g =
     rw shows.viewed (answer_left plan sectors m k Signature later k.pages g.pages g)

@@ -28,7 +28,7 @@ IsTransfer _ = ⊥
 -- what follows in each case in which these bytes are sent
 pub record InEachCase (plan : DiskPlan) (sectors : ℕ) (queued : List Command) (owed : List Answer) (v : Option Moving) (b : List ℕ) (P : Type 0) : Type 0 where
   -- the oldest answer
-  pub answers : (a : Answer) (later : List Answer) → owed ≡ a ∷ later → Shows (answer_sent sectors plan.auto a) b → P
+  pub answers : (a : Answer) (later : List Answer) → owed ≡ a ∷ later → Shows (answer_sent sectors plan a) b → P
   -- a command that is to start fails
   pub fails : (c : Command) (f : Fault) → picked plan.order queued ≡ Some c → fault_of plan sectors c ≡ Some f → v ≡ None → Shows (report f) b → P
   -- a command starts

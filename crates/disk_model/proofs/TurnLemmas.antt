@@ -22,10 +22,10 @@ pub takes : (t : Turn) (s : Sending) (bytes : List ℕ) (m n : Moment) → t ≡
 takes t s bytes m n is shows same = rw is (shows, same)
 
 pub takes_answer : (plan : DiskPlan) (sectors : ℕ) (m n : Moment) (a : Answer) (later : List Answer) (bytes : List ℕ)
-    → m.owed ≡ a ∷ later → Shows (answer_sent sectors plan.auto a) bytes → n ≡ record m { owed = later }
+    → m.owed ≡ a ∷ later → Shows (answer_sent sectors plan a) bytes → n ≡ record m { owed = later }
     → Takes (turn plan sectors m) bytes n
 takes_answer plan sectors m n a later bytes owed shows same =
-    takes _ (answer_sent sectors plan.auto a) bytes (record m { owed = later }) n (rw owed refl) shows same
+    takes _ (answer_sent sectors plan a) bytes (record m { owed = later }) n (rw owed refl) shows same
 
 takes_first : (m n : Moment) (c : Command) (sends later : List Sending) (bytes : List ℕ) → Leads sends bytes later
     → n ≡ went m c later → Takes (read_turn m c sends) bytes n

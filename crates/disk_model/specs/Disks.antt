@@ -127,7 +127,7 @@ idle_turn plan sectors m (Some s) = read_turn m s.command s.sends
 
 abbrev pub answer_turn : DiskPlan → ℕ → Moment → List Answer → Turn
 answer_turn plan sectors m [] = idle_turn plan sectors m m.started
-answer_turn plan sectors m (a ∷ later) = Some (answer_sent sectors plan.auto a, record m { owed = later })
+answer_turn plan sectors m (a ∷ later) = Some (answer_sent sectors plan a, record m { owed = later })
 
 -- the oldest answer, else the next FIS of the started command, else the first of the command that is started
 -- now

@@ -127,7 +127,7 @@ LogsNext plan sectors (Some c) error bytes =
 -- the page that was asked for first
 abbrev pub IsPage : DiskPlan → ℕ → List Wanted → List ℕ → Type 0
 IsPage plan sectors [] bytes = ⊥
-IsPage plan sectors (IdentifyData ∷ later) bytes = bytes ≡ identify_data sectors plan.auto
+IsPage plan sectors (IdentifyData ∷ later) bytes = bytes ≡ identify_data sectors plan
 IsPage plan sectors (LogOf None ∷ later) bytes = bytes ≡ error_log None
 IsPage plan sectors (LogOf (Some f) ∷ later) bytes =
     LogsNext plan sectors (picked plan.order f.among) f.error bytes

@@ -13,6 +13,7 @@ use Rattle.disk_model.specs.declared.answer.Answer.{Answer}
 use Rattle.disk_model.specs.declared.answer.Answer.TheVariants.{Signature, Accepted, Finished, Refused, Ended}
 use Rattle.disk_model.specs.declared.answer.Answer.TheVariants.{PageFollows, PageData}
 use Rattle.disk_model.specs.Pages.{page_bytes}
+use Rattle.disk_model.specs.declared.plan.DiskPlan.{DiskPlan}
 
 -- a FIS, by its type and its fields
 pub data Sending : Type 0 where
@@ -83,11 +84,11 @@ page_follows = SetsUpPio (record {
 })
 
 -- the FIS of an answer
-abbrev pub answer_sent : (sectors : ℕ) (auto : Bool) → Answer → Sending
-answer_sent sectors auto Signature = register false 0x50 1 1
-answer_sent sectors auto Accepted = register false 0x50 0 0
-answer_sent sectors auto Finished = register true 0x50 0 0
-answer_sent sectors auto Refused = register true 0x51 4 0
-answer_sent sectors auto (Ended tag) = bits 0x50 0 (2 ^ (tag % 32))
-answer_sent sectors auto PageFollows = page_follows
-answer_sent sectors auto (PageData page) = Carries (page_bytes sectors auto page)
+abbrev pub answer_sent : (sectors : ℕ) (plan : DiskPlan) → Answer → Sending
+answer_sent sectors plan Signature = register false 0x50 1 1
+answer_sent sectors plan Accepted = register false 0x50 0 0
+answer_sent sectors plan Finished = register true 0x50 0 0
+answer_sent sectors plan Refused = register true 0x51 4 0
+answer_sent sectors plan (Ended tag) = bits 0x50 0 (2 ^ (tag % 32))
+answer_sent sectors plan PageFollows = page_follows
+answer_sent sectors plan (PageData page) = Carries (page_bytes sectors plan page)

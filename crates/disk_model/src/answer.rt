@@ -5,6 +5,7 @@ ghost use Rattle.disk_model.specs.Sendings.{Activates, Carries, Shows, answer_se
 ghost use Rattle.disk_model.specs.Chunks.{error_of, report};
 ghost use Rattle.fis_view.specs.Frames.{IsPayload};
 
+use crate::plan::DiskPlan;
 use fis_view::{
     D2hFields, DmaActivateFields, DmaSetupFields, Frame, FrameError, PioSetupFields, SetBitsFields,
     Stamp, d2h, dma_activate, dma_setup, payload, pio_setup, set_bits,
@@ -178,15 +179,15 @@ pub fn report_frame(alloc: Global, fault: Fault, stamp: Stamp) -> Result<Frame, 
 }
 
 impl Answer {
-    /// The FIS of the answer, of a disk with so many sectors, with auto-activate or without.
+    /// The FIS of the answer of a disk with this many sectors and this plan.
     pub fn frame(
         self,
         alloc: Global,
         sectors: u32,
-        auto: bool,
+        plan: &DiskPlan,
         stamp: Stamp,
     ) -> Result<Frame, AllocError>
-        ensures shows { IfOk result (λ f. Shows (answer_sent sectors auto self) f.bytes) }
+        ensures shows { IfOk result (λ f. Shows (answer_sent sectors plan.now self) f.bytes) }
         ensures stamp { IfOk result (λ f. f.stamp ≡ stamp) }
     {
         match self {
@@ -197,7 +198,7 @@ impl Answer {
             Answer::Ended(tag) => bits_frame(alloc, 0x50, 0, 1 << (tag % 32), stamp),
             Answer::PageFollows => page_follows_frame(alloc, stamp),
             Answer::PageData(page) => {
-                let bytes = page.bytes(alloc, sectors, auto)?;
+                let bytes = page.bytes(alloc, sectors, plan)?;
                 data_frame(alloc, &bytes, stamp)
             }
         }

@@ -37,6 +37,6 @@ pub use law::{
     media_show_the_last_write, medium_is_of_ended_writes, reads_are_of_their_start,
     reads_have_the_first_writes, setups_name_what_moves,
 };
-pub use plan::{DiskPlan, Order};
+pub use plan::{DiskPlan, Order, Profile};
 pub use scripted::Scripted;
 pub use unit::Unit;

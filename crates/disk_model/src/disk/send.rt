@@ -155,7 +155,7 @@ impl Disk {
     {
         match self.answers.front() {
             Some(answer) => {
-                let frame = answer.frame(alloc, self.sectors, self.plan.auto, stamp)?;
+                let frame = answer.frame(alloc, self.sectors, &self.plan, stamp)?;
                 self.answers.pop_front();
                 Ok(Some(frame))
             }

@@ -8,7 +8,7 @@ use crate::scenario::opening::{Opening, Shape, Sizes};
 use crate::scenario::words::Words;
 use crate::wanted::{Keyword, Quantity, Wanted};
 use arrayvec::ArrayVec;
-use disk_model::{DiskPlan, Order};
+use disk_model::{DiskPlan, Order, Profile};
 use fis_view::Bytes;
 use hba_driver::{Request, Work};
 use hba_fbs::Register;
@@ -231,8 +231,18 @@ fn disk(words: &mut Words<'_>, opening: &Opening) -> Result<Setting, Failure> {
         last_first: words.takes(b"lastfirst"),
         bad: bad_sectors(words)?,
         auto: words.takes(b"auto"),
+        profile: profile(words, port),
     };
     Ok(Setting::Disk(port, Shape { sectors, plan }))
+}
+
+/// What the disk of this port says of itself: `stock` comes next, or it says little.
+fn profile(words: &mut Words<'_>, port: u8) -> Profile {
+    if words.takes(b"stock") {
+        Profile::Stock(port as u32)
+    } else {
+        Profile::Bare
+    }
 }
 
 /// The words `order ..`, if they come next.
