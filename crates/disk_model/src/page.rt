@@ -1,4 +1,4 @@
-//! The pages of 512 bytes that READ LOG EXT and IDENTIFY DEVICE read (ACS-3).
+//! The pages of 512 bytes that READ LOG EXT and IDENTIFY DEVICE return (ACS-3).
 
 ghost use Rattle.std.specs.Prelude.{◌≡◌, ◌≤◌, ◌<◌, IfOk, OnOk, length, sum, vec_len};
 ghost use Rattle.disk_model.specs.Pages.{checksum, error_head, error_log, filled_to, identify_data, page_bytes, queuing_words};
@@ -7,7 +7,7 @@ ghost use Rattle.disk_model.specs.declared.answer.Fault.TheVariants.{Failed};
 use crate::answer::{Fault, Page};
 use std::alloc::{AllocError, Global};
 
-/// The byte that makes the sum of these and itself 0 modulo 256.
+/// The byte that makes the sum of these bytes and itself 0 modulo 256.
 fn checksum_of(bytes: &[u8]) -> u8
     requires { length bytes.now ≤ 65536 }
     ensures { result ≡ checksum bytes.now }
@@ -29,7 +29,7 @@ fn fill(page: &mut Vec<u8>, len: usize) -> Result<(), AllocError>
     page.resize(len, 0)
 }
 
-/// The NCQ Command Error log after an error of a queued command: its bytes up to Count.
+/// The NCQ Command Error log after a queued command failed: its bytes up to Count.
 fn failure(tag: u8, error: u8, lba: u64) -> [u8; 14]
     ensures { result ≡ error_head (Some (Failed tag error lba)) }
 {
@@ -76,9 +76,10 @@ fn error_log_page(alloc: Global, fault: Option<Fault>) -> Result<Vec<u8>, AllocE
     Ok(page)
 }
 
-/// Words 75 to 79 of the IDENTIFY DEVICE data, little endian: a queue of 32 commands, less one;
-/// native command queuing is supported, bit 8; nothing; DMA Setups with an offset other than 0 are
-/// supported, bit 1, and auto-activate, bit 2; and enabled, the same bits.
+/// Words 75 to 79 of the IDENTIFY DEVICE data, little endian. Word 75 is the queue depth less one, for a
+/// queue of 32 commands. Bit 8 of word 76 says that native command queuing is supported. Word 77 is 0. Word
+/// 78 says what is supported: DMA Setups with an offset other than 0 in bit 1, auto-activate in bit 2. Word
+/// 79 says in the same bits what is enabled.
 fn queuing(auto: bool) -> [u8; 10]
     ensures { result ≡ queuing_words auto }
 {
@@ -86,8 +87,7 @@ fn queuing(auto: bool) -> [u8; 10]
     [0x1F, 0, 0, 1, 0, 0, setups, 0, setups, 0]
 }
 
-/// The IDENTIFY DEVICE data (ACS-3, 7.12): words 75 to 79 and the number of sectors in words 100 to
-/// 103.
+/// The IDENTIFY DEVICE data (ACS-3, 7.12): words 75 to 79, and the number of sectors in words 100 to 103.
 #[tactic(auto, unfolding(crate::specs::Pages::identify_data))]
 fn identify_page(alloc: Global, sectors: u32, auto: bool) -> Result<Vec<u8>, AllocError>
     ensures items { IfOk result (λ page. page.items ≡ identify_data sectors auto) }
@@ -103,7 +103,7 @@ fn identify_page(alloc: Global, sectors: u32, auto: bool) -> Result<Vec<u8>, All
 }
 
 impl Page {
-    /// The bytes of the page, of a disk with so many sectors, with auto-activate or without.
+    /// The bytes of the page, for a disk with this many sectors, with or without auto-activate.
     pub fn bytes(self, alloc: Global, sectors: u32, auto: bool) -> Result<Vec<u8>, AllocError>
         ensures items { IfOk result (λ page. page.items ≡ page_bytes sectors auto self) }
         ensures len { IfOk result (λ page. vec_len page ≡ 512) }
