@@ -1,4 +1,4 @@
--- A FIS of a device that recovers is ignored, leaves it where it is, or is a fault.
+-- A FIS of a device that recovers is ignored, leaves its stage, or is a fault.
 use Rattle.std.proofs.Common.{◌≡◌, ◌≢◌, ℕ, ◌-◌, ◌<◌, ◌≤◌, Bool, true, false, ◌&&◌, ◌||◌, List, length, refl, sym, ◌∙◌, ap, subst, inl, inr, arith, Option, Some, None}
 use Rattle.std.specs.Prelude.{if◌then◌else◌, ◌==◌, not, is_none, is_some}
 use Rattle.std.proofs.lemmas.Bool.{cases_Bool, cases_eq, cases_lt, false≢true, true≢false}
@@ -194,7 +194,7 @@ module _ (n : ℕ) (past : Touches) (old : Host) (frame : List ℕ) (report : Ta
     | inr hears ↦ (does.heard hears).commands
   ]
 
-  -- another device's
+  -- a frame of another device
   took_other : port_of frame ≢ n → IsAt30 n stage new
   took_other other = elim (cases_Bool (ignores (port_of frame) old.port frame)) [
     | inl skip ↦ skipped skip
