@@ -46,13 +46,21 @@ impl Model for HostPort {
     ghost Value = { Port };
 
     ghost view = { λ p. record {
-      registers = p.registers; slots = p.slots; errors = p.errors;
-      states = p.states; commands = p.commands; number = p.number
+      registers = p.registers;
+      slots = p.slots;
+      errors = p.errors;
+      states = p.states;
+      commands = p.commands;
+      number = p.number;
     } };
 
     ghost invariant = { λ p. IsPort (record {
-      registers = p.registers; slots = p.slots; errors = p.errors;
-      states = p.states; commands = p.commands; number = p.number
+      registers = p.registers;
+      slots = p.slots;
+      errors = p.errors;
+      states = p.states;
+      commands = p.commands;
+      number = p.number;
     }) };
 }
 
@@ -156,7 +164,7 @@ impl HostPort {
 
     // Why a write of PxCI is refused because of its slots.
     fn issue_refusal(&self, value: u32, memory: &HostMemory) -> Option<WriteError>
-        requires { self.now.registers.clb + 1024 ≤ 1048576 }
+        requires { self.now.registers.clb + 0x400 ≤ 0x100000 }
         ensures { result ≡ issue_refusal_of self.now memory.now value }
     {
         if any_busy(&self.slots, value) {
@@ -229,7 +237,7 @@ impl HostPort {
 
     // Issues the commands in these slots.
     fn issue(&mut self, value: u32, memory: &HostMemory)
-        requires list { self.old.registers.clb + 1024 ≤ 1048576 }
+        requires list { self.old.registers.clb + 0x400 ≤ 0x100000 }
         requires free { any_slot value (is_busy self.old.slots) ≡ false }
         ensures own { view_of self.old.registers.chosen self.new
             ≡ view_issued self.old.registers memory.now value

@@ -43,7 +43,7 @@ fn is_ready(state: DeviceState) -> bool
 }
 
 fn low_half(mask: u32) -> u16
-    requires { mask < 65536 }
+    requires { mask < 0x10000 }
     ensures { result ≡ mask }
 {
     mask as u16
