@@ -31,4 +31,4 @@ HasDataExactly Control len = len ≡ 0
 
 -- what a command can ask for: whole dwords, at most 128 KiB, and some bytes exactly if its kind moves data
 abbrev pub IsWork : Work → Type 0
-IsWork work = (work.len % 4 ≡ 0) × (work.len ≤ 131072) × HasDataExactly work.kind work.len
+IsWork work = (work.len % 4 ≡ 0) × (work.len ≤ 0x20000) × HasDataExactly work.kind work.len
