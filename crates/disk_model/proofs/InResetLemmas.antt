@@ -108,7 +108,7 @@ held_same plan sectors before on between h =
     ∙ ap (λ (x : Moment). moment_after plan sectors x between) now
     ∙ (held_run plan sectors before on between h).same ∙ sym now
 
--- ## Whoever listens
+-- ## A listener
 
 not_asked_told : (l : Ledger) (r : Request) → LeavesSet r → asks (held_ledger l) r true ≡ held_ledger l
 not_asked_told l (Reset true) leaves = refl

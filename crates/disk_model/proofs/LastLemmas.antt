@@ -78,7 +78,7 @@ lie_on sectors medium writes is long =
     lie_by_length (512 * sectors) (opening_medium sectors) writes (length-map-range_with_len opening_byte 0 (512 * sectors))
     (ap length (sym is) ∙ long)
 
--- ## What stands there
+-- ## What is there
 
 -- what a write leaves at a place that is not its own
 left_in : (medium : List ℕ) (w : Written) (i : ℕ) → w.at + length w.bytes ≤ length medium → (Covers i w → ⊥)

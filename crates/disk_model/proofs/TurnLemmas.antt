@@ -73,7 +73,7 @@ takes_fault plan sectors m n c f bytes owed started writing pick bad shows same 
 
 -- ## It is the disk's turn
 
--- what holds also holds where there is an error
+-- what holds also holds if there is an error
 pub on_err_so : {T E P : Type 0} (r : Result T E) → P → OnErr r P
 on_err_so (Ok x) p = tt
 on_err_so (Err e) p = p

@@ -149,8 +149,8 @@ abbrev pub AnswersNext : List (List ℕ) → Type 0
 AnswersNext [] = ⊥
 AnswersNext (bytes ∷ later) = IsBits (seen bytes)
 
--- the disk's end tells of all writes of which the host's end tells, except for the last ones, which have
--- other tags
+-- the disk's end tells of all writes that the host's end tells of, except for the last ones, which have other
+-- tags
 pub record AreEntered (disk host : Ledger) (tag : ℕ) : Type 0 where
   pub later : List Written
   pub same : host.writes ≡ disk.writes ++ later

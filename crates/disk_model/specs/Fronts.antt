@@ -16,8 +16,8 @@ BeforeIsFront =
     (history : List Happening) (at : ℕ) (r : ReadOut) → slice_get (ledger history).reads at ≡ Some r
     → IsFront r.before (ledger history).writes
 
--- Where both ends of a link agree, the writes of which the disk's end tells are the first ones of those of
--- which the host's end tells.
+-- Where both ends of a link agree, the writes that the disk's end tells of come first among those that the
+-- host's end tells of.
 abbrev pub HostIsAhead : Type 0
 HostIsAhead =
     (sectors : ℕ) (disk host : List Happening) (down up : List (List ℕ)) → EndsAgree sectors disk host down up

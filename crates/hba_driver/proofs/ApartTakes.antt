@@ -44,7 +44,7 @@ use Rattle.hba_driver.specs.Slot30.{Asks, Cleared, Clears, Faulty, IsAt30, IsSlo
 use Rattle.hba_driver.proofs.ApartPushes.{IsDriven30, alone_issue, control_kind, driven_at, kept30}
 use Rattle.hba_driver.proofs.StopLemmas.{either}
 
--- ---- a device of which nothing went out, and nothing queued is issued
+-- ---- a device to which nothing went out and for which nothing queued is issued
 
 abbrev IsIdle : DeviceSlots → Type 0
 IsIdle own = (s : ℕ) (i : Issue) → own_issue own s ≡ Some i → (i.sent ≡ false) × (is_queued i.work.kind ≡ false)

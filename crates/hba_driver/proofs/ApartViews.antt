@@ -1,4 +1,4 @@
--- What an act leaves of the view of a device: all of it, but for a command of its own in slot 30.
+-- What an act leaves of the view of a device: everything, except for a command of its own in slot 30.
 use Rattle.std.proofs.Common.{◌≡◌, ◌≢◌, ℕ, ◌+◌, ◌*◌, ◌^◌, ◌<◌, ◌≤◌, Bool, true, false, List, [], length, refl, sym, ◌∙◌, ap, subst, inl, inr, arith, Option, Some, None}
 use Rattle.std.specs.Prelude.{if◌then◌else◌}
 use Rattle.std.specs.Option.{option_or}

@@ -237,7 +237,7 @@ module _ (h : Host) (g : IsGoing h) (stage : Stage31) (at : IsAt31 stage h) wher
     unfolding next_order
     next_reset on ports found o is = ap (λ (x : Order). met_order v (next_order ports found x)) is ∙ met_await on AwaitSignature refl
 
-    -- ---- a tick that issues no order, in a plan of which this was seen
+    -- ---- a tick that issues no order, in a plan that shows this
 
     -- stage, order and whether it is asked, as they are seen
     pub record Seen31 : Type 0 where

@@ -70,7 +70,7 @@ flushes dev (effect.Flushes other) = other == dev
 flushes dev (effect.Empties other) = false
 flushes dev (effect.Commands slot fields buffer) = false
 
--- a request of which the port has no command and will get none
+-- a request for which the port has no command, and for which none will be issued
 abbrev pub is_withdrawn : Head → Bool
 is_withdrawn head = is_aside head || has_ended head
 

@@ -1,4 +1,4 @@
-//! One slot: a request that was taken and not polled, or none.
+//! One slot: a request that was taken and is not polled yet, or none.
 
 ghost use Rattle.std.specs.Prelude.{◌≡◌, ◌≤◌, ◌<◌, Some, None, if◌then◌else◌, length, take};
 ghost use Rattle.std.specs.Option.{option_map};
