@@ -14,7 +14,7 @@ has_bit value k = bit_at value k == 1
 
 -- the bits of x that are not in y
 abbrev pub without : ℕ → ℕ → ℕ
-without x y = bit_and x (4294967295 - y)
+without x y = bit_and x (0xFFFFFFFF - y)
 
 -- Unknown FIS Interrupt
 abbrev pub ufs : ℕ

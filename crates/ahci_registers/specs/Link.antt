@@ -18,7 +18,7 @@ action_of control =
 -- PxSCTL after a write: DET, SPD and IPM, bits 11:0; DET stays while ST is 1
 unfoldable pub written : (control value : ℕ) → (started : Bool) → ℕ
 written control value started =
-    if started then value % 4096 / 16 * 16 + control % 16 else value % 4096
+    if started then value % 0x1000 / 16 * 16 + control % 16 else value % 0x1000
 
 -- what the interface detects: during a COMRESET no device; while offline it does not look for one
 abbrev pub detected_by : LinkAction → Detected
