@@ -1,4 +1,4 @@
--- The events of a calm tick are none of a device's, or issue for it what stands in one slot.
+-- Each event of a calm tick does not concern a device, or issues for it the command in one slot.
 use Rattle.std.proofs.Common.{◌≡◌, ◌≢◌, ℕ, ◌+◌, ◌*◌, ◌/◌, ◌^◌, ◌<◌, ◌⊎◌, ◌&&◌, ◌||◌, nat_lt, Bool, true, false, List, [], ◌∷◌, ◌++◌, replicate, refl, sym, ◌∙◌, ap, subst, inl, inr, arith, append_assoc, Option, Some, None}
 use Rattle.std.specs.Prelude.{if◌then◌else◌, ◌%◌, not, is_some}
 use Rattle.std.specs.Option.{option_or}

@@ -225,7 +225,7 @@ module _ (n : ℕ) (below : n < 15) (old new : Host) (w : IsOnWay old) where
         ∙ h.command;
   }
 
-  -- and the tick that issues it
+  -- the tick that issues it
   identify_due : due v old.driver ≡ Some (act.Steps n Identify) → ActsAll (effects_due (Some (act.Steps n Identify))) old.port old.memory new.port new.memory → IsAwaited n new.port
   unfolding effects_of stage_fields
   identify_due is acts =
