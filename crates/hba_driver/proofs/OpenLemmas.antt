@@ -62,7 +62,7 @@ pub record Stays (r s : Registers) : Type 0 where
   pub switches : s.switching ≡ r.switching
   pub receives : s.receives ≡ r.receives
   pub starts : s.started ≡ r.started
-  -- and so do the bits of PxSACT that wait for their commands
+  -- the bits of PxSACT that wait for their commands stay too
   pub armed : s.armed ≡ r.armed
 
 stays_same : (r s : Registers) → s ≡ r → Stays r s
