@@ -1,4 +1,4 @@
--- Each command is answered in its turn.
+-- Commands are answered in order.
 use Rattle.std.proofs.Common.{◌≡◌, Bool, ℕ, true, false, List, [], ◌∷◌, ◌++◌, ap, ◌∙◌}
 use Rattle.fis_view.specs.Table.{D2h, Pio, I, Status, Error, Lba, Count, D, Transfer, places, field}
 use Rattle.fis_view.specs.Built.{cut}

@@ -79,7 +79,7 @@ answers_by plan sectors l (PageData page) later b none are shows =
     let bytes : drop 4 b ≡ page_bytes sectors plan page = ap (drop 4) shows.0 in
     rw (shows.1, quiet) (pages_by plan sectors page (pages_of later) l.pages (drop 4 b) are bytes)
 
--- where a page is owed first, no command's data moves
+-- while a page is owed first, no command's data moves
 page_waits : (plan : DiskPlan) (sectors : ℕ) (m : Moment) (l : Ledger) → Agrees plan sectors m l → (a : Answer)
     (later : List Answer) → m.owed ≡ a ∷ later → is_page a ≡ true → l.moving ≡ None
 page_waits plan sectors m l agrees a later is page =

@@ -148,7 +148,7 @@ answers_nothing l Activates b none shows = rw shows.viewed tt
 answers_nothing l (SetsUpPio v) b none shows = rw shows.viewed tt
 answers_nothing l (Carries d) b none shows = rw shows.1 tt
 
--- neither does one that reports an error
+-- a FIS that reports an error answers nothing either
 reports : (l : Ledger) (f : Fault) (b : List ℕ) → Shows (report f) b → AnswersOne l (seen b)
 reports l f b shows = let e = error_tells (error_of f) b shows in rw shows.viewed (λ fine. cc (e, fine))
 

@@ -1,4 +1,4 @@
--- The FISes that a disk may send next, by what each of them is for.
+-- The FISes that a disk may send next, by their purpose.
 use Rattle.std.proofs.Common.{◌≡◌, ℕ, ◌+◌, Bool, true, false, List, [], ◌∷◌, ◌++◌, Option, Some, None, drop, refl, ap, subst, ◌∙◌}
 use Rattle.disk_model.specs.declared.plan.DiskPlan.{DiskPlan}
 use Rattle.disk_model.specs.declared.request.Command.{Command}

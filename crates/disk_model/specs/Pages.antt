@@ -1,4 +1,4 @@
--- The 512 bytes that READ LOG EXT and IDENTIFY DEVICE read (ACS-3, NCQ Command Error log and 7.12).
+-- The 512 bytes that READ LOG EXT and IDENTIFY DEVICE return (ACS-3, NCQ Command Error log and 7.12).
 use Rattle.std.specs.Prelude.{ℕ, ◌+◌, ◌-◌, ◌/◌, ◌%◌, nat_lt, Bool, if◌then◌else◌, List, [], ◌∷◌, ◌++◌, length, replicate}
 use Rattle.std.specs.Prelude.{sum, Option, Some, None}
 use Rattle.std.specs.Int.{to_le_bytes, w32, w64}
@@ -10,7 +10,7 @@ use Rattle.disk_model.specs.declared.plan.DiskPlan.{DiskPlan}
 use Rattle.disk_model.specs.declared.plan.Profile.{Profile}
 use Rattle.disk_model.specs.declared.plan.Profile.TheVariants.{Bare, Stock}
 
--- bytes, and then zeros up to a length
+-- bytes, followed by zeros up to a length
 unfoldable pub filled_to : ℕ → List ℕ → List ℕ
 filled_to n bytes = bytes ++ replicate (n - length bytes) 0
 
@@ -18,9 +18,9 @@ filled_to n bytes = bytes ++ replicate (n - length bytes) 0
 abbrev pub checksum : List ℕ → ℕ
 checksum bytes = (256 - sum bytes % 256) % 256
 
--- The NCQ Command Error log, log 10h, to the last byte that is not reserved (ACS-3, NCQ Command Error log):
--- NQ and the tag, reserved, Status, Error, LBA 23:0, Device, LBA 47:24, reserved, Count. With NQ, byte 0 bit
--- 7, the rest says nothing.
+-- The NCQ Command Error log, log 10h, up to the last byte that is not reserved (ACS-3, NCQ Command Error
+-- log): NQ and the tag, reserved, Status, Error, LBA 23:0, Device, LBA 47:24, reserved, Count. With NQ, bit 7
+-- of byte 0, the rest has no meaning.
 abbrev pub error_head : Option Fault → List ℕ
 error_head (Some (Failed tag error lba)) =
     tag ∷ 0 ∷ 0x41 ∷ error ∷ lba % 256 ∷ lba / 256 % 256 ∷ lba / 65536 % 256 ∷ 0x40 ∷ lba / 0x1000000 % 256
@@ -33,10 +33,10 @@ error_head None = 0x80 ∷ []
 unfoldable pub error_log : Option Fault → List ℕ
 error_log fault = filled_to 511 (error_head fault) ++ checksum (filled_to 511 (error_head fault)) ∷ []
 
--- IDENTIFY DEVICE data (ACS-3, 7.12; word numbers are those of its table): 256 words of two bytes, the low one
--- first. In both profiles word 75 is the queue depth less one, word 76 bit 8 that native command queuing is
--- supported, words 78 and 79 bit 1 that DMA Setups with an offset other than zero are supported and enabled, bit
--- 2 the same of auto-activate, and words 100 to 103 are the number of sectors.
+-- IDENTIFY DEVICE data (ACS-3, 7.12): 256 words of two bytes, the low byte first. In both profiles, word 75 is
+-- the queue depth less one. Bit 8 of word 76 says that native command queuing is supported. Words 78 and 79 say
+-- what is supported and what is enabled: DMA Setups with an offset other than 0 in bit 1, auto-activate in bit 2.
+-- Words 100 to 103 are the number of sectors.
 abbrev pub setups_byte : (auto : Bool) → ℕ
 setups_byte auto = if auto then 6 else 2
 

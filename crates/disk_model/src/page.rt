@@ -1,4 +1,4 @@
-//! The pages of 512 bytes that READ LOG EXT and IDENTIFY DEVICE read (ACS-3).
+//! The pages of 512 bytes that READ LOG EXT and IDENTIFY DEVICE return (ACS-3).
 
 ghost use Rattle.std.specs.Prelude.{◌≡◌, ◌≤◌, ◌<◌, ◌%◌, IfOk, OnOk, length, sum, vec_len};
 ghost use Rattle.disk_model.specs.Pages.{bare_data, capabilities, checksum, digit, error_head, error_log, filled_to, linked_words, names, page_bytes};
@@ -9,7 +9,7 @@ use crate::answer::{Fault, Page};
 use crate::plan::{DiskPlan, Profile};
 use std::alloc::{AllocError, Global};
 
-/// The byte that makes the sum of these and itself 0 modulo 256.
+/// The byte that makes the sum of these bytes and itself 0 modulo 256.
 fn checksum_of(bytes: &[u8]) -> u8
     requires { length bytes.now ≤ 65536 }
     ensures { result ≡ checksum bytes.now }
@@ -31,7 +31,7 @@ fn fill(page: &mut Vec<u8>, len: usize) -> Result<(), AllocError>
     page.resize(len, 0)
 }
 
-/// The NCQ Command Error log after an error of a queued command: its bytes up to Count.
+/// The NCQ Command Error log after a queued command failed: its bytes up to Count.
 fn failure(tag: u8, error: u8, lba: u64) -> [u8; 14]
     ensures { result ≡ error_head (Some (Failed tag error lba)) }
 {
@@ -78,16 +78,17 @@ fn error_log_page(alloc: Global, fault: Option<Fault>) -> Result<Vec<u8>, AllocE
     Ok(page)
 }
 
-/// The bits of words 78 and 79 of the IDENTIFY DEVICE data: DMA Setups with an offset other than 0,
-/// bit 1, and auto-activate, bit 2.
+/// The low bytes of words 78 and 79 of the IDENTIFY DEVICE data: DMA Setups with an offset other than 0 in
+/// bit 1, auto-activate in bit 2.
 fn setups(auto: bool) -> u8
     ensures { result ≡ setups_byte auto }
 {
     if auto { 6 } else { 2 }
 }
 
-/// Words 75 to 79 of the bare profile: a queue of 32 commands, less one; native command queuing is
-/// supported, bit 8; nothing; what is supported of DMA Setups, and what is enabled.
+/// Words 75 to 79 of the bare profile, little endian. Word 75 is the queue depth less one, for a queue of 32
+/// commands. Bit 8 of word 76 says that native command queuing is supported. Word 77 is 0. Words 78 and 79 say
+/// what is supported of DMA Setups, and what is enabled.
 fn queuing(auto: bool) -> [u8; 10]
     ensures { result ≡ queuing_words auto }
 {

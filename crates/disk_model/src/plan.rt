@@ -31,19 +31,20 @@ pub struct DiskPlan {
     pub order: Order,
     /// The most bytes that one DMA Setup moves: a multiple of 512, from 512 to 8,192.
     pub chunk: u16,
-    /// Whether the chunks of a command go downwards, its last sectors first.
+    /// Whether the chunks of a command go downwards, from its last sectors.
     pub last_first: bool,
-    /// Sectors, by their LBA, that cannot be read.
+    /// The LBAs of the sectors that cannot be read.
     pub bad: ArrayVec<u32, 16>,
-    /// Whether the DMA Setup of a write says by its bit A that the data may come at once. No DMA Activate is sent then.
+    /// Whether bit A in the DMA Setup of a write says that the data may come at once. If so, no DMA Activate
+    /// is sent.
     pub auto: bool,
     /// What its IDENTIFY DEVICE data say.
     pub profile: Profile,
 }
 
 impl DiskPlan {
-    /// The oldest command first, 8,192 bytes a chunk, chunks upwards, no bad sectors, no auto-activate,
-    /// and IDENTIFY DEVICE data with its queue and its size alone.
+    /// The oldest command first, chunks of 8,192 bytes, upwards, no bad sectors, no auto-activate, and the
+    /// bare profile.
     pub fn plain() -> Self
         ensures order { result.order ≡ Order.Oldest }
         ensures chunk { result.chunk ≡ 8192 }

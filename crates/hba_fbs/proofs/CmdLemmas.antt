@@ -1,4 +1,4 @@
--- An accepted write of PxCMD keeps the areas that are in use inside.
+-- An accepted write of PxCMD keeps the areas in use inside the structure area.
 use Rattle.std.proofs.Common.{◌≡◌, ℕ, ◌+◌, ◌≤◌, Bool, true, false, not, ◌&&◌, ◌||◌, refl, Option, Some, None}
 use Rattle.std.specs.Prelude.{nat_lt, ◌==◌, if◌then◌else◌}
 use Rattle.std.proofs.lemmas.Bool.{true≢false, false≢true, or_parts, ltb-false}
@@ -6,7 +6,7 @@ use Rattle.hba_fbs.specs.declared.error.WriteError.{WriteError}
 use Rattle.hba_fbs.specs.declared.registers.Registers.{Registers}
 use Rattle.hba_fbs.specs.Registers.{AreRegisters, cmd_refusal, is_area_outside, is_list_outside}
 
--- the first of some refusals does not apply, and so on
+-- the first refusal does not apply, and neither do the others
 record Passes (test : Bool) (others : Option WriteError) : Type 0 where
   pub none : test ≡ false
   pub rest : others ≡ None
@@ -21,7 +21,8 @@ area_inside r h = ltb-false 1048576 (r.fb + 4096) (or_parts (not (r.fbu == 0)) (
 list_inside : (r : Registers) → is_list_outside r ≡ false → r.clb + 1024 ≤ 1048576
 list_inside r h = ltb-false 1048576 (r.clb + 1024) (or_parts (not (r.clbu == 0)) (nat_lt 1048576 (r.clb + 1024)) h).1
 
--- the bits before and after: FRE stays as long as ST does, and ST that rises finds FRE and its list inside
+-- the bits before and after: FRE stays as long as ST does, and ST is set only with FRE and with its list
+-- inside
 started_after : (started receives starts keeps outside : Bool) (clb : ℕ) → (outside ≡ false → clb + 1024 ≤ 1048576) → (started ≡ true → (receives ≡ true) × (clb + 1024 ≤ 1048576))
     → (receives && not keeps && starts) ≡ false → (starts && not started && (not keeps || outside)) ≡ false → starts ≡ true → (keeps ≡ true) × (clb + 1024 ≤ 1048576)
 started_after started receives false keeps outside clb inside old running bad h = absurd (false≢true h)

@@ -1,4 +1,4 @@
--- One slot more is issued.
+-- One more slot is issued.
 use Rattle.std.proofs.Common.{◌≡◌, ◌≢◌, ℕ, ◌+◌, ◌<◌, ◌≤◌, Bool, true, false, ◌&&◌, List, length, get_or, set, refl, sym, ◌∙◌, ap, subst, inl, inr, arith, Option, Some, None}
 use Rattle.std.specs.Prelude.{if◌then◌else◌, ◌==◌}
 use Rattle.std.proofs.lemmas.Nat.Bits.{bit_at-zero}
@@ -54,11 +54,11 @@ other_issue : (dev slot k : ℕ) (c : Option Command) (own : DeviceSlots) → k 
 other_issue dev slot k None own ne = refl
 other_issue dev slot k (Some command) own ne = get_or-set_other own.issues slot k _ None ne
 
--- a device has nothing in a slot that is free
+-- a device has nothing in a free slot
 nothing_there : (dev slot : ℕ) (t : Slots) → issue_at t slot ≡ None → own_issue (slots_of dev t) slot ≡ None
 nothing_there dev slot t free = own_at dev t slot ∙ ap (owned_by dev) free
 
--- a slot that is issued has a command now, and a slot beside it has what it had
+-- an issued slot has a command now, and every other slot has what it had
 have_at : (dev slot k : ℕ) (c : Option Command) (old new : Slots) (before : List (Option Command)) → slot < length before → slots_of dev new ≡ slots_after dev slot c (slots_of dev old) → LeavesOthers dev old new
     → HaveCommands old before → last_command (with_command slot c before) k ≡ None → issue_at new k ≡ None
 have_at dev slot k None old new before inside own others have none =
@@ -88,14 +88,14 @@ not_busy : (o : Option Issue) → is_some o ≡ false → o ≡ None
 not_busy None h = refl
 not_busy (Some i) h = absurd (true≢false h)
 
--- it was so at first, and no slot before it is this one
+-- it was free at first, and no slot before it is this one
 pub asked_free : (r : Registers) (memory : Memory) (value slot : ℕ) (old now : Slots) → slot < 32 → any_slot value (is_busy old) ≡ false → is_some (asked r memory value slot) ≡ true → LeavesOthers r.chosen old now
     → own_issue (slots_of r.chosen now) slot ≡ own_issue (slots_of r.chosen old) slot → is_busy now slot ≡ false
 asked_free r memory value slot old now below none some others own =
     let free : issue_at old slot ≡ None = not_busy (issue_at old slot) (free_if (has_bit value slot) (is_busy old slot) _ some (none_passes value (is_busy old) slot none below)) in
     ap is_some (stays_free r.chosen slot old now others (own ∙ nothing_there r.chosen slot old free) free)
 
--- nothing is asked for by a write of 0
+-- a write of 0 asks for nothing
 zero_has : (slot : ℕ) → has_bit 0 slot ≡ false
 zero_has slot = ap (λ (b : ℕ). b == 1) (bit_at-zero slot)
 

@@ -7,7 +7,7 @@ use Rattle.fis_view.specs.declared.view.Fis.{Fis}
 use Rattle.rx_area.specs.Area as rx
 use Rattle.hba_fbs.specs.Posting.{Posts, area_at}
 
--- a FIS that was posted to the part of a list that is the area
+-- a FIS is posted to the part of a list that is the area
 pub posts_in : (fb dev k : ℕ) (fis : Fis) (old area : List ℕ) → fb + 4096 ≤ length old → k ≡ 4096 → length area ≡ length (take k (drop fb old))
     → area ≡ rx.after_post (take k (drop fb old)) dev fis → rx.row_of area dev ≡ rx.row_after (rx.row_of (take k (drop fb old)) dev) fis
     → rx.LeavesOthers dev (take k (drop fb old)) area → Posts fb dev fis old (put_mid fb k old area)

@@ -59,12 +59,12 @@ data_sent old dev slot offset len memory structure client due s c there = rw due
     by_command None e = absurd (false≢true e)
     by_command (Some command) e = refl
 
--- what holds holds where a call failed
+-- what holds also holds where a call failed
 pub on_err : {T E P : Type 0} (r : Result T E) → P → OnErr r P
 on_err (Ok x) p = tt
 on_err (Err e) p = p
 
--- the command of a slot that is issued
+-- the command of an issued slot
 pub order_given : (old : Port) (slot dev : ℕ) (o : Option Issue) (command : Command) (memory : Memory) (frame : Stamped) (new : Port) → issue_at old.slots slot ≡ o → MatchOption o ⊥ (λ i. i.dev ≡ dev)
     → last_command old.commands slot ≡ Some command → Sends old dev command.cfis (view_sent (view_of dev old) slot command) frame new → Gives (order_due old slot) old memory (Some frame) new
 order_given old slot dev None command memory frame new is own has sends = absurd own
@@ -90,7 +90,7 @@ order_next port memory slot run none is = rw run (rw none (rw is refl))
 pub rests_idle : (port : Port) (memory : Memory) → is_running port ≡ true → next_receiver port ≡ None → next_to_send port ≡ None → outgoing port memory ≡ Nothing
 rests_idle port memory run none idle = rw run (rw none (rw idle refl))
 
--- a port that runs is not one that an error stopped
+-- a port that runs was not stopped by an error
 not_stopped : (started : Bool) (o : Option PortCause) → (started && is_none o) ≡ true → is_some o ≡ false
 not_stopped started None h = refl
 not_stopped false (Some c) h = cc

@@ -1,4 +1,4 @@
--- Slots that are free stay so, and so each issued one keeps its command.
+-- Free slots stay free, so each issued slot keeps its command.
 use Rattle.std.proofs.Common.{◌≡◌, ℕ, List, get_or, replicate, refl, ◌∙◌, ap, subst, inl, inr, Option, Some, None, arith}
 use Rattle.std.proofs.lemmas.Bool.{cases_eq, cases_lt, eq-eqb}
 use Rattle.std.proofs.lemmas.List.{get_or-replicate, get_or_past}
@@ -7,7 +7,7 @@ use Rattle.slots.specs.Slots.{Issue, Slots, DeviceSlots, LeavesOthers, issue_at,
 use Rattle.hba_commands.specs.declared.command.Command.{Command}
 use Rattle.hba_fbs.specs.Views.{HaveCommands}
 
--- what a list has everywhere it has at each place
+-- a list of equal elements has that element at each place
 none_everywhere : {A : Type 0} (n k : ℕ) (x : A) → get_or (replicate n x) k x ≡ x
 none_everywhere n k x = elim (cases_lt k n) [
   | inl below ↦ get_or-replicate n k x x below
@@ -34,7 +34,8 @@ still_free dev slot old new (Some i) is others own free =
           cc (here, now, gone)
     ]
 
--- a slot that was free is free after a call on a device that leaves the others, where the device has nothing in it
+-- A slot that was free stays free in a call on a device, if the call leaves the other devices and the device
+-- has nothing in it afterwards.
 pub stays_free : (dev slot : ℕ) (old new : Slots) → LeavesOthers dev old new → own_issue (slots_of dev new) slot ≡ None → issue_at old slot ≡ None → issue_at new slot ≡ None
 stays_free dev slot old new others own free = still_free dev slot old new (issue_at new slot) refl others own free
 

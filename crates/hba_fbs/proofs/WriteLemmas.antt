@@ -18,7 +18,7 @@ not_one : (b : Bool) (e : WriteError) (o : Option WriteError) → (if b then Som
 not_one true e o h = cc
 not_one false e o h = refl
 
--- where nothing is refused, no slot is busy
+-- if nothing is refused, no slot is busy
 free_when : (started test : Bool) (busy : Bool) (e : WriteError) (o : Option WriteError) → started ≡ true
     → option_or (if not started && test then Some refusal.Stopped else None) (if started then (if busy then Some e else o) else None) ≡ None → busy ≡ false
 free_when true test busy e o run h = not_one busy e o h
@@ -28,7 +28,7 @@ pub accepted_free : (port : Port) (memory : Memory) (value : ℕ) → port.regis
 unfolding own_refusal slots_refusal
 accepted_free port memory value run h = free_when port.registers.started (not (value == 0)) (any_slot value (is_busy port.slots)) refusal.SlotBusy _ run h
 
--- and while ST is 0 the value is 0
+-- while ST is 0 the value is 0
 zero_when : (started zero : Bool) (o : Option WriteError) → started ≡ false → option_or (if not started && not zero then Some refusal.Stopped else None) o ≡ None → zero ≡ true
 zero_when true zero o run h = absurd (true≢false run)
 zero_when false true o run h = refl
@@ -43,7 +43,7 @@ pick : (b : Bool) (x y z : DeviceView) → (b ≡ true → z ≡ x) → (b ≡ f
 pick true x y z one other = one refl
 pick false x y z one other = other refl
 
--- nothing is issued by a write of 0
+-- a write of 0 issues nothing
 pub idle_views : (port : Port) (memory : Memory) (value : ℕ) → value ≡ 0 → (n : ℕ) → view_of n port ≡ view_after Ci port memory value n
 unfolding view_after
 idle_views port memory value zero n =

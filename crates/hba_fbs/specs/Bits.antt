@@ -3,13 +3,13 @@
 use Rattle.std.specs.Prelude.{ℕ, ◌+◌, ◌-◌, ◌*◌, ◌^◌, Bool, if◌then◌else◌, bit_and}
 use Rattle.port_errors.specs.Interrupts.{ofs, ifs, hbfs, tfes}
 
--- the number whose bit k alone is set, or none
+-- the number with bit k alone set, or 0
 abbrev pub bit : ℕ → Bool → ℕ
 bit k set = if set then 2 ^ k else 0
 
--- the bits of a dword that are not in another
+-- the bits of x that are not in y
 abbrev pub without : ℕ → ℕ → ℕ
-without x y = bit_and x (4294967295 - y)
+without x y = bit_and x (0xFFFFFFFF - y)
 
 -- ---- PxCMD
 
@@ -39,11 +39,11 @@ fbscp = 22
 
 -- ---- PxIS
 
--- Unknown FIS Interrupt, which follows the bit of PxSERR
+-- Unknown FIS Interrupt, which shows DIAG.F of PxSERR
 abbrev pub ufs : ℕ
 ufs = 4
 
--- the bits that are kept in PxIS, and that ones clear: DHRS 0, PSS 1, DSS 2, SDBS 3, and those of faults
+-- the bits that PxIS stores and ones clear: DHRS 0, PSS 1, DSS 2, SDBS 3, and the bits of faults
 abbrev pub interrupts : ℕ
 interrupts = 2 ^ 0 + 2 ^ 1 + 2 ^ 2 + 2 ^ 3 + ofs + ifs + hbfs + tfes
 
@@ -63,7 +63,7 @@ en = 0
 abbrev pub dec : ℕ
 dec = 1
 
--- Active Device Optimization, bits 15:12: any number of devices up to 15 may be active
+-- Active Device Optimization, bits 15:12: any number of devices, up to 15, may be active
 abbrev pub ado : ℕ
 ado = 15 * 2 ^ 12
 

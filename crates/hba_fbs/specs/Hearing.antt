@@ -1,7 +1,6 @@
--- What a FIS is to the device that sent it: AHCI 1.3.1, 5.3.13 (how a port takes each type of FIS) and
--- chapter 9 (FIS-based Switching); Serial ATA 3.x, 10.5 (FIS types). Here it is decided, from the FIS and the
--- device's own part, which happening of its slots a FIS is and what is wrong with it; the slots then move by
--- the happening.
+-- What a FIS means for the device that sent it: AHCI 1.3.1, 5.3.13 (how a port takes each type of FIS) and
+-- chapter 9 (FIS-based Switching); Serial ATA 3.x, 10.5 (FIS types). The FIS and the device's own slots
+-- decide what is wrong with the FIS, and which happening it is; the happening says how the slots change.
 use Rattle.std.specs.Prelude.{ℕ, ◌-◌, ◌%◌, ◌^◌, ◌==◌, Bool, true, false, not, nat_lt, nat_le, if◌then◌else◌}
 use Rattle.std.specs.Prelude.{List, length, Option, Some, None}
 use Rattle.fis_view.specs.Table as table
@@ -35,11 +34,11 @@ use Rattle.hba_fbs.specs.Status.{with_status}
 
 -- ---- happenings
 
--- the device's own part after the end of a block, where that says that a PIO data-in may be done
+-- the device's slots at the end of a block; finishes says that by its Status a PIO data-in may be done
 abbrev pub block_ended : Bool → DeviceSlots → DeviceSlots
 block_ended finishes own = if finishes then after_pio_done own else own
 
--- the device's own part after a happening
+-- the device's slots after a happening
 abbrev pub moved : Happening → DeviceSlots → DeviceSlots
 moved happening.Nothing own = own
 moved (happening.Answered a) own = answered_as a own
@@ -49,11 +48,11 @@ moved (happening.PioSetUp count to_host) own = after_setup_pio own count to_host
 moved happening.Activated own = after_activate own
 moved (happening.Carried wrote finishes) own = block_ended finishes (after_arrive own wrote.len)
 
--- nothing is wrong with it, and no slot becomes free
+-- nothing is wrong with the FIS, and no slot becomes free
 abbrev pub quietly : DeviceState → Happening → Heard
 quietly state h = record { state = state; happening = h; fault = None; done = 0; pss = false }
 
--- this is wrong with it, and no slot changes
+-- this is wrong with the FIS, and no slot changes
 abbrev pub faulty : DeviceState → DeviceCause → Heard
 faulty state c = record {
   state = state;
@@ -65,14 +64,14 @@ faulty state c = record {
 
 -- ---- Register Device to Host
 
--- the slot that the answer is done with, as a mask
+-- the slot whose command is done with this answer, as a mask
 abbrev pub done_by : Answered → ℕ
 done_by answer.Nobody = 0
 done_by (answer.Queued slot) = 0
 done_by (answer.Done slot) = 2 ^ slot
 done_by (answer.Short slot) = 0
 
--- it is an answer while bytes are missing
+-- an answer while bytes are missing is a fault
 abbrev pub answer_fault : Answered → Option Fault
 answer_fault answer.Nobody = None
 answer_fault (answer.Queued slot) = None
@@ -88,7 +87,7 @@ answered a state = record {
   pss = false;
 }
 
--- with ERR it is an error of the task file; without BSY it answers the command that waits
+-- with ERR it is a task file error; with neither ERR nor BSY it answers the command that waits
 abbrev pub heard_d2h : DeviceSlots → DeviceState → ℕ → ℕ → Heard
 heard_d2h own state status error =
     if is_error status then faulty (with_file state status error) cause.TaskFile
@@ -97,7 +96,7 @@ heard_d2h own state status error =
 
 -- ---- Set Device Bits
 
--- a slot is named of which bytes are missing
+-- naming a slot while bytes are missing is a fault
 abbrev pub short_fault : Completed → Option Fault
 short_fault c = if c.short == 0 then None else Some (fault.Device cause.Short)
 
@@ -110,7 +109,7 @@ named c state mask = record {
   pss = false;
 }
 
--- with ERR it is an error of the task file, and no slot is named
+-- with ERR it is a task file error, and no slot is named
 abbrev pub heard_bits : DeviceSlots → DeviceState → ℕ → ℕ → ℕ → Heard
 heard_bits own state status error mask =
     if is_error status then faulty (with_bits state status error) cause.TaskFile
@@ -118,7 +117,7 @@ heard_bits own state status error mask =
 
 -- ---- DMA Setup and PIO Setup
 
--- the cause of a setup that is refused
+-- the cause that a refused setup gives
 abbrev pub cause_of_setup : SetupError → DeviceCause
 cause_of_setup refused.NotOutstanding = cause.BadTag
 cause_of_setup refused.WrongWay = cause.WrongWay
@@ -127,7 +126,7 @@ cause_of_setup refused.Twice = cause.Twice
 cause_of_setup refused.Fragments = cause.Fragments
 cause_of_setup refused.BadCount = cause.BadFis
 
--- an accepted setup begins a block, or none; a refused one leaves the last setup
+-- an accepted setup begins this block, or none; a refused one leaves the last setup as it is
 abbrev pub set_up : Option SetupError → DeviceState → Option Block → Happening → Heard
 set_up None state block h = quietly (with_block state block) h
 set_up (Some e) state block h = faulty state (cause_of_setup e)
@@ -137,7 +136,7 @@ heard_setup own state tag offset count to_host auto =
     set_up (setup_fault (own_issue own tag) offset count to_host) state None
     (happening.SetUp (dma_context tag offset count to_host auto))
 
--- with ERR it is an error of the task file
+-- with ERR it is a task file error
 abbrev pub heard_pio : DeviceSlots → DeviceState → ℕ → ℕ → ℕ → Bool → Block → Heard
 heard_pio own state status error count to_host block =
     if is_error status then faulty (with_file state status error) cause.TaskFile
@@ -151,7 +150,7 @@ abbrev pub asks : Option Block → Bool
 asks None = false
 asks (Some block) = block.interrupts
 
--- the PRD table of the slot is none: the host's bus fails
+-- the PRD table of the slot cannot be used: a host bus error
 abbrev pub bus_failed : DeviceState → Heard
 bus_failed state = record {
   state = state;
@@ -161,7 +160,7 @@ bus_failed state = record {
   pss = asks state.block;
 }
 
--- there are more bytes than are left of the setup
+-- there are more bytes than the setup has left
 abbrev pub overflowed : DeviceState → Heard
 overflowed state = record {
   state = state;
@@ -178,8 +177,8 @@ mask_of_slot (Some slot) = 2 ^ slot
 abbrev pub ended_fault : ℕ → Option Fault
 ended_fault status = if is_error status then Some (fault.Device cause.TaskFile) else None
 
--- Bytes that end the block of a PIO Setup: Status becomes E_Status, with ERR an error of the task file; with
--- BSY, DRQ and ERR 0 the PIO data-in is done, where own, its part with these bytes, is whole.
+-- Bytes that end the block of a PIO Setup. Status becomes E_Status; with ERR that is a task file error. With
+-- BSY, DRQ and ERR 0 the PIO data-in is done if it is whole. own are the device's slots with these bytes.
 abbrev pub ended : DeviceSlots → DeviceState → Wrote → Block → Heard
 ended own state wrote block = record {
   state = with_status state block.ends;
@@ -192,13 +191,13 @@ ended own state wrote block = record {
 abbrev pub carried : DeviceState → Wrote → Heard
 carried state wrote = quietly state (happening.Carried wrote false)
 
--- bytes that went over, and whether they are the last of their setup
+-- bytes that were transferred; last says that they are the last of their setup
 abbrev pub heard_bytes : DeviceSlots → DeviceState → Wrote → Option Block → Bool → Heard
 heard_bytes own state wrote None last = carried state wrote
 heard_bytes own state wrote (Some block) last =
     if last then ended own state wrote block else carried state wrote
 
--- so many bytes, where the device's last setup is this
+-- count bytes, for a device whose last setup is c
 abbrev pub heard_data_of : DeviceSlots → DeviceState → (sound : Bool) → ℕ → Context → Heard
 heard_data_of own state sound count c =
     if not c.to_host then faulty state cause.Stray
@@ -219,8 +218,8 @@ heard_activate own state =
 
 -- ---- all of them
 
--- The control port sends Register and Set Device Bits FISes alone, and no device one that is for devices. A
--- FIS of an unknown type has to fit its place in the received area.
+-- Of the known types, the control port sends only Register Device to Host and Set Device Bits FISes. No
+-- device sends a FIS that goes to devices. A FIS of an unknown type must fit its place in the received area.
 abbrev pub is_admitted : ℕ → Fis → Bool
 is_admitted dev (view.RegH2D f) = false
 is_admitted dev (view.RegD2H f) = true
@@ -231,7 +230,7 @@ is_admitted dev (view.PioSetup f) = not (dev == 15)
 is_admitted dev (view.Payload f) = not (dev == 15)
 is_admitted dev (view.Unknown f) = nat_le (length f) 64
 
--- what is wrong with one that may not be sent: that of the control port stops the port
+-- what is wrong with a FIS that may not come from this PM Port; if that is the control port, the port stops
 abbrev pub bad_fault : ℕ → Fault
 bad_fault dev = if dev == 15 then fault.Port port_cause.BadControl else fault.Device cause.BadFis
 
@@ -257,8 +256,8 @@ heard_register own state status error =
     if state.resetting then quietly (after_reset state status error) happening.Nothing
     else heard_d2h own state status error
 
--- what a FIS is to the device that sent it, where it may send it and is heard; sound says whether the PRD
--- table of the slot for which the device sends Data can be used
+-- What a FIS that is heard and may come from its PM Port means for the device that sent it. sound says
+-- whether the PRD table can be used, for the slot for which the device sends Data.
 unfoldable pub heard_fis : DeviceSlots → DeviceState → (sound : Bool) → Fis → Heard
 heard_fis own state sound (view.RegH2D f) = quietly state happening.Nothing
 heard_fis own state sound (view.RegD2H f) =

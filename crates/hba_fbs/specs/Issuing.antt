@@ -12,43 +12,43 @@ use Rattle.hba_commands.specs.declared.command.Command.{Command}
 use Rattle.hba_fbs.specs.declared.registers.Registers.{Registers}
 use Rattle.hba_fbs.specs.Views.{DeviceView, last_command}
 
--- a slot whose bit is set passes the test
+-- some slot whose bit is set passes the test
 abbrev pub any_slot : ℕ → (ℕ → Bool) → Bool
 any_slot value test = is_some (lowest (λ slot. has_bit value slot && test slot))
 
--- something is issued in it
+-- a command is issued in the slot
 abbrev pub is_busy : Slots → ℕ → Bool
 is_busy slots slot = is_some (issue_at slots slot)
 
--- the header in it names another device than PxFBS.DEV
+-- its header names a device other than PxFBS.DEV
 abbrev pub is_foreign : Registers → List ℕ → ℕ → Bool
 is_foreign r structure slot = not ((header_at structure r.clb slot).pmp == r.chosen)
 
--- its header or its table is bad
+-- its header or its command table is bad
 abbrev pub is_bad : Registers → Memory → ℕ → Bool
 is_bad r memory slot = is_none (command_at memory r.clb slot (has_bit r.armed slot))
 
--- the command to be issued in a slot: what stands there, where the slot's bit is set
+-- the command to issue in a slot, if the slot's bit is set: the one that memory has there now
 abbrev pub asked : Registers → Memory → ℕ → ℕ → Option Command
 asked r memory value slot =
     if has_bit value slot then command_at memory r.clb slot (has_bit r.armed slot) else None
 
--- what is issued in a slot once this command is, if there is one
+-- what is issued in a slot after this command, if there is one
 abbrev pub issue_with : ℕ → Option Command → Option Issue → Option Issue
 issue_with dev None old = old
 issue_with dev (Some command) old = Some (new_issue dev command.work)
 
--- the device's slots, once this command is issued in one of them, if there is one
+-- the device's slots after this command, if there is one, is issued in one of them
 abbrev pub slots_after : ℕ → ℕ → Option Command → DeviceSlots → DeviceSlots
 slots_after dev slot None own = own
 slots_after dev slot (Some command) own = after_issue own slot dev command.work
 
--- and the commands by slot
+-- the commands by slot, with this one
 abbrev pub with_command : ℕ → Option Command → List (Option Command) → List (Option Command)
 with_command slot None commands = commands
 with_command slot (Some command) commands = slice_set commands slot (Some command)
 
--- the issues of a device with these commands, each in its slot, and its slots with them
+-- the issues of a device with these commands, each in its slot
 unfoldable pub issues_with : ℕ → (ℕ → Option Command) → List (Option Issue) → List (Option Issue)
 issues_with dev commands issues = map (λ slot. issue_with dev (commands slot)
     (slice_index_or issues slot None)) (range_with_len 0 (length issues))
@@ -56,7 +56,7 @@ issues_with dev commands issues = map (λ slot. issue_with dev (commands slot)
 abbrev pub issued_slots : ℕ → (ℕ → Option Command) → DeviceSlots → DeviceSlots
 issued_slots dev commands own = record own { issues = issues_with dev commands own.issues }
 
--- the last commands of the slots with these
+-- the last commands of the slots, with these
 unfoldable pub commands_with : (ℕ → Option Command) → List (Option Command) → List (Option Command)
 commands_with commands old =
     map (λ slot. option_or (commands slot) (last_command old slot)) (range_with_len 0 (length old))
@@ -66,7 +66,7 @@ commands_with commands old =
 abbrev pub slots_issued : Registers → Memory → ℕ → DeviceSlots → DeviceSlots
 slots_issued r memory value own = issued_slots r.chosen (asked r memory value) own
 
--- of that device's view only the slots change
+-- only the slots of that device's view change
 abbrev pub view_issued : Registers → Memory → ℕ → DeviceView → DeviceView
 view_issued r memory value view = record view { slots = slots_issued r memory value view.slots }
 

@@ -1,4 +1,4 @@
--- Where the registers of a port stand: AHCI 1.3.1, section 3.3, Port Registers.
+-- The offsets of a port's registers: AHCI 1.3.1, section 3.3, Port Registers.
 use Rattle.std.specs.Prelude.{ℕ, ◌==◌, if◌then◌else◌, Option, Some, None}
 use Rattle.hba_fbs.specs.declared.register.Register.{Register}
 use Rattle.hba_fbs.specs.declared.register.Register.TheVariants.{Clb, Clbu, Fb, Fbu, Is, Ie, Cmd, Tfd, Sig}

@@ -1,5 +1,5 @@
--- Posting (AHCI 1.3.1, 4.2.1, Received FIS Structure) and what a FIS that is posted sets in the port's
--- registers (3.3.5 PxIS, 3.3.9 PxSIG, 3.3.12 PxSERR, 3.3.15 PxSNTF).
+-- Posting (AHCI 1.3.1, 4.2.1, Received FIS Structure), and what a posted FIS sets in the port's registers
+-- (3.3.5 PxIS, 3.3.9 PxSIG, 3.3.12 PxSERR, 3.3.15 PxSNTF).
 use Rattle.std.specs.Prelude.{ℕ, ◌≡◌, ◌+◌, ◌*◌, ◌%◌, ◌^◌, ◌==◌, ◌&&◌, Bool, true, false, if◌then◌else◌}
 use Rattle.std.specs.Prelude.{bit_or, List, take, drop, Result, Ok}
 use Rattle.fis_view.specs.Table as table
@@ -16,24 +16,24 @@ use Rattle.hba_fbs.specs.Status.{is_quiet}
 
 -- the 4 KiB from PxFB on
 abbrev pub area_at : List ℕ → ℕ → List ℕ
-area_at structure fb = take 4096 (drop fb structure)
+area_at structure fb = take 0x1000 (drop fb structure)
 
--- a FIS of a device is posted to the received area: in its own row to its place alone, and no other byte
--- changes
+-- A FIS of a device is posted to its place in the device's own row of the received area. No other byte
+-- changes.
 pub record Posts (fb dev : ℕ) (fis : Fis) (old new : List ℕ) : Type 0 where
   pub area : area_at new fb ≡ rx.after_post (area_at old fb) dev fis
   pub own : rx.row_of (area_at new fb) dev ≡ rx.row_after (rx.row_of (area_at old fb) dev) fis
   pub others : rx.LeavesOthers dev (area_at old fb) (area_at new fb)
   pub before : take fb new ≡ take fb old
-  pub behind : drop (fb + 4096) new ≡ drop (fb + 4096) old
+  pub behind : drop (fb + 0x1000) new ≡ drop (fb + 0x1000) old
 
 -- ---- signatures
 
--- PxSIG: Count 7:0, LBA 7:0, LBA 15:8 and LBA 23:16, the first lowest
+-- PxSIG, lowest byte first: Count 7:0, LBA 7:0, LBA 15:8 and LBA 23:16
 abbrev pub signature_of : List ℕ → ℕ
 signature_of f = field table.D2h table.Lba f % 2 ^ 24 * 256 + field table.D2h table.Count f % 256
 
--- Error 01h; BSY, DRQ and ERR 0; Count 7:0 and LBA 7:0 01h
+-- Error is 01h, BSY, DRQ and ERR are 0, Count 7:0 and LBA 7:0 are 01h
 abbrev pub is_signature : List ℕ → Bool
 is_signature f =
     (field table.D2h table.Error f == 1) && is_quiet (field table.D2h table.Status f)
@@ -60,8 +60,8 @@ dss = 2
 abbrev pub sdbs : ℕ
 sdbs = 3
 
--- what a FIS sets as it is posted: I its bit of PxIS; a signature that ends a software reset PxSIG; N the
--- device's bit of PxSNTF; an unknown type bit F of PxSERR
+-- What a FIS sets as it is posted: I sets the bit of its type in PxIS, a signature that ends a software reset
+-- sets PxSIG, N sets the device's bit in PxSNTF, and an unknown type sets DIAG.F in PxSERR.
 unfoldable pub posted : Registers → ℕ → (resetting : Bool) → Fis → Registers
 posted r dev resetting (view.RegD2H f) = record r {
   interrupts = bit_or r.interrupts (bit dhrs (field table.D2h table.I f == 1));

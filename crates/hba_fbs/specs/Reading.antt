@@ -17,9 +17,9 @@ use Rattle.hba_fbs.specs.Views.{Port, state_at, task_file}
 abbrev pub fbs_errors : FbsBits → ℕ
 fbs_errors bits = bit sde bits.sde + dwe_unit * bits.dwe
 
--- the value of a register: PxIS shows in UFS what PxSERR has in F; PxTFD is that of the device that PxFBS.DEV
--- names; PxSACT shows the slots that are armed and the queued ones that are issued; PxCI those that are
--- issued and not answered
+-- The value of a register. PxIS.UFS shows DIAG.F of PxSERR. PxTFD is that of the device in PxFBS.DEV. PxSACT
+-- shows the slots that are armed and those in which a queued command is issued. PxCI shows the slots that are
+-- issued and not answered.
 unfoldable pub value_of : Register → Port → ℕ
 value_of Clb port = port.registers.clb
 value_of Clbu port = port.registers.clbu
@@ -39,7 +39,7 @@ value_of Fbs port = fbs_of port.registers + fbs_errors (shown port.errors.report
 abbrev no_register : NoRegister
 no_register = record {}
 
--- and at an offset, if a register stands there
+-- the value of the register at an offset, if there is one
 abbrev pub read_at : Port → ℕ → Result ℕ NoRegister
 read_at port offset =
     match_some (register_at offset) (Err no_register) (λ register. Ok (value_of register port))

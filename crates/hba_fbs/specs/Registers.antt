@@ -1,5 +1,5 @@
--- The port's own registers: AHCI 1.3.1, section 3.3, Port Registers. When a write is refused that looks at
--- them alone, and what an accepted one leaves of them.
+-- The port's own registers: AHCI 1.3.1, section 3.3, Port Registers. Here is when a write is refused because
+-- of them alone, and what an accepted write leaves in them.
 use Rattle.std.specs.Prelude.{ℕ, ◌≡◌, ◌+◌, ◌*◌, ◌-◌, ◌^◌, ◌/◌, ◌%◌, ◌<◌, ◌≤◌, ◌==◌, ◌&&◌, ◌||◌, Bool, true}
 use Rattle.std.specs.Prelude.{false, not, nat_lt, if◌then◌else◌, bit_or, bit_and, Option, Some, None}
 use Rattle.std.specs.Bool.{beq}
@@ -13,7 +13,7 @@ use Rattle.hba_fbs.specs.declared.registers.Registers.{Registers}
 use Rattle.hba_fbs.specs.Bits.{bit, without, st, fre, fr, cr, pma, fbscp, interrupts, unknown_fis, en, ado}
 use Rattle.hba_fbs.specs.Bits.{dev_unit}
 
--- as they open: no signature has come, and all else is 0
+-- the registers of a new port: no signature has come, and all else is 0
 abbrev pub opening_registers : Registers
 opening_registers = record {
   clb = 0;
@@ -25,7 +25,7 @@ opening_registers = record {
   started = false;
   receives = false;
   multiplied = false;
-  signature = 4294967295;
+  signature = 0xFFFFFFFF;
   unknown = false;
   armed = 0;
   notified = 0;
@@ -33,14 +33,14 @@ opening_registers = record {
   chosen = 0;
 }
 
--- What is true of the registers of every port: PxFBS.DEV has four bits, and an area that is in use lies in
--- the structure area, which ends at 100000h.
+-- What holds for the registers of every port: PxFBS.DEV has four bits, and an area in use lies in the
+-- structure area, which ends at 100000h.
 pub record AreRegisters (r : Registers) : Type 0 where
   pub chosen : r.chosen < 16
-  -- the command list, while ST is 1, and FRE is 1 then
-  pub started : r.started ≡ true → (r.receives ≡ true) × (r.clb + 1024 ≤ 0x100000)
-  -- the received area, while FRE is 1
-  pub receives : r.receives ≡ true → r.fb + 4096 ≤ 0x100000
+  -- the command list is in use while ST is 1, and FRE is 1 then
+  pub started : r.started ≡ true → (r.receives ≡ true) × (r.clb + 0x400 ≤ 0x100000)
+  -- the received area is in use while FRE is 1
+  pub receives : r.receives ≡ true → r.fb + 0x1000 ≤ 0x100000
 
 -- ---- what they show
 
@@ -49,7 +49,7 @@ abbrev pub cmd_of : Registers → ℕ
 cmd_of r = bit st r.started + bit fre r.receives + bit fr r.receives + bit cr r.started + bit pma r.multiplied
     + 2 ^ fbscp
 
--- PxFBS but for the bits of errors; DEC reads 0
+-- PxFBS without SDE and DWE; DEC reads 0
 abbrev pub fbs_of : Registers → ℕ
 fbs_of r = bit en r.switching + dev_unit * r.chosen + ado
 
@@ -57,13 +57,13 @@ fbs_of r = bit en r.switching + dev_unit * r.chosen + ado
 
 -- the received area does not lie in the structure area
 abbrev pub is_area_outside : Registers → Bool
-is_area_outside r = not (r.fbu == 0) || nat_lt 0x100000 (r.fb + 4096)
+is_area_outside r = not (r.fbu == 0) || nat_lt 0x100000 (r.fb + 0x1000)
 
--- nor does the command list
+-- the command list does not lie in the structure area
 abbrev pub is_list_outside : Registers → Bool
-is_list_outside r = not (r.clbu == 0) || nat_lt 0x100000 (r.clb + 1024)
+is_list_outside r = not (r.clbu == 0) || nat_lt 0x100000 (r.clb + 0x400)
 
--- a write of PxCMD with these bits ST and FRE
+-- why a write of PxCMD with these bits ST and FRE is refused
 unfoldable pub cmd_refusal : Registers → (starts receives : Bool) → Option WriteError
 cmd_refusal r starts receives =
     if r.receives && not receives && starts then Some refusal.Running
@@ -79,7 +79,7 @@ running_if b = if b then Some refusal.Running else None
 abbrev pub stopped_if_ones : Registers → ℕ → Option WriteError
 stopped_if_ones r value = if not r.started && not (value == 0) then Some refusal.Stopped else None
 
--- the first refusal that looks at these registers alone
+-- the first refusal because of these registers alone
 unfoldable pub own_refusal : Register → Registers → ℕ → Option WriteError
 own_refusal Clb r value = running_if r.started
 own_refusal Clbu r value = running_if r.started
@@ -102,12 +102,11 @@ own_refusal Fbs r value = running_if (r.started && not (beq (has_bit value en) r
 abbrev pub falls : Registers → ℕ → Bool
 falls r value = r.started && not (has_bit value st)
 
--- A write of PxCI takes the bits in PxSACT over to the slots that it issues. DEC is no bit of PxFBS that is
--- kept.
+-- A write of PxCI takes the bits of the slots that it issues out of the armed ones. PxFBS.DEC is not stored.
 unfoldable pub written : Register → Registers → ℕ → Registers
-written Clb r value = record r { clb = value / 1024 * 1024 }
+written Clb r value = record r { clb = value / 0x400 * 0x400 }
 written Clbu r value = record r { clbu = value }
-written Fb r value = record r { fb = value / 4096 * 4096 }
+written Fb r value = record r { fb = value / 0x1000 * 0x1000 }
 written Fbu r value = record r { fbu = value }
 written Is r value = record r { interrupts = without r.interrupts (bit_and value interrupts) }
 written Ie r value = record r { enabled = value }
@@ -122,5 +121,5 @@ written Sig r value = r
 written Serr r value = record r { unknown = r.unknown && not (has_bit value unknown_fis) }
 written Sact r value = record r { armed = bit_or r.armed value }
 written Ci r value = record r { armed = without r.armed value }
-written Sntf r value = record r { notified = bit_and r.notified (65535 - value % 65536) }
+written Sntf r value = record r { notified = bit_and r.notified (0xFFFF - value % 0x10000) }
 written Fbs r value = record r { switching = has_bit value en; chosen = value / dev_unit % 16 }

@@ -1,6 +1,5 @@
--- What goes out of a host port next: AHCI 1.3.1, 5.3 (the port's states, from sending a command to sending
--- its data) and chapter 9 (FIS-based Switching); Serial ATA 3.x, 10.5 (Register Host to Device and Data
--- FISes).
+-- What a host port sends next: AHCI 1.3.1, 5.3 (the port's states, from sending a command to sending its
+-- data) and chapter 9 (FIS-based Switching); Serial ATA 3.x, 10.5 (Register Host to Device and Data FISes).
 use Rattle.std.specs.Prelude.{ℕ, ◌≡◌, ◌+◌, ◌-◌, min, ◌&&◌, ◌||◌, Bool, true, false, not, is_none, is_some}
 use Rattle.std.specs.Prelude.{if◌then◌else◌, bit_or, List, ◌∷◌, map, replicate, slice_index, Option, Some}
 use Rattle.std.specs.Prelude.{None, MatchOption}
@@ -26,15 +25,15 @@ use Rattle.hba_fbs.specs.Views.{DeviceView, LeavesOtherViews, Port, last_command
 
 -- ---- data
 
--- a device that is not faulty asked for data of its setup
+-- data is due to a device that asked for data of its setup and is not faulty
 abbrev pub is_due : Slots → Errors → ℕ → Bool
 is_due slots errors dev = is_some (payload (context_of slots dev)) && is_none (cause_of errors dev)
 
--- the lowest of them is served first
+-- the lowest of these devices is served first
 unfoldable pub next_receiver : Port → Option ℕ
 next_receiver port = lowest_below (is_due port.slots port.errors) 16
 
--- the bytes of a transfer from one on, each as it stands at its place
+-- len bytes of a transfer from offset on, as they are at their places
 abbrev pub gathered : List Prd → ℕ → ℕ → List ℕ → List ℕ
 gathered prds offset len client =
     map (λ k. slice_index client (place prds (offset + k) - client_start)) (range_with_len 0 len)
@@ -43,13 +42,13 @@ gathered prds offset len client =
 abbrev pub data_fis : ℕ → List ℕ → List ℕ
 data_fis dev bytes = 0x46 ∷ dev ∷ 0 ∷ 0 ∷ bytes
 
--- the view of the device to which its data went
+-- the view of a device after its data went out
 abbrev pub view_fed : DeviceView → DeviceView
 view_fed view = record view { slots = after_payload view.slots }
 
 -- ---- commands
 
--- a device takes commands while it is in no software reset and BSY and DRQ are 0
+-- a device takes commands while BSY and DRQ are 0 and it is not in software reset
 abbrev pub is_ready : DeviceState → Bool
 is_ready state = not (state.resetting || is_busy state.status || wants_data state.status)
 
@@ -67,13 +66,13 @@ next_to_send port = next_slot (ready_devices port) (faulty_devices port) port.sl
 abbrev pub resets : List ℕ → Bool
 resets cfis = has_bit (slice_index cfis 15) 2
 
--- a command makes its device busy, and a Control with SRST set begins its software reset
+-- a command makes its device busy; a control frame with SRST set begins a software reset
 abbrev pub state_sent : DeviceState → Command → DeviceState
 state_sent state command =
     if is_control command.work.kind then record state { resetting = state.resetting || resets command.cfis }
-    else record state { status = bit_or state.status 128 }
+    else record state { status = bit_or state.status 0x80 }
 
--- the view of the device to which the command of its slot went
+-- the view of a device after the command of its slot went out
 abbrev pub view_sent : DeviceView → ℕ → Command → DeviceView
 view_sent view slot command =
     record view { slots = after_sent view.slots slot; state = state_sent view.state command }
@@ -83,28 +82,28 @@ view_sent view slot command =
 pub data Outgoing : Type 0 where
   -- nothing may go
   Nothing : Outgoing
-  -- data is due to a device, and the PRD table of its slot can not be used
+  -- data is due to a device, and the PRD table of its slot cannot be used
   Unreadable : (dev : ℕ) → Outgoing
-  -- so many bytes of a command's transfer, from one on, to a device
+  -- len bytes of a command's transfer, from offset on, to a device
   Data : (dev offset len : ℕ) → Command → Outgoing
-  -- the command of a slot of a device
+  -- the command of a device's slot
   Order : (dev slot : ℕ) → Command → Outgoing
 
 abbrev pub data_with : ℕ → ℕ → ℕ → Option Command → Outgoing
 data_with dev offset len None = Unreadable dev
 data_with dev offset len (Some command) = Data dev offset len command
 
--- the data that is due to a device, by the PRD table of its slot as it stands now
+-- the data that is due to a device, by the PRD table of its slot as it is now
 abbrev pub data_due : Port → Memory → ℕ → Outgoing
 data_due port memory dev = match_some (payload (context_of port.slots dev)) Nothing (λ next.
     data_with dev next.1 next.2 (sound_command memory port.commands (view_of dev port).slots next.0))
 
--- the command of a slot, as it stood at its issue
+-- the command of a slot, as it was at its issue
 abbrev pub order_due : Port → ℕ → Outgoing
 order_due port slot = match_some (issue_at port.slots slot) Nothing (λ issue.
     match_some (last_command port.commands slot) Nothing (Order issue.dev slot))
 
--- Data of the lowest device that asked for it, and else the command of the lowest slot that may be sent
+-- Data for the lowest device that asked for it, or else the command of the lowest slot that may be sent
 abbrev pub outgoing : Port → Memory → Outgoing
 outgoing port memory =
     if not (is_running port) then Nothing
@@ -118,25 +117,25 @@ is_sent (Unreadable dev) = false
 is_sent (Data dev offset len command) = true
 is_sent (Order dev slot command) = true
 
--- nothing may go: the port does not run, or no device waits for data and no slot may be sent
+-- nothing may go: the port does not run, or no data is due to a device and no slot may be sent
 abbrev pub MayRest : Port → Type 0
 MayRest port = is_running port ≡ true → (next_receiver port ≡ None) × (next_to_send port ≡ None)
 
 -- ---- what it leaves
 
--- the largest running number; one that reached it stays
+-- the largest running number, which stays once it is reached
 abbrev pub largest : ℕ
-largest = 4294967295
+largest = 0xFFFFFFFF
 
 abbrev pub counted : ℕ → ℕ
 counted n = min (n + 1) largest
 
--- beside a frame of the host: its PM Port, and its running number
+-- the stamp beside a frame of the host: its PM Port and its running number
 abbrev pub host_stamp : ℕ → ℕ → Stamp
 host_stamp dev number = record { port = dev; conn = 0; number = number; shown = replicate 15 0 }
 
--- These bytes go out to a device, of which this is the view afterwards. Of all the rest the running number
--- alone changes.
+-- These bytes go out to a device, whose view is then this one. Of all the rest only the running number
+-- changes.
 pub record Sends (old : Port) (dev : ℕ) (bytes : List ℕ) (view : DeviceView) (frame : Stamped)
     (new : Port) : Type 0 where
   pub frame_is : frame ≡ record { bytes = bytes; stamp = host_stamp dev old.number }
@@ -147,7 +146,7 @@ pub record Sends (old : Port) (dev : ℕ) (bytes : List ℕ) (view : DeviceView)
   pub commands : new.commands ≡ old.commands
   pub number : new.number ≡ counted old.number
 
--- the host's bus failed: that stops the port, and sets its bits of PxIS
+-- a host bus error stops the port and sets its bits of PxIS
 abbrev pub stopped_by_bus : Port → Port
 stopped_by_bus old = record old {
   registers = record old.registers { interrupts = bit_or old.registers.interrupts (port_interrupts Bus) };

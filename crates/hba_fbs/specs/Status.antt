@@ -1,4 +1,4 @@
--- The Status of a device (ACS-3, 6.2, Status field), and what FISes tell of its task file (Serial ATA 3.x,
+-- The Status of a device (ACS-3, 6.2, Status field), and what FISes say about its task file (Serial ATA 3.x,
 -- 10.5).
 use Rattle.std.specs.Prelude.{ℕ, ◌&&◌, Bool, false, not, bit_and, bit_or, Option}
 use Rattle.slots.specs.Slots.{has_bit}
@@ -21,23 +21,23 @@ is_busy status = has_bit status 7
 abbrev pub is_quiet : ℕ → Bool
 is_quiet status = not (is_busy status) && not (wants_data status) && not (is_error status)
 
--- a FIS tells Status and Error
+-- a FIS brings Status and Error
 abbrev pub with_file : DeviceState → ℕ → ℕ → DeviceState
 with_file state status error = record state { status = status; error = error }
 
--- a Set Device Bits FIS tells Error and of Status bits 6:4 and 2:0; BSY and DRQ, which are 88h together, stay
+-- a Set Device Bits FIS brings Error and bits 6:4 and 2:0 of Status; BSY and DRQ, together 88h, stay
 abbrev pub with_bits : DeviceState → ℕ → ℕ → DeviceState
 with_bits state status error =
     record state { status = bit_or (bit_and state.status 0x88) status; error = error }
 
--- a signature tells Status and Error, and ends the software reset
+-- a signature brings Status and Error and ends the software reset
 abbrev pub after_reset : DeviceState → ℕ → ℕ → DeviceState
 after_reset state status error = record state { status = status; error = error; resetting = false }
 
--- a setup begins a block, or none
+-- a setup begins this block, or none
 abbrev pub with_block : DeviceState → Option Block → DeviceState
 with_block state block = record state { block = block }
 
--- the end of a block tells Status
+-- the end of a block brings Status
 abbrev pub with_status : DeviceState → ℕ → DeviceState
 with_status state status = record state { status = status }

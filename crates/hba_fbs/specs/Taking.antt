@@ -1,4 +1,4 @@
--- A FIS is taken: AHCI 1.3.1, 5.3.13 and 9.3 (FIS-based Switching: errors of one device and of the port).
+-- Taking a FIS: AHCI 1.3.1, 5.3.13 and 9.3 (FIS-based Switching: errors of one device and of the port).
 use Rattle.std.specs.Prelude.{ℕ, ◌≡◌, ◌%◌, ◌&&◌, ◌||◌, Bool, true, false, not, if◌then◌else◌, bit_or, List}
 use Rattle.std.specs.Prelude.{drop, slice_index, Option, Some, None, is_none, is_some, Result, Ok, Err}
 use Rattle.fis_view.specs.Seen.{seen}
@@ -33,25 +33,25 @@ use Rattle.hba_fbs.specs.Views.{DeviceView, LeavesOtherViews, Port, view_of}
 abbrev pub port_of : List ℕ → ℕ
 port_of frame = slice_index frame 1 % 16
 
--- ST is 1, and no fault of the port stands
+-- ST is 1, and no error has stopped the port
 abbrev pub is_running : Port → Bool
 is_running port = port.registers.started && is_none port.errors.port
 
--- A FIS is ignored while the port does not run, while its device is faulty, and while its device is in
--- software reset but for a signature.
+-- A FIS is ignored while the port does not run, and while its device is faulty. While its device is in
+-- software reset, each FIS other than a signature is ignored.
 abbrev pub is_ignored : (running : Bool) → DeviceView → Result Fis FisFault → Bool
 is_ignored running view fis = not running || is_some view.fault || (view.state.resetting && not (signs fis))
 
--- so it is with a frame from this PM Port, as the port stands
+-- a frame from this PM Port is ignored, with the port as it is now
 abbrev pub ignores : ℕ → Port → List ℕ → Bool
 ignores dev port frame = is_ignored (is_running port) (view_of dev port) (seen frame)
 
--- the FIS, where it has a right length and may be sent from this PM Port
+-- the FIS, if its length is right and it may come from this PM Port
 abbrev pub admitted : ℕ → Result Fis FisFault → Option Fis
 admitted dev (Err e) = None
 admitted dev (Ok fis) = if is_admitted dev fis then Some fis else None
 
--- ---- what it is to its device
+-- ---- what it means for its device
 
 abbrev pub heard : ℕ → DeviceView → (sound : Bool) → Option Fis → Heard
 heard dev view sound None = heard_bad dev view.state
@@ -67,7 +67,7 @@ port_cause None = None
 port_cause (Some (fault.Device c)) = None
 port_cause (Some (fault.Port c)) = Some c
 
--- the device's view after it: the slots move by the happening
+-- the device's view afterwards; the happening says how the slots change
 abbrev pub view_after_hearing : DeviceView → Heard → DeviceView
 view_after_hearing view h =
     record { slots = moved h.happening view.slots; state = h.state; fault = device_cause h.fault }
@@ -75,7 +75,7 @@ view_after_hearing view h =
 abbrev pub heard_view : ℕ → DeviceView → (sound : Bool) → Option Fis → DeviceView
 heard_view dev view sound fis = view_after_hearing view (heard dev view sound fis)
 
--- ---- what it is to the port
+-- ---- what it means for the port
 
 abbrev pub errors_with : Errors → ℕ → Option Fault → Errors
 errors_with errors dev None = errors
@@ -88,7 +88,7 @@ fault_interrupts None = 0
 fault_interrupts (Some (fault.Device c)) = device_interrupts c
 fault_interrupts (Some (fault.Port c)) = port_interrupts c
 
--- PSS, and the bits of a fault
+-- the registers with PSS and the bits of a fault set
 unfoldable pub settled : Registers → Heard → Registers
 settled r h =
     record r { interrupts = bit_or (bit_or r.interrupts (bit pss h.pss)) (fault_interrupts h.fault) }
@@ -141,13 +141,14 @@ ignored_report dev = record {
 
 -- ---- the call
 
--- what a FIS is, as port and memory stand
+-- what a FIS means, with port and memory as they are now
 abbrev pub heard_now : Port → Memory → ℕ → Option Fis → Heard
 heard_now port memory dev fis =
     heard dev (view_of dev port) (is_sound memory port.commands (view_of dev port).slots) fis
 
--- A FIS that is not ignored, or a frame that is none: its device's view is a function of that view and of the
--- FIS, and each other view stays. So it is with all the rest of port and memory.
+-- A FIS that is not ignored, or a frame that is no FIS. The new view of its device is a function of the old
+-- view, of the FIS and of whether the PRD table can be used; every other view stays. The rest of port and
+-- memory changes by such functions too.
 pub record Takes (old : Port) (before : Memory) (dev : ℕ) (fis : Option Fis) (payload : List ℕ)
     (report : TakeReport) (new : Port) (after : Memory) : Type 0 where
   pub own : view_of dev new ≡ heard_view dev (view_of dev old)
@@ -159,19 +160,19 @@ pub record Takes (old : Port) (before : Memory) (dev : ℕ) (fis : Option Fis) (
   pub errors : new.errors ≡ errors_with old.errors dev (heard_now old before dev fis).fault
   pub commands : new.commands ≡ old.commands
   pub number : new.number ≡ old.number
-  -- no slot that is free becomes filled
+  -- no free slot is filled
   pub frees : KeepsFree old.slots new.slots
-  -- it is posted, and Data is written to the places of its slot's bytes
+  -- the FIS is posted, and Data is written to the places of its slot's bytes
   pub structure : PostsOf old.registers.fb dev fis before.structure after.structure
   pub client : Delivers before old.commands payload (wrote_by (heard_now old before dev fis).happening)
       after.client
 
--- and of a frame: the payload of Data stands from its byte 4 on
+-- the same for a frame; the payload of Data begins at its byte 4
 abbrev pub Hears : ℕ → Port → Memory → List ℕ → TakeReport → Port → Memory → Type 0
 Hears dev old before frame report new after =
     Takes old before dev (admitted dev (seen frame)) (drop 4 frame) report new after
 
--- an ignored frame leaves port and memory whole
+-- an ignored frame changes neither port nor memory
 pub record Ignores (dev : ℕ) (old : Port) (before : Memory) (report : TakeReport) (new : Port)
     (after : Memory) : Type 0 where
   pub reports : report ≡ ignored_report dev

@@ -1,5 +1,5 @@
--- A host port as its callers see it, and of it what belongs to one device: AHCI 1.3.1, chapter 9, FIS-based
--- Switching.
+-- A host port as its callers see it, and the part of it that belongs to one device: AHCI 1.3.1, chapter 9,
+-- FIS-based Switching.
 use Rattle.std.specs.Prelude.{ℕ, ◌≡◌, ◌≢◌, ◌+◌, ◌*◌, ◌<◌, false, bit_and, List, replicate, slice_index_or}
 use Rattle.std.specs.Prelude.{Option, None}
 use Rattle.slots.specs.Slots.{Slots, DeviceSlots, issue_at, no_slots, no_own_slots, slots_of}
@@ -17,16 +17,16 @@ pub record Port : Type 0 where
   pub errors : Errors
   -- by device: its task file, and whether it is in software reset
   pub states : List DeviceState
-  -- by slot: the command that stood there when it was issued
+  -- by slot: the command as it was when it was issued
   pub commands : List (Option Command)
   -- the running number of the next frame that goes out
   pub number : ℕ
 
--- the state of a device of which nothing was heard: Status 50h, Error 0
+-- the state of a device that has sent nothing: Status 50h, Error 0
 abbrev pub opening_state : DeviceState
 opening_state = record { status = 0x50; error = 0; resetting = false; block = None }
 
--- a port as it opens
+-- a new port
 abbrev pub opening_port : Port
 opening_port = record {
   registers = opening_registers;
@@ -48,19 +48,19 @@ last_command commands slot = slice_index_or commands slot None
 abbrev pub task_file : DeviceState → ℕ
 task_file state = 256 * state.error + state.status
 
--- every slot in which something is issued has its command
+-- each slot in which something is issued has its command
 abbrev pub HaveCommands : Slots → List (Option Command) → Type 0
 HaveCommands slots commands = (slot : ℕ) → last_command commands slot ≡ None → issue_at slots slot ≡ None
 
--- what is true of every port
+-- what holds for every port
 pub record IsPort (port : Port) : Type 0 where
   pub registers : AreRegisters port.registers
   pub commands : HaveCommands port.slots port.commands
 
 -- ---- the view of one device
 
--- what belongs to a device: its issues, with the bytes that went over, and its last setup; its task file and
--- whether it is in software reset, with the block of a PIO Setup; and its first fault
+-- What belongs to a device: its issues with the bytes that were transferred, and its last setup; its task
+-- file, whether it is in software reset, and the block of a PIO Setup; and the first cause of its fault.
 pub record DeviceView : Type 0 where
   pub slots : DeviceSlots
   pub state : DeviceState
@@ -70,15 +70,15 @@ abbrev pub view_of : ℕ → Port → DeviceView
 view_of n port =
     record { slots = slots_of n port.slots; state = state_at port.states n; fault = cause_of port.errors n }
 
--- the view of every other device stays
+-- the views of all other devices stay
 abbrev pub LeavesOtherViews : ℕ → Port → Port → Type 0
 LeavesOtherViews n old new = (other : ℕ) → other ≢ n → view_of other new ≡ view_of other old
 
--- a device that was flushed has no slot, no setup, no fault, and its task file is as it opens
+-- a flushed device has no slot, no setup and no fault, and its task file is that of a new port
 abbrev pub flushed_view : DeviceView
 flushed_view = record { slots = no_own_slots; state = opening_state; fault = None }
 
--- a device is flushed, and its fault with it
+-- a device is flushed, and its fault ends
 pub record Flushes (old : Port) (dev : ℕ) (new : Port) : Type 0 where
   pub dev_below : dev < 16
   pub own : view_of dev new ≡ flushed_view
@@ -88,12 +88,12 @@ pub record Flushes (old : Port) (dev : ℕ) (new : Port) : Type 0 where
   pub commands : new.commands ≡ old.commands
   pub number : new.number ≡ old.number
 
--- after ST fell, or the device's error was cleared, BSY and DRQ, bits 7 and 3 of Status, are 0, and no reset
--- goes on and no block
+-- After ST falls, or after the device is cleared, BSY and DRQ (bits 7 and 3 of Status) are 0, and no reset
+-- and no block is under way.
 abbrev pub stopped_state : DeviceState → DeviceState
 stopped_state state =
     record { status = bit_and state.status 0x77; error = state.error; resetting = false; block = None }
 
--- nor is there a slot, a setup or a fault
+-- there is no slot, no setup and no fault either
 abbrev pub stopped_view : DeviceView → DeviceView
 stopped_view view = record { slots = no_own_slots; state = stopped_state view.state; fault = None }

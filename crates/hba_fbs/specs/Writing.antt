@@ -1,5 +1,5 @@
--- A write of a register: when it is refused, and what an accepted one leaves (AHCI 1.3.1, section 3.3 and
--- chapter 9; of PxFBS.DEC section 9.3, the handling of errors).
+-- A write of a register: when it is refused, and what an accepted write leaves (AHCI 1.3.1, section 3.3 and
+-- chapter 9; for PxFBS.DEC section 9.3, error handling).
 use Rattle.std.specs.Prelude.{ℕ, ◌≡◌, ◌<◌, ◌==◌, Bool, false, if◌then◌else◌, List, Option, Some, None}
 use Rattle.std.specs.Prelude.{MatchOption}
 use Rattle.std.specs.Option.{option_map_or, option_or}
@@ -22,7 +22,7 @@ use Rattle.hba_fbs.specs.Views.{DeviceView, Port, stopped_view, view_of}
 abbrev pub busy_refusal : Port → ℕ → Option WriteError
 busy_refusal port value = if any_slot value (is_busy port.slots) then Some refusal.SlotBusy else None
 
--- what is wrong with the slots that are to be issued, each test over all of them before the next
+-- what is wrong with the slots to issue; each test goes over all of them before the next test
 abbrev pub issue_refusal : Port → Memory → ℕ → Option WriteError
 issue_refusal port memory value =
     if any_slot value (is_busy port.slots) then Some refusal.SlotBusy
@@ -30,7 +30,7 @@ issue_refusal port memory value =
     else if any_slot value (is_bad port.registers memory) then Some refusal.BadTable
     else None
 
--- a refusal that looks at the slots: while ST is 0 nothing is armed or issued
+-- a refusal because of the slots; while ST is 0, no slot is armed or issued
 unfoldable pub slots_refusal : Register → Port → Memory → ℕ → Option WriteError
 slots_refusal Sact port memory value = busy_refusal port value
 slots_refusal Ci port memory value = if port.registers.started then issue_refusal port memory value else None
@@ -47,21 +47,21 @@ write_refusal port memory offset value = match_some (register_at offset) (Some r
 
 -- ---- what an accepted write leaves
 
--- the device that a write of PxFBS clears: with DEC the one that DWE names, where SDE is 1, whatever DEV is
+-- the device that a write of PxFBS clears: with DEC set, and SDE 1, the one in DWE, whatever DEV is
 abbrev pub cleared_by : Errors → ℕ → Option ℕ
 cleared_by errors value = if has_bit value dec then cleared_device errors else None
 
--- it is this device
+-- the device to clear is this one
 abbrev pub is_device : ℕ → Option ℕ → Bool
 is_device n cleared = option_map_or (λ dev. dev == n) cleared false
 
--- the view of a device after that: the one that is cleared is left as by ST that falls, and no other one
+-- the view of a device afterwards: the cleared device is left as it is when ST falls, and no other view
 -- changes
 abbrev pub view_cleared : ℕ → Option ℕ → DeviceView → DeviceView
 view_cleared n cleared view = if is_device n cleared then stopped_view view else view
 
--- the view of a device: ST that falls stops every device, a write of PxCI issues for the device that
--- PxFBS.DEV names, and PxFBS.DEC clears the device that DWE names
+-- The view of a device. A fall of ST stops every device, a write of PxCI issues for the device in PxFBS.DEV,
+-- and PxFBS.DEC clears the device in DWE.
 unfoldable pub view_after : Register → Port → Memory → ℕ → ℕ → DeviceView
 view_after Cmd old memory value n =
     if falls old.registers value then stopped_view (view_of n old) else view_of n old
@@ -81,7 +81,7 @@ unfoldable pub commands_after : Register → Port → Memory → ℕ → List (O
 commands_after Ci old memory value = commands_issued old.registers memory value old.commands
 commands_after register old memory value = old.commands
 
--- An accepted write of a register. The slots, the task files and the resets are the views' parts.
+-- An accepted write of a register. The slots, the task files and the resets are parts of the views.
 pub record Accepts (old : Port) (memory : Memory) (register : Register) (value : ℕ)
     (new : Port) : Type 0 where
   pub registers : new.registers ≡ written register old.registers value
@@ -90,7 +90,7 @@ pub record Accepts (old : Port) (memory : Memory) (register : Register) (value :
   pub commands : new.commands ≡ commands_after register old memory value
   pub number : new.number ≡ old.number
 
--- and at an offset
+-- the same for the register at an offset
 abbrev pub Writes : Port → Memory → ℕ → ℕ → Port → Type 0
 Writes old memory offset value new =
     MatchOption (register_at offset) ⊥ (λ register. Accepts old memory register value new)

@@ -41,7 +41,7 @@ pub(crate) fn has_bit(value: u32, k: u32) -> bool
     value >> k & 1 == 1
 }
 
-/// The dword that has bit `k` set, or no bit.
+/// The dword with bit `k` alone set, or 0.
 pub(crate) fn bit(set: bool, k: u32) -> u32
     requires { k < 32 }
     ensures { result ≡ bit_of k set }
@@ -49,14 +49,14 @@ pub(crate) fn bit(set: bool, k: u32) -> u32
     if set { 1 << k } else { 0 }
 }
 
-/// The bit of this interrupt in PxIS where it is set, or no bit.
+/// The bit of this interrupt in PxIS if it is set, or 0.
 pub(crate) fn raised(set: bool, flag: Interrupts) -> u32
     ensures { result ≡ (if set then interrupt_bits flag else 0) }
 {
     if set { flag.bits() } else { 0 }
 }
 
-/// The bits of PxIS that ones clear: all but UFS, which follows PxSERR.
+/// The bits of PxIS that ones clear: all except UFS, which follows PxSERR.
 pub(crate) fn clearable() -> u32
     ensures { result ≡ interrupts }
 {

@@ -1,4 +1,4 @@
-//! Data of devices, and the PRD tables by which it is written.
+//! Data FISes from devices, and the PRD tables that say where their bytes go.
 
 ghost use Rattle.std.specs.Prelude.{◌≡◌, ◌<◌, ◌≤◌, ◌%◌, None, IfSome, MatchOption, is_some, length};
 ghost use Rattle.host_memory.specs.Memory.{IsHostMemory};
@@ -19,7 +19,7 @@ use host_memory::{CLIENT_START, HostMemory, PrdTable};
 use port_errors::{DeviceCause, PortCause};
 use slots::{ArriveError, SlotTable};
 
-/// Where the PRDs begin in a command table.
+/// The offset of the PRDs in a command table.
 const PRDS: u32 = 0x80;
 
 fn asks(block: Option<Block>) -> bool
@@ -55,7 +55,7 @@ fn overflowed(state: DeviceState) -> Heard
     }
 }
 
-// The PRDs of a command, where they can be read and have so many bytes.
+// The PRDs of a command, if they can be read and have `len` bytes in all.
 #[tactic(auto, using(crate::proofs::DataLemmas::not_read))]
 fn read_table<'m>(
     structure: &'m [u8],
@@ -79,7 +79,7 @@ fn read_table<'m>(
     }
 }
 
-/// The PRD table of a slot of a device, where it can be read and has the slot's bytes.
+/// The PRD table of a device's slot, if it can be read and has the slot's bytes.
 pub(crate) fn sound_table<'m>(
     slots: &SlotTable,
     structure: &'m [u8],
@@ -122,7 +122,7 @@ fn ended_fault(status: u8) -> Option<Fault>
     is_error(status).then_some(Fault::Device(DeviceCause::TaskFile))
 }
 
-// The bytes ended the block of a PIO Setup.
+// These bytes end the block of a PIO Setup.
 fn ended(slots: &mut SlotTable, dev: u8, state: DeviceState, wrote: Wrote, block: Block) -> Heard
     requires { dev < 16 }
     ensures heard { result ≡ ended_heard (slots_of dev slots.old) state wrote block }
@@ -152,7 +152,7 @@ fn carried(state: DeviceState, wrote: Wrote) -> Heard
     quietly(state, Happening::Carried(wrote, false))
 }
 
-// Whether so many bytes are all that is left of the device's setup.
+// Whether `count` bytes are all that is left of the device's setup.
 fn are_last(slots: &SlotTable, dev: u8, count: u32) -> bool
     requires { dev < 16 }
     ensures { result ≡ are_last_of (context_of slots.now dev) count }
@@ -163,7 +163,7 @@ fn are_last(slots: &SlotTable, dev: u8, count: u32) -> bool
     }
 }
 
-/// A Data FIS of a device.
+/// Hears a Data FIS of a device.
 #[tactic(auto, using(crate::proofs::DataLemmas::delivers_at))]
 pub(crate) fn hear_data(
     slots: &mut SlotTable,

@@ -1,35 +1,35 @@
-//! Why a register is not read or written.
+//! Why a register cannot be read or written.
 
 use thiserror::Error;
 
-/// No register of a port stands at the offset.
+/// A port has no register at this offset.
 #[derive(Clone, Copy, Debug, PartialEq, Eq, Error)]
 #[error("no such register")]
 pub struct NoRegister;
 
-/// Why a write is refused. It then changes nothing.
+/// Why a write is refused. A refused write changes nothing.
 #[derive(Clone, Copy, Debug, PartialEq, Eq, Error)]
 pub enum WriteError {
-    /// No register of a port stands at the offset.
+    /// A port has no register at this offset.
     #[error("no such register")]
     NoRegister = 1,
-    /// ST is 0, and slots are issued or armed only while it is 1.
+    /// PxCMD.ST is 0. Slots are armed and issued only while it is 1.
     #[error("the port is stopped")]
     Stopped = 2,
-    /// The register is in use: ST, or for the received area FRE, is 1.
+    /// The register is in use: PxCMD.ST is 1, or PxCMD.FRE for the address of the received area.
     #[error("the port is running")]
     Running = 3,
-    /// Something is issued in one of the slots already.
+    /// A command is already issued in one of the slots.
     #[error("slot is in use")]
     SlotBusy = 4,
-    /// The header of one of the slots names another device than PxFBS.DEV.
+    /// The header of one of the slots names a device other than PxFBS.DEV.
     #[error("a header names another device")]
     WrongDevice = 5,
-    /// The command list or the received area does not lie in the structure area, or the header or
-    /// the command table of one of the slots is bad.
+    /// The command list or the received area does not lie in the structure area, ST is to be set without FRE,
+    /// or the header or the command table of one of the slots is bad.
     #[error("bad table")]
     BadTable = 6,
-    /// PxFBS.EN is 0, and a port without FIS-based switching is not driven.
+    /// PxFBS.EN is 0. The port runs only with FIS-based switching.
     #[error("FIS-based switching is not enabled")]
     NoSwitching = 7,
 }

@@ -1,4 +1,4 @@
-//! What a FIS is to the device that sent it.
+//! What a FIS means for the device that sent it.
 
 ghost use Rattle.std.specs.Prelude.{◌≡◌, ◌<◌, ◌-◌, ◌%◌, ◌==◌, if◌then◌else◌, None, Some, drop, length};
 ghost use Rattle.fis_view.specs.Seen.{frame_of};
@@ -21,37 +21,37 @@ use slots::{Answered, Completed, Context, SetupError, SlotTable};
 /// What is wrong with a FIS.
 #[derive(Clone, Copy, Debug, PartialEq, Eq)]
 pub enum Fault {
-    /// The device is faulty from then on.
+    /// The device is faulty from now on.
     Device(DeviceCause),
-    /// The port is stopped.
+    /// The port is stopped from now on.
     Port(PortCause),
 }
 
-/// What a FIS is to the slots of the device that sent it.
+/// What a FIS does to the slots of the device that sent it.
 #[derive(Clone, Copy, Debug, PartialEq, Eq)]
 pub enum Happening {
     /// No slot changes.
     Nothing,
-    /// The command that waits is answered.
+    /// The command that waits for an answer gets it.
     Answered(Answered),
-    /// These slots are said to be done.
+    /// A Set Device Bits FIS names these slots as done.
     Named(u32),
-    /// A DMA Setup is accepted, and this is the device's context since.
+    /// A DMA Setup is accepted, and this is the device's context from now on.
     SetUp(Context),
-    /// A PIO Setup is accepted: so many bytes, to the host or not.
+    /// A PIO Setup of this many bytes is accepted. The flag says whether they go to the host.
     PioSetUp(u32, bool),
     /// A DMA Activate is accepted.
     Activated,
-    /// Data came, and whether it ends a block whose status says that a PIO data-in may be done.
+    /// Data came. The flag says whether it ends a block whose Status says that a PIO data-in may be done.
     Carried(Wrote, bool),
 }
 
-/// What a FIS is to the device that sent it.
+/// What a FIS means for the device that sent it.
 #[derive(Clone, Copy, Debug, PartialEq, Eq)]
 pub struct Heard {
-    /// Its task file and its reset after the FIS.
+    /// The state of the device after the FIS.
     pub state: DeviceState,
-    /// What happened to its slots.
+    /// What happens to its slots.
     pub happening: Happening,
     /// What is wrong with the FIS.
     pub fault: Option<Fault>,
@@ -61,7 +61,7 @@ pub struct Heard {
     pub pss: bool,
 }
 
-/// A FIS with which nothing is wrong, and that frees no slot.
+/// A FIS with nothing wrong that frees no slot.
 pub(crate) fn quietly(state: DeviceState, happening: Happening) -> Heard
     ensures { result ≡ quietly_heard state happening }
 {
@@ -74,7 +74,7 @@ pub(crate) fn quietly(state: DeviceState, happening: Happening) -> Heard
     }
 }
 
-/// A FIS that makes its device faulty, and changes no slot.
+/// A FIS that makes its device faulty and changes no slot.
 pub(crate) fn faulty(state: DeviceState, cause: DeviceCause) -> Heard
     ensures { result ≡ faulty_heard state cause }
 {
@@ -137,7 +137,7 @@ fn answered(answer: Answered, state: DeviceState) -> Heard
     }
 }
 
-// A Register Device to Host FIS that ends no reset.
+// Hears a Register Device to Host FIS outside a software reset.
 fn hear_d2h(slots: &mut SlotTable, dev: u8, state: DeviceState, status: u8, error: u8) -> Heard
     requires { dev < 16 }
     ensures heard { result ≡ heard_d2h (slots_of dev slots.old) state status error }
@@ -156,7 +156,7 @@ fn hear_d2h(slots: &mut SlotTable, dev: u8, state: DeviceState, status: u8, erro
     answered(slots.answered(dev), told)
 }
 
-// A Register Device to Host FIS: in software reset it is the signature that ends it.
+// Hears a Register Device to Host FIS. In a software reset it is the signature, which ends the reset.
 fn hear_register(slots: &mut SlotTable, dev: u8, state: DeviceState, status: u8, error: u8) -> Heard
     requires { dev < 16 }
     ensures heard { result ≡ heard_register (slots_of dev slots.old) state status error }
@@ -321,7 +321,7 @@ fn block_of(fis: &PioSetup<'_>) -> Block
     }
 }
 
-/// A FIS that may come from this PM Port.
+/// Hears a FIS that may come from this PM Port.
 #[tactic(auto, unfolding(crate::specs::Hearing::heard_fis))]
 pub(crate) fn hear(
     slots: &mut SlotTable,

@@ -20,7 +20,7 @@ fn is_busy(slots: &SlotTable, value: u32, slot: u8) -> bool
     has_bit(value, u32::from(slot)) && slots.work(slot).is_some()
 }
 
-/// Whether something is issued in one of these slots.
+/// Whether a command is issued in one of these slots.
 pub(crate) fn any_busy(slots: &SlotTable, value: u32) -> bool
     ensures { result ≡ any_slot value (is_busy_slot slots.now) }
 {
@@ -34,15 +34,15 @@ pub(crate) fn any_busy(slots: &SlotTable, value: u32) -> bool
 
 fn is_foreign(registers: Registers, structure: &[u8], value: u32, slot: u8) -> bool
     requires slot { slot < 32 }
-    requires list { registers.clb + 1024 ≤ length structure.now }
+    requires list { registers.clb + 0x400 ≤ length structure.now }
     ensures { result ≡ (has_bit_of value slot && is_foreign_slot registers structure.now slot) }
 {
     has_bit(value, u32::from(slot)) && pmp(structure, registers.clb, slot) != registers.chosen
 }
 
-/// Whether the header of one of these slots names another device than PxFBS.DEV.
+/// Whether the header of one of these slots names a device other than PxFBS.DEV.
 pub(crate) fn any_foreign(registers: Registers, structure: &[u8], value: u32) -> bool
-    requires { registers.clb + 1024 ≤ length structure.now }
+    requires { registers.clb + 0x400 ≤ length structure.now }
     ensures { result ≡ any_slot value (is_foreign_slot registers structure.now) }
 {
     for slot in 0..32_u8 {
@@ -53,10 +53,10 @@ pub(crate) fn any_foreign(registers: Registers, structure: &[u8], value: u32) ->
     false
 }
 
-// The command that stands in a slot.
+// The command in a slot, as it is in memory now.
 fn standing(registers: Registers, memory: &HostMemory, slot: u8) -> Option<Command>
     requires slot { slot < 32 }
-    requires list { registers.clb + 1024 ≤ 1048576 }
+    requires list { registers.clb + 0x400 ≤ 0x100000 }
     ensures value { result
         ≡ command_at memory.now registers.clb slot (has_bit_of registers.armed slot) }
     ensures work { IfSome result (λ command. IsWork command.work) }
@@ -67,7 +67,7 @@ fn standing(registers: Registers, memory: &HostMemory, slot: u8) -> Option<Comma
 
 fn is_bad(registers: Registers, memory: &HostMemory, value: u32, slot: u8) -> bool
     requires slot { slot < 32 }
-    requires list { registers.clb + 1024 ≤ 1048576 }
+    requires list { registers.clb + 0x400 ≤ 0x100000 }
     ensures { result ≡ (has_bit_of value slot && is_bad_slot registers memory.now slot) }
 {
     has_bit(value, u32::from(slot)) && standing(registers, memory, slot).is_none()
@@ -75,7 +75,7 @@ fn is_bad(registers: Registers, memory: &HostMemory, value: u32, slot: u8) -> bo
 
 /// Whether the header or the command table of one of these slots is bad.
 pub(crate) fn any_bad(registers: Registers, memory: &HostMemory, value: u32) -> bool
-    requires { registers.clb + 1024 ≤ 1048576 }
+    requires { registers.clb + 0x400 ≤ 0x100000 }
     ensures { result ≡ any_slot value (is_bad_slot registers memory.now) }
 {
     for slot in 0..32_u8 {
@@ -86,10 +86,10 @@ pub(crate) fn any_bad(registers: Registers, memory: &HostMemory, value: u32) -> 
     false
 }
 
-// The command to be issued in a slot.
+// The command to issue in a slot, if the slot's bit is set.
 fn asked(registers: Registers, memory: &HostMemory, value: u32, slot: u8) -> Option<Command>
     requires slot { slot < 32 }
-    requires list { registers.clb + 1024 ≤ 1048576 }
+    requires list { registers.clb + 0x400 ≤ 0x100000 }
     ensures value { result ≡ asked_of registers memory.now value slot }
     ensures work { IfSome result (λ command. IsWork command.work) }
 {
@@ -100,7 +100,7 @@ fn asked(registers: Registers, memory: &HostMemory, value: u32, slot: u8) -> Opt
     }
 }
 
-// Issues a command, if there is one, in a slot that is free.
+// Issues a command, if there is one, in a free slot.
 fn issue_one(
     slots: &mut SlotTable,
     commands: &mut [Option<Command>; 32],
@@ -117,13 +117,13 @@ fn issue_one(
     ensures commands { commands.new ≡ with_command slot command commands.old }
 {
     if let Some(command) = command {
-        // is not refused, since the slot is free
+        // the slot is free, so this is not refused
         let _ = slots.issue(slot, dev, command.work);
         commands[slot as usize] = Some(command);
     }
 }
 
-/// Issues the command that stands in each of these slots, for the device that PxFBS.DEV names.
+/// Issues the commands in these slots, for the device that PxFBS.DEV names.
 pub(crate) fn issue_all(
     registers: Registers,
     slots: &mut SlotTable,
@@ -131,7 +131,7 @@ pub(crate) fn issue_all(
     memory: &HostMemory,
     value: u32,
 )
-    requires list { registers.clb + 1024 ≤ 1048576 }
+    requires list { registers.clb + 0x400 ≤ 0x100000 }
     requires dev { registers.chosen < 16 }
     requires free { any_slot value (is_busy_slot slots.old) ≡ false }
     ensures own { slots_of registers.chosen slots.new

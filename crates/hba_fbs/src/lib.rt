@@ -1,11 +1,14 @@
-//! An AHCI host port with FIS-based switching: what the host's software reads and writes, the slots that it issues, what the
-//! FISes of the devices behind the port do, and what goes out to them.
+//! An AHCI host port with FIS-based switching: the registers that software reads and writes, the command
+//! slots, the FISes of the devices behind the port, and the frames that go out to them.
 //!
-//! A [`HostPort`] is known by its value: its own registers, the slots, the errors, the task file of each device, the
-//! commands of the issued slots and the running number of its frames. From it comes the view of one device, which is all
-//! that the device's own FISes may look at and change. [`HostPort::read`] shows a register, [`HostPort::write`] takes all
-//! bits of a value or none, [`HostPort::take`] takes a FIS, and [`HostPort::next_out`] gives the next frame, which is the one
-//! call that asks for memory.
+//! The value of a [`HostPort`] has its own registers, the slots, the errors, the task file of each device,
+//! the commands of the issued slots, and the running number of its frames. The view of a device is a function
+//! of this value. Of the slots, task files and faults, the FISes of a device look at and change only the
+//! device's own view.
+//!
+//! [`HostPort::read`] shows a register. [`HostPort::write`] takes all bits of a value, or refuses the write.
+//! [`HostPort::take`] takes a FIS. [`HostPort::next_out`] gives the next frame to go out; no other call asks
+//! for memory.
 #![tactic(auto)]
 
 mod bits;

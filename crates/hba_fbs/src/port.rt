@@ -45,13 +45,27 @@ impl Model for HostPort {
 
     ghost Value = { Port };
 
-    ghost view = { λ p. record { registers = p.registers; slots = p.slots; errors = p.errors; states = p.states; commands = p.commands; number = p.number } };
+    ghost view = { λ p. record {
+      registers = p.registers;
+      slots = p.slots;
+      errors = p.errors;
+      states = p.states;
+      commands = p.commands;
+      number = p.number;
+    } };
 
-    ghost invariant = { λ p. IsPort (record { registers = p.registers; slots = p.slots; errors = p.errors; states = p.states; commands = p.commands; number = p.number }) };
+    ghost invariant = { λ p. IsPort (record {
+      registers = p.registers;
+      slots = p.slots;
+      errors = p.errors;
+      states = p.states;
+      commands = p.commands;
+      number = p.number;
+    }) };
 }
 
 impl HostPort {
-    /// As it opens: nothing is issued, and the port is stopped.
+    /// A new port: no command is issued, and the port is stopped.
     pub fn new() -> HostPort
         ensures { result ≡ opening_port }
     {
@@ -65,7 +79,7 @@ impl HostPort {
         }
     }
 
-    /// What is true of every port, of its slots and of its errors. It does nothing when it runs.
+    /// The rules that hold for every port, its slots and its errors. The call has no effect.
     pub fn keeps_rules(&self)
         ensures port { IsPort self.now }
         ensures slots { IsTable self.now.slots }
@@ -99,7 +113,7 @@ impl HostPort {
         }
     }
 
-    /// The value of the register at an offset.
+    /// The value of the register at this offset.
     pub fn read(&self, offset: u32) -> Result<u32, NoRegister>
         ensures { result ≡ read_at self.now offset }
     {
@@ -109,8 +123,8 @@ impl HostPort {
         Ok(self.value(register))
     }
 
-    /// The first cause of a faulty device, None where it is not faulty. It stands until the device is flushed or cleared
-    /// by PxFBS.DEC, or PxCMD.ST falls.
+    /// The first cause of a device's fault, None while it is not faulty. The cause stands until the device is
+    /// flushed, PxFBS.DEC clears it, or PxCMD.ST falls.
     pub fn cause(&self, dev: u8) -> Option<DeviceCause>
         requires { dev < 16 }
         ensures { result ≡ (view_of dev self.now).fault }
@@ -118,16 +132,16 @@ impl HostPort {
         self.errors.cause(dev)
     }
 
-    /// The first cause that stopped the port as a whole, None where it is not stopped by one. It stands until PxCMD.ST
-    /// falls.
+    /// The first cause that stopped the whole port, None while no error has stopped it. The cause stands
+    /// until PxCMD.ST falls.
     pub fn port_cause(&self) -> Option<PortCause>
         ensures { result ≡ self.now.errors.port }
     {
         self.errors.port_cause()
     }
 
-    /// Whether a device is in software reset: a control frame with SRST set went out, and no
-    /// signature came since.
+    /// Whether a device is in software reset: a control frame with SRST set went out to it, and no signature
+    /// has come since.
     pub fn resetting(&self, dev: u8) -> bool
         requires { dev < 16 }
         ensures { result ≡ (view_of dev self.now).state.resetting }
@@ -135,8 +149,8 @@ impl HostPort {
         self.states[dev as usize].resetting
     }
 
-    /// Frees each slot of a device, and answers their mask. The device's fault and its reset end,
-    /// and its task file is as it opens.
+    /// Frees all slots of a device and answers their mask. Its fault and its reset end, and its task file is
+    /// again that of a new port.
     pub fn flush_device(&mut self, dev: u8) -> u32
         requires { dev < 16 }
         ensures answer { result ≡ own_slots (slots_of dev self.old.slots) }
@@ -148,9 +162,9 @@ impl HostPort {
         freed
     }
 
-    // Why a write is refused that arms or issues slots.
+    // Why a write of PxCI is refused because of its slots.
     fn issue_refusal(&self, value: u32, memory: &HostMemory) -> Option<WriteError>
-        requires { self.now.registers.clb + 1024 ≤ 1048576 }
+        requires { self.now.registers.clb + 0x400 ≤ 0x100000 }
         ensures { result ≡ issue_refusal_of self.now memory.now value }
     {
         if any_busy(&self.slots, value) {
@@ -191,7 +205,7 @@ impl HostPort {
         self.slots_refusal(register, value, memory)
     }
 
-    // ST falls: every slot, fault and reset ends.
+    // ST falls: all slots are freed, and all faults and resets end.
     fn stop(&mut self)
         ensures views { (n : ℕ) → n < 16 → view_of n self.new ≡ stopped_view (view_of n self.old) }
         ensures registers { self.new.registers ≡ self.old.registers }
@@ -204,7 +218,7 @@ impl HostPort {
         stop_all(&mut self.states);
     }
 
-    // The device whose error PxFBS shows is cleared: its slots and its fault end.
+    // Clears the device whose error PxFBS shows: its slots are freed, and its fault and its reset end.
     fn clear_device(&mut self)
         ensures views { (n : ℕ) → n < 16
             → view_of n self.new
@@ -221,9 +235,9 @@ impl HostPort {
         }
     }
 
-    // The commands of these slots are issued.
+    // Issues the commands in these slots.
     fn issue(&mut self, value: u32, memory: &HostMemory)
-        requires list { self.old.registers.clb + 1024 ≤ 1048576 }
+        requires list { self.old.registers.clb + 0x400 ≤ 0x100000 }
         requires free { any_slot value (is_busy self.old.slots) ≡ false }
         ensures own { view_of self.old.registers.chosen self.new
             ≡ view_issued self.old.registers memory.now value
@@ -245,7 +259,7 @@ impl HostPort {
         );
     }
 
-    // What a write that is not refused does beside the port's own registers.
+    // What an accepted write changes apart from the port's own registers.
     #[tactic(auto, unfolding(crate::specs::Writing::view_after, crate::specs::Writing::errors_after, crate::specs::Writing::commands_after))]
     fn act(&mut self, register: Register, value: u32, memory: &HostMemory)
         requires accepted { refusal_of register self.old memory.now value ≡ None }
@@ -286,9 +300,9 @@ impl HostPort {
         }
     }
 
-    /// Writes a register: all bits of the value, or none where the write is refused. Ones written to
-    /// PxCI issue the commands that stand in their slots, ST that falls stops every device, and
-    /// PxFBS.DEC clears the device whose error PxFBS shows. The memory is looked at for PxCI alone.
+    /// Writes a register: all bits of the value, or none if the write is refused. Ones written to PxCI issue
+    /// the commands in those slots. A write of PxCMD that clears ST stops every device. A write of PxFBS with
+    /// DEC set clears the device whose error PxFBS shows. Only a write of PxCI looks at the memory.
     pub fn write(&mut self, offset: u32, value: u32, memory: &HostMemory) -> Result<(), WriteError>
         ensures refusal { result_err result ≡ write_refusal self.old memory.now offset value }
         ensures refused { OnErr result (self.new ≡ self.old) }

@@ -1,4 +1,4 @@
-//! Posting of FISes, and what a FIS that is posted sets in the port's registers.
+//! Posting of FISes, and what a posted FIS sets in the port's registers.
 
 ghost use Rattle.std.specs.Prelude.{◌≡◌, ◌<◌, ◌≤◌, ◌+◌, bit_or, length};
 ghost use Rattle.rx_area.specs.Area.{LeavesOthers, after_post, posted_at, row_after, row_of};
@@ -15,7 +15,7 @@ use port_errors::Interrupts;
 use rx_area::{Posted, RxArea};
 
 fn post_into(area: &mut [u8], dev: u8, fis: &Fis<'_>) -> Posted
-    requires area { length area.old ≡ 4096 }
+    requires area { length area.old ≡ 0x1000 }
     requires dev { dev < 16 }
     ensures posted { result ≡ posted_at fis.now }
     ensures after { area.new ≡ after_post area.old dev fis.now }
@@ -27,7 +27,7 @@ fn post_into(area: &mut [u8], dev: u8, fis: &Fis<'_>) -> Posted
 }
 
 fn post_at(structure: &mut [u8], fb: u32, dev: u8, fis: &Fis<'_>) -> Posted
-    requires area { fb + 4096 ≤ length structure.old }
+    requires area { fb + 0x1000 ≤ length structure.old }
     requires dev { dev < 16 }
     ensures posted { result ≡ posted_at fis.now }
     ensures posts { Posts fb dev fis.now structure.old structure.new }
@@ -38,7 +38,7 @@ fn post_at(structure: &mut [u8], fb: u32, dev: u8, fis: &Fis<'_>) -> Posted
 
 /// Posts a FIS of a device to the received area at `fb`.
 pub(crate) fn post(memory: &mut HostMemory, fb: u32, dev: u8, fis: &Fis<'_>) -> Posted
-    requires area { fb + 4096 ≤ 1048576 }
+    requires area { fb + 0x1000 ≤ 0x100000 }
     requires dev { dev < 16 }
     ensures posted { result ≡ posted_at fis.now }
     ensures posts { Posts fb dev fis.now memory.old.structure memory.new.structure }
@@ -59,7 +59,7 @@ fn is_signature(fis: &RegD2H<'_>) -> bool
     fis.error() == 1 && is_quiet(fis.status()) && fis.count() % 256 == 1 && fis.lba() % 256 == 1
 }
 
-/// Whether a FIS is a Register Device to Host FIS with a signature.
+/// Whether this is a Register Device to Host FIS with a signature.
 pub(crate) fn signs(fis: &Result<Fis<'_>, FisFault>) -> bool
     ensures { result ≡ signs_of fis.now }
 {
@@ -69,7 +69,7 @@ pub(crate) fn signs(fis: &Result<Fis<'_>, FisFault>) -> bool
     }
 }
 
-// PxSNTF, where the device sends a notification, or none.
+// PxSNTF after a FIS of this device: a notification sets the device's bit.
 fn notified(old: u16, dev: u8, notifies: bool) -> u16
     requires { dev < 16 }
     ensures { result ≡ bit_or old (bit_of dev notifies) }
@@ -77,7 +77,7 @@ fn notified(old: u16, dev: u8, notifies: bool) -> u16
     old | if notifies { 1 << dev } else { 0 }
 }
 
-/// The registers after a FIS of a device was posted.
+/// The registers after a FIS of a device is posted.
 #[tactic(auto, unfolding(crate::specs::Posting::posted))]
 pub(crate) fn posted(registers: Registers, dev: u8, resetting: bool, fis: &Fis<'_>) -> Registers
     requires dev { dev < 16 }

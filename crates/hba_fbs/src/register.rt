@@ -1,9 +1,9 @@
-//! The registers by their offsets.
+//! The registers of a port and their offsets.
 
 ghost use Rattle.std.specs.Prelude.{◌≡◌, Some};
 ghost use Rattle.hba_fbs.specs.Offsets.{register_at};
 
-/// A register of a port, by its name in AHCI (1.3.1, section 3.3) without the prefix Px.
+/// A register of a port, by its name in AHCI 1.3.1, section 3.3, without the prefix Px.
 #[derive(Clone, Copy, Debug, PartialEq, Eq)]
 pub enum Register {
     /// Command List Base Address.
@@ -37,7 +37,7 @@ pub enum Register {
 }
 
 impl Register {
-    /// The register that stands at an offset among a port's registers.
+    /// The register at this offset among a port's registers.
     #[tactic(auto, unfolding(crate::specs::Offsets::register_at))]
     pub fn at(offset: u32) -> Option<Register>
         ensures { result ≡ register_at offset }
@@ -61,7 +61,7 @@ impl Register {
         }
     }
 
-    /// Where the register stands.
+    /// The register's offset among a port's registers.
     #[tactic(auto, unfolding(crate::specs::Offsets::register_at))]
     pub fn offset(self) -> u32
         ensures { register_at result ≡ Some self }

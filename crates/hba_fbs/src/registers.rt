@@ -12,23 +12,23 @@ use crate::error::WriteError;
 use crate::register::Register;
 use host_memory::CLIENT_START;
 
-/// How many bytes the command list has: a header of 32 bytes for each slot.
+/// The size of the command list in bytes: a header of 32 bytes for each slot.
 const LIST_LEN: u32 = 0x400;
-/// How many bytes the received area has.
+/// The size of the received area in bytes.
 const AREA_LEN: u32 = 0x1000;
 
-/// The port's own registers, each field by what it means.
+/// The fields of the port's own registers.
 #[derive(Clone, Copy, Debug, PartialEq, Eq)]
 pub struct Registers {
-    /// Where the command list begins: a multiple of its length.
+    /// The address of the command list, bits 31:0: a multiple of its size.
     pub clb: u32,
-    /// The upper 32 bits of that address.
+    /// Bits 63:32 of that address.
     pub clbu: u32,
-    /// Where the received area begins: a multiple of its length.
+    /// The address of the received area, bits 31:0: a multiple of its size.
     pub fb: u32,
-    /// The upper 32 bits of that address.
+    /// Bits 63:32 of that address.
     pub fbu: u32,
-    /// PxIS, but for UFS.
+    /// PxIS without UFS.
     pub interrupts: u32,
     /// PxIE.
     pub enabled: u32,
@@ -40,15 +40,15 @@ pub struct Registers {
     pub multiplied: bool,
     /// PxSIG: the last signature that ended a software reset.
     pub signature: u32,
-    /// Whether a FIS of an unknown type came: bit F of PxSERR, which UFS shows too.
+    /// Whether a FIS of an unknown type came: PxSERR.DIAG.F, which PxIS.UFS shows too.
     pub unknown: bool,
-    /// The bits of PxSACT that were written for slots of which none is issued yet.
+    /// The bits that were written to PxSACT for slots in which no command is issued yet.
     pub armed: u32,
     /// PxSNTF: the devices that sent a notification.
     pub notified: u16,
     /// PxFBS.EN.
     pub switching: bool,
-    /// PxFBS.DEV: the device whose commands are issued, and whose task file is shown.
+    /// PxFBS.DEV: the device for which commands are issued and whose task file PxTFD shows.
     pub chosen: u8,
 }
 
@@ -59,7 +59,7 @@ fn running_if(in_use: bool) -> Option<WriteError>
 }
 
 impl Registers {
-    /// As they open.
+    /// The registers of a new port.
     pub(crate) fn new() -> Registers
         ensures value { result ≡ opening_registers }
         ensures are { AreRegisters result }
@@ -95,7 +95,7 @@ impl Registers {
             + (1 << FBSCP)
     }
 
-    /// PxFBS, but for SDE and DWE. DEC reads 0.
+    /// PxFBS without SDE and DWE. DEC reads 0.
     pub(crate) fn fbs(self) -> u32
         requires { AreRegisters self }
         ensures { result ≡ fbs_of self }
@@ -141,7 +141,7 @@ impl Registers {
         (!self.started && value != 0).then_some(WriteError::Stopped)
     }
 
-    /// Why a write is refused, as far as these registers say it.
+    /// Why a write is refused because of these registers.
     #[tactic(auto, unfolding(crate::specs::Registers::own_refusal))]
     pub(crate) fn refusal(self, register: Register, value: u32) -> Option<WriteError>
         ensures { result ≡ own_refusal register self value }
@@ -168,7 +168,7 @@ impl Registers {
         self.started && !has_bit(value, ST)
     }
 
-    // After a write of PxCMD that is accepted.
+    // The registers after an accepted write of PxCMD.
     #[tactic(auto, unfolding(crate::specs::Registers::written))]
     fn with_cmd(self, value: u32) -> Registers
         requires are { AreRegisters self }
@@ -186,7 +186,7 @@ impl Registers {
         }
     }
 
-    /// After a write that is accepted.
+    /// The registers after an accepted write.
     #[tactic(auto, unfolding(crate::specs::Registers::written, crate::specs::Registers::own_refusal))]
     pub(crate) fn written(self, register: Register, value: u32) -> Registers
         requires are { AreRegisters self }

@@ -1,4 +1,4 @@
-//! What taking a FIS did.
+//! The report of a FIS that was taken.
 
 ghost use Rattle.std.specs.Prelude.{◌≡◌};
 ghost use Rattle.hba_fbs.specs.Taking.{device_cause as device_cause_of, heard_report, ignored_report, port_cause as port_cause_of, wrote_by};
@@ -7,12 +7,12 @@ use crate::hearing::{Fault, Happening, Heard};
 use port_errors::{DeviceCause, PortCause};
 use rx_area::Posted;
 
-/// Bytes of a Data FIS that went to client memory.
+/// Bytes of a Data FIS that were written to client memory.
 #[derive(Clone, Copy, Debug, PartialEq, Eq)]
 pub struct Wrote {
-    /// The slot to which they belong.
+    /// The slot of their command.
     pub slot: u8,
-    /// The number of the first of them in the slot's transfer.
+    /// The offset of the first of them in the slot's transfer.
     pub offset: u32,
     /// How many there are.
     pub len: u32,
@@ -27,17 +27,17 @@ pub struct TakeReport {
     pub ignored: bool,
     /// Where it was posted.
     pub posted: Posted,
-    /// Why the device is faulty since.
+    /// The cause of the device's fault, if the FIS made it faulty.
     pub fault: Option<DeviceCause>,
-    /// Why the port is stopped since.
+    /// The cause that stopped the port, if the FIS stopped it.
     pub stopped: Option<PortCause>,
-    /// The bytes that it brought to client memory.
+    /// The bytes that it brought to client memory, if it brought any.
     pub wrote: Option<Wrote>,
     /// The slots that became free, as a mask.
     pub done: u32,
 }
 
-/// The cause of a device's fault.
+/// The cause, if it is a fault of the device.
 pub(crate) fn device_cause(fault: Option<Fault>) -> Option<DeviceCause>
     ensures { result ≡ device_cause_of fault }
 {
@@ -71,7 +71,7 @@ fn brought(happening: Happening) -> Option<Wrote>
 }
 
 impl TakeReport {
-    /// Of a FIS that is ignored.
+    /// The report of an ignored FIS.
     pub(crate) fn ignored(dev: u8) -> TakeReport
         ensures { result ≡ ignored_report dev }
     {
@@ -86,7 +86,7 @@ impl TakeReport {
         }
     }
 
-    /// Of a FIS that is heard.
+    /// The report of a FIS that is heard.
     #[tactic(auto, unfolding(crate::specs::Taking::heard_report))]
     pub(crate) fn heard(dev: u8, posted: Posted, heard: Heard) -> TakeReport
         ensures { result ≡ heard_report dev posted heard }

@@ -1,4 +1,4 @@
-//! What goes out next: data of writes, and commands.
+//! What goes out next: Data for writes, and commands.
 
 ghost use Rattle.std.specs.Prelude.{◌≡◌, ◌<◌, ◌≤◌, ◌+◌, ◌&&◌, [], None, Some, Ok, true, false, ℕ, is_none, is_some, bit_or, MatchOption, IfOk, IfSome, IsSome, OnErr, length};
 ghost use Rattle.host_memory.specs.Memory.{Memory};
@@ -43,13 +43,13 @@ fn is_ready(state: DeviceState) -> bool
 }
 
 fn low_half(mask: u32) -> u16
-    requires { mask < 65536 }
+    requires { mask < 0x10000 }
     ensures { result ≡ mask }
 {
     mask as u16
 }
 
-// The devices that take commands, as a mask.
+// The devices that can take a command, as a mask.
 fn ready_devices(states: &[DeviceState; 16]) -> u16
     ensures { result ≡ mask_below (λ dev. is_ready_state (state_at states.now dev)) 16 }
 {
@@ -82,7 +82,7 @@ fn is_due(slots: &SlotTable, errors: &PortErrors, dev: u8) -> bool
     slots.next_payload(dev).is_some() && !errors.faulty(dev)
 }
 
-// The lowest device that is due.
+// The lowest device to which data is due.
 fn lowest_due(slots: &SlotTable, errors: &PortErrors) -> Option<u8>
     ensures value { result ≡ lowest_below (is_due_of slots.now errors.now) 16 }
     ensures below { IfSome result (λ dev. dev < 16) }
@@ -109,7 +109,7 @@ fn stamp(dev: u8, number: u32) -> Stamp
     }
 }
 
-// The head of a Data FIS to a device, in a list with room for so many bytes of data behind it.
+// The head of a Data FIS to a device, in a vector with room for `len` bytes of data behind it.
 fn data_head(alloc: Global, dev: u8, len: u32) -> Result<Vec<u8>, AllocError>
     ensures { IfOk result (λ bytes. bytes.items ≡ data_fis dev []) }
 {
@@ -118,7 +118,7 @@ fn data_head(alloc: Global, dev: u8, len: u32) -> Result<Vec<u8>, AllocError>
     Ok(bytes)
 }
 
-// A Data FIS that carries bytes of a transfer, from this one on, as they stand at their places.
+// A Data FIS with bytes of a transfer, from `offset` on, as they are in client memory.
 fn gather(
     alloc: Global,
     dev: u8,
@@ -140,7 +140,7 @@ fn gather(
     Ok(bytes)
 }
 
-// A frame of a command.
+// The frame of a command.
 fn order_frame(alloc: Global, dev: u8, cfis: &[u8; 20], number: u32) -> Result<Frame, AllocError>
     ensures { IfOk result (λ frame. frame
         ≡ record { bytes = cfis.now; stamp = host_stamp dev number }) }
@@ -153,7 +153,7 @@ fn order_frame(alloc: Global, dev: u8, cfis: &[u8; 20], number: u32) -> Result<F
 
 // ---- what a command leaves
 
-// The state of a device to which a command goes.
+// The state of a device after a command is sent to it.
 fn sent_to(state: DeviceState, command: &Command) -> DeviceState
     ensures { result ≡ state_sent state command.now }
 {
@@ -183,7 +183,7 @@ fn owner_of(slots: &SlotTable, slot: u8) -> u8
     }
 }
 
-// The command of a device's slot is sent.
+// Marks the command of a device's slot as sent.
 fn send_slot(slots: &mut SlotTable, slot: u8, dev: u8)
     requires slot { slot < 32 }
     requires alone { MayBeSent slots.old slot }
@@ -203,7 +203,7 @@ fn command_of(commands: &[Option<Command>; 32], slot: u8) -> Option<Command>
     commands[slot as usize]
 }
 
-// The registers after the host's bus failed.
+// The registers after a host bus error.
 fn failed(registers: Registers, interrupts: u32) -> Registers
     ensures value { result
         ≡ record registers { interrupts = bit_or registers.interrupts interrupts } }
@@ -243,7 +243,7 @@ impl HostPort {
         self.registers = failed(self.registers, interrupts.bits());
     }
 
-    // The data that was due to a device goes.
+    // The data that is due to a device goes out.
     fn feed(&mut self, dev: u8)
         requires dev { dev < 16 }
         requires due { IsSome (payload_of (context_of self.old.slots dev)) }
@@ -288,7 +288,7 @@ impl HostPort {
         Ok(Some(frame))
     }
 
-    // The command of a device's slot goes.
+    // The command of a device's slot goes out.
     fn send(&mut self, slot: u8, dev: u8, command: &Command)
         requires slot { slot < 32 }
         requires dev { dev < 16 }
@@ -325,10 +325,10 @@ impl HostPort {
         Ok(Some(frame))
     }
 
-    /// Gives the frame that goes out next, if one may: data for the lowest device that asked for
-    /// it, as it stands in client memory, and else the command of the lowest slot that may be sent.
-    /// A PRD table that can not be used any more stops the port. Where memory for the frame is
-    /// refused, nothing changes.
+    /// Gives the next frame to go out, if there is one. Data comes first, for the lowest device that asked
+    /// for it, with the bytes that are in client memory now. The command of the lowest slot that may be sent
+    /// comes next. A PRD table that can no longer be used stops the port. If memory for the frame is refused,
+    /// nothing changes.
     pub fn next_out(
         &mut self,
         alloc: Global,

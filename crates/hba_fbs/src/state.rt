@@ -1,13 +1,13 @@
-//! What a port keeps of a device beside its slots and its fault.
+//! What a port keeps for a device apart from its slots and its fault.
 
 ghost use Rattle.std.specs.Prelude.{◌≡◌, ◌<◌, ℕ};
 ghost use Rattle.hba_fbs.specs.Views.{opening_state, state_at, stopped_state, task_file};
 
 use crate::status::Block;
 
-/// The Status of a device that is ready: DRDY, and bit 4, which old standards call seek complete.
+/// The Status of a ready device: DRDY, and bit 4, which older standards call seek complete.
 const READY: u8 = 0x50;
-/// All bits of Status but BSY and DRQ.
+/// All bits of Status except BSY and DRQ.
 const IDLE: u8 = 0x77;
 
 /// The task file of a device, whether it is in software reset, and the block that its last setup began.
@@ -17,14 +17,14 @@ pub struct DeviceState {
     pub status: u8,
     /// Its Error.
     pub error: u8,
-    /// A control frame with SRST set went out, and no signature came since.
+    /// A control frame with SRST set went out to it, and no signature has come since.
     pub resetting: bool,
-    /// The block of its last setup, where that was a PIO Setup.
+    /// The block of its last setup, if that was a PIO Setup.
     pub block: Option<Block>,
 }
 
 impl DeviceState {
-    /// Of a device of which nothing was heard.
+    /// The state of a device that has sent nothing.
     pub(crate) fn new() -> DeviceState
         ensures { result ≡ opening_state }
     {
@@ -36,14 +36,14 @@ impl DeviceState {
         }
     }
 
-    /// PxTFD of the device.
+    /// The device's PxTFD.
     pub(crate) fn task_file(self) -> u32
         ensures { result ≡ task_file self }
     {
         256 * u32::from(self.error) + u32::from(self.status)
     }
 
-    /// After ST fell.
+    /// The state after ST falls.
     pub(crate) fn stopped(self) -> DeviceState
         ensures { result ≡ stopped_state self }
     {
@@ -64,7 +64,7 @@ pub(crate) fn state_of(states: &[DeviceState; 16], dev: u8) -> DeviceState
     states[dev as usize]
 }
 
-/// ST falls for every device.
+/// ST falls, for all devices.
 pub(crate) fn stop_all(states: &mut [DeviceState; 16])
     ensures { (n : ℕ) → n < 16 → state_at states.new n ≡ stopped_state (state_at states.old n) }
 {

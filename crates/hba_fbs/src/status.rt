@@ -1,4 +1,4 @@
-//! Status, and what FISes tell of a device's task file.
+//! Status, and what FISes say about a device's task file.
 
 ghost use Rattle.std.specs.Prelude.{◌≡◌};
 ghost use Rattle.hba_fbs.specs.Status.{after_reset as after_reset_of, is_busy as is_busy_status, is_error as is_error_status, is_quiet as is_quiet_status, wants_data as wants_data_status, with_bits as with_bits_of, with_block as with_block_of, with_file as with_file_of, with_status as with_status_of};
@@ -12,13 +12,13 @@ const ERR_BIT: u32 = 0;
 const DRQ_BIT: u32 = 3;
 /// Status.BSY.
 const BSY_BIT: u32 = 7;
-/// BSY and DRQ, which a Set Device Bits FIS does not tell.
+/// BSY and DRQ, which a Set Device Bits FIS does not carry.
 const UNTOLD: u8 = 0x88;
 
 /// The block of data that a PIO Setup begins.
 #[derive(Clone, Copy, Debug, PartialEq, Eq)]
 pub struct Block {
-    /// I: its end sets PSS.
+    /// I: whether its end sets PxIS.PSS.
     pub interrupts: bool,
     /// E_Status: the Status at its end.
     pub ends: u8,
@@ -45,7 +45,7 @@ pub(crate) fn wants_data(status: u8) -> bool
     has_bit(u32::from(status), DRQ_BIT)
 }
 
-/// Whether BSY, DRQ and ERR are 0.
+/// Whether BSY, DRQ and ERR are all 0.
 pub(crate) fn is_quiet(status: u8) -> bool
     ensures { result ≡ is_quiet_status status }
 {
@@ -53,7 +53,7 @@ pub(crate) fn is_quiet(status: u8) -> bool
 }
 
 impl DeviceState {
-    /// A FIS tells Status and Error.
+    /// A FIS brings Status and Error.
     pub(crate) fn with_file(self, status: u8, error: u8) -> DeviceState
         ensures { result ≡ with_file_of self status error }
     {
@@ -64,7 +64,7 @@ impl DeviceState {
         }
     }
 
-    /// A Set Device Bits FIS tells Error, and Status but for BSY and DRQ.
+    /// A Set Device Bits FIS brings Error, and Status without BSY and DRQ.
     pub(crate) fn with_bits(self, status: u8, error: u8) -> DeviceState
         ensures { result ≡ with_bits_of self status error }
     {
@@ -75,7 +75,7 @@ impl DeviceState {
         }
     }
 
-    /// A signature tells Status and Error, and the software reset ends.
+    /// A signature brings Status and Error and ends the software reset.
     pub(crate) fn after_reset(self, status: u8, error: u8) -> DeviceState
         ensures { result ≡ after_reset_of self status error }
     {
@@ -87,14 +87,14 @@ impl DeviceState {
         }
     }
 
-    /// A setup begins a block, or none.
+    /// A setup begins this block, or none.
     pub(crate) fn with_block(self, block: Option<Block>) -> DeviceState
         ensures { result ≡ with_block_of self block }
     {
         DeviceState { block, ..self }
     }
 
-    /// The end of a block tells Status.
+    /// The end of a block brings Status.
     pub(crate) fn with_status(self, status: u8) -> DeviceState
         ensures { result ≡ with_status_of self status }
     {

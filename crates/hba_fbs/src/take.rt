@@ -1,4 +1,4 @@
-//! FISes of devices are taken.
+//! Taking a FIS from a device.
 
 ghost use Rattle.std.specs.Prelude.{ℕ, List, ◌≡◌, ◌≢◌, ◌<◌, ◌-◌, None, Some, Ok, false, true, drop, length, IfSome};
 ghost use Rattle.fis_view.specs.Seen.{frame_of, seen};
@@ -25,7 +25,7 @@ use host_memory::HostMemory;
 use port_errors::{Interrupts, PortErrors};
 use rx_area::Posted;
 
-// Marks what is wrong with a FIS, and answers the bits of PxIS that it sets.
+// Records what is wrong with a FIS and answers the bits of PxIS that it sets.
 fn mark(errors: &mut PortErrors, dev: u8, fault: Option<Fault>) -> u32
     requires { dev < 16 }
     ensures interrupts { result ≡ fault_interrupts fault }
@@ -42,7 +42,7 @@ fn mark(errors: &mut PortErrors, dev: u8, fault: Option<Fault>) -> u32
     }
 }
 
-// The registers after what was heard, with the bits that its fault sets.
+// The registers after a FIS is heard, with the bits of PxIS that its fault sets.
 #[tactic(auto, unfolding(crate::specs::Taking::settled))]
 fn settled(registers: Registers, heard: Heard, interrupts: u32) -> Registers
     requires interrupts { interrupts ≡ fault_interrupts heard.fault }
@@ -56,7 +56,7 @@ fn settled(registers: Registers, heard: Heard, interrupts: u32) -> Registers
     }
 }
 
-// The FIS, where it has a right length and may come from this PM Port.
+// The FIS, if its length is right and it may come from this PM Port.
 fn admit(dev: u8, fis: Result<Fis<'_>, FisFault>) -> Option<Fis<'_>>
     ensures value { result ≡ admitted dev fis.entry }
     ensures is { IfSome result (λ f. fis.entry ≡ Ok f) }
@@ -83,7 +83,7 @@ impl HostPort {
             || self.states[dev as usize].resetting && !signs(fis)
     }
 
-    // A frame that is no FIS that may come from this PM Port.
+    // Hears a frame that is no FIS, or a FIS that may not come from this PM Port.
     fn hear_bad(&mut self, dev: u8) -> TakeReport
         requires dev { dev < 16 }
         requires sound { (view_of dev self.old).fault ≡ None }
@@ -97,7 +97,7 @@ impl HostPort {
         TakeReport::heard(dev, Posted::Nothing, heard)
     }
 
-    // A FIS that may come from this PM Port.
+    // Hears a FIS that may come from this PM Port.
     fn hear_good(&mut self, dev: u8, fis: &Fis<'_>, memory: &mut HostMemory) -> TakeReport
         requires dev { dev < 16 }
         requires sound { (view_of dev self.old).fault ≡ None }
@@ -157,10 +157,10 @@ impl HostPort {
         }
     }
 
-    /// Takes a FIS of a device, or of the control port: it is ignored, or posted and heard. A
-    /// device that sends something wrong is faulty until it is flushed, and the others go on; what
-    /// is wrong with the control port or with the memory stops the port. No FIS changes a cause that is kept, and none
-    /// gives another device one.
+    /// Takes a FIS from a device or from the control port. It is either ignored, or posted and heard. A
+    /// device that sends something wrong is faulty until it is flushed or cleared; the others go on. An error
+    /// of the control port or of the memory stops the port. No FIS changes a cause that already stands, and
+    /// none gives another device a cause.
     pub fn take(&mut self, frame: &Frame, memory: &mut HostMemory) -> TakeReport
         ensures ignored { ignores (port_of frame.now.bytes) self.old frame.now.bytes ≡ true
             → Ignores (port_of frame.now.bytes) self.old memory.old result self.new memory.new }

@@ -15,7 +15,7 @@ loop-part-preserved c =
     ∙ ap (λ (parts : List (List ℕ)). c.loop-part.bytes.items ++ concat parts) (sym c.in-Some.ensures.steps)
     ∙ c.loop-part.invariant
 
--- nothing is left, so behind the head is the whole
+-- nothing is left, so the whole is behind the head
 pub returns-clause-bytes : goal.returns-clause-bytes
 returns-clause-bytes c =
     let dev = c.args.dev in
