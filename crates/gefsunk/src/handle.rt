@@ -108,7 +108,8 @@ impl PmHandle {
 
     /// Takes the multiplier out, and leaves the handle closed.
     pub fn take(&mut self, alloc: Global) -> Option<Box<Pm>>
-        ensures taken { MatchOption result (self.old.held.value ≡ None) (λ pm. self.old.held.value ≡ Some pm.value) }
+        ensures taken { MatchOption result (self.old.held.value ≡ None) (λ pm.
+            self.old.held.value ≡ Some pm.value) }
         ensures closed { self.new.held.value ≡ None }
     {
         if self.mark != OPEN {

@@ -111,15 +111,21 @@ fn finished<'a>(
     pm: PmEnd<'a>,
     host: HostEnd<'a>,
 ) -> Result<Finished<'a>, RunError>
-    requires { AreOfOneRun (record { disks = map (λ e. e.station) disks.items; pm = pm.worker; host = host.worker }) }
+    requires { AreOfOneRun (record {
+      disks = map (λ e. e.station) disks.items;
+      pm = pm.worker;
+      host = host.worker;
+    }) }
     ensures disks { IfOk result (λ f. f.disks ≡ map (λ e. e.station) disks.entry.items) }
     ensures no_fault { OnOk result (All (λ e. e.fault ≡ None) disks.entry.items) }
     ensures host { IfOk result (λ f. f.host ≡ host.entry.worker) }
     ensures closed { OnOk result (list_any is_open host.entry.worker.states ≡ false) }
     ensures bad_setup { result ≡ Err RunError.BadSetup → ⊥ }
-    ensures short { is_any_short disks.entry.items pm.entry.fault host.entry.fault ≡ true → result ≡ Err RunError.OutOfMemory }
+    ensures short { is_any_short disks.entry.items pm.entry.fault host.entry.fault ≡ true
+        → result ≡ Err RunError.OutOfMemory }
     ensures gate { result ≡ Err RunError.GateShut → list_any (λ e. is_shut e.fault) disks.entry.items ≡ true }
-    ensures spent { result ≡ Err RunError.TurnsSpent → is_any_spent disks.entry.items pm.entry.spent host.entry.spent ≡ true }
+    ensures spent { result ≡ Err RunError.TurnsSpent
+        → is_any_spent disks.entry.items pm.entry.spent host.entry.spent ≡ true }
     ensures quiet { result ≡ Err RunError.TurnsSpent → All (λ e. e.fault ≡ None) disks.entry.items }
     ensures open { result ≡ Err RunError.TurnsSpent → list_any is_open host.entry.worker.states ≡ true }
 {

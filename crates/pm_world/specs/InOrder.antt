@@ -79,9 +79,12 @@ ReadsFollowWrites =
     → NoneCovers (512 * second.reported.request.lba + i)
     (drop (suc ((first.honest sectors plan disk queued
     (disk_run config units first.reported.dev first.reported.conn first.reported.took.at
-    first.reported.took.before first.reported.took.told first.reported.took.came c) refl).ends.writes writes).at)
+    first.reported.took.before first.reported.took.told first.reported.took.came c)
+    refl).ends.writes writes).at)
     ((second.honest sectors plan disk_too queued_too
     (disk_run config units second.reported.dev second.reported.conn second.reported.took.at
-    second.reported.took.before second.reported.took.told second.reported.took.came d) refl).ends.reads reads).read.before)
-    → StandsThere (slice_index now.host.memory.client (place second.reported.request.prds.items i - client_start))
+    second.reported.took.before second.reported.took.told second.reported.took.came d)
+    refl).ends.reads reads).read.before)
+    → StandsThere (slice_index now.host.memory.client
+    (place second.reported.request.prds.items i - client_start))
     first.reported.request.prds.items first.reported.submitted.at.host.memory j

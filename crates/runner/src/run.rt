@@ -41,7 +41,8 @@ fn run_many<W: Worker, R: Threads + Wait + Sync>(
         rt,
         move |scope| -> Result<(Vec<W::End>, W::End), AllocError>
             requires { IsSync R.row × IsSend W.row × IsSend W.End.row }
-            ensures many { IfOk result (λ ends. AllZip (λ w end. W.ended w turns end) workers.items ends.0.items) }
+            ensures many { IfOk result (λ ends.
+                AllZip (λ w end. W.ended w turns end) workers.items ends.0.items) }
             ensures last { IfOk result (λ ends. W.ended last turns ends.1) }
         {
             let promise = EndOf(Snapshot::of(&last), turns);
@@ -83,7 +84,8 @@ pub fn run_three<D: Worker, P: Worker, H: Worker, R: Threads + Wait + Sync>(
         thread::scope_env(),
         rt,
         move |scope| -> Result<(Vec<D::End>, P::End, H::End), AllocError>
-            ensures many { IfOk result (λ ends. AllZip (λ w end. D.ended w turns end) many.items ends.0.items) }
+            ensures many { IfOk result (λ ends.
+                AllZip (λ w end. D.ended w turns end) many.items ends.0.items) }
             ensures one { IfOk result (λ ends. P.ended one turns ends.1) }
             ensures other { IfOk result (λ ends. H.ended other turns ends.2) }
         {
