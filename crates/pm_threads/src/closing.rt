@@ -63,7 +63,6 @@ impl From<AllocError> for CloseError {
 /// every link what was taken is a beginning of what was sent. The multiplier is a run of its calls:
 /// what it took of a connection whose removal it has not recorded is what it put up and what it
 /// holds. The memory is what the turns of the host made of it.
-/// multiplier is a run of its calls. The memory is what the turns of the host made of it.
 #[tactic(auto, using(crate::proofs::Ends::link_prefix))]
 pub fn close<'a, R: Wait>(
     rt: &R,

@@ -133,7 +133,6 @@ fn others_go_on(rt: HostRuntime) -> Result<(), Fail> {
 
 /// A command of device 2 that went out to it is no longer waited for once the device is cleared. A
 /// write that is refused clears nothing.
-/// nothing.
 #[test]
 fn clears_what_went_out(rt: HostRuntime) -> Result<(), Fail> {
     let mut rig = Rig::started(rt.alloc())?;

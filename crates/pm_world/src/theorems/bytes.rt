@@ -9,7 +9,6 @@ ghost use Rattle.pm_world.specs.Submitted.{ReadsBringSubmitted, SentAsSubmitted,
 /// write that a poll answers as done is on the medium of its disk with just these bytes, if the disk
 /// was left alone from its plugging as the connection of that FIS up to that FIS. And a read that was
 /// submitted after such a write had ended brings these bytes, where no later write has them.
-/// a write had ended brings these bytes, where no later write has them.
 pub fn writes_are_as_submitted()
     ensures sent { SentAsSubmitted }
     ensures written { WrittenAsSubmitted }
