@@ -194,8 +194,8 @@ abbrev pub HasEnded : Memory → List HostTurn → Planned → State → Type 0
 HasEnded start turns p (state.Ended end) = IsEnd at_any_time start turns p end
 HasEnded start turns p s = ⊥
 
--- what a request that waits requires of each before it; and what a request that does not wait
--- requires
+-- what a request requires of each before it: one that waits, that it has ended; one that does not,
+-- that it has begun
 abbrev pub IsPast : Bool → Memory → List HostTurn → Planned → State → Type 0
 IsPast true start turns p s = HasEnded start turns p s
 IsPast false start turns p s = HasBegun start turns p s

@@ -32,9 +32,9 @@ abbrev pub is_up : Answer → Bool
 is_up (answer.Up port) = true
 is_up _ = false
 
--- Connection c of port n, or a later one, is recorded as removed in the first of these answers.
--- Within the second answers the host took a frame that went up after that: it took more frames than
--- had gone up by then.
+-- Connection c of port n, or a later one, is recorded as removed in the first of these answers. By
+-- the end of the second the host took a frame that went up after them: it took more frames than had
+-- gone up in the first.
 pub record IsSeen (n c : ℕ) (first second : List Answer) : Type 0 where
   pub some : 0 < c
   pub recorded : c ≤ highest_gone (recorded_at n first)
