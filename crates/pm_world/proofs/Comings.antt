@@ -1,4 +1,4 @@
--- A connection that came by no answer has sent nothing, so nothing of it was taken.
+-- A connection of which no answer says that it came has sent nothing, so nothing of it was taken.
 use Rattle.std.proofs.Common.{◌≡◌, ◌≢◌, ℕ, zero, suc, ◌+◌, ◌<◌, ◌≤◌, List, [], ◌∷◌, ◌++◌, Option, Some, None, Bool, true, false, refl, sym, ap, subst, ◌∙◌, append_assoc, inl, inr, map, length, arith, length-append}
 use Rattle.std.specs.Prelude.{◌&&◌, ◌==◌, ◌||◌, ◌⊎◌, if◌then◌else◌, slice_get, slice_set, IsTrue, Ok, option_map}
 use Rattle.std.specs.Option.{option_or}
