@@ -101,7 +101,8 @@ fn worked(
     Some((count, conn, number, changes(rt, &mut presence), end.fault))
 }
 
-/// What is left of a disk that is pulled out after so many FISes, with IDENTIFY for this connection on its link.
+/// What is left of a disk that is pulled out after this many FISes, with IDENTIFY for this connection
+/// on its link.
 fn at_work(
     rt: &impl Wait,
     alloc: Global,

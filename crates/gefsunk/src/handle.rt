@@ -109,7 +109,8 @@ impl Handle {
 
     /// Takes out what is kept, and leaves the handle closed.
     pub fn take(&mut self, alloc: Global) -> Option<Box<Kept>>
-        ensures taken { MatchOption result (self.old.held.value ≡ None) (λ kept. self.old.held.value ≡ Some kept.value) }
+        ensures taken { MatchOption result (self.old.held.value ≡ None) (λ kept.
+            self.old.held.value ≡ Some kept.value) }
         ensures closed { self.new.held.value ≡ None }
     {
         if self.mark != OPEN {

@@ -47,7 +47,7 @@ module _ {A : Type 0} (part : PortSeats → List A) where
         ∙ ap (λ b. at_port part ports n ++ (if b then xs else [])) (sym (ne_eqb i n (λ same. away (sym same))))
   ]
 
-  -- what holds of each holds after
+  -- what holds for each holds for each after it
   pub each_at : (P : List A → Type 0) (ports : List PortSeats) (i : ℕ) (q : PortSeats) → P (part q) → ((n : ℕ) → P (at_port part ports n))
       → (n : ℕ) → P (at_port part (slice_set ports i q) n)
   each_at P [] i q is all n = all n

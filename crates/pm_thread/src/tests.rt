@@ -22,7 +22,7 @@ const OPEN: [u8; 20] = [
     0x27, 0x8F, 0xE8, 0x02, 0, 0, 0, 0, 0, 0, 0, 0, 0, 0, 0, 0, 0, 0, 0, 0,
 ];
 
-/// The same of PSCR[1]: what changed there was seen.
+/// The same for PSCR[1]: what changed there was seen.
 const CLEAR: [u8; 20] = [
     0x27, 0x8F, 0xE8, 0x01, 0, 0x01, 0x04, 0, 0, 0, 0, 0, 0, 0, 0, 0, 0, 0, 0, 0,
 ];
@@ -126,9 +126,9 @@ fn worker<'a>(
     Ok(PmWorker::new(alloc, ports, host, commands))
 }
 
-/// The host opens port 0 and sends a read there, and the device there sends a FIS. It works until nothing
-/// moved in so many turns, over links with so many places. Answers how many FISes come to the host, whether the
-/// read comes to the device, and what the status of the port is then.
+/// The host opens port 0 and sends a read there, and the device there sends a FIS. The worker works
+/// until nothing moved in this many turns, over links with this many places. Answers how many FISes
+/// come to the host, whether the read comes to the device, and what the status of the port is then.
 fn worked<R: Wait>(
     rt: &R,
     alloc: Global,

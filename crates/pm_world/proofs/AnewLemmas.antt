@@ -1,4 +1,5 @@
--- From each order to clear a port until that is taken the host serves the device at the port anew, and it and a disk that is plugged in there are ends that go on.
+-- From each order to clear a port until that order is taken, the host serves the device at the port
+-- anew. The host and a disk that is plugged in there are ends that go on.
 use Rattle.std.proofs.Common.{◌≡◌, ◌==◌, ℕ, ◌<◌, Bool, true, false, List, [], ◌∷◌, ◌++◌, append_assoc, length, refl, sym, ap, subst, ◌∙◌, inl, inr}
 use Rattle.std.proofs.Common.{Ok, arith}
 use Rattle.std.proofs.Common.{map}
@@ -78,11 +79,11 @@ has_more n [] f other has = absurd has
 has_more n (g ∷ frames) f other (inl is) = inl (is.0, each_more (λ (x : Stamped). is_clear n x ≡ false) frames f is.1 other)
 has_more n (g ∷ frames) f other (inr is) = inr (is.0, has_more n frames f other is.1)
 
--- the bit says whether an order is to be sent
+-- the bit says whether an order is still to be sent
 next_bit : (b pushes unsent : Bool) → b ≡ false → (if b then true else if pushes then false else unsent) ≡ (if pushes then false else unsent)
 next_bit b pushes unsent none = ap (λ (c : Bool). if c then true else if pushes then false else unsent) none
 
--- the world is where a run from a new one leads
+-- the world is one to which a run from a new one leads
 pub now_at : (config : Config) (units : List Unit) → is_config config (length units) ≡ true → (before : List Step) (told : List Answer) (old : Places)
     → Run (new_world config units) before told old → IsNow old
 now_at config units fits before told old made = run_now (new_world config units) before told old (opening_now units config fits) made
@@ -94,14 +95,15 @@ module _ (config : Config) (units : List Unit) (fits : is_config config (length 
   pub right : is_memory_size config.memory ≡ true
   right = sized config (length units) fits
 
-  -- The port is held, and the host serves the device anew; it and the disk are ends from where the disk is plugged in.
+  -- The port is held, and the host serves the device anew. The host and the disk are ends from the
+  -- step that plugs the disk in.
   pub record IsAnew (turns : List HostTurn) (now : Places) : Type 0 where
     pub held : IsHeld n now
     pub host : HostOn n config.memory turns now.host (Plugged ∷ [])
     pub unfaulted : IsUnfaulted n now.host.port
     pub ends : HasEnds n config.memory no_floors turns now.host (earlier ++ Plugged ∷ []) [] []
 
-  -- an order to clear it is to be sent, it is on its way, or there is none
+  -- an order to clear the port is still to be sent, or it is on its way, or there is none
   pub data Ordered (unsent : Bool) (turns : List HostTurn) (now : Places) : Type 0 where
     Unsent : unsent ≡ true → Nothing (is_clear n) now.downward.frames → IsAnew turns now → Ordered unsent turns now
     Sent : unsent ≡ false → HasClear n now.downward.frames → IsAnew turns now → Ordered unsent turns now
@@ -157,7 +159,7 @@ module _ (config : Config) (units : List Unit) (fits : is_config config (length 
         none_at_host answer.Pushed untaken given = sym (ap (map (λ (bytes : List ℕ). Received bytes)) given)
         none_at_host b untaken given = refl
 
-    -- it goes on so while the port is not cleared
+    -- that goes on while the port is not cleared
     anew_after : IsAnew turns old → IsUnflushed n old a → is_cleared n old a ≡ false → IsAnew now_turns new
     anew_after anew idle none =
         let f : FirstOn drivers_serve n config.memory below right turns old s a new = first_anew anew in
@@ -168,7 +170,7 @@ module _ (config : Config) (units : List Unit) (fits : is_config config (length 
           ends = ends_now anew idle;
         }
 
-    -- what flushes the device orders that its port be cleared
+    -- a step that flushes the device orders that its port be cleared
     unflushed_now : orders_clear n old a ≡ false → IsUnflushed n old a
     unflushed_now idle = by_answer a idle
       where
@@ -311,7 +313,7 @@ module _ (config : Config) (units : List Unit) (fits : is_config config (length 
         by_case idle (Sent is has anew) = sent_on idle is has anew
         by_case idle (Idle is none) = idle_on idle is none
 
-    -- where the port is cleared now, the host serves the device anew
+    -- when the port is cleared, the host serves the device anew
     pub cleared_anew : Ordered unsent turns old → is_cleared n old a ≡ true → IsAnew turns old
     cleared_anew (Unsent is none anew) cleared = anew
     cleared_anew (Sent is has anew) cleared = anew

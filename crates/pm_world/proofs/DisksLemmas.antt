@@ -186,7 +186,7 @@ part_front part whole p =
     let stay : StayWritten part p.later = writes_stay part p.later in
     record { later = stay.later; same = ap (λ (xs : List Happening). (ledger xs).writes) p.is ∙ stay.same }
 
--- of two fronts of a list the shorter one is a front of the other
+-- of two beginnings of a list, the shorter is a beginning of the other
 front_by : (a b c : List Written) (x y : List Written) → c ≡ a ++ x → c ≡ b ++ y → length a ≤ length b → IsFront a b
 front_by [] b c x y first second short = record { later = b; same = refl }
 front_by (w ∷ a) [] c x y first second short = absurd (omega (arith, short))

@@ -1,4 +1,5 @@
--- A disk and the host of a world are ends that go on, from the step on that plugs the disk in, as long as it is left alone.
+-- A disk and the host of a world are ends that go on, from the step that plugs the disk in, as long
+-- as the disk is left alone.
 use Rattle.std.proofs.Common.{◌≡◌, ◌≢◌, ℕ, ◌<◌, Bool, true, false, List, [], ◌∷◌, ◌++◌, append_assoc, length, refl, sym, ap, subst, ◌∙◌, inl, inr, ◌==◌, ◌≤◌, None, Option}
 use Rattle.std.proofs.Common.{Some, Ok}
 use Rattle.std.specs.Prelude.{◌⊎◌}
@@ -135,7 +136,7 @@ module _ (config : Config) (units : List Unit) (fits : is_config config (length 
     pub opens : IsOpenFor n c unsent now
     pub ends : HasEndsOn n c config.memory floors turns now (earlier ++ happened)
 
-  -- nothing of it passed its port yet, or so it is
+  -- nothing of it passed its port yet, or it is served
   pub data Stage (floors : ℕ → ℕ) (now : Places) (happened : List Happening) (turns : List HostTurn) : Type 0 where
     Waiting : IsWaiting n c now happened → WaitsFor n c now → Stage floors now happened turns
     Serving : IsServing floors now happened turns → Stage floors now happened turns
@@ -243,7 +244,7 @@ module _ (config : Config) (units : List Unit) (fits : is_config config (length 
   clears_unflushed old answer.Ticked cleared = absurd (false≢true cleared)
   clears_unflushed old a cleared = tt
 
-  -- and is no turn of the host
+  -- and is not a turn of the host
   clears_quiet : (old : Places) (a : Answer) → is_cleared n old a ≡ true → IsNoTurn a
   clears_quiet old (answer.Took port conn number bytes report) cleared = absurd (false≢true cleared)
   clears_quiet old answer.Pushed cleared = absurd (false≢true cleared)
@@ -262,7 +263,7 @@ module _ (config : Config) (units : List Unit) (fits : is_config config (length 
   unfolding Unasked
   anew_unasked on = (on.serves.steady, λ asked. on.serves.signed asked (begins_anew.plugged []).awaited)
 
-  -- so that any floors may be taken that it reached
+  -- so any floors may be taken that it reached
   cleared_rises : (floors : ℕ → ℕ) (disk : List Happening) (turns : List HostTurn) (now : Places) → IsNow now → (up : List (List ℕ))
       → IsDiskRun plan sectors disk → Unasked now.host → AreFloors floors disk → HasEnds n config.memory no_floors turns now.host disk [] up
       → HasEnds n config.memory floors turns now.host disk [] up

@@ -1,4 +1,5 @@
--- Each step of a world leaves a disk and the host that serves it together or apart, with what is on its way between them.
+-- Each step of a world leaves a disk and the host that serves it together or apart, with what is on
+-- its way between them.
 use Rattle.std.proofs.Common.{◌≡◌, ◌≢◌, ◌==◌, ℕ, ◌<◌, Bool, true, false, List, [], ◌∷◌, ◌++◌, drop, length, map, refl, sym, ap, subst, ◌∙◌, inl, inr}
 use Rattle.std.proofs.Common.{Some, None, Ok, arith}
 use Rattle.std.specs.Prelude.{◌⊎◌, MatchBool, if◌then◌else◌}
@@ -44,20 +45,21 @@ use Rattle.pm_world.proofs.ExactLemmas.{Comes, ExactMoves, Gives, IsExact, Sends
 
 -- ## What is kept
 
--- The host came here over these turns. It and the disk at port n, which did all of this, are together or apart, with these lists on their way.
+-- The host came here over these turns. The host and the disk at port n, which did all of this, are
+-- together or apart, with these lists on their way.
 pub record HasEnds (n len : ℕ) (floors : ℕ → ℕ) (turns : List HostTurn) (h : Host) (disk : List Happening) (down up : List (List ℕ)) : Type 0 where
   pub touches : Touches
   pub touched : AreTouched len turns h touches
   pub ends : AreEnds n h disk down up floors touches
 
--- and just these are on the wire of the unit, which is there as connection c
+-- and exactly these are on the wire of the unit, which is there as connection c
 pub record HasEndsOn (n c len : ℕ) (floors : ℕ → ℕ) (turns : List HostTurn) (now : Places) (disk : List Happening) : Type 0 where
   pub down : List (List ℕ)
   pub up : List (List ℕ)
   pub exact : IsExact n c now down up
   pub both : HasEnds n len floors turns now.host disk down up
 
--- so it is where the host of a world is, by what touched it since its opening
+-- that holds where the host of a world is, by what touched it since its opening
 pub running : (len : ℕ) → is_memory_size len ≡ true → (plan : DiskPlan) (sectors : ℕ) → IsSize plan sectors → (disk : List Happening)
     → IsDiskRun plan sectors disk → (turns : List HostTurn) (now : Places) → IsNow now → (touches : Touches) → AreTouched len turns now.host touches
     → IsRunning plan sectors disk touches now.host
@@ -75,7 +77,7 @@ running len right plan sectors size disk run turns now i touches touched = recor
 
 -- ## The turn of a step
 
--- a step with such an answer is no turn of the host
+-- a step with such an answer is not a turn of the host
 abbrev pub IsNoTurn : Answer → Type 0
 IsNoTurn (answer.Took port conn number bytes report) = ⊥
 IsNoTurn answer.Pushed = ⊥
@@ -130,13 +132,13 @@ module _ (old new : Places) where
   no_turn s answer.Put quiet = absurd quiet
   no_turn s a quiet = refl
 
--- then the host is as it was
+-- the host is as it was then
 pub same_host : (old new : Places) (s : Step) (a : Answer) → Rule old s (Ok a) new → IsNoTurn a → new.host ≡ old.host
 same_host old new s a rule quiet = subst (λ (ts : List HostTurn). DoesAll old.host ts new.host) (no_turn old new s a quiet) (rule_does old s a new rule)
 
 -- ## A step in which no FIS of the device comes or goes at the host
 
--- it is no turn of the host, or one beside the device
+-- it is not a turn of the host, or it is a turn beside the device
 abbrev IsAside : ℕ → Host → List HostTurn → Type 0
 IsAside n old turns = (turns ≡ []) ⊎ ((t : HostTurn) × ((turns ≡ t ∷ []) × IsBesideTurn n old t))
 
@@ -146,7 +148,7 @@ IsUnflushed n old answer.Ticked = IsFlushTick n old.host → ⊥
 IsUnflushed n old a = Prim.Unit {0}
 
 module _ (n : ℕ) (old : Places) (i : IsNow old) (s : Step) (new : Places) where
-  -- a FIS of another one
+  -- a FIS of another device
   took_aside : (port conn number : ℕ) (bytes : List ℕ) (report : TakeReport) (b : Bool) (heard : List Happening) → heard ≡ [] → (port == n) ≡ b
       → MatchBool b ((plain : List ℕ) × (heard ≡ Sent plain ∷ []) × (bytes ≡ marked plain n)) (heard ≡ []) → port_of bytes ≡ port
       → IsAside n old.host (Took bytes report ∷ [])
@@ -250,7 +252,7 @@ module _ (n len : ℕ) (below : n < 15) (right : is_memory_size len ≡ true) (p
           ends = e.ends;
         })
 
-    -- and one that is none
+    -- and a step that is none
     with_host : (ts : List HostTurn) (d : List Happening) (downs ups : List (List ℕ)) → ts ≡ [] → new.host ≡ old.host → AreEnds n old.host d downs ups floors h.touches
         → HasEnds n len floors (turns ++ ts) new.host d downs ups
     with_host ts d downs ups none same ends =
@@ -297,7 +299,7 @@ module _ (n len : ℕ) (below : n < 15) (right : is_memory_size len ≡ true) (p
         with_host (turn_of old s a new) (disk ++ Sent bytes ∷ []) down (up ++ bytes ∷ []) (no_turn old new s a quiet) (same_host old new s a rule quiet)
         ((ends_go_on n plan sectors).1.sends old.host disk down up bytes floors h.touches below (runs (disk ++ Sent bytes ∷ []) run) h.ends)
 
-    -- the host takes the next of it
+    -- the host takes its next one
     takes_one : (c number : ℕ) (bytes : List ℕ) (later : List (List ℕ)) (report : TakeReport) → IsDiskRun plan sectors disk → IsOfItsPort a
         → a ≡ answer.Took n c number (marked bytes n) report → up ≡ bytes ∷ later → HasEnds n len floors (turns ++ turn_of old s a new) new.host disk down later
     takes_one c number bytes later report run its told is =

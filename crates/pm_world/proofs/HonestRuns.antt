@@ -64,7 +64,7 @@ use Rattle.pm_world.proofs.LineLemmas.{IsNow}
 
 -- ## The next FIS
 
--- these bytes come next of connection c of port n, which is that of the answer
+-- these bytes come next on connection c of port n, which is the connection of the answer
 record IsNextOf (n c port conn : ℕ) (bytes : List ℕ) (up : List (List ℕ)) : Type 0 where
   plain : List ℕ
   later : List (List ℕ)
@@ -197,7 +197,7 @@ module _ (config : Config) (units : List Unit) (n sectors : ℕ) (plan : DiskPla
 
   -- ## Where a request was submitted
 
-  -- it was, after this; and with a floor at that the disk and the host go on
+  -- it was submitted, after this history, with floors at which the disk and the host go on
   record HasSubmit (slot : ℕ) (e : Entry) : Type 0 where
     submit_before : List Happening
     submitted : WasSubmitted config units n now d e submit_before
@@ -357,7 +357,7 @@ module _ (config : Config) (units : List Unit) (n sectors : ℕ) (plan : DiskPla
 
   module _ (s : Step) (port conn number : ℕ) (bytes : List ℕ) (report : TakeReport) (new : Places)
       (rule : Rule now s (Ok (answer.Took port conn number bytes report)) new) (here : (port == n) ≡ true) (same : conn ≡ d.conn) where
-    -- nothing of it is on the host's link before
+    -- nothing of it is on the host's link before that
     never_waiting : IsWaiting n d.conn now since → ⊥
     never_waiting waits =
         let m = rule_moves now s (answer.Took port conn number bytes report) new waits.off.orderly rule in

@@ -1,4 +1,4 @@
--- A read that is submitted in a run behind the poll of a write brings the bytes of the write.
+-- A read that is submitted in a run after the poll of a write brings the bytes of the write.
 use Rattle.std.proofs.Common.{◌≡◌, ◌-◌, ◌*◌, ◌+◌, ◌<◌, ◌≤◌, ℕ, zero, suc, true, List, [], ◌∷◌, ◌++◌, append_assoc, drop, length, length-append, refl, ap, subst, sym, ◌∙◌, arith, Some}
 use Rattle.std.specs.Prelude.{slice_index}
 use Rattle.std.proofs.Math.Path.{path_j, subst_refl}
@@ -183,7 +183,7 @@ over_append tell a b c (s ∷ first) (x ∷ told) second more run next =
 over_append tell a b c [] (x ∷ told) second more run next = absurd run
 over_append tell a b c (s ∷ first) [] second more run next = absurd run
 
--- a run in two parts about a step
+-- a run in two parts around a step
 abbrev parted : (s : Step) (a : Answer) (old new : Places) (ss : List Step) (aa : List Answer) (r : Run old ss aa new) (i : IsStepOf s a old new ss aa r)
     → Run old (i.before ++ s ∷ i.after) (i.told ++ a ∷ i.later) new
 parted s a old new ss aa r i = run_append old i.at new i.before i.told (s ∷ i.after) (a ∷ i.later) i.came (i.next, i.rule, i.went)
@@ -237,7 +237,7 @@ counted_at xs ys t counted =
     ranged 1 (length (flat_map given_by (xs ++ answer.Submitted t ∷ ys))) (flat_map given_by xs) t.0 (flat_map given_by ys)
     (sym (flat_map-append given_by xs (answer.Submitted t ∷ ys)) ∙ counted)
 
--- a list that was taken apart where as many tickets were given is taken apart at one place
+-- a list that was taken apart where equally many tickets were given is taken apart at one place
 same_place : (xs ys us vs : List Answer) (t u : Ticket) → xs ++ answer.Submitted t ∷ ys ≡ us ++ answer.Submitted u ∷ vs
     → length (flat_map given_by xs) ≡ length (flat_map given_by us) → length xs ≡ length us
 same_place [] ys [] vs t u e n = refl
@@ -274,7 +274,7 @@ as_many old new (s ∷ ss) [] run = absurd run
 
 -- ## The law
 
--- what had happened as a request was submitted, by a run that is the first of these
+-- what had happened when a request was submitted, by a run that is the first part of these
 record IsSubmittedAt (config : Config) (units : List Unit) (n : ℕ) (S : List Step) (A : List Answer) (W : List Places) (count : ℕ)
     (before : List Happening) : Type 0 where
   at : Places
@@ -292,7 +292,7 @@ module _ (config : Config) (units : List Unit) (fits : is_config config (length 
   counted : AreCounted (flat_map given_by U)
   counted = (keeps_tickets (new_world config units) T U now took).given config units fits [] [] refl
 
-  -- it is one place in the answers, and so one in the steps
+  -- it is one place in the answers, and so one place in the steps
   at_place : (t : Ticket) (front back : List Answer) → U ≡ front ++ answer.Submitted t ∷ back → t.0 ≡ ticket.0 → length front ≡ length sub.before
   at_place t front back is same =
       given_once front back sub.told sub.later t ticket U is sub.answers_are same counted
@@ -435,7 +435,7 @@ reads_follow_writes config units fits steps answers now run written read poll fi
         (told_over config units first.reported.dev first.reported.conn first.reported.took.at first.reported.took.before first.reported.took.told
         first.reported.took.came c)
 
-    -- the law of histories, at the port by another name
+    -- the law of histories, at the port under another name
     brings : (n : ℕ) → n ≡ first.reported.dev → (at : Places) (f : DiskRun config units n at) (slot : ℕ) (e : Entry) (memory : Memory)
         (is_read : e.head.work ≡ Read) (ended : EndedSince config units n at f sectors slot e memory)
         → IsPart

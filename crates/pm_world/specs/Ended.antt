@@ -1,7 +1,7 @@
--- What a request that is done is to a disk: a read brought the sectors of the medium as they were
--- when the disk started it, and a write is on the medium (ACS-3, READ FPDMA QUEUED and WRITE FPDMA
--- QUEUED; AHCI 1.3.1, 4.2.3.3, Physical Region Descriptor Table). The ledger of FISes is that of
--- `disk_model` (specs/Ledger.antt), entries are those of `hba_driver` (specs/Drivers.antt).
+-- What a request that is done means to a disk. A read brought the sectors of the medium as they were
+-- when the disk started it. A write is on the medium (ACS-3, READ FPDMA QUEUED and WRITE FPDMA
+-- QUEUED; AHCI 1.3.1, 4.2.3.3, Physical Region Descriptor Table). The ledger of FISes comes from
+-- `disk_model` (specs/Ledger.antt), entries from `hba_driver` (specs/Drivers.antt).
 use Rattle.std.specs.Prelude.{ℕ, ◌≡◌, ◌-◌, ◌*◌, ◌<◌, ◌≤◌, List, length, slice_get}
 use Rattle.std.specs.Prelude.{slice_index, Option, Some}
 use Rattle.host_memory.specs.Memory.{Memory, client_start}
@@ -27,9 +27,10 @@ pub record IsCommandOf (s : ℕ) (head : Head) (c : Command) : Type 0 where
   pub lba : c.lba ≡ head.lba
   pub count : c.count ≡ head.sectors
 
--- A read that the disk ended: its bytes stand in client memory, each at its place, and are its
--- sectors of the medium, as the writes that had ended when the disk started it left them. Those are
--- the first ones of all that ended by now, with all that had ended when the request was submitted.
+-- A read that the disk ended. Its bytes stand in client memory, each at its place, and are its
+-- sectors of the medium, as the writes that had ended when the disk started it left them. Those
+-- writes are the first of all that ended by now, and include all that had ended when the request was
+-- submitted.
 pub record ReadsSectors (sectors s : ℕ) (e : Entry) (submitted happened : List Happening)
     (memory : Memory) : Type 0 where
   pub at : ℕ
@@ -42,8 +43,8 @@ pub record ReadsSectors (sectors s : ℕ) (e : Entry) (submitted happened : List
       → StandsAt (sectors_at (medium_with sectors read.before) e.head.lba e.head.sectors) e.prds
       memory i
 
--- A write that the disk entered on its medium: in its sectors, with just the bytes of its transfer
--- that went over, behind all writes that had ended when the request was submitted.
+-- A write that the disk entered on its medium: in its sectors, with exactly the bytes of its transfer
+-- that went over, after all writes that had ended when the request was submitted.
 pub record WritesSectors (s : ℕ) (e : Entry) (submitted happened : List Happening)
     (filled : ℕ → Option ℕ) : Type 0 where
   pub at : ℕ
@@ -55,8 +56,8 @@ pub record WritesSectors (s : ℕ) (e : Entry) (submitted happened : List Happen
   pub long : length written.bytes ≡ 512 * e.head.sectors
   pub bytes : (i : ℕ) → i < 512 * e.head.sectors → filled i ≡ slice_get written.bytes i
 
--- the request of an entry ended honestly, by what had happened to the disk when it was submitted,
--- and by now
+-- the request of an entry ended honestly, by what had happened to the disk when it was submitted, and
+-- by now
 pub record EndsHonestly (sectors s : ℕ) (e : Entry) (submitted happened : List Happening)
     (filled : ℕ → Option ℕ) (memory : Memory) : Type 0 where
   pub reads : e.head.work ≡ Read → ReadsSectors sectors s e submitted happened memory

@@ -9,7 +9,7 @@ use std::sync::atomic::{AtomicU64, Ordering};
 use std::test::Fail;
 use std::thread::Threads;
 
-/// Says that it is there, and waits until so many others are.
+/// Says that it is there, and waits until this many others are.
 #[derive(Drop)]
 struct Guest<'a> {
     number: u64,
@@ -40,7 +40,7 @@ impl<'a> Worker for Guest<'a> {
     }
 }
 
-/// So many guests beside two more: who has met all others.
+/// This many guests beside two more: who has met all others.
 fn met<R: Wait + Threads + Sync>(
     rt: &R,
     alloc: Global,

@@ -41,14 +41,14 @@ pub fn reset(srst: bool) -> H2dFields {
     }
 }
 
-/// Gives a command to a device. Where memory is refused it is given again, and answers as if
-/// nothing had been.
+/// Gives a command to a device. If memory is refused, it is given again, and answers as if nothing
+/// had happened.
 pub fn give(alloc: Global, unit: &mut impl Device, fields: &H2dFields) -> Result<(), AllocError> {
     let frame = h2d(alloc, fields, STAMP)?;
     give_frame(alloc, unit, &frame)
 }
 
-/// The same of a frame.
+/// The same for a frame.
 pub fn give_frame(alloc: Global, unit: &mut impl Device, frame: &Frame) -> Result<(), AllocError> {
     if unit.on_frame(alloc, frame).is_err() {
         unit.on_frame(alloc, frame)?;
@@ -56,7 +56,7 @@ pub fn give_frame(alloc: Global, unit: &mut impl Device, frame: &Frame) -> Resul
     Ok(())
 }
 
-/// What the device sends next, and again where memory is refused.
+/// What the device sends next, asked for again if memory is refused.
 pub fn next(alloc: Global, unit: &mut impl Device) -> Result<Option<Frame>, AllocError> {
     match unit.next_out(alloc, STAMP) {
         Ok(out) => Ok(out),
@@ -64,7 +64,7 @@ pub fn next(alloc: Global, unit: &mut impl Device) -> Result<Option<Frame>, Allo
     }
 }
 
-/// The device sends just these bytes next, which are given in hexadecimal.
+/// The device sends exactly these bytes next, which are given in hexadecimal.
 pub fn sends(
     rt: &impl Abort,
     alloc: Global,
@@ -127,7 +127,8 @@ fn signature_when_plugged_and_after_a_reset(rt: HostRuntime) -> Result<(), Fail>
     is_silent(&rt, alloc, &mut unit)
 }
 
-/// As long as SRST is set no command has an answer, the log neither; then the signature goes alone, and commands are heard.
+/// As long as SRST is set, no command has an answer, not even the read of the log. Then the signature
+/// goes alone, and commands are heard.
 #[test]
 fn takes_no_command_in_reset(rt: HostRuntime) -> Result<(), Fail> {
     let alloc = rt.alloc();
@@ -154,7 +155,7 @@ fn takes_no_command_in_reset(rt: HostRuntime) -> Result<(), Fail> {
     sends(&rt, alloc, &mut disk, ACCEPTED)
 }
 
-/// To be plugged in ends a reset; SRST that is cleared later still has its signature.
+/// Plugging in ends a reset. SRST that is cleared later still has its signature.
 #[test]
 fn plugging_ends_a_reset(rt: HostRuntime) -> Result<(), Fail> {
     let alloc = rt.alloc();
@@ -168,7 +169,7 @@ fn plugging_ends_a_reset(rt: HostRuntime) -> Result<(), Fail> {
     sends(&rt, alloc, &mut disk, SIGNATURE)
 }
 
-/// A disk has a sector at least, and 65,536 at most.
+/// A disk has at least one sector, and at most 65,536.
 #[test]
 fn sizes_that_no_disk_has(rt: HostRuntime) {
     for sectors in [0, 65_537, u32::MAX] {

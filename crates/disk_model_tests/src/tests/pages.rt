@@ -61,7 +61,7 @@ fn logs_of_errors(rt: HostRuntime) -> Result<(), Fail> {
     Ok(())
 }
 
-/// The log that `ata_eh_read_log_10h` takes as one of no queued command.
+/// The log that `ata_eh_read_log_10h` takes as one that names no queued command.
 #[test]
 fn log_of_no_error(rt: HostRuntime) -> Result<(), Fail> {
     let alloc = rt.alloc();
@@ -112,7 +112,8 @@ fn identify_words_of_other_disks(rt: HostRuntime) {
     }
 }
 
-/// The words of a disk with auto-activate or without, of which 78 and 79 are these, and what is read in them.
+/// The words of a disk with auto-activate or without, whose words 78 and 79 are these, and what is
+/// read in them.
 fn identifies(rt: &impl Abort, alloc: Global, auto: bool, w78: u16) -> Result<(), Fail> {
     let plan = DiskPlan {
         auto,

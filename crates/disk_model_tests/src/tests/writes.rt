@@ -8,7 +8,7 @@ use std::alloc::Global;
 use std::process::Abort;
 use std::test::Fail;
 
-/// Data of so many bytes of one value.
+/// Data of this many bytes of one value.
 fn data(alloc: Global, value: u8, len: usize) -> Result<Frame, Fail> {
     let bytes = vec![in alloc; value; len]?;
     Ok(payload(alloc, 0, &bytes, STAMP)?)
@@ -45,7 +45,7 @@ fn write_of_one_sector(rt: HostRuntime) -> Result<(), Fail> {
     Ok(())
 }
 
-/// The DMA Setup of an `auto` disk asks for the Data, and none of a read does.
+/// The DMA Setup of an `auto` disk asks for the Data. A DMA Setup of a read does not.
 #[test]
 fn write_with_auto_activate(rt: HostRuntime) -> Result<(), Fail> {
     let alloc = rt.alloc();

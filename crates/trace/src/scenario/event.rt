@@ -195,9 +195,13 @@ pub struct Change {
     pub after: Registers,
 }
 
-/// What the registers of the host port show that the driver writes.
+/// What the registers of the host port that the driver writes show.
 #[derive(Clone, Copy, Debug, PartialEq, Eq)]
 pub struct Registers {
+    pub clb: u32,
+    pub clbu: u32,
+    pub fb: u32,
+    pub fbu: u32,
     pub interrupts: u32,
     pub cmd: u32,
     pub serr: u32,
@@ -216,9 +220,13 @@ impl Change {
     }
 
     /// The registers that changed, but for those that a slot is issued by: name, before, after.
-    pub fn others(self) -> [(&'static str, u32, u32); 5] {
+    pub fn others(self) -> [(&'static str, u32, u32); 9] {
         let Change { before, after } = self;
         [
+            ("clb", before.clb, after.clb),
+            ("clbu", before.clbu, after.clbu),
+            ("fb", before.fb, after.fb),
+            ("fbu", before.fbu, after.fbu),
             ("is", before.interrupts, after.interrupts),
             ("cmd", before.cmd, after.cmd),
             ("serr", before.serr, after.serr),
@@ -329,7 +337,9 @@ fn write_change<W: fmt::Write>(event: &Event<'_>, f: &mut fmt::Formatter<W>) -> 
         }
     }
     if change.before == change.after {
-        f.write_str(" takes note, no register changes")?;
+        f.write_str(
+            ": no register changed (it wrote what stood there, read an answer, or ended requests)",
+        )?;
     }
     Ok(())
 }

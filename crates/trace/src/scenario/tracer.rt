@@ -57,6 +57,10 @@ impl Sight {
 /// What the registers of a host port show.
 fn registers_of(port: &HostPort) -> Registers {
     Registers {
+        clb: shown(port, Register::Clb),
+        clbu: shown(port, Register::Clbu),
+        fb: shown(port, Register::Fb),
+        fbu: shown(port, Register::Fbu),
         interrupts: shown(port, Register::Is),
         cmd: shown(port, Register::Cmd),
         serr: shown(port, Register::Serr),
