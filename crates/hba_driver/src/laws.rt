@@ -61,7 +61,7 @@ pub fn hosts_stay_sound()
     ensures { HostsAreSound }
 {}
 
-/// Every list of turns of the host, from any sound one, is a list of events of its port and memory. The
+/// Every list of turns of the host, from any sound state, is a list of events of its port and memory. The
 /// events run from port and memory before the turns to port and memory after them. The frames that are taken
 /// and given, and the bytes that clients write, are the same in the events as in the turns, in the same
 /// order. The call runs no code.
@@ -162,9 +162,9 @@ pub fn resets_are_issued()
     ensures { EachResetIsDriven }
 {}
 
-/// Over each turn of the host, from any sound one whose events so far serve what is issued: where Data comes
-/// or goes, issued writes lie beside issued reads, and what a client puts leaves their places alone. So what
-/// was sent of a write stays there as long as the write is issued. The call runs no code.
+/// Over each turn of the host, from any sound state whose events so far serve what is issued: where Data
+/// comes or goes, issued writes lie beside issued reads, and what a client puts leaves their places alone. So
+/// what was sent of a write stays there as long as the write is issued. The call runs no code.
 pub fn writes_are_held()
     ensures { TurnsHoldWrites }
 {}
