@@ -23,8 +23,8 @@ checksum bytes = (256 - sum bytes % 256) % 256
 -- of byte 0, the rest has no meaning.
 abbrev pub error_head : Option Fault → List ℕ
 error_head (Some (Failed tag error lba)) =
-    tag ∷ 0 ∷ 0x41 ∷ error ∷ lba % 256 ∷ lba / 256 % 256 ∷ lba / 65536 % 256 ∷ 0x40 ∷ lba / 0x1000000 % 256
-    ∷ lba / 4294967296 % 256 ∷ lba / 1099511627776 % 256 ∷ 0 ∷ 0 ∷ 0 ∷ []
+    tag ∷ 0 ∷ 0x41 ∷ error ∷ lba % 256 ∷ lba / 256 % 256 ∷ lba / 0x10000 % 256 ∷ 0x40 ∷ lba / 0x1000000 % 256
+    ∷ lba / 0x100000000 % 256 ∷ lba / 0x10000000000 % 256 ∷ 0 ∷ 0 ∷ 0 ∷ []
 error_head (Some Mixed) = 0x80 ∷ []
 error_head (Some Held) = 0x80 ∷ []
 error_head None = 0x80 ∷ []
