@@ -89,11 +89,11 @@ not_busy None h = refl
 not_busy (Some i) h = absurd (true≢false h)
 
 -- it was free at first, and no slot before it is this one
-pub asked_free : (r : Registers) (memory : Memory) (value slot : ℕ) (old now : Slots) → slot < 32 → any_slot value (is_busy old) ≡ false → is_some (asked r memory value slot) ≡ true → LeavesOthers r.chosen old now
-    → own_issue (slots_of r.chosen now) slot ≡ own_issue (slots_of r.chosen old) slot → is_busy now slot ≡ false
-asked_free r memory value slot old now below none some others own =
+pub asked_free : (r : Registers) (memory : Memory) (dev value slot : ℕ) (old now : Slots) → slot < 32 → any_slot value (is_busy old) ≡ false → is_some (asked r memory value slot) ≡ true → LeavesOthers dev old now
+    → own_issue (slots_of dev now) slot ≡ own_issue (slots_of dev old) slot → is_busy now slot ≡ false
+asked_free r memory dev value slot old now below none some others own =
     let free : issue_at old slot ≡ None = not_busy (issue_at old slot) (free_if (has_bit value slot) (is_busy old slot) _ some (none_passes value (is_busy old) slot none below)) in
-    ap is_some (stays_free r.chosen slot old now others (own ∙ nothing_there r.chosen slot old free) free)
+    ap is_some (stays_free dev slot old now others (own ∙ nothing_there dev slot old free) free)
 
 -- a write of 0 asks for nothing
 zero_has : (slot : ℕ) → has_bit 0 slot ≡ false

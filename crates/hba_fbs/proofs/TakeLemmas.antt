@@ -5,12 +5,11 @@ use Rattle.fis_view.specs.Seen.{frame_of}
 use Rattle.fis_view.specs.declared.view.Fis.{Fis}
 use Rattle.fis_view.specs.declared.view.FisFault.{FisFault}
 use Rattle.host_memory.specs.Memory.{Memory}
-use Rattle.rx_area.specs.Area.{posted_at}
 use Rattle.hba_fbs.specs.declared.report.TakeReport.{TakeReport}
 use Rattle.slots.specs.Slots.{KeepsFree}
-use Rattle.hba_fbs.specs.Posting.{Posts, posted}
+use Rattle.hba_fbs.specs.Posting.{posted}
 use Rattle.hba_fbs.specs.Tables.{Delivers, is_sound}
-use Rattle.hba_fbs.specs.Taking.{Takes, errors_with, heard_now, heard_report, heard_view, settled, wrote_by}
+use Rattle.hba_fbs.specs.Taking.{PostsIn, Takes, errors_in, heard_now, heard_report, heard_view, place_in, row_for, settled, wrote_by}
 use Rattle.hba_fbs.specs.Views.{LeavesOtherViews, Port, view_of}
 
 pub whole_of : (seen : Result Fis FisFault) (fis : Fis) (bytes : List ℕ) → seen ≡ Ok fis → IfOk seen (λ f. frame_of f ≡ bytes) → frame_of fis ≡ bytes
@@ -18,8 +17,8 @@ whole_of seen fis bytes is h = subst (λ (x : Result Fis FisFault). IfOk x (λ f
 
 pub takes_from : (old : Port) (before : Memory) (dev : ℕ) (admitted : Option Fis) (fis : Fis) (bytes : List ℕ) (report : TakeReport) (new : Port) (after : Memory) → admitted ≡ Some fis → frame_of fis ≡ bytes
     → view_of dev new ≡ heard_view dev (view_of dev old) (is_sound before old.commands (view_of dev old).slots) (Some fis) → LeavesOtherViews dev old new
-    → report ≡ heard_report dev (posted_at fis) (heard_now old before dev (Some fis)) → new.registers ≡ settled (posted old.registers dev (view_of dev old).state.resetting fis) (heard_now old before dev (Some fis))
-    → new.errors ≡ errors_with old.errors dev (heard_now old before dev (Some fis)).fault → new.commands ≡ old.commands → new.number ≡ old.number → KeepsFree old.slots new.slots → Posts old.registers.fb dev fis before.structure after.structure
+    → report ≡ heard_report dev (place_in (row_for old dev) (Some fis)) (heard_now old before dev (Some fis)) → new.registers ≡ settled (posted old.registers dev (view_of dev old).state.resetting fis) (heard_now old before dev (Some fis))
+    → new.errors ≡ errors_in old.registers.switching old.errors dev (heard_now old before dev (Some fis)).fault → new.commands ≡ old.commands → new.number ≡ old.number → KeepsFree old.slots new.slots → PostsIn old.registers.fb (row_for old dev) (Some fis) before.structure after.structure
     → Delivers before old.commands (drop 4 (frame_of fis)) (wrote_by (heard_now old before dev (Some fis)).happening) after.client → Takes old before dev admitted (drop 4 bytes) report new after
 takes_from old before dev admitted fis bytes report new after is whole own others reports registers errors commands number frees structure client =
     subst (λ (o : Option Fis). Takes old before dev o (drop 4 bytes) report new after) (sym is)

@@ -8,7 +8,7 @@ use Rattle.slots.specs.Slots.{DeviceSlots}
 use Rattle.hba_fbs.specs.declared.error.WriteError.{WriteError}
 use Rattle.hba_fbs.specs.declared.error.WriteError.TheVariants as refusal
 use Rattle.hba_fbs.specs.declared.register.Register.TheVariants.{Ci}
-use Rattle.hba_fbs.specs.Issuing.{any_slot, asked, is_busy, view_issued}
+use Rattle.hba_fbs.specs.Issuing.{aimed, any_slot, asked, is_busy, view_issued}
 use Rattle.hba_fbs.specs.Registers.{own_refusal}
 use Rattle.hba_fbs.specs.Views.{DeviceView, Port, view_of}
 use Rattle.hba_fbs.specs.Writing.{commands_after, refusal_of, slots_refusal, view_after}
@@ -47,9 +47,9 @@ pick false x y z one other = other refl
 pub idle_views : (port : Port) (memory : Memory) (value : ℕ) → value ≡ 0 → (n : ℕ) → view_of n port ≡ view_after Ci port memory value n
 unfolding view_after
 idle_views port memory value zero n =
-    pick (n == port.registers.chosen) (view_issued port.registers memory value (view_of n port)) (view_of n port) (view_of n port)
+    pick (n == aimed port.registers memory.structure value) (view_issued port.registers memory value (view_of n port)) (view_of n port) (view_of n port)
     (λ same. ap (λ (own : DeviceSlots). let view : DeviceView = record (view_of n port) { slots = own } in view)
-    (issued_none port.registers.chosen (asked port.registers memory value) (view_of n port).slots (λ slot. nothing_asked port.registers memory value slot zero)))
+    (issued_none (aimed port.registers memory.structure value) (asked port.registers memory value) (view_of n port).slots (λ slot. nothing_asked port.registers memory value slot zero)))
     (λ differs. refl)
 
 pub idle_commands : (port : Port) (memory : Memory) (value : ℕ) → value ≡ 0 → port.commands ≡ commands_after Ci port memory value

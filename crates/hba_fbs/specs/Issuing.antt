@@ -56,19 +56,25 @@ issues_with dev commands issues = map (λ slot. issue_with dev (commands slot)
 abbrev pub issued_slots : ℕ → (ℕ → Option Command) → DeviceSlots → DeviceSlots
 issued_slots dev commands own = record own { issues = issues_with dev commands own.issues }
 
+-- the view of a device with them
+abbrev pub view_with : ℕ → (ℕ → Option Command) → DeviceView → DeviceView
+view_with dev commands view = record view { slots = issued_slots dev commands view.slots }
+
 -- the last commands of the slots, with these
 unfoldable pub commands_with : (ℕ → Option Command) → List (Option Command) → List (Option Command)
 commands_with commands old =
     map (λ slot. option_or (commands slot) (last_command old slot)) (range_with_len 0 (length old))
 
--- ---- what a write of PxCI issues, for the device that PxFBS.DEV names
+-- ---- what a write of PxCI issues
 
-abbrev pub slots_issued : Registers → Memory → ℕ → DeviceSlots → DeviceSlots
-slots_issued r memory value own = issued_slots r.chosen (asked r memory value) own
+-- the device for which it issues: the one that PxFBS.DEV names
+abbrev pub aimed : Registers → (structure : List ℕ) → (value : ℕ) → ℕ
+aimed r structure value = r.chosen
 
 -- only the slots of that device's view change
 abbrev pub view_issued : Registers → Memory → ℕ → DeviceView → DeviceView
-view_issued r memory value view = record view { slots = slots_issued r memory value view.slots }
+view_issued r memory value view =
+    view_with (aimed r memory.structure value) (asked r memory value) view
 
 abbrev pub commands_issued : Registers → Memory → ℕ → List (Option Command) → List (Option Command)
 commands_issued r memory value old = commands_with (asked r memory value) old

@@ -17,7 +17,11 @@ use Rattle.hba_fbs.specs.Views.{Port, state_at, task_file}
 abbrev pub fbs_errors : FbsBits → ℕ
 fbs_errors bits = bit sde bits.sde + dwe_unit * bits.dwe
 
--- The value of a register. PxIS.UFS shows DIAG.F of PxSERR. PxTFD is that of the device in PxFBS.DEV. PxSACT
+-- the device whose task file PxTFD shows: the one in PxFBS.DEV
+abbrev pub shown_device : Port → ℕ
+shown_device port = port.registers.chosen
+
+-- The value of a register. PxIS.UFS shows DIAG.F of PxSERR. PxTFD is that of the device that is shown. PxSACT
 -- shows the slots that are armed and those in which a queued command is issued. PxCI shows the slots that are
 -- issued and not answered.
 unfoldable pub value_of : Register → Port → ℕ
@@ -28,7 +32,7 @@ value_of Fbu port = port.registers.fbu
 value_of Is port = bit_or port.registers.interrupts (bit ufs port.registers.unknown)
 value_of Ie port = port.registers.enabled
 value_of Cmd port = cmd_of port.registers
-value_of Tfd port = task_file (state_at port.states port.registers.chosen)
+value_of Tfd port = task_file (state_at port.states (shown_device port))
 value_of Sig port = port.registers.signature
 value_of Serr port = bit unknown_fis port.registers.unknown
 value_of Sact port = bit_or port.registers.armed (slots_where is_queued_issue port.slots)

@@ -42,9 +42,14 @@ is_running port = port.registers.started && is_none port.errors.port
 abbrev pub is_ignored : (running : Bool) → DeviceView → Result Fis FisFault → Bool
 is_ignored running view fis = not running || is_some view.fault || (view.state.resetting && not (signs fis))
 
+-- what is ignored besides, by what the device's view has: nothing
+abbrev pub passes_over : (switching : Bool) → ℕ → DeviceView → Result Fis FisFault → Bool
+passes_over switching dev view fis = false
+
 -- a frame from this PM Port is ignored, with the port as it is now
 abbrev pub ignores : ℕ → Port → List ℕ → Bool
-ignores dev port frame = is_ignored (is_running port) (view_of dev port) (seen frame)
+ignores dev port frame = passes_over port.registers.switching dev (view_of dev port) (seen frame)
+    || is_ignored (is_running port) (view_of dev port) (seen frame)
 
 -- the FIS, if its length is right and it may come from this PM Port
 abbrev pub admitted : ℕ → Result Fis FisFault → Option Fis
@@ -82,6 +87,14 @@ errors_with errors dev None = errors
 errors_with errors dev (Some (fault.Device c)) = with_device errors dev c
 errors_with errors dev (Some (fault.Port c)) = with_port errors c
 
+-- so it is in each mode
+abbrev pub errors_in : (switching : Bool) → Errors → ℕ → Option Fault → Errors
+errors_in switching errors dev f = errors_with errors dev f
+
+-- the fault stops the port: one of a device does not
+abbrev pub stops_with : (switching : Bool) → Option Fault → Bool
+stops_with switching f = is_some (port_cause f)
+
 -- the bits of PxIS that a fault sets
 abbrev pub fault_interrupts : Option Fault → ℕ
 fault_interrupts None = 0
@@ -97,6 +110,10 @@ abbrev pub posted_of : Registers → ℕ → (resetting : Bool) → Option Fis �
 posted_of r dev resetting None = r
 posted_of r dev resetting (Some fis) = posted r dev resetting fis
 
+-- the row of the received area in which FISes of a device are posted, if they are: its own
+abbrev pub row_for : Port → ℕ → Option ℕ
+row_for port dev = Some dev
+
 abbrev pub place_of : Option Fis → Posted
 place_of None = place.Nothing
 place_of (Some fis) = rx.posted_at fis
@@ -104,6 +121,15 @@ place_of (Some fis) = rx.posted_at fis
 abbrev pub PostsOf : ℕ → ℕ → Option Fis → List ℕ → List ℕ → Type 0
 PostsOf fb dev None old new = new ≡ old
 PostsOf fb dev (Some fis) old new = Posts fb dev fis old new
+
+-- where there is no row, nothing is posted
+abbrev pub place_in : Option ℕ → Option Fis → Posted
+place_in None fis = place.Nothing
+place_in (Some row) fis = place_of fis
+
+abbrev pub PostsIn : ℕ → Option ℕ → Option Fis → List ℕ → List ℕ → Type 0
+PostsIn fb None fis old new = new ≡ old
+PostsIn fb (Some row) fis old new = PostsOf fb row fis old new
 
 -- ---- the report
 
@@ -154,16 +180,17 @@ pub record Takes (old : Port) (before : Memory) (dev : ℕ) (fis : Option Fis) (
   pub own : view_of dev new ≡ heard_view dev (view_of dev old)
       (is_sound before old.commands (view_of dev old).slots) fis
   pub others : LeavesOtherViews dev old new
-  pub reports : report ≡ heard_report dev (place_of fis) (heard_now old before dev fis)
+  pub reports : report ≡ heard_report dev (place_in (row_for old dev) fis) (heard_now old before dev fis)
   pub registers : new.registers ≡ settled (posted_of old.registers dev (view_of dev old).state.resetting fis)
       (heard_now old before dev fis)
-  pub errors : new.errors ≡ errors_with old.errors dev (heard_now old before dev fis).fault
+  pub errors : new.errors
+      ≡ errors_in old.registers.switching old.errors dev (heard_now old before dev fis).fault
   pub commands : new.commands ≡ old.commands
   pub number : new.number ≡ old.number
   -- no free slot is filled
   pub frees : KeepsFree old.slots new.slots
   -- the FIS is posted, and Data is written to the places of its slot's bytes
-  pub structure : PostsOf old.registers.fb dev fis before.structure after.structure
+  pub structure : PostsIn old.registers.fb (row_for old dev) fis before.structure after.structure
   pub client : Delivers before old.commands payload (wrote_by (heard_now old before dev fis).happening)
       after.client
 

@@ -11,8 +11,10 @@ use Rattle.hba_fbs.specs.declared.error.WriteError.{WriteError}
 use Rattle.hba_fbs.specs.declared.error.WriteError.TheVariants as refusal
 use Rattle.hba_fbs.specs.declared.register.Register.{Register}
 use Rattle.hba_fbs.specs.declared.register.Register.TheVariants.{Cmd, Sact, Ci, Fbs}
+use Rattle.hba_fbs.specs.declared.registers.Registers.{Registers}
 use Rattle.hba_fbs.specs.Bits.{dec}
-use Rattle.hba_fbs.specs.Issuing.{any_slot, commands_issued, is_bad, is_busy, is_foreign, view_issued}
+use Rattle.hba_fbs.specs.Issuing.{aimed, any_slot, commands_issued, is_bad, is_busy, is_foreign}
+use Rattle.hba_fbs.specs.Issuing.{view_issued}
 use Rattle.hba_fbs.specs.Offsets.{register_at}
 use Rattle.hba_fbs.specs.Registers.{falls, own_refusal, written}
 use Rattle.hba_fbs.specs.Views.{DeviceView, Port, stopped_view, view_of}
@@ -22,11 +24,20 @@ use Rattle.hba_fbs.specs.Views.{DeviceView, Port, stopped_view, view_of}
 abbrev pub busy_refusal : Port → ℕ → Option WriteError
 busy_refusal port value = if any_slot value (is_busy port.slots) then Some refusal.SlotBusy else None
 
+-- a header of the slots to issue names a device for which nothing may be issued now: another one than that in
+-- PxFBS.DEV
+abbrev pub is_apart : Port → Memory → ℕ → Bool
+is_apart port memory value = any_slot value (is_foreign port.registers memory.structure)
+
+-- the refusal of this
+abbrev pub apart_refusal : Registers → WriteError
+apart_refusal r = refusal.WrongDevice
+
 -- what is wrong with the slots to issue; each test goes over all of them before the next test
 abbrev pub issue_refusal : Port → Memory → ℕ → Option WriteError
 issue_refusal port memory value =
     if any_slot value (is_busy port.slots) then Some refusal.SlotBusy
-    else if any_slot value (is_foreign port.registers memory.structure) then Some refusal.WrongDevice
+    else if is_apart port memory value then Some (apart_refusal port.registers)
     else if any_slot value (is_bad port.registers memory) then Some refusal.BadTable
     else None
 
@@ -60,12 +71,12 @@ is_device n cleared = option_map_or (λ dev. dev == n) cleared false
 abbrev pub view_cleared : ℕ → Option ℕ → DeviceView → DeviceView
 view_cleared n cleared view = if is_device n cleared then stopped_view view else view
 
--- The view of a device. A fall of ST stops every device, a write of PxCI issues for the device in PxFBS.DEV,
--- and PxFBS.DEC clears the device in DWE.
+-- The view of a device. A fall of ST stops every device, a write of PxCI issues for the device at which it is
+-- aimed, and PxFBS.DEC clears the device in DWE.
 unfoldable pub view_after : Register → Port → Memory → ℕ → ℕ → DeviceView
 view_after Cmd old memory value n =
     if falls old.registers value then stopped_view (view_of n old) else view_of n old
-view_after Ci old memory value n = if n == old.registers.chosen
+view_after Ci old memory value n = if n == aimed old.registers memory.structure value
     then view_issued old.registers memory value (view_of n old) else view_of n old
 view_after Fbs old memory value n = view_cleared n (cleared_by old.errors value) (view_of n old)
 view_after register old memory value n = view_of n old

@@ -4,7 +4,7 @@ ghost use Rattle.std.specs.Prelude.{◌≡◌, ◌<◌, ◌+◌, ◌≤◌, ◌&
 ghost use Rattle.hba_commands.specs.Commands.{command_at};
 ghost use Rattle.slots.specs.Slots.{LeavesOthers, has_bit as has_bit_of, slots_of};
 ghost use Rattle.slots.specs.Work.{IsWork};
-ghost use Rattle.hba_fbs.specs.Issuing.{any_slot, asked as asked_of, commands_issued, is_bad as is_bad_slot, is_busy as is_busy_slot, is_foreign as is_foreign_slot, slots_after, slots_issued, with_command};
+ghost use Rattle.hba_fbs.specs.Issuing.{any_slot, asked as asked_of, commands_issued, is_bad as is_bad_slot, is_busy as is_busy_slot, is_foreign as is_foreign_slot, issued_slots, slots_after, with_command};
 ghost use Rattle.hba_fbs.specs.Views.{HaveCommands};
 
 use crate::bits::has_bit;
@@ -123,26 +123,27 @@ fn issue_one(
     }
 }
 
-/// Issues the commands in these slots, for the device that PxFBS.DEV names.
+/// Issues the commands in these slots, for a device.
 pub(crate) fn issue_all(
     registers: Registers,
     slots: &mut SlotTable,
     commands: &mut [Option<Command>; 32],
     memory: &HostMemory,
+    dev: u8,
     value: u32,
 )
     requires list { registers.clb + 0x400 ≤ 0x100000 }
-    requires dev { registers.chosen < 16 }
+    requires dev { dev < 16 }
     requires free { any_slot value (is_busy_slot slots.old) ≡ false }
-    ensures own { slots_of registers.chosen slots.new
-        ≡ slots_issued registers memory.now value (slots_of registers.chosen slots.old) }
-    ensures others { LeavesOthers registers.chosen slots.old slots.new }
+    ensures own { slots_of dev slots.new
+        ≡ issued_slots dev (asked_of registers memory.now value) (slots_of dev slots.old) }
+    ensures others { LeavesOthers dev slots.old slots.new }
     ensures commands { commands.new ≡ commands_issued registers memory.now value commands.old }
     ensures have { HaveCommands slots.old commands.old → HaveCommands slots.new commands.new }
 {
     slots.keeps_rules();
     for slot in 0..32_u8 {
         let command = asked(registers, memory, value, slot);
-        issue_one(slots, commands, registers.chosen, slot, command);
+        issue_one(slots, commands, dev, slot, command);
     }
 }

@@ -1,14 +1,14 @@
 //! The host port.
 
-ghost use Rattle.std.specs.Prelude.{◌≡◌, ◌<◌, ◌+◌, ◌≤◌, ℕ, None, false, OnErr, OnOk};
+ghost use Rattle.std.specs.Prelude.{◌≡◌, ◌<◌, ◌+◌, ◌≤◌, ℕ, List, None, false, OnErr, OnOk};
 ghost use Rattle.slots.specs.Commands.{own_slots};
 ghost use Rattle.slots.specs.Slots.{slots_of};
 ghost use Rattle.slots.specs.Table.{IsTable};
 ghost use Rattle.port_errors.specs.Errors.{AreErrors, after_clear, cleared_device, no_errors};
 ghost use Rattle.std.specs.Result.{result_err};
-ghost use Rattle.hba_fbs.specs.Issuing.{any_slot, commands_issued, is_busy, view_issued};
+ghost use Rattle.hba_fbs.specs.Issuing.{aimed as aimed_at, any_slot, asked, commands_issued, is_busy, view_issued, view_with};
 ghost use Rattle.hba_fbs.specs.Writing.{Writes, commands_after, errors_after, issue_refusal as issue_refusal_of, refusal_of, slots_refusal as slots_refusal_of, view_after, view_cleared, write_refusal};
-ghost use Rattle.hba_fbs.specs.Reading.{read_at, value_of};
+ghost use Rattle.hba_fbs.specs.Reading.{read_at, shown_device as shown_device_of, value_of};
 ghost use Rattle.hba_fbs.specs.Views.{Flushes, IsPort, LeavesOtherViews, opening_port, stopped_view, view_of};
 
 use crate::bits::{DEC, UNKNOWN, bit, has_bit, raised};
@@ -89,6 +89,14 @@ impl HostPort {
         let _ = self.errors.fbs_bits();
     }
 
+    // The device whose task file PxTFD shows.
+    fn shown_device(&self) -> u8
+        ensures is { result ≡ shown_device_of self.now }
+        ensures low { result < 16 }
+    {
+        self.registers.chosen
+    }
+
     // The value of a register.
     #[tactic(auto, unfolding(crate::specs::Reading::value_of))]
     fn value(&self, register: Register) -> u32
@@ -103,7 +111,7 @@ impl HostPort {
             Register::Is => registers.interrupts | raised(registers.unknown, Interrupts::UFS),
             Register::Ie => registers.enabled,
             Register::Cmd => registers.cmd(),
-            Register::Tfd => state_of(&self.states, registers.chosen).task_file(),
+            Register::Tfd => state_of(&self.states, self.shown_device()).task_file(),
             Register::Sig => registers.signature,
             Register::Serr => bit(registers.unknown, UNKNOWN),
             Register::Sact => registers.armed | self.slots.queued(),
@@ -160,6 +168,15 @@ impl HostPort {
         self.errors.forget(dev);
         self.states[dev as usize] = DeviceState::new();
         freed
+    }
+
+    // The device for which a write of PxCI issues.
+    fn aimed(&self) -> u8
+        ensures is { (structure : List ℕ) → (value : ℕ)
+            → result ≡ aimed_at self.now.registers structure value }
+        ensures low { result < 16 }
+    {
+        self.registers.chosen
     }
 
     // Why a write of PxCI is refused because of its slots.
@@ -235,14 +252,14 @@ impl HostPort {
         }
     }
 
-    // Issues the commands in these slots.
-    fn issue(&mut self, value: u32, memory: &HostMemory)
+    // Issues the commands in these slots for a device.
+    fn issue_for(&mut self, dev: u8, value: u32, memory: &HostMemory)
+        requires dev { dev < 16 }
         requires list { self.old.registers.clb + 0x400 ≤ 0x100000 }
         requires free { any_slot value (is_busy self.old.slots) ≡ false }
-        ensures own { view_of self.old.registers.chosen self.new
-            ≡ view_issued self.old.registers memory.now value
-            (view_of self.old.registers.chosen self.old) }
-        ensures others { LeavesOtherViews self.old.registers.chosen self.old self.new }
+        ensures own { view_of dev self.new
+            ≡ view_with dev (asked self.old.registers memory.now value) (view_of dev self.old) }
+        ensures others { LeavesOtherViews dev self.old self.new }
         ensures registers { self.new.registers ≡ self.old.registers }
         ensures errors { self.new.errors ≡ self.old.errors }
         ensures commands { self.new.commands
@@ -255,8 +272,27 @@ impl HostPort {
             &mut self.slots,
             &mut self.commands,
             memory,
+            dev,
             value,
         );
+    }
+
+    // Issues the commands in these slots.
+    fn issue(&mut self, value: u32, memory: &HostMemory)
+        requires list { self.old.registers.clb + 0x400 ≤ 0x100000 }
+        requires free { any_slot value (is_busy self.old.slots) ≡ false }
+        ensures own { let dev = aimed_at self.old.registers memory.now.structure value in
+            view_of dev self.new ≡ view_issued self.old.registers memory.now value (view_of dev self.old) }
+        ensures others { LeavesOtherViews (aimed_at self.old.registers memory.now.structure value)
+            self.old self.new }
+        ensures registers { self.new.registers ≡ self.old.registers }
+        ensures errors { self.new.errors ≡ self.old.errors }
+        ensures commands { self.new.commands
+            ≡ commands_issued self.old.registers memory.now value self.old.commands }
+        ensures number { self.new.number ≡ self.old.number }
+    {
+        let dev = self.aimed();
+        self.issue_for(dev, value, memory);
     }
 
     // What an accepted write changes apart from the port's own registers.

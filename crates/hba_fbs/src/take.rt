@@ -1,15 +1,14 @@
 //! Taking a FIS from a device.
 
-ghost use Rattle.std.specs.Prelude.{ℕ, List, ◌≡◌, ◌≢◌, ◌<◌, ◌-◌, None, Some, Ok, false, true, drop, length, IfSome};
+ghost use Rattle.std.specs.Prelude.{ℕ, List, ◌≡◌, ◌≢◌, ◌<◌, ◌-◌, ◌||◌, None, Some, Ok, false, true, drop, length, IfSome};
 ghost use Rattle.fis_view.specs.Seen.{frame_of, seen};
 ghost use Rattle.host_memory.specs.Memory.{Memory};
 ghost use Rattle.port_errors.specs.Errors.{KeepsCauses, cause_of};
-ghost use Rattle.rx_area.specs.Area.{posted_at};
 ghost use Rattle.slots.specs.Slots.{KeepsFree};
-ghost use Rattle.hba_fbs.specs.Posting.{Posts, posted as posted_registers};
+ghost use Rattle.hba_fbs.specs.Posting.{posted as posted_registers};
 ghost use Rattle.hba_fbs.specs.Registers.{AreRegisters};
 ghost use Rattle.hba_fbs.specs.Tables.{Delivers, is_sound};
-ghost use Rattle.hba_fbs.specs.Taking.{Hears, Ignores, Takes, admitted, device_cause, errors_with, fault_interrupts, heard_now, heard_report, heard_view, ignored_report, ignores, is_ignored as is_ignored_of, is_running as is_running_of, port_of, settled as settled_registers, wrote_by};
+ghost use Rattle.hba_fbs.specs.Taking.{Hears, Ignores, PostsIn, Takes, admitted, device_cause, errors_in, errors_with, fault_interrupts, heard_now, heard_report, heard_view, ignored_report, ignores, is_ignored as is_ignored_of, is_running as is_running_of, passes_over, place_in, port_of, row_for, settled as settled_registers, wrote_by};
 ghost use Rattle.hba_fbs.specs.Views.{LeavesOtherViews, view_of};
 
 use crate::bits::raised;
@@ -76,7 +75,9 @@ impl HostPort {
 
     fn is_ignored(&self, dev: u8, fis: &Result<Fis<'_>, FisFault>) -> bool
         requires { dev < 16 }
-        ensures { result ≡ is_ignored_of (is_running_of self.now) (view_of dev self.now) fis.now }
+        ensures { result
+            ≡ (passes_over self.now.registers.switching dev (view_of dev self.now) fis.now
+            || is_ignored_of (is_running_of self.now) (view_of dev self.now) fis.now) }
     {
         !self.is_running()
             || self.errors.faulty(dev)
@@ -107,19 +108,19 @@ impl HostPort {
             (is_sound memory.old self.old.commands (view_of dev self.old).slots) (Some fis.now) }
         ensures others { LeavesOtherViews dev self.old self.new }
         ensures reports { result
-            ≡ heard_report dev (posted_at fis.now)
+            ≡ heard_report dev (place_in (row_for self.old dev) (Some fis.now))
             (heard_now self.old memory.old dev (Some fis.now)) }
         ensures registers { self.new.registers
             ≡ settled_registers (posted_registers self.old.registers dev
             (view_of dev self.old).state.resetting fis.now)
             (heard_now self.old memory.old dev (Some fis.now)) }
         ensures errors { self.new.errors
-            ≡ errors_with self.old.errors dev
+            ≡ errors_in self.old.registers.switching self.old.errors dev
             (heard_now self.old memory.old dev (Some fis.now)).fault }
         ensures commands { self.new.commands ≡ self.old.commands }
         ensures number { self.new.number ≡ self.old.number }
         ensures frees { KeepsFree self.old.slots self.new.slots }
-        ensures posts { Posts self.old.registers.fb dev fis.now
+        ensures posts { PostsIn self.old.registers.fb (row_for self.old dev) (Some fis.now)
             memory.old.structure memory.new.structure }
         ensures client { Delivers memory.old self.old.commands (drop 4 (frame_of fis.now))
             (wrote_by (heard_now self.old memory.old dev (Some fis.now)).happening)

@@ -15,7 +15,7 @@ use Rattle.hba_fbs.specs.declared.hearing.Heard.{Heard}
 use Rattle.hba_fbs.specs.declared.register.Register.{Register}
 use Rattle.hba_fbs.specs.declared.register.Register.TheVariants.{Clb, Clbu, Fb, Fbu, Is, Ie, Cmd, Tfd, Sig, Serr, Sact, Ci, Sntf, Fbs}
 use Rattle.hba_fbs.specs.declared.report.TakeReport.{TakeReport}
-use Rattle.hba_fbs.specs.Issuing.{asked}
+use Rattle.hba_fbs.specs.Issuing.{aimed, asked}
 use Rattle.hba_fbs.specs.Registers.{falls}
 use Rattle.hba_fbs.specs.Sending.{Data, Gives, Nothing, Order, Outgoing, Unreadable, data_fis, gathered, next_receiver, next_to_send, outgoing}
 use Rattle.hba_fbs.specs.Tables.{is_sound, prds_of}
@@ -92,7 +92,7 @@ issues_are memory commands past (suc m) =
 
 wrote_issues : (n : ℕ) (old : Host) (value : ℕ) (past : History) → history_by n (part_of n old) past (brought n old (Wrote Ci value)) ≡ own n (touched old (Wrote Ci value)) ++ past
 wrote_issues n old value past =
-    let chosen : ℕ = old.port.registers.chosen in
+    let chosen : ℕ = aimed old.port.registers old.memory.structure value in
     let a : ℕ → Option Command = asked old.port.registers old.memory value in
     one_told n (part_of n old) past (own n (issued_below chosen old.memory a 32) ++ past) (with_memory old (Wrote Ci value)) (n == chosen) (Issued a)
     (λ same.

@@ -14,7 +14,7 @@ use Rattle.hba_fbs.specs.declared.register.Register.{Register}
 use Rattle.hba_fbs.specs.declared.register.Register.TheVariants.{Ci, Cmd, Fbs}
 use Rattle.hba_fbs.specs.declared.report.TakeReport.{TakeReport}
 use Rattle.hba_fbs.specs.Bits.{dec}
-use Rattle.hba_fbs.specs.Issuing.{view_issued}
+use Rattle.hba_fbs.specs.Issuing.{aimed, view_issued}
 use Rattle.hba_fbs.specs.Registers.{falls}
 use Rattle.hba_fbs.specs.Sending.{Data, Gives, Nothing, Order, Outgoing, Unreadable, outgoing}
 use Rattle.hba_fbs.specs.Taking.{ignores, port_of}
@@ -68,7 +68,7 @@ written_fault : (n : ℕ) (register : Register) (host : Host) (value : ℕ) → 
 unfolding view_after
 written_fault n Cmd host value device lowers = unless_chosen (falls host.port.registers value) (stopped_view (view_of n host.port)) (view_of n host.port) lowers
 written_fault n Ci host value device lowers =
-    chosen_fault (n == host.port.registers.chosen) (view_issued host.port.registers host.memory value (view_of n host.port)) (view_of n host.port) refl
+    chosen_fault (n == aimed host.port.registers host.memory.structure value) (view_issued host.port.registers host.memory value (view_of n host.port)) (view_of n host.port) refl
 written_fault n Fbs host value device lowers =
     unless_chosen (is_device n (cleared_by host.port.errors value)) (stopped_view (view_of n host.port)) (view_of n host.port) device
 written_fault n register host value device lowers = refl

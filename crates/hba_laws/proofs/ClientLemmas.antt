@@ -28,7 +28,7 @@ use Rattle.hba_fbs.specs.declared.register.Register.TheVariants.{Cmd, Ci, Fbs}
 use Rattle.hba_fbs.specs.declared.report.TakeReport.{TakeReport}
 use Rattle.hba_fbs.specs.declared.report.Wrote.{Wrote}
 use Rattle.hba_fbs.specs.declared.status.Block.{Block}
-use Rattle.hba_fbs.specs.Issuing.{asked}
+use Rattle.hba_fbs.specs.Issuing.{aimed, asked}
 use Rattle.hba_fbs.specs.Registers.{falls}
 use Rattle.hba_fbs.specs.Sending.{Outgoing, gathered, outgoing}
 use Rattle.hba_fbs.specs.Sending as out
@@ -250,7 +250,7 @@ module _ (old : Host) (host : IsHost old) (past : Touches) (hist : AreHistoriesO
       by_fall : (b : Bool) → client before (cond b (Stops ∷ []) [] ++ past) k ≡ client before past k
       by_fall true = refl
       by_fall false = refl
-  write_touches_none before Ci value k = issues_touch_none before old.port.registers.chosen 32 (asked old.port.registers old.memory value) k
+  write_touches_none before Ci value k = issues_touch_none before (aimed old.port.registers old.memory.structure value) 32 (asked old.port.registers old.memory value) k
   write_touches_none before Fbs value k = by_clear (cleared_by old.port.errors value)
     where
       by_clear : (o : Option ℕ) → client before (touched_by_clear o ++ past) k ≡ client before past k
@@ -264,7 +264,7 @@ module _ (old : Host) (host : IsHost old) (past : Touches) (hist : AreHistoriesO
       by_fall : (b : Bool) → AreWithin (cond b (Stops ∷ []) [] ++ past)
       by_fall true = w
       by_fall false = w
-  write_within Ci value w = issues_within old.port.registers.chosen 32 (asked old.port.registers old.memory value) w
+  write_within Ci value w = issues_within (aimed old.port.registers old.memory.structure value) 32 (asked old.port.registers old.memory value) w
   write_within Fbs value w = by_clear (cleared_by old.port.errors value)
     where
       by_clear : (o : Option ℕ) → AreWithin (touched_by_clear o ++ past)

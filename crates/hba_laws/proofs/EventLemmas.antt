@@ -21,7 +21,7 @@ use Rattle.slots.specs.Slots.{owned_by}
 use Rattle.hba_fbs.specs.declared.register.Register.{Register}
 use Rattle.hba_fbs.specs.declared.register.Register.TheVariants.{Clb, Clbu, Fb, Fbu, Is, Ie, Cmd, Tfd, Sig, Serr, Sact, Ci, Sntf, Fbs}
 use Rattle.hba_fbs.specs.declared.report.TakeReport.{TakeReport}
-use Rattle.hba_fbs.specs.Issuing.{asked, view_issued}
+use Rattle.hba_fbs.specs.Issuing.{aimed, asked, view_issued}
 use Rattle.hba_fbs.specs.Registers.{falls}
 use Rattle.hba_fbs.specs.Sending.{Gives, Outgoing, Sends, data_due, data_with, faulty_devices, gathered, next_receiver, next_to_send, order_due, outgoing, ready_devices, resets, stopped_by_bus, view_fed, view_sent}
 use Rattle.hba_fbs.specs.Sending as out
@@ -216,7 +216,7 @@ module _ (n : ℕ) (old : Host) (host : IsHost old) (past : History) (told : IsH
       let commands : ℕ → Option Command = asked old.port.registers old.memory value in
       subst (IsTold (view_issued old.port.registers old.memory value v)) (sym (own_below_is n old.memory (asked old.port.registers old.memory value) past m))
       (told_of (view_issued old.port.registers old.memory value v) (history_below old.memory (asked old.port.registers old.memory value) past m)
-      (says_issued old.port.registers.chosen old.memory (asked old.port.registers old.memory value) v.slots ends past says free m (omega (arith, m_is)) (owns.long ∙ sym m_is)))
+      (says_issued (aimed old.port.registers old.memory.structure value) old.memory (asked old.port.registers old.memory value) v.slots ends past says free m (omega (arith, m_is)) (owns.long ∙ sym m_is)))
     where
       free : (s : ℕ) → s < 32 → is_some (asked old.port.registers old.memory value s) ≡ true → own_issue v.slots s ≡ None
       free s lt some =
@@ -231,15 +231,15 @@ module _ (n : ℕ) (old : Host) (host : IsHost old) (past : History) (told : IsH
       by_fall : (b : Bool) → IsTold (cond b (stopped_view v) v) (own n (cond b (Stops ∷ []) []) ++ past)
       by_fall true = told_of (stopped_view v) (Emptied ∷ past) (says_emptied None past)
       by_fall false = told
-  wrote Ci value new lt accepted does = subst (λ (w : DeviceView). IsTold w (own n (touched_by_write Ci old value) ++ past)) (sym (does.views n lt)) (by_chosen (eqb n old.port.registers.chosen) refl)
+  wrote Ci value new lt accepted does = subst (λ (w : DeviceView). IsTold w (own n (touched_by_write Ci old value) ++ past)) (sym (does.views n lt)) (by_chosen (eqb n (aimed old.port.registers old.memory.structure value)) refl)
     where
-      by_chosen : (b : Bool) → eqb n old.port.registers.chosen ≡ b
-          → IsTold (cond b (view_issued old.port.registers old.memory value v) v) (own n (issued_below old.port.registers.chosen old.memory (asked old.port.registers old.memory value) 32) ++ past)
+      by_chosen : (b : Bool) → eqb n (aimed old.port.registers old.memory.structure value) ≡ b
+          → IsTold (cond b (view_issued old.port.registers old.memory value v) v) (own n (issued_below (aimed old.port.registers old.memory.structure value) old.memory (asked old.port.registers old.memory value) 32) ++ past)
       by_chosen true e =
           subst (λ (d : ℕ). IsTold (view_issued old.port.registers old.memory value v) (own n (issued_below d old.memory (asked old.port.registers old.memory value) 32) ++ past))
-          (eqb-true n old.port.registers.chosen e) (issued_own 32 value refl accepted)
+          (eqb-true n (aimed old.port.registers old.memory.structure value) e) (issued_own 32 value refl accepted)
       by_chosen false e =
-          subst (IsTold v) (sym (ap (λ h. h ++ past) (other_below n old.port.registers.chosen old.memory (asked old.port.registers old.memory value) 32 (λ same. eqb-false n old.port.registers.chosen e (sym same))))) told
+          subst (IsTold v) (sym (ap (λ h. h ++ past) (other_below n (aimed old.port.registers old.memory.structure value) old.memory (asked old.port.registers old.memory value) 32 (λ same. eqb-false n (aimed old.port.registers old.memory.structure value) e (sym same))))) told
   wrote Fbs value new lt accepted does = subst (λ (w : DeviceView). IsTold w (own n (touched_by_write Fbs old value) ++ past)) (sym (does.views n lt)) (by_clear (cleared_by old.port.errors value))
     where
       by_device_is : (dev : ℕ) (b : Bool) → eqb dev n ≡ b → IsTold (cond b (stopped_view v) v) (own n (By dev Emptied ∷ []) ++ past)

@@ -23,7 +23,7 @@ use Rattle.hba_fbs.specs.declared.register.Register.{Register}
 use Rattle.hba_fbs.specs.declared.register.Register.TheVariants.{Cmd, Ci, Fbs}
 use Rattle.hba_fbs.specs.declared.report.Wrote.{Wrote}
 use Rattle.hba_fbs.specs.declared.status.Block.{Block}
-use Rattle.hba_fbs.specs.Issuing.{asked}
+use Rattle.hba_fbs.specs.Issuing.{aimed, asked}
 use Rattle.hba_fbs.specs.Registers.{falls}
 use Rattle.hba_fbs.specs.Sending.{Outgoing, data_due, data_with, gathered, next_receiver, next_to_send, order_due, outgoing}
 use Rattle.hba_fbs.specs.Sending as out
@@ -253,7 +253,7 @@ write_quiet old Cmd value = by_fall (falls old.port.registers value)
     by_fall : (b : Bool) → AreQuiet (cond b (Stops ∷ []) [])
     by_fall true = tt
     by_fall false = tt
-write_quiet old Ci value = issues_quiet old.port.registers.chosen old.memory 32 (asked old.port.registers old.memory value)
+write_quiet old Ci value = issues_quiet (aimed old.port.registers old.memory.structure value) old.memory 32 (asked old.port.registers old.memory value)
 write_quiet old Fbs value = by_clear (cleared_by old.port.errors value)
   where
     by_clear : (o : Option ℕ) → AreQuiet (touched_by_clear o)

@@ -22,9 +22,9 @@ use Rattle.hba_fbs.specs.declared.registers.Registers.{Registers}
 use Rattle.hba_fbs.specs.declared.report.TakeReport.{TakeReport}
 use Rattle.hba_fbs.specs.declared.state.DeviceState.{DeviceState}
 use Rattle.hba_fbs.specs.Hearing.{faulty, heard_data, heard_data_of, heard_fis}
-use Rattle.hba_fbs.specs.Issuing.{asked, issued_slots}
+use Rattle.hba_fbs.specs.Issuing.{aimed, asked, issued_slots}
 use Rattle.hba_fbs.specs.Posting.{area_at}
-use Rattle.hba_fbs.specs.Registers.{falls}
+use Rattle.hba_fbs.specs.Registers.{AreRegisters, falls}
 use Rattle.hba_fbs.specs.Sending.{Data, Gives, Nothing, Order, Outgoing, Sends, Unreadable, data_fis, gathered, next_receiver, next_to_send, outgoing, view_fed, view_sent}
 use Rattle.hba_fbs.specs.Tables.{is_sound, prds_of}
 use Rattle.hba_fbs.specs.Taking.{Hears, admitted, heard, heard_view, ignores, is_ignored, is_running, port_cause, port_of, view_after_hearing}
@@ -147,11 +147,14 @@ wrote_none : (n : ℕ) (old new : Host) (register : Register) (value : ℕ) → 
 wrote_none n old new register value lt does fb view commands =
     stays n old new (does.1.views n lt ∙ view) (does.1.commands ∙ commands) (row_same n old new fb (ap (λ (m : Memory). m.structure) does.2))
 
-wrote_own : (old new : Host) (value : ℕ) → old.port.registers.chosen < 16 → IsHost new → Does old (Wrote Ci value) new → new.port.registers.fb ≡ old.port.registers.fb
-    → part_of old.port.registers.chosen new ≡ part_after old.port.registers.chosen (part_of old.port.registers.chosen old) (Issued (asked old.port.registers old.memory value))
+aimed_low : (port : Port) (memory : Memory) (value : ℕ) → AreRegisters port.registers → aimed port.registers memory.structure value < 16
+aimed_low port memory value are = are.chosen
+
+wrote_own : (old new : Host) (value : ℕ) → aimed old.port.registers old.memory.structure value < 16 → IsHost new → Does old (Wrote Ci value) new → new.port.registers.fb ≡ old.port.registers.fb
+    → part_of (aimed old.port.registers old.memory.structure value) new ≡ part_after (aimed old.port.registers old.memory.structure value) (part_of (aimed old.port.registers old.memory.structure value) old) (Issued (asked old.port.registers old.memory value))
 unfolding view_after commands_after
 wrote_own old new value lt next does fb =
-    let n : ℕ = old.port.registers.chosen in
+    let n : ℕ = aimed old.port.registers old.memory.structure value in
     let a : ℕ → Option Command = asked old.port.registers old.memory value in
     let own : DeviceSlots = (view_of n old.port).slots in
     let w : DeviceView = record (view_of n old.port) { slots = issued_slots n a own } in
@@ -160,13 +163,13 @@ wrote_own old new value lt next does fb =
     (commands_chosen n a own new.port.slots old.port.commands new.port.commands next.port.commands (ap (λ (x : DeviceView). x.slots) v) does.1.commands)
     (row_same n old new fb (ap (λ (m : Memory). m.structure) does.2))
 
-wrote_other : (n : ℕ) (old new : Host) (value : ℕ) → n < 16 → (n == old.port.registers.chosen) ≡ false → old.port.registers.started ≡ true → IsHost old → IsHost new → Does old (Wrote Ci value) new
+wrote_other : (n : ℕ) (old new : Host) (value : ℕ) → n < 16 → (n == aimed old.port.registers old.memory.structure value) ≡ false → old.port.registers.started ≡ true → IsHost old → IsHost new → Does old (Wrote Ci value) new
     → new.port.registers.fb ≡ old.port.registers.fb → part_of n new ≡ part_of n old
 unfolding view_after commands_after
 wrote_other n old new value lt differs started is next does fb =
     let a : ℕ → Option Command = asked old.port.registers old.memory value in
-    let w : DeviceView = record (view_of n old.port) { slots = issued_slots old.port.registers.chosen a (view_of n old.port).slots } in
-    let v : view_of n new.port ≡ view_of n old.port = does.1.views n lt ∙ cond-false (n == old.port.registers.chosen) w (view_of n old.port) differs in
+    let w : DeviceView = record (view_of n old.port) { slots = issued_slots (aimed old.port.registers old.memory.structure value) a (view_of n old.port).slots } in
+    let v : view_of n new.port ≡ view_of n old.port = does.1.views n lt ∙ cond-false (n == aimed old.port.registers old.memory.structure value) w (view_of n old.port) differs in
     stays_by n old new v
     (commands_other n old.port old.memory value new.port.slots new.port.commands started does.0 is.slots next.port.commands (ap (λ (x : DeviceView). x.slots) v) does.1.commands)
     (row_same n old new fb (ap (λ (m : Memory). m.structure) does.2))
@@ -182,9 +185,9 @@ wrote : (n : ℕ) (old new : Host) (register : Register) (value : ℕ) → n < 1
 unfolding view_after commands_after
 wrote n old new Cmd value lt started is next does fb none = wrote_none n old new Cmd value lt does fb (if_false (falls old.port.registers value) _ (view_of n old.port) none) refl
 wrote n old new Ci value lt started is next does fb none =
-    one_if n (part_of n old) (part_of n new) (n == old.port.registers.chosen) (Issued (asked old.port.registers old.memory value))
-    (λ same. subst (λ (m : ℕ). part_of m new ≡ part_after m (part_of m old) (Issued (asked old.port.registers old.memory value))) (sym (eqb-true n old.port.registers.chosen same))
-    (wrote_own old new value is.port.registers.chosen next does fb))
+    one_if n (part_of n old) (part_of n new) (n == aimed old.port.registers old.memory.structure value) (Issued (asked old.port.registers old.memory value))
+    (λ same. subst (λ (m : ℕ). part_of m new ≡ part_after m (part_of m old) (Issued (asked old.port.registers old.memory value))) (sym (eqb-true n (aimed old.port.registers old.memory.structure value) same))
+    (wrote_own old new value (aimed_low old.port old.memory value is.port.registers) next does fb))
     (λ differs. wrote_other n old new value lt differs started is next does fb)
 wrote n old new Fbs value lt started is next does fb none =
     let o : Option ℕ = cleared_by old.port.errors value in

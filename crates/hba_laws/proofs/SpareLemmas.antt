@@ -17,7 +17,7 @@ use Rattle.hba_fbs.specs.declared.register.Register.{Register}
 use Rattle.hba_fbs.specs.declared.register.Register.TheVariants.{Clb, Clbu, Fb, Fbu, Is, Ie, Cmd, Tfd, Sig, Serr, Sact, Ci, Sntf, Fbs}
 use Rattle.hba_fbs.specs.declared.report.TakeReport.{TakeReport}
 use Rattle.hba_fbs.specs.declared.status.Block.{Block}
-use Rattle.hba_fbs.specs.Issuing.{asked, commands_with}
+use Rattle.hba_fbs.specs.Issuing.{aimed, asked, commands_with}
 use Rattle.hba_fbs.specs.Registers.{falls}
 use Rattle.hba_fbs.specs.Sending.{Gives, Outgoing, outgoing}
 use Rattle.hba_fbs.specs.Sending as out
@@ -200,15 +200,15 @@ module _ (old : Host) (host : IsHost old) (past : Touches) (hist : AreHistoriesO
 
   -- after a write of PxCI
   ci_tables : (value : ℕ) → refusal_of Ci old.port old.memory value ≡ None → new.port.commands ≡ commands_with (commands value) old.port.commands → new.memory ≡ old.memory
-      → HaveTables new (issued_below old.port.registers.chosen old.memory (commands value) 32 ++ past)
-  ci_tables value accepted same memory n lt s t command at last = elim (cases_eq old.port.registers.chosen n) [
+      → HaveTables new (issued_below (aimed old.port.registers old.memory.structure value) old.memory (commands value) 32 ++ past)
+  ci_tables value accepted same memory n lt s t command at last = elim (cases_eq (aimed old.port.registers old.memory.structure value) n) [
     | inl chosen ↦
         by_case (issued_cases value (own n past) 32 s t
-        (sym (ap (issued s) (own_app n (issued_below old.port.registers.chosen old.memory (commands value) 32) past
+        (sym (ap (issued s) (own_app n (issued_below (aimed old.port.registers old.memory.structure value) old.memory (commands value) 32) past
         ∙ ap (λ (d : ℕ). own n (issued_below d old.memory (commands value) 32) ++ own n past) chosen ∙ own_below_is n old.memory (commands value) (own n past) 32)) ∙ at))
     | inr ne ↦
-        before (sym (ap (issued s) (own_app n (issued_below old.port.registers.chosen old.memory (commands value) 32) past
-        ∙ ap (λ h. h ++ own n past) (other_below n old.port.registers.chosen old.memory (commands value) 32 ne))) ∙ at)
+        before (sym (ap (issued s) (own_app n (issued_below (aimed old.port.registers old.memory.structure value) old.memory (commands value) 32) past
+        ∙ ap (λ h. h ++ own n past) (other_below n (aimed old.port.registers old.memory.structure value) old.memory (commands value) 32 ne))) ∙ at)
   ]
     where
       before : issued s (own n past) ≡ Some t → prds_of new.memory command ≡ t.table

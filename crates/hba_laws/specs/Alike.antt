@@ -10,13 +10,13 @@ use Rattle.host_memory.specs.declared.table.Prd.{Prd}
 use Rattle.slots.specs.Data.{payload}
 use Rattle.slots.specs.Slots.{holds, match_some, own_issue}
 use Rattle.hba_fbs.specs.Tables.{prds_of}
-use Rattle.hba_fbs.specs.Taking.{admitted, heard, is_ignored}
+use Rattle.hba_fbs.specs.Taking.{admitted, heard}
 use Rattle.hba_laws.specs.Delivering.{event_heard, history_after, is_control_issue}
 use Rattle.hba_laws.specs.History as event
 use Rattle.hba_laws.specs.History.{Event, History, filled, issued}
 use Rattle.hba_laws.specs.Hosts.{Gave, Host, HostEvent, Runs}
 use Rattle.hba_laws.specs.Isolation.{OwnEvent, Came, Issued, Went, Cleared, Emptied, Rewritten}
-use Rattle.hba_laws.specs.Isolation.{RunsByDevices, next_own, own_events, part_after}
+use Rattle.hba_laws.specs.Isolation.{RunsByDevices, next_own, own_events, part_after, skips}
 use Rattle.hba_laws.specs.Parts.{DevicePart, part_of}
 
 -- ---- own events, with what memory brings to them
@@ -54,7 +54,7 @@ brought_over n old new (event ∷ events) run = brought n old event ++ brought_o
 -- a frame of the device is what its own view hears, with a PRD table that can be used
 abbrev pub told_came : ℕ → DevicePart → List ℕ → Option Event
 told_came n part frame =
-    if is_ignored true part.view (seen frame) then None
+    if skips n part (seen frame) then None
     else event_heard (heard n part.view true (admitted n (seen frame))) (drop 4 frame)
 
 abbrev pub told_issue : ℕ → List Prd → Option Command → History

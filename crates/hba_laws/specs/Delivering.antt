@@ -19,7 +19,7 @@ use Rattle.hba_fbs.specs.declared.register.Register.{Register}
 use Rattle.hba_fbs.specs.declared.register.Register.TheVariants.{Cmd, Ci, Fbs}
 use Rattle.hba_fbs.specs.declared.report.TakeReport.{TakeReport}
 use Rattle.hba_fbs.specs.declared.status.Block.{Block}
-use Rattle.hba_fbs.specs.Issuing.{asked}
+use Rattle.hba_fbs.specs.Issuing.{aimed, asked}
 use Rattle.hba_fbs.specs.Registers.{falls}
 use Rattle.hba_fbs.specs.Sending.{Outgoing, gathered, outgoing}
 use Rattle.hba_fbs.specs.Sending as out
@@ -98,7 +98,8 @@ touched_by_clear (Some dev) = By dev event.Emptied ∷ []
 abbrev pub touched_by_write : Register → Host → ℕ → Touches
 touched_by_write Cmd host value = if falls host.port.registers value then Stops ∷ [] else []
 touched_by_write Ci host value =
-    let r = host.port.registers in issued_below r.chosen host.memory (asked r host.memory value) 32
+    let r = host.port.registers in
+    issued_below (aimed r host.memory.structure value) host.memory (asked r host.memory value) 32
 touched_by_write Fbs host value = touched_by_clear (cleared_by host.port.errors value)
 touched_by_write register host value = []
 

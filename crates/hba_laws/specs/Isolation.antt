@@ -1,11 +1,12 @@
 -- Which device each event of a host port belongs to, and isolation (AHCI 1.3.1, chapter 9, FIS-based
 -- Switching): what belongs to a device is the fold of its own events alone.
 use Rattle.std.specs.Prelude.{ℕ, ◌≡◌, ◌<◌, ◌==◌, ◌&&◌, ◌||◌, Bool, true, false, not, if◌then◌else◌, List, []}
-use Rattle.std.specs.Prelude.{◌∷◌, ◌++◌, Option, Some, None, is_none, is_some}
+use Rattle.std.specs.Prelude.{◌∷◌, ◌++◌, Option, Some, None, Result, is_none, is_some}
 use Rattle.std.specs.Option.{option_or}
 use Rattle.fis_view.specs.Frames.{Stamped}
 use Rattle.fis_view.specs.Seen.{seen}
 use Rattle.fis_view.specs.declared.view.Fis.{Fis}
+use Rattle.fis_view.specs.declared.view.FisFault.{FisFault}
 use Rattle.hba_commands.specs.declared.command.Command.{Command}
 use Rattle.host_memory.specs.Memory.{Memory}
 use Rattle.rx_area.specs.Area.{row_after}
@@ -14,13 +15,13 @@ use Rattle.slots.specs.Slots.{Issue, holds, is_control, lowest, match_some, own_
 use Rattle.hba_fbs.specs.declared.register.Register.{Register}
 use Rattle.hba_fbs.specs.declared.register.Register.TheVariants.{Cmd, Ci, Fbs}
 use Rattle.hba_fbs.specs.declared.registers.Registers.{Registers}
-use Rattle.hba_fbs.specs.Issuing.{asked, issued_slots}
+use Rattle.hba_fbs.specs.Issuing.{aimed, asked, issued_slots}
 use Rattle.hba_fbs.specs.Registers.{falls}
 use Rattle.hba_fbs.specs.Sending.{Data, Nothing, Order, Outgoing, Unreadable, data_fis, gathered, is_ready}
 use Rattle.hba_fbs.specs.Sending.{outgoing, view_fed, view_sent}
 use Rattle.hba_fbs.specs.Tables.{prds_of}
-use Rattle.hba_fbs.specs.Taking.{admitted, heard_now, heard_view, ignores, is_ignored, is_running, port_cause}
-use Rattle.hba_fbs.specs.Taking.{port_of}
+use Rattle.hba_fbs.specs.Taking.{admitted, heard_now, heard_view, ignores, is_ignored, is_running, port_of}
+use Rattle.hba_fbs.specs.Taking.{stops_with}
 use Rattle.hba_fbs.specs.Views.{DeviceView, Port, flushed_view, stopped_view}
 use Rattle.hba_fbs.specs.Writing.{cleared_by, is_device}
 use Rattle.hba_laws.specs.Hosts.{Does, Flushed, Gave, Host, HostEvent, Put, Rewrote, Runs, Stored, Took}
@@ -34,7 +35,7 @@ use Rattle.hba_laws.specs.Sound.{AreHosts, IsHost}
 abbrev pub stops_port : ℕ → Port → Memory → List ℕ → Bool
 stops_port dev port memory frame =
     not (ignores dev port frame)
-    && is_some (port_cause (heard_now port memory dev (admitted dev (seen frame))).fault)
+    && stops_with port.registers.switching (heard_now port memory dev (admitted dev (seen frame))).fault
 
 -- the write takes ST from 1 to 0
 abbrev pub lowers_st : Register → Registers → ℕ → Bool
@@ -79,11 +80,11 @@ pub data OwnEvent : Type 0 where
   -- the software writes its row
   Rewritten : (row : List ℕ) → OwnEvent
 
--- a write of PxCI issues commands for the device that PxFBS.DEV names; PxFBS.DEC clears the device that DWE
+-- a write of PxCI issues commands for the device at which it is aimed; PxFBS.DEC clears the device that DWE
 -- names
 abbrev pub written_to : ℕ → Host → Register → ℕ → List OwnEvent
 written_to n host Ci value =
-    if n == host.port.registers.chosen
+    if n == aimed host.port.registers host.memory.structure value
     then Issued (asked host.port.registers host.memory value) ∷ []
     else []
 written_to n host Fbs value =
@@ -146,10 +147,14 @@ after_going part =
     if is_some (payload part.view.slots.context) then with_view part (view_fed part.view)
     else match_some (next_own part.view) part (after_order part)
 
+-- a FIS of the device that it does not hear, while the port runs
+abbrev pub skips : ℕ → DevicePart → Result Fis FisFault → Bool
+skips n part fis = is_ignored true part.view fis
+
 -- What belongs to a device after one of its own events. It sees no register, no memory and no other device.
 abbrev pub part_after : ℕ → DevicePart → OwnEvent → DevicePart
 part_after n part (Came frame) =
-    if is_ignored true part.view (seen frame) then part
+    if skips n part (seen frame) then part
     else after_fis n part (admitted n (seen frame))
 part_after n part (Issued commands) = after_issue n commands part
 part_after n part Went = after_going part

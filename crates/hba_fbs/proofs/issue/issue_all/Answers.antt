@@ -10,12 +10,12 @@ use Rattle.hba_fbs.proofs.issue.issue_all.Goals as goal
 
 pub issue_one-requires-clause-free : goal.issue_one-requires-clause-free
 issue_one-requires-clause-free c some =
-    asked_free c.args.registers c.args.memory.now c.args.value c.loop-slot.slot c.args.slots.now c.loop-slot.slots c.loop-slot-test.true c.requires.free
+    asked_free c.args.registers c.args.memory.now c.args.dev c.args.value c.loop-slot.slot c.args.slots.now c.loop-slot.slots c.loop-slot-test.true c.requires.free
     (ap is_some (sym c.asked-command.ensures.value) ∙ some) c.loop-slot.invariant.others (c.loop-slot.invariant.issues.rest c.loop-slot.slot (omega arith))
 
 pub loop-slot-preserved : goal.loop-slot-preserved
 loop-slot-preserved c =
-    let dev : ℕ = c.args.registers.chosen in
+    let dev : ℕ = c.args.dev in
     let n : ℕ = c.loop-slot.slot in
     let command : Option Command = c.asked-command.result in
     let wanted : ℕ → Option Command = asked c.args.registers c.args.memory.now c.args.value in
@@ -37,7 +37,7 @@ loop-slot-preserved c =
 
 pub returns-clause-own : goal.returns-clause-own
 returns-clause-own c =
-    let dev : ℕ = c.args.registers.chosen in
+    let dev : ℕ = c.args.dev in
     let past : length (slots_of dev c.args.slots.now).issues ≤ c.loop-slot.slot = omega (arith, length-map c.args.slots.now.issues (owned_by dev), c.keeps_rules.ensures.slots) in
     issues_all dev c.loop-slot.slot _ (slots_of dev c.args.slots.now) (slots_of dev c.loop-slot.slots) past c.loop-slot.invariant.context c.loop-slot.invariant.issues
 

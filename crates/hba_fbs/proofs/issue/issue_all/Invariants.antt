@@ -9,9 +9,9 @@ use Rattle.hba_fbs.proofs.issue.issue_all.Given as goal
 -- the slots so far are issued
 abbrev pub invariant-loop-slot : goal.invariant-loop-slot
 invariant-loop-slot l = record {
-  issues : FilledTo l.slot (issue_after l.registers.chosen (asked l.registers l.memory l.value) (slots_of l.registers.chosen l.initial.slots).issues) None (slots_of l.registers.chosen l.initial.slots).issues (slots_of l.registers.chosen l.slots).issues;
-  context : (slots_of l.registers.chosen l.slots).context ≡ (slots_of l.registers.chosen l.initial.slots).context;
-  others : LeavesOthers l.registers.chosen l.initial.slots l.slots;
+  issues : FilledTo l.slot (issue_after l.dev (asked l.registers l.memory l.value) (slots_of l.dev l.initial.slots).issues) None (slots_of l.dev l.initial.slots).issues (slots_of l.dev l.slots).issues;
+  context : (slots_of l.dev l.slots).context ≡ (slots_of l.dev l.initial.slots).context;
+  others : LeavesOthers l.dev l.initial.slots l.slots;
   commands : FilledTo l.slot (command_after (asked l.registers l.memory l.value) l.initial.commands) None l.initial.commands l.commands;
   have : HaveCommands l.initial.slots l.initial.commands → HaveCommands l.slots l.commands;
 }
