@@ -11,3 +11,4 @@ pub mod Tables
 pub mod Posting
 pub mod Taking
 pub mod Sending
+pub mod Due

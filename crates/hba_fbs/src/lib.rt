@@ -10,6 +10,7 @@
 
 mod bits;
 mod data;
+mod due;
 mod error;
 mod hearing;
 mod issue;
@@ -23,6 +24,7 @@ mod state;
 mod status;
 mod take;
 
+pub use due::Due;
 pub use error::{NoRegister, WriteError};
 pub use hearing::{Fault, Happening, Heard};
 pub use port::HostPort;
