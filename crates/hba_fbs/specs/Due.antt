@@ -11,6 +11,6 @@ use Rattle.hba_fbs.specs.Views.{Port}
 abbrev pub due_of : Port → Option Due
 due_of port =
     if is_running port then match_some (next_receiver port) None (λ dev.
-        match_some (payload (context_of port.slots dev)) None (λ next.
-        Some (record { slot = next.0; offset = next.1; len = next.2 })))
+    match_some (payload (context_of port.slots dev)) None (λ next.
+    Some (record { slot = next.0; offset = next.1; len = next.2 })))
     else None

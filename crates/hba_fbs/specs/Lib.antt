@@ -12,3 +12,4 @@ pub mod Posting
 pub mod Taking
 pub mod Sending
 pub mod Due
+pub mod Resets

@@ -1,7 +1,7 @@
 //! What a controller round the port asks of it: its own registers, which slots are in use, and which bytes of a write it
 //! gathers next.
 
-ghost use Rattle.std.specs.Prelude.{◌≡◌, ◌<◌};
+ghost use Rattle.std.specs.Prelude.{◌≡◌, ◌<◌, ◌≤◌, IfSome};
 ghost use Rattle.hba_fbs.specs.Due.{due_of};
 ghost use Rattle.hba_fbs.specs.Issuing.{is_busy};
 
@@ -38,7 +38,9 @@ impl HostPort {
     /// The bytes of a write that [`next_out`](HostPort::next_out) gathers next, None where it gives no data next. Whoever
     /// keeps the bytes elsewhere puts them to their places before that.
     pub fn due(&self) -> Option<Due>
-        ensures { result ≡ due_of self.now }
+        ensures value { result ≡ due_of self.now }
+        ensures slot { IfSome result (λ due. due.slot < 32) }
+        ensures few { IfSome result (λ due. due.len ≤ 8192) }
     {
         if !self.is_running() {
             return None;

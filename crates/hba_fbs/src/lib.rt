@@ -19,6 +19,7 @@ mod post;
 mod register;
 mod registers;
 mod report;
+mod reset;
 mod sending;
 mod state;
 mod status;
