@@ -13,6 +13,7 @@
 
 mod bits;
 mod data;
+mod due;
 mod error;
 mod hearing;
 mod issue;
@@ -21,11 +22,13 @@ mod post;
 mod register;
 mod registers;
 mod report;
+mod reset;
 mod sending;
 mod state;
 mod status;
 mod take;
 
+pub use due::Due;
 pub use error::{NoRegister, WriteError};
 pub use hearing::{Fault, Happening, Heard};
 pub use port::HostPort;
