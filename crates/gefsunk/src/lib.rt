@@ -57,8 +57,9 @@ pub extern "C" fn gefsunk_pm_new(handle: &mut Handle, alloc: Global, ports: u8) 
 pub extern "C" fn gefsunk_pm_free(handle: &mut Handle, alloc: Global) -> u32
     ensures { FreedPm handle.old.held.value (status_of result) handle.new.held.value }
 {
-    let Some(kept) = handle.take(alloc) else {
-        return Status::Closed.code();
+    let kept = match handle.take(alloc) {
+        Some(kept) => kept,
+        None => return Status::Closed.code(),
     };
     match &*kept {
         Kept::Pm(_) => Status::Done.code(),
