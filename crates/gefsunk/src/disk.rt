@@ -1,6 +1,6 @@
 //! A disk as the library for C keeps it.
 
-ghost use Rattle.std.specs.Prelude.{◌≡◌, ◌<◌, IfErr, IfOk, length, take};
+ghost use Rattle.std.specs.Prelude.{◌≡◌, ◌≤◌, ◌<◌, IfErr, IfOk, length, take};
 ghost use Rattle.gefsunk.specs.Disks.{DiskFromHost, DiskPlug, DiskRefused, DiskToHost, IsDiskOf, IsPlanOf, SectorRule, has_flag};
 
 use crate::pm::{copied, refused, stamp};
@@ -32,12 +32,20 @@ fn plan(chunk: u16, flags: u32, serial: u32, bad: ArrayVec<u32, 16>) -> DiskPlan
     ensures { IsPlanOf chunk flags serial bad.items result }
 {
     DiskPlan {
-        order: if has_flag(flags, NEWEST) { Order::Newest } else { Order::Oldest },
+        order: if has_flag(flags, NEWEST) {
+            Order::Newest
+        } else {
+            Order::Oldest
+        },
         chunk,
         last_first: has_flag(flags, LAST_FIRST),
         bad,
         auto: has_flag(flags, AUTO),
-        profile: if has_flag(flags, STOCK) { Profile::Stock(serial) } else { Profile::Bare },
+        profile: if has_flag(flags, STOCK) {
+            Profile::Stock(serial)
+        } else {
+            Profile::Bare
+        },
     }
 }
 
@@ -108,6 +116,14 @@ pub fn to_host(disk: &mut Disk, alloc: Global, room: &mut [u8], len: &mut usize)
     }
 }
 
+/// Copies bytes to the front of the room.
+fn put(bytes: &[u8], room: &mut [u8])
+    requires fits { length bytes.now ≤ length room.old }
+    ensures { take (length bytes.now) room.new ≡ bytes.now }
+{
+    room[..bytes.len()].copy_from_slice(bytes);
+}
+
 /// Writes the 512 bytes of a sector on the medium into the room.
 pub fn sector(disk: &Disk, lba: u32, room: &mut [u8]) -> Status
     ensures { SectorRule disk.now lba (length room.old) result (take 512 room.new) }
@@ -115,9 +131,9 @@ pub fn sector(disk: &Disk, lba: u32, room: &mut [u8]) -> Status
     let Some(bytes) = disk.sector(lba) else {
         return Status::NoSector;
     };
-    let Some(place) = room.get_mut(..512) else {
+    if room.len() < 512 {
         return Status::TooShort;
-    };
-    place.copy_from_slice(bytes);
+    }
+    put(bytes, room);
     Status::Done
 }
