@@ -33,13 +33,13 @@ pub enum Task {
 /// What is written of the steps of a run.
 #[derive(Clone, Copy, Debug, PartialEq, Eq)]
 pub struct Watch {
-    /// Whether anything is written.
+    /// Whether anything is.
     pub is_on: bool,
-    /// The port whose steps are written, 15 for the control port; None if those of all ports are.
+    /// The port whose steps are, 15 for the control port; None where those of all are.
     pub port: Option<u8>,
-    /// Whether only faults, drops and removals are written.
+    /// Whether only faults, drops and removals are.
     pub is_faults: bool,
-    /// The number of the first step that is written.
+    /// The number of the first step that is.
     pub from: u64,
     /// Whether all output is JSON, an object a line.
     pub is_json: bool,
@@ -69,7 +69,7 @@ impl Watch {
         Ok(watch)
     }
 
-    /// Keeps only the steps that one more `--only` names.
+    /// Only those that one more `--only` names.
     fn narrow(&mut self, only: &str) -> Result<(), Misuse> {
         self.is_on = true;
         if only == "faults" {
@@ -87,7 +87,7 @@ impl Watch {
     }
 }
 
-/// The most turns in a row of a worker in which nothing moves.
+/// In how many turns in a row of a worker nothing may move.
 #[derive(Clone, Copy, Debug, PartialEq, Eq)]
 pub struct Turns {
     pub count: u64,
@@ -198,7 +198,7 @@ impl<'a> Call<'a> {
     }
 }
 
-/// All words of the command line.
+/// The words that there are.
 fn command<'a>(alloc: Global) -> Result<Command<'a>, Error> {
     let turns = Arg::new(alloc, "turns")
         .long("turns")

@@ -1,5 +1,5 @@
-//! Scenarios: the command `run` plays one line after the other on a world of devices, a port
-//! multiplier and a host. The command `threads` runs each of these in a thread of its own.
+//! Scenarios: the command `run` plays one line after the other on a world of devices, a port multiplier
+//! and a host; the command `threads` has each of these work in a thread of its own.
 
 mod agenda;
 mod event;

@@ -79,8 +79,7 @@ pub enum Entry {
     Common(Common),
     /// That the next request wait until all earlier ones have ended.
     Barrier,
-    /// That the device at this port be pulled, and plugged in again, once it has sent this many
-    /// FISes.
+    /// That the device at this port be pulled, and plugged in again, once it has sent so many FISes.
     Pull(u8, u32),
 }
 
@@ -175,8 +174,8 @@ impl Entry {
 }
 
 impl Common {
-    /// Reads a line of this name, word by word, if the devices are those up to the last port. The
-    /// name of a setting comes too late, and any other name that is none of these is not known.
+    /// Reads a line of this name, word by word, where the devices are those up to the last port. The name of
+    /// a setting comes too late, and any other that is none of these is not known.
     fn read(
         alloc: Global,
         name: &[u8],
