@@ -1,0 +1,3 @@
+pub mod GatherLemmas
+pub mod OpeningLemmas
+pub mod SendLemmas
