@@ -106,8 +106,8 @@ abbrev pub TookALater : Places → List Answer → Type 0
 TookALater old answers = length old.upward.frames < length (filter is_took answers)
 
 -- After the host saw the removal of a connection, it takes nothing of it, nor of an earlier
--- connection of that port. The host sees the removal at the latest by the first FIS of the control
--- port that goes up after the removal was recorded. Any frame that goes up then shows it.
+-- connection of that port. The host sees the removal by the first frame, of any port, that went up
+-- after the removal was recorded.
 pub record NothingAfterRemoval (old : Places) (answers : List Answer) : Type 0 where
   pub none : (n c : ℕ) → n ≢ control_port → is_removed n c old ≡ true
       → (first later : List Answer) → first ++ later ≡ answers → TookALater old first
