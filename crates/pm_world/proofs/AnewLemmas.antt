@@ -9,7 +9,11 @@ use Rattle.disk_model.specs.Histories.{Received}
 use Rattle.disk_model.specs.Histories as history
 use Rattle.hba_driver.specs.HostTurns.{Does}
 use Rattle.hba_driver.proofs.FlushLemmas.{flush_unreset}
-use Rattle.driver_phases.specs.Ends.{no_floors}
+use Rattle.driver_phases.specs.Flushes.{bare_floors}
+use Rattle.driver_phases.proofs.FlushTurns.{since_begins}
+use Rattle.driver_ends.proofs.TurnLemmas.{none_issued}
+use Rattle.disk_model.proofs.AnewLemmas.{begins_anew}
+use Rattle.pm_world.proofs.TouchedLemmas.{touched_served}
 use Rattle.driver_phases.proofs.Beginnings.{flush_begins}
 use Rattle.pm_world.specs.Wired.{IsAtHost}
 use Rattle.pm_world.proofs.FlushLemmas.{flush_orders}
@@ -101,7 +105,7 @@ module _ (config : Config) (units : List Unit) (fits : is_config config (length 
     pub held : IsHeld n now
     pub host : HostOn n config.memory turns now.host (Plugged ∷ [])
     pub unfaulted : IsUnfaulted n now.host.port
-    pub ends : HasEnds n config.memory no_floors turns now.host (earlier ++ Plugged ∷ []) [] []
+    pub ends : HasEnds n config.memory bare_floors turns now.host (earlier ++ Plugged ∷ []) [] []
 
   -- an order to clear the port is still to be sent, or it is on its way, or there is none
   pub data Ordered (unsent : Bool) (turns : List HostTurn) (now : Places) : Type 0 where
@@ -143,10 +147,10 @@ module _ (config : Config) (units : List Unit) (fits : is_config config (length 
     unfaulted_now anew = step_unfaulted n below old s a new rule sound (untaken_none n a its (untaken anew.held)) anew.unfaulted
 
     -- nothing of the device goes over its link
-    pub ends_now : IsAnew turns old → IsUnflushed n old a → HasEnds n config.memory no_floors now_turns new.host (earlier ++ Plugged ∷ []) [] []
+    pub ends_now : IsAnew turns old → IsUnflushed n old a → HasEnds n config.memory bare_floors now_turns new.host (earlier ++ Plugged ∷ []) [] []
     ends_now anew idle =
         let f : FirstOn drivers_serve n config.memory below right turns old s a new = first_anew anew in
-        stays_beside n config.memory below right plan sectors size no_floors turns old (now_at config units fits before told old made) s a new rule
+        stays_beside n config.memory below right plan sectors size bare_floors turns old (now_at config units fits before told old made) s a new rule
         (earlier ++ Plugged ∷ []) [] [] anew.ends disk its (none_at_host a (untaken anew.held) f.given) idle
       where
         none_at_host : (b : Answer) → is_taken_of n b ≡ false → given_for n old s b new ≡ [] → IsAtHost n old b new []
@@ -270,16 +274,19 @@ module _ (config : Config) (units : List Unit) (fits : is_config config (length 
     -- ---- it is given
 
     flush_ends : Does old.host (Ticked true) new.host → IsFlushTick n old.host
-        → HasEnds n config.memory no_floors (turns ++ Ticked true ∷ []) new.host (earlier ++ Plugged ∷ []) [] []
+        → HasEnds n config.memory bare_floors (turns ++ Ticked true ∷ []) new.host (earlier ++ Plugged ∷ []) [] []
     flush_ends does flush =
         let on : HostOn n config.memory (turns ++ Ticked true ∷ []) new.host (Plugged ∷ []) =
         flush_serves drivers_serve n config.memory below right turns old.host new.host touched.touches touched.touched does flush in
         record {
           touches = on.touches;
           touched = on.touched;
-          ends = flush_begins n new.host earlier on.commands on.touches below on.serves
+          ends = since_begins n new.host (earlier ++ Plugged ∷ []) [] [] on.touches
+              (none_issued n new.host on.touches below (touched_served config.memory (turns ++ Ticked true ∷ []) new.host on.touches right on.touched)
+              on.serves.steady (λ asked. on.serves.signed asked (begins_anew.plugged []).awaited))
+              (flush_begins n new.host earlier on.commands on.touches below on.serves
               (flush_unreset n old.host true new.host (omega (arith, below)) does flush) (opened_at_flush n old.host true new.host does flush)
-              (flush_unfaulted n (omega (arith, below)) old.host true new.host does sound flush);
+              (flush_unfaulted n (omega (arith, below)) old.host true new.host does sound flush));
         }
 
     flush_now : (b : Answer) → a ≡ b → orders_clear n old b ≡ true → Nothing (is_clear n) old.downward.frames → Ordered now_unsent now_turns new
@@ -298,7 +305,7 @@ module _ (config : Config) (units : List Unit) (fits : is_config config (length 
               subst (λ (ts : List HostTurn). HostOn n config.memory ts new.host (Plugged ∷ [])) (sym turns_are)
               (flush_serves drivers_serve n config.memory below right turns old.host new.host touched.touches touched.touched tick.0 flush);
           unfaulted = flush_unfaulted n (omega (arith, below)) old.host true new.host tick.0 sound flush;
-          ends = subst (λ (ts : List HostTurn). HasEnds n config.memory no_floors ts new.host (earlier ++ Plugged ∷ []) [] []) (sym turns_are) (flush_ends tick.0 flush);
+          ends = subst (λ (ts : List HostTurn). HasEnds n config.memory bare_floors ts new.host (earlier ++ Plugged ∷ []) [] []) (sym turns_are) (flush_ends tick.0 flush);
         })
     flush_now b is flushed none = absurd (false≢true flushed)
 

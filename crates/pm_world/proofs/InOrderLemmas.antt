@@ -9,6 +9,7 @@ use Rattle.host_memory.specs.Place.{place}
 use Rattle.disk_model.specs.declared.unit.Unit.{Unit}
 use Rattle.disk_model.specs.Histories.{Happening}
 use Rattle.disk_model.specs.Last.{NoneCovers}
+use Rattle.hba_driver.specs.declared.request.Completion.{Completion}
 use Rattle.hba_driver.specs.declared.request.Request.{Request}
 use Rattle.hba_driver.specs.declared.request.Ticket.{Ticket}
 use Rattle.hba_driver.specs.declared.request.Work.TheVariants.{Read, Write}
@@ -368,6 +369,77 @@ no_longer front back all is =
     let long : length all ≡ length front + length back = ap length is ∙ length-append front back in
     omega (arith, long)
 
+-- ## A write that was polled before another request was submitted
+
+module _ (config : Config) (units : List Unit) (fits : is_config config (length units) ≡ true) (steps : List Step) (answers : List Answer) (now : Places)
+    (run : Run (new_world config units) steps answers now) (written read : Completion)
+    (poll : IsStepOf step.Poll (answer.Polled written) (new_world config units) now steps answers run)
+    (first : IsPolledHonestly config units poll.at poll.before poll.told poll.came written)
+    (second : IsPolledHonestly config units now steps answers run read) (later : length poll.before < length second.reported.submitted.before)
+    (same : second.reported.dev ≡ first.reported.dev)
+    (c : IsLeftSince first.reported.dev first.reported.conn (new_world config units) first.reported.took.at first.reported.took.before
+    first.reported.took.told first.reported.took.came)
+    (d : IsLeftSince second.reported.dev second.reported.conn (new_world config units) second.reported.took.at second.reported.took.before
+    second.reported.took.told second.reported.took.came) where
+  submitted : (happened : List Happening)
+      → WasSubmitted config units second.reported.dev second.reported.took.at
+      (disk_run config units second.reported.dev second.reported.conn second.reported.took.at second.reported.took.before second.reported.took.told
+      second.reported.took.came d) (new_entry read.ticket.0 second.reported.dev second.reported.request) happened
+      → IsSubmittedAt config units second.reported.dev steps answers (over world_before (new_world config units) steps answers now run)
+      (length second.reported.submitted.before) happened
+  submitted happened was =
+      submitted_at config units fits second.reported.dev second.reported.conn second.reported.took.at second.reported.took.before
+      second.reported.took.told second.reported.took.came d steps answers (over world_before (new_world config units) steps answers now run)
+      (of_step step.HostTake (answer.Took second.reported.dev second.reported.conn second.reported.number second.reported.bytes second.reported.report)
+      (new_world config units) now steps answers run second.reported.took) second.reported.dev second.reported.request
+      read.ticket second.reported.submitted (new_entry read.ticket.0 second.reported.dev second.reported.request) happened refl was
+
+  -- the report of the write in the run up to its poll, and so in the whole
+  written_first : IsFirst (new_world config units) first.reported.took.at (c.came.before ++ step.Came first.reported.dev ∷ c.came.after)
+      (c.came.told ++ answer.Came first.reported.dev first.reported.conn ∷ c.came.later)
+      (parted (step.Came first.reported.dev) (answer.Came first.reported.dev first.reported.conn) (new_world config units) first.reported.took.at
+      first.reported.took.before first.reported.took.told first.reported.took.came c.came) steps answers
+      (over world_before (new_world config units) steps answers now run)
+  written_first =
+      parted_first (step.Came first.reported.dev) (answer.Came first.reported.dev first.reported.conn) (new_world config units) first.reported.took.at
+      first.reported.took.before first.reported.took.told first.reported.took.came c.came steps answers
+      (over world_before (new_world config units) steps answers now run)
+      (through (new_world config units) first.reported.took.at poll.at first.reported.took.before poll.before first.reported.took.told poll.told
+      first.reported.took.came poll.came steps answers (over world_before (new_world config units) steps answers now run)
+      (of_step step.HostTake (answer.Took first.reported.dev first.reported.conn first.reported.number first.reported.bytes first.reported.report)
+      (new_world config units) poll.at poll.before poll.told poll.came first.reported.took)
+      (of_step step.Poll (answer.Polled written) (new_world config units) now steps answers run poll))
+
+  fewer : length (c.came.before ++ step.Came first.reported.dev ∷ c.came.after) ≤ length second.reported.submitted.before
+  fewer =
+      let to_report : length first.reported.took.before ≤ length poll.before =
+      no_longer first.reported.took.before (step.HostTake ∷ first.reported.took.after) poll.before first.reported.took.steps_are in
+      let here : length first.reported.took.before ≡ length (c.came.before ++ step.Came first.reported.dev ∷ c.came.after) =
+      ap length c.came.steps_are in
+      omega (arith, to_report, here, later)
+
+  -- what had happened to the disk at the report of the write is a part of what had happened at that submit
+  pub history_part : (happened : List Happening)
+      → WasSubmitted config units second.reported.dev second.reported.took.at
+      (disk_run config units second.reported.dev second.reported.conn second.reported.took.at second.reported.took.before second.reported.took.told
+      second.reported.took.came d) (new_entry read.ticket.0 second.reported.dev second.reported.request) happened
+      → IsPart
+      (disk_history config units first.reported.dev first.reported.took.at
+      (disk_run config units first.reported.dev first.reported.conn first.reported.took.at first.reported.took.before first.reported.took.told
+      first.reported.took.came c)) happened
+  history_part happened was =
+      is_part config units first.reported.dev second.reported.dev (length second.reported.submitted.before) first.reported.took.at
+      (c.came.before ++ step.Came first.reported.dev ∷ c.came.after)
+      (c.came.told ++ answer.Came first.reported.dev first.reported.conn ∷ c.came.later)
+      (parted (step.Came first.reported.dev) (answer.Came first.reported.dev first.reported.conn) (new_world config units) first.reported.took.at
+      first.reported.took.before first.reported.took.told first.reported.took.came c.came) steps answers
+      (over world_before (new_world config units) steps answers now run) happened
+      (disk_history config units first.reported.dev first.reported.took.at
+      (disk_run config units first.reported.dev first.reported.conn first.reported.took.at first.reported.took.before first.reported.took.told
+      first.reported.took.came c)) written_first (submitted happened was) fewer same
+      (told_over config units first.reported.dev first.reported.conn first.reported.took.at first.reported.took.before first.reported.took.told
+      first.reported.took.came c)
+
 pub reads_follow_writes : ReadsFollowWrites
 reads_follow_writes config units fits steps answers now run written read poll first second writes reads queued queued_too later same sectors plan disk
     disk_too c d i j one none =
@@ -376,7 +448,8 @@ reads_follow_writes config units fits steps answers now run written read poll fi
     second.reported.took.came d) read.slot (new_entry read.ticket.0 second.reported.dev second.reported.request) now.host.memory reads
     (second.honest sectors plan disk_too queued_too
     (disk_run config units second.reported.dev second.reported.conn second.reported.took.at second.reported.took.before second.reported.took.told
-    second.reported.took.came d) refl) part one none
+    second.reported.took.came d) refl)
+    (history_part config units fits steps answers now run written read poll first second later same c d r.before r.submitted) one none
   where
     r : EndedSince config units second.reported.dev second.reported.took.at
         (disk_run config units second.reported.dev second.reported.conn second.reported.took.at second.reported.took.before second.reported.took.told
@@ -385,57 +458,7 @@ reads_follow_writes config units fits steps answers now run written read poll fi
         (disk_run config units second.reported.dev second.reported.conn second.reported.took.at second.reported.took.before second.reported.took.told
         second.reported.took.came d) refl
 
-    submitted : IsSubmittedAt config units second.reported.dev steps answers (over world_before (new_world config units) steps answers now run)
-        (length second.reported.submitted.before) r.before
-    submitted =
-        submitted_at config units fits second.reported.dev second.reported.conn second.reported.took.at second.reported.took.before
-        second.reported.took.told second.reported.took.came d steps answers (over world_before (new_world config units) steps answers now run)
-        (of_step step.HostTake (answer.Took second.reported.dev second.reported.conn second.reported.number second.reported.bytes second.reported.report)
-        (new_world config units) now steps answers run second.reported.took) second.reported.dev second.reported.request
-        read.ticket second.reported.submitted (new_entry read.ticket.0 second.reported.dev second.reported.request) r.before refl r.submitted
-
-    -- the report of the write in the run up to its poll, and so in the whole
-    written_first : IsFirst (new_world config units) first.reported.took.at (c.came.before ++ step.Came first.reported.dev ∷ c.came.after)
-        (c.came.told ++ answer.Came first.reported.dev first.reported.conn ∷ c.came.later)
-        (parted (step.Came first.reported.dev) (answer.Came first.reported.dev first.reported.conn) (new_world config units) first.reported.took.at
-        first.reported.took.before first.reported.took.told first.reported.took.came c.came) steps answers
-        (over world_before (new_world config units) steps answers now run)
-    written_first =
-        parted_first (step.Came first.reported.dev) (answer.Came first.reported.dev first.reported.conn) (new_world config units) first.reported.took.at
-        first.reported.took.before first.reported.took.told first.reported.took.came c.came steps answers
-        (over world_before (new_world config units) steps answers now run)
-        (through (new_world config units) first.reported.took.at poll.at first.reported.took.before poll.before first.reported.took.told poll.told
-        first.reported.took.came poll.came steps answers (over world_before (new_world config units) steps answers now run)
-        (of_step step.HostTake (answer.Took first.reported.dev first.reported.conn first.reported.number first.reported.bytes first.reported.report)
-        (new_world config units) poll.at poll.before poll.told poll.came first.reported.took)
-        (of_step step.Poll (answer.Polled written) (new_world config units) now steps answers run poll))
-
-    fewer : length (c.came.before ++ step.Came first.reported.dev ∷ c.came.after) ≤ length second.reported.submitted.before
-    fewer =
-        let to_report : length first.reported.took.before ≤ length poll.before =
-        no_longer first.reported.took.before (step.HostTake ∷ first.reported.took.after) poll.before first.reported.took.steps_are in
-        let here : length first.reported.took.before ≡ length (c.came.before ++ step.Came first.reported.dev ∷ c.came.after) =
-        ap length c.came.steps_are in
-        omega (arith, to_report, here, later)
-
-    part : IsPart
-        (disk_history config units first.reported.dev first.reported.took.at
-        (disk_run config units first.reported.dev first.reported.conn first.reported.took.at first.reported.took.before first.reported.took.told
-        first.reported.took.came c)) r.before
-    part =
-        is_part config units first.reported.dev second.reported.dev (length second.reported.submitted.before) first.reported.took.at
-        (c.came.before ++ step.Came first.reported.dev ∷ c.came.after)
-        (c.came.told ++ answer.Came first.reported.dev first.reported.conn ∷ c.came.later)
-        (parted (step.Came first.reported.dev) (answer.Came first.reported.dev first.reported.conn) (new_world config units) first.reported.took.at
-        first.reported.took.before first.reported.took.told first.reported.took.came c.came) steps answers
-        (over world_before (new_world config units) steps answers now run) r.before
-        (disk_history config units first.reported.dev first.reported.took.at
-        (disk_run config units first.reported.dev first.reported.conn first.reported.took.at first.reported.took.before first.reported.took.told
-        first.reported.took.came c)) written_first submitted fewer same
-        (told_over config units first.reported.dev first.reported.conn first.reported.took.at first.reported.took.before first.reported.took.told
-        first.reported.took.came c)
-
-    -- the law of histories, at the port under another name
+    -- the law of histories, at the port by another name
     brings : (n : ℕ) → n ≡ first.reported.dev → (at : Places) (f : DiskRun config units n at) (slot : ℕ) (e : Entry) (memory : Memory)
         (is_read : e.head.work ≡ Read) (ended : EndedSince config units n at f sectors slot e memory)
         → IsPart

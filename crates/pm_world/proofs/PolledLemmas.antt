@@ -59,7 +59,7 @@ use Rattle.pm_world.proofs.Delivery.{sized}
 use Rattle.pm_world.proofs.DisksLemmas.{IsIssued, IsRequestAt, MovesAll, has_command, issued_of_done, read_moves, request_at}
 use Rattle.pm_world.proofs.HostFold.{does-append, run_does}
 use Rattle.pm_world.proofs.Risen.{AllRisen, opening_risen, run_rises}
-use Rattle.pm_world.specs.Disks.{Before, DiskRun, EndedSince, IsNewDisk, Since, TookHonestly, WasSubmitted, disk_history, host_turns}
+use Rattle.pm_world.specs.Disks.{Before, DiskRun, EndedSince, FlushedSince, IsNewDisk, Since, TookHonestly, WasSubmitted, disk_history, host_turns}
 use Rattle.pm_world.specs.Ended.{EndsHonestly, ReadsSectors, StandsAt, WritesSectors}
 use Rattle.pm_world.specs.Polled.{HonestPolls, IsFilledAt, IsPolledHonestly, IsReportedIn}
 use Rattle.pm_world.specs.Touched.{AreTouched, opens}
@@ -480,6 +480,17 @@ module _ (config : Config) (units : List Unit) (fits : is_config config (length 
               (disk_history config units submitted.dev told.took.at d) e.ends;
         }
 
+  module _ (sectors : ℕ) (plan : DiskPlan) (disk : IsNewDisk units submitted.dev plan sectors) (calm : is_queued submitted.request.work ≡ false) where
+    flushed_honestly : (d : DiskRun config units submitted.dev told.took.at) → told.conn ≡ d.conn
+        → FlushedSince config units submitted.dev told.took.at d (new_entry c.ticket.0 submitted.dev submitted.request)
+    flushed_honestly d same =
+        let first : TookHonestly config units submitted.dev sectors told.took.at d told.report told.took.next =
+        disks_are_honest config units submitted.dev sectors plan fits below disk told.took.at d step.HostTake submitted.dev told.conn told.number told.bytes
+        told.report told.took.next took.rule (eq-eqb submitted.dev submitted.dev refl) same in
+        let f : FlushedSince config units submitted.dev told.took.at d (rephased Issued (new_entry c.ticket.0 submitted.dev submitted.request)) =
+        first.flushed c.slot (rephased Issued (new_entry c.ticket.0 submitted.dev submitted.request)) low at_report calm told.done in
+        record { before = f.before; submitted = as_given d f.before f.submitted; later = f.later; is = f.is; taken = f.taken }
+
   abbrev turns_up : List HostTurn
   turns_up = over turn_of (new_world config units) told.took.before told.took.told told.took.at told.took.came
 
@@ -502,6 +513,7 @@ module _ (config : Config) (units : List Unit) (fits : is_config config (length 
         (ap (λ (e : Entry). e.head.dev) (sym submitted.is)) kept.none)
         told.s told.port told.conn told.number told.bytes told.report told.took.next port_is told.took.rule;
     honest = ended_honestly;
+    flushed = flushed_honestly;
   }
 
 pub honest_polls : HonestPolls

@@ -42,7 +42,7 @@ use Rattle.pm_world.specs.declared.step.Step.{Step}
 use Rattle.pm_world.specs.declared.step.Step.TheVariants as step
 use Rattle.pm_world.specs.declared.step.Answer.{Answer}
 use Rattle.pm_world.specs.declared.step.Answer.TheVariants as answer
-use Rattle.pm_world.specs.Ended.{EndsHonestly}
+use Rattle.pm_world.specs.Ended.{EndsHonestly, TookFlush}
 use Rattle.pm_world.specs.Touched.{AreTouched}
 use Rattle.hba_driver.specs.Submits.{new_entry}
 
@@ -112,15 +112,26 @@ module _ (config : Config) (units : List Unit) (n : ℕ) (now : Places)
     pub touched : AreTouched config.memory host_turns now.host touches
     pub ends : EndsHonestly sectors s e before disk_history (filled s (own n touches)) memory
 
+  -- The request of the entry was submitted in this run, and the disk took a FLUSH since then.
+  pub record FlushedSince (e : Entry) : Type 0 where
+    pub before : List Happening
+    pub submitted : WasSubmitted e before
+    pub later : List Happening
+    pub is : disk_history ≡ before ++ later
+    pub taken : TookFlush later
+
 -- ---- the law
 
 -- Each queued request that the report says is done ended honestly, since it was submitted in this
--- run.
+-- run; and if it says that a FLUSH is done, the disk took one since it was submitted.
 pub record TookHonestly (config : Config) (units : List Unit) (n sectors : ℕ) (now : Places)
     (d : DiskRun config units n now) (report : TakeReport) (new : Places) : Type 0 where
   pub done : (s : ℕ) (e : Entry) → s < 30 → entry_at now.host.driver.entries s ≡ Some e
       → is_queued e.head.work ≡ true → has_bit report.done s ≡ true
       → EndedSince config units n now d sectors s e new.host.memory
+  pub flushed : (s : ℕ) (e : Entry) → s < 30 → entry_at now.host.driver.entries s ≡ Some e
+      → is_queued e.head.work ≡ false → has_bit report.done s ≡ true
+      → FlushedSince config units n now d e
 
 -- Holds at each FIS of this connection that the host takes, whatever the disk and the other devices
 -- do.

@@ -2,15 +2,17 @@
 -- when the disk started it. A write is on the medium (ACS-3, READ FPDMA QUEUED and WRITE FPDMA
 -- QUEUED; AHCI 1.3.1, 4.2.3.3, Physical Region Descriptor Table). The ledger of FISes comes from
 -- `disk_model` (specs/Ledger.antt), entries from `hba_driver` (specs/Drivers.antt).
-use Rattle.std.specs.Prelude.{ℕ, ◌≡◌, ◌-◌, ◌*◌, ◌<◌, ◌≤◌, List, length, slice_get}
+use Rattle.std.specs.Prelude.{ℕ, ◌≡◌, ◌-◌, ◌*◌, ◌<◌, ◌≤◌, ◌++◌, List, ◌∷◌, length, slice_get}
 use Rattle.std.specs.Prelude.{slice_index, Option, Some}
 use Rattle.host_memory.specs.Memory.{Memory, client_start}
 use Rattle.host_memory.specs.Place.{LiesInClient, place}
 use Rattle.host_memory.specs.declared.table.Prd.{Prd}
 use Rattle.disk_model.specs.declared.request.Command.{Command}
+use Rattle.disk_model.specs.declared.request.Request.TheVariants.{Flush}
+use Rattle.disk_model.specs.Anew.{IsRequest}
 use Rattle.disk_model.specs.Chunks.{sectors_at}
 use Rattle.disk_model.specs.Fronts.{IsFront}
-use Rattle.disk_model.specs.Histories.{Happening}
+use Rattle.disk_model.specs.Histories.{Happening, Received}
 use Rattle.disk_model.specs.Ledger.{ReadOut, Written, ledger, medium_with}
 use Rattle.hba_driver.specs.declared.request.Work.TheVariants.{Read, Write}
 use Rattle.hba_driver.specs.declared.slot.Head.{Head}
@@ -62,3 +64,13 @@ pub record EndsHonestly (sectors s : ℕ) (e : Entry) (submitted happened : List
     (filled : ℕ → Option ℕ) (memory : Memory) : Type 0 where
   pub reads : e.head.work ≡ Read → ReadsSectors sectors s e submitted happened memory
   pub writes : e.head.work ≡ Write → WritesSectors s e submitted happened filled
+
+-- ---- a FLUSH
+
+-- among all this the disk took a FLUSH CACHE EXT
+pub record TookFlush (happened : List Happening) : Type 0 where
+  pub front : List Happening
+  pub bytes : List ℕ
+  pub back : List Happening
+  pub took : happened ≡ front ++ Received bytes ∷ back
+  pub asks : IsRequest bytes Flush

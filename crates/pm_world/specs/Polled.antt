@@ -7,7 +7,7 @@
 -- and requests that ended honestly (specs/Disks.antt). DoneIsTrue of `hba_driver` (specs/Done.antt)
 -- says that the slot of a request is completed by its device.
 use Rattle.std.specs.Prelude.{ℕ, ◌≡◌, ◌-◌, ◌*◌, ◌<◌, ◌==◌, true, List, [], ◌∷◌, length}
-use Rattle.std.specs.Prelude.{if◌then◌else◌, slice_index, All, Some, Ok}
+use Rattle.std.specs.Prelude.{if◌then◌else◌, slice_index, All, Some, Ok, false}
 use Rattle.host_memory.specs.Memory.{Memory, client_start}
 use Rattle.host_memory.specs.Place.{LiesInClient, place}
 use Rattle.host_memory.specs.declared.table.Prd.{Prd}
@@ -37,7 +37,7 @@ use Rattle.pm_world.specs.declared.step.Step.{Step}
 use Rattle.pm_world.specs.declared.step.Step.TheVariants as step
 use Rattle.pm_world.specs.declared.step.Answer.{Answer}
 use Rattle.pm_world.specs.declared.step.Answer.TheVariants as answer
-use Rattle.pm_world.specs.Disks.{DiskRun, EndedSince, IsNewDisk}
+use Rattle.pm_world.specs.Disks.{DiskRun, EndedSince, FlushedSince, IsNewDisk}
 
 -- ---- where it was reported
 
@@ -103,6 +103,12 @@ pub record IsPolledHonestly (config : Config) (units : List Unit) (now : Places)
       → (d : DiskRun config units reported.dev reported.took.at) → reported.conn ≡ d.conn
       → EndedSince config units reported.dev reported.took.at d sectors completion.slot
       (new_entry completion.ticket.0 reported.dev reported.request) now.host.memory
+  -- and where it is a FLUSH, the disk took one since it was submitted
+  pub flushed : (sectors : ℕ) (plan : DiskPlan) → IsNewDisk units reported.dev plan sectors
+      → is_queued reported.request.work ≡ false
+      → (d : DiskRun config units reported.dev reported.took.at) → reported.conn ≡ d.conn
+      → FlushedSince config units reported.dev reported.took.at d
+      (new_entry completion.ticket.0 reported.dev reported.request)
 
 -- That holds for each poll that answers Done, after every run from a new world.
 abbrev pub HonestPolls : Type 0

@@ -1,5 +1,6 @@
 //! Laws of the bytes of requests in a world. The functions do nothing when they run.
 
+ghost use Rattle.pm_world.specs.Flushing.{FlushesFollowWrites};
 ghost use Rattle.pm_world.specs.InOrder.{ReadsFollowWrites};
 ghost use Rattle.pm_world.specs.Submitted.{ReadsBringSubmitted, SentAsSubmitted, WrittenAsSubmitted};
 
@@ -21,4 +22,11 @@ pub fn writes_are_as_submitted()
 /// write ended in between.
 pub fn reads_follow_writes()
     ensures { ReadsFollowWrites }
+{}
+
+/// FLUSH after write, in one run from a new world: writes are polled as done, then a FLUSH is submitted to the
+/// same disk, and is polled as done. The disk took a FLUSH after this one was submitted. And the writes are on
+/// its medium with the bytes with which they were submitted, except where another write ended since.
+pub fn flushes_follow_writes()
+    ensures { FlushesFollowWrites }
 {}
