@@ -5,7 +5,6 @@ ghost use Rattle.std.specs.Prelude.{◌≡◌, ◌+◌, ◌<◌, ◌≤◌, true
 use crate::signals::{Signals, Who};
 use std::marker::Model;
 use std::sync::Wait;
-use std::thread;
 
 /// A worker may move nothing in this many turns in a row before it sleeps.
 const WAKEFUL_TURNS: u64 = 256;
@@ -126,14 +125,14 @@ impl<'a> Post<'a> {
         self.moves = moves;
     }
 
-    /// Gives way to others, and says as how many turns that counts.
+    /// Lets the worker look again at once, and after some turns sleep. Says as how many turns that counts.
+    /// It never yields: on a full machine, a thread that yields waits for all others each time.
     fn rest<R: Wait>(&mut self, rt: &R) -> u64
         ensures same { self.new ≡ self.old }
         ensures few { result ≤ 16384 }
     {
         if self.idle < WAKEFUL_TURNS {
             self.idle += 1;
-            thread::yield_now();
             return 1;
         }
         if self.signals.sleep(rt, self.who, self.rings) {
