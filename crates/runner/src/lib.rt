@@ -19,6 +19,3 @@ pub use post::{Post, Spent};
 pub use run::run_three;
 pub use signals::{Signals, Who};
 pub use worker::{Fault, Worker};
-
-#[cfg(test)]
-mod tests;

@@ -1,6 +1,6 @@
 //! Two threads at the seats of one link.
 
-use crate::{Link, Rx, Tx, meet};
+use ruled_links::{Link, Rx, Tx, meet};
 use std::sync::Wait;
 use std::test::Fail;
 use std::thread;

@@ -1,11 +1,8 @@
-//! What no clause says: values from outside, that calls succeed, and that two threads pass their items over a
-//! link.
+//! Links: values from outside, and that calls succeed.
 
 ghost use Rattle.std.specs.Prelude.{◌≡◌};
 
-mod relay;
-
-use crate::{Full, Link, LinkError, Rx, Tx, meet};
+use ruled_links::{Full, Link, LinkError, Rx, Tx, meet};
 use std::alloc::Global;
 use std::sync::Wait;
 use std::test::Fail;

@@ -1,8 +1,8 @@
-//! What no clause says: that all workers work at the same time, and that refused memory is answered once all have ended.
+//! Workers: all work at the same time.
 
 ghost use Rattle.std.specs.Prelude.{◌≡◌};
 
-use crate::{Post, Worker, run_three};
+use runner::{Post, Worker, run_three};
 use std::alloc::{AllocError, Global};
 use std::sync::Wait;
 use std::sync::atomic::{AtomicU64, Ordering};
