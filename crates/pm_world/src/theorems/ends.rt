@@ -24,7 +24,8 @@ pub fn wires_go_on()
 /// whatever errors it reports, whatever faults the host finds in what it sends, whatever was before
 /// and whatever the other devices do. Each queued request that a FIS of this connection reports as
 /// done ended honestly, by all that the disk did since the world was made. A read has the sectors of
-/// the medium in client memory, as they were when the disk started it. A write is on the medium.
+/// the medium in client memory, as they were when the disk started it. A write is on the medium. If the FIS
+/// reports a Flush as done, the disk took one since that Flush was submitted.
 pub fn disks_are_honest()
     ensures { HonestDisks }
 {}
@@ -35,7 +36,7 @@ pub fn disks_are_honest()
 /// device is a disk that was left alone from its plugging as the connection of that FIS up to that
 /// FIS, a read or a write ended honestly. The bytes of a read stand in client memory when it is
 /// polled, and are the sectors of the medium as they were when the disk started it. A write is on the
-/// medium.
+/// medium. Of a Flush the disk took one since it was submitted.
 pub fn polled_is_honest()
     ensures { HonestPolls }
 {}
