@@ -14,6 +14,3 @@ mod worker;
 pub use gate::{Gate, GateShut};
 pub use station::Station;
 pub use worker::{DiskEnd, DiskWorker};
-
-#[cfg(test)]
-mod tests;

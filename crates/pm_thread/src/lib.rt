@@ -18,6 +18,3 @@ mod worker;
 pub use end::PmEnd;
 pub use port::PmPort;
 pub use worker::PmWorker;
-
-#[cfg(test)]
-mod tests;

@@ -1,13 +1,13 @@
-//! What no clause says: that what waits on the links is served.
+//! A multiplier in its thread: what waits on the links is served.
 
 ghost use Rattle.std.specs.Prelude.{◌≡◌, [], IfOk};
 ghost use Rattle.pm_thread.specs.Runs.{IsUnused};
 
-use crate::{PmPort, PmWorker};
 use fis_view::{Frame, FrameError, Stamp};
 use link_items::{Down, FromDevice, Presence, ToHost};
 use multiplier::Multiplier;
 use pm_registers::PSCR_STATUS;
+use pm_thread::{PmPort, PmWorker};
 use ruled_links::{Link, Rx, Tx};
 use runner::{Post, Signals, Who, Worker};
 use std::alloc::Global;
@@ -86,7 +86,7 @@ fn make_links(alloc: Global, capacity: usize) -> Result<Links, Fail> {
 }
 
 /// The device at port 0 comes, and sends its first FIS.
-#[tactic(auto, using(crate::proofs::Seats::first_in_order))]
+#[tactic(auto, using(crate::proofs::Firsts::first_of_device))]
 fn plug<R: Wait>(
     rt: &R,
     presence: &mut Tx<'_, Presence>,
@@ -110,7 +110,7 @@ fn ask<R: Wait>(rt: &R, alloc: Global, host: &mut Tx<'_, Down>) -> Result<(), Fr
 }
 
 /// The worker of a multiplier with this port.
-#[tactic(auto, using(crate::proofs::Seats::one_unused))]
+#[tactic(auto, using(crate::proofs::Firsts::one_unused))]
 fn worker<'a>(
     alloc: Global,
     port: PmPort<'a>,

@@ -1,9 +1,9 @@
-//! What no clause says: each kind of item goes over a link and comes out whole.
+//! Items: each kind goes over a link and comes out whole.
 
 ghost use Rattle.std.specs.Prelude.{◌≡◌, [], ◌∷◌, IfOk};
 
-use crate::{Down, FromDevice, Presence, ToHost, order_goes_on};
 use fis_view::{Frame, Stamp};
+use link_items::{Down, FromDevice, Presence, ToHost, order_goes_on};
 use ruled_links::{Item, Link};
 use std::alloc::Global;
 use std::sync::Wait;
@@ -44,7 +44,7 @@ fn passed<T: Item + Drop>(rt: &impl Wait, alloc: Global, item: T) -> Result<Opti
 }
 
 #[test]
-#[tactic(auto, using(crate::proofs::OrderLemmas::device_first, crate::proofs::OrderLemmas::host_first))]
+#[tactic(auto, using(crate::proofs::Firsts::device_first, crate::proofs::Firsts::host_first))]
 fn items_go_over_links(rt: HostRuntime) -> Result<(), Fail> {
     order_goes_on();
     let alloc = rt.alloc();

@@ -1,7 +1,7 @@
-//! What no clause says: that a disk in its thread gets its FISes and gives its own, and when it is pulled out.
+//! A disk in its thread: it gets its FISes and gives its own, and when it is pulled out.
 
-use crate::{DiskWorker, Gate, GateShut, Station};
 use disk_model::{Disk, DiskPlan};
+use disk_thread::{DiskWorker, Gate, GateShut, Station};
 use fis_view::{Frame, Stamp};
 use link_items::{Down, FromDevice, Presence};
 use ruled_links::{Link, Rx};
