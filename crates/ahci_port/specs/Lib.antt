@@ -8,3 +8,4 @@ pub mod Issuing
 pub mod Accesses
 pub mod Taking
 pub mod Sending
+pub mod Laws

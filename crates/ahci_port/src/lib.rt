@@ -10,6 +10,7 @@ mod bits;
 mod causes;
 mod controller;
 mod issue;
+mod laws;
 mod own;
 mod reading;
 mod sending;
@@ -17,6 +18,7 @@ mod taking;
 mod writing;
 
 pub use controller::Controller;
+pub use laws::kept_tables_stay;
 pub use own::OwnRegisters;
 pub use sending::Sent;
 pub use taking::{Counted, Took};
