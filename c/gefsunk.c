@@ -16,6 +16,13 @@ uint32_t gefsunk_pm_to_host(gef_pm *pm, uint8_t *fis, size_t room, size_t *len, 
 uint32_t gefsunk_pm_to_device(gef_pm *pm, uint8_t port, uint8_t *fis, size_t room, size_t *len);
 uint32_t gefsunk_pm_read(gef_pm *pm, uint8_t port, uint16_t number, uint32_t *value);
 uint32_t gefsunk_pm_dropped(gef_pm *pm, uint32_t *count);
+uint32_t gefsunk_disk_new(gef_disk *disk, uint32_t sectors, uint16_t chunk, uint32_t flags, uint32_t serial,
+                          const uint32_t *bad, size_t bad_count);
+uint32_t gefsunk_disk_free(gef_disk *disk);
+uint32_t gefsunk_disk_plug(gef_disk *disk);
+uint32_t gefsunk_disk_from_host(gef_disk *disk, const uint8_t *fis, size_t len);
+uint32_t gefsunk_disk_to_host(gef_disk *disk, uint8_t *fis, size_t room, size_t *len);
+uint32_t gefsunk_disk_sector(gef_disk *disk, uint32_t lba, uint8_t *bytes, size_t room);
 
 const char *gef_status_text(gef_status status) {
     switch (status) {
@@ -36,6 +43,8 @@ const char *gef_status_text(gef_status status) {
     case GEF_NOT_THERE: return "no device is there";
     case GEF_NO_REGISTER: return "no such register";
     case GEF_SPENT: return "the port takes no further device";
+    case GEF_BAD_DISK: return "no disk can be like this";
+    case GEF_NO_SECTOR: return "no such sector";
     }
     return "no such answer";
 }
@@ -88,4 +97,31 @@ gef_status gef_pm_read(gef_pm *pm, uint8_t port, uint16_t number, uint32_t *valu
 
 gef_status gef_pm_dropped(gef_pm *pm, uint32_t *count) {
     return pm && count ? (gef_status)gefsunk_pm_dropped(pm, count) : GEF_NULL;
+}
+
+gef_status gef_disk_new(gef_disk *disk, uint32_t sectors, uint16_t chunk, uint32_t flags, uint32_t serial,
+                        const uint32_t *bad, size_t bad_count) {
+    static const uint32_t none;
+    if (!disk || (!bad && bad_count)) return GEF_NULL;
+    return (gef_status)gefsunk_disk_new(disk, sectors, chunk, flags, serial, bad ? bad : &none, bad_count);
+}
+
+gef_status gef_disk_free(gef_disk *disk) {
+    return disk ? (gef_status)gefsunk_disk_free(disk) : GEF_NULL;
+}
+
+gef_status gef_disk_plug(gef_disk *disk) {
+    return disk ? (gef_status)gefsunk_disk_plug(disk) : GEF_NULL;
+}
+
+gef_status gef_disk_from_host(gef_disk *disk, const uint8_t *fis, size_t len) {
+    return disk && fis ? (gef_status)gefsunk_disk_from_host(disk, fis, len) : GEF_NULL;
+}
+
+gef_status gef_disk_to_host(gef_disk *disk, uint8_t *fis, size_t room, size_t *len) {
+    return disk && fis && len ? (gef_status)gefsunk_disk_to_host(disk, fis, room, len) : GEF_NULL;
+}
+
+gef_status gef_disk_sector(gef_disk *disk, uint32_t lba, uint8_t *bytes, size_t room) {
+    return disk && bytes ? (gef_status)gefsunk_disk_sector(disk, lba, bytes, room) : GEF_NULL;
 }

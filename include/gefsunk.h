@@ -1,5 +1,5 @@
 /*
- * gefsunk.h - a Serial ATA port multiplier and a decoder of FISes, for C.
+ * gefsunk.h - a Serial ATA port multiplier, disks and a decoder of FISes, for C.
  *
  * Serial ATA devices and hosts send each other FISes (frame information structures): 4 to 8,196 bytes, a multiple of 4.
  * A port multiplier lets one host port serve up to fifteen devices. This library is its firmware at the level of the
@@ -57,7 +57,9 @@ typedef enum gef_status {
     GEF_ALREADY_THERE = 13, /* a device is at the port */
     GEF_NOT_THERE = 14,     /* no device is at the port */
     GEF_NO_REGISTER = 15,   /* the port has no such register */
-    GEF_SPENT = 16          /* 4,294,967,295 devices came to this port: it takes no more */
+    GEF_SPENT = 16,         /* 4,294,967,295 devices came to this port: it takes no more */
+    GEF_BAD_DISK = 17,      /* a disk cannot have this size, this chunk, these flags or so many bad sectors */
+    GEF_NO_SECTOR = 18      /* the disk has no such sector */
 } gef_status;
 
 /* A sentence for a log, never null. It stays valid as long as the program runs. */
@@ -160,6 +162,64 @@ gef_status gef_pm_read(gef_pm *pm, uint8_t port, uint16_t number, uint32_t *valu
 /* How many FISes of the host were dropped. The count stays at its largest value. Can return GEF_CLOSED. */
 gef_status gef_pm_dropped(gef_pm *pm, uint32_t *count);
 
+/* ---- a disk ------------------------------------------------------------------------------------------------------ */
+
+/*
+ * A disk with native command queuing, its sectors in memory. Put it behind a port of a multiplier (gef_pm_to_device gives
+ * what gef_disk_from_host takes, and gef_disk_to_host what gef_pm_from_device takes), or at the other end of a link of
+ * your own. The rules of a handle are those of gef_pm. A handle of the other kind returns GEF_CLOSED, and stays as it was.
+ */
+typedef struct gef_disk {
+    uint32_t mark;
+    void *at;
+} gef_disk;
+
+#define GEF_DISK_CLOSED { 0, 0 }
+
+/* How a disk goes about its commands, and what it says of itself: flags, to be added. */
+#define GEF_DISK_NEWEST 1u     /* the newest queued command is started first; without it the oldest */
+#define GEF_DISK_LAST_FIRST 2u /* the chunks of a command go downwards, from its last sectors */
+#define GEF_DISK_AUTO 4u       /* auto-activate: no DMA Activate FIS is sent */
+#define GEF_DISK_STOCK 8u      /* IDENTIFY DEVICE data that drivers of operating systems read */
+
+/*
+ * Makes a disk with 1 to 65,536 sectors of 512 bytes, and opens the handle. Byte i of sector L is (L + i) modulo 256 at
+ * first. chunk is the most bytes that one DMA Setup moves: a multiple of 512, from 512 to 8,192. serial ends the serial
+ * number of a stock disk, as eight hexadecimal digits. bad lists bad_count sectors, at most 16, that cannot be read; it
+ * may be null if bad_count is 0. Memory for all sectors is taken at once.
+ * Can return GEF_OPEN (free it first), GEF_BAD_DISK, GEF_NO_MEMORY.
+ */
+gef_status gef_disk_new(gef_disk *disk, uint32_t sectors, uint16_t chunk, uint32_t flags, uint32_t serial,
+                        const uint32_t *bad, size_t bad_count);
+
+/* Frees the disk, and closes the handle. A second call returns GEF_CLOSED. */
+gef_status gef_disk_free(gef_disk *disk);
+
+/*
+ * The disk is plugged in, as power comes: its queue and its answers are dropped, its medium stays, and it sends its
+ * signature next. A new disk sends nothing before this call. Can return GEF_CLOSED, GEF_NO_MEMORY.
+ */
+gef_status gef_disk_plug(gef_disk *disk);
+
+/*
+ * A FIS arrives from the host. The disk ignores what it does not know. GEF_NO_MEMORY: it was not taken; pass it again.
+ * Can return GEF_CLOSED, GEF_BAD_LENGTH, GEF_NO_MEMORY.
+ */
+gef_status gef_disk_from_host(gef_disk *disk, const uint8_t *fis, size_t len);
+
+/*
+ * Takes the next FIS of the disk: its bytes go into fis, and their number into *len. Its PM Port is 0. The room must be
+ * GEF_FIS_ROOM. GEF_NOTHING: the disk owes nothing, or waits for data of the host.
+ * Can return GEF_CLOSED, GEF_TOO_SHORT, GEF_NOTHING, GEF_NO_MEMORY.
+ */
+gef_status gef_disk_to_host(gef_disk *disk, uint8_t *fis, size_t room, size_t *len);
+
+/*
+ * Copies the 512 bytes of a sector, as they are on the medium, into the first 512 bytes of the room.
+ * Can return GEF_CLOSED, GEF_NO_SECTOR, GEF_TOO_SHORT.
+ */
+gef_status gef_disk_sector(gef_disk *disk, uint32_t lba, uint8_t *bytes, size_t room);
+
 /*
  * ---- What is proved, and what you must keep
  *
@@ -173,6 +233,9 @@ gef_status gef_pm_dropped(gef_pm *pm, uint32_t *count);
  *   - FISes of a device go up in the order in which they came, each at most once, and none of a device that went
  *     (`multiplier`: frames_pass_in_order; each call here is a step of it).
  *   - A FIS that goes up has the number of its port as PM Port. A FIS that goes down has 0. No other bit changes.
+ *   - What a disk sends is what its plan and all that happened to it allow, and it is silent only if they allow nothing.
+ *     So the laws of `disk_model` hold of it: a read that ends had the sectors as they were when it was started, and a
+ *     write that ends is on the medium.
  *
  * Not proved but tested: the words of gef_fis_text. Not claimed: that anything happens in the end, or how fast.
  *

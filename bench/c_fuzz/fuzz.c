@@ -109,14 +109,77 @@ static int call(gef_pm *pm, int *is_open) {
     }
 }
 
+/* One call on a disk; 0 where its answer is none that the header allows. */
+static int call_disk(gef_disk *disk, int *is_open) {
+    static uint8_t room[GEF_FIS_ROOM];
+    static const uint16_t chunks[4] = {512, 8192, 1024, 100};
+    uint32_t bad[17] = {0};
+    uint8_t what = next(), kind = next();
+    uint32_t closed = *is_open ? 0 : BIT(GEF_CLOSED), open = *is_open ? ~0u : 0;
+    size_t len = 0, room_len = next() & 1 ? sizeof room : next();
+    gef_status status;
+    uint8_t *fis;
+    switch (what % 8) {
+    case 0:
+        status = gef_disk_new(disk, kind & 0x3F, chunks[next() & 3], kind >> 3, next(), bad, kind & 0x11);
+        if (*is_open) return status == GEF_OPEN;
+        *is_open = status == GEF_OK;
+        return allowed(status, BIT(GEF_OK) | BIT(GEF_BAD_DISK));
+    case 1:
+        if (kind & 0x1C) return 1;
+        status = gef_disk_free(disk);
+        if (status != (*is_open ? GEF_OK : GEF_CLOSED)) return 0;
+        *is_open = 0;
+        return 1;
+    case 2:
+        return allowed(gef_disk_plug(disk), closed | (open & BIT(GEF_OK)));
+    case 3:
+    case 4:
+        fis = fis_of(&len);
+        status = gef_disk_from_host(disk, fis, len);
+        free(fis);
+        return allowed(status, closed | (open & (BIT(GEF_OK) | BIT(GEF_BAD_LENGTH))));
+    case 5:
+    case 6:
+        status = gef_disk_to_host(disk, room, room_len, &len);
+        if (status == GEF_OK && (len < 4 || len > room_len || room[1] & 15)) return 0;
+        return allowed(status, closed | (open & (BIT(GEF_OK) | BIT(GEF_TOO_SHORT) | BIT(GEF_NOTHING))));
+    default:
+        status = gef_disk_sector(disk, kind, room, room_len);
+        return allowed(status, closed | (open & (BIT(GEF_OK) | BIT(GEF_NO_SECTOR) | BIT(GEF_TOO_SHORT))));
+    }
+}
+
+/* Handles of the other kind are found out, and stay as they were. */
+static int crossed(gef_pm *pm, gef_disk *disk) {
+    gef_pm of_disk;
+    gef_disk of_pm;
+    memcpy(&of_disk, disk, sizeof of_disk);
+    memcpy(&of_pm, pm, sizeof of_pm);
+    if (gef_pm_plug(&of_disk, 0) != GEF_CLOSED || gef_disk_plug(&of_pm) != GEF_CLOSED) return 0;
+    if (gef_pm_free(&of_disk) != GEF_CLOSED || gef_disk_free(&of_pm) != GEF_CLOSED) return 0;
+    memcpy(disk, &of_disk, sizeof of_disk);
+    memcpy(pm, &of_pm, sizeof of_pm);
+    return 1;
+}
+
 /* Plays a list of calls; 0 where one answers what it may not. */
 static int play(const uint8_t *bytes, size_t len) {
     gef_pm pm = GEF_PM_CLOSED;
-    int is_open = 0, fits = 1;
+    gef_disk disk = GEF_DISK_CLOSED;
+    int pm_open = 0, disk_open = 0, fits = 1;
     input = bytes;
     left = len;
-    while (left && fits) fits = call(&pm, &is_open);
+    while (left && fits) {
+        if (input[0] >= 0xC0) {
+            next();
+            fits = next() & 0x0F ? call_disk(&disk, &disk_open) : crossed(&pm, &disk);
+        } else {
+            fits = call(&pm, &pm_open);
+        }
+    }
     gef_pm_free(&pm);
+    gef_disk_free(&disk);
     return fits;
 }
 

@@ -20,7 +20,7 @@ taken_bit p q b = omega arith
 shared_bit : (p q r : ℕ) → min p r ≡ r → min p q ≡ 0 → min r q ≡ 0
 shared_bit p q r h k = omega (arith, h, k)
 
--- the bits of an equation of two sets
+-- the bits of an equation between two sets
 each : (x y z i : ℕ) → bit_and x y ≡ z → min (bit_at x i) (bit_at y i) ≡ bit_at z i
 each x y z i h = sym (bit_at_and x y i) ∙ ap (λ (n : ℕ). bit_at n i) h
 
@@ -30,7 +30,7 @@ or_keeps s x b h = same_from_bits (bit_and (bit_or s x) b) b (λ i.
     bit_at_and (bit_or s x) b i ∙ ap (λ (n : ℕ). min n (bit_at b i)) (bit_at_or s x i)
     ∙ or_bit (bit_at s i) (bit_at x i) (bit_at b i) (each s b b i h))
 
--- and it stands
+-- what is added stands
 pub or_adds : (s b k : ℕ) → bit_and b k ≡ b → bit_and (bit_or s (bit_and b k)) b ≡ b
 or_adds s b k h = ap (λ (x : ℕ). bit_and (bit_or s x) b) h ∙ and_or_self b s
 
@@ -38,7 +38,7 @@ or_adds s b k h = ap (λ (x : ℕ). bit_and (bit_or s x) b) h ∙ and_or_self b 
 left_bit : (s y i : ℕ) → y < 2 ^ 32 → i < 32 → bit_at (without s y) i ≡ min (bit_at s i) (1 - bit_at y i)
 left_bit s y i fits below = bit_at_and s (4294967295 - y) i ∙ ap (λ (n : ℕ). min (bit_at s i) n) (bit_at_not w32 y i fits below)
 
--- a clear takes nothing but what it names
+-- a clear takes only what it names
 pub without_keeps : (s y b : ℕ) → y < 2 ^ 32 → b < 2 ^ 32 → bit_and s b ≡ b → bit_and b y ≡ 0 → bit_and (without s y) b ≡ b
 without_keeps s y b fits small h k =
     let low : bit_and (without s y) b < 2 ^ 32 = omega (arith, and_le_r (without s y) b) in
@@ -46,7 +46,7 @@ without_keeps s y b fits small h k =
     bit_at_and (without s y) b i ∙ ap (λ (n : ℕ). min n (bit_at b i)) (left_bit s y i fits below)
     ∙ kept_bit (bit_at s i) (bit_at y i) (bit_at b i) (bit_at-lt s i) (bit_at-lt y i) (bit_at-lt b i) (each s b b i h) (each b y 0 i k ∙ bit_at-zero i))
 
--- and it takes that
+-- a clear takes what it names
 pub without_takes : (s y : ℕ) → y < 2 ^ 32 → bit_and (without s y) y ≡ 0
 without_takes s y fits =
     let low : bit_and (without s y) y < 2 ^ 32 = omega (arith, and_le_r (without s y) y) in
@@ -54,7 +54,7 @@ without_takes s y fits =
     bit_at_and (without s y) y i ∙ ap (λ (n : ℕ). min n (bit_at y i)) (left_bit s y i fits below)
     ∙ taken_bit (bit_at s i) (bit_at y i) (bit_at-lt y i) ∙ sym (bit_at-zero i))
 
--- where bits stand, what shares none with all shares none with them
+-- if s shares nothing with m, neither do bits that stand in s
 shared : (s b m : ℕ) → bit_and s b ≡ b → bit_and s m ≡ 0 → bit_and b m ≡ 0
 shared s b m h k = same_from_bits (bit_and b m) 0 (λ i.
     bit_at_and b m i ∙ shared_bit (bit_at s i) (bit_at m i) (bit_at b i) (each s b b i h) (each s m 0 i k ∙ bit_at-zero i)
@@ -63,12 +63,12 @@ shared s b m h k = same_from_bits (bit_and b m) 0 (λ i.
 pub still_shares : (s b m : ℕ) → bit_and s b ≡ b → (bit_and b m == 0) ≡ false → (bit_and s m == 0) ≡ false
 still_shares s b m h some = ne_eqb (bit_and s m) 0 (λ z. true≢false (sym (eq-eqb (bit_and b m) 0 (shared s b m h z)) ∙ some))
 
--- and a part of what shares none shares none
+-- if s shares nothing with m, neither does a part of s
 pub still_apart : (s y m : ℕ) → (bit_and s m == 0) ≡ true → (bit_and (bit_and s y) m == 0) ≡ true
 still_apart s y m none = eq-eqb (bit_and (bit_and s y) m) 0 (ap (λ (x : ℕ). bit_and x m) (and_comm s y) ∙ and_assoc m y s
     ∙ ap (bit_and y) (eqb-true (bit_and s m) 0 none) ∙ and_zero_r y)
 
--- what is added shares something where the two together do and the old ones do not
+-- what is added shares something if the whole does and the old bits do not
 pub new_shares : (s x m : ℕ) → bit_and s m ≡ 0 → (bit_and (bit_or s x) m == 0) ≡ false → (bit_and x m == 0) ≡ false
 new_shares s x m none some = ne_eqb (bit_and x m) 0 (λ z. true≢false (sym (eq-eqb (bit_and (bit_or s x) m) 0 (and_or_apart m s x z ∙ none)) ∙ some))
 
@@ -84,7 +84,7 @@ or_within x y k h g = same_from_bits (bit_and (bit_or x y) k) (bit_or x y) (λ i
     bit_at_and (bit_or x y) k i ∙ ap (λ (n : ℕ). min n (bit_at k i)) (bit_at_or x y i)
     ∙ both_bit (bit_at x i) (bit_at y i) (bit_at k i) (each x k x i h) (each y k y i g) ∙ sym (bit_at_or x y i))
 
--- and so is what is left of one
+-- so is what is left of one
 pub and_within : (x y k : ℕ) → bit_and x k ≡ x → bit_and (bit_and x y) k ≡ bit_and x y
 and_within x y k h = same_from_bits (bit_and (bit_and x y) k) (bit_and x y) (λ i.
     bit_at_and (bit_and x y) k i ∙ ap (λ (n : ℕ). min n (bit_at k i)) (bit_at_and x y i)
@@ -97,7 +97,7 @@ cut_within x k = and_assoc k x k ∙ ap (bit_and x) (and_self k)
 none_bit : (b e v c : ℕ) → min b e ≡ b → min e c ≡ 0 → min b (min v c) ≡ 0
 none_bit b e v c h k = omega (arith, h, k)
 
--- a part of e shares nothing with a part of c where these two share nothing
+-- a part of e shares nothing with a part of c if e and c share nothing
 pub parts_apart : (b e v c : ℕ) → bit_and b e ≡ b → bit_and e c ≡ 0 → bit_and b (bit_and v c) ≡ 0
 parts_apart b e v c h k = same_from_bits (bit_and b (bit_and v c)) 0 (λ i.
     bit_at_and b (bit_and v c) i ∙ ap (λ (n : ℕ). min (bit_at b i) n) (bit_at_and v c i)

@@ -8,13 +8,13 @@ use Rattle.ahci_registers.specs.declared.port.PortInterrupts.{PortInterrupts}
 abbrev pub interrupt_bits : PortInterrupts → ℕ
 interrupt_bits interrupts = interrupts.0
 
--- whether bit k is set
+-- bit k is set
 abbrev pub has_bit : ℕ → ℕ → Bool
 has_bit value k = bit_at value k == 1
 
--- the bits of a dword that are not in another
+-- the bits of x that are not in y
 abbrev pub without : ℕ → ℕ → ℕ
-without x y = bit_and x (4294967295 - y)
+without x y = bit_and x (0xFFFFFFFF - y)
 
 -- Unknown FIS Interrupt
 abbrev pub ufs : ℕ
@@ -28,8 +28,8 @@ pcs = 2 ^ 6
 abbrev pub prcs : ℕ
 prcs = 2 ^ 22
 
--- the bits that are kept in PxIS and that ones clear: DHRS 0, PSS 1, DSS 2, SDBS 3, DPS 5, IPMS 23, OFS 24,
--- INFS 26, IFS 27, HBDS 28, HBFS 29 and TFES 30
+-- the bits that PxIS stores and ones clear: DHRS 0, PSS 1, DSS 2, SDBS 3, DPS 5, IPMS 23, OFS 24, INFS 26,
+-- IFS 27, HBDS 28, HBFS 29 and TFES 30
 abbrev pub clearable : ℕ
 clearable = 2 ^ 0 + 2 ^ 1 + 2 ^ 2 + 2 ^ 3 + 2 ^ 5
     + 2 ^ 23 + 2 ^ 24 + 2 ^ 26 + 2 ^ 27 + 2 ^ 28 + 2 ^ 29 + 2 ^ 30
@@ -42,6 +42,6 @@ known = clearable + ufs + pcs + prcs
 abbrev pub shadows : ℕ → ℕ
 shadows errors = ufs * bit_at errors 25 + pcs * bit_at errors 26 + prcs * bit_at errors 16
 
--- and the bits of PxSERR that these show
+-- the bits of PxSERR that these show
 abbrev pub shadowed : ℕ → ℕ
 shadowed status = 2 ^ 25 * bit_at status 4 + 2 ^ 26 * bit_at status 6 + 2 ^ 16 * bit_at status 22

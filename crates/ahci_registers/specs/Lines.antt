@@ -1,12 +1,12 @@
 -- Interrupts: AHCI 1.3.1, sections 3.1.2 (GHC), 3.1.3 (IS), 3.3.5 (PxIS), 3.3.6 (PxIE), 3.3.12 (PxSERR) and
--- 10.7 (Interrupts). How messages stand for the line is our own, after 10.7.2.
+-- 10.7 (Interrupts). How messages take the place of the line is our own definition, after 10.7.2.
 use Rattle.std.specs.Prelude.{ℕ, ◌+◌, ◌*◌, ◌^◌, ◌==◌, ◌&&◌, Bool, false, not, if◌then◌else◌, bit_and}
 use Rattle.std.specs.Prelude.{bit_or}
 use Rattle.std.specs.Int.{from_bool}
 use Rattle.ahci_registers.specs.Bits.{has_bit, without, clearable, known, shadows, shadowed}
 use Rattle.ahci_registers.specs.declared.lines.Lines.{Lines}
 
--- as they open, and after a reset of the controller
+-- new interrupts, also after a reset of the controller
 abbrev pub opening_lines : Lines
 opening_lines = record { status = 0; mask = 0; enabled = false }
 
@@ -20,7 +20,7 @@ line l = l.enabled && not (bit_and l.status l.mask == 0)
 
 -- ---- what the registers show
 
--- IS: bit 0 is of port 0
+-- IS: bit 0 belongs to port 0
 abbrev pub is_shown : Lines → ℕ
 is_shown l = from_bool (pends l)
 
@@ -44,8 +44,8 @@ pub data LineEvent : Type 0 where
   WroteGlobal : (value : ℕ) → LineEvent
   WroteError : (value : ℕ) → LineEvent
 
--- Causes are added. Ones written to PxIS take bits, but not those that show PxSERR; ones written to PxSERR
--- take these. A write of IS takes nothing: its bit is computed. GHC.HR is bit 0, GHC.IE bit 1.
+-- Causes are added. Ones written to PxIS take bits, except those that show PxSERR; ones written to PxSERR
+-- take these. A write of IS takes nothing, since its bit is computed. GHC.HR is bit 0, GHC.IE bit 1.
 unfoldable pub after : Lines → LineEvent → Lines
 after l (Caused bits) = record l { status = bit_or l.status (bit_and bits known) }
 after l (WrotePortStatus value) = record l { status = without l.status (bit_and value clearable) }
@@ -55,8 +55,9 @@ after l (WroteGlobal value) =
     if has_bit value 0 then opening_lines else record l { enabled = has_bit value 1 }
 after l (WroteError value) = record l { status = without l.status (shadows value) }
 
--- The event asks for a message: a cause that is enabled, a write of a one to the port's bit of IS (which
--- takes the bit back while the port may still pend), and each other event that raises the line.
+-- The event asks for a message: an enabled cause, a write of a one to the port's bit of IS (which
+-- acknowledges the bit while the port may still have a cause pending), and any other event that raises the
+-- line.
 unfoldable pub asks : Lines → LineEvent → Bool
 asks l (Caused bits) = not (bit_and (bit_and bits known) l.mask == 0)
 asks l (WroteStatus value) = has_bit value 0

@@ -1,5 +1,5 @@
 -- The link of the host port: AHCI 1.3.1, sections 3.3.10 (PxSSTS), 3.3.11 (PxSCTL), 3.3.12 (PxSERR) and
--- 10.4.2 (Port Reset). A device is there at all times: a port multiplier, whose link comes up at once.
+-- 10.4.2 (Port Reset). A device is always there: a port multiplier, whose link comes up at once.
 use Rattle.std.specs.Prelude.{◌≡◌, ℕ, ◌+◌, ◌*◌, ◌/◌, ◌%◌, ◌==◌, ◌⊎◌, Bool, if◌then◌else◌}
 use Rattle.std.specs.Prelude.{List, [], ◌∷◌}
 use Rattle.ahci_registers.specs.Bits.{pcs, prcs}
@@ -15,12 +15,12 @@ unfoldable pub action_of : ℕ → LinkAction
 action_of control =
     if control % 16 == 1 then Comreset else if control % 16 == 4 then Disable else NoAction
 
--- PxSCTL after a write: DET, SPD and IPM, bits 11:0, of which DET stays while ST is 1
+-- PxSCTL after a write: DET, SPD and IPM, bits 11:0; DET stays while ST is 1
 unfoldable pub written : (control value : ℕ) → (started : Bool) → ℕ
 written control value started =
-    if started then value % 4096 / 16 * 16 + control % 16 else value % 4096
+    if started then value % 0x1000 / 16 * 16 + control % 16 else value % 0x1000
 
--- what the interface finds: during a COMRESET no device, and offline it does not look for one
+-- what the interface detects: during a COMRESET no device; while offline it does not look for one
 abbrev pub detected_by : LinkAction → Detected
 detected_by NoAction = Established
 detected_by Comreset = NoDevice
@@ -32,8 +32,8 @@ status_of Established = 0x133
 status_of NoDevice = 0
 status_of Offline = 4
 
--- What a change of DET does. A COMRESET that begins resets the link, and so does an interface that is
--- disabled; one that goes on, or stays disabled, does nothing. With DET 0 the link comes up again.
+-- What a change of DET does. A new COMRESET resets the link, and so does disabling the interface. A COMRESET
+-- that goes on, or an interface that stays disabled, does nothing. With DET 0 the link comes up again.
 abbrev pub effect_of : (old new : LinkAction) → Effect
 effect_of NoAction NoAction = Nothing
 effect_of Comreset NoAction = LinkUp
@@ -45,7 +45,7 @@ effect_of Disable Disable = Nothing
 effect_of NoAction Disable = LinkReset
 effect_of Comreset Disable = LinkReset
 
--- The bits of PxIS that it sets: PRCS (PxSERR.DIAG.N) as PhyRdy falls and as it rises, and PCS
+-- The bits of PxIS that the change sets: PRCS (PxSERR.DIAG.N) as PhyRdy falls and as it rises, and PCS
 -- (PxSERR.DIAG.X) at the COMINIT with which the device answers.
 abbrev pub causes_of : (old new : LinkAction) → ℕ
 causes_of NoAction NoAction = 0
@@ -53,7 +53,7 @@ causes_of NoAction new = prcs
 causes_of old NoAction = pcs + prcs
 causes_of old new = 0
 
--- a write of PxSCTL, and whether ST is 1 then
+-- a write of PxSCTL, and whether ST is 1 at that time
 pub record ControlWrite : Type 0 where
   pub value : ℕ
   pub started : Bool
@@ -64,7 +64,7 @@ action_after control w = action_of (written control w.value w.started)
 abbrev pub effect_at : ℕ → ControlWrite → Effect
 effect_at control w = effect_of (action_of control) (action_after control w)
 
--- after these writes, the first one first
+-- PxSCTL after these writes, in their order
 unfoldable pub control_after : ℕ → List ControlWrite → ℕ
 control_after control [] = control
 control_after control (w ∷ writes) = control_after (written control w.value w.started) writes

@@ -1,4 +1,4 @@
--- What is true of the link over any list of writes of PxSCTL: AHCI 1.3.1, section 10.4.2 (Port Reset).
+-- What holds for the link over any list of writes of PxSCTL: AHCI 1.3.1, section 10.4.2 (Port Reset).
 use Rattle.std.specs.Prelude.{◌≡◌, ◌≢◌, ℕ, ◌+◌, true, List}
 use Rattle.ahci_registers.specs.Bits.{pcs, prcs}
 use Rattle.ahci_registers.specs.Laws.{Stand}
@@ -14,19 +14,19 @@ use Rattle.ahci_registers.specs.declared.link.LinkAction.TheVariants.{NoAction}
 abbrev pub StaysWhileStarted : Type 0
 StaysWhileStarted = (control value : ℕ) → action_of (written control value true) ≡ action_of control
 
--- a link that was up and is not has been reset
+-- a link that was up and no longer is has been reset
 abbrev pub FallsByAReset : Type 0
 FallsByAReset =
     (control : ℕ) (writes : List ControlWrite) → action_of control ≡ NoAction
     → action_of (control_after control writes) ≢ NoAction → HasEffect LinkReset control writes
 
--- a link that was not up and is has come up
+-- a link that was not up and now is has come up
 abbrev pub RisesByLinkUp : Type 0
 RisesByLinkUp =
     (control : ℕ) (writes : List ControlWrite) → action_of control ≢ NoAction
     → action_of (control_after control writes) ≡ NoAction → HasEffect LinkUp control writes
 
--- and PxSERR tells of it: X and N stand from then on, as PCS and PRCS of PxIS
+-- PxSERR shows it: X and N stand from then on, like PCS and PRCS of PxIS
 abbrev pub UpSetsX : Type 0
 UpSetsX =
     (l : Lines) (old : LinkAction) → old ≢ NoAction

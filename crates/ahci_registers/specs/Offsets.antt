@@ -1,5 +1,5 @@
--- Where the registers of a controller of one port stand: AHCI 1.3.1, sections 3.1, Generic Host Control, and
--- 3.3, Port Registers (those of port 0 from 100h on).
+-- The offsets of the registers of a controller of one port: AHCI 1.3.1, sections 3.1, Generic Host Control,
+-- and 3.3, Port Registers (those of port 0 begin at 100h).
 use Rattle.std.specs.Prelude.{ℕ, ◌==◌, if◌then◌else◌, Option, Some, None}
 use Rattle.ahci_registers.specs.declared.register.Register.{Register}
 use Rattle.ahci_registers.specs.declared.register.Register.TheVariants.{Cap, Ghc, Is, Pi, Vs, Cap2, PxClb}
@@ -32,7 +32,7 @@ offset_of PxCi = 0x138
 offset_of PxSntf = 0x13C
 offset_of PxFbs = 0x140
 
--- the register at an offset, None where none begins
+-- the register at an offset, None if no register begins there
 unfoldable pub register_at : ℕ → Option Register
 register_at offset =
     if offset == 0x00 then Some Cap

@@ -1,4 +1,4 @@
-//! The bits of the registers that all ports share, and what those read that never change.
+//! The bits of the registers that all ports share, and the values of the constant registers.
 
 ghost use Rattle.std.specs.Prelude.{⊤, [], ◌∷◌, codes};
 
@@ -13,8 +13,8 @@ pub(crate) const VS: u32 = 0x0001_0301;
 /// CAP2: no bit.
 pub(crate) const CAP2: u32 = 0;
 
-/// The bits of CAP, HBA Capabilities (AHCI 1.3.1, section 3.1.1), that are 1 here. Beside them stand the fields NCS, 31 at
-/// bit 8, and ISS, 3 at bit 20.
+/// The bits of CAP, HBA Capabilities (AHCI 1.3.1, section 3.1.1), that are 1 here. CAP also has the fields
+/// NCS, 31 at bit 8, and ISS, 3 at bit 20.
 #[derive(Clone, Copy, PartialEq, Eq, Debug)]
 pub struct Capabilities(u32);
 
@@ -69,7 +69,7 @@ bitflag_items! {
         const HR = 0x1;
         /// Interrupt Enable.
         const IE = 0x2;
-        /// AHCI Enable. It reads 1 at all times, as CAP.SAM has it.
+        /// AHCI Enable. It always reads 1, as CAP.SAM requires.
         const AE = 0x8000_0000;
     }
 }

@@ -1,13 +1,14 @@
-//! What is true over any list of events, and of writes.
+//! Laws over any list of events and of writes.
 
 ghost use Rattle.ahci_registers.specs.Laws.{ErrorsStand, IsDueAtACause, IsRaisedUntilTaken, IsToldAgain, NothingIsLostBetween, ReservedReadZero, RisesByAMessage, StandsUntilTaken, TakesOnes, TakesOnlyOnes};
 ghost use Rattle.ahci_registers.specs.LinkLaws.{FallsByAReset, RisesByLinkUp, StaysWhileStarted, UpSetsX};
 
-/// Laws of the interrupts over any list of events, which does nothing when it runs. A cause stands until a write takes it,
-/// and the line is raised as long as it is enabled; a write takes the ones that are written and nothing else; what came
-/// since PxIS was read, and was not read, stands when what was read is written back; what shows PxSERR stands whatever is
-/// written to PxIS. A message is due at each cause that is enabled, and where the line is raised at some time after a write
-/// of IS, one was due at that write or since. Bits that are not there read 0 in PxIS and PxIE.
+/// Laws of the interrupts over any list of events; the call runs no code. A cause stands until a write takes
+/// it, and the line is raised as long as the cause is enabled. A write takes the ones that are written and
+/// nothing else. A cause that came after PxIS was read, and was not among the bits read, still stands after
+/// those bits are written back. The bits that show PxSERR stand whatever is written to PxIS. A message is due
+/// at each enabled cause. If the line is raised at some time after a write of IS, a message was due at that
+/// write or since. Bits that do not exist read 0 in PxIS and PxIE.
 pub fn interrupts_follow_events()
     ensures stands { StandsUntilTaken }
     ensures raised { IsRaisedUntilTaken }
@@ -21,9 +22,9 @@ pub fn interrupts_follow_events()
     ensures reserved { ReservedReadZero }
 {}
 
-/// Laws of the link over any list of writes of PxSCTL, which does nothing when it runs. While ST is 1 a write leaves what is
-/// asked of the interface. A link that was up and is not has been reset on the way; one that was not up and is has come up,
-/// and then X and N of PxSERR stand.
+/// Laws of the link over any list of writes of PxSCTL; the call runs no code. While ST is 1 a write leaves
+/// what is asked of the interface. A link that was up and no longer is has been reset on the way. A link that
+/// was not up and now is has come up, and then PxSERR.DIAG.X and N stand.
 pub fn link_follows_writes()
     ensures started { StaysWhileStarted }
     ensures falls { FallsByAReset }

@@ -1,9 +1,11 @@
-//! What an AHCI controller of one port has beside the port that serves commands (AHCI 1.3.1, sections 3.1, Generic Host
-//! Control, and 3.3, Port Registers): the places of its registers, the bits in them, its interrupts and its link.
+//! What an AHCI controller of one port has apart from the port that serves commands (AHCI 1.3.1, sections
+//! 3.1, Generic Host Control, and 3.3, Port Registers): its registers by their offsets, their bits, its
+//! interrupts and its link.
 //!
-//! [`Register`] is the register file by its offsets. [`Lines`] keeps PxIS, PxIE and GHC.IE, says what IS shows, whether the
-//! interrupt line is raised, and when a message is due where messages stand for the line. [`LinkControl`] keeps PxSCTL and
-//! says what PxSSTS shows, and when the link is to be reset.
+//! [`Register`] is the register file by its offsets. [`Lines`] keeps PxIS, PxIE and GHC.IE. It says what IS
+//! shows, whether the interrupt line is raised, and when a message is due, for a function that sends messages
+//! in place of the line. [`LinkControl`] keeps PxSCTL. It says what PxSSTS shows, and when the link is to be
+//! reset.
 #![tactic(auto)]
 
 mod global;

@@ -11,7 +11,7 @@ use bitflags::Flags;
 /// What a write of GHC asks for.
 #[derive(Clone, Copy, Debug, PartialEq, Eq)]
 pub struct GlobalWrite {
-    /// HR: the controller is to be reset, its port too. The interrupts are reset already.
+    /// HR: the controller is to be reset, and its port too. The interrupts are reset already.
     pub reset: bool,
     /// A message is due.
     pub message: bool,
@@ -19,8 +19,8 @@ pub struct GlobalWrite {
 
 /// The interrupts: PxIS with the bits of PxSERR that it shows, PxIE and GHC.IE.
 ///
-/// Each call that may raise the line answers whether a message is due, for a function that sends messages in place of
-/// the line.
+/// Each call that can raise the line answers whether a message is due, for a function that sends messages in
+/// place of the line.
 #[derive(Clone, Copy, Debug, PartialEq, Eq)]
 pub struct Lines {
     status: u32,
@@ -29,7 +29,7 @@ pub struct Lines {
 }
 
 impl Lines {
-    /// As they open: no cause, and none enabled.
+    /// New interrupts: there is no cause, and none is enabled.
     pub fn new() -> Lines
         ensures { result ≡ opening_lines }
     {
@@ -40,8 +40,8 @@ impl Lines {
         }
     }
 
-    /// Causes come. UFS, PCS and PRCS among them are errors, which stand in PxSERR until ones are written to it. Answers
-    /// whether a message is due.
+    /// Causes come. UFS, PCS and PRCS among them are errors, which stand in PxSERR until ones are written to
+    /// it. Answers whether a message is due.
     #[tactic(auto, unfolding(crate::specs::Lines::after, crate::specs::Lines::asks))]
     pub fn caused(&mut self, causes: PortInterrupts) -> bool
         ensures after { self.new ≡ after self.old (LineEvent.Caused (interrupt_bits causes)) }
@@ -52,7 +52,7 @@ impl Lines {
         self.line() && causes & self.mask != 0
     }
 
-    /// A write of PxIS: ones clear bits, but for those that show PxSERR. No message is due.
+    /// A write of PxIS: ones clear bits, except those that show PxSERR. No message is due.
     #[tactic(auto, unfolding(crate::specs::Lines::after))]
     pub fn write_pxis(&mut self, value: u32)
         ensures after { self.new ≡ after self.old (LineEvent.WrotePortStatus value) }
@@ -61,7 +61,7 @@ impl Lines {
         self.status = without(self.status, value & clearable());
     }
 
-    /// A write of PxIE, of which the bits are kept that PxIS has. Answers whether a message is due.
+    /// A write of PxIE, which keeps the bits that PxIS has. Answers whether a message is due.
     #[tactic(auto, unfolding(crate::specs::Lines::after, crate::specs::Lines::asks))]
     pub fn write_pxie(&mut self, value: u32) -> bool
         ensures after { self.new ≡ after self.old (LineEvent.WrotePortMask value) }
@@ -72,8 +72,8 @@ impl Lines {
         self.line() && !was
     }
 
-    /// A write of IS. It takes nothing, since IS is computed. Answers whether a message is due, as it is where a one is
-    /// written for the port while it pends.
+    /// A write of IS. It takes nothing, since IS is computed. Answers whether a message is due: one is if a
+    /// one is written for the port while the port has a cause pending.
     #[tactic(auto, unfolding(crate::specs::Lines::after, crate::specs::Lines::asks))]
     pub fn write_is(&mut self, value: u32) -> bool
         ensures after { self.new ≡ after self.old (LineEvent.WroteStatus value) }
@@ -82,7 +82,7 @@ impl Lines {
         self.line() && has_bit(value, 0)
     }
 
-    /// A write of GHC: HR resets, and else IE is kept.
+    /// A write of GHC: HR resets; without HR, IE is kept.
     #[tactic(auto, unfolding(crate::specs::Lines::after, crate::specs::Lines::asks))]
     pub fn write_ghc(&mut self, value: u32) -> GlobalWrite
         ensures after { self.new ≡ after self.old (LineEvent.WroteGlobal value) }
@@ -102,7 +102,7 @@ impl Lines {
         }
     }
 
-    /// A write of PxSERR: ones clear bits, and with them those that show them in PxIS. No message is due.
+    /// A write of PxSERR: ones clear bits, and the bits of PxIS that show them. No message is due.
     #[tactic(auto, unfolding(crate::specs::Lines::after))]
     pub fn write_serr(&mut self, value: u32)
         ensures after { self.new ≡ after self.old (LineEvent.WroteError value) }
@@ -139,7 +139,7 @@ impl Lines {
         0x8000_0000 + u32::from(self.enabled) * 2
     }
 
-    /// What IS reads: the port's bit is 1 where an enabled cause stands.
+    /// What IS reads: the port's bit is 1 while an enabled cause stands.
     #[tactic(auto, unfolding(crate::specs::Lines::pends))]
     pub fn is(&self) -> u32
         ensures { result ≡ is_shown self.now }

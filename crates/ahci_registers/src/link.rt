@@ -31,13 +31,13 @@ pub enum Detected {
     Offline,
 }
 
-/// What a write of PxSCTL does beside the registers.
+/// What a write of PxSCTL does apart from the registers.
 #[derive(Clone, Copy, Debug, PartialEq, Eq)]
 pub enum Effect {
     /// Nothing.
     Nothing,
-    /// The link goes down: frames on their way are lost, commands and faults end, and the device behind it, with all that
-    /// is connected to it, is to be reset.
+    /// The link goes down. Frames on their way are lost, and commands and faults end. The device behind the
+    /// link, with all that is connected to it, is to be reset.
     LinkReset,
     /// The link is up again.
     LinkUp,
@@ -46,7 +46,7 @@ pub enum Effect {
 /// What a write of PxSCTL asks for.
 #[derive(Clone, Copy, Debug, PartialEq, Eq)]
 pub struct LinkWrite {
-    /// What it does beside the registers.
+    /// What it does apart from the registers.
     pub effect: Effect,
     /// A message is due.
     pub message: bool,
@@ -58,7 +58,7 @@ pub struct LinkControl {
     control: u32,
 }
 
-// What DET of these bits asks for.
+// What DET in these bits asks for.
 #[tactic(auto, unfolding(crate::specs::Link::action_of))]
 fn asked(control: u32) -> LinkAction
     ensures { result ≡ action_of control }
@@ -109,15 +109,16 @@ fn causes_of_change(old: LinkAction, new: LinkAction) -> PortInterrupts
 }
 
 impl LinkControl {
-    /// The link is up, and nothing is asked of it.
+    /// A link that is up, and of which nothing is asked.
     pub fn new() -> LinkControl
         ensures { result.control ≡ 0 }
     {
         LinkControl { control: 0 }
     }
 
-    /// A write of PxSCTL while PxCMD.ST is as `started` says. DET 1 begins a COMRESET and DET 4 disables the interface; both
-    /// reset the link. DET 0 lets it come up, which sets PxSERR.DIAG.X. While ST is 1 DET stays as it is.
+    /// A write of PxSCTL; `started` is PxCMD.ST. DET 1 begins a COMRESET and DET 4 disables the interface;
+    /// both reset the link. DET 0 lets the link come up, which sets PxSERR.DIAG.X. While ST is 1, DET stays
+    /// as it is.
     pub fn write(&mut self, value: u32, started: bool, lines: &mut Lines) -> LinkWrite
         ensures control { self.new.control ≡ written_of self.old.control value started }
         ensures effect { result.effect ≡ effect_of (action_of self.old.control) (action_of self.new.control) }
@@ -149,7 +150,7 @@ impl LinkControl {
         asked(self.control)
     }
 
-    /// What the interface detects. Frames pass only where communication is established.
+    /// What the interface detects. Frames pass only while communication is established.
     pub fn detected(&self) -> Detected
         ensures { result ≡ detected_by (action_of self.now.control) }
     {

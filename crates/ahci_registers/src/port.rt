@@ -5,7 +5,8 @@ ghost use Rattle.ahci_registers.specs.Bits.{interrupt_bits};
 
 use bitflags::{Flag, Flags, bitflag_items};
 
-/// Bits of PxCMD, Port x Command and Status (AHCI 1.3.1, section 3.3.7). ICC, a field of four bits from bit 28 on, reads 0.
+/// Bits of PxCMD, Port x Command and Status (AHCI 1.3.1, section 3.3.7). ICC, a field of four bits from bit
+/// 28 on, reads 0.
 #[derive(Clone, Copy, PartialEq, Eq, Debug)]
 pub struct PortCommand(u32);
 
@@ -54,7 +55,7 @@ impl Flags for PortCommand {
     }
 }
 
-/// Bits of PxSERR, Port x Serial ATA Error (AHCI 1.3.1, section 3.3.12), of its part DIAG, that PxIS shows too.
+/// Bits of PxSERR.DIAG, Port x Serial ATA Error (AHCI 1.3.1, section 3.3.12), that PxIS shows too.
 #[derive(Clone, Copy, PartialEq, Eq, Debug)]
 pub struct SataError(u32);
 
@@ -91,8 +92,8 @@ impl Flags for SataError {
     }
 }
 
-/// Bits of PxIS, Port x Interrupt Status (AHCI 1.3.1, section 3.3.5), and so of PxIE. Those that are left out belong to
-/// mechanical switches (DMPS) and to cold presence detection (CPDS), which are not there.
+/// Bits of PxIS, Port x Interrupt Status (AHCI 1.3.1, section 3.3.5), and so of PxIE. The bits of mechanical
+/// switches (DMPS) and of cold presence detection (CPDS) are left out, since this port has neither.
 #[derive(Clone, Copy, PartialEq, Eq, Debug)]
 pub struct PortInterrupts(u32);
 

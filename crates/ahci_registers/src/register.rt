@@ -1,4 +1,4 @@
-//! The registers by their offsets.
+//! The registers and their offsets.
 
 ghost use Rattle.std.specs.Prelude.{◌≡◌, Some, IfSome};
 ghost use Rattle.ahci_registers.specs.Offsets.{offset_of, register_at};
@@ -56,7 +56,7 @@ pub enum Register {
 }
 
 impl Register {
-    /// The register that stands at an offset of the register file. At any other offset a read gives 0, and a write is
+    /// The register at this offset of the register file. At any other offset a read gives 0, and a write is
     /// ignored.
     #[tactic(auto, unfolding(crate::specs::Offsets::register_at))]
     pub fn at(offset: u32) -> Option<Register>
@@ -90,7 +90,7 @@ impl Register {
         }
     }
 
-    /// Where the register stands.
+    /// The register's offset.
     #[tactic(auto, unfolding(crate::specs::Offsets::register_at))]
     pub fn offset(self) -> u32
         ensures value { result ≡ offset_of self }
@@ -122,8 +122,8 @@ impl Register {
         }
     }
 
-    /// What a register reads that is the same at all times, whatever is written to it: CAP, PI, VS and CAP2. None for each
-    /// other one.
+    /// The value of a register that always reads the same, whatever is written to it: CAP, PI, VS or CAP2.
+    /// None for any other register.
     pub fn fixed(self) -> Option<u32>
         ensures { result ≡ fixed_value self }
     {

@@ -28,7 +28,7 @@ pub(crate) fn known() -> u32
     PortInterrupts::all().bits()
 }
 
-/// The bits of PxIS that ones clear: all but those that show bits of PxSERR.
+/// The bits of PxIS that ones clear: all except those that show bits of PxSERR.
 pub(crate) fn clearable() -> u32
     ensures { result ≡ clearable_of }
 {

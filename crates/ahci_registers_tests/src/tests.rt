@@ -34,7 +34,7 @@ static OFFSETS: [(Register, u32); 22] = [
     (Register::PxFbs, 0x140),
 ];
 
-/// All bits of PxIS but DMPS and CPDS.
+/// All bits of PxIS except DMPS and CPDS.
 const ALL: u32 = 0x7DC0_007F;
 /// DEF_PORT_IRQ of libahci: what it enables in PxIE at a port with a multiplier. OFS and INFS are not in it.
 const DEF_PORT_IRQ: u32 = 0x78C0_007F;
@@ -138,7 +138,7 @@ fn a_frozen_port_is_silent(rt: HostRuntime) {
     );
     thaw(&rt, &mut lines, false);
     assert_eq!(rt; lines.pxis(), 0);
-    // what comes while it is frozen, and is not cleared, is told as PxIE is written
+    // what comes while it is frozen, and is not cleared, is told when PxIE is written
     assert_eq!(rt; lines.write_pxie(0), false);
     assert_eq!(rt; lines.caused(PortInterrupts::IFS), false);
     assert_eq!(rt; lines.write_pxie(u32::MAX), true);

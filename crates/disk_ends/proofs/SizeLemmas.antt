@@ -29,14 +29,14 @@ use Rattle.disk_model.proofs.TransferLemmas.{setup_of_chunk}
 use Rattle.disk_ends.specs.Joined.{IsShort}
 use Rattle.disk_ends.specs.Hosted.{NextIsShort}
 
-answer_short : (sectors : ℕ) (auto : Bool) (a : Answer) (b : List ℕ) → Shows (answer_sent sectors auto a) b → IsShort (seen b)
-answer_short sectors auto Signature b shows = rw shows.viewed tt
-answer_short sectors auto Accepted b shows = rw shows.viewed tt
-answer_short sectors auto Finished b shows = rw shows.viewed tt
-answer_short sectors auto Refused b shows = rw shows.viewed tt
-answer_short sectors auto (Ended t) b shows = rw shows.viewed tt
-answer_short sectors auto PageFollows b shows = rw shows.viewed tt
-answer_short sectors auto (PageData page) b shows = rw shows.1 tt
+answer_short : (sectors : ℕ) (plan : DiskPlan) (a : Answer) (b : List ℕ) → Shows (answer_sent sectors plan a) b → IsShort (seen b)
+answer_short sectors plan Signature b shows = rw shows.viewed tt
+answer_short sectors plan Accepted b shows = rw shows.viewed tt
+answer_short sectors plan Finished b shows = rw shows.viewed tt
+answer_short sectors plan Refused b shows = rw shows.viewed tt
+answer_short sectors plan (Ended t) b shows = rw shows.viewed tt
+answer_short sectors plan PageFollows b shows = rw shows.viewed tt
+answer_short sectors plan (PageData page) b shows = rw shows.1 tt
 
 -- the DMA Setup of a chunk
 chunk_short : (plan : DiskPlan) (c : Command) (left : ℕ) (b : List ℕ) → plan.chunk ≤ 8192
@@ -105,7 +105,7 @@ turn_short : (plan : DiskPlan) (sectors : ℕ) (medium : List ℕ) (queued : Lis
     (s : Option Started) (w : Option Writing) (v : Option Moving) (b : List ℕ)
     → plan.chunk ≤ 8192 → IsSized plan sectors → IsQueue queued → Moves plan sectors medium queued owed s w v
     → IsTurn (turn plan sectors (at medium queued fault resetting owed s w)) b → IsShort (seen b)
-turn_short plan sectors medium queued fault resetting (x ∷ later) s w v b high sized queue m may = answer_short sectors plan.auto x b may
+turn_short plan sectors medium queued fault resetting (x ∷ later) s w v b high sized queue m may = answer_short sectors plan x b may
 turn_short plan sectors medium queued fault resetting [] None None None b high sized queue m may =
     pick_short plan sectors (at medium queued fault resetting [] None None) _ b high sized queue refl may
 turn_short plan sectors medium queued fault resetting [] None None (Some v) b high sized queue m may = absurd m

@@ -1,4 +1,5 @@
--- What the ledger of a run says of the disk: how both agree, and how they go on agreeing while the host sends.
+-- What the ledger of a run says about the disk: how both agree, and how they still agree after the host
+-- sends.
 use Rattle.std.proofs.Common.{◌≡◌, ◌==◌, ◌||◌, ℕ, ◌+◌, ◌-◌, ◌*◌, ◌<◌, ◌≤◌, Bool, true, false, List, [], ◌∷◌, ◌++◌, Option, Some, None, length, drop, refl, ap, sym, subst, ◌∙◌}
 use Rattle.std.specs.Prelude.{is_some, All, if◌then◌else◌}
 use Rattle.std.proofs.lemmas.Bool.{or_from}
@@ -28,7 +29,7 @@ use Rattle.disk_model.proofs.QueueLemmas.{replies, replies_more, pages_of, page_
 
 -- ## How both agree
 
--- the bytes of a read that moved, the others being 0
+-- the bytes of a read that have moved, and 0 for the others
 abbrev pub moved_bytes : (downwards : Bool) → List ℕ → (n k : ℕ) → List ℕ
 moved_bytes true s n k = from_back s n k
 moved_bytes false s n k = from_front s n k
@@ -43,12 +44,12 @@ pub record IsMoving (plan : DiskPlan) (sectors : ℕ) (c : Command) (left : ℕ)
   pub tag : c.tag < 32
   pub moved : v.moved ≡ 512 * moved_sectors plan c left
 
--- where a read stands in its next chunk: before its DMA Setup, or before its Data
+-- how far a read is with its next chunk: before its DMA Setup, or before its Data
 abbrev pub ReadStage : DiskPlan → List ℕ → Command → ℕ → Moving → List Sending → Bool → Type 0
 ReadStage plan medium c left v sends false = sends ≡ sends_left plan medium c left
 ReadStage plan medium c left v sends true = (sends ≡ drop 1 (sends_left plan medium c left)) × (v.offset ≡ 512 * chunk_from plan c left) × (v.count ≡ 512 * chunk_count plan c left)
 
--- how many chunks were not set up
+-- how many chunks are not set up
 abbrev pub left_after : Bool → ℕ → ℕ
 left_after true left = left - 1
 left_after false left = left
@@ -62,13 +63,13 @@ pub record IsReading (plan : DiskPlan) (sectors : ℕ) (medium : List ℕ) (s : 
   pub stage : ReadStage plan medium s.command left v s.sends up
   pub setups : AreSetUp plan s.command (left_after up left) v.setups
 
--- where a write stands in its next chunk
+-- how far a write is with its next chunk
 pub data Stage : Type 0 where
   Fresh : Stage
   SetUp : Stage
   Asked : Stage
 
--- the DMA Setup was that of the next chunk
+-- the last DMA Setup was that of the next chunk
 abbrev pub IsSetUp : DiskPlan → Command → ℕ → Moving → Type 0
 IsSetUp plan c left v = (v.offset ≡ 512 * chunk_from plan c left) × (v.count ≡ 512 * chunk_count plan c left)
 
@@ -77,7 +78,7 @@ WriteStage plan c left v sends Fresh = (sends ≡ asks_for plan c left) × (v.ac
 WriteStage plan c left v sends SetUp = (sends ≡ Activates ∷ []) × (v.active ≡ false) × IsSetUp plan c left v
 WriteStage plan c left v sends Asked = (sends ≡ []) × (v.active ≡ true) × IsSetUp plan c left v
 
--- whether the next chunk was set up
+-- the next chunk is set up
 abbrev pub is_set_up : Stage → Bool
 is_set_up Fresh = false
 is_set_up SetUp = true
@@ -91,7 +92,7 @@ pub record IsWriting (plan : DiskPlan) (sectors : ℕ) (w : Writing) (v : Moving
   pub stage : WriteStage plan w.command w.left v w.sends at
   pub setups : AreSetUp plan w.command (left_after (is_set_up at) w.left) v.setups
 
--- the command of the tag is in the queue, and no page waits
+-- a command with the tag is in the queue, and no page waits
 pub record IsHeld (queued : List Command) (owed : List Answer) (tag : ℕ) : Type 0 where
   pub has : has_tag tag queued ≡ true
   pub quiet : has_page owed ≡ false
@@ -126,7 +127,7 @@ pub record Beside : Type 0 where
   pub failure : Option Failure
   pub pages : List Wanted
 
--- the ledger that agrees with the disk, but for what the disk does not know
+-- the ledger that agrees with the disk, apart from what the disk does not know
 abbrev pub shown : Moment → Beside → Ledger
 shown m k = record {
   outstanding = m.queued;
@@ -151,7 +152,7 @@ beside l = record {
   pages = l.pages;
 }
 
--- the disk stands beside a ledger that knows so much more
+-- the disk agrees with a ledger that knows this in addition
 abbrev pub Stands : DiskPlan → ℕ → Moment → Beside → Type 0
 Stands plan sectors m k = Agrees plan sectors m (shown m k)
 
@@ -187,19 +188,19 @@ under m owed s w = record m { owed = owed; started = s; writing = w }
 abbrev pub idle : Moment → Moment
 idle m = under m [] None None
 
--- a read is, and no answer is owed
+-- a read is under way, and no answer is owed
 abbrev pub reading : Moment → Started → Moment
 reading m s = under m [] (Some s) None
 
--- a write is
+-- a write is under way
 abbrev pub writing : Moment → List Answer → Writing → Moment
 writing m owed w = under m owed None (Some w)
 
--- the same, while these data move
+-- the same while this data moves
 abbrev pub along : Beside → Option Moving → Beside
 along k v = record k { moving = v }
 
--- ## All is given up
+-- ## Everything is given up
 
 pub gives_up : (plan : DiskPlan) (sectors : ℕ) (m : Moment) (l : Ledger) → Agrees plan sectors m l
     → (fault : Option Fault) (fl : Option Failure) (resetting : Bool) (owed : List Answer)
@@ -223,7 +224,7 @@ gives_up plan sectors m l a fault fl resetting owed is none no_page = record {
   pages = rw no_page tt;
 }
 
--- ## An answer more
+-- ## One more answer
 
 true_or : (x y : Bool) → x ≡ true → (x || y) ≡ true
 true_or true y e = refl
@@ -248,8 +249,8 @@ moves_on plan sectors medium queued more_queued owed more None (Some w) None m q
 moves_on plan sectors medium queued more_queued owed more None (Some w) (Some v) m quiet = (m.0, m.1, holds_on w.command.tag queued more_queued owed more m.2 (quiet w.command.tag m.2.has))
 moves_on plan sectors medium queued more_queued owed more (Some s) (Some w) v m quiet = absurd m
 
--- what a FIS of the host adds: commands, answers none of which ends a command, the reply that is awaited for them, and how the
--- error mode, SRST and the pages stand then
+-- What a FIS of the host adds: commands, answers (none of which ends a command), the reply that is awaited
+-- for them, and the error mode, SRST and the pages afterwards.
 pub record Added : Type 0 where
   pub fault : Option Fault
   pub failure : Option Failure
@@ -333,12 +334,12 @@ owes_answers plan sectors m l x a none is =
     (record (ledger_with m l x) { outstanding = xs })) same
     (owes_more plan sectors m l x a (rw same a.queue) is)
 
--- no page more is owed
+-- no more page is owed
 no_page : (plan : DiskPlan) (sectors : ℕ) (m : Moment) (l : Ledger) → Agrees plan sectors m l → (more : List Answer)
     → pages_of more ≡ [] → AreWanted plan sectors (pages_of (m.owed ++ more)) l.pages
 no_page plan sectors m l a more none = rw (pages_same m.owed more none) a.pages
 
--- one page more is
+-- one more page is owed
 one_page : (plan : DiskPlan) (sectors : ℕ) (m : Moment) (l : Ledger) → Agrees plan sectors m l → (page : Page) (w : Wanted)
     → IsWanted plan sectors page w
     → AreWanted plan sectors (pages_of (m.owed ++ PageFollows ∷ PageData page ∷ [])) (l.pages ++ w ∷ [])
@@ -349,7 +350,7 @@ one_page plan sectors m l a page w is = rw (filter_map-append page_of m.owed (Pa
 not_queued : (tag : ℕ) (more : List Answer) → has_tag tag [] ≡ true → has_page more ≡ false
 not_queued tag more e = cc e
 
--- an answer that is no page
+-- an answer that is not a page
 answers_so : (plan : DiskPlan) (sectors : ℕ) (m : Moment) (l : Ledger) (x : Added) → Agrees plan sectors m l
     → x.commands ≡ [] → x.pages ≡ l.pages → IsNoted plan sectors x.fault x.failure → ended_tags x.answers ≡ []
     → replies x.answers ≡ x.reply ∷ [] → pages_of x.answers ≡ [] → has_page x.answers ≡ false
@@ -363,7 +364,7 @@ answers_so plan sectors m l x a none same noted ends one pageless quiet = owes_a
   quiet = λ t h. quiet;
 })
 
--- a page follows, where nothing is queued
+-- a page follows, and nothing is queued
 shows_page : (plan : DiskPlan) (sectors : ℕ) (m : Moment) (l : Ledger) (fault : Option Fault) (fl : Option Failure)
     (page : Page) (w : Wanted) → Agrees plan sectors m l → m.queued ≡ [] → IsNoted plan sectors fault fl
     → IsWanted plan sectors page w
@@ -411,7 +412,7 @@ step_queue plan sectors m k queued c false e some tag a =
       quiet = λ t h. refl;
     })
 
--- the log is read, where SRST is not set
+-- the log is read while SRST is not set
 step_log : (plan : DiskPlan) (sectors : ℕ) (m : Moment) (k : Beside) (queued : List Command) (fault : Option Fault)
     → is_held fault ≡ false → Stands plan sectors (with_queue m queued fault m.resetting) k
     → let n = with_queue m queued fault m.resetting in

@@ -1,4 +1,4 @@
--- Each command is answered in its turn.
+-- Commands are answered in order.
 use Rattle.std.proofs.Common.{◌≡◌, Bool, ℕ, true, false, List, [], ◌∷◌, ◌++◌, ap, ◌∙◌}
 use Rattle.fis_view.specs.Table.{D2h, Pio, I, Status, Error, Lba, Count, D, Transfer, places, field}
 use Rattle.fis_view.specs.Built.{cut}
@@ -42,15 +42,15 @@ of_512 : (b : List ℕ) → Shows page_follows b → field Pio Transfer b ≡ 51
 unfolding places cut
 of_512 b shows = shows.fields Transfer
 
-answers_by : (l : Ledger) (sectors : ℕ) (auto : Bool) (a : Answer) (later : List Answer) (b : List ℕ) → l.awaited ≡ replies (a ∷ later)
-    → Shows (answer_sent sectors auto a) b → AnswersRight l (seen b)
-answers_by l sectors auto Signature later b is shows = rw (shows.viewed, is) (signs b shows)
-answers_by l sectors auto Accepted later b is shows = rw (shows.viewed, is) (accepts b shows)
-answers_by l sectors auto Finished later b is shows = rw (shows.viewed, is) (finishes b shows)
-answers_by l sectors auto Refused later b is shows = rw (shows.viewed, is) (refuses b shows)
-answers_by l sectors auto (Ended t) later b is shows = rw shows.viewed tt
-answers_by l sectors auto PageFollows later b is shows = rw (shows.viewed, is) (opens_page b shows, to_host b shows, of_512 b shows)
-answers_by l sectors auto (PageData page) later b is shows = rw shows.1 tt
+answers_by : (l : Ledger) (sectors : ℕ) (plan : DiskPlan) (a : Answer) (later : List Answer) (b : List ℕ) → l.awaited ≡ replies (a ∷ later)
+    → Shows (answer_sent sectors plan a) b → AnswersRight l (seen b)
+answers_by l sectors plan Signature later b is shows = rw (shows.viewed, is) (signs b shows)
+answers_by l sectors plan Accepted later b is shows = rw (shows.viewed, is) (accepts b shows)
+answers_by l sectors plan Finished later b is shows = rw (shows.viewed, is) (finishes b shows)
+answers_by l sectors plan Refused later b is shows = rw (shows.viewed, is) (refuses b shows)
+answers_by l sectors plan (Ended t) later b is shows = rw shows.viewed tt
+answers_by l sectors plan PageFollows later b is shows = rw (shows.viewed, is) (opens_page b shows, to_host b shows, of_512 b shows)
+answers_by l sectors plan (PageData page) later b is shows = rw shows.1 tt
 
 goes_by : (l : Ledger) (x : Sending) (b : List ℕ) → IsTransfer x → Shows x b → AnswersRight l (seen b)
 goes_by l (Register f) b moves shows = absurd moves
@@ -63,7 +63,7 @@ goes_by l (Carries bytes) b moves shows = rw shows.1 tt
 pub answers_right : (plan : DiskPlan) (sectors : ℕ) (h : List Happening) (b : List ℕ) → IsSize plan sectors
     → IsDiskRun plan sectors (h ++ Sent b ∷ []) → AnswersRight (ledger h) (seen b)
 answers_right plan sectors h b size run = sent_by plan sectors h b _ size run (λ agrees. record {
-  answers = λ a later is shows. answers_by (ledger h) sectors plan.auto a later b (agrees.awaited ∙ ap replies is) shows;
+  answers = λ a later is shows. answers_by (ledger h) sectors plan a later b (agrees.awaited ∙ ap replies is) shows;
   fails = λ c f turn is none shows. rw shows.viewed tt;
   starts = λ c turn here is none shows. rw shows.viewed tt;
   goes_on = λ now x is moves shows. goes_by (ledger h) x b moves shows;

@@ -1,4 +1,4 @@
--- The lowest bad sector that a fold over the bad ones finds is the first sector of the command that is bad.
+-- The lowest bad sector that a fold over the bad ones finds is the command's first bad sector.
 use Rattle.std.proofs.Common.{◌≡◌, ℕ, zero, suc, ◌+◌, ◌-◌, ◌≤◌, ◌<◌, ◌==◌, ◌&&◌, ◌||◌, ◌⊎◌, min, Bool, true, false, cond, List, [], ◌∷◌, Option, Some, None, refl, sym, ap, ◌∙◌, arith, inl, inr}
 use Rattle.std.specs.Prelude.{fold, nat_le, nat_lt}
 use Rattle.std.specs.List.{find, range_with_len}
@@ -9,7 +9,7 @@ use Rattle.disk_model.specs.declared.request.Command.{Command}
 use Rattle.disk_model.specs.Chunks.{is_bad, first_bad}
 use Rattle.disk_model.specs.Insides.{is_of, lower_bad, lower_of}
 
--- what was found is the lowest number of which the test holds, among count numbers from one on
+-- what was found is the lowest of count numbers, from from on, for which the test holds
 record IsLowest (test : ℕ → Bool) (from count : ℕ) (found : Option ℕ) : Type 0 where
   pub inside : (r : ℕ) → found ≡ Some r → (from ≤ r) × (r < from + count) × (test r ≡ true)
   pub first : (r q : ℕ) → found ≡ Some r → from ≤ q → test q ≡ true → r ≤ q
@@ -32,7 +32,7 @@ found_by test from n false is rest = record {
   none = λ q e le lt. elim (same_or_more from q le) [ inl same ↦ sym (ap test same) ∙ is | inr more ↦ rest.none q e more (omega arith) ];
 }
 
--- a search through neighbouring numbers finds it
+-- a search through consecutive numbers finds it
 search_finds : (test : ℕ → Bool) (from count : ℕ) → IsLowest test from count (find test (range_with_len from count))
 search_finds test from zero = record {
   inside = λ r e. absurd cc;
@@ -55,7 +55,7 @@ one_lowest test from count (Some r) (Some s) f g =
     let e : r ≡ s = omega (arith, a, b) in
     ap (λ (x : ℕ). Some x) e
 
--- the same for a test that tells the same
+-- the same for a test with the same results
 same_test : (test other : ℕ → Bool) (from count : ℕ) (found : Option ℕ) → ((q : ℕ) → test q ≡ other q)
     → IsLowest test from count found → IsLowest other from count found
 same_test test other from count found same f = record {

@@ -36,7 +36,7 @@ keeps : (q : Command) (b : Bool) (rest : List Command) → b ≡ true → cond b
 keeps q true rest e = refl
 keeps q false rest e = cc e
 
--- the commands but for those of a tag
+-- the commands without those of a tag
 abbrev pub but : ℕ → List Command → List Command
 but tag cs = filter (λ q. not (q.tag == tag)) cs
 
@@ -58,7 +58,7 @@ but_free tag other (q ∷ cs) none =
     let parts = or_parts (q.tag == tag) (has_tag tag cs) none in
     kept_free tag q (not (q.tag == other)) (but other cs) parts.0 (but_free tag other cs parts.1)
 
--- what a filter by another tag leaves without the tag was without it
+-- if a filter by another tag leaves nothing with the tag, nothing had the tag
 free_head : (tag other : ℕ) (q : Command) (b : Bool) (rest : List Command) → eqb q.tag other ≡ b → eqb other tag ≡ false → has_tag tag (cond (not b) (q ∷ rest) rest) ≡ false → (eqb q.tag tag ≡ false) × (has_tag tag rest ≡ false)
 free_head tag other q true rest is differs none =
     let same : q.tag ≡ other = eqb-true q.tag other is in
@@ -75,7 +75,7 @@ found_head : (p r : Command → Bool) (x q : Command) (b : Bool) (rest : Option 
 found_head p r x q true rest found more here = let same : x ≡ q = cc found in subst (λ (y : Command). r y ≡ false) same here
 found_head p r x q false rest found more here = more found
 
--- what is found passes no test that nothing passes
+-- what is found fails a test that nothing passes
 pub found_not : (p r : Command → Bool) (cs : List Command) (q : Command) → find p cs ≡ Some q → list_any r cs ≡ false → r q ≡ false
 found_not p r [] q found none = cc found
 found_not p r (x ∷ cs) q found none =
@@ -103,7 +103,7 @@ pub never_empty : {X : Type 0} (xs : List X) (x : X) → xs ++ x ∷ [] ≡ [] �
 never_empty [] x e = cc e
 never_empty (y ∷ xs) x e = cc e
 
--- ## What each FIS leaves, where it fits
+-- ## What each FIS leaves, if it fits
 
 -- a queued command was accepted
 abbrev pub opened : Ledger → Command → Ledger
@@ -123,11 +123,11 @@ answers_fine l e false is = refl
 pub bits_up : (l : Ledger) (f : List ℕ) → has_error f ≡ false → listens_up l (Ok (view.SetBits f)) ≡ record l { unanswered = drop 1 l.unanswered }
 bits_up l f fine = answers_fine l (field Bits Error f) (has_error f) fine
 
--- data that moved, once these bytes did too
+-- data that moved, after these bytes moved too
 abbrev pub with_bytes : Moving → List ℕ → Moving
 with_bytes v bytes = record v { bytes = put v.bytes v.offset bytes; moved = v.moved + length bytes; active = false }
 
--- whether all of it did
+-- all of it has moved
 abbrev pub is_all : Moving → Bool
 is_all v = v.moved == 512 * v.command.count
 
@@ -154,7 +154,7 @@ data_down l v bytes b moving asked all =
     ∙ if_taken l v bytes (v.active && (length bytes == v.count)) fits
     ∙ goes_by l (with_bytes v bytes) b true all asked.writes
 
--- a command that is opened beside data that moves
+-- a command that is opened while data moves
 pub opened_beside : (l : Ledger) (c : Command) (v : Moving) (b write : Bool) → eqb v.command.tag c.tag ≡ false → after_bytes (opened l c) v b write ≡ opened (after_bytes l v b write) c
 opened_beside l c v false write other = refl
 opened_beside l c v true true other = ap (λ (xs : List Command). record (ends (opened l c) v true) { outstanding = xs }) (but_push v.command.tag l.outstanding c (eqb_turned v.command.tag c.tag other))
@@ -221,7 +221,7 @@ nothing_up l (Ok (view.Payload f)) none = absurd none
 nothing_up l (Ok (view.Unknown f)) none = refl
 nothing_up l (Err e) none = refl
 
--- where a disk rests it has nothing to tell
+-- a disk that rests has nothing to tell
 rest_hears : (l : Ledger) (s : Result Fis FisFault) → Rests l → IsRight l s → TellsNothing s
 rest_hears l (Ok (view.RegH2D f)) rests r = tt
 rest_hears l (Ok (view.RegD2H f)) rests r = subst (λ xs. AnswersFirst xs f) rests.awaited r.replies
@@ -244,7 +244,7 @@ pub record Crosses (l : Ledger) (s t : Result Fis FisFault) : Type 0 where
 
 -- ---- a command goes down
 
--- the same of what a command asks
+-- the same for what a command asks
 record CrossesRequest (l : Ledger) (s : Result Fis FisFault) (r : Request) : Type 0 where
   same : asks (listens_up l s) r (listens_up l s).failed ≡ listens_up (asks l r l.failed) s
   right : IsRight (asks l r l.failed) s
@@ -301,7 +301,7 @@ auto_open : (b : Bool) (x : Ledger) (c : Command) → IsOpen x c → IsOpen (wit
 auto_open true x c can = active_open x x.moving c refl can
 auto_open false x c can = can
 
--- a DMA Setup leaves this, but for auto-activate
+-- a DMA Setup leaves this, apart from auto-activate
 queue_up : (l : Ledger) (f : List ℕ) (c : Command) (x : Ledger)
     → sets_up l l.moving (field Setup BufferId f) (field Setup Offset f) (field Setup table.Count f) ≡ x
     → sets_up (opened l c) l.moving (field Setup BufferId f) (field Setup Offset f) (field Setup table.Count f) ≡ opened x c
@@ -344,7 +344,7 @@ queue_activate l c f (Some v) moving can r = queue_by l (Ok (view.DmaActivate f)
     (record { moves = r.moves; answers = tt; replies = tt; asked = tt; fine = refl })
     (can.0, record { outstanding = can.1.outstanding; unanswered = can.1.unanswered; moving = subst (MovesOther c.tag) moving can.1.moving }, can.2)
 
--- a tag that is free stays so where data of another moves
+-- a free tag stays free when data of another tag moves
 pub open_beside : (l : Ledger) (c : Command) (v : Moving) (b write : Bool) → IsOpen l c → eqb v.command.tag c.tag ≡ false → IsOpen (after_bytes l v b write) c
 open_beside l c v false write can other = (can.0, record { outstanding = can.1.outstanding; unanswered = can.1.unanswered; moving = other }, can.2)
 open_beside l c v true true can other = (can.0, record { outstanding = but_free c.tag v.command.tag l.outstanding can.1.outstanding; unanswered = has_more c.tag v.command.tag l.unanswered can.1.unanswered other; moving = tt }, can.2)

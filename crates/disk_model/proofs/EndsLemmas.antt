@@ -27,9 +27,9 @@ use Rattle.disk_model.proofs.ErrorLaws.{errs_right}
 use Rattle.disk_model.proofs.LawLemmas.{agrees, answers_once, last_may}
 use Rattle.disk_model.proofs.MovesLemmas.{moves_right}
 
--- ## What a command leaves, where it fits
+-- ## What a command leaves, if it fits
 
--- it waits for the answer of the one before it
+-- the one before it was answered
 waits : (l : Ledger) (r : Request) → FitsRequest l r → l.awaited ≡ []
 waits l (Reset on) fits = absurd fits
 waits l (Queue c) fits = fits.1
@@ -38,7 +38,7 @@ waits l Identify fits = fits.awaited
 waits l Flush fits = fits.awaited
 waits l Other fits = fits.awaited
 
--- and is not answered yet
+-- it is not answered yet
 not_answered : (l : Ledger) (r : Request) → FitsRequest l r → (alone l r).awaited ≡ [] → ⊥
 not_answered l (Reset on) fits e = fits
 not_answered l (Queue c) fits e = never_empty l.awaited _ e
@@ -70,7 +70,7 @@ record Swaps (l : Ledger) (t u : Result Fis FisFault) : Type 0 where
   second : Fits (listens_down l u) t
   same : listens_down (listens_down l t) u ≡ listens_down (listens_down l u) t
 
--- no data is asked for beside a command that is not queued
+-- no Data is asked for while a disk rests
 no_data_beside : (l : Ledger) (bytes : List ℕ) → Rests l → FitsData l.moving bytes → ⊥
 no_data_beside l bytes rests fits = subst (λ m. FitsData m bytes) rests.moving fits
 
@@ -109,7 +109,7 @@ swap_data l Identify bytes failed fits asked = absurd (no_data_beside l bytes fi
 swap_data l Flush bytes failed fits asked = absurd (no_data_beside l bytes fits asked)
 swap_data l Other bytes failed fits asked = absurd (no_data_beside l bytes fits asked)
 
--- what may be given after Data might have been before it
+-- what may be given after Data could have been given before it
 failed_before : (l : Ledger) (w : Moving) (b : Bool) → (after_bytes l w b true).failed ≡ false → l.failed ≡ false
 failed_before l w true e = e
 failed_before l w false e = e

@@ -1,4 +1,4 @@
--- What each FIS leaves of the commands that ended and of the writes, where it is right or fits.
+-- What each FIS that is right or fits leaves of the commands that ended and of the writes.
 use Rattle.std.proofs.Common.{◌≡◌, ◌==◌, eqb, ℕ, ◌*◌, Bool, true, false, List, [], ◌∷◌, ◌++◌, append_assoc, Option, Some, None, Ok, Err, Result, drop, refl, ap, sym, subst, ◌∙◌, cond}
 use Rattle.std.specs.Prelude.{All, find, not}
 use Rattle.std.proofs.lemmas.Bool.{eq-eqb, eqb-true, or_from, or_left, or_parts, or_right, true≢false}
@@ -42,7 +42,7 @@ eqb_turned : (a b : ℕ) (x : Bool) → eqb b a ≡ x → eqb a b ≡ false → 
 eqb_turned a b true is other = absurd (true≢false (sym (eq-eqb a b (sym (eqb-true b a is))) ∙ other))
 eqb_turned a b false is other = is
 
--- a tag that is among these is not one that is not
+-- a tag that is among these differs from one that is not
 differs : (tag t : ℕ) (us : List ℕ) (b : Bool) → eqb t tag ≡ b → has t us ≡ true → has tag us ≡ false → eqb t tag ≡ false
 differs tag t us true is here none =
     let same : t ≡ tag = eqb-true t tag is in
@@ -51,12 +51,12 @@ differs tag t us false is here none = is
 
 -- ## Commands that ended and were not answered
 
--- these tags are apart, and none is that of an outstanding command
+-- these tags are apart, and no outstanding command has one of them
 abbrev pub AreApart : Ledger → List ℕ → Type 0
 AreApart l [] = Unit {0}
 AreApart l (u ∷ us) = (has u us ≡ false) × (has_tag u l.outstanding ≡ false) × MovesOther u l.moving × AreApart l us
 
--- a tag of which nothing was outstanding is so afterwards
+-- a tag without an outstanding command has none afterwards
 abbrev Less : Ledger → Ledger → Type 0
 Less l x = (tag : ℕ) → has_tag tag l.outstanding ≡ false → MovesOther tag l.moving → (has_tag tag x.outstanding ≡ false) × MovesOther tag x.moving
 
@@ -129,7 +129,7 @@ active_other : (x : Ledger) (v : Option Moving) (tag : ℕ) → x.moving ≡ v �
 active_other x None tag is m = m
 active_other x (Some v) tag is m = subst (MovesOther tag) is m
 
--- a DMA Setup leaves this, but for auto-activate
+-- a DMA Setup leaves this, apart from auto-activate
 up_auto : (b : Bool) (l x : Ledger) (f : List ℕ) → is_auto f ≡ b
     → sets_up l l.moving (field Setup BufferId f) (field Setup Offset f) (field Setup table.Count f) ≡ x → x.writes ≡ l.writes
     → x.unanswered ≡ l.unanswered → Less l x → UpLeaves l (Ok (view.DmaSetup f))
@@ -216,7 +216,7 @@ down_by l x t is writes same apart = record {
   apart = λ a. subst (AreApart x) (sym same) (apart a);
 }
 
--- nothing is to be answered where a disk rests
+-- nothing waits for an answer while a disk rests
 none_apart : (l x : Ledger) → Rests l → AreApart x l.unanswered
 none_apart l x rests = subst (AreApart x) (sym rests.unanswered) tt
 
@@ -265,7 +265,7 @@ down_leaves l (Err e) fits = absurd fits
 
 -- ## Whole lists
 
--- the tags of the ended commands are apart, after a FIS as before it
+-- the tags of the ended commands are still apart after a FIS
 pub apart_up : (l : Ledger) (bytes : List ℕ) → IsRight l (seen bytes) → AreApart l l.unanswered → AreApart (listens l (Sent bytes)) (listens l (Sent bytes)).unanswered
 apart_up l bytes right a =
     let u : UpLeaves l (seen bytes) = up_leaves l (seen bytes) right in
@@ -320,7 +320,7 @@ all_down l (b ∷ down) fit =
       kept = λ tag here. onward tag (d.kept tag here);
     }
 
--- where an answer comes next its tag is free once all came
+-- if an answer comes next, its tag is free once everything has come
 free_next : (k : Ledger) (f : List ℕ) (tag : ℕ) (rest : List ℕ) → IsRight k (Ok (view.SetBits f)) → k.unanswered ≡ tag ∷ rest → AreApart k k.unanswered → IsFree (listens_up k (Ok (view.SetBits f))) tag
 free_next k f tag rest right is a =
     let here : AreApart k (tag ∷ rest) = subst (AreApart k) is a in
@@ -328,7 +328,7 @@ free_next k f tag rest right is a =
     subst (λ (x : Ledger). IsFree x tag) (sym (bits_up k f right.fine))
     (record { outstanding = here.1; unanswered = subst (λ (us : List ℕ). has tag us ≡ false) (sym left) here.0; moving = here.2 })
 
--- the writes that are on their way have other tags
+-- the writes on their way have other tags
 pub entered_by : (k l : Ledger) (up down : List (List ℕ)) (tag : ℕ) → with_up k up ≡ with_down l down → AreRight k up → AreFit l down → IsFree (with_up k up) tag → AreEntered l k tag
 entered_by k l up down tag same right fit free =
     let all : AllDown l down = all_down l down fit in

@@ -54,20 +54,20 @@ log_by plan sectors (Some (Failed tag error lba)) (Some f) later bytes (c, turn,
     rw (turn, same) told
 
 page_by : (plan : DiskPlan) (sectors : ℕ) (page : Page) (w : Wanted) (later : List Wanted) (bytes : List ℕ)
-    → IsWanted plan sectors page w → bytes ≡ page_bytes sectors plan.auto page → IsPage plan sectors (w ∷ later) bytes
+    → IsWanted plan sectors page w → bytes ≡ page_bytes sectors plan page → IsPage plan sectors (w ∷ later) bytes
 page_by plan sectors (ErrorLog fault) (LogOf failure) later bytes wanted is = log_by plan sectors fault failure later bytes wanted is
 page_by plan sectors (ErrorLog fault) IdentifyData later bytes wanted is = absurd wanted
 page_by plan sectors Identity (LogOf failure) later bytes wanted is = absurd wanted
 page_by plan sectors Identity IdentifyData later bytes wanted is = is
 
 pages_by : (plan : DiskPlan) (sectors : ℕ) (page : Page) (pages : List Page) (ws : List Wanted) (bytes : List ℕ)
-    → AreWanted plan sectors (page ∷ pages) ws → bytes ≡ page_bytes sectors plan.auto page → IsPage plan sectors ws bytes
+    → AreWanted plan sectors (page ∷ pages) ws → bytes ≡ page_bytes sectors plan page → IsPage plan sectors ws bytes
 pages_by plan sectors page pages [] bytes are is = absurd are
 pages_by plan sectors page pages (w ∷ ws) bytes are is = page_by plan sectors page w ws bytes are.0 is
 
 answers_by : (plan : DiskPlan) (sectors : ℕ) (l : Ledger) (a : Answer) (later : List Answer) (b : List ℕ)
     → (is_page a ≡ true → l.moving ≡ None) → AreWanted plan sectors (pages_of (a ∷ later)) l.pages
-    → Shows (answer_sent sectors plan.auto a) b → ErrsRight plan sectors l (seen b)
+    → Shows (answer_sent sectors plan a) b → ErrsRight plan sectors l (seen b)
 answers_by plan sectors l Signature later b none are shows = rw shows.viewed tt
 answers_by plan sectors l Accepted later b none are shows = rw shows.viewed tt
 answers_by plan sectors l Finished later b none are shows = rw shows.viewed tt
@@ -76,10 +76,10 @@ answers_by plan sectors l (Ended t) later b none are shows = let fine = end_tell
 answers_by plan sectors l PageFollows later b none are shows = rw shows.viewed tt
 answers_by plan sectors l (PageData page) later b none are shows =
     let quiet : l.moving ≡ None = none refl in
-    let bytes : drop 4 b ≡ page_bytes sectors plan.auto page = ap (drop 4) shows.0 in
+    let bytes : drop 4 b ≡ page_bytes sectors plan page = ap (drop 4) shows.0 in
     rw (shows.1, quiet) (pages_by plan sectors page (pages_of later) l.pages (drop 4 b) are bytes)
 
--- where a page is owed first, no command's data moves
+-- while a page is owed first, no command's data moves
 page_waits : (plan : DiskPlan) (sectors : ℕ) (m : Moment) (l : Ledger) → Agrees plan sectors m l → (a : Answer)
     (later : List Answer) → m.owed ≡ a ∷ later → is_page a ≡ true → l.moving ≡ None
 page_waits plan sectors m l agrees a later is page =

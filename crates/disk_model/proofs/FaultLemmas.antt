@@ -1,4 +1,4 @@
--- Why commands fail, as the disk notes it and as the ledger does; the pages that are owed and that are awaited.
+-- Why commands fail, as the disk and the ledger note it, and the pages that are owed and awaited.
 use Rattle.std.proofs.Common.{◌≡◌, ℕ, ◌+◌, ◌<◌, ◌≤◌, Bool, true, false, List, [], ◌∷◌, ◌++◌, Option, Some, None, drop, refl, subst, arith, inl, inr}
 use Rattle.std.specs.Prelude.{nat_lt}
 use Rattle.std.proofs.lemmas.Bool.{ltb-true, ltb-false}
@@ -65,7 +65,7 @@ fault_small plan sectors c (Failed tag error lba) is = error_small plan sectors 
 fault_small plan sectors c Mixed is = absurd is
 fault_small plan sectors c Held is = absurd is
 
--- ## What is noted of it
+-- ## What is noted about it
 
 abbrev pub IsNoted : DiskPlan → ℕ → Option Fault → Option Failure → Type 0
 IsNoted plan sectors None None = Unit {0}

@@ -1,4 +1,4 @@
--- The writes that had ended when a read was started stay the first ones of all writes that the ledger tells of.
+-- The writes that had ended when a read was started stay the first of all writes in the ledger.
 use Rattle.std.proofs.Common.{◌≡◌, ◌==◌, ◌&&◌, ℕ, zero, suc, subst, ◌*◌, Bool, true, false, List, [], ◌∷◌, ◌++◌, append_assoc, Option, Some, None, Ok, Err, Result, drop, length, refl, ap, sym, ◌∙◌}
 use Rattle.std.specs.Prelude.{find, if◌then◌else◌, slice_get}
 use Rattle.std.specs.List.{list_any}
@@ -36,7 +36,7 @@ abbrev Each : List Written → List ReadOut → Type 0
 Each writes [] = Unit {0}
 Each writes (r ∷ rs) = IsFront r.before writes × Each writes rs
 
--- of each read that ended, and of the one whose data moves
+-- for each read that ended, and for the one whose data moves
 pub record AreFronts (l : Ledger) : Type 0 where
   pub reads : Each l.writes l.reads
   pub moving : OfMoving l.moving l.writes

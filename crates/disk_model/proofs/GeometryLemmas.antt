@@ -6,7 +6,7 @@ use Rattle.disk_model.specs.declared.request.Command.{Command}
 use Rattle.disk_model.specs.declared.plan.DiskPlan.{DiskPlan}
 use Rattle.disk_model.specs.Chunks.{chunks, chunk_from, chunk_count}
 
--- how many sectors were moved when so many chunks are left
+-- how many sectors have moved when left chunks are left
 abbrev pub done_by : (downwards : Bool) (all size count left : ℕ) → ℕ
 done_by true all size count left = count - left * size
 done_by false all size count left = min ((all - left) * size) count
@@ -22,7 +22,7 @@ more_mul : (q s : ℕ) → 0 < q → q * s ≡ (q - 1) * s + s
 more_mul zero s some = absurd (omega arith)
 more_mul (suc k) s some = let e : suc k - 1 ≡ k = omega arith in rw e (omega arith)
 
--- so many chunks cover the command, and one less do not
+-- this many chunks cover the command, and one fewer do not
 covers : (size count : ℕ) → 0 < size → 0 < count
     → (count ≤ (count + (size - 1)) / size * size) × (((count + (size - 1)) / size - 1) * size < count)
 covers size count s c =
@@ -41,7 +41,7 @@ none false all size count covered = let e : all - all ≡ 0 = omega arith in rw 
 pub moved_none : (plan : DiskPlan) (c : Command) → 512 ≤ plan.chunk → 0 < c.count → moved_sectors plan c (chunks plan c) ≡ 0
 moved_none plan c low some = none plan.last_first (chunks plan c) (plan.chunk / 512) c.count (covers (plan.chunk / 512) c.count (omega arith) some).0
 
--- what is known of a chunk, in plain numbers
+-- what is known about a chunk, in plain numbers
 pub record Part (downwards : Bool) (all size count left from part : ℕ) : Type 0 where
   -- it begins where the moved sectors end, on their side
   pub upwards : downwards ≡ false → from ≡ done_by downwards all size count left

@@ -1,4 +1,4 @@
--- What one more event does to what was sent.
+-- What one more event adds to what was sent.
 use Rattle.std.proofs.Common.{◌≡◌, ℕ, List, [], ◌∷◌, ◌++◌, refl, ap, sym, ◌∙◌, ◌+◌, ◌<◌, get_or, drop, length, append_assoc}
 use Rattle.std.proofs.lemmas.List.{append-nil, drop_more}
 use Rattle.disk_model.specs.Histories.{Happening, Received, Sent, Plugged, Script, sent_in, GoesOn, SendsNext}
@@ -10,7 +10,7 @@ sent_in-append (Received b ∷ h) e = sent_in-append h e
 sent_in-append (Sent b ∷ h) e = ap (λ (xs : List (List ℕ)). b ∷ xs) (sent_in-append h e)
 sent_in-append (Plugged ∷ h) e = sent_in-append h e
 
--- an event at which nothing is sent
+-- an event that sends nothing
 pub script_stays : (s : Reading) (e : Happening) → sent_in (e ∷ []) ≡ [] → GoesOn script_of ScriptStandsFor s e s
 script_stays s e quiet = record {
   plan = refl;

@@ -55,7 +55,7 @@ no_turn : (plan : DiskPlan) (sectors : ℕ) (m : Moment) (bytes : List ℕ) → 
 no_turn plan sectors m bytes may =
     subst (λ (o : Option Command). IsTurn (pick_turn plan sectors (held m) o) bytes) (none_picked plan.order) may
 
--- nothing goes, and the disk stays as it is
+-- nothing is sent, and the disk stays as it is
 record IsStill (plan : DiskPlan) (sectors : ℕ) (m : Moment) (between : List Happening) : Type 0 where
   silent : sent_in between ≡ []
   same : moment_after plan sectors (held m) between ≡ held m
@@ -108,7 +108,7 @@ held_same plan sectors before on between h =
     ∙ ap (λ (x : Moment). moment_after plan sectors x between) now
     ∙ (held_run plan sectors before on between h).same ∙ sym now
 
--- ## Whoever listens
+-- ## A listener
 
 not_asked_told : (l : Ledger) (r : Request) → LeavesSet r → asks (held_ledger l) r true ≡ held_ledger l
 not_asked_told l (Reset true) leaves = refl

@@ -1,4 +1,4 @@
--- A byte of a medium is that of the last write which has it.
+-- A byte of a medium is that of the last write that has it.
 use Rattle.std.proofs.Common.{◌≡◌, ◌&&◌, ◌*◌, ℕ, zero, suc, ◌+◌, ◌-◌, ◌<◌, ◌≤◌, Bool, true, false, List, [], ◌∷◌, ◌++◌, All, drop, length, take, refl, ap, subst, sym, ◌∙◌, arith, inl, inr}
 use Rattle.std.specs.Prelude.{map, nat_le, nat_lt, if◌then◌else◌, slice_get}
 use Rattle.std.proofs.lemmas.Bool.{cases_eq}
@@ -13,7 +13,7 @@ use Rattle.disk_model.specs.Ledger.{Written, medium_with, with_writes}
 use Rattle.disk_model.proofs.PlaceLemmas.{length-put}
 use Rattle.disk_model.proofs.PutLemmas.{lie_where_put}
 
--- of the first one, and of the others
+-- for the first one, and for the others
 first_of : {X : Type 0} (P : X → Type 0) (x : X) (xs : List X) → All P (x ∷ xs) → P x
 first_of P x xs all = all 0 x (omega arith)
 
@@ -59,7 +59,7 @@ writes_longer medium (w ∷ later) =
     let there : length (put medium w.at w.bytes) ≤ length (with_writes (put medium w.at w.bytes) later) = writes_longer (put medium w.at w.bytes) later in
     omega (arith, here, there)
 
--- where a medium stays as long as it was, each write lies on it
+-- if a medium keeps its length, each write lies on it
 lie_by_length : (len : ℕ) (medium : List ℕ) (writes : List Written) → length medium ≡ len → length (with_writes medium writes) ≡ len
     → All (Lies len) writes
 unfolding with_writes
@@ -78,7 +78,7 @@ lie_on sectors medium writes is long =
     lie_by_length (512 * sectors) (opening_medium sectors) writes (length-map-range_with_len opening_byte 0 (512 * sectors))
     (ap length (sym is) ∙ long)
 
--- ## What stands there
+-- ## What is there
 
 -- what a write leaves at a place that is not its own
 left_in : (medium : List ℕ) (w : Written) (i : ℕ) → w.at + length w.bytes ≤ length medium → (Covers i w → ⊥)

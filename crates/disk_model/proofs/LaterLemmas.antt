@@ -272,7 +272,7 @@ module _ (ws : List Written) (rs : List ReadOut) (resetting : Bool) where
 abbrev pub new_ledger : Ledger
 new_ledger = listens empty Plugged
 
--- as the ledger of a new disk, with the reads and writes of before
+-- like the ledger of a new disk, with the earlier reads and writes
 begins_later : (before : List Happening)
     → ledger (before ++ Plugged ∷ []) ≡ later (ledger before).writes (ledger before).reads (ledger before).resetting new_ledger
 begins_later before =

@@ -148,19 +148,19 @@ answers_nothing l Activates b none shows = rw shows.viewed tt
 answers_nothing l (SetsUpPio v) b none shows = rw shows.viewed tt
 answers_nothing l (Carries d) b none shows = rw shows.1 tt
 
--- neither does one that reports an error
+-- a FIS that reports an error answers nothing either
 reports : (l : Ledger) (f : Fault) (b : List ℕ) → Shows (report f) b → AnswersOne l (seen b)
 reports l f b shows = let e = error_tells (error_of f) b shows in rw shows.viewed (λ fine. cc (e, fine))
 
-answers_by : (l : Ledger) (sectors : ℕ) (auto : Bool) (a : Answer) (later : List Answer) (b : List ℕ) → l.unanswered ≡ ended_tags (a ∷ later)
-    → AreTags (ended_tags (a ∷ later)) → Shows (answer_sent sectors auto a) b → AnswersOne l (seen b)
-answers_by l sectors auto Signature later b is tags shows = answers_nothing l (answer_sent sectors auto Signature) b tt shows
-answers_by l sectors auto Accepted later b is tags shows = answers_nothing l (answer_sent sectors auto Accepted) b tt shows
-answers_by l sectors auto Finished later b is tags shows = answers_nothing l (answer_sent sectors auto Finished) b tt shows
-answers_by l sectors auto Refused later b is tags shows = answers_nothing l (answer_sent sectors auto Refused) b tt shows
-answers_by l sectors auto PageFollows later b is tags shows = answers_nothing l (answer_sent sectors auto PageFollows) b tt shows
-answers_by l sectors auto (PageData page) later b is tags shows = answers_nothing l (answer_sent sectors auto (PageData page)) b tt shows
-answers_by l sectors auto (Ended t) later b is tags shows =
+answers_by : (l : Ledger) (sectors : ℕ) (plan : DiskPlan) (a : Answer) (later : List Answer) (b : List ℕ) → l.unanswered ≡ ended_tags (a ∷ later)
+    → AreTags (ended_tags (a ∷ later)) → Shows (answer_sent sectors plan a) b → AnswersOne l (seen b)
+answers_by l sectors plan Signature later b is tags shows = answers_nothing l (answer_sent sectors plan Signature) b tt shows
+answers_by l sectors plan Accepted later b is tags shows = answers_nothing l (answer_sent sectors plan Accepted) b tt shows
+answers_by l sectors plan Finished later b is tags shows = answers_nothing l (answer_sent sectors plan Finished) b tt shows
+answers_by l sectors plan Refused later b is tags shows = answers_nothing l (answer_sent sectors plan Refused) b tt shows
+answers_by l sectors plan PageFollows later b is tags shows = answers_nothing l (answer_sent sectors plan PageFollows) b tt shows
+answers_by l sectors plan (PageData page) later b is tags shows = answers_nothing l (answer_sent sectors plan (PageData page)) b tt shows
+answers_by l sectors plan (Ended t) later b is tags shows =
     let within : t % 32 < 32 = omega arith in
     let small : 2 ^ (t % 32) < 4294967296 = pow-lt within in
     let same : t % 32 ≡ t = omega (arith, tags.0) in
@@ -211,7 +211,7 @@ turn_answers : (plan : DiskPlan) (sectors : ℕ) (m : Moment) (owed : List Answe
     (v : Option Moving) (l : Ledger) (b : List ℕ) → IsSized plan sectors → IsQueue m.queued → l.unanswered ≡ ended_tags owed
     → AreTags (ended_tags owed) → Moves plan sectors m.medium m.queued owed s w v
     → IsTurn (turn plan sectors (under m owed s w)) b → AnswersOne l (seen b)
-turn_answers plan sectors m (x ∷ later) s w v l b sized queue is tags moves may = answers_by l sectors plan.auto x later b is tags may
+turn_answers plan sectors m (x ∷ later) s w v l b sized queue is tags moves may = answers_by l sectors plan x later b is tags may
 turn_answers plan sectors m [] None None v l b sized queue is tags moves may =
     picks_answering plan sectors (idle m) l _ b sized queue refl may
 turn_answers plan sectors m [] (Some s) None None l b sized queue is tags moves may = absurd moves

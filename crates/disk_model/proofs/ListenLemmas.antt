@@ -1,4 +1,4 @@
--- The ledger and the disk go on agreeing while the disk sends.
+-- The ledger and the disk still agree while the disk sends.
 use Rattle.std.proofs.Common.{◌≡◌, ℕ, ◌%◌, ◌^◌, true, List, ◌∷◌, Option, Some, None, drop, refl}
 use Rattle.std.proofs.lemmas.Bool.{or_parts}
 use Rattle.fis_view.specs.Seen.{seen}
@@ -60,7 +60,7 @@ answer_left plan sectors m k a later left are g = record {
   pages = are;
 }
 
--- no data move while a page is owed
+-- no data moves while a page is owed
 pub page_goes : (plan : DiskPlan) (sectors : ℕ) (medium : List ℕ) (queued : List Command) (a : Answer) (later : List Answer)
     (s : Option Started) (w : Option Writing) (v : Option Moving) → is_page a ≡ true
     → Moves plan sectors medium queued (a ∷ later) s w v → v ≡ None
@@ -79,7 +79,7 @@ data_nowhere : (l : Ledger) (v : Option Moving) (bytes : List ℕ) → v ≡ Non
 data_nowhere l v bytes none = rw none refl
 
 pub step_answer : (plan : DiskPlan) (sectors : ℕ) (m : Moment) (k : Beside) (a : Answer) (later : List Answer) (b : List ℕ)
-    → Shows (answer_sent sectors plan.auto a) b → Stands plan sectors (record m { owed = a ∷ later }) k
+    → Shows (answer_sent sectors plan a) b → Stands plan sectors (record m { owed = a ∷ later }) k
     → Agrees plan sectors (record m { owed = later }) (listens_up (shown (record m { owed = a ∷ later }) k) (seen b))
 step_answer plan sectors m k Signature later b shows g =
     rw shows.viewed (answer_left plan sectors m k Signature later k.pages g.pages g)

@@ -25,7 +25,7 @@ pub disk_opens : (d : DiskValue) → d.now ≡ opening d.sectors → DiskStandsF
 unfolding moment_after Runs
 disk_opens d is = record { run = tt; now = is }
 
--- one event more
+-- one more event
 stands_on : (d : DiskValue) (m : Moment) (h : List Happening) (e : Happening) → DiskStandsFor d h → MayHappen d.plan d.sectors d.now e → m ≡ after d.plan d.sectors d.now e → DiskStandsFor (with_now d m) (h ++ e ∷ [])
 stands_on d m h e stands may is = record {
   run = Runs-append d.plan d.sectors (opening d.sectors) h e stands.run (subst (λ (x : Moment). MayHappen d.plan d.sectors x e) stands.now may);
@@ -50,7 +50,7 @@ takes_leaves (Some t) bytes old m takes = takes.1
 same_but_now : (d new : DiskValue) → new.plan ≡ d.plan → new.sectors ≡ d.sectors → new ≡ with_now d new.now
 same_but_now d new plan sectors = λ i. record { plan = plan i; sectors = sectors i; now = new.now }
 
--- the disk sends what its turn is
+-- the disk sends its turn
 pub disk_sends : (old new : DiskValue) (bytes : List ℕ) → Gave old bytes new → SendsNext disk_plan DiskStandsFor DiskMaySend old bytes new
 disk_sends old new bytes gave =
     let at = turn old.plan old.sectors in

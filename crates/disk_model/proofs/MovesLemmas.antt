@@ -28,15 +28,15 @@ use Rattle.disk_model.proofs.FaultLemmas.{can_be_done}
 use Rattle.disk_model.proofs.LawLemmas.{agrees, sized_by, last_may, same_turn, begun_by}
 
 -- an answer moves no command's data
-answer_moves : (l : Ledger) (sectors : ℕ) (auto : Bool) (a : Answer) (b : List ℕ) → (is_page a ≡ true → l.moving ≡ None)
-    → Shows (answer_sent sectors auto a) b → MovesRight l (seen b)
-answer_moves l sectors auto Signature b none shows = rw shows.viewed tt
-answer_moves l sectors auto Accepted b none shows = rw shows.viewed tt
-answer_moves l sectors auto Finished b none shows = rw shows.viewed tt
-answer_moves l sectors auto Refused b none shows = rw shows.viewed tt
-answer_moves l sectors auto (Ended t) b none shows = rw shows.viewed tt
-answer_moves l sectors auto PageFollows b none shows = rw shows.viewed tt
-answer_moves l sectors auto (PageData page) b none shows = let is : l.moving ≡ None = none refl in rw (shows.1, is) tt
+answer_moves : (l : Ledger) (sectors : ℕ) (plan : DiskPlan) (a : Answer) (b : List ℕ) → (is_page a ≡ true → l.moving ≡ None)
+    → Shows (answer_sent sectors plan a) b → MovesRight l (seen b)
+answer_moves l sectors plan Signature b none shows = rw shows.viewed tt
+answer_moves l sectors plan Accepted b none shows = rw shows.viewed tt
+answer_moves l sectors plan Finished b none shows = rw shows.viewed tt
+answer_moves l sectors plan Refused b none shows = rw shows.viewed tt
+answer_moves l sectors plan (Ended t) b none shows = rw shows.viewed tt
+answer_moves l sectors plan PageFollows b none shows = rw shows.viewed tt
+answer_moves l sectors plan (PageData page) b none shows = let is : l.moving ≡ None = none refl in rw (shows.1, is) tt
 
 -- the DMA Setup of a chunk
 setup_next : (plan : DiskPlan) (c : Command) (moved left : ℕ) (setups : List Stretch) (b : List ℕ) → ChunkPart plan c left
@@ -141,7 +141,7 @@ turn_moves : (plan : DiskPlan) (sectors : ℕ) (m : Moment) (owed : List Answer)
     → length m.medium ≡ 512 * sectors → l.outstanding ≡ m.queued → l.moving ≡ v
     → Moves plan sectors m.medium m.queued owed s w v → IsTurn (turn plan sectors (under m owed s w)) b → MovesRight l (seen b)
 turn_moves plan sectors m (x ∷ later) s w v l b sized queue size out is moves may =
-    answer_moves l sectors plan.auto x b (λ page. is ∙ page_goes plan sectors m.medium m.queued x later s w v page moves) may
+    answer_moves l sectors plan x b (λ page. is ∙ page_goes plan sectors m.medium m.queued x later s w v page moves) may
 turn_moves plan sectors m [] None None None l b sized queue size out is moves may =
     picks_moving plan sectors (idle m) l _ b sized queue is out refl may
 turn_moves plan sectors m [] None None (Some v) l b sized queue size out is moves may = absurd moves

@@ -1,4 +1,4 @@
--- Queues in which no tag stands twice, and the answers that wait.
+-- Queues in which no tag occurs twice, and the answers that wait.
 use Rattle.std.proofs.Common.{◌≡◌, ◌==◌, ◌||◌, eqb, ℕ, zero, suc, ◌<◌, Bool, true, false, List, [], ◌∷◌, ◌++◌, Option, Some, None, refl, ap, sym, subst, ◌∙◌, arith, cond}
 use Rattle.std.specs.Prelude.{filter, find, slice_get, filter_map}
 use Rattle.std.specs.List.{list_any}
@@ -13,11 +13,11 @@ use Rattle.disk_model.specs.Ledger.{Reply, Signs, Accepts, Finishes, Refuses, Sh
 use Rattle.std.proofs.lemmas.List.{append-nil}
 use Rattle.std.proofs.lemmas.List.Elements.{filter_map-append}
 
--- whether a command of the tag is in the queue
+-- a command with the tag is in the queue
 abbrev pub has_tag : ℕ → List Command → Bool
 has_tag tag queued = list_any (λ q. q.tag == tag) queued
 
--- each command has a sector and one of 32 tags, and no other of its tag
+-- each command has a sector, one of 32 tags, and a tag of its own
 abbrev pub IsQueue : List Command → Type 0
 IsQueue [] = Unit {0}
 IsQueue (c ∷ cs) = (0 < c.count) × (c.tag < 32) × (has_tag c.tag cs ≡ false) × IsQueue cs
@@ -52,7 +52,7 @@ pub IsQueue-filter : (p : Command → Bool) (cs : List Command) → IsQueue cs �
 IsQueue-filter p [] queue = tt
 IsQueue-filter p (q ∷ cs) queue = queue_kept q (p q) (filter p cs) queue.0 queue.1 (has_tag-filter q.tag p cs queue.2) (IsQueue-filter p cs queue.3)
 
--- what is known of a command that stands in the queue
+-- what is known about a command in the queue
 pub record IsIn (queued : List Command) (c : Command) : Type 0 where
   pub some : 0 < c.count
   pub tag : c.tag < 32
@@ -108,7 +108,7 @@ tag_of _ = None
 abbrev pub ended_tags : List Answer → List ℕ
 ended_tags owed = filter_map tag_of owed
 
--- what of them answers a command or a reset
+-- the ones that answer a command or a reset
 abbrev pub reply_of : Answer → Option Reply
 reply_of Signature = Some Signs
 reply_of Accepted = Some Accepts
@@ -128,15 +128,15 @@ page_of _ = None
 abbrev pub pages_of : List Answer → List Page
 pages_of owed = filter_map page_of owed
 
--- no page more
+-- no more page
 pub pages_same : (owed more : List Answer) → pages_of more ≡ [] → pages_of (owed ++ more) ≡ pages_of owed
 pages_same owed more none = filter_map-append page_of owed more ∙ ap (λ (xs : List Page). pages_of owed ++ xs) none ∙ append-nil (pages_of owed)
 
--- one reply more
+-- one more reply
 pub replies_more : (owed more : List Answer) (r : Reply) → replies more ≡ r ∷ [] → replies (owed ++ more) ≡ replies owed ++ r ∷ []
 replies_more owed more r one = filter_map-append reply_of owed more ∙ ap (λ (xs : List Reply). replies owed ++ xs) one
 
--- no reply more
+-- no more reply
 pub replies_same : (owed more : List Answer) → replies more ≡ [] → replies (owed ++ more) ≡ replies owed
 replies_same owed more none = filter_map-append reply_of owed more ∙ ap (λ (xs : List Reply). replies owed ++ xs) none ∙ append-nil (replies owed)
 

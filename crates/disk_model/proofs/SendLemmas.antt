@@ -43,7 +43,7 @@ leads_ask plan c left gone bytes from count is f n shows =
     let here = rw (f, n) at shows in
     rw is (here, refl)
 
--- the DMA Activate of a write's chunk, where its DMA Setup has no auto-activate
+-- the DMA Activate of a write's chunk, if its DMA Setup has no auto-activate
 activates_after : (x : Sending) (auto : Bool) (gone : ℕ) (bytes : List ℕ) → (gone ≡ 0 → ⊥)
     → gone < 1 + length (activations auto) → Shows Activates bytes
     → Leads (drop gone (x ∷ activations auto)) bytes (drop (gone + 1) (x ∷ activations auto))

@@ -1,4 +1,4 @@
--- What the DMA Setups of a command named.
+-- What the DMA Setups of a command have named.
 use Rattle.std.proofs.Common.{◌≡◌, ℕ, ◌+◌, ◌-◌, ◌*◌, ◌<◌, ◌≤◌, Bool, true, false, List, [], ◌∷◌, ◌++◌, refl, ◌∙◌, arith, inl, inr}
 use Rattle.std.specs.Prelude.{All}
 use Rattle.std.proofs.lemmas.List.Elements.{All-push, All-weaker, All-nil}
@@ -10,12 +10,12 @@ use Rattle.disk_model.specs.Ledger.{Stretch}
 use Rattle.disk_model.specs.Laws.{IsApart, bytes_named}
 use Rattle.disk_model.proofs.GeometryLemmas.{moved_sectors, moved_none, ChunkPart}
 
--- of n bytes, of which so many are done, from below or from above, it names some that are
+-- it names some of the done bytes: of n bytes so many are done, counted from below or from above
 abbrev pub IsDone : (downwards : Bool) → (n done : ℕ) → Stretch → Type 0
 IsDone true n done s = n - done ≤ s.at
 IsDone false n done s = s.at + s.count ≤ done
 
--- the DMA Setups named just the bytes that have moved when so many chunks are left
+-- the DMA Setups named exactly the bytes that have moved when left chunks are left
 pub record AreSetUp (plan : DiskPlan) (c : Command) (left : ℕ) (setups : List Stretch) : Type 0 where
   pub among : All (IsDone plan.last_first (512 * c.count) (512 * moved_sectors plan c left)) setups
   pub named : bytes_named setups ≡ 512 * moved_sectors plan c left
@@ -58,7 +58,7 @@ apart_of : (downwards : Bool) (count from part moved : ℕ) → (downwards ≡ f
 apart_of true count from part moved up down fits s is = let d : from ≡ count - (moved + part) = down refl in inr (omega (arith, d, is))
 apart_of false count from part moved up down fits s is = let d : from ≡ moved = up refl in inl (omega (arith, d, is))
 
--- the next chunk was not named
+-- the next chunk was not named before
 pub set_up_apart : (plan : DiskPlan) (c : Command) (left : ℕ) (setups : List Stretch) → ChunkPart plan c left
     → AreSetUp plan c left setups → All (IsApart (512 * chunk_from plan c left) (512 * chunk_count plan c left)) setups
 set_up_apart plan c left setups part was =

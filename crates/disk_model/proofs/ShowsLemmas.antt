@@ -45,7 +45,7 @@ bits_of_auto true false = refl
 bits_of_auto false true = refl
 bits_of_auto false false = refl
 
--- whether it has auto-activate
+-- it has auto-activate
 pub auto_tells : (tag offset count : ℕ) (d auto : Bool) (b : List ℕ) → Shows (setup tag offset count d auto) b
     → is_auto b ≡ (auto && not d)
 unfolding places
@@ -64,7 +64,7 @@ pub auto_same : (auto write : Bool) → write ≡ true → (auto && not (not wri
 auto_same true write writes = rw writes refl
 auto_same false write writes = refl
 
--- Data towards the device: D is clear
+-- Data to the device: D is clear
 pub write_of_auto : (a d : ℕ) (write : Bool) → d ≡ from_bool (not write) → (a == 1 && not (d == 1)) ≡ true → write ≡ true
 write_of_auto a d true is auto = refl
 write_of_auto a d false is auto =

@@ -24,7 +24,7 @@ use Rattle.disk_model.proofs.StoreLemmas.{IsSized}
 use Rattle.disk_model.proofs.StartLemmas.{picked_in}
 use Rattle.disk_model.proofs.LawLemmas.{agrees, sized_by, begun_by}
 
--- ## A turn that is none
+-- ## No turn
 
 asks_something : (m : Moment) (w : Writing) (sends later : List Sending) (s : Sending) → sends ≡ s ∷ later
     → write_turn m w sends ≢ None

@@ -1,4 +1,4 @@
--- The ledger and the disk go on agreeing at each FIS that the disk sends.
+-- The ledger and the disk still agree after each FIS that the disk sends.
 use Rattle.std.proofs.Common.{◌≡◌, eqb, ℕ, ◌+◌, ◌-◌, ◌*◌, ◌<◌, ◌≤◌, Bool, true, false, List, [], ◌∷◌, Option, Some, None, length, drop, refl, ap, sym, subst, ◌∙◌, arith}
 use Rattle.std.specs.Prelude.{replicate, not, ◌++◌}
 use Rattle.std.proofs.lemmas.Bool.{eq-eqb}
@@ -87,7 +87,7 @@ read_carries plan sectors m k s v left b sized r held a may =
 
 -- ## A write asks
 
--- a write whose next chunk was just set up: with auto-activate its Data may come
+-- a write whose next chunk was just set up; with auto-activate its Data may come
 write_set_up : (plan : DiskPlan) (sectors : ℕ) (m : Moment) (k : Beside) (s0 : Option Started) (w0 : Option Writing)
     (v0 : Option Moving) (w : Writing) (v : Moving) (auto : Bool) → IsMoving plan sectors w.command w.left v
     → w.command.write ≡ true → v.bytes ≡ w.staged → length w.staged ≡ 512 * w.command.count → v.active ≡ false
@@ -225,7 +225,7 @@ pub picked_in : (order : Order) (queued : List Command) (c : Command) → IsQueu
 picked_in Oldest queued c queue is = is_in queued 0 c queue is
 picked_in Newest queued c queue is = is_in queued (length queued - 1) c queue is
 
--- the data of a command, as its first DMA Setup leaves them
+-- the data of a command, as its first DMA Setup leaves it
 abbrev first_moving : DiskPlan → Beside → Command → Moving
 first_moving plan k c = record {
   command = c;
@@ -238,7 +238,7 @@ first_moving plan k c = record {
   active = false;
 }
 
--- that DMA Setup, as it is heard
+-- that DMA Setup, as a listener hears it
 starts_told : (plan : DiskPlan) (m : Moment) (k : Beside) (c : Command) (b : List ℕ) → IsIn m.queued c
     → TellsSetup c.tag (512 * chunk_from plan c (chunks plan c)) (512 * chunk_count plan c (chunks plan c)) (not c.write) b
     → (auto : Bool) → is_auto b ≡ auto

@@ -1,4 +1,4 @@
--- The ledger and the disk go on agreeing while a write takes its Data.
+-- The ledger and the disk still agree after a write takes its Data.
 use Rattle.std.proofs.Common.{◌≡◌, ◌==◌, eqb, ℕ, ◌+◌, ◌-◌, ◌*◌, ◌<◌, ◌≤◌, Bool, true, false, List, [], ◌∷◌, ◌++◌, Some, length, refl, ap, sym, subst, ◌∙◌, arith, rules, tests}
 use Rattle.std.proofs.lemmas.Bool.{eq-eqb}
 use Rattle.std.proofs.lemmas.Bool.Decides.{nat_tests}
@@ -15,7 +15,7 @@ use Rattle.disk_model.proofs.SetupLemmas.{AreSetUp}
 use Rattle.disk_model.proofs.QueueLemmas.{replies_same, pages_same, tag_of, ended_tags, AreTags, AreTags-append, IsQueue-filter}
 use Rattle.disk_model.proofs.AgreeLemmas.{Agrees, Beside, Fresh, IsHeld, IsMoving, Stands, along, shown, writing}
 
--- what is known of the size of a disk
+-- what is known about the size of a disk
 pub record IsSized (plan : DiskPlan) (sectors : ℕ) : Type 0 where
   pub low : 512 ≤ plan.chunk
   pub most : sectors ≤ 65536
@@ -26,7 +26,7 @@ unfolding with_writes
 with_writes-append medium [] w = refl
 with_writes-append medium (x ∷ ws) w = with_writes-append (put medium x.at x.bytes) ws w
 
--- one command more has ended
+-- one more command has ended
 pub ended_tags-more : (owed : List Answer) (t : ℕ) → ended_tags (owed ++ Ended t ∷ []) ≡ ended_tags owed ++ t ∷ []
 ended_tags-more owed t = filter_map-append tag_of owed (Ended t ∷ [])
 
@@ -50,7 +50,7 @@ pub record IsAsking (plan : DiskPlan) (sectors : ℕ) (w : Writing) (v : Moving)
   pub writes : w.command.write ≡ true
   pub whole : length w.staged ≡ 512 * w.command.count
 
--- what is known beside a write that waits
+-- what is known in addition for a write that waits
 abbrev pub asked : DiskPlan → Beside → Writing → Moving → Beside
 asked plan k w v = along k (Some (asked_for plan w v))
 

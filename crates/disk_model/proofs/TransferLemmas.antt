@@ -1,4 +1,4 @@
--- The ledger and the disk go on agreeing while data moves.
+-- The ledger and the disk still agree while data moves.
 use Rattle.std.proofs.Common.{◌≡◌, ◌==◌, eqb, ℕ, zero, suc, ◌+◌, ◌-◌, ◌*◌, ◌<◌, ◌≤◌, Bool, true, false, List, [], ◌∷◌, ◌++◌, Option, Some, None, length, drop, take, refl, ap, sym, subst, ◌∙◌, arith, length-drop}
 use Rattle.std.specs.Prelude.{All, not, replicate, if◌then◌else◌, ◌&&◌}
 use Rattle.std.proofs.lemmas.Bool.{eq-eqb}
@@ -25,21 +25,21 @@ use Rattle.disk_model.proofs.StoreLemmas.{IsAsking, IsSized, asked, asked_for, s
 
 -- ## Bytes of reads
 
--- nothing moved yet
+-- nothing has moved yet
 pub none_moved : (downwards : Bool) (s : List ℕ) (n : ℕ) → length s ≡ n → moved_bytes downwards s n 0 ≡ replicate n 0
 none_moved true s n is =
     let rest : drop (n - 0) s ≡ [] = ap (λ i. drop i s) (let e : n - 0 ≡ length s = omega arith in e) ∙ drop-length s in
     ap (λ (xs : List ℕ). replicate (n - 0) 0 ++ xs) rest ∙ append-nil (replicate (n - 0) 0) ∙ ap (λ (i : ℕ). replicate i 0) (let e : n - 0 ≡ n = omega arith in e)
 none_moved false s n is = ap (λ (i : ℕ). replicate i 0) (let e : n - 0 ≡ n = omega arith in e)
 
--- all moved
+-- everything has moved
 pub all_moved : (downwards : Bool) (s : List ℕ) (n : ℕ) → length s ≡ n → moved_bytes downwards s n n ≡ s
 all_moved true s n is = let e : n - n ≡ 0 = omega arith in rw e refl
 all_moved false s n is =
     let e : n - n ≡ 0 = omega arith in
     rw e (append-nil (take n s) ∙ ap (λ i. take i s) (sym is) ∙ take-length s)
 
--- one chunk more moved
+-- one more chunk has moved
 pub more_moved : (downwards : Bool) (s : List ℕ) (count from part moved : ℕ) → length s ≡ 512 * count → moved + part ≤ count
     → (downwards ≡ false → from ≡ moved) → (downwards ≡ true → from ≡ count - (moved + part))
     → put (moved_bytes downwards s (512 * count) (512 * moved)) (512 * from) (take (512 * part) (drop (512 * from) s))
@@ -61,7 +61,7 @@ length-sectors_at medium lba count inside = length-take-le (512 * count) (drop (
 
 -- ## Data of the host
 
--- data that move are those of this command, with so many bytes moved and this DMA Setup
+-- the data that moves belongs to this command, with this many bytes moved and this DMA Setup
 pub same_moving : (v w : Moving) → v.command ≡ w.command → v.bytes ≡ w.bytes → v.moved ≡ w.moved → v.offset ≡ w.offset
     → v.count ≡ w.count → v.active ≡ w.active
     → v ≡ record w { before = v.before; setups = v.setups }
@@ -174,21 +174,21 @@ pub record IsSending (plan : DiskPlan) (sectors : ℕ) (medium : List ℕ) (c : 
   pub reads : c.write ≡ false
   pub before : medium_with sectors v.before ≡ medium
 
--- what is known beside such a read
+-- what is known in addition for such a read
 abbrev pub sent_so_far : DiskPlan → Moment → Beside → Command → ℕ → Moving → Beside
 sent_so_far plan m k c left v = along k (Some (so_far plan m.medium c left v))
 
--- the Data goes, and these FISes are still to come
+-- the Data is sent, and these FISes are still to come
 abbrev pub Carried : DiskPlan → ℕ → Moment → Beside → Command → ℕ → Moving → List Sending → Type 0
 Carried plan sectors m k c left v later =
     Agrees plan sectors (went m c later)
     (moves (shown m (sent_so_far plan m k c left v)) (so_far plan m.medium c left v) (chunk_bytes plan m.medium c left))
 
--- a turn of the disk, which whoever listens hears
+-- a turn of the disk, as a listener hears it
 abbrev pub Follows : DiskPlan → ℕ → Moment → Beside → Turn → List ℕ → Type 0
 Follows plan sectors m k t b = Agrees plan sectors (after_turn m t) (listens_up (shown m k) (seen b))
 
--- a chunk's place and length fit their fields
+-- the place and the length of a chunk fit their fields
 pub setup_of_chunk : (plan : DiskPlan) (sectors : ℕ) (c : Command) (left : ℕ) (b : List ℕ) → IsSized plan sectors
     → ChunkPart plan c left → c.lba + c.count ≤ sectors → c.tag < 32 → Shows (chunk_setup plan c left) b
     → TellsSetup c.tag (512 * chunk_from plan c left) (512 * chunk_count plan c left) (not c.write) b

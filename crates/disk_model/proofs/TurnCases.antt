@@ -1,4 +1,4 @@
--- The FISes that a disk may send next, by what each of them is for.
+-- The FISes that a disk may send next, by their purpose.
 use Rattle.std.proofs.Common.{◌≡◌, ℕ, ◌+◌, Bool, true, false, List, [], ◌∷◌, ◌++◌, Option, Some, None, drop, refl, ap, subst, ◌∙◌}
 use Rattle.disk_model.specs.declared.plan.DiskPlan.{DiskPlan}
 use Rattle.disk_model.specs.declared.request.Command.{Command}
@@ -28,7 +28,7 @@ IsTransfer _ = ⊥
 -- what follows in each case in which these bytes are sent
 pub record InEachCase (plan : DiskPlan) (sectors : ℕ) (queued : List Command) (owed : List Answer) (v : Option Moving) (b : List ℕ) (P : Type 0) : Type 0 where
   -- the oldest answer
-  pub answers : (a : Answer) (later : List Answer) → owed ≡ a ∷ later → Shows (answer_sent sectors plan.auto a) b → P
+  pub answers : (a : Answer) (later : List Answer) → owed ≡ a ∷ later → Shows (answer_sent sectors plan a) b → P
   -- a command that is to start fails
   pub fails : (c : Command) (f : Fault) → picked plan.order queued ≡ Some c → fault_of plan sectors c ≡ Some f → v ≡ None → Shows (report f) b → P
   -- a command starts

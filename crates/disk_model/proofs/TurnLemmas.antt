@@ -1,4 +1,4 @@
--- What a disk's turn is, from the facts that its code has at hand.
+-- What a disk's turn is, from the facts that its code has.
 use Rattle.std.proofs.lemmas.Bool.Decides.{nat_tests}
 use Rattle.std.proofs.Common.{◌≡◌, ◌≢◌, ◌==◌, ◌≤◌, length-drop, rules, tests, ℕ, ◌+◌, ◌-◌, ◌*◌, ◌<◌, Bool, true, false, List, [], ◌∷◌, Some, None, length, get_or, drop, refl, ap, sym, ◌∙◌, arith}
 use Rattle.std.specs.Prelude.{Result, Ok, Err, OnErr}
@@ -17,15 +17,15 @@ use Rattle.disk_model.proofs.SendLemmas.{sends_left_next}
 
 -- ## A turn that is known
 
--- bytes that show it, and what it leaves
+-- the bytes that show it, and what it leaves
 pub takes : (t : Turn) (s : Sending) (bytes : List ℕ) (m n : Moment) → t ≡ Some (s, m) → Shows s bytes → n ≡ m → Takes t bytes n
 takes t s bytes m n is shows same = rw is (shows, same)
 
 pub takes_answer : (plan : DiskPlan) (sectors : ℕ) (m n : Moment) (a : Answer) (later : List Answer) (bytes : List ℕ)
-    → m.owed ≡ a ∷ later → Shows (answer_sent sectors plan.auto a) bytes → n ≡ record m { owed = later }
+    → m.owed ≡ a ∷ later → Shows (answer_sent sectors plan a) bytes → n ≡ record m { owed = later }
     → Takes (turn plan sectors m) bytes n
 takes_answer plan sectors m n a later bytes owed shows same =
-    takes _ (answer_sent sectors plan.auto a) bytes (record m { owed = later }) n (rw owed refl) shows same
+    takes _ (answer_sent sectors plan a) bytes (record m { owed = later }) n (rw owed refl) shows same
 
 takes_first : (m n : Moment) (c : Command) (sends later : List Sending) (bytes : List ℕ) → Leads sends bytes later
     → n ≡ went m c later → Takes (read_turn m c sends) bytes n
@@ -73,7 +73,7 @@ takes_fault plan sectors m n c f bytes owed started writing pick bad shows same 
 
 -- ## It is the disk's turn
 
--- what holds, holds where there is an error
+-- what holds also holds if there is an error
 pub on_err_so : {T E P : Type 0} (r : Result T E) → P → OnErr r P
 on_err_so (Ok x) p = tt
 on_err_so (Err e) p = p

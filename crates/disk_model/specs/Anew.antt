@@ -1,8 +1,8 @@
--- Both ends of a disk's link begin anew: when the disk is plugged in, also again after a removal,
--- after a software reset, and with the log after an error (Serial ATA 3.x, 13.6, native command
--- queuing, and software reset; ACS-3, READ LOG EXT and the NCQ Command Error log). What was queued
--- before is given up then, and the host's end tells what the disk's end told. What the disk sent
--- before still comes up, ahead of all that it sends from then on, and the host throws it away.
+-- Both ends of a disk's link begin anew: when the disk is plugged in, for the first time or again, after a
+-- software reset, and with the read of the log after an error (Serial ATA 3.x, 13.6, native command queuing,
+-- and software reset; ACS-3, READ LOG EXT and the NCQ Command Error log). What was queued before is given up
+-- then, and the host's end tells what the disk's end told. What the disk sent before still comes up, ahead of
+-- all that it sends from then on, and the host throws it away.
 use Rattle.std.specs.Prelude.{ℕ, ◌≡◌, true, false, List, [], ◌∷◌, ◌++◌, None, Result, Ok}
 use Rattle.fis_view.specs.Seen.{seen}
 use Rattle.fis_view.specs.declared.view.Fis.{Fis}
@@ -20,14 +20,14 @@ use Rattle.disk_model.specs.Ledger.{ledger}
 
 -- ## Where both ends may begin anew
 
--- there is no error mode, and no queued command is outstanding, moves data or is to be answered
+-- there is no error mode, and no queued command is outstanding, moves data or waits for its answer
 pub record IsClear (l : Ledger) : Type 0 where
   pub failed : l.failed ≡ false
   pub outstanding : l.outstanding ≡ []
   pub unanswered : l.unanswered ≡ []
   pub moving : l.moving ≡ None
 
--- and this is all that is still to come
+-- only this is still to come
 pub record OwesOnly (l : Ledger) (replies : List Reply) (wanted : List Wanted) : Type 0 where
   pub clear : IsClear l
   pub awaited : l.awaited ≡ replies
@@ -39,7 +39,7 @@ pub record IsRequest (bytes : List ℕ) (request : Request) : Type 0 where
   pub is : seen bytes ≡ Ok (view.RegH2D frame)
   pub asks : request_of frame ≡ request
 
--- neither a reset nor the log is asked for
+-- it asks neither for a reset nor for the log
 abbrev pub IsPassed : Request → Type 0
 IsPassed (asked.Reset on) = ⊥
 IsPassed asked.ReadErrorLog = ⊥
@@ -52,29 +52,29 @@ abbrev pub IsUnheard : Result Fis FisFault → Type 0
 IsUnheard (Ok (view.RegH2D f)) = IsPassed (request_of f)
 IsUnheard _ = Unit {0}
 
--- a disk in its error mode hears none of these, and sends none
+-- a disk in its error mode hears none of these, and sends nothing
 abbrev pub AreUnheard : List Happening → Type 0
 AreUnheard [] = Unit {0}
 AreUnheard (Received bytes ∷ later) = IsUnheard (seen bytes) × AreUnheard later
 AreUnheard (Sent bytes ∷ later) = ⊥
 AreUnheard (Plugged ∷ later) = ⊥
 
--- Where they may, whatever happened before, and what the disk is to send then.
+-- Where both ends may begin anew, whatever happened before, and what the disk then owes.
 pub record BeginsAnew : Type 0 where
-  -- the disk is plugged in, for the first time or again: it is to sign
+  -- the disk is plugged in, for the first time or again: it owes its signature
   pub plugged : (before : List Happening)
       → OwesOnly (ledger (before ++ Plugged ∷ [])) (Signs ∷ []) []
-  -- it is reset: SRST was set and then cleared
+  -- the disk is reset: SRST was set and then cleared
   pub reset : (before : List Happening) (on off : List ℕ) → IsRequest on (asked.Reset true)
       → IsRequest off (asked.Reset false)
       → OwesOnly (ledger ((before ++ Received on ∷ []) ++ Received off ∷ [])) (Signs ∷ []) []
-  -- it reported an error, and its log is read
+  -- the disk reported an error, and its log is read
   pub log : (before between : List Happening) (error log : List ℕ) → reports (seen error) ≡ true
       → AreUnheard between → IsRequest log asked.ReadErrorLog
       → OwesOnly (ledger (((before ++ Sent error ∷ []) ++ between) ++ Received log ∷ []))
       (ShowsPage ∷ []) (LogOf (ledger (before ++ Sent error ∷ [])).failure ∷ [])
 
--- Until then it rests: while SRST is set, and in its error mode.
+-- Until then the disk rests: while SRST is set, and in its error mode.
 pub record RestsUntil : Type 0 where
   pub held : (before : List Happening) (on : List ℕ) → IsRequest on (asked.Reset true)
       → Rests (ledger (before ++ Received on ∷ []))
@@ -89,9 +89,9 @@ RestingIsSilent =
 
 -- ## The two ends from then on
 
--- At the disk's end the first list happened, and since both ends began anew no error was reported;
--- at the host's end the second. The third is on its way to the disk. The fourth, oldest first, the
--- disk sent before they began anew, and the host throws it away; the fifth comes after that.
+-- At the disk's end the first list happened, and no error was reported since both ends began anew. At the
+-- host's end the second happened. The third is on its way to the disk. The fourth, oldest first, is what the
+-- disk sent before they began anew; the host throws it away. The fifth comes after that.
 pub data IsLinkedOn (base : List Happening) : List Happening → List Happening → List (List ℕ)
     → List (List ℕ) → List (List ℕ) → Type 0 where
   begins : (stale : List (List ℕ)) → IsClear (ledger base) → IsLinkedOn base base base [] stale []
@@ -111,14 +111,13 @@ pub data IsLinkedOn (base : List Happening) : List Happening → List Happening 
       → IsLinkedOn base disk host down [] (bytes ∷ up)
       → IsLinkedOn base disk (host ++ Sent bytes ∷ []) down [] up
 
--- the host of this end is careful since then
+-- the host at this end has been careful since then
 pub record IsCarefulSince (base host : List Happening) : Type 0 where
   pub since : List Happening
   pub is : host ≡ base ++ since
   pub fits : FitsAll (ledger base) since
 
--- So both ends tell the same, but for what is on its way, whatever went wrong before they began
--- anew.
+-- So both ends tell the same, except for what is on its way, whatever went wrong before they began anew.
 abbrev pub EndsTellTheSameAnew : Type 0
 EndsTellTheSameAnew =
     (plan : DiskPlan) (sectors : ℕ) (base disk host : List Happening)
@@ -126,7 +125,7 @@ EndsTellTheSameAnew =
     → IsDiskRun plan sectors disk → IsLinkedOn base disk host down stale up
     → IsCarefulSince base host → EndsAgree sectors disk host down up
 
--- Two ends that are linked since a new disk was plugged in began anew then.
+-- Two ends that are linked since a new disk was plugged in began anew at that point.
 abbrev pub LinkedSinceNew : Type 0
 LinkedSinceNew =
     (disk host : List Happening) (down up : List (List ℕ)) → IsLinked disk host down up

@@ -29,13 +29,13 @@ use Rattle.disk_model.specs.Sendings.{Sending, answer_sent}
 use Rattle.disk_model.specs.Chunks.{chunks, chunk_from, chunk_count, sends_left, asks_for, put, fault_of}
 use Rattle.disk_model.specs.Chunks.{report}
 
--- a started read, and what of it is still to be sent
+-- a started read, and what it still has to send
 pub record Started : Type 0 where
   pub command : Command
   pub sends : List Sending
 
--- a started write: what its next chunk still sends, the chunks that have not come, and its bytes as far as
--- they came
+-- a started write: what it still sends for its next chunk, how many chunks have not come, and its bytes as
+-- far as they have come
 pub record Writing : Type 0 where
   pub command : Command
   pub sends : List Sending
@@ -58,13 +58,13 @@ pub record DiskValue : Type 0 where
   pub sectors : ℕ
   pub now : Moment
 
--- the disk, with another moment
+-- the disk with another moment
 abbrev pub with_now : DiskValue → Moment → DiskValue
 with_now d m = record { plan = d.plan; sectors = d.sectors; now = m }
 
 -- ## What the disk sends next, and what it is then
 
--- a FIS, and what the disk is after it
+-- a FIS, and the disk after it
 abbrev pub Turn : Type 0
 Turn = Option (Sending × Moment)
 
@@ -74,7 +74,7 @@ without queued c = filter (λ q. not (q.tag == c.tag)) queued
 abbrev pub ended : Moment → Command → Moment
 ended m c = record m { queued = without m.queued c; owed = Ended c.tag ∷ []; started = None; writing = None }
 
--- a FIS of the read went, and these are still to come; with the last the command ends
+-- a FIS of the read was sent, and these are still to come; the last FIS ends the command
 abbrev pub went : Moment → Command → List Sending → Moment
 went m c [] = ended m c
 went m c (s ∷ later) = record m { started = Some (record { command = c; sends = s ∷ later }) }
@@ -83,7 +83,7 @@ abbrev pub read_turn : Moment → Command → List Sending → Turn
 read_turn m c [] = None
 read_turn m c (s ∷ later) = Some (s, went m c later)
 
--- a FIS of the write goes; where none is to go, it waits for Data
+-- a FIS of the write is sent; if none is left to send, the write waits for Data
 abbrev pub write_turn : Moment → Writing → List Sending → Turn
 write_turn m w [] = None
 write_turn m w (s ∷ later) = Some (s, record m { writing = Some (record w { sends = later }) })
@@ -108,7 +108,7 @@ abbrev pub begun : DiskPlan → Moment → Command → Option Fault → Turn
 begun plan m c None = starts plan m c c.write
 begun plan m c (Some fault) = Some (report fault, stopped m fault)
 
--- the command that is started next
+-- the command that starts next
 abbrev pub picked : Order → List Command → Option Command
 picked Oldest queued = slice_get queued 0
 picked Newest queued = slice_get queued (length queued - 1)
@@ -127,10 +127,10 @@ idle_turn plan sectors m (Some s) = read_turn m s.command s.sends
 
 abbrev pub answer_turn : DiskPlan → ℕ → Moment → List Answer → Turn
 answer_turn plan sectors m [] = idle_turn plan sectors m m.started
-answer_turn plan sectors m (a ∷ later) = Some (answer_sent sectors plan.auto a, record m { owed = later })
+answer_turn plan sectors m (a ∷ later) = Some (answer_sent sectors plan a, record m { owed = later })
 
--- the oldest answer, else the next FIS of the started command, else the first of the command that is started
--- now
+-- the oldest answer, or else the next FIS of the started command, or else the first FIS of the command that
+-- starts now
 abbrev pub turn : DiskPlan → ℕ → Moment → Turn
 turn plan sectors m = answer_turn plan sectors m m.owed
 
@@ -142,7 +142,7 @@ owes m a = record m { owed = m.owed ++ a ∷ [] }
 abbrev pub owes_page : Moment → Page → Moment
 owes_page m page = record m { owed = m.owed ++ PageFollows ∷ PageData page ∷ [] }
 
--- nothing but this answer is owed, and nothing is queued
+-- only this answer is owed, and nothing is queued
 abbrev pub owes_alone : Moment → Answer → Option Fault → Moment
 owes_alone m a fault = record m { queued = []; fault = fault; owed = a ∷ []; started = None; writing = None }
 
@@ -150,12 +150,12 @@ owes_alone m a fault = record m { queued = []; fault = fault; owed = a ∷ []; s
 abbrev pub cleared : Moment → Moment
 cleared m = record m { queued = []; fault = None; owed = []; started = None; writing = None }
 
--- where commands are queued, a refusal drops them
+-- a refusal drops the queued commands, if there are any
 abbrev pub refused : Moment → List Command → Moment
 refused m [] = owes m Refused
 refused m (c ∷ cs) = owes_alone m Refused (Some Mixed)
 
--- a command that is not queued is refused where others are queued
+-- a command that is not queued is refused while others are queued
 abbrev pub flushed : Moment → List Command → Moment
 flushed m [] = owes m Finished
 flushed m (c ∷ cs) = refused m (c ∷ cs)
@@ -173,7 +173,7 @@ abbrev pub queues : Moment → Command → Moment
 queues m c = (if list_any (λ q. q.tag == c.tag) m.queued then refused m m.queued
     else record m { queued = m.queued ++ c ∷ []; owed = m.owed ++ Accepted ∷ [] })
 
--- whether SRST holds the disk in its software reset
+-- SRST holds the disk in its software reset
 abbrev pub is_held : Option Fault → Bool
 is_held (Some Held) = true
 is_held _ = false
@@ -184,7 +184,7 @@ restarted m true =
     owes (record m { resetting = false; fault = if is_held m.fault then None else m.fault }) Signature
 restarted m false = m
 
--- In a software reset nothing but SRST is heard, in the error mode nothing but SRST and the log.
+-- In a software reset only SRST is heard, in the error mode only SRST and the read of the log.
 abbrev pub received : Moment → Request → Option Fault → Moment
 received m (Reset true) mode = record (cleared m) { resetting = true; fault = Some Held }
 received m (Reset false) mode = restarted m m.resetting
@@ -195,7 +195,7 @@ received m Identify None = identified m m.queued
 received m Other None = refused m m.queued
 received m _ (Some fault) = m
 
--- the bytes of the chunk that a write waits for; at the last the medium changes
+-- the bytes of the chunk that a write waits for; the last chunk changes the medium
 abbrev pub stored : DiskPlan → Moment → Writing → List ℕ → Moment
 stored plan m w bytes =
     let staged = put w.staged (512 * chunk_from plan w.command w.left) bytes in
@@ -214,13 +214,13 @@ stored plan m w bytes =
       });
     })
 
--- Data counts where a write waits for a chunk of just its length
+-- Data counts only if a write waits for a chunk of exactly its length
 abbrev pub data_taken : DiskPlan → Moment → Option Writing → List ℕ → Moment
 data_taken plan m None bytes = m
 data_taken plan m (Some w) bytes = (if (length w.sends == 0)
     && (length bytes == 512 * chunk_count plan w.command w.left) then stored plan m w bytes else m)
 
--- a Register FIS and Data alone are heard
+-- only a Register FIS and Data are heard
 abbrev pub heard : DiskPlan → Moment → Result Fis FisFault → Moment
 heard plan m (Ok (view.RegH2D f)) = received m (request_of f) m.fault
 heard plan m (Ok (view.Payload f)) = data_taken plan m m.writing (drop 4 f)
@@ -241,7 +241,7 @@ unfoldable pub moment_after : DiskPlan → ℕ → Moment → List Happening →
 moment_after plan sectors m [] = m
 moment_after plan sectors m (e ∷ later) = moment_after plan sectors (after plan sectors m e) later
 
--- byte i of sector l opens as l + i
+-- at first, byte i of sector l is l + i
 abbrev pub opening_byte : ℕ → ℕ
 opening_byte at = (at / 512 + at % 512) % 256
 

@@ -1,5 +1,5 @@
--- A disk in software reset takes no command: from the FIS that sets SRST on, until one that clears it comes
--- or the disk is plugged in (Serial ATA 3.x, software reset protocol; ACS-3, Device Control, SRST).
+-- A disk in software reset takes no command, from the FIS that sets SRST until a FIS clears it or the disk is
+-- plugged in (Serial ATA 3.x, software reset protocol; ACS-3, Device Control, SRST).
 use Rattle.std.specs.Prelude.{ℕ, ◌≡◌, true, false, List, [], ◌∷◌, ◌++◌, Result, Ok}
 use Rattle.fis_view.specs.Seen.{seen}
 use Rattle.fis_view.specs.declared.view.Fis.{Fis}
@@ -14,7 +14,7 @@ use Rattle.disk_model.specs.Ledger.{Signs, ledger}
 use Rattle.disk_model.specs.Requests.{request_of}
 use Rattle.disk_model.specs.Runs.{IsDiskRun, moment}
 
--- it does not clear SRST: any command, or SRST once more
+-- it does not clear SRST: it is a command, or sets SRST once more
 abbrev pub LeavesSet : Request → Type 0
 LeavesSet (asked.Reset true) = Unit {0}
 LeavesSet (asked.Reset false) = ⊥
@@ -24,28 +24,28 @@ LeavesSet asked.Identify = Unit {0}
 LeavesSet asked.Flush = Unit {0}
 LeavesSet asked.Other = Unit {0}
 
--- nor does a FIS that is no Register FIS
+-- a FIS that is no Register FIS does not clear SRST either
 abbrev pub LeavesReset : Result Fis FisFault → Type 0
 LeavesReset (Ok (view.RegH2D f)) = LeavesSet (request_of f)
 LeavesReset _ = Unit {0}
 
--- whatever comes and goes but for that, and for being plugged in
+-- whatever comes and goes, except a FIS that clears SRST and being plugged in
 abbrev pub NoneEndsReset : List Happening → Type 0
 NoneEndsReset [] = Unit {0}
 NoneEndsReset (Received bytes ∷ later) = LeavesReset (seen bytes) × NoneEndsReset later
 NoneEndsReset (Sent bytes ∷ later) = NoneEndsReset later
 NoneEndsReset (Plugged ∷ later) = ⊥
 
--- a run of a disk in which SRST is set, and stays so
+-- a run of a disk in which SRST is set and stays set
 pub record IsHeldRun (plan : DiskPlan) (sectors : ℕ) (before : List Happening) (on : List ℕ)
     (between : List Happening) : Type 0 where
   pub sets : IsRequest on (asked.Reset true)
   pub stays : NoneEndsReset between
   pub run : IsDiskRun plan sectors ((before ++ Received on ∷ []) ++ between)
 
--- As long as SRST is set a disk sends nothing, and is what it was as SRST was set, whatever comes; nor does
--- anything that comes count for whoever listens on its link. So as SRST is cleared it owes its signature, and
--- nothing else.
+-- As long as SRST is set, a disk sends nothing. Whatever comes, it stays as it was when SRST was set, and a
+-- listener on its link counts nothing of it. So when SRST is cleared, the disk owes its signature and nothing
+-- else.
 pub record TakesNoCommand : Type 0 where
   pub silent : (plan : DiskPlan) (sectors : ℕ) (before : List Happening) (on : List ℕ)
       (between : List Happening)

@@ -15,7 +15,7 @@ use Rattle.disk_model.specs.Chunks.{sends_left, asks_for, chunks}
 use Rattle.disk_model.specs.Disks.{Moment, Started, Writing, DiskValue, turn}
 use Rattle.disk_model.specs.Runs.{Gave}
 
--- what a read still sends, its bytes read from the medium
+-- what a read still sends, with its bytes read from the medium
 abbrev pub sends_of : DiskPlan → List ℕ → Reading → Bool → List Sending
 sends_of plan medium r false = sends_left plan medium r.command r.left
 sends_of plan medium r true = drop 1 (sends_left plan medium r.command r.left)
@@ -26,7 +26,7 @@ started_by plan medium (Write w) = None
 started_by plan medium (Read r) =
     Some (record { command = r.command; sends = sends_of plan medium r r.set_up })
 
--- the write, its bytes in the buffer
+-- the write, with its bytes in the buffer
 abbrev pub writing_by : DiskPlan → List ℕ → Transfer → Option Writing
 writing_by plan staged Idle = None
 writing_by plan staged (Read r) = None
@@ -75,26 +75,26 @@ pub record IsDisk (d : Inside) : Type 0 where
   pub counts : All (λ c. 0 < c.count) d.queue.items
   pub staged : IsStaged d.staged.items d.transfer
   pub transfer : IsTransfer d.plan d.sectors d.transfer
-  -- there are places for 64 answers, and for 32 commands, one for each tag
+  -- there is room for 64 answers, and for 32 commands, one for each tag
   pub answers : 64 ≤ d.answers.cap
   pub queue : 32 ≤ vec_capacity d.queue
 
--- So many answers wait, or so many commands are queued, that more may want memory: of 64 places a page takes
--- two.
+-- So many answers wait, or so many commands are queued, that more may need memory. A page takes two of the 64
+-- places.
 abbrev pub IsFull : Moment → Type 0
 IsFull m = (63 ≤ length m.owed) ⊎ (32 ≤ length m.queued)
 
--- the disk is full, and is to owe more than it did
+-- the disk is full, and is to owe more than before
 pub record WantsRoom (old new : Moment) : Type 0 where
   pub full : IsFull old
   pub more : length old.owed < length new.owed
 
--- what it sends after its next FIS
+-- what a read sends after its next FIS
 abbrev pub sends_after : DiskPlan → List ℕ → Reading → Bool → List Sending
 sends_after plan medium r false = sends_of plan medium r true
 sends_after plan medium r true = sends_left plan medium r.command (r.left - 1)
 
--- the first FIS of the list is the one that these bytes show, and these are the others
+-- these bytes show the first FIS of the list, and these are the others
 abbrev pub Leads : List Sending → List ℕ → List Sending → Type 0
 Leads [] bytes later = ⊥
 Leads (s ∷ rest) bytes later = Shows s bytes × (rest ≡ later)
@@ -118,7 +118,7 @@ Gives old (Some frame) new = Gave old frame.bytes new
 
 -- ---- the search for a bad sector
 
--- the sector is one of the command's
+-- the sector is a sector of the command
 abbrev pub is_of : Command → ℕ → Bool
 is_of c lba = nat_le c.lba lba && nat_lt (lba - c.lba) c.count
 
@@ -126,6 +126,6 @@ is_of c lba = nat_le c.lba lba && nat_lt (lba - c.lba) c.count
 abbrev pub lower_of : Option ℕ → ℕ → ℕ
 lower_of found bad = option_map_or (λ lowest. min lowest bad) found bad
 
--- the lowest bad sector of the command that was found, with one more that is bad
+-- the lowest bad sector of the command found so far, with one more bad sector
 abbrev pub lower_bad : Command → Option ℕ → ℕ → Option ℕ
 lower_bad c found bad = if is_of c bad then Some (lower_of found bad) else found

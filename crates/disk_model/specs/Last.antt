@@ -1,4 +1,4 @@
--- What a byte of a medium is once several writes ended: that of the last write which has it (ACS-3, WRITE
+-- What a byte of a medium is after several writes ended: that of the last write that has it (ACS-3, WRITE
 -- FPDMA QUEUED).
 use Rattle.std.specs.Prelude.{ℕ, ◌≡◌, ◌+◌, ◌*◌, ◌<◌, ◌≤◌, List, ◌∷◌, ◌++◌, All, length, slice_get}
 use Rattle.disk_model.specs.Ledger.{Written, medium_with}
@@ -8,11 +8,11 @@ pub record Covers (i : ℕ) (w : Written) : Type 0 where
   pub from : w.at ≤ i
   pub to : i < w.at + length w.bytes
 
--- no write of these has byte i
+-- none of these writes has byte i
 abbrev pub NoneCovers : ℕ → List Written → Type 0
 NoneCovers i writes = All (λ w. Covers i w → ⊥) writes
 
--- the bytes of the write, where it has any, have their places on a medium of so many
+-- the bytes of the write, if it has any, lie on a medium of this many bytes
 abbrev pub Lies : ℕ → Written → Type 0
 Lies len w = 0 < length w.bytes → w.at + length w.bytes ≤ len
 
@@ -20,7 +20,7 @@ Lies len w = 0 < length w.bytes → w.at + length w.bytes ≤ len
 abbrev pub LieOn : ℕ → List Written → Type 0
 LieOn sectors writes = All (Lies (512 * sectors)) writes
 
--- A byte of a write stands on the medium as long as no later write has it.
+-- A byte of a write is on the medium as long as no later write has it.
 abbrev pub ShowsTheLast : Type 0
 ShowsTheLast =
     (sectors i : ℕ) (before later : List Written) (w : Written) → LieOn sectors (before ++ w ∷ later)

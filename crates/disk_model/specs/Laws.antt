@@ -1,7 +1,7 @@
--- What each FIS that a disk sends has to be, by the ledger of the FISes before it (Serial ATA 3.x, 10.5, FIS
+-- What each FIS that a disk sends must be, by the ledger of the FISes before it (Serial ATA 3.x, 10.5, FIS
 -- types, and 13.6, native command queuing; ACS-3, READ and WRITE FPDMA QUEUED, NCQ Command Error log). Of the
--- disk's plan only what no FIS tells is named: which sectors are bad, how many there are, and whose turn it
--- is.
+-- disk's plan, only what no FIS tells is named: which sectors are bad, how many sectors there are, and whose
+-- turn it is.
 use Rattle.std.specs.Prelude.{ℕ, ◌≡◌, ◌+◌, ◌*◌, ◌<◌, ◌≤◌, ◌==◌, ◌⊎◌, true, false, not, List, [], ◌∷◌, ◌++◌}
 use Rattle.std.specs.Prelude.{drop, length, sum_by, find, All, Option, Some, None, Result, Ok}
 use Rattle.std.specs.Int.{from_bool}
@@ -29,15 +29,15 @@ use Rattle.fis_view.specs.Seen.{seen}
 abbrev pub bytes_named : List Stretch → ℕ
 bytes_named setups = sum_by (λ s. s.count) setups
 
--- count bytes from at on have none in common with what a DMA Setup named
+-- count bytes from at on share none with what a DMA Setup named
 abbrev pub IsApart : (at count : ℕ) → Stretch → Type 0
 IsApart at count s = (s.at + s.count ≤ at) ⊎ (at + count ≤ s.at)
 
--- A DMA Setup of a command of which so many bytes moved, and which these DMA Setups named before.
+-- A DMA Setup of a command of which this many bytes moved, after these DMA Setups of the same command.
 pub record SetsUpNext (c : Command) (moved : ℕ) (setups : List Stretch) (f : List ℕ) : Type 0 where
   -- its buffer identifier is the command's tag
   pub tag : field Setup BufferId f ≡ c.tag
-  -- D is set where the data goes to the host
+  -- D is set if the data goes to the host
   pub direction : field Setup D f ≡ from_bool (not c.write)
   -- all bytes that were named before have moved
   pub in_turn : moved ≡ bytes_named setups
@@ -46,12 +46,12 @@ pub record SetsUpNext (c : Command) (moved : ℕ) (setups : List Stretch) (f : L
   -- and none that was named before
   pub apart : All (IsApart (field Setup Offset f) (field Setup table.Count f)) setups
 
--- the first DMA Setup of a command: it is that of an outstanding one
+-- the first DMA Setup of a command belongs to an outstanding one
 abbrev pub StartsOne : Option Command → List ℕ → Type 0
 StartsOne None f = ⊥
 StartsOne (Some c) f = SetsUpNext c 0 [] f
 
--- a DMA Setup, which does not come while a write waits for Data
+-- a DMA Setup does not come while a write waits for Data
 abbrev pub SetsUpRight : Ledger → Option Moving → List ℕ → Type 0
 SetsUpRight l None f = StartsOne (find (λ c. c.tag == field Setup BufferId f) l.outstanding) f
 SetsUpRight l (Some v) f = (v.active ≡ false) × SetsUpNext v.command v.moved v.setups f
@@ -66,13 +66,13 @@ abbrev pub ActivatesRight : Option Moving → Type 0
 ActivatesRight None = ⊥
 ActivatesRight (Some v) = AsksOnce v
 
--- Data of a read is as long as the DMA Setup before it says, which no Data followed.
+-- Data of a read has the length that the DMA Setup before it gives, and is the first Data after it.
 pub record CarriesNext (v : Moving) (bytes : List ℕ) : Type 0 where
   pub reads : v.command.write ≡ false
   pub count : length bytes ≡ v.count
   pub in_turn : v.moved + length bytes ≡ bytes_named v.setups
 
--- where no command's data moves it is a page
+-- if no command's data moves, it is a page
 abbrev pub CarriesRight : Option Moving → List ℕ → Type 0
 CarriesRight None bytes = Unit {0}
 CarriesRight (Some v) bytes = CarriesNext v bytes
@@ -92,7 +92,7 @@ pub record PassesEnd (sectors : ℕ) (c : Command) (error lba : ℕ) : Type 0 wh
   pub error_is : error ≡ 0x10
   pub lba_is : lba ≡ c.lba
 
--- It is a read within the disk, and this is the first of its sectors that is bad: Uncorrectable.
+-- It is a read within the disk, and this is its first bad sector: Uncorrectable.
 pub record ReadsBad (plan : DiskPlan) (sectors : ℕ) (c : Command) (error lba : ℕ) : Type 0 where
   pub inside : c.lba + c.count ≤ sectors
   pub reads : c.write ≡ false
@@ -108,7 +108,7 @@ pub record CanBeDone (plan : DiskPlan) (sectors : ℕ) (c : Command) : Type 0 wh
   pub inside : c.lba + c.count ≤ sectors
   pub good : c.write ≡ false → first_bad c plan.bad.items ≡ None
 
--- the first DMA Setup of a command: it is the one whose turn it is, and it can be done
+-- the first DMA Setup of a command belongs to the command whose turn it is, and that command can be done
 abbrev pub StartsNext : DiskPlan → ℕ → Option Command → (tag : ℕ) → Type 0
 StartsNext plan sectors None tag = ⊥
 StartsNext plan sectors (Some c) tag = (tag ≡ c.tag) × CanBeDone plan sectors c
@@ -118,7 +118,7 @@ abbrev pub FailsNext : DiskPlan → ℕ → Option Command → (error : ℕ) →
 FailsNext plan sectors None error = ⊥
 FailsNext plan sectors (Some c) error = (lba : ℕ) × Fails plan sectors c error lba
 
--- the log names the command that failed, its error, and where
+-- the log names the command that failed, its error and the LBA
 abbrev pub LogsNext : DiskPlan → ℕ → Option Command → (error : ℕ) → List ℕ → Type 0
 LogsNext plan sectors None error bytes = ⊥
 LogsNext plan sectors (Some c) error bytes =
@@ -127,7 +127,7 @@ LogsNext plan sectors (Some c) error bytes =
 -- the page that was asked for first
 abbrev pub IsPage : DiskPlan → ℕ → List Wanted → List ℕ → Type 0
 IsPage plan sectors [] bytes = ⊥
-IsPage plan sectors (IdentifyData ∷ later) bytes = bytes ≡ identify_data sectors plan.auto
+IsPage plan sectors (IdentifyData ∷ later) bytes = bytes ≡ identify_data sectors plan
 IsPage plan sectors (LogOf None ∷ later) bytes = bytes ≡ error_log None
 IsPage plan sectors (LogOf (Some f) ∷ later) bytes =
     LogsNext plan sectors (picked plan.order f.among) f.error bytes
@@ -137,13 +137,13 @@ abbrev pub FirstRight : DiskPlan → ℕ → Ledger → Option Moving → (tag :
 FirstRight plan sectors l None tag = StartsNext plan sectors (picked plan.order l.outstanding) tag
 FirstRight plan sectors l (Some v) tag = Unit {0}
 
--- Data where no command's data moves
+-- Data while no command's data moves
 abbrev pub PageRight : DiskPlan → ℕ → Ledger → Option Moving → List ℕ → Type 0
 PageRight plan sectors l None bytes = IsPage plan sectors l.pages bytes
 PageRight plan sectors l (Some v) bytes = Unit {0}
 
--- A command starts where it can be done, an error is that of the command whose turn it is, and the log tells
--- it.
+-- A command starts only if it can be done. An error is that of the command whose turn it is, and the log
+-- tells it.
 abbrev pub ErrsRight : DiskPlan → ℕ → Ledger → Result Fis FisFault → Type 0
 ErrsRight plan sectors l (Ok (view.SetBits f)) = has_error f ≡ true → (l.moving ≡ None)
     × FailsNext plan sectors (picked plan.order l.outstanding) (field Bits table.Error f)
@@ -153,7 +153,7 @@ ErrsRight plan sectors l _ = Unit {0}
 
 -- ## Answers to commands
 
--- a Register FIS or a PIO Setup FIS with these fields; first is LBA and Count
+-- a Register FIS or a PIO Setup FIS with these fields; first is in LBA and Count
 pub record IsRegister (kind : Kind) (i status error first : ℕ) (f : List ℕ) : Type 0 where
   pub interrupt : field kind I f ≡ i
   pub status_is : field kind Status f ≡ status
@@ -161,7 +161,7 @@ pub record IsRegister (kind : Kind) (i status error first : ℕ) (f : List ℕ) 
   pub lba : field kind Lba f ≡ first
   pub count : field kind table.Count f ≡ first
 
--- ERR, bit 0 of Status, is set just where the command is refused.
+-- ERR, bit 0 of Status, is set exactly if the command is refused.
 abbrev pub Answers : Reply → List ℕ → Type 0
 Answers Signs f = IsRegister D2h 0 0x50 1 1 f
 Answers Accepts f = IsRegister D2h 0 0x50 0 0 f
@@ -179,7 +179,7 @@ ShowsFirst (ShowsPage ∷ later) f =
     IsRegister Pio 1 0x58 0 0 f × (field Pio D f ≡ 1) × (field Pio Transfer f ≡ 512)
 ShowsFirst _ f = ⊥
 
--- a Register FIS, and a PIO Setup, answers what came first and was not answered
+-- a Register FIS or a PIO Setup answers what came first among what was not answered
 abbrev pub AnswersRight : Ledger → Result Fis FisFault → Type 0
 AnswersRight l (Ok (view.RegD2H f)) = AnswersFirst l.awaited f
 AnswersRight l (Ok (view.PioSetup f)) = ShowsFirst l.awaited f
@@ -192,7 +192,7 @@ abbrev pub WaitsWell : Ledger → Option Moving → Type 0
 WaitsWell l None = l.outstanding ≡ []
 WaitsWell l (Some v) = (v.command.write ≡ true) × (v.active ≡ true)
 
--- whatever is to be answered was answered
+-- everything that is to be answered was answered
 pub record OwesNothing (l : Ledger) : Type 0 where
   pub awaited : l.awaited ≡ []
   pub unanswered : l.unanswered ≡ []
@@ -206,13 +206,13 @@ SilentRight plan sectors history =
 
 -- ## Every run
 
--- in each run of each disk, of the ledger before a FIS that it sends, and of that FIS
+-- for each run of each disk: the ledger before a FIS that it sends, and that FIS
 abbrev pub AtEachSending : (DiskPlan → ℕ → Ledger → Result Fis FisFault → Type 0) → Type 0
 AtEachSending Law =
     (plan : DiskPlan) (sectors : ℕ) (history : List Happening) (bytes : List ℕ) → IsSize plan sectors →
     IsDiskRun plan sectors (history ++ Sent bytes ∷ []) → Law plan sectors (ledger history) (seen bytes)
 
--- of each run of each disk
+-- for each run of each disk
 abbrev pub AfterEachRun : (DiskPlan → ℕ → List Happening → Type 0) → Type 0
 AfterEachRun Law =
     (plan : DiskPlan) (sectors : ℕ) (history : List Happening) → IsSize plan sectors →

@@ -1,8 +1,8 @@
--- What the FISes of a disk tell whoever listens on its link: which queued commands are outstanding, what of
--- their data moved and where it belongs, which ended and in what order, and what the host is still to hear
+-- What the FISes of a disk tell a listener on its link: which queued commands are outstanding, what of their
+-- data moved and where it belongs, which commands ended and in what order, and what the host is still to hear
 -- (Serial ATA 3.x, 10.5, FIS types, and 13.6, native command queuing; ACS-3, READ and WRITE FPDMA QUEUED).
--- Nothing here knows how the disk goes about its commands: no plan, no chunk. Places come from the DMA
--- Setups, bytes from the Data FISes, lengths from the commands.
+-- The ledger does not know how the disk goes about its commands: it has no plan and no chunk. Places come
+-- from the DMA Setups, bytes from the Data FISes, lengths from the commands.
 use Rattle.std.specs.Prelude.{ℕ, ◌≡◌, ◌+◌, ◌*◌, ◌%◌, ◌^◌, ◌==◌, ◌&&◌, Bool, true, false, not, List, [], ◌∷◌}
 use Rattle.std.specs.Prelude.{◌++◌, drop, length, replicate, filter, find, if◌then◌else◌, Option, Some, None}
 use Rattle.std.specs.Prelude.{Result, Ok}
@@ -35,19 +35,19 @@ pub record Stretch : Type 0 where
   pub at : ℕ
   pub count : ℕ
 
--- the data of a command, as far as it moved
+-- the data of a command, as far as it has moved
 pub record Moving : Type 0 where
   pub command : Command
   -- the writes that had ended when it was started
   pub before : List Written
-  -- its bytes, each at its place; 0 where none came
+  -- its bytes, each at its place; 0 where none has come
   pub bytes : List ℕ
-  -- how many bytes moved
+  -- how many bytes have moved
   pub moved : ℕ
   -- what its DMA Setups named, in order
   pub setups : List Stretch
-  -- of the last of them: where its bytes belong, how many they are, and whether Data of the host may come: a
-  -- DMA Activate came after it, or it has auto-activate
+  -- for the last DMA Setup: the place of its bytes, their number, and whether Data of the host may come,
+  -- after a DMA Activate or by auto-activate
   pub offset : ℕ
   pub count : ℕ
   pub active : Bool
@@ -58,7 +58,7 @@ pub record ReadOut : Type 0 where
   pub before : List Written
   pub bytes : List ℕ
 
--- What a command, or a reset, is answered with by a Register Device to Host FIS or a PIO Setup FIS.
+-- What a Register Device to Host FIS or a PIO Setup FIS answers to a command or a reset.
 pub data Reply : Type 0 where
   -- the signature of an ATA device, after a reset
   Signs : Reply
@@ -71,7 +71,7 @@ pub data Reply : Type 0 where
   -- a page follows
   ShowsPage : Reply
 
--- an error that was reported by a Set Device Bits FIS: its Error, and the commands that were outstanding
+-- an error that a Set Device Bits FIS reported: its Error, and the commands that were outstanding
 pub record Failure : Type 0 where
   pub error : ℕ
   pub among : List Command
@@ -85,18 +85,18 @@ pub data Wanted : Type 0 where
 pub record Ledger : Type 0 where
   -- the commands that were queued and have not ended
   pub outstanding : List Command
-  -- whether all of them were given up for an error or for SRST, so that no command is heard; what ends it is
-  -- the log, but for SRST, and a reset that ended
+  -- all of them were given up for an error or for SRST, and no command is heard; this ends when the log is
+  -- read, unless SRST is set, and when a reset ends
   pub failed : Bool
-  -- the error for which they were, where a Set Device Bits FIS reported it
+  -- the error for which they were given up, if a Set Device Bits FIS reported it
   pub failure : Option Failure
-  -- whether SRST is set
+  -- SRST is set
   pub resetting : Bool
-  -- whether that holds the disk in its software reset, since it was not plugged in after SRST was set
+  -- SRST holds the disk in its software reset: the disk was not plugged in after SRST was set
   pub in_reset : Bool
-  -- what the commands and resets that came are still to be answered with, in their order
+  -- the answers that are still to come for the commands and resets that came, in their order
   pub awaited : List Reply
-  -- the pages that were asked for and did not come, in order
+  -- the pages that were asked for and have not come, in order
   pub pages : List Wanted
   -- the tags of commands that ended and were not answered, in the order in which they ended
   pub unanswered : List ℕ
@@ -122,7 +122,7 @@ empty = record {
 
 -- ## What the host sends
 
--- nothing is outstanding, and nothing is to be answered
+-- nothing is outstanding, and nothing waits for an answer
 abbrev pub given_up : Ledger → Bool → Ledger
 given_up l failed = record l {
   outstanding = [];
@@ -142,7 +142,7 @@ awaits l reply = record l { awaited = l.awaited ++ reply ∷ [] }
 abbrev pub awaits_page : Ledger → Wanted → Ledger
 awaits_page l page = record l { awaited = l.awaited ++ ShowsPage ∷ []; pages = l.pages ++ page ∷ [] }
 
--- a command that is not queued: where queued commands are outstanding it is refused, and all is given up
+-- a command that is not queued: while queued commands are outstanding it is refused, and all are given up
 abbrev pub mixes : Ledger → Ledger → List Command → Ledger
 mixes l alone [] = alone
 mixes l alone (c ∷ cs) = record (given_up l true) { awaited = Refuses ∷ [] }
@@ -150,7 +150,7 @@ mixes l alone (c ∷ cs) = record (given_up l true) { awaited = Refuses ∷ [] }
 abbrev pub refuses : Ledger → Ledger
 refuses l = mixes l (awaits l Refuses) l.outstanding
 
--- a tag that is outstanding is refused
+-- a command whose tag is outstanding is refused
 abbrev pub opens : Ledger → Command → Ledger
 opens l c = (if list_any (λ q. q.tag == c.tag) l.outstanding then refuses l
     else awaits (record l { outstanding = l.outstanding ++ c ∷ [] }) Accepts)
@@ -166,7 +166,7 @@ abbrev pub reads_log : Ledger → Ledger
 reads_log l =
     mixes l (record (awaits_page l (LogOf l.failure)) { failed = false; failure = None }) l.outstanding
 
--- in a software reset no command is heard, after an error none but the log
+-- in a software reset no command is heard, after an error only the read of the log
 abbrev pub asks : Ledger → Request → Bool → Ledger
 asks l (Reset true) failed = record (given_up l true) { resetting = true; in_reset = true }
 asks l (Reset false) failed = restarts l l.resetting
@@ -180,7 +180,7 @@ asks l _ true = l
 
 -- ## How data moves
 
--- all bytes of the command moved
+-- all bytes of the command have moved
 abbrev pub ends : Ledger → Moving → Bool → Ledger
 ends l v true = record l {
   outstanding = filter (λ q. not (q.tag == v.command.tag)) l.outstanding;
@@ -195,7 +195,7 @@ ends l v false = record l {
   reads = l.reads ++ record { command = v.command; before = v.before; bytes = v.bytes } ∷ [];
 }
 
--- a command ends as soon as as many bytes moved as it asks for
+-- a command ends as soon as all the bytes that it asks for have moved
 abbrev pub goes_on : Ledger → Moving → Ledger
 goes_on l v =
     (if v.moved == 512 * v.command.count then ends l v v.command.write else record l { moving = Some v })
@@ -208,18 +208,18 @@ moves l v bytes = goes_on l (record v {
   active = false;
 })
 
--- Data of the host: it is the write's where a DMA Activate, or auto-activate, asked for it and it has the DMA
+-- Data of the host: it is the write's if a DMA Activate or auto-activate asked for it and it has the DMA
 -- Setup's length
 abbrev pub takes_data : Ledger → Option Moving → List ℕ → Ledger
 takes_data l None bytes = l
 takes_data l (Some v) bytes = (if v.active && (length bytes == v.count) then moves l v bytes else l)
 
--- Data of the disk: it is the read's; where no data moves it is the page that was asked for first
+-- Data of the disk: it is the read's, or, while no data moves, the page that was asked for first
 abbrev pub sends_data : Ledger → Option Moving → List ℕ → Ledger
 sends_data l None bytes = record l { pages = drop 1 l.pages }
 sends_data l (Some v) bytes = moves l v bytes
 
--- A DMA Setup: the first one of a command starts it.
+-- A DMA Setup. The first one of a command starts it.
 abbrev pub starts_moving : Ledger → (offset count : ℕ) → Option Command → Ledger
 starts_moving l offset count None = l
 starts_moving l offset count (Some c) =
@@ -256,18 +256,18 @@ activates l (Some v) = record l { moving = Some (record v { active = true }) }
 abbrev pub is_auto : List ℕ → Bool
 is_auto f = field Setup A f == 1 && not (field Setup D f == 1)
 
--- with auto-activate a DMA Setup is as good as one that a DMA Activate follows at once
+-- a DMA Setup with auto-activate counts like one that a DMA Activate follows at once
 abbrev pub with_auto : Bool → Ledger → Ledger
 with_auto true l = activates l l.moving
 with_auto false l = l
 
 -- ## Set Device Bits
 
--- whether ERR, bit 0 of Status, is set
+-- ERR, bit 0 of Status, is set
 abbrev pub has_error : List ℕ → Bool
 has_error f = field Bits Status f % 2 == 1
 
--- with ERR all is given up; else the command that ended first is answered
+-- with ERR everything is given up; without it the command that ended first is answered
 abbrev pub answers : Ledger → (error : ℕ) → Bool → Ledger
 answers l error true =
     record (given_up l true) { failure = Some (record { error = error; among = l.outstanding }) }
@@ -310,12 +310,12 @@ ledger history = ledger_after empty history
 
 -- ## The laws
 
--- a medium, with the bytes of writes put in, in order
+-- a medium with the bytes of writes put in, in order
 unfoldable pub with_writes : List ℕ → List Written → List ℕ
 with_writes medium [] = medium
 with_writes medium (w ∷ later) = with_writes (put medium w.at w.bytes) later
 
--- the medium of a new disk, with the bytes of writes put in, in order
+-- the medium of a new disk with the bytes of writes put in, in order
 abbrev pub medium_with : ℕ → List Written → List ℕ
 medium_with sectors writes = with_writes (opening_medium sectors) writes
 
@@ -323,7 +323,7 @@ medium_with sectors writes = with_writes (opening_medium sectors) writes
 abbrev pub IsRead : ℕ → ReadOut → Type 0
 IsRead sectors r = r.bytes ≡ sectors_at (medium_with sectors r.before) r.command.lba r.command.count
 
--- the Set Device Bits FIS names the tag that ended first among those that were not answered, and no other
+-- the Set Device Bits FIS names only the tag that ended first among those not answered
 abbrev pub Names : List ℕ → ℕ → Type 0
 Names [] sactive = ⊥
 Names (tag ∷ later) sactive = sactive ≡ 2 ^ tag
@@ -333,6 +333,6 @@ abbrev pub AnswersOne : Ledger → Result Fis FisFault → Type 0
 AnswersOne l (Ok (view.SetBits f)) = has_error f ≡ false → Names l.unanswered (field Bits SActive f)
 AnswersOne l _ = Unit {0}
 
--- a disk's size, which its making tests
+-- a size with which a disk can be made
 abbrev pub IsSize : DiskPlan → ℕ → Type 0
 IsSize plan sectors = is_size sectors plan.chunk ≡ true

@@ -19,12 +19,12 @@ queued_command f write = record {
   count = sectors_asked (field H2d Features f);
 }
 
--- whether READ LOG EXT asks for the first page of log 10h: log address in LBA 7:0, page in LBA 15:8
+-- READ LOG EXT asks for the first page of log 10h: log address in LBA 7:0, page in LBA 15:8
 abbrev pub names_error_log : List ℕ → Bool
 names_error_log f =
     (field H2d Lba f % 256 == 0x10) && ((field H2d Lba f / 256 % 256 == 0) && (field H2d Count f == 1))
 
--- a command, by the Command register
+-- a command, by its Command register
 abbrev pub command_request : List ℕ → ℕ → Request
 command_request f code =
     (if code == 0x60 then Queue (queued_command f false)
@@ -32,12 +32,12 @@ command_request f code =
     else (if (code == 0x2F) && names_error_log f then ReadErrorLog
     else (if code == 0xEC then Identify else (if code == 0xEA then Flush else Other)))))
 
--- A FIS with C gives a command, one without C the Device Control register, of which SRST is bit 2.
+-- A FIS with C 1 gives a command. One with C 0 writes the Device Control register, whose bit 2 is SRST.
 abbrev pub request_of : List ℕ → Request
 request_of f = (if field H2d C f == 1 then command_request f (field H2d Command f)
     else Reset (field H2d Control f / 4 % 2 == 1))
 
--- a queued command asks for a sector at least, and has one of 32 tags
+-- a queued command asks for at least one sector and has one of 32 tags
 abbrev pub Asks : Request → Type 0
 Asks (Queue c) = (0 < c.count) × (c.tag < 32)
 Asks (Reset on) = Unit {0}

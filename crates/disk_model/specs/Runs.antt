@@ -6,7 +6,7 @@ use Rattle.disk_model.specs.Histories.{Happening, Received, Sent, Plugged, Plan,
 use Rattle.disk_model.specs.Sendings.{Shows}
 use Rattle.disk_model.specs.Disks.{Moment, DiskValue, Turn, turn, after, opening, moment_after}
 
--- whether a disk can have so many sectors and such chunks
+-- a disk can have this many sectors and chunks of this size
 abbrev pub is_size : (sectors chunk : ℕ) → Bool
 is_size sectors chunk =
     nat_le 1 sectors && nat_le sectors 65536 && nat_le 512 chunk && nat_le chunk 8192 && chunk % 512 == 0
@@ -19,13 +19,13 @@ abbrev pub IsTurn : Turn → List ℕ → Type 0
 IsTurn None bytes = ⊥
 IsTurn (Some t) bytes = Shows t.0 bytes
 
--- the event may happen to a disk that is so: what it sends is what its turn is
+-- the event may happen to a disk in this state; what it sends is its turn
 abbrev pub MayHappen : DiskPlan → ℕ → Moment → Happening → Type 0
 MayHappen plan sectors m (Sent bytes) = IsTurn (turn plan sectors m) bytes
 MayHappen plan sectors m (Received bytes) = Unit {0}
 MayHappen plan sectors m Plugged = Unit {0}
 
--- each event of the list may happen, one after another, to a disk that is so
+-- the events of the list may happen, one after another, to a disk in this state
 unfoldable pub Runs : DiskPlan → ℕ → Moment → List Happening → Type 0
 Runs plan sectors m [] = Unit {0}
 Runs plan sectors m (e ∷ later) =
@@ -39,7 +39,7 @@ IsDiskRun plan sectors history = Runs plan sectors (opening sectors) history
 abbrev pub moment : DiskPlan → ℕ → List Happening → Moment
 moment plan sectors history = moment_after plan sectors (opening sectors) history
 
--- the history is a run of the disk's plan, and makes of it what it is
+-- the history is a run of the disk's plan, and leads to what the disk is now
 pub record DiskStandsFor (d : DiskValue) (history : List Happening) : Type 0 where
   pub run : IsDiskRun d.plan d.sectors history
   pub now : d.now ≡ moment d.plan d.sectors history
@@ -50,12 +50,12 @@ DiskMaySend (DiskOf plan sectors) history bytes =
     IsTurn (turn plan sectors (moment plan sectors history)) bytes
 DiskMaySend (Script frames) history bytes = ⊥
 
--- these bytes show the turn, and this is what the disk is after it
+-- these bytes show the turn, and the disk is this after it
 abbrev pub Takes : Turn → List ℕ → Moment → Type 0
 Takes None bytes m = ⊥
 Takes (Some t) bytes m = Shows t.0 bytes × (m ≡ t.1)
 
--- the disk sent these bytes, as its turn was
+-- the disk sent these bytes as its turn
 abbrev pub Gave : DiskValue → List ℕ → DiskValue → Type 0
 Gave old bytes new = Takes (turn old.plan old.sectors old.now) bytes new.now × (new.plan ≡ old.plan)
     × (new.sectors ≡ old.sectors)

@@ -13,6 +13,7 @@ use Rattle.disk_model.specs.declared.answer.Answer.{Answer}
 use Rattle.disk_model.specs.declared.answer.Answer.TheVariants.{Signature, Accepted, Finished, Refused, Ended}
 use Rattle.disk_model.specs.declared.answer.Answer.TheVariants.{PageFollows, PageData}
 use Rattle.disk_model.specs.Pages.{page_bytes}
+use Rattle.disk_model.specs.declared.plan.DiskPlan.{DiskPlan}
 
 -- a FIS, by its type and its fields
 pub data Sending : Type 0 where
@@ -29,7 +30,7 @@ pub data Sending : Type 0 where
   -- Data
   Carries : List ℕ → Sending
 
--- the bytes are a FIS with these fields, and with no other bit set
+-- the bytes are a FIS with these fields and no other bit set
 abbrev pub Shows : Sending → List ℕ → Type 0
 Shows (Register v) b = IsBuilt D2h (d2h_given v) b
 Shows (SetsBits v) b = IsBuilt Bits (set_bits_given v) b
@@ -38,7 +39,7 @@ Shows Activates b = IsBuilt Activate (dma_activate_given (record { pm_port = 0 }
 Shows (SetsUpPio v) b = IsBuilt Pio (pio_setup_given v) b
 Shows (Carries bytes) b = (b ≡ 0x46 ∷ 0 ∷ 0 ∷ 0 ∷ bytes) × (seen b ≡ Ok (view.Payload b))
 
--- a Register FIS; first is LBA and Count
+-- a Register FIS; first is in LBA and Count
 abbrev pub register : (i : Bool) (status error first : ℕ) → Sending
 register i status error first = Register (record {
   pm_port = 0;
@@ -55,7 +56,7 @@ abbrev pub bits : (status error sactive : ℕ) → Sending
 bits status error sactive =
     SetsBits (record { pm_port = 0; n = false; i = true; status = status; error = error; sactive = sactive })
 
--- a DMA Setup; d is its direction, to the host where true; auto says that data of the host may come at once
+-- a DMA Setup; d says that it goes to the host, auto that Data of the host may come at once
 abbrev pub setup : (tag offset count : ℕ) (d auto : Bool) → Sending
 setup tag offset count d auto = SetsUp (record {
   pm_port = 0;
@@ -83,11 +84,11 @@ page_follows = SetsUpPio (record {
 })
 
 -- the FIS of an answer
-abbrev pub answer_sent : (sectors : ℕ) (auto : Bool) → Answer → Sending
-answer_sent sectors auto Signature = register false 0x50 1 1
-answer_sent sectors auto Accepted = register false 0x50 0 0
-answer_sent sectors auto Finished = register true 0x50 0 0
-answer_sent sectors auto Refused = register true 0x51 4 0
-answer_sent sectors auto (Ended tag) = bits 0x50 0 (2 ^ (tag % 32))
-answer_sent sectors auto PageFollows = page_follows
-answer_sent sectors auto (PageData page) = Carries (page_bytes sectors auto page)
+abbrev pub answer_sent : (sectors : ℕ) (plan : DiskPlan) → Answer → Sending
+answer_sent sectors plan Signature = register false 0x50 1 1
+answer_sent sectors plan Accepted = register false 0x50 0 0
+answer_sent sectors plan Finished = register true 0x50 0 0
+answer_sent sectors plan Refused = register true 0x51 4 0
+answer_sent sectors plan (Ended tag) = bits 0x50 0 (2 ^ (tag % 32))
+answer_sent sectors plan PageFollows = page_follows
+answer_sent sectors plan (PageData page) = Carries (page_bytes sectors plan page)

@@ -1,4 +1,4 @@
--- What stands at a fan-out port.
+-- What is at a fan-out port.
 use Rattle.std.specs.Prelude.{ℕ, ◌≢◌, List, []}
 use Rattle.disk_model.specs.Histories.{Happening, Plan, Script, DiskOf, GoesOn, SendsNext, IsSilent}
 use Rattle.disk_model.specs.Runs.{disk_plan, DiskStandsFor, DiskMaySend}
@@ -32,7 +32,7 @@ UnitSends old bytes new = SendsNext plan_of StandsFor MaySend old bytes new
 abbrev pub UnitIsSilent : Unit → Type 0
 UnitIsSilent unit = IsSilent plan_of StandsFor MaySend unit
 
--- a disk that is full, and is to owe more than it did when this happens
+-- a disk that is full, and is to owe more than before when this happens
 abbrev pub UnitWantsRoom : Unit → Happening → Type 0
 UnitWantsRoom (Disk disk) e = WantsRoom disk.now (after disk.plan disk.sectors disk.now e)
 UnitWantsRoom (Scripted reading) e = ⊥

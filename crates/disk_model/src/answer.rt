@@ -1,20 +1,21 @@
-//! What a disk owes to the host, and the FISes that it sends.
+//! What a disk owes the host, and the FISes that it sends.
 
 ghost use Rattle.std.specs.Prelude.{◌≡◌, ◌+◌, ◌<◌, ◌≤◌, ◌%◌, ◌^◌, not, false, true, IfOk, length};
 ghost use Rattle.disk_model.specs.Sendings.{Activates, Carries, Shows, answer_sent, bits, page_follows, register, setup};
 ghost use Rattle.disk_model.specs.Chunks.{error_of, report};
 ghost use Rattle.fis_view.specs.Frames.{IsPayload};
 
+use crate::plan::DiskPlan;
 use fis_view::{
     D2hFields, DmaActivateFields, DmaSetupFields, Frame, FrameError, PioSetupFields, SetBitsFields,
     Stamp, d2h, dma_activate, dma_setup, payload, pio_setup, set_bits,
 };
 use std::alloc::{AllocError, Global};
 
-/// Why the disk takes no command: it is in its error mode, or in a software reset.
+/// Why the disk takes no command: it is in its error mode, or in software reset.
 #[derive(Clone, Copy, Debug)]
 pub enum Fault {
-    /// SRST is set, and the disk was not plugged in since.
+    /// SRST was set, and the disk has not been plugged in since.
     Held,
     /// Queued commands were mixed with others, or a tag was queued twice.
     Mixed,
@@ -25,7 +26,7 @@ pub enum Fault {
 /// The 512 bytes of a PIO data-in command.
 #[derive(Clone, Copy, Debug)]
 pub enum Page {
-    /// The NCQ Command Error log, of this fault.
+    /// The NCQ Command Error log, for this fault.
     ErrorLog(Option<Fault>),
     /// The IDENTIFY DEVICE data.
     Identity,
@@ -44,13 +45,13 @@ pub enum Answer {
     Refused,
     /// The queued command with this tag ended.
     Ended(u8),
-    /// A page comes next.
+    /// A page follows.
     PageFollows,
     /// A page.
     PageData(Page),
 }
 
-/// A Register Device to Host FIS. `first` is put into LBA and Count.
+/// A Register Device to Host FIS. `first` goes into LBA and Count.
 fn register_frame(
     alloc: Global,
     i: bool,
@@ -116,8 +117,8 @@ fn page_follows_frame(alloc: Global, stamp: Stamp) -> Result<Frame, AllocError>
     pio_setup(alloc, &fields, stamp)
 }
 
-/// The DMA Setup of a chunk: its tag, where it lies in the command and how long it is, in bytes,
-/// whether it goes to the host, and whether data of the host may come without a DMA Activate.
+/// The DMA Setup of a chunk: its tag, its offset in the command and its length, both in bytes, whether it
+/// goes to the host, and whether Data of the host may come without a DMA Activate.
 pub fn setup_frame(
     alloc: Global,
     tag: u8,
@@ -178,15 +179,15 @@ pub fn report_frame(alloc: Global, fault: Fault, stamp: Stamp) -> Result<Frame, 
 }
 
 impl Answer {
-    /// The FIS of the answer, of a disk with so many sectors, with auto-activate or without.
+    /// The FIS of the answer, for a disk with this many sectors and this plan.
     pub fn frame(
         self,
         alloc: Global,
         sectors: u32,
-        auto: bool,
+        plan: &DiskPlan,
         stamp: Stamp,
     ) -> Result<Frame, AllocError>
-        ensures shows { IfOk result (λ f. Shows (answer_sent sectors auto self) f.bytes) }
+        ensures shows { IfOk result (λ f. Shows (answer_sent sectors plan.now self) f.bytes) }
         ensures stamp { IfOk result (λ f. f.stamp ≡ stamp) }
     {
         match self {
@@ -197,7 +198,7 @@ impl Answer {
             Answer::Ended(tag) => bits_frame(alloc, 0x50, 0, 1 << (tag % 32), stamp),
             Answer::PageFollows => page_follows_frame(alloc, stamp),
             Answer::PageData(page) => {
-                let bytes = page.bytes(alloc, sectors, auto)?;
+                let bytes = page.bytes(alloc, sectors, plan)?;
                 data_frame(alloc, &bytes, stamp)
             }
         }

@@ -1,4 +1,4 @@
-//! The chunks in which a disk moves the data of a command, and what keeps it from doing so.
+//! The chunks in which a disk moves the data of a command, and what keeps it from moving them.
 
 ghost use Rattle.std.specs.Prelude.{◌≡◌, ◌+◌, ◌-◌, ◌*◌, ◌/◌, ◌<◌, ◌≤◌, fold, length, None};
 ghost use Rattle.disk_model.specs.Chunks.{activations, chunk_count, chunk_from, chunks, fault_of};
@@ -14,7 +14,7 @@ const IDNF: u8 = 0x10;
 /// The Uncorrectable Error bit of the Error register.
 const UNC: u8 = 0x40;
 
-/// The lower of the bad sectors found so far and this one, where it is a sector of the command.
+/// The lower of the bad sector found so far and this one, if this one is a sector of the command.
 fn lower(command: Command, found: Option<u32>, bad: u32) -> Option<u32>
     ensures { result ≡ lower_bad command found bad }
 {
@@ -36,7 +36,7 @@ fn lowest_bad(bad: &[u32], command: Command) -> Option<u32>
         .fold(None, |found, at| lower(command, found, *at))
 }
 
-/// Why a command can't be done by a disk with so many sectors.
+/// Why a disk with this many sectors cannot do a command.
 pub fn command_fault(plan: &DiskPlan, sectors: u32, command: Command) -> Option<Fault>
     ensures { result ≡ fault_of plan.now sectors command }
 {
@@ -65,7 +65,7 @@ pub fn chunks_of(plan: &DiskPlan, command: Command) -> u32
     (command.count + (size - 1)) / size
 }
 
-/// How many FISes of a write ask for a chunk: its DMA Setup, and without auto-activate a DMA Activate.
+/// How many FISes of a write ask for a chunk: its DMA Setup and, without auto-activate, a DMA Activate.
 pub fn asks(plan: &DiskPlan) -> u8
     ensures value { result ≡ 1 + length (activations plan.now.auto) }
     ensures few { result ≤ 2 }
@@ -73,7 +73,7 @@ pub fn asks(plan: &DiskPlan) -> u8
     if plan.auto { 1 } else { 2 }
 }
 
-/// The part of a command that one chunk moves, in sectors from its first one.
+/// The part of a command that one chunk moves, in sectors from the command's first.
 #[derive(Clone, Copy)]
 pub struct Chunk {
     pub from: u32,
@@ -81,7 +81,7 @@ pub struct Chunk {
 }
 
 impl Chunk {
-    /// The chunk that comes when so many are left.
+    /// The chunk that comes when `left` chunks are left.
     pub fn at(plan: &DiskPlan, command: Command, left: u32) -> Chunk
         requires low { 512 ≤ plan.now.chunk }
         requires high { plan.now.chunk ≤ 8192 }

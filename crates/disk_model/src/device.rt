@@ -4,26 +4,26 @@ ghost use Rattle.disk_model.specs.Histories.{Happening, Plan, Received, Plugged,
 use fis_view::{Frame, Stamp};
 use std::alloc::{AllocError, Global};
 
-/// A device behind a fan-out port. Callers know it by its plan, by the histories that its state may
-/// stand for, and by what plan and history allow it to send; an error for want of memory leaves the
-/// device as it was, and the call may be given again.
+/// A device behind a fan-out port. Callers know it by its plan, by the histories that its state may stand
+/// for, and by what plan and history allow it to send. A call that fails for want of memory leaves the device
+/// as it was, and can be made again.
 pub trait Device {
     /// What the device was made with. No call changes it.
     ghost plan_of: { Self → Plan };
 
-    /// The device may be in this state after this history.
+    /// The device can be in this state after this history.
     ghost stands_for: { Self → List Happening → Type 0 };
 
-    /// With this plan and after this history the device may send these bytes.
+    /// A device with this plan may send these bytes after this history.
     ghost may_send: { Plan → List Happening → List ℕ → Type 0 };
 
-    /// Takes a FIS of the host.
+    /// Takes a FIS from the host.
     fn on_frame(&mut self, alloc: Global, frame: &Frame) -> Result<(), AllocError>
         ensures ok { OnOk result (
             GoesOn plan_of stands_for self.old (Received frame.now.bytes) self.new) }
         ensures err { OnErr result (self.new ≡ self.old) };
 
-    /// Gives the next FIS under the stamp, or None where the device has none to send.
+    /// Gives the next FIS with this stamp, or None if the device has none to send.
     fn next_out(&mut self, alloc: Global, stamp: Stamp) -> Result<Option<Frame>, AllocError>
         ensures sent { IfOk result (λ out. IfSome out (λ frame.
             SendsNext plan_of stands_for may_send self.old frame.bytes self.new)) }

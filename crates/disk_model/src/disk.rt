@@ -24,9 +24,9 @@ use thiserror::Error;
 #[derive(Clone, Copy, Debug)]
 pub struct Reading {
     command: Command,
-    /// How many chunks have not been sent whole.
+    /// How many chunks have not been sent completely.
     left: u32,
-    /// Whether the DMA Setup of the first of them went.
+    /// Whether the DMA Setup of the first of them was sent.
     set_up: bool,
 }
 
@@ -36,7 +36,7 @@ pub struct Waiting {
     command: Command,
     /// How many chunks have not come.
     left: u32,
-    /// How many FISes went that ask for the first of them, of two.
+    /// How many of the FISes that ask for the first of them were sent.
     gone: u8,
 }
 
@@ -47,10 +47,10 @@ enum Transfer {
     Write(Waiting),
 }
 
-/// A disk, its sectors in memory. Byte i of sector L opens as (L + i) mod 256. It queues reads and
-/// writes by tags, moves the data of each in chunks, and answers IDENTIFY DEVICE, FLUSH CACHE EXT
-/// and READ LOG EXT of the NCQ Command Error log. A command that cannot be done ends all queued
-/// ones, and the disk hears nothing but that log and resets from then on.
+/// A disk with its sectors in memory. At first, byte i of sector L is (L + i) mod 256. The disk queues reads
+/// and writes by tag, moves the data of each in chunks, and answers IDENTIFY DEVICE, FLUSH CACHE EXT and READ
+/// LOG EXT of the NCQ Command Error log. A command that cannot be done ends all queued commands. From then on
+/// the disk hears only the read of that log and resets.
 #[derive(Drop)]
 pub struct Disk {
     plan: DiskPlan,
@@ -58,11 +58,11 @@ pub struct Disk {
     medium: Vec<u8>,
     queue: Vec<Command>,
     fault: Option<Fault>,
-    /// Whether SRST was set and not cleared since.
+    /// Whether SRST was set and has not been cleared since.
     resetting: bool,
     answers: VecDeque<Answer>,
     transfer: Transfer,
-    /// The bytes of a write, as far as they came.
+    /// The bytes of a write that have come so far.
     staged: Vec<u8>,
 }
 
@@ -81,7 +81,7 @@ impl Model for Disk {
 /// Why a disk cannot be made.
 #[derive(Clone, Copy, Debug, PartialEq, Eq, Error)]
 pub enum DiskError {
-    /// The number of sectors is not 1 to 65,536, or the chunk is no multiple of 512 from 512 to
+    /// The number of sectors is not from 1 to 65,536, or the chunk is not a multiple of 512 from 512 to
     /// 8,192.
     #[error("bad size")]
     BadSize = 1,
@@ -137,8 +137,8 @@ fn is_queued(queue: &[Command], tag: u8) -> bool
 }
 
 impl Disk {
-    /// A disk with so many sectors of 512 bytes, 1 to 65,536. The sizes are tested before memory is
-    /// asked for.
+    /// A disk with this many sectors of 512 bytes, 1 to 65,536. The sizes are tested before memory is asked
+    /// for.
     pub fn new(alloc: Global, sectors: u32, plan: DiskPlan) -> Result<Disk, DiskError>
         ensures ok { IfOk result (λ d.
             d ≡ record { plan = plan; sectors = sectors; now = opening sectors }) }
@@ -167,7 +167,7 @@ impl Disk {
         })
     }
 
-    /// The 512 bytes of a sector on the medium, None past the end.
+    /// The 512 bytes of a sector on the medium, None behind the end.
     pub fn sector(&self, lba: u32) -> Option<&[u8]>
         ensures { MatchOption result (self.now.sectors ≤ lba) (λ bytes.
             (lba < self.now.sectors) × (bytes.now ≡ sectors_at self.now.now.medium lba 1)
@@ -198,7 +198,7 @@ impl Device for Disk {
         ensures ok { OnOk result (
             GoesOn disk_plan DiskStandsFor self.old (Received frame.now.bytes) self.new) }
         ensures err { OnErr result (self.new ≡ self.old) }
-        // it takes memory only for an answer, where 63 answers wait or 32 commands are queued
+        // it takes memory only for an answer, and only while 63 answers wait or 32 commands are queued
         ensures no_memory { OnErr result (
             WantsRoom self.old.now
             (after self.old.plan self.old.sectors self.old.now (Received frame.now.bytes))) }
@@ -221,7 +221,7 @@ impl Device for Disk {
             IsSilent disk_plan DiskStandsFor DiskMaySend self.old)) }
         ensures same { IfOk result (λ out. IfNone out (self.new ≡ self.old)) }
         ensures err { OnErr result (self.new ≡ self.old) }
-        // it takes memory for a frame that is to be sent, and for nothing else
+        // it takes memory for a frame to send, and for nothing else
         ensures no_memory { OnErr result (HasTurn self.old) }
     {
         self.give_answer(alloc, stamp)

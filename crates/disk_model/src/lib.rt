@@ -1,19 +1,18 @@
 //! Devices behind the fan-out ports of a port multiplier.
 //!
-//! A device is whatever implements [`Device`]: it takes FISes of the host, gives FISes to it, and
-//! is told when it is plugged in. Its contract says that every run of it, as a list of what it
-//! received, sent and was told, is one that its plan allows, and that it is silent only where the
-//! plan allows nothing.
+//! A device is any type that implements [`Device`]: it takes FISes from the host, gives FISes to it, and is
+//! told when it is plugged in. Its contract says that each of its runs, as a list of what it received, sent
+//! and was told, is one that its plan allows, and that it is silent only where the plan allows nothing.
 //!
-//! A [`Disk`] keeps sectors in memory and queues reads and writes by tags (native command queuing);
-//! a [`Scripted`] device sends what a script says; a [`Unit`] is one of the two.
+//! A [`Disk`] keeps sectors in memory and queues reads and writes by tag (native command queuing). A
+//! [`Scripted`] device sends what a script says. A [`Unit`] is one of the two.
 //!
-//! What the FISes of a disk's run alone tell is the ledger of `specs/Ledger.antt`. Laws over every
+//! The ledger of `specs/Ledger.antt` is what the FISes of a disk's run tell by themselves. Laws about every
 //! run tie the disk to it: [`medium_is_of_ended_writes`], [`reads_are_of_their_start`],
 //! [`setups_name_what_moves`], [`answers_each_command_once`], [`answers_commands_in_order`],
-//! [`errors_are_of_their_command`] and [`is_silent_where_nothing_is_owed`]. The law
-//! [`ends_tell_the_same`] carries them over the link to whoever listens at its other end. Which
-//! writes a read brings is [`reads_have_the_first_writes`] and [`media_show_the_last_write`].
+//! [`errors_are_of_their_command`] and [`is_silent_where_nothing_is_owed`]. The law [`ends_tell_the_same`]
+//! carries them over the link to a listener at its other end. [`reads_have_the_first_writes`] and
+//! [`media_show_the_last_write`] say which writes a read shows.
 #![tactic(auto)]
 
 mod answer;
@@ -37,6 +36,6 @@ pub use law::{
     media_show_the_last_write, medium_is_of_ended_writes, reads_are_of_their_start,
     reads_have_the_first_writes, setups_name_what_moves,
 };
-pub use plan::{DiskPlan, Order};
+pub use plan::{DiskPlan, Order, Profile};
 pub use scripted::Scripted;
 pub use unit::Unit;

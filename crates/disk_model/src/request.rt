@@ -21,7 +21,7 @@ pub struct Command {
 /// What a Register Host to Device FIS asks for.
 #[derive(Clone, Copy, Debug)]
 pub enum Request {
-    /// No command: the SRST bit of the Device Control register.
+    /// No command: the new SRST bit of the Device Control register.
     Reset(bool),
     /// READ FPDMA QUEUED, 60h, or WRITE FPDMA QUEUED, 61h.
     Queue(Command),
@@ -31,11 +31,11 @@ pub enum Request {
     Identify,
     /// FLUSH CACHE EXT, EAh.
     Flush,
-    /// Any other command, another log among them.
+    /// Any other command, also the read of another log.
     Other,
 }
 
-/// How many sectors a queued command asks for by its Features.
+/// How many sectors a queued command asks for, by its Features.
 fn asked(features: u16) -> u32
     ensures count { result ≡ sectors_asked features }
     ensures some { 0 < result }
@@ -84,7 +84,7 @@ fn by_code(fis: &RegH2D<'_>, code: u8) -> Request
 }
 
 impl Request {
-    /// Reads a FIS.
+    /// What this FIS asks for.
     pub fn of(fis: &RegH2D<'_>) -> Request
         ensures request { result ≡ request_of fis.now }
         ensures asks { Asks result }

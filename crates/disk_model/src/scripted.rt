@@ -30,8 +30,8 @@ impl Model for Scripted {
 impl Scripted {
     ghost use Rattle.disk_model.specs.Scripts.{script_of, ScriptStandsFor};
 
-    /// A device with this script. Bytes that are no frame (4 to 8,196 bytes, a multiple of 4) are
-    /// left out.
+    /// A device with this script. Bytes that are not a frame (4 to 8,196 bytes, a multiple of 4) are left
+    /// out.
     pub fn new(mut frames: Vec<Bytes>) -> Self
         ensures plan { script_of result ≡ Script (filter is_frame frames.items) }
         ensures opening { ScriptStandsFor result [] }

@@ -7,7 +7,7 @@ use crate::scripted::Scripted;
 use fis_view::{Frame, Stamp};
 use std::alloc::{AllocError, Global};
 
-/// What stands at a fan-out port.
+/// What is at a fan-out port.
 #[derive(Drop)]
 pub enum Unit {
     /// A disk with native command queuing.
@@ -29,7 +29,8 @@ impl Device for Unit {
         ensures ok { OnOk result (
             GoesOn plan_of StandsFor self.old (Received frame.now.bytes) self.new) }
         ensures err { OnErr result (self.new ≡ self.old) }
-        // a script takes no memory for it, nor a disk that is not full or has no more to answer
+        // a script takes no memory, and neither does a disk that is not full or that is to answer nothing
+        // more
         ensures no_memory { OnErr result (UnitWantsRoom self.old (Received frame.now.bytes)) }
     {
         match self {
@@ -46,7 +47,7 @@ impl Device for Unit {
             IsSilent plan_of StandsFor MaySend self.old)) }
         ensures same { IfOk result (λ out. IfNone out (self.new ≡ self.old)) }
         ensures err { OnErr result (self.new ≡ self.old) }
-        // a script that was sent to its end takes no memory, nor a disk with nothing to send
+        // a script that was sent to its end takes no memory, and neither does a disk with nothing to send
         ensures no_memory { OnErr result (HasFrames self.old) }
     {
         match self {

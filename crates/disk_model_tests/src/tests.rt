@@ -5,4 +5,5 @@ mod errors;
 mod memory;
 mod pages;
 mod scripted;
+mod steps;
 mod writes;

@@ -21,7 +21,7 @@ pub counted_comes : (fises : List Stamped) (conn number : ℕ) → IsCounted fis
 counted_comes fises conn number h =
     record { order = h.order; at = device_counts.comes fises conn number (conn + 1) h.at (omega arith) }
 
--- one FIS more
+-- one more FIS
 pub counted_more : (fises : List Stamped) (conn number : ℕ) (f : Stamped) → IsCounted fises conn number → f.stamp.conn ≡ conn → f.stamp.number ≡ number
     → IsCounted (fises ++ f ∷ []) conn (number + 1)
 counted_more fises conn number f h of_conn of_number =
@@ -53,7 +53,7 @@ past_comes past fises conn number h p = record {
   ];
 }
 
--- a FIS of this connection is none of those before
+-- a FIS of this connection is not one of those before
 pub past_more : (past : List ℕ) (fises : List Stamped) (conn : ℕ) (f : Stamped) → ArePast past conn fises → f.stamp.conn ≡ conn → ArePast past conn (fises ++ f ∷ [])
 past_more past fises conn f p of_conn = record {
   long = p.long;

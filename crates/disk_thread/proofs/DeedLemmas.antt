@@ -1,4 +1,4 @@
--- One deed more of a device.
+-- One more deed of a device.
 use Rattle.std.proofs.Common.{◌≡◌, ℕ, ◌+◌, ◌<◌, ◌≤◌, true, false, List, [], ◌∷◌, ◌++◌, length, get_or, append_assoc, append-nil, length-append, refl, sym, ap, ◌∙◌, subst}
 use Rattle.std.specs.Prelude.{◌==◌, if◌then◌else◌, All, Option, Some, None}
 use Rattle.std.specs.List.{flat_map, remove}
@@ -110,7 +110,7 @@ module _ {D : Type 0} (plan_of : D → Plan) (StandsFor : D → List Happening �
               (ap (λ l. pulls_in r.deeds ++ pulled_by (length l) d) r.given ∙ sym (pulls_more r.deeds d)) (keeps (pulls_in r.deeds) r.pulls);
         }
 
-    -- a deed that is no pull, and gives nothing
+    -- a deed that is not a pull, and gives nothing
     stays : new.left ≡ old.left → all_given new ≡ all_given old → (made : List ℕ) → KeepsPulls due made old.left (length (all_given old))
         → KeepsPulls due (made ++ []) new.left (length (all_given new))
     stays left given made h = keeps_still due made old.left new.left (length (all_given old)) (length (all_given new)) left (ap length given) h

@@ -9,7 +9,7 @@ use Rattle.std.proofs.lemmas.List.Concat.{flat_map-cons}
 use Rattle.disk_thread.specs.Deeds.{Deed, given_by, pulled_by, pulls_after, pulls_in}
 use Rattle.disk_thread.specs.Runs.{KeepsPulls}
 
--- a deed more
+-- one more deed
 after_more : (given : ℕ) (ds : List Deed) (d : Deed)
     → pulls_after given (ds ++ d ∷ []) ≡ pulls_after given ds ++ pulled_by (given + length (flat_map given_by ds)) d
 unfolding pulls_after
@@ -34,7 +34,7 @@ keeps_none due given e = record {
   none_over = λ k d lt. omega (arith, e);
 }
 
--- a deed that is no pull, and gives nothing
+-- a deed that is not a pull, and gives nothing
 pub keeps_still : (due made left new : List ℕ) (given now : ℕ) → new ≡ left → now ≡ given → KeepsPulls due made left given → KeepsPulls due (made ++ []) new now
 keeps_still due made left new given now same as_many h = rw (append-nil made, same, as_many) h
 

@@ -1,5 +1,5 @@
--- What the thread of a device does, deed by deed. The FISes and their stamps are those of the device's links;
--- what happens to the device itself is its history, with its own words.
+-- What the thread of a device does, deed by deed. The FISes and their stamps are those of the
+-- device's links. What happens to the device itself is its history, in the words of that.
 use Rattle.std.specs.Prelude.{ℕ, ◌≡◌, ◌+◌, ◌==◌, ◌&&◌, Bool, true, false, if◌then◌else◌, List, [], ◌∷◌, ◌++◌}
 use Rattle.std.specs.Prelude.{length, ⊤}
 use Rattle.fis_view.specs.Frames.{Stamped}
@@ -36,15 +36,15 @@ after_deed s (gave f) = s
 abbrev pub hears : Standing → Stamped → Bool
 hears s f = s.plugged && f.stamp.conn == s.conn
 
--- what the deed is to the device
+-- what the deed means to the device
 abbrev pub happens : Standing → Deed → List Happening
 happens s (plugged_in c) = Plugged ∷ []
 happens s (pulled_out c) = []
 happens s (took f) = if hears s f then Received f.bytes ∷ [] else []
 happens s (gave f) = Sent f.bytes ∷ []
 
--- When a deed may be done by the device at port n. Each connection is one above the last, and a device gives
--- a FIS under the connection that it has; it is one that the device may send.
+-- When the device at port n may do a deed. Each connection is one above the last. A device gives a
+-- FIS under the connection that it has, and the FIS is one that the device may send.
 abbrev pub MayBeDone : (List ℕ → Type 0) → ℕ → Standing → Deed → Type 0
 MayBeDone MaySend n s (plugged_in c) = (s.plugged ≡ false) × (c ≡ s.conn + 1)
 MayBeDone MaySend n s (pulled_out c) = (s.plugged ≡ true) × (c ≡ s.conn)
@@ -69,7 +69,7 @@ told_by _ = []
 
 -- ---- after how many FISes of the device it was pulled out
 
--- the deed, where it is a pull after so many
+-- the count of the deed, if it is a pull after this many FISes
 abbrev pub pulled_by : ℕ → Deed → List ℕ
 pulled_by given (pulled_out c) = given ∷ []
 pulled_by given _ = []
@@ -91,7 +91,7 @@ MayAllBeDone MaySend n s history [] = ⊤
 MayAllBeDone MaySend n s history (d ∷ ds) =
     MayBeDone (MaySend history) n s d × MayAllBeDone MaySend n (after_deed s d) (history ++ happens s d) ds
 
--- each pull of these deeds, where so many FISes were given before them
+-- each pull of these deeds, if this many FISes were given before them
 unfoldable pub pulls_after : ℕ → List Deed → List ℕ
 pulls_after given [] = []
 pulls_after given (d ∷ ds) = pulled_by given d ++ pulls_after (given + length (given_by d)) ds

@@ -31,8 +31,8 @@ pub record StationState (D : Type 0) : Type 0 where
   pub hand : Option Stamped
   -- a connection that came or went, and waits for room on its link
   pub note : Option Presence
-  -- the pulls that were not made: after how many FISes of the device, on all its connections together, each
-  -- is due
+  -- the pulls that were not made yet: after how many FISes of the device, on all its connections
+  -- together, each is due
   pub left : List ℕ
 
 -- what the device gave so far: all that was sent, and what is in the hand
@@ -65,17 +65,17 @@ has_come c told = list_any (is_coming c) told
 pub record AreTold (told : List Presence) (conn : ℕ) : Type 0 where
   pub each : (c : ℕ) → has_come c told ≡ (nat_le 1 c && nat_le c conn)
 
--- Of the pulls that were due, each after so many FISes of the device, these were made, each after so many,
--- and these are left, once it gave so many: each pull that was made was due just then, and none that is left
--- is overdue.
+-- Of the pulls that were due, each after a number of FISes of the device, these were made, each after
+-- a number, and these are left once it gave this many. Each pull that was made was due just then, and
+-- none that is left is overdue.
 pub record KeepsPulls (due made left : List ℕ) (given : ℕ) : Type 0 where
   pub each : IsPermutation due (made ++ left)
   pub none_over : All (λ count. given ≤ count) left
 
--- A run of the device that was given in, with these pulls due: there is one order of deeds, each of which
--- might be done after those before it, that led to what the station is now. The device stands for its history
--- with theirs at the end, the lists of the seats are what was taken, given and told in that order, and it was
--- pulled out just when that was due.
+-- A run of the device that was given in, with these pulls due. There is one order of deeds, each of
+-- which might be done after those before it, that led to what the station is now. The device stands
+-- for its history with these deeds added. The lists of the seats are what was taken, given and told
+-- in that order. The device was pulled out exactly when that was due.
 pub record IsRun {D : Type 0} (plan_of : D → Plan) (StandsFor : D → List Happening → Type 0)
     (MaySend : Plan → List Happening → List ℕ → Type 0) (due : List ℕ) (opening : D)
     (now : StationState D) : Type 0 where
@@ -91,7 +91,7 @@ pub record IsRun {D : Type 0} (plan_of : D → Plan) (StandsFor : D → List Hap
   pub told : all_told now ≡ flat_map told_by deeds
   pub pulls : KeepsPulls due (pulls_in deeds) now.left (length (all_given now))
 
--- whatever device's run the old one was, with whatever pulls due, the new one is
+-- whatever device and pulls the old one was a run of, the new one is a run of the same
 abbrev pub GoesOnRunning : {D : Type 0} → (D → Plan) → (D → List Happening → Type 0)
     → (Plan → List Happening → List ℕ → Type 0) → StationState D → StationState D → Type 0
 GoesOnRunning plan_of StandsFor MaySend old new =

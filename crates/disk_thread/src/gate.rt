@@ -15,7 +15,7 @@ pub trait Gate {
     /// Whether a gate of this kind may refuse.
     ghost may_refuse: { Type 0 } = { ⊤ };
 
-    /// The gate let a FIS in for the device at this port. What it means is left to the implementation.
+    /// The gate let a FIS in for the device at this port. The implementation decides what that means.
     ghost let_in: { Self → ℕ → Type 0 } = { λ gate port. ⊤ };
 
     /// Lets a FIS for the device at this port pass.

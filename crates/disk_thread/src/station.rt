@@ -33,11 +33,11 @@ pub struct Station<'a, D: Device + Drop> {
     past: Vec<u32>,
     /// How many it gave on all connections.
     given: u64,
-    /// After how many each pull is due that was not made.
+    /// After how many FISes each pull is due that was not made yet.
     pulls: Vec<u32>,
 }
 
-/// The place of a pull that is due once so many FISes were given.
+/// The place of a pull that is due once this many FISes were given.
 fn due(pulls: &[u32], given: u64) -> Option<usize>
     ensures there { IfSome result (λ i. i < length pulls.now) }
     ensures due { IfSome result (λ i. slice_index_or pulls.now i 0 ≤ given) }
@@ -46,7 +46,7 @@ fn due(pulls: &[u32], given: u64) -> Option<usize>
     pulls.iter().position(|after| u64::from(*after) <= given)
 }
 
-/// Has the device at this port hear a FIS of the host, which has passed the gate.
+/// The device at this port hears a FIS of the host, which has passed the gate.
 fn hear<D: Device, G: Gate>(
     unit: &mut D,
     alloc: Global,
@@ -88,8 +88,9 @@ impl<'a, D: Device + Drop> Model for Station<'a, D> {
 }
 
 impl<'a, D: Device + Drop> Station<'a, D> {
-    /// A device that was not plugged in yet, with seats that were not used. It has run no deed. It is to be pulled out, and
-    /// plugged in again, after as many of its FISes as each of the pulls says.
+    /// A device that was not plugged in yet, with seats that were not used. It has done no deed. It
+    /// is to be pulled out, and plugged in again, after as many of its FISes as each of the pulls
+    /// says.
     pub fn new(
         alloc: Global,
         port: u8,
@@ -147,7 +148,8 @@ impl<'a, D: Device + Drop> Station<'a, D> {
         u64::from(self.past[conn as usize])
     }
 
-    /// Pulls the device out, if a pull is due, it is plugged in and that was told. It may come again under a later connection.
+    /// Pulls the device out, if a pull is due, the device is plugged in and that was told. It may
+    /// come again under a later connection.
     pub(crate) fn pull(&mut self) -> bool
         ensures run { GoesOnRunning D.plan_of D.stands_for D.may_send self.old self.new }
         ensures port { IsAtSamePort self.old self.new }
@@ -203,8 +205,8 @@ impl<'a, D: Device + Drop> Station<'a, D> {
         }
     }
 
-    /// Takes a FIS of the host off its link, if the device is plugged in. It passes the gate, and the device sees it if it
-    /// is for its connection.
+    /// Takes a FIS of the host off its link, if the device is plugged in. The FIS passes the gate,
+    /// and the device sees it if it is for the device's connection.
     pub(crate) fn take<R: Wait, G: Gate>(
         &mut self,
         rt: &R,
@@ -233,7 +235,8 @@ impl<'a, D: Device + Drop> Station<'a, D> {
         Ok(true)
     }
 
-    /// Lets the device give its next FIS, if it is plugged in, that was told, no pull is due, and the one before has left.
+    /// Lets the device give its next FIS, if it is plugged in, that was told, no pull is due, and the
+    /// FIS before has left.
     pub(crate) fn give(&mut self, alloc: Global) -> Result<bool, Fault>
         ensures run { OnOk result (GoesOnRunning D.plan_of D.stands_for D.may_send self.old self.new) }
         ensures port { IsAtSamePort self.old self.new }

@@ -34,7 +34,7 @@ pub struct DiskEnd<'a, D: Device + Drop> {
     pub station: Station<'a, D>,
     /// The fault that ended it, if one did.
     pub fault: Option<Fault>,
-    /// That its turns were spent, if they were.
+    /// The turns were spent, if they were.
     pub spent: Option<Spent>,
 }
 
@@ -50,7 +50,8 @@ impl<'a, 'g, D: Device + Drop, G: Gate> DiskWorker<'a, 'g, D, G> {
         }
     }
 
-    /// Tries each step once, and says whether anything moved. What went over a link is told to the multiplier.
+    /// Tries each step once, and says whether anything moved. Rings for the multiplier if something
+    /// went over a link.
     fn turn<R: Wait>(&mut self, rt: &R, post: &Post<'_>) -> Result<bool, Fault>
         ensures run { OnOk result (GoesOnRunning D.plan_of D.stands_for D.may_send self.old self.new) }
         ensures port { IsAtSamePort self.old self.new }

@@ -108,7 +108,7 @@ no_fields fields e = let wrong : None ≡ Some fields = e in cc
 
 -- ---- a device with a fault, in a turn that is no tick
 
-faulty_ignored : (r f s : Bool) → f ≡ true → (Rattle.std.specs.Prelude.not r || f || s) ≡ true
+pub faulty_ignored : (r f s : Bool) → f ≡ true → (Rattle.std.specs.Prelude.not r || f || s) ≡ true
 faulty_ignored true true s h = refl
 faulty_ignored false true s h = refl
 faulty_ignored r false s h = absurd (false≢true h)

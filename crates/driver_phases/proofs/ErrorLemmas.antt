@@ -66,7 +66,7 @@ tie_begins_anew base clear = record { same = refl; right = tt; fit = tt; apart =
 
 module _ (plan : DiskPlan) (sectors : ℕ) (size : IsSize plan sectors) (base : List Happening) where
   -- as ties_anew of disk_model/proofs/AnewLemmas.antt
-  ties_anew : (disk host : List Happening) (down stale up : List (List ℕ)) → IsLinkedOn base disk host down stale up → IsDiskRun plan sectors disk
+  pub ties_anew : (disk host : List Happening) (down stale up : List (List ℕ)) → IsLinkedOn base disk host down stale up → IsDiskRun plan sectors disk
       → IsCarefulSince base host → Ties disk host down up
   ties_anew disk host down stale up (anew.begins s clear) run careful = tie_begins_anew base clear
   ties_anew disk host down stale up (anew.gives d h below s above bytes linked) run careful =
@@ -88,7 +88,7 @@ module _ (plan : DiskPlan) (sectors : ℕ) (size : IsSize plan sectors) (base : 
 -- ---- what is outstanding while no data moves
 
 -- no data moves, and some command is outstanding
-abbrev IsAsked : Ledger → Type 0
+abbrev pub IsAsked : Ledger → Type 0
 IsAsked l = (l.moving ≡ None) × (l.outstanding ≢ [])
 
 asked_alone : (l : Ledger) (r : Request) → FitsRequest l r → IsAsked l → IsAsked (alone l r)
@@ -111,7 +111,7 @@ asked_down l (Ok (view.PioSetup f)) fits is = absurd fits
 asked_down l (Ok (view.Unknown f)) fits is = absurd fits
 asked_down l (Err e) fits is = absurd fits
 
-asked_with : (l : Ledger) (down : List (List ℕ)) → AreFit l down → IsAsked l → IsAsked (with_down l down)
+pub asked_with : (l : Ledger) (down : List (List ℕ)) → AreFit l down → IsAsked l → IsAsked (with_down l down)
 unfolding with_down
 asked_with l [] fit is = is
 asked_with l (bytes ∷ down) fit is = asked_with (listens l (Received bytes)) down fit.1 (asked_down l (seen bytes) fit.0 is)
@@ -127,7 +127,7 @@ never_fails plan sectors error queued fails none =
     let picks : picked plan.order queued ≡ None = ap (picked plan.order) none ∙ none_picked plan.order in
     subst (λ (o : Option Command). FailsNext plan sectors o error) picks fails
 
-error_asked : (plan : DiskPlan) (sectors : ℕ) (l : Ledger) (r : Result Fis FisFault) → ErrsRight plan sectors l r → reports r ≡ true → IsAsked l
+pub error_asked : (plan : DiskPlan) (sectors : ℕ) (l : Ledger) (r : Result Fis FisFault) → ErrsRight plan sectors l r → reports r ≡ true → IsAsked l
 error_asked plan sectors l (Ok (view.SetBits f)) errs is =
     let parts = errs is in
     (parts.0, never_fails plan sectors (field Bits Error f) l.outstanding parts.1)

@@ -16,3 +16,8 @@ pub mod ApartDriver
 pub mod ApartTurns
 pub mod EndLemmas
 pub mod FloorLemmas
+pub mod FlushLemmas
+pub mod FlushHeard
+pub mod FlushDown
+pub mod FlushTurns
+pub mod FlushEnds

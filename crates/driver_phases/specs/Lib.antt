@@ -1,3 +1,4 @@
 pub mod Stages
 pub mod Ends
+pub mod Flushes
 pub mod Resets

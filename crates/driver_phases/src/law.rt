@@ -2,6 +2,7 @@
 //! run no code.
 
 ghost use Rattle.driver_phases.specs.Ends.{EachEndIsHonest, EndsGoOn, FloorsRise, FlushBegins};
+ghost use Rattle.driver_phases.specs.Flushes.{EndsSinceGoOn, FloorsRiseSince, FlushesAreTaken, SinceBegins};
 ghost use Rattle.driver_phases.specs.Resets.{ResetSetsAside};
 
 /// The tick that issues the software reset of a disk sets the device aside.
@@ -22,4 +23,19 @@ pub fn ends_go_on()
 /// when the request was submitted.
 pub fn each_end_is_honest()
     ensures { EachEndIsHonest }
+{}
+
+/// When a request is submitted, the number of FLUSHes that the disk has taken by then is kept with it, too. A
+/// FLUSH that is transmitted is taken by the disk after these, or is on its way, over each turn of the host
+/// and each step of the disk.
+pub fn flushes_go_down()
+    ensures begins { SinceBegins }
+    ensures goes_on { EndsSinceGoOn }
+    ensures rises { FloorsRiseSince }
+{}
+
+/// Whatever went wrong before, if a report says that a FLUSH is done, the disk took one since the request was
+/// submitted.
+pub fn flushes_are_taken()
+    ensures { FlushesAreTaken }
 {}

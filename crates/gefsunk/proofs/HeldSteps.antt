@@ -24,7 +24,7 @@ use Rattle.std_heap.specs.declared.Global.{Global}
 use Rattle.gefsunk.specs.Handles.{boxed, owned}
 use Rattle.gefsunk.specs.contracts.handle.Held as held
 use Rattle.gefsunk.specs.contracts.handle.Loose as loose
-use Rattle.gefsunk.specs.contracts.pm.Pm as state
+use Rattle.gefsunk.specs.contracts.kept.Kept as state
 
 abbrev pub State : RattleType
 State = state.the_row

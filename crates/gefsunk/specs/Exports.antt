@@ -1,26 +1,60 @@
--- What an export leaves behind a handle. Where the handle is closed, nothing is done. A handle stays open or
--- closed, except where a multiplier is made or freed.
-use Rattle.std.specs.Prelude.{◌≡◌, ℕ, ◌≤◌, Option, Some, None}
+-- What an export leaves behind a handle. Where the handle is closed, or has something of another kind, nothing is
+-- done. A handle stays open or closed, except where something is made or freed.
+use Rattle.std.specs.Prelude.{◌≡◌, ℕ, ◌≤◌, List, Option, Some, None}
+use Rattle.disk_model.specs.Disks.{DiskValue}
+use Rattle.gefsunk.specs.Disks.{DiskRefused, IsDiskOf}
 use Rattle.gefsunk.specs.Pms.{opening}
+use Rattle.gefsunk.specs.declared.kept.Kept.{Kept}
+use Rattle.gefsunk.specs.declared.kept.Kept.TheVariants as kept
 use Rattle.gefsunk.specs.declared.pm.Pm.{Pm}
 use Rattle.gefsunk.specs.declared.status.Status.{Status}
 use Rattle.gefsunk.specs.declared.status.Status.TheVariants as status
 
 -- a call on the multiplier behind the handle, by its rule
-abbrev pub At : Option Pm → Status → Option Pm → (Pm → Pm → Type 0) → Type 0
-At None answer new rule = (answer ≡ status.Closed) × (new ≡ None)
-At (Some old) answer (Some new) rule = rule old new
-At (Some old) answer None rule = ⊥
+abbrev pub AtPm : Option Kept → Status → Option Kept → (Pm → Pm → Type 0) → Type 0
+AtPm (Some (kept.Pm old)) answer (Some (kept.Pm new)) rule = rule old new
+AtPm (Some (kept.Pm old)) answer (Some (kept.Disk new)) rule = ⊥
+AtPm (Some (kept.Pm old)) answer None rule = ⊥
+AtPm (Some (kept.Disk old)) answer new rule = (answer ≡ status.Closed) × (new ≡ Some (kept.Disk old))
+AtPm None answer new rule = (answer ≡ status.Closed) × (new ≡ None)
+
+-- a call on the disk behind the handle, by its rule
+abbrev pub AtDisk : Option Kept → Status → Option Kept → (DiskValue → DiskValue → Type 0) → Type 0
+AtDisk (Some (kept.Disk old)) answer (Some (kept.Disk new)) rule = rule old new
+AtDisk (Some (kept.Disk old)) answer (Some (kept.Pm new)) rule = ⊥
+AtDisk (Some (kept.Disk old)) answer None rule = ⊥
+AtDisk (Some (kept.Pm old)) answer new rule = (answer ≡ status.Closed) × (new ≡ Some (kept.Pm old))
+AtDisk None answer new rule = (answer ≡ status.Closed) × (new ≡ None)
 
 -- a multiplier is made behind a closed handle
-abbrev pub Made : Option Pm → ℕ → Status → Option Pm → Type 0
-Made (Some old) ports answer new = (answer ≡ status.Open) × (new ≡ Some old)
-Made None ports status.Done new = (1 ≤ ports) × (ports ≤ 15) × (new ≡ Some (opening ports))
-Made None ports status.BadPorts new = ((1 ≤ ports) × (ports ≤ 15) → ⊥) × (new ≡ None)
-Made None ports status.NoMemory new = (1 ≤ ports) × (ports ≤ 15) × (new ≡ None)
-Made None ports _ new = ⊥
+abbrev pub MadePm : Option Kept → ℕ → Status → Option Kept → Type 0
+MadePm (Some old) ports answer new = (answer ≡ status.Open) × (new ≡ Some old)
+MadePm None ports status.Done new = (1 ≤ ports) × (ports ≤ 15) × (new ≡ Some (kept.Pm (opening ports)))
+MadePm None ports status.BadPorts new = ((1 ≤ ports) × (ports ≤ 15) → ⊥) × (new ≡ None)
+MadePm None ports status.NoMemory new = (1 ≤ ports) × (ports ≤ 15) × (new ≡ None)
+MadePm None ports _ new = ⊥
+
+-- a new disk, with this size, these chunks, flags, serial number and bad sectors
+abbrev pub HasDisk : (sectors size flags serial : ℕ) → List ℕ → Option Kept → Type 0
+HasDisk sectors size flags serial bads (Some (kept.Disk disk)) = IsDiskOf sectors size flags serial bads disk
+HasDisk sectors size flags serial bads (Some (kept.Pm pm)) = ⊥
+HasDisk sectors size flags serial bads None = ⊥
+
+-- a disk is made behind a closed handle
+abbrev pub MadeDisk : Option Kept → (sectors size flags serial : ℕ) → List ℕ → Status → Option Kept → Type 0
+MadeDisk (Some old) sectors size flags serial bads answer new = (answer ≡ status.Open) × (new ≡ Some old)
+MadeDisk None sectors size flags serial bads status.Done new = HasDisk sectors size flags serial bads new
+MadeDisk None sectors size flags serial bads answer new =
+    DiskRefused sectors size flags bads answer × (new ≡ None)
 
 -- the multiplier is freed
-abbrev pub Freed : Option Pm → Status → Option Pm → Type 0
-Freed (Some old) answer new = (answer ≡ status.Done) × (new ≡ None)
-Freed None answer new = (answer ≡ status.Closed) × (new ≡ None)
+abbrev pub FreedPm : Option Kept → Status → Option Kept → Type 0
+FreedPm (Some (kept.Pm old)) answer new = (answer ≡ status.Done) × (new ≡ None)
+FreedPm (Some (kept.Disk old)) answer new = (answer ≡ status.Closed) × (new ≡ Some (kept.Disk old))
+FreedPm None answer new = (answer ≡ status.Closed) × (new ≡ None)
+
+-- the disk is freed
+abbrev pub FreedDisk : Option Kept → Status → Option Kept → Type 0
+FreedDisk (Some (kept.Disk old)) answer new = (answer ≡ status.Done) × (new ≡ None)
+FreedDisk (Some (kept.Pm old)) answer new = (answer ≡ status.Closed) × (new ≡ Some (kept.Pm old))
+FreedDisk None answer new = (answer ≡ status.Closed) × (new ≡ None)

@@ -1,3 +1,4 @@
+pub mod Disks
 pub mod Exports
 pub mod Handles
 pub mod Pms

@@ -20,4 +20,6 @@ status_of n =
     else if n == 13 then status.AlreadyThere
     else if n == 14 then status.NotThere
     else if n == 15 then status.NoRegister
-    else status.Spent
+    else if n == 16 then status.Spent
+    else if n == 17 then status.BadDisk
+    else status.NoSector

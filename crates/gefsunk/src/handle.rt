@@ -1,13 +1,13 @@
-//! What C holds of a multiplier: a struct in its own storage, with a pointer to a value that this library
+//! What C holds of a multiplier or a disk: a struct in its own storage, with a pointer to a value that this library
 //! owns.
 //!
 //! Only four small functions handle pointers: [`Loose::of`], [`Held::from_loose`], [`Held::into_box`] and
 //! [`Held::nothing`]. Each of them is proved by hand. All others are proved from their contracts.
 
 ghost use Rattle.std.specs.Prelude.{◌≡◌, ◌==◌, MatchOption, None, Option, Some, is_some, true};
-ghost use Rattle.gefsunk.specs.declared.pm.Pm.{Pm};
+ghost use Rattle.gefsunk.specs.declared.kept.Kept.{Kept};
 
-use crate::pm::Pm;
+use crate::kept::Kept;
 use std::alloc::Global;
 use std::marker::Model;
 use std::mem;
@@ -41,30 +41,30 @@ impl<T: Drop> Loose<T> {
 #[derive(Drop)]
 pub struct Held {
     at: *mut u8,
-    pub ghost value: { Option Pm },
+    pub ghost value: { Option Kept },
 }
 
 impl Model for Held {
     ghost use Rattle.gefsunk.specs.Handles.{owned};
-    ghost use Rattle.gefsunk.specs.contracts.pm.Pm as kept;
+    ghost use Rattle.gefsunk.specs.contracts.kept.Kept as kept;
 
     ghost also_owns = { λ h. owned kept.the_row h.at h.value };
 }
 
 impl Held {
-    fn from_loose(loose: Loose<Pm>) -> Held
+    fn from_loose(loose: Loose<Kept>) -> Held
         ensures { result.value ≡ Some loose.value }
     {
         let Loose { at } = loose;
         Held { at: at as *mut u8 }
     }
 
-    fn into_box(self, alloc: Global) -> Box<Pm>
+    fn into_box(self, alloc: Global) -> Box<Kept>
         requires { is_some self.value ≡ true }
         ensures { self.value ≡ Some result.value }
     {
         let Held { at } = self;
-        unsafe { Box::from_raw(alloc, at as *mut Pm) }
+        unsafe { Box::from_raw(alloc, at as *mut Kept) }
     }
 
     fn nothing() -> Held
@@ -76,45 +76,47 @@ impl Held {
     }
 }
 
-/// A handle, as C has it in its own storage. It is open if its mark says so. Then it has a multiplier.
+/// A handle, as C has it in its own storage. It is open if its mark says so. Then it has
+/// a multiplier or a disk.
 #[repr(C)]
 #[derive(Drop)]
-pub struct PmHandle {
+pub struct Handle {
     mark: u32,
     pub held: Held,
     ghost agrees: { (mark == 1347767640) ≡ is_some held.value },
 }
 
-impl PmHandle {
-    /// A handle without a multiplier.
-    pub fn closed() -> PmHandle
+impl Handle {
+    /// A closed handle.
+    pub fn closed() -> Handle
         ensures { result.held.value ≡ None }
     {
-        PmHandle {
+        Handle {
             mark: 0,
             held: Held::nothing(),
         }
     }
 
-    /// The handle of a multiplier.
-    pub fn open(pm: Box<Pm>) -> PmHandle
-        ensures { result.held.value ≡ Some pm.value }
+    /// The handle of what is kept.
+    pub fn open(kept: Box<Kept>) -> Handle
+        ensures { result.held.value ≡ Some kept.value }
     {
-        PmHandle {
+        Handle {
             mark: OPEN,
-            held: Held::from_loose(Loose::of(pm)),
+            held: Held::from_loose(Loose::of(kept)),
         }
     }
 
-    /// Takes the multiplier out, and leaves the handle closed.
-    pub fn take(&mut self, alloc: Global) -> Option<Box<Pm>>
-        ensures taken { MatchOption result (self.old.held.value ≡ None) (λ pm. self.old.held.value ≡ Some pm.value) }
+    /// Takes out what is kept, and leaves the handle closed.
+    pub fn take(&mut self, alloc: Global) -> Option<Box<Kept>>
+        ensures taken { MatchOption result (self.old.held.value ≡ None) (λ kept.
+            self.old.held.value ≡ Some kept.value) }
         ensures closed { self.new.held.value ≡ None }
     {
         if self.mark != OPEN {
             return None;
         }
-        let old = mem::replace(self, PmHandle::closed());
+        let old = mem::replace(self, Handle::closed());
         Some(old.held.into_box(alloc))
     }
 }

@@ -3,18 +3,22 @@
 #![tactic(auto)]
 
 ghost use Rattle.std.specs.Prelude.{◌≡◌, length, take};
-ghost use Rattle.gefsunk.specs.Exports.{At, Freed, Made};
+ghost use Rattle.gefsunk.specs.Disks.{DiskFromHost, DiskPlug, DiskToHost, SectorRule};
+ghost use Rattle.gefsunk.specs.Exports.{AtDisk, AtPm, FreedDisk, FreedPm, MadeDisk, MadePm};
 ghost use Rattle.gefsunk.specs.Pms.{FromDevice, FromHost, Plug, ReadRule, ToDevice, ToHost, Unplug};
 ghost use Rattle.gefsunk.specs.Statuses.{status_of};
 ghost use Rattle.gefsunk.specs.Texts.{TextRule};
 ghost use Rattle.gefsunk.specs.declared.status.Status.TheVariants as status;
 
+mod disk;
 mod handle;
+mod kept;
 mod pm;
 mod status;
 mod text;
 
-pub use handle::{Held, PmHandle};
+pub use handle::{Handle, Held};
+pub use kept::Kept;
 pub use pm::Pm;
 pub use status::Status;
 use std::alloc::Global;
@@ -29,19 +33,19 @@ pub extern "C" fn gefsunk_fis_text(fis: &[u8], room: &mut [u8], len: &mut usize)
 
 /// Makes a multiplier with this many ports, and opens the handle.
 #[unsafe(no_mangle)]
-pub extern "C" fn gefsunk_pm_new(handle: &mut PmHandle, alloc: Global, ports: u8) -> u32
-    ensures { Made handle.old.held.value ports (status_of result) handle.new.held.value }
+pub extern "C" fn gefsunk_pm_new(handle: &mut Handle, alloc: Global, ports: u8) -> u32
+    ensures { MadePm handle.old.held.value ports (status_of result) handle.new.held.value }
 {
-    if let Some(pm) = handle.take(alloc) {
-        *handle = PmHandle::open(pm);
+    if let Some(kept) = handle.take(alloc) {
+        *handle = Handle::open(kept);
         return Status::Open.code();
     }
     if ports < 1 || ports > 15 {
         return Status::BadPorts.code();
     }
-    match Box::new(alloc, Pm::new(ports)) {
-        Ok(pm) => {
-            *handle = PmHandle::open(pm);
+    match Box::new(alloc, Kept::Pm(Pm::new(ports))) {
+        Ok(kept) => {
+            *handle = Handle::open(kept);
             Status::Done.code()
         }
         Err(_) => Status::NoMemory.code(),
@@ -50,146 +54,306 @@ pub extern "C" fn gefsunk_pm_new(handle: &mut PmHandle, alloc: Global, ports: u8
 
 /// Frees the multiplier, and closes the handle.
 #[unsafe(no_mangle)]
-pub extern "C" fn gefsunk_pm_free(handle: &mut PmHandle, alloc: Global) -> u32
-    ensures { Freed handle.old.held.value (status_of result) handle.new.held.value }
+pub extern "C" fn gefsunk_pm_free(handle: &mut Handle, alloc: Global) -> u32
+    ensures { FreedPm handle.old.held.value (status_of result) handle.new.held.value }
 {
-    match handle.take(alloc) {
-        Some(_) => Status::Done.code(),
-        None => Status::Closed.code(),
+    let kept = match handle.take(alloc) {
+        Some(kept) => kept,
+        None => return Status::Closed.code(),
+    };
+    match &*kept {
+        Kept::Pm(_) => Status::Done.code(),
+        Kept::Disk(_) => {
+            *handle = Handle::open(kept);
+            Status::Closed.code()
+        }
     }
 }
 
 /// A device comes to a port.
 #[unsafe(no_mangle)]
-pub extern "C" fn gefsunk_pm_plug(handle: &mut PmHandle, alloc: Global, port: u8) -> u32
-    ensures { At handle.old.held.value (status_of result) handle.new.held.value
+pub extern "C" fn gefsunk_pm_plug(handle: &mut Handle, alloc: Global, port: u8) -> u32
+    ensures { AtPm handle.old.held.value (status_of result) handle.new.held.value
         (λ old new. Plug old port (status_of result) new) }
 {
-    let Some(mut pm) = handle.take(alloc) else {
+    let Some(mut kept) = handle.take(alloc) else {
         return Status::Closed.code();
     };
-    let status = pm.plug(port);
-    *handle = PmHandle::open(pm);
+    let status = match &mut *kept {
+        Kept::Pm(pm) => pm.plug(port),
+        Kept::Disk(_) => Status::Closed,
+    };
+    *handle = Handle::open(kept);
     status.code()
 }
 
 /// The device of a port goes.
 #[unsafe(no_mangle)]
-pub extern "C" fn gefsunk_pm_unplug(handle: &mut PmHandle, alloc: Global, port: u8) -> u32
-    ensures { At handle.old.held.value (status_of result) handle.new.held.value
+pub extern "C" fn gefsunk_pm_unplug(handle: &mut Handle, alloc: Global, port: u8) -> u32
+    ensures { AtPm handle.old.held.value (status_of result) handle.new.held.value
         (λ old new. Unplug old port (status_of result) new) }
 {
-    let Some(mut pm) = handle.take(alloc) else {
+    let Some(mut kept) = handle.take(alloc) else {
         return Status::Closed.code();
     };
-    let status = pm.unplug(port);
-    *handle = PmHandle::open(pm);
+    let status = match &mut *kept {
+        Kept::Pm(pm) => pm.unplug(port),
+        Kept::Disk(_) => Status::Closed,
+    };
+    *handle = Handle::open(kept);
     status.code()
 }
 
 /// Takes a FIS from the host.
 #[unsafe(no_mangle)]
-pub extern "C" fn gefsunk_pm_from_host(handle: &mut PmHandle, alloc: Global, fis: &[u8]) -> u32
-    ensures { At handle.old.held.value (status_of result) handle.new.held.value
+pub extern "C" fn gefsunk_pm_from_host(handle: &mut Handle, alloc: Global, fis: &[u8]) -> u32
+    ensures { AtPm handle.old.held.value (status_of result) handle.new.held.value
         (λ old new. FromHost old fis.now (status_of result) new) }
 {
-    let Some(mut pm) = handle.take(alloc) else {
+    let Some(mut kept) = handle.take(alloc) else {
         return Status::Closed.code();
     };
-    let status = pm.from_host(alloc, fis);
-    *handle = PmHandle::open(pm);
+    let status = match &mut *kept {
+        Kept::Pm(pm) => pm.from_host(alloc, fis),
+        Kept::Disk(_) => Status::Closed,
+    };
+    *handle = Handle::open(kept);
     status.code()
 }
 
 /// Takes a FIS from the device at a port.
 #[unsafe(no_mangle)]
 pub extern "C" fn gefsunk_pm_from_device(
-    handle: &mut PmHandle,
+    handle: &mut Handle,
     alloc: Global,
     port: u8,
     fis: &[u8],
 ) -> u32
-    ensures { At handle.old.held.value (status_of result) handle.new.held.value
+    ensures { AtPm handle.old.held.value (status_of result) handle.new.held.value
         (λ old new. FromDevice old port fis.now (status_of result) new) }
 {
-    let Some(mut pm) = handle.take(alloc) else {
+    let Some(mut kept) = handle.take(alloc) else {
         return Status::Closed.code();
     };
-    let status = pm.from_device(alloc, port, fis);
-    *handle = PmHandle::open(pm);
+    let status = match &mut *kept {
+        Kept::Pm(pm) => pm.from_device(alloc, port, fis),
+        Kept::Disk(_) => Status::Closed,
+    };
+    *handle = Handle::open(kept);
     status.code()
 }
 
 /// Gives the next FIS for the host.
 #[unsafe(no_mangle)]
 pub extern "C" fn gefsunk_pm_to_host(
-    handle: &mut PmHandle,
+    handle: &mut Handle,
     alloc: Global,
     room: &mut [u8],
     len: &mut usize,
     port: &mut u8,
 ) -> u32
-    ensures { At handle.old.held.value (status_of result) handle.new.held.value
+    ensures { AtPm handle.old.held.value (status_of result) handle.new.held.value
         (λ old new. ToHost old (length room.old) (status_of result) (take len.new room.new) port.new new) }
 {
-    let Some(mut pm) = handle.take(alloc) else {
+    let Some(mut kept) = handle.take(alloc) else {
         return Status::Closed.code();
     };
-    let status = pm.to_host(alloc, room, len, port);
-    *handle = PmHandle::open(pm);
+    let status = match &mut *kept {
+        Kept::Pm(pm) => pm.to_host(alloc, room, len, port),
+        Kept::Disk(_) => Status::Closed,
+    };
+    *handle = Handle::open(kept);
     status.code()
 }
 
 /// Gives the FIS that waits for the device at a port.
 #[unsafe(no_mangle)]
 pub extern "C" fn gefsunk_pm_to_device(
-    handle: &mut PmHandle,
+    handle: &mut Handle,
     alloc: Global,
     port: u8,
     room: &mut [u8],
     len: &mut usize,
 ) -> u32
-    ensures { At handle.old.held.value (status_of result) handle.new.held.value
+    ensures { AtPm handle.old.held.value (status_of result) handle.new.held.value
         (λ old new. ToDevice old port (length room.old) (status_of result) (take len.new room.new) new) }
 {
-    let Some(mut pm) = handle.take(alloc) else {
+    let Some(mut kept) = handle.take(alloc) else {
         return Status::Closed.code();
     };
-    let status = pm.to_device(port, room, len);
-    *handle = PmHandle::open(pm);
+    let status = match &mut *kept {
+        Kept::Pm(pm) => pm.to_device(port, room, len),
+        Kept::Disk(_) => Status::Closed,
+    };
+    *handle = Handle::open(kept);
     status.code()
 }
 
 /// Reads a register of a port.
 #[unsafe(no_mangle)]
 pub extern "C" fn gefsunk_pm_read(
-    handle: &mut PmHandle,
+    handle: &mut Handle,
     alloc: Global,
     port: u8,
     number: u16,
     value: &mut u32,
 ) -> u32
-    ensures { At handle.old.held.value (status_of result) handle.new.held.value
+    ensures { AtPm handle.old.held.value (status_of result) handle.new.held.value
         (λ old new. ReadRule old port number (status_of result) value.new × (new ≡ old)) }
 {
-    let Some(pm) = handle.take(alloc) else {
+    let Some(kept) = handle.take(alloc) else {
         return Status::Closed.code();
     };
-    let status = pm.read(port, number, value);
-    *handle = PmHandle::open(pm);
+    let status = match &*kept {
+        Kept::Pm(pm) => pm.read(port, number, value),
+        Kept::Disk(_) => Status::Closed,
+    };
+    *handle = Handle::open(kept);
     status.code()
 }
 
 /// Gives the number of FISes of the host that were dropped.
 #[unsafe(no_mangle)]
-pub extern "C" fn gefsunk_pm_dropped(handle: &mut PmHandle, alloc: Global, count: &mut u32) -> u32
-    ensures { At handle.old.held.value (status_of result) handle.new.held.value
+pub extern "C" fn gefsunk_pm_dropped(handle: &mut Handle, alloc: Global, count: &mut u32) -> u32
+    ensures { AtPm handle.old.held.value (status_of result) handle.new.held.value
         (λ old new. (status_of result ≡ status.Done) × (count.new ≡ old.multiplier.dropped) × (new ≡ old)) }
 {
-    let Some(pm) = handle.take(alloc) else {
+    let Some(kept) = handle.take(alloc) else {
         return Status::Closed.code();
     };
-    *count = pm.multiplier.dropped();
-    *handle = PmHandle::open(pm);
-    Status::Done.code()
+    let status = match &*kept {
+        Kept::Pm(pm) => {
+            *count = pm.multiplier.dropped();
+            Status::Done
+        }
+        Kept::Disk(_) => Status::Closed,
+    };
+    *handle = Handle::open(kept);
+    status.code()
+}
+
+/// Makes a disk, and opens the handle.
+#[unsafe(no_mangle)]
+pub extern "C" fn gefsunk_disk_new(
+    handle: &mut Handle,
+    alloc: Global,
+    sectors: u32,
+    chunk: u16,
+    flags: u32,
+    serial: u32,
+    bad: &[u32],
+) -> u32
+    ensures { MadeDisk handle.old.held.value sectors chunk flags serial bad.now
+        (status_of result) handle.new.held.value }
+{
+    if let Some(kept) = handle.take(alloc) {
+        *handle = Handle::open(kept);
+        return Status::Open.code();
+    }
+    let disk = match disk::new_disk(alloc, sectors, chunk, flags, serial, bad) {
+        Ok(disk) => disk,
+        Err(status) => return status.code(),
+    };
+    match Box::new(alloc, Kept::Disk(disk)) {
+        Ok(kept) => {
+            *handle = Handle::open(kept);
+            Status::Done.code()
+        }
+        Err(_) => Status::NoMemory.code(),
+    }
+}
+
+/// Frees the disk, and closes the handle.
+#[unsafe(no_mangle)]
+pub extern "C" fn gefsunk_disk_free(handle: &mut Handle, alloc: Global) -> u32
+    ensures { FreedDisk handle.old.held.value (status_of result) handle.new.held.value }
+{
+    let Some(kept) = handle.take(alloc) else {
+        return Status::Closed.code();
+    };
+    match &*kept {
+        Kept::Disk(_) => Status::Done.code(),
+        Kept::Pm(_) => {
+            *handle = Handle::open(kept);
+            Status::Closed.code()
+        }
+    }
+}
+
+/// The disk is plugged in.
+#[unsafe(no_mangle)]
+pub extern "C" fn gefsunk_disk_plug(handle: &mut Handle, alloc: Global) -> u32
+    ensures { AtDisk handle.old.held.value (status_of result) handle.new.held.value
+        (λ old new. DiskPlug old (status_of result) new) }
+{
+    let Some(mut kept) = handle.take(alloc) else {
+        return Status::Closed.code();
+    };
+    let status = match &mut *kept {
+        Kept::Disk(disk) => disk::plug(disk, alloc),
+        Kept::Pm(_) => Status::Closed,
+    };
+    *handle = Handle::open(kept);
+    status.code()
+}
+
+/// The disk takes a FIS from the host.
+#[unsafe(no_mangle)]
+pub extern "C" fn gefsunk_disk_from_host(handle: &mut Handle, alloc: Global, fis: &[u8]) -> u32
+    ensures { AtDisk handle.old.held.value (status_of result) handle.new.held.value
+        (λ old new. DiskFromHost old fis.now (status_of result) new) }
+{
+    let Some(mut kept) = handle.take(alloc) else {
+        return Status::Closed.code();
+    };
+    let status = match &mut *kept {
+        Kept::Disk(disk) => disk::from_host(disk, alloc, fis),
+        Kept::Pm(_) => Status::Closed,
+    };
+    *handle = Handle::open(kept);
+    status.code()
+}
+
+/// Gives the next FIS of the disk for the host.
+#[unsafe(no_mangle)]
+pub extern "C" fn gefsunk_disk_to_host(
+    handle: &mut Handle,
+    alloc: Global,
+    room: &mut [u8],
+    len: &mut usize,
+) -> u32
+    ensures { AtDisk handle.old.held.value (status_of result) handle.new.held.value
+        (λ old new. DiskToHost old (length room.old) (status_of result) (take len.new room.new) new) }
+{
+    let Some(mut kept) = handle.take(alloc) else {
+        return Status::Closed.code();
+    };
+    let status = match &mut *kept {
+        Kept::Disk(disk) => disk::to_host(disk, alloc, room, len),
+        Kept::Pm(_) => Status::Closed,
+    };
+    *handle = Handle::open(kept);
+    status.code()
+}
+
+/// Gives a sector of the medium.
+#[unsafe(no_mangle)]
+pub extern "C" fn gefsunk_disk_sector(
+    handle: &mut Handle,
+    alloc: Global,
+    lba: u32,
+    room: &mut [u8],
+) -> u32
+    ensures { AtDisk handle.old.held.value (status_of result) handle.new.held.value
+        (λ old new. SectorRule old lba (length room.old) (status_of result) (take 512 room.new) × (new ≡ old)) }
+{
+    let Some(kept) = handle.take(alloc) else {
+        return Status::Closed.code();
+    };
+    let status = match &*kept {
+        Kept::Disk(disk) => disk::sector(disk, lba, room),
+        Kept::Pm(_) => Status::Closed,
+    };
+    *handle = Handle::open(kept);
+    status.code()
 }

@@ -24,7 +24,7 @@ pub struct Pm {
 }
 
 /// The stamp of a frame of the host, or of a device.
-fn stamp(port: u8, conn: u32) -> Stamp
+pub fn stamp(port: u8, conn: u32) -> Stamp
     ensures { result ≡ record { port = port; conn = conn; number = 0; shown = no_removals } }
 {
     Stamp {
@@ -43,7 +43,7 @@ fn port_count(registers: &PmRegisters) -> u32
 }
 
 /// Why bytes are not a frame.
-fn refused(error: FrameError) -> Status
+pub fn refused(error: FrameError) -> Status
     ensures { result ≡ refused error }
 {
     match error {
@@ -210,7 +210,7 @@ impl Pm {
 }
 
 /// Copies a frame into the room, and returns its length.
-fn copied(frame: &Frame, room: &mut [u8]) -> usize
+pub fn copied(frame: &Frame, room: &mut [u8]) -> usize
     requires { 8196 ≤ length room.old }
     ensures copied { take result room.new ≡ frame.now.bytes }
     ensures room { length room.new ≡ length room.old }

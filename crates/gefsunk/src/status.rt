@@ -36,6 +36,10 @@ pub enum Status {
     NoRegister = 15,
     /// The port has no number left for another device.
     Spent = 16,
+    /// A disk cannot have this size, this chunk, these flags or so many bad sectors.
+    BadDisk = 17,
+    /// The disk has no such sector.
+    NoSector = 18,
 }
 
 impl Status {

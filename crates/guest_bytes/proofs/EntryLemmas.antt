@@ -1,4 +1,4 @@
--- Facts on the entries of a table as it is read.
+-- Facts about the entries of a table as it is read.
 use Rattle.std.proofs.Common.{◌≡◌, ℕ, suc, ◌+◌, ◌*◌, ◌^◌, ◌%◌, false, ◌<◌, ◌≤◌, List, [], ◌∷◌, ◌++◌, length, take, get_or, All, ap, ◌∙◌, arith, inl, inr, length-append}
 use Rattle.std.proofs.lemmas.Bool.{cases_lt, ltb-false}
 use Rattle.std.proofs.lemmas.List.{take-append-le, take_more, length-take}
@@ -51,7 +51,7 @@ total_take_below table k are =
     let below = total_below (take k table) (All-take IsSegment k table are) in
     omega (arith, below, length-take k table)
 
--- what 16 bytes spell has bytes
+-- an entry in 16 bytes has bytes
 pub entry_is : (raw : List ℕ) (s : Segment) → s ≡ entry_of raw → passes_end s ≡ false → IsSegment s
 entry_is raw s spelled inside =
     let bytes : s.bytes ≡ dword_at raw 12 % 2 ^ 22 + 1 = ap (λ (x : Segment). x.bytes) spelled in

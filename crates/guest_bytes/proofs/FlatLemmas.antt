@@ -1,10 +1,10 @@
--- What bytes that are written one after another leave of a block.
+-- What writing bytes one after another leaves of a block.
 use Rattle.std.proofs.Common.{◌≡◌, ℕ, suc, ◌+◌, ◌-◌, ◌≤◌, List, [], ◌∷◌, ◌++◌, length, take, drop, set, sym, ap, ◌∙◌, arith, append_assoc}
 use Rattle.std.proofs.lemmas.List.{drop-set-lt, take_more_set, take-append-drop, length-set}
 use Rattle.guest_bytes.specs.Guest.{singles_from}
 use Rattle.guest_bytes.specs.Flat.{written_by, overwritten}
 
--- written in order from a place on, they stand there, and all others are as they were
+-- bytes written in order from a place on are there, and all others are as they were
 pub written_run : (base start : ℕ) (bytes old : List ℕ) → start + length bytes ≤ length old
     → written_by base (singles_from (base + start) bytes) old ≡ take start old ++ (bytes ++ drop (start + length bytes) old)
 written_run base start [] old room = let same : start + 0 ≡ start = omega arith in rw same (sym (take-append-drop start old))

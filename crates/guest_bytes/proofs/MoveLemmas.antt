@@ -1,4 +1,4 @@
--- Facts on the moves of a payload.
+-- Facts about the moves of a payload.
 use Rattle.std.proofs.Common.{◌≡◌, ℕ, zero, suc, ◌+◌, ◌-◌, ◌^◌, ◌<◌, ◌≤◌, min, nat_lt, List, [], ◌∷◌, ◌++◌, length, take, drop, get_or, slice_get, Some, All, refl, sym, ap, ◌∙◌, arith, inl, inr, length-drop, length-append}
 use Rattle.std.proofs.lemmas.Slice.{take-put_mid, take-put_mid_below, drop-put_mid, between-put_mid}
 use borrow.Rule.Slice.PartMut.{put_mid}
@@ -14,11 +14,11 @@ use Rattle.guest_bytes.specs.Moves.{moves_of, IsMove, HoldMoves, Fetches}
 
 -- ---- places
 
--- byte i lies in the first entry where it is below its count
+-- byte i lies in the first entry if it is below its count
 pub place_here : (s : Segment) (rest : List Segment) (i : ℕ) → i < s.bytes → place (s ∷ rest) i ≡ s.address + i
 place_here s rest i h = cond-true (nat_lt i s.bytes) (s.address + i) (place rest (i - s.bytes)) (lt-ltb i s.bytes h)
 
--- and else in the rest
+-- otherwise it lies in the rest
 pub place_later : (s : Segment) (rest : List Segment) (i : ℕ) → s.bytes ≤ i → place (s ∷ rest) i ≡ place rest (i - s.bytes)
 place_later s rest i h = cond-false (nat_lt i s.bytes) (s.address + i) (place rest (i - s.bytes)) (le-ltb i s.bytes h)
 
@@ -28,7 +28,7 @@ place_later s rest i h = cond-false (nat_lt i s.bytes) (s.address + i) (place re
 pub named_one : (table : List Segment) (offset byte : ℕ) (bytes : List ℕ) → offset < total_of table → named table offset (byte ∷ bytes) ≡ single (place table offset) byte ∷ named table (offset + 1) bytes
 named_one table offset byte bytes h = cond-true (nat_lt offset (total_of table)) _ _ (lt-ltb offset (total_of table) h)
 
--- past its end it names none
+-- past its end the table names none
 pub named_past : (table : List Segment) (offset : ℕ) (bytes : List ℕ) → total_of table ≤ offset → named table offset bytes ≡ []
 named_past table offset [] h = refl
 named_past table offset (byte ∷ bytes) h = cond-false (nat_lt offset (total_of table)) _ _ (le-ltb offset (total_of table) h)
@@ -62,7 +62,7 @@ named_later s rest skip (byte ∷ bytes) h =
 
 -- ---- what the moves bring
 
--- in the first of these entries the bytes go on
+-- the next byte lies in the first of these entries
 abbrev pub Begins : List Segment → ℕ → Type 0
 Begins [] skip = Unit {0}
 Begins (s ∷ rest) skip = skip < s.bytes
@@ -74,7 +74,7 @@ begins_zero : (rest : List Segment) → All IsSegment rest → Begins rest 0
 begins_zero [] are = tt
 begins_zero (s ∷ rest) are = (are 0 s (omega arith)).0
 
--- the bytes of a payload from done on go to the places of the bytes skip and on of these entries
+-- the bytes of a payload from done on go to the places of the bytes of these entries from skip on
 pub moves_bring : (table : List Segment) (skip done left : ℕ) (payload : List ℕ) → All IsSegment table → Begins table skip → length payload ≡ done + left
     → singles payload (moves_of table skip done left) ≡ named table skip (drop done payload)
 unfolding moves_of
@@ -103,7 +103,7 @@ moves_bring (s ∷ rest) skip done (suc n) payload are begins long =
     ∙ sym (named_here s rest skip here later (omega arith))
     ∙ ap (λ (xs : List ℕ). named (s ∷ rest) skip xs) (take-append-drop len bytes)
 
--- each is one of the payload
+-- each is a move of the payload
 pub moves_are : (table : List Segment) (skip done left len : ℕ) → All IsSegment table → Begins table skip → done + left ≡ len → All (IsMove len) (moves_of table skip done left)
 unfolding moves_of
 moves_are [] skip done left len are begins all = All-nil (IsMove len)
@@ -114,7 +114,7 @@ moves_are (s ∷ rest) skip done (suc n) len are begins all =
     All-cons (IsMove len) (record { at = s.address + skip; from = done; len = count }) (moves_of rest 0 (done + count) (suc n - count)) (omega arith, omega arith, omega arith)
     (moves_are rest 0 (done + count) (suc n - count) len (tail s rest are) (begins_zero rest (tail s rest are)) (omega arith))
 
--- there are no more than entries
+-- there are no more moves than entries
 pub moves_few : (table : List Segment) (skip done left : ℕ) → length (moves_of table skip done left) ≤ length table
 unfolding moves_of
 moves_few [] skip done left = omega arith
@@ -126,7 +126,7 @@ moves_few (s ∷ rest) skip done (suc n) =
 
 -- ---- the state of the iterator
 
--- the entry in which the bytes go on
+-- the entry of the next byte
 pub record Stands (segments : List Segment) (next skip : ℕ) (s : Segment) : Type 0 where
   pub is : IsSegment s
   pub inside : skip < s.bytes
@@ -149,7 +149,7 @@ begins_at segments next skip done len hold =
       | inr ge ↦ rw (drop_all next segments ge) tt
     ]
 
--- where all bytes are moved, and past the last entry
+-- nothing is left once all bytes are moved, or past the last entry
 pub moves_done : (table : List Segment) (skip done : ℕ) → moves_of table skip done 0 ≡ []
 unfolding moves_of
 moves_done [] skip done = refl
@@ -165,7 +165,7 @@ unfolding moves_of
 moves_cons s rest skip done zero some = absurd (omega arith)
 moves_cons s rest skip done (suc n) some = refl
 
--- the first of the moves that are left is given, and the others are left
+-- the first move that is left is given, and the others are left
 pub moves_step : (segments : List Segment) (next skip done len count : ℕ) (s : Segment) (moves : List Move) → Stands segments next skip s → done < len → count ≡ min (s.bytes - skip) (len - done)
     → moves_of (drop next segments) skip done (len - done) ≡ moves
     → moves ≡ (record { at = s.address + skip; from = done; len = count }) ∷ moves_of (drop (next + 1) segments) 0 (done + count) (len - (done + count))
@@ -192,7 +192,7 @@ hold_next segments next skip done len count s hold there is = record {
   within = omega (arith, hold.within);
 }
 
--- ---- what is said of all of them
+-- ---- what holds for all of them
 
 pub hold_first : (table : List Segment) (next skip len : ℕ) (d : Segment) → All IsSegment table → next ≤ length table → (next < length table → skip < (get_or table next d).bytes) → HoldMoves table next skip 0 len
 hold_first table next skip len d are there here = record {
@@ -217,7 +217,7 @@ pub delivers_from : (table : List Segment) (offset next skip len : ℕ) (moves :
 delivers_from table offset next skip len moves hold same is payload long =
     ap (singles payload) is ∙ moves_bring (drop next table) skip 0 len payload (All-drop IsSegment next table hold.are) (begins_at table next skip 0 len hold) (omega (arith, long)) ∙ sym (same payload)
 
--- one entry is passed by
+-- one entry is passed over
 pub named_passed : (table : List Segment) (k skip : ℕ) (d : Segment) (bytes : List ℕ) → k < length table → (get_or table k d).bytes ≤ skip
     → named (drop k table) skip bytes ≡ named (drop (k + 1) table) (skip - (get_or table k d).bytes) bytes
 named_passed table k skip d bytes there past = ap (λ (t : List Segment). named t skip bytes) (drop_more table k d there) ∙ named_later (get_or table k d) (drop (k + 1) table) skip bytes past
@@ -247,7 +247,7 @@ only_to_table table offset payload moves delivers k s e = named_is table offset 
 
 -- ---- what is read for a move
 
--- the bytes of a part of a payload, of which others are left as they were
+-- the bytes of a part of a payload; the others are left as they were
 pub fetched : (may_read : ℕ → List ℕ → Type 0) (m : Move) (old into : List ℕ) (k : ℕ) → m.from + m.len ≤ length old → k ≡ m.len → length into ≡ m.len → may_read m.at into → Fetches may_read m old (put_mid m.from k old into)
 fetched may_read m old into k fits is long read =
     let new = put_mid m.from k old into in

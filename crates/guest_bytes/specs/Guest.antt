@@ -1,5 +1,5 @@
 -- Where a guest's bytes lie, and what goes there: AHCI 1.3.1, section 4.2.3.3, Physical Region Descriptor
--- Table. The entries of a table, in order, name runs of memory; the transfer's bytes fill them one after
+-- Table. The entries of a table name runs of memory, in order. The bytes of the transfer fill these one after
 -- another.
 use Rattle.std.specs.Prelude.{◌≡◌, ℕ, ◌+◌, ◌-◌, ◌<◌, ◌≤◌, nat_lt, if◌then◌else◌, List, [], ◌∷◌, ◌++◌}
 use Rattle.std.specs.Prelude.{length, take}
@@ -25,32 +25,31 @@ abbrev pub singles : List ℕ → List Move → List Single
 singles payload [] = []
 singles payload (m ∷ rest) = singles_from m.at (take m.len (drop m.from payload)) ++ singles payload rest
 
--- how many bytes a transfer has: the sum of the entries' counts
+-- the number of bytes in a transfer: the sum of the entries' counts
 abbrev pub total_of : List Segment → ℕ
 total_of [] = 0
 total_of (s ∷ rest) = s.bytes + total_of rest
 
--- The address of byte i of a transfer: in the first entry where i is below its count, else that of byte i
--- less this count in the rest. Past the end it says nothing of use.
+-- The address of byte i of a transfer. If i is below the count of the first entry, the byte is in that entry;
+-- otherwise it is byte i less this count of the rest. Past the end the address has no meaning.
 abbrev pub place : List Segment → ℕ → ℕ
 place [] i = 0
 place (s ∷ rest) i = (if nat_lt i s.bytes then s.address + i else place rest (i - s.bytes))
 
--- these bytes of a transfer, from byte offset on, each at the place that the table names, and none past its
--- end
+-- these bytes of a transfer, from byte offset on, each at the place that the table names; bytes past its end
+-- have none
 abbrev pub named : List Segment → ℕ → List ℕ → List Single
 named table offset [] = []
 named table offset (byte ∷ bytes) =
     (if nat_lt offset (total_of table)
     then single (place table offset) byte ∷ named table (offset + 1) bytes else [])
 
--- whatever the payload of so many bytes is, the moves bring its bytes to their places, in order, and
--- nothing else
+-- whatever the bytes of the payload are, the moves bring them to their places, in order, and nothing else
 abbrev pub Delivers : List Segment → ℕ → ℕ → List Move → Type 0
 Delivers table offset len moves =
     (payload : List ℕ) → length payload ≡ len → singles payload moves ≡ named table offset payload
 
--- the address is that of one of count bytes of the transfer from byte offset on
+-- the address belongs to one of count bytes of the transfer, from byte offset on
 pub record IsNamed (table : List Segment) (offset count at : ℕ) : Type 0 where
   pub byte : ℕ
   pub after : offset ≤ byte

@@ -6,13 +6,13 @@ use Rattle.guest_bytes.specs.declared.entry.Segment.{Segment}
 use Rattle.guest_bytes.specs.declared.moves.Move.{Move}
 use Rattle.guest_bytes.specs.Entries.{IsSegment}
 
--- what is said of each move out of a payload of len bytes: it takes some byte, and lies in the payload and
--- below the last address
+-- a move out of a payload of len bytes takes at least one byte, and lies in the payload and below the last
+-- address
 abbrev pub IsMove : ℕ → Move → Type 0
 IsMove len m = (0 < m.len) × (m.from + m.len ≤ len) × (m.at + m.len ≤ 2 ^ 64)
 
--- so many bytes of a payload, from byte done of it on, to the byte skip of the first of these entries and
--- on: the rest of that entry, as far as they go, then those of the entries after it
+-- The moves of left bytes of a payload, from its byte done on. The first goes to byte skip of the first
+-- entry. They fill the rest of that entry, and then the entries after it.
 unfoldable pub moves_of : List Segment → ℕ → ℕ → ℕ → List Move
 moves_of [] skip done left = []
 moves_of (s ∷ rest) skip done zero = []
@@ -20,14 +20,14 @@ moves_of (s ∷ rest) skip done (suc n) =
     let len = min (s.bytes - skip) (suc n) in
     (record { at = s.address + skip; from = done; len = len }) ∷ moves_of rest 0 (done + len) (suc n - len)
 
--- what every value keeps: of the entries that are left the first has the byte skip
+-- what holds for every value: byte skip is in the first of the entries that are left
 pub record HoldMoves (segments : List Segment) (next skip done len : ℕ) : Type 0 where
   pub are : All IsSegment segments
   pub there : next ≤ length segments
   pub begins : (s : Segment) → slice_get segments next ≡ Some s → skip < s.bytes
   pub within : done ≤ len
 
--- The bytes of a move were read into its place in a payload. All others are as they were.
+-- The bytes of a move were read into its place in a payload. All other bytes are as they were.
 pub record Fetches (may_read : ℕ → List ℕ → Type 0) (m : Move) (old new : List ℕ) : Type 0 where
   pub read : may_read m.at (take m.len (drop m.from new))
   pub before : take m.from new ≡ take m.from old

@@ -6,13 +6,13 @@ ghost use Rattle.guest_bytes.specs.Entries.{IsEntryAt, dword_at, entry_of, passe
 use crate::guest::{Guest, NotThere};
 use byteorder::{ByteOrder, LittleEndian};
 
-/// An entry of a command's table, a Physical Region Descriptor (AHCI 1.3.1, section 4.2.3.3): a run of
-/// `bytes` bytes of a transfer lies in the guest's memory from `address` on.
+/// An entry of a command's table, a Physical Region Descriptor (AHCI 1.3.1, section 4.2.3.3). `bytes` bytes
+/// of a transfer lie in the guest's memory, from `address` on.
 #[derive(Clone, Copy, Debug, PartialEq, Eq)]
 pub struct Segment {
-    /// Where the run begins.
+    /// The address of the first byte.
     pub address: u64,
-    /// How many bytes it has, 1 to 4 MiB. The field of the table holds one less.
+    /// The number of bytes, 1 to 4 MiB. The field of the table holds one less.
     pub bytes: u32,
 }
 
@@ -36,7 +36,7 @@ fn segment_of(raw: &[u8]) -> Segment
 }
 
 impl Segment {
-    /// Whether it has bytes past the last address, of 64 bits.
+    /// Whether some of its bytes lie past the last 64-bit address.
     pub(crate) fn passes_end(self) -> bool
         requires { 0 < self.bytes }
         ensures { result ≡ passes_end_of self }
@@ -45,7 +45,7 @@ impl Segment {
     }
 }
 
-// Reads the entry that lies there.
+// Reads the entry at this address.
 pub(crate) fn read_entry<G: Guest>(guest: &G, at: u64) -> Result<Segment, NotThere>
     ensures ok { IfOk result (λ segment. IsEntryAt (G.may_read guest.now) at segment) }
     ensures err { OnErr result (G.may_miss guest.now at 16) }

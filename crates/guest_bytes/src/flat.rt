@@ -11,10 +11,10 @@ use std::alloc::{AllocError, Global};
 use std::marker::Model;
 use thiserror::Error;
 
-/// Why there is no such memory.
+/// Why such a memory cannot be made.
 #[derive(Clone, Copy, Debug, PartialEq, Eq, Error)]
 pub enum FlatError {
-    /// It would reach past the last address of 64 bits.
+    /// It would reach past the last 64-bit address.
     #[error("past the last address")]
     PastEnd = 1,
     /// An allocation was refused.
@@ -33,7 +33,7 @@ impl From<AllocError> for FlatError {
     }
 }
 
-/// A guest's memory that is one block from an address on, to which nobody else writes: for tests, and for
+/// A guest's memory in one block, from an address on. Nobody else writes to it. It is for tests, and for
 /// guests that a scenario plays.
 #[derive(Debug, Drop)]
 pub struct FlatGuest {
@@ -51,7 +51,7 @@ impl Model for FlatGuest {
     ghost invariant = { λ g. IsBlock (record { base = g.base; bytes = g.bytes.items }) };
 }
 
-// Writes these bytes in place of as many, from one on.
+// Writes these bytes over as many others, from `start` on.
 fn overwrite(bytes: &mut Vec<u8>, start: usize, part: &[u8])
     requires { start + length part.now ≤ length bytes.old.items }
     ensures { bytes.new.items ≡ overwritten bytes.old.items start part.now }
@@ -60,7 +60,7 @@ fn overwrite(bytes: &mut Vec<u8>, start: usize, part: &[u8])
 }
 
 impl FlatGuest {
-    /// A memory of `len` bytes from `base` on, each of them 0.
+    /// A memory of `len` bytes from `base` on, all of them 0.
     pub fn new(alloc: Global, base: u64, len: u32) -> Result<FlatGuest, FlatError>
         ensures past_end { IsErrOf result FlatError.PastEnd ↔ (2 ^ 64 < base + len) }
         ensures ok { IfOk result (λ guest. guest ≡ record { base = base; bytes = replicate len 0 }) }
@@ -94,7 +94,7 @@ impl FlatGuest {
         Ok(start as usize)
     }
 
-    /// Writes the bytes from an address on, or none of them where they do not all lie in the block.
+    /// Writes the bytes from an address on, or none of them if they do not all lie in the block.
     pub fn put(&mut self, at: u64, bytes: &[u8]) -> Result<(), NotThere>
         ensures inside { IsOk result ↔ LiesIn self.old at (length bytes.now) }
         ensures ok { OnOk result (self.new ≡ record self.old {
@@ -107,7 +107,7 @@ impl FlatGuest {
         Ok(())
     }
 
-    /// Copies what a move takes out of a payload, or none of it where it does not all lie in the block.
+    /// Copies the bytes of a move out of a payload, or none of them if they do not all lie in the block.
     pub fn carry_out(&mut self, step: Move, payload: &[u8]) -> Result<(), NotThere>
         requires { step.from + step.len ≤ length payload.now }
         ensures inside { IsOk result ↔ LiesIn self.old step.at step.len }

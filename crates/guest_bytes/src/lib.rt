@@ -1,9 +1,10 @@
-//! The bytes of a guest's memory: where a command's table says that they lie, and which of them a payload
-//! is moved to.
+//! The bytes of a guest's memory: where a command's table says that they lie, and to which of them a payload
+//! is moved.
 //!
-//! A [`GuestTable`] is the table of a command as it was read at the issue, through the trait [`Guest`]. It
-//! is kept from then on, so what the guest writes later changes nothing of it. [`GuestTable::moves`] says
-//! to which addresses the bytes of a payload go, as [`Move`]s out of the frame that the caller holds.
+//! A [`GuestTable`] is the table of a command as it was read when the command was issued, through the trait
+//! [`Guest`]. The table is kept from then on, so nothing that the guest writes later changes it.
+//! [`GuestTable::moves`] says to which addresses the bytes of a payload go, as [`Move`]s out of the frame
+//! that the caller holds.
 #![tactic(auto)]
 
 mod entry;

@@ -10,17 +10,17 @@ use std::marker::Model;
 /// A run of a payload's bytes that is to be copied to the guest's memory.
 #[derive(Clone, Copy, Debug, PartialEq, Eq)]
 pub struct Move {
-    /// The address of the first of them there.
+    /// The address of the first of them in the guest's memory.
     pub at: u64,
-    /// The first of them in the payload.
+    /// The offset of the first of them in the payload.
     pub from: usize,
-    /// How many they are.
+    /// How many there are.
     pub len: usize,
 }
 
 impl Move {
-    /// Reads its bytes into their place in a payload that goes the other way, to a device. After an error
-    /// these are any bytes.
+    /// For a payload that goes to a device: reads the bytes from the guest's memory into their place in the
+    /// payload. After an error that place has arbitrary bytes.
     pub fn fetch<G: Guest>(self, guest: &G, payload: &mut [u8]) -> Result<(), NotThere>
         requires { self.from + self.len ≤ length payload.old }
         ensures ok { OnOk result (Fetches (G.may_read guest.now) self payload.old payload.new) }
@@ -31,15 +31,15 @@ impl Move {
     }
 }
 
-/// The moves of a payload, in the order of its bytes: one for each entry of the table of which it has
-/// bytes, none of them empty. [`GuestTable::moves`](crate::GuestTable::moves) makes it.
+/// The moves of a payload, in the order of its bytes. There is one for each entry of the table that has some
+/// of them, and none is empty. [`GuestTable::moves`](crate::GuestTable::moves) makes it.
 #[derive(Debug, Drop)]
 pub struct Moves<'t> {
     segments: &'t [Segment],
-    // The entry in which the bytes go on, and where in it.
+    // The entry of the next byte, and how many of the entry's bytes come before it.
     next: usize,
     skip: u64,
-    // How many bytes of the payload are moved, and how many it has.
+    // How many bytes of the payload have been moved, and how many it has.
     done: usize,
     len: usize,
 }
@@ -57,8 +57,8 @@ impl<'t> Model for Moves<'t> {
 }
 
 impl<'t> Moves<'t> {
-    // The moves of a payload of `len` bytes to the bytes of the entries from one on, and of it from `skip`
-    // on.
+    // The moves of a payload of `len` bytes to the bytes of the entries from `next` on, of the first from its
+    // byte `skip` on.
     pub(crate) fn of(segments: &'t [Segment], next: usize, skip: u64, len: usize) -> Moves<'t>
         requires { HoldMoves segments.now next skip 0 len }
         ensures { result ≡ moves_of (drop next segments.now) skip 0 len }

@@ -13,13 +13,13 @@ use std::alloc::{AllocError, Global};
 use std::marker::Model;
 use thiserror::Error;
 
-/// Why a table is not read.
+/// Why a table cannot be read.
 #[derive(Clone, Copy, Debug, PartialEq, Eq, Error)]
 pub enum TableError {
-    /// One of its entries is not memory of the guest.
+    /// One of its entries is not in the guest's memory.
     #[error("table outside the guest's memory")]
     NotThere = 1,
-    /// The table reaches the last address of 64 bits, or bytes that an entry names lie past it.
+    /// The table reaches the last 64-bit address, or an entry names bytes past it.
     #[error("past the last address")]
     PastEnd = 2,
     /// An allocation was refused.
@@ -49,8 +49,8 @@ impl From<AllocError> for TableError {
     }
 }
 
-/// The table of a command, the Physical Region Descriptor Table (AHCI 1.3.1, section 4.2.3.3), as it was
-/// read when the command was issued: of its entries those that the command's bytes reach.
+/// The table of a command, the Physical Region Descriptor Table (AHCI 1.3.1, section 4.2.3.3), as it was read
+/// when the command was issued. It has only the entries that the command's bytes reach.
 #[derive(Debug, Drop)]
 pub struct GuestTable {
     segments: Vec<Segment>,
@@ -69,8 +69,8 @@ impl Model for GuestTable {
 }
 
 impl GuestTable {
-    /// Reads the table of `count` entries that lies at `at`, as far as the `len` bytes of its command go:
-    /// each entry once, and none of them again later.
+    /// Reads the table of `count` entries at `at`, as far as the `len` bytes of its command reach. Each entry
+    /// is read once, and never again.
     pub fn read<G: Guest>(
         alloc: Global,
         guest: &G,
@@ -107,14 +107,14 @@ impl GuestTable {
         Ok(GuestTable { segments })
     }
 
-    /// What is true of every table. It does nothing when it runs.
+    /// The rules that hold for every table. The call has no effect.
     pub fn keeps_rules(&self)
         ensures { IsTable self.now }
     {
         let _ = &self.segments;
     }
 
-    /// How many bytes the entries have together.
+    /// How many bytes the entries have in all.
     pub fn total(&self) -> u64
         ensures { result ≡ total_of self.now }
     {
@@ -125,8 +125,8 @@ impl GuestTable {
         total
     }
 
-    /// Where the bytes of a payload of `len` bytes go that are those of the transfer from byte `offset` on.
-    /// Those past the end of the table go nowhere.
+    /// Where the bytes of a payload of `len` bytes go, if they are those of the transfer from byte `offset`
+    /// on. Bytes past the end of the table go nowhere.
     pub fn moves(&self, offset: u64, len: usize) -> Moves<'_>
         ensures delivers { Delivers self.now offset len result }
         ensures each { All (IsMove len) result }

@@ -57,7 +57,7 @@ fn what_is_past_the_table_goes_nowhere(rt: HostRuntime) -> Result<(), Fail> {
     Ok(())
 }
 
-/// The table is read as far as the command goes: entries behind that need be no memory at all.
+/// The table is read as far as the command goes. Entries after that need not be memory.
 #[test]
 fn a_table_is_read_as_far_as_its_command(rt: HostRuntime) -> Result<(), Fail> {
     let guest = guest(rt.alloc())?;
@@ -86,8 +86,8 @@ fn refuses_tables(rt: HostRuntime) -> Result<(), Fail> {
     Ok(())
 }
 
-/// Entries may overlap: of two bytes for one place the later one stands. What the guest writes over its
-/// table once it was read changes no move.
+/// Entries may overlap: of two bytes for one place the later one stands. What the guest writes over
+/// its table after it was read changes no move.
 #[test]
 fn a_table_is_kept_as_it_was_read(rt: HostRuntime) -> Result<(), Fail> {
     let mut guest = guest(rt.alloc())?;
@@ -106,7 +106,7 @@ fn a_table_is_kept_as_it_was_read(rt: HostRuntime) -> Result<(), Fail> {
     Ok(())
 }
 
-/// The other way the moves say from where a payload to the device is read.
+/// In the other direction the moves say from where a payload to the device is read.
 #[test]
 fn a_payload_comes_from_its_places(rt: HostRuntime) -> Result<(), Fail> {
     let mut guest = guest(rt.alloc())?;
@@ -134,7 +134,7 @@ fn a_block_has_two_ends(rt: HostRuntime) -> Result<(), Fail> {
     Ok(())
 }
 
-/// Where an allocation is refused, that is the answer.
+/// If an allocation is refused, that is the answer.
 #[test]
 fn memory_may_be_refused(rt: HostRuntime) {
     match FlatGuest::new(rt.alloc(), 0, 64) {

@@ -1,4 +1,4 @@
--- A device that the driver takes to be absent was taken so before each turn that does not flush it.
+-- If the driver takes a device to be absent after a turn that does not flush it, it did so before the turn.
 use Rattle.std.proofs.Common.{◌≡◌, ◌≢◌, ℕ, zero, suc, Bool, true, false, List, [], ◌∷◌, get_or, set, refl, sym, ◌∙◌, ap, subst, inl, inr, Option, Some, None}
 use Rattle.std.specs.Prelude.{◌&&◌, not, nat_lt, if◌then◌else◌, is_some}
 use Rattle.std.proofs.lemmas.Bool.{cases_eq, eq-eqb}
@@ -36,7 +36,7 @@ WasAbsent n p q = device_at q n ≡ Absent → device_at p n ≡ Absent
 abbrev IsSoughtAbsent : ℕ → Plan → Type 0
 IsSoughtAbsent n p = detects n p.asked p.order ≡ true → device_at p n ≡ Absent
 
--- what becomes another than absent
+-- a device that is set to something other than absent
 set_absent : (devices : List Device) (k n : ℕ) (device : Device) → (device ≡ Absent → ⊥) → get_or (set devices k device) n Absent ≡ Absent → get_or devices n Absent ≡ Absent
 set_absent [] k n device not h = refl
 set_absent (d ∷ devices) zero zero device not h = absurd (not h)

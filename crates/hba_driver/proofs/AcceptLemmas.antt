@@ -54,7 +54,7 @@ use Rattle.hba_driver.proofs.SoundLemmas.{hosts_stay_sound, sound_turn}
 use Rattle.hba_driver.proofs.TickingLemmas.{free_order, free_slot, not_both, request_port, step_dev}
 use Rattle.hba_driver.proofs.UpLemmas.{IsIssuedAt, Issues, Placed, free_by, issuing_taken, same_free, sntf_step}
 
--- ---- what an act leaves, where the port takes it
+-- ---- what an act leaves, if the port takes it
 
 pub record Taken (es : List Effect) (old : Port) (before : Memory) (new : Port) (after : Memory) (acts : ActsAll es old before new after) : Type 0 where
   pub accepted : AreAccepted es old before new after acts
@@ -253,7 +253,7 @@ clears_taken dev old new before after on none acts =
 
 -- ---- a request is issued
 
--- what is known of the driver that has looked at all that came, and of the port beside it
+-- what is known of the driver after it has looked at all that came, and of the port
 pub record Knows (d : Driver) (port : Port) (memory : Memory) : Type 0 where
   pub past : Touches
   pub served : IsServed d (beside port memory) past
@@ -264,7 +264,7 @@ pub record Knows (d : Driver) (port : Port) (memory : Memory) : Type 0 where
   pub driven : AreDriven d.plan.opened d.plan.restarted port.registers
   pub unarmed : port.registers.armed ≡ 0
 
--- a port that is not to be started again runs
+-- a port that need not be started again runs
 pub is_up : (d : Driver) (port : Port) (memory : Memory) → Knows d port memory → nat_lt d.plan.restarted 2 ≡ false → IsUp port.registers
 is_up d port memory k more = up_of d.plan.opened d.plan.restarted port.registers k.least (not_below d.plan.restarted 2 more) k.driven
 
@@ -326,7 +326,8 @@ act_taken d v (Some (act.Issues slot dev queued)) old new before after k due run
 
 -- ---- a host on its way
 
--- what is true of a host over turns from an opening, beside that it is sound: between two turns no bit of PxSACT waits for its command
+-- What holds for a host over turns from an opening, besides that it is sound: no bit of PxSACT waits for its
+-- command between two turns.
 pub record IsOnWay (h : Host) : Type 0 where
   pub sound : IsSoundHost h
   pub past : Touches

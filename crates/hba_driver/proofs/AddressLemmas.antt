@@ -1,4 +1,4 @@
--- Each frame that goes out has the PM Port of the device for which it goes.
+-- Each frame that goes out has the PM Port of its device.
 use Rattle.std.proofs.Common.{◌≡◌, ◌≢◌, ℕ, ◌<◌, Bool, true, false, ◌&&◌, List, [], ◌∷◌, length, refl, sym, ◌∙◌, ap, subst, inl, inr, arith, Option, Some, None}
 use Rattle.std.specs.Prelude.{◌==◌, ◌%◌, if◌then◌else◌, not, is_some, replicate, slice_index, cond}
 use Rattle.std.specs.Option.{option_or}
@@ -47,7 +47,7 @@ use Rattle.hba_driver.proofs.IssuingLemmas.{not_some, own_when, started_when}
 use Rattle.hba_driver.proofs.SoundLemmas.{hosts_stay_sound, sound_turn}
 use Rattle.hba_driver.proofs.StopLemmas.{either}
 
--- ---- the command that stands in a slot
+-- ---- the command in a slot
 
 then_some : {A : Type 0} (b : Bool) (o : Option A) (a : A) → (if b then o else None) ≡ Some a → (b ≡ true) × (o ≡ Some a)
 then_some true o a h = (refl, h)
@@ -95,7 +95,7 @@ busy_before old new s keeps busy = by_issue (own_issue old s) refl
     by_issue (Some i) is = refl
     by_issue None is = absurd (false≢true (sym (ap is_some (keeps s is)) ∙ busy))
 
--- where no slot of a device becomes filled, and the commands stay
+-- if no slot of a device is filled and the commands stay
 their_kept : (old new : Port) → ((n : ℕ) → n < 16 → KeepsOwn (slots_of n old.slots) (slots_of n new.slots)) → new.commands ≡ old.commands → AreOfTheir old → AreOfTheir new
 their_kept old new keeps same are n s c low busy last =
     are n s c low (busy_before (slots_of n old.slots) (slots_of n new.slots) s (keeps n low) busy) (sym (ap (λ l. last_command l s) same) ∙ last)
@@ -142,7 +142,7 @@ gave_their (Order dev slot command) old memory (Some f) new gives are = sent_the
 
 -- ---- a write
 
--- the last command of a slot, once these are issued
+-- the last command of a slot after these are issued
 last_asked : (a : ℕ → Option Command) (old : List (Option Command)) (s : ℕ) (c : Command) → last_command (commands_with a old) s ≡ Some c → option_or (a s) (last_command old s) ≡ Some c
 unfolding commands_with
 last_asked a old s c is = elim (cases_lt s (length old)) [
@@ -164,7 +164,7 @@ not_false : (b : Bool) → not b ≡ false → b ≡ true
 not_false true e = refl
 not_false false e = absurd (true≢false e)
 
--- a header in a slot that is to be issued names the device of PxFBS.DEV
+-- a header in a slot to issue names the device of PxFBS.DEV
 own_header : (port : Port) (memory : Memory) (value s : ℕ) → refusal_of Ci port memory value ≡ None → s < 32 → has_bit value s ≡ true → (header_at memory.structure port.registers.clb s).pmp ≡ port.registers.chosen
 unfolding own_refusal slots_refusal
 own_header port memory value s h below bit =
@@ -180,7 +180,7 @@ own_header port memory value s h below bit =
     none_below (λ k. has_bit value k && is_foreign port.registers memory.structure k) 32 (not_some (lowest (λ k. has_bit value k && is_foreign port.registers memory.structure k)) none) s below in
     eqb-true (header_at memory.structure port.registers.clb s).pmp port.registers.chosen (not_false _ (second_false (has_bit value s) _ bit calm))
 
--- a command that is asked for has the PM Port of the device that PxFBS.DEV names
+-- a command that is asked for has the PM Port of the device in PxFBS.DEV
 asked_their : (port : Port) (memory : Memory) (value s : ℕ) (c : Command) → refusal_of Ci port memory value ≡ None → s < 32 → asked port.registers memory value s ≡ Some c → slice_index c.cfis 1 % 16 ≡ port.registers.chosen
 asked_their port memory value s c h below is =
     let found = then_some (has_bit value s) (command_at memory port.registers.clb s (has_bit port.registers.armed s)) c is in

@@ -32,7 +32,7 @@ use Rattle.hba_driver.proofs.DueLemmas.{Due, MayStep, Waiting}
 use Rattle.hba_driver.proofs.SteadyLemmas.{DueOf, set_other}
 use Rattle.hba_driver.proofs.TickingLemmas.{unless_back, unless_other}
 
--- ---- where the device's path is as it was
+-- ---- while the device's path is as it was
 
 resets_by : (n : ℕ) (stage : Stage) (asked : Bool) (p q : Plan) → device_at q n ≡ device_at p n → ((x : Path) → x.dev ≡ n → p.path ≡ Some x → q.path ≡ Some x) → Resets n stage asked p → Resets n stage asked q
 resets_by n stage asked p q device keep h = record { device = device ∙ h.device; path = keep (record { dev = n; stage = stage; asked = asked }) refl h.path }
@@ -53,7 +53,7 @@ plan_by n Clears p q device keep from h = resets_by n ReleaseReset true p q devi
 plan_by n Off p q device keep from (inl h) = inl (resets_by n ReleaseReset true p q device keep h)
 plan_by n Off p q device keep from (inr h) = inr (resets_by n AwaitReset false p q device keep h)
 
--- slot 30 works on the device, but where its fault was just cleared
+-- slot 30 works on the device, unless its fault was just cleared
 own_path : (n : ℕ) (stage : Stage30) (p : Plan) → is_faulty stage ≡ false → IsPlan30 n stage p → (stage ≡ Cleared) ⊎ ((x : Path) × (p.path ≡ Some x) × (x.dev ≡ n))
 own_path n Faulty p well h = absurd (true≢false well)
 own_path n Cleared p well h = inl refl
@@ -106,7 +106,7 @@ pub record Begins30 (n : ℕ) (stage : Stage30) (r : Plan) (a : Option Act) : Ty
   pub holds : (port : Port) → IsUnsent30 n fields port → IsSlot30 n next port
   pub resets : is_resetting next ≡ is_resetting stage
 
--- or not
+-- slot 30 is not given one
 pub record Rests30 (n : ℕ) (stage : Stage30) (r : Plan) (a : Option Act) : Type 0 where
   pub is : IsPlan30 n stage r
   pub none : (dev : ℕ) (step : Stage) → a ≡ Some (act.Steps dev step) → dev ≢ n
@@ -198,7 +198,7 @@ module _ (n : ℕ) (stage : Stage30) (v : Sight) (file : TaskFile) (q : Plan) (e
   free_path s step here (inl none) = none_path _ (sym none.0 ∙ here)
   free_path s step here (inr goes) = (same_stage (record { dev = n; stage = step; asked = false }) (record { dev = n; stage = s; asked = false }) (sym goes ∙ here)).1
 
-  -- what is due first where the fault was cleared
+  -- what is due first after the fault was cleared
   first_step : (way : Recovery) (step : Stage) → stage ≡ Cleared → device_at q n ≡ Recovering way → (signed : Bool) → first_stage (Recovering way) signed ≡ Some step → Result (Some (act.Steps n step)) (given n step)
   first_step (Log f) step is device signed first =
       let read : step ≡ ReadLog f = some_inj step (ReadLog f) (sym first) in

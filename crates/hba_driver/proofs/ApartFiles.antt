@@ -1,4 +1,4 @@
--- The task file that PxTFD shows once the fault of a device was cleared is the device's.
+-- After the fault of a device was cleared, PxTFD shows that device's task file.
 use Rattle.std.proofs.Common.{◌≡◌, ℕ, ◌+◌, ◌*◌, ◌<◌, min, true, bit_and, ◌∙◌, ap, arith}
 use Rattle.std.specs.Prelude.{◌==◌, ◌%◌, ◌/◌}
 use Rattle.std.specs.Int.{bit_at}
@@ -32,7 +32,7 @@ clearing_chosen n old new before after low on acts =
     let accepts : Accepts acts.0 acts.1 Fbs (256 * n + 3) acts.4.0 = acts.4.2.0.accepted (clear_taken n acts.0 acts.1 switches) in
     ap (λ (p : Port). p.registers.chosen) acts.4.4.0 ∙ ap (λ (r : Registers). r.chosen) accepts.registers ∙ in_dev n low
 
--- clearing it leaves ERR
+-- clearing the device leaves ERR
 file_bit : (state old : DeviceState) → state ≡ stopped_state old → has_bit ((256 * state.error + state.status) % 256) 0 ≡ true → has_bit old.status 0 ≡ true
 file_bit state old is h =
     let one : bit_at ((256 * state.error + state.status) % 256) 0 ≡ 1 = eqb-true (bit_at ((256 * state.error + state.status) % 256) 0) 1 h in

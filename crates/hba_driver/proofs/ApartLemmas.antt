@@ -1,4 +1,4 @@
--- What is issued is apart, and what is put spares it.
+-- What is issued is apart, and what is put leaves it alone.
 use Rattle.std.proofs.Common.{◌≡◌, ℕ, ◌+◌, ◌<◌, ◌≤◌, Bool, true, false, List, [], ◌∷◌, ◌++◌, refl, sym, ◌∙◌, ap, inl, inr, arith, Option, Some, None}
 use Rattle.std.specs.Prelude.{◌&&◌, ◌||◌, nat_lt}
 use Rattle.std.specs.List.{list_any}
@@ -26,12 +26,12 @@ use Rattle.hba_driver.proofs.SubmitLemmas.{none_conflict}
 
 -- ---- places
 
--- of two tables that share no byte
+-- for two tables that share no byte
 pub other_places : (ps qs : List Prd) (i j : ℕ) → share_with ps qs ≡ false → i < total_of ps → j < total_of qs → place ps i ≡ place qs j → ⊥
 other_places ps qs i j none below below_other same =
     true≢false (sym (share_with-true ps qs (record { i = i; j = j; below = below; below_other = below_other; one_place = same })) ∙ none)
 
--- of one table
+-- for one table
 one_place : (ps qs : List Prd) (i j : ℕ) → ps ≡ qs → have_overlap ps ≡ false → i < total_of ps → j < total_of qs → place ps i ≡ place qs j → i ≡ j
 one_place ps qs i j is apart below below_other same =
     let other : total_of qs ≡ total_of ps = sym (ap total_of is) in
@@ -44,7 +44,7 @@ read_or : (a b : Bool) → a ≡ true → (a || b) ≡ true
 read_or true b h = refl
 read_or false b h = absurd (false≢true h)
 
--- ---- reads that are issued are apart
+-- ---- issued reads are apart
 
 pub none_in : (t : Transfer) (i : ℕ) → t.table ≡ [] → i < total_of t.table → ⊥
 none_in t i is below =
@@ -103,7 +103,7 @@ module _ (d : Driver) (past : Touches) (issues : IssuesAreRequests d past) (boun
       let y : IsIssueOf d m r u = issues m r u b.is in
       apart_by n s m r i j t u x.from y.from a.reads x.apart (omega (arith, x.total, below)) (omega (arith, y.total, below_other)) same
 
-  -- ---- what is put spares them
+  -- ---- what is put leaves them alone
 
   module _ (at len : ℕ) (unused : in_use d at len ≡ false) where
     in_parts : (k : ℕ) → is_in at len k ≡ true → (at ≤ k) × (k < at + len)

@@ -27,7 +27,7 @@ use Rattle.hba_driver.specs.Turns.{advanced, answered, control_news, control_see
 use Rattle.hba_driver.proofs.SteadyLemmas.{none_path, path_to_dev, same_path, set_other}
 use Rattle.hba_driver.proofs.StopLemmas.{either}
 
--- ---- slot 31 leaves a device that recovers, but where none is found at its port
+-- ---- slot 31 leaves a device that recovers, unless none is found at its port
 
 pub record Leaves (n : ℕ) (p q : Plan) : Type 0 where
   pub device : device_at q n ≡ device_at p n
@@ -36,7 +36,7 @@ pub record Leaves (n : ℕ) (p q : Plan) : Type 0 where
 beside : (n : ℕ) (p q : Plan) → q.devices ≡ p.devices → q.path ≡ p.path → Leaves n p q
 beside n p q devices path = record { device = ap (λ (ds : List Device). get_or ds n Absent) devices; path = path }
 
--- one of a list that is set to what it is
+-- setting an element of a list to what it is
 set_kept : (devices : List Device) (n : ℕ) → get_or (set devices n (get_or devices n Absent)) n Absent ≡ get_or devices n Absent
 set_kept [] n = refl
 set_kept (d ∷ devices) zero = refl
@@ -116,7 +116,7 @@ reads_as n p q device path h = record { file = h.file; device = device ∙ h.dev
 cleared_as : (n : ℕ) (p q : Plan) → device_at q n ≡ device_at p n → IsUnworked n q → IsCleared n p → IsCleared n q
 cleared_as n p q device away h = record { way = h.way; device = device ∙ h.device; away = away }
 
--- where device and path are as they were
+-- if device and path are as they were
 pub plan_as : (n : ℕ) (stage : Stage30) (p q : Plan) → device_at q n ≡ device_at p n → q.path ≡ p.path → IsPlan30 n stage p → IsPlan30 n stage q
 plan_as n Faulty p q device path h = tt
 plan_as n Cleared p q device path h = cleared_as n p q device (λ x there. h.away x (sym path ∙ there)) h
@@ -220,7 +220,7 @@ module _ (n : ℕ) (v : Sight) (c : Plan) where
       let is = still (record { dev = n; stage = ReleaseReset; asked = true }) h.path wait in
       inl (record { device = ap (λ (q : Plan). device_at q n) is ∙ h.device; path = ap (λ (q : Plan). q.path) is ∙ ap (option_map (met_path v)) h.path })
 
--- what slot 30 shows at a stage: the command that is not answered, and the reset that goes on
+-- what slot 30 shows at a stage: the command that is not answered, and the reset that is under way
 abbrev pub Shows : ℕ → Stage30 → Sight → Type 0
 Shows n Asks v = has_bit v.issued 30 ≡ true
 Shows n LogSent v = has_bit v.issued 30 ≡ true

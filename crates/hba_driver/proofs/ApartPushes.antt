@@ -1,4 +1,5 @@
--- What a device has issued while it recovers, what goes out to it, and that its requests wait for none.
+-- What a device has issued while it recovers, what goes out to it, and that none of its requests waits or is
+-- issued.
 use Rattle.std.proofs.Common.{◌≡◌, ◌≢◌, ℕ, ◌+◌, ◌*◌, ◌<◌, ◌≤◌, ◌⊎◌, Bool, true, false, ◌&&◌, ◌||◌, List, length, set, refl, sym, ◌∙◌, ap, subst, inl, inr, arith, Option, Some, None}
 use Rattle.std.specs.Prelude.{if◌then◌else◌, not, is_none, is_some, bit_or, ◌%◌}
 use Rattle.std.specs.Option.{option_map}

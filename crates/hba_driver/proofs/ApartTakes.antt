@@ -1,4 +1,4 @@
--- A FIS of a device that recovers is ignored, leaves it where it is, or is a fault.
+-- A FIS of a device that recovers is ignored, leaves its stage, or is a fault.
 use Rattle.std.proofs.Common.{◌≡◌, ◌≢◌, ℕ, ◌-◌, ◌<◌, ◌≤◌, Bool, true, false, ◌&&◌, ◌||◌, List, length, refl, sym, ◌∙◌, ap, subst, inl, inr, arith, Option, Some, None}
 use Rattle.std.specs.Prelude.{if◌then◌else◌, ◌==◌, not, is_none, is_some}
 use Rattle.std.proofs.lemmas.Bool.{cases_Bool, cases_eq, cases_lt, false≢true, true≢false}
@@ -44,7 +44,7 @@ use Rattle.hba_driver.specs.Slot30.{Asks, Cleared, Clears, Faulty, IsAt30, IsSlo
 use Rattle.hba_driver.proofs.ApartPushes.{IsDriven30, alone_issue, control_kind, driven_at, kept30}
 use Rattle.hba_driver.proofs.StopLemmas.{either}
 
--- ---- a device of which nothing went out, and nothing queued is issued
+-- ---- a device to which nothing went out and for which nothing queued is issued
 
 abbrev IsIdle : DeviceSlots → Type 0
 IsIdle own = (s : ℕ) (i : Issue) → own_issue own s ≡ Some i → (i.sent ≡ false) × (is_queued i.work.kind ≡ false)
@@ -194,7 +194,7 @@ module _ (n : ℕ) (past : Touches) (old : Host) (frame : List ℕ) (report : Ta
     | inr hears ↦ (does.heard hears).commands
   ]
 
-  -- another device's
+  -- a frame of another device
   took_other : port_of frame ≢ n → IsAt30 n stage new
   took_other other = elim (cases_Bool (ignores (port_of frame) old.port frame)) [
     | inl skip ↦ skipped skip

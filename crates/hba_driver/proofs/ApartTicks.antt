@@ -85,7 +85,7 @@ reported None cause dev is = let bad : None ≡ Some dev = is in cc
 reported (Some x) None dev is = is
 reported (Some x) (Some c) dev is = cc
 
--- a fault that is cleared stands
+-- a fault that is cleared stood before
 pub cleared_faulty : (port : Port) (dev : ℕ) → Rattle.hba_driver.specs.Effects.IsRuled port → cleared_device port.errors ≡ Some dev → is_some (view_of dev port).fault ≡ true
 cleared_faulty port dev ruled is = (ruled.faults.reported_is_marked dev (reported port.errors.reported port.errors.port dev is)).1
 
@@ -196,7 +196,7 @@ module _ (n : ℕ) (past : Touches) (h : Host) (low : n < 15) (on : IsOn30 past 
         issuing_view n slot dev queued h.port new.port h.memory new.memory (omega (arith, low)) (omega (arith, below))
         (not_issued n stage v (file_shown new.port) q (seen v h.driver).entries well plans slot dev w) (up runs.1) es
 
-    -- and the command of slot 30
+    -- the act leaves the command of slot 30
     last_by : (a : Option Act) → Due v q (seen v h.driver).entries a → ((dev : ℕ) (step : Stage) → a ≡ Some (act.Steps dev step) → ⊥) → ActsAll (effects_due a) h.port h.memory new.port new.memory
         → last_command new.port.commands 30 ≡ last_command h.port.commands 30
     unfolding ActsAll
@@ -330,7 +330,7 @@ module _ (n : ℕ) (past : Touches) (h : Host) (low : n < 15) (on : IsOn30 past 
     may_clear : (c : Clearing30) → MayEnd (Some (act.Clears c.dev)) h.port
     may_clear c = subst (λ (x : Option Act). MayEnd x h.port) c.is (may_end h on.sound)
 
-    -- the device's own
+    -- the device's own fault
     own_plan : (c : Clearing30) → c.dev ≡ n → new.driver.plan ≡ recovering n (file_shown new.port) h.driver.plan
     own_plan c same =
         clears_plan c ∙ ap (λ (k : ℕ). cleared_plan k (file_shown new.port) h.driver.plan) same

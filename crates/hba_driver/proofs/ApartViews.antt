@@ -1,4 +1,4 @@
--- What an act leaves of the view of a device: all of it, but for a command of its own in slot 30.
+-- What an act leaves of the view of a device: everything, except for a command of its own in slot 30.
 use Rattle.std.proofs.Common.{◌≡◌, ◌≢◌, ℕ, ◌+◌, ◌*◌, ◌^◌, ◌<◌, ◌≤◌, Bool, true, false, List, [], length, refl, sym, ◌∙◌, ap, subst, inl, inr, arith, Option, Some, None}
 use Rattle.std.specs.Prelude.{if◌then◌else◌}
 use Rattle.std.specs.Option.{option_or}
@@ -121,7 +121,7 @@ clearing_own_view n old new before after low on is acts =
 
 -- ---- a command of the device's own
 
--- it is issued in slot 30, and all else of the view stays
+-- the command is issued in slot 30, and the rest of the view stays
 pub record Issues30 (n : ℕ) (fields : H2dFields) (old new : Port) : Type 0 where
   pub state : (view_of n new).state ≡ (view_of n old).state
   pub fault : (view_of n new).fault ≡ (view_of n old).fault

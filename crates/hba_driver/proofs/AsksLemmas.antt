@@ -1,5 +1,5 @@
--- What is true of a host on its way, so that the commands of requests go out to devices that are known, each with the PM Port of
--- its device: from the opening on, and after each turn.
+-- What holds for a host of a run, from the opening on and after each turn. It follows that the commands of
+-- requests go out to known devices, each with the PM Port of its device.
 use Rattle.std.proofs.Common.{◌≡◌, ℕ, ◌<◌, Bool, true, false, List, [], ◌∷◌, refl, sym, ◌∙◌, ap, subst, Option, Some, None}
 use Rattle.std.specs.Prelude.{◌%◌, slice_index}
 use Rattle.std.proofs.lemmas.Bool.{true_from_ne_false, false≢true}

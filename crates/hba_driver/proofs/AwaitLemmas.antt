@@ -1,4 +1,4 @@
--- While slot 30 awaits the data of an IDENTIFY DEVICE, none of which came, it goes on to do so in each turn.
+-- While slot 30 awaits the data of an IDENTIFY DEVICE, and none has come, it still does so after each turn.
 use Rattle.std.proofs.Common.{◌≡◌, ℕ, Bool, true, false, ◌&&◌, List, [], ◌∷◌, length, refl, sym, ◌∙◌, ap, subst, inl, inr, arith, Option, Some, None}
 use Rattle.std.specs.Prelude.{if◌then◌else◌, ◌==◌, not}
 use Rattle.std.specs.List.{list_all}

@@ -1,4 +1,4 @@
--- The events of a calm tick are none of a device's, or issue for it what stands in one slot.
+-- Each event of a calm tick does not concern a device, or issues for it the command in one slot.
 use Rattle.std.proofs.Common.{◌≡◌, ◌≢◌, ℕ, ◌+◌, ◌*◌, ◌/◌, ◌^◌, ◌<◌, ◌⊎◌, ◌&&◌, ◌||◌, nat_lt, Bool, true, false, List, [], ◌∷◌, ◌++◌, replicate, refl, sym, ◌∙◌, ap, subst, inl, inr, arith, append_assoc, Option, Some, None}
 use Rattle.std.specs.Prelude.{if◌then◌else◌, ◌%◌, not, is_some}
 use Rattle.std.specs.Option.{option_or}
@@ -47,7 +47,7 @@ use Rattle.hba_driver.proofs.IssuingLemmas.{asks_here}
 
 -- ---- one event after another
 
--- whatever runs through these events from here, each is none of the device's, or issues for it
+-- as these events run from here, each either does not concern the device or issues for it
 abbrev Calm : (n slot : ℕ) → List HostEvent → event.Host → event.Host → Type 0
 Calm n slot fs c h = (run : Runs h fs c) → AreBeside n slot h c fs run
 
@@ -58,7 +58,7 @@ calm_then : (n slot : ℕ) (e : HostEvent) (fs : List HostEvent) (c h : event.Ho
     → Calm n slot (e ∷ fs) c h
 calm_then n slot e fs c h first rest run = (first run.0 run.1, rest run.0 run.1 run.2)
 
--- a write that the port takes, or not
+-- a write that the port takes or refuses
 calm_by : (n slot : ℕ) (fs : List HostEvent) (c h : event.Host) (o : Option WriteError) (g : Register) (value : ℕ)
     → ((mid : event.Host) → event.Does h (event.Wrote g value) mid → IsBeside n h (event.Wrote g value) ⊎ Issues n slot h (event.Wrote g value))
     → ((mid : event.Host) → event.Does h (event.Wrote g value) mid → Calm n slot fs c mid) → (is_some o ≡ true → Calm n slot fs c h)
@@ -93,7 +93,7 @@ none_taken o is h = true≢false (sym h ∙ ap is_some is)
 dev_bits : (dev : ℕ) → dev < 16 → (256 * dev + 1) / 256 % 16 ≡ dev
 dev_bits dev h = omega (arith, h)
 
--- no error is cleared as a device is chosen
+-- choosing a device clears no error
 calm_fbs : (n dev : ℕ) (h : event.Host) → cleared_by h.port.errors (256 * dev + 1) ≡ Some n → ⊥
 calm_fbs n dev h is =
     let none : cleared_by h.port.errors (256 * dev + 1) ≡ None = ap (λ (b : Bool). if b then cleared_device h.port.errors else None) (no_dec dev) in
@@ -107,7 +107,7 @@ chosen_armed : (value dev : ℕ) (h mid : event.Host) → event.Does h (event.Wr
 unfolding written
 chosen_armed value dev h mid does is = ap (λ r. r.chosen) does.1.registers ∙ is
 
--- the write of PxCI issues for the device that is chosen
+-- the write of PxCI issues for the chosen device
 issues_or : (n slot dev : ℕ) (h mid : event.Host) → slot < 32 → h.port.registers.chosen ≡ dev → event.Does h (event.Wrote Ci (2 ^ slot)) mid → IsBeside n h (event.Wrote Ci (2 ^ slot)) ⊎ Issues n slot h (event.Wrote Ci (2 ^ slot))
 issues_or n slot dev h mid below is does = elim (cases_eq h.port.registers.chosen n) [
   | inl same ↦ inr (record { is = refl; below = below; for_dev = same; command = asks_here h.port h.memory slot below does.0 })
@@ -188,7 +188,7 @@ calm_order n (Clear port) old new before after c other on acts h =
 
 -- ---- the writes that open the port, and start it again
 
--- no device is issued for or cleared, and ST does not fall where it is 0 before or 1 afterwards
+-- no device is issued for or cleared, and ST does not fall if it is 0 before or 1 afterwards
 abbrev tame_at : (quiet : Bool) → Option Register → ℕ → Bool
 tame_at quiet None value = false
 tame_at quiet (Some Ci) value = false
@@ -304,7 +304,7 @@ calm_act n old new before after c h (Some (act.Issues slot dev queued)) calm fin
 switching : (old : Host) → IsSoundHost old → nat_lt old.driver.plan.opened 7 ≡ false → old.port.registers.switching ≡ true
 switching old s up = s.registers.switches (omega (arith, not_below old.driver.plan.opened 7 up))
 
--- what is known of the host where an act is due
+-- what is known of the host if an act is due
 finds_of : (old : Host) (plan : Plan) (entries : List (Option Entry)) (a : Option Act) → IsSoundHost old → plan.opened ≡ old.driver.plan.opened → IsPath plan.path → ((s : ℕ) (e : Entry) → entry_at entries s ≡ Some e → e.head.dev < 15)
     → Due (sight_in old) plan entries a → due_lemmas.Runs old.driver.plan a → MayEnd a old.port → Finds a old.port (shared_by old)
 finds_of old plan entries None s same path devs due runs may = tt

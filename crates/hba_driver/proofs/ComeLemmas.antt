@@ -1,4 +1,4 @@
--- Where a request that stands in a slot after a turn comes from: it stood there before, or the turn took it.
+-- Where a request comes from that is in a slot after a turn: it was there before, or the turn took it.
 use Rattle.std.proofs.Common.{◌≡◌, ℕ, ◌+◌, ◌⊎◌, Bool, true, false, sym, ◌∙◌, ap, refl, inl, inr, Option, Some, None}
 use Rattle.std.proofs.lemmas.Bool.{true≢false}
 use Rattle.hba_driver.specs.Drivers.{Driver, Entry, entry_at}
@@ -15,7 +15,7 @@ abbrev pub ticks : HostTurn → Bool
 ticks (Ticked acted) = true
 ticks turn = false
 
--- it stood there, and went on, where the turn is a tick
+-- it was there before, and goes on if the turn is a tick
 pub record Stood (old : Driver) (t : HostTurn) (s : ℕ) (f : Entry) : Type 0 where
   pub entry : Entry
   pub here : entry_at old.entries s ≡ Some entry

@@ -1,5 +1,5 @@
--- What a tick leaves of the control port's part of the host port: all of it, but for the command of an order, which
--- is issued in slot 31.
+-- What a tick leaves of the control port's part of the host port: everything, except for the command of an
+-- order, which is issued in slot 31.
 use Rattle.std.proofs.Common.{◌≡◌, ◌≢◌, ℕ, ◌+◌, ◌*◌, ◌^◌, ◌<◌, Bool, true, false, ◌&&◌, nat_lt, List, [], ◌∷◌, ◌++◌, length, replicate, refl, sym, ◌∙◌, ap, subst, inl, inr, arith, Option, Some, None}
 use Rattle.std.specs.Prelude.{◌||◌, ◌==◌, ◌%◌, if◌then◌else◌, not, is_none, is_some}
 use Rattle.std.specs.Option.{option_or}

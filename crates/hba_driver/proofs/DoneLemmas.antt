@@ -1,4 +1,4 @@
--- A request ends as Done only where the port has nothing in its slot.
+-- A request ends as Done only if the port has nothing in its slot.
 use Rattle.std.proofs.Common.{◌≡◌, ◌≢◌, ℕ, ◌<◌, ◌≤◌, ◌⊎◌, Bool, true, false, ◌&&◌, max, List, bit_or, refl, sym, ◌∙◌, ap, subst, inl, inr, arith, Option, Some, None}
 use Rattle.std.specs.Prelude.{if◌then◌else◌, ◌==◌, not, MatchOption}
 use Rattle.std.specs.Int.{bit_at}
@@ -79,7 +79,7 @@ free_slot port memory s table below h =
 some_same : (e f : Entry) → Some e ≡ Some f → e ≡ f
 some_same e f h = cc
 
--- a phase to which no act and no log but of the request itself brings a request
+-- a phase that a request reaches only by an act or a log of its own
 pub record IsOwnEnd (P : Phase → Bool) : Type 0 where
   pub issued : P Issued ≡ false
   pub aside : P Aside ≡ false
@@ -99,7 +99,7 @@ module _ (P : Phase → Bool) (own : IsOwnEnd P) where
   pub end_same : (g f : Entry) → Some g ≡ Some f → P f.head.phase ≡ true → P g.head.phase ≡ true
   end_same g f is h = subst (λ (x : Entry). P x.head.phase ≡ true) (sym (some_same g f is)) h
 
-  -- what comes to another phase was there before
+  -- a request that comes to another phase was there before
   pub end_turned : (b : Bool) (phase : Phase) (g f : Entry) → P phase ≡ false → (if b then Some (rephased phase g) else Some g) ≡ Some f → P f.head.phase ≡ true → P g.head.phase ≡ true
   end_turned true phase g f other is h = absurd (true≢false (sym (end_same (rephased phase g) f is h) ∙ other))
   end_turned false phase g f other is h = end_same g f is h
@@ -186,7 +186,7 @@ and_both true true h = absurd (false≢true h)
 and_both true false h = (refl, refl)
 and_both false b h = absurd (false≢true h)
 
--- a tick ends as Done only what was issued, and whose bit is in neither register
+-- a tick ends as Done only what was issued and has its bit in neither register
 pub seen_some : (v : Sight) (d : Driver) (s : ℕ) (g : Entry) → entry_at (done_ended v.issued d.entries) s ≡ Some g → (x : Entry) × (entry_at (seen v d).entries s ≡ Some x)
 seen_some v d s g here = by_log (turn v d).logged
   where

@@ -1,4 +1,4 @@
--- What is true of port, driver and memory together: what each turn keeps of it.
+-- What holds for port, driver and memory together, and what each turn leaves of it.
 use Rattle.std.proofs.Common.{◌≡◌, ℕ, ◌+◌, ◌*◌, ◌/◌, ◌<◌, ◌≤◌, ◌⊎◌, ◌&&◌, Bool, true, false, nat_lt, nat_le, List, [], ◌∷◌, refl, sym, ◌∙◌, ap, subst, inl, inr, arith, Option, Some, None}
 use Rattle.std.specs.Prelude.{if◌then◌else◌, ◌==◌, ◌%◌, MatchOption}
 use Rattle.std.proofs.lemmas.Nat.Bits.{bit_at-suc, bit_at_lowest}
@@ -42,13 +42,13 @@ use Rattle.hba_driver.proofs.EffectLemmas.{all_at}
 
 -- ---- a write is taken, or refused
 
--- the port refuses a write, and all stays
+-- the port refuses a write, and everything stays
 pub record Refused (register : Register) (old : Port) (memory : Memory) (value : ℕ) (new : Port) : Type 0 where
   pub error : WriteError
   pub is : refusal_of register old memory value ≡ Some error
   pub stays : new ≡ old
 
--- or takes it
+-- the port takes a write
 pub record Taken (register : Register) (old : Port) (memory : Memory) (value : ℕ) (new : Port) : Type 0 where
   pub free : refusal_of register old memory value ≡ None
   pub accepts : Accepts old memory register value new
@@ -150,7 +150,7 @@ place_effect (effect.Flushes dev) old new before after h acts = same_place old.r
 place_effect (effect.Empties dev) old new before after h acts = same_place old.registers new.registers (ap (λ (p : Port). p.registers) acts.0)
 place_effect (effect.Commands slot fields buffer) old new before after h acts = same_place old.registers new.registers (ap (λ (p : Port). p.registers) acts.0)
 
--- EN is in the values by which a device is chosen, and cleared; DEC is not in the first
+-- EN is in the values that choose and clear a device; DEC is not in the first
 pub en_chosen : (dev : ℕ) → has_bit (256 * dev + 1) en ≡ true
 en_chosen dev = ap (λ (k : ℕ). k == 1) (bit_at_lowest (256 * dev + 1) ∙ odd dev)
   where
@@ -254,7 +254,7 @@ firm_clears dev = refl
 pub past : (n m : ℕ) {P : Type 0} → nat_le n m ≡ false → n ≤ m → P
 past n m more h = absurd (grind (arith, nat_tests))
 
--- the registers of a port that is open, after what leaves its places
+-- the registers of an open port, after something that leaves its places
 pub driven_open : (n m k : ℕ) (r s : Registers) → 7 ≤ n → SamePlace r s → (2 ≤ k → s.started ≡ true) → AreDriven n m r → AreDriven n k s
 driven_open n m k r s least same starts d = record {
   commands = same.list ∙ d.commands;
@@ -270,13 +270,13 @@ driven_open n m k r s least same starts d = record {
 
 -- ---- what a tick does
 
--- the next write that opens the port is
+-- it is the next write that opens the port
 pub record Opening (v : Sight) (file : TaskFile) (d : Driver) : Type 0 where
   pub less : d.plan.opened < 7
   pub one : effects v d ≡ opening_write d.plan.opened ∷ []
   pub plan_is : (after_tick v file d).plan ≡ record d.plan { opened = d.plan.opened + 1 }
 
--- an act leaves ST, and the number of the writes that start the port again
+-- an act leaves ST, and the number of writes that start the port again
 pub record Steady (a : Option Act) (before after : ℕ) : Type 0 where
   pub firm_is : list_all firm_effect (effects_due a) ≡ true
   pub same : after ≡ before
@@ -287,7 +287,7 @@ pub record Restarting (a : Option Act) (before after : ℕ) : Type 0 where
   pub one : effects_due a ≡ restart_write before ∷ []
   pub next : after ≡ before + 1
 
--- one of both, or it stops the port
+-- one of the two, or it stops the port
 abbrev pub Way : Option Act → (before after : ℕ) → Type 0
 Way a before after = Steady a before after ⊎ ((after ≡ 0) ⊎ Restarting a before after)
 
@@ -298,7 +298,7 @@ pub record Going (v : Sight) (file : TaskFile) (d : Driver) : Type 0 where
   pub opened_is : (after_tick v file d).plan.opened ≡ d.plan.opened
   pub way : Way (turn v d).act d.plan.restarted (after_tick v file d).plan.restarted
 
--- an act that is none of the opening writes
+-- an act that is not an opening write
 record Calm (a : Option Act) (d : Driver) : Type 0 where
   pub quiet : list_all calm_effect (effects_due a) ≡ true
   pub stays : (file : TaskFile) → (acted a file d).plan.opened ≡ d.plan.opened

@@ -25,7 +25,7 @@ use Rattle.hba_driver.specs.Turns.{advanced, answered, control_news, control_see
 
 -- ---- what is due
 
--- a request waits in a slot, for this device, which is ready
+-- a request for this device waits in a slot, and the device is ready
 pub record Waiting (plan : Plan) (entries : List (Option Entry)) (slot dev : ℕ) : Type 0 where
   pub below : slot < 30
   pub entry : Entry
@@ -38,7 +38,7 @@ pub record Waiting (plan : Plan) (entries : List (Option Entry)) (slot dev : ℕ
 abbrev pub MayStep : Plan → (dev : ℕ) → Stage → Type 0
 MayStep plan dev stage = ((plan.path ≡ None) × (dev < 15)) ⊎ (plan.path ≡ Some (record { dev = dev; stage = stage; asked = false }))
 
--- what is known where an act is due
+-- what is known if an act is due
 abbrev pub Due : Sight → Plan → List (Option Entry) → Option Act → Type 0
 Due v plan entries None = Unit {0}
 Due v plan entries (Some (act.Opens k)) = (k ≡ plan.opened) × (plan.opened < 7)
@@ -57,7 +57,7 @@ due_or : (v : Sight) (a b : Option Act) (plan : Plan) (entries : List (Option En
 due_or v None b plan entries h k = k
 due_or v (Some a) b plan entries h k = h
 
--- ---- what comes before all else
+-- ---- what comes before everything else
 
 less_of : (n m : ℕ) → nat_lt n m ≡ true → n < m
 less_of n m h = grind (arith, nat_tests)
@@ -322,7 +322,7 @@ goes_turn v plan entries =
     turn_if v (is_some (early_due v plan)) plan _ _ (goes_same v plan)
     (goes_then v plan (control_seen v plan) _ (goes_control v plan) (goes_control_turn v (control_news v plan) (control_seen v plan) entries))
 
--- ---- what comes only once the port is open, and runs
+-- ---- what comes only once the port is open and runs
 
 -- the writes that open the port come before those that start it again, and these before any other act
 abbrev pub Runs : Plan → Option Act → Type 0
@@ -352,7 +352,7 @@ runs_by v plan entries false false ready up = runs_any plan (turn_of v plan entr
 pub runs_turn : (v : Sight) (plan : Plan) (entries : List (Option Entry)) → Runs plan (turn_of v plan entries).act
 runs_turn v plan entries = runs_by v plan entries (nat_lt plan.opened 7) (nat_lt plan.restarted 2) refl refl
 
--- and so it is of the plan of the turn
+-- the same for the plan of the turn
 pub runs_then : (v : Sight) (plan : Plan) (entries : List (Option Entry)) → Runs (turn_of v plan entries).plan (turn_of v plan entries).act
 runs_then v plan entries =
     let goes : PlanGoes v plan (turn_of v plan entries).plan = goes_turn v plan entries in

@@ -40,7 +40,7 @@ pub acts_none : (port : Port) (memory : Memory) → ActsAll [] port memory port 
 unfolding ActsAll
 acts_none port memory = (refl, refl)
 
--- ---- each effect is to a device and a slot that are there
+-- ---- each effect is to a device and a slot that exist
 
 first_holds : (a b : Bool) → (a && b) ≡ true → a ≡ true
 first_holds true b h = refl

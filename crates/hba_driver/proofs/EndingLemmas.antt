@@ -1,4 +1,4 @@
--- The two acts that end a fault leave it so that all that is issued is the driver's.
+-- After the two acts that end a fault, everything that is issued is still the driver's.
 use Rattle.std.proofs.Common.{◌≡◌, ◌≢◌, ℕ, ◌+◌, ◌*◌, ◌/◌, ◌<◌, ◌≤◌, Bool, true, false, ◌&&◌, nat_lt, List, [], ◌∷◌, ◌++◌, length, refl, sym, ◌∙◌, ap, subst, inl, inr, arith, Option, Some, None}
 use Rattle.std.specs.Prelude.{if◌then◌else◌, not, ◌%◌, ◌==◌}
 use Rattle.std.specs.List.{list_all}
@@ -69,7 +69,7 @@ stopped_follows d = record {
       (b.0, b.1, b.2.same);
 }
 
--- once ST has fallen nothing is issued
+-- once ST has fallen, nothing is issued
 none_issued : (b : Bool) (n s : ℕ) (t : Transfer) (past : Touches) {P : Type 0} → b ≡ true → issued s (own n ((if b then Stops ∷ [] else []) ++ past)) ≡ Some t → P
 none_issued true n s t past on h = let bad : None ≡ Some t = h in cc
 none_issued false n s t past on h = absurd (false≢true on)
@@ -132,8 +132,8 @@ other_path : (b : Bool) (dev : ℕ) (file : TaskFile) (plan : Plan) (x : Path) �
 other_path true dev file plan x other h = unless_other dev plan.path x other h
 other_path false dev file plan x other h = h
 
--- what is issued to another device stays the driver's; an order is the control port's, and stands where it is not that one
--- which is cleared
+-- What is issued to another device stays the driver's. An order is the control port's, and stays unless the
+-- control port is the one that is cleared.
 aside_moves : (dev : ℕ) (file : TaskFile) (d : Driver) (n s : ℕ) (t : Transfer) → dev < 16 → n ≢ dev → From d n s t → From (set_aside dev file d) n s t
 unfolding set_aside
 aside_moves dev file d n s t below other (inl r) =
@@ -148,7 +148,7 @@ aside_moves dev file d n s t below other (inr (inr o)) =
     ap (λ (b : Bool). (if b then recovering dev file d.plan else from_reset d.plan).asked) (lt-ltb dev 15 less) in
     inr (inr (record { slot = o.slot; of_dev = o.of_dev; goes = stays ∙ o.goes; table = o.table }))
 
--- EN and DEC are in the value
+-- the value has EN and DEC
 has_en : (dev : ℕ) → has_bit (256 * dev + 3) en ≡ true
 has_en dev = ap (λ (k : ℕ). k == 1) (bit_at_lowest (256 * dev + 3) ∙ odd dev)
   where
@@ -267,7 +267,7 @@ unfolding sight_of shown register_at value_of
 faulty_is port memory dev ruled h =
     faulty_by port.registers.switching port.registers.chosen port.errors.reported port.errors.port dev ruled.rules.registers.chosen (λ x is. (ruled.faults.reported_is_marked x is).0) h
 
--- PxFBS shows the device that is reported, where no fault of the port stands
+-- PxFBS shows the device that is reported, if no fault of the port stands
 pub faulty_reported : (port : Port) (memory : Memory) (x : ℕ) → IsRuled port → port.errors.port ≡ None → port.errors.reported ≡ Some x → (sight_of port memory).faulty ≡ Some x
 unfolding sight_of shown register_at value_of
 faulty_reported port memory x ruled none is =
@@ -300,7 +300,7 @@ each_act D d v file fs c (Some (act.Orders order)) old new before after may due 
 each_act D d v file fs c (Some (act.Steps dev stage)) old new before after may due list area ruled m is acts go = act_goes D d v file fs c (Some (act.Steps dev stage)) old new before after refl due list area ruled m is acts go
 each_act D d v file fs c (Some (act.Issues slot dev queued)) old new before after may due list area ruled m is acts go = act_goes D d v file fs c (Some (act.Issues slot dev queued)) old new before after refl due list area ruled m is acts go
 
--- ---- an act that ends a fault is due only where the port runs
+-- ---- an act that ends a fault is due only while the port runs
 
 may_of : (h : Host) (plan : Plan) (entries : List (Option Entry)) (a : Option Act) → IsSoundHost h → Due (sight_in h) plan entries a → Runs h.driver.plan a → MayEnd a h.port
 may_of h plan entries None s due runs = tt

@@ -124,7 +124,7 @@ good_write None (Some register) offset value old new before after is at tries st
     let accepts : Accepts old before register value new = subst (λ (x : Option Register). MatchOption x ⊥ (λ (g : Register). Accepts old before g value new)) at (tries.accepted is) in
     good_one (beside old before) (event.Wrote register value) (beside new after) (sym (refusal_is register offset value old before at) ∙ is, accepts, stays) first last
 
--- the received area has to be the driver's
+-- the received area must be the driver's
 abbrev pub wants_area : Effect → Bool
 wants_area (effect.Writes offset value) = false
 wants_area (effect.Flushes dev) = false

@@ -1,4 +1,4 @@
--- A request ends as failed by its device only where the device's log names it.
+-- A request ends as failed by its device only if the device's log names it.
 use Rattle.std.proofs.Common.{◌≡◌, ℕ, Bool, true, false, ◌&&◌, List, refl, sym, ◌∙◌, ap, Option, Some, None}
 use Rattle.std.specs.Prelude.{if◌then◌else◌, ◌==◌, is_some}
 use Rattle.std.proofs.lemmas.Bool.{false≢true, true≢false}
@@ -108,7 +108,7 @@ and_parts false b h = absurd (false≢true h)
 equal_of : (x y : ℕ) → (x == y) ≡ true → x ≡ y
 equal_of x y h = grind (arith, nat_tests)
 
--- of an open request that has failed once a log has ended its device's
+-- an open request that has failed after a log has ended its device's requests
 record Named (log : ErrorLog) (l : Logged) (s : ℕ) (g x : Entry) : Type 0 where
   pub is : is_named_of log l.dev s g.head ≡ true
   pub phase : x.head.phase ≡ Ended (log_outcome log l.file)
@@ -174,7 +174,7 @@ named_tick v d s e x status error (Some l) logged here open' there phase =
       outcome = same_outcome (log_outcome v.log l.file) status error (sym named.phase ∙ phase);
     }
 
--- just this end
+-- exactly this end
 abbrev exactly : (status error : ℕ) → Phase → Bool
 exactly status error Waits = false
 exactly status error Issued = false

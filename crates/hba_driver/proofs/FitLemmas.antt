@@ -1,4 +1,4 @@
--- Each request that is not polled is a proper command where it stands, over every turn.
+-- Each request that is not polled yet is a proper command in its slot, over every turn.
 use Rattle.std.proofs.Common.{◌≡◌, ℕ, ◌+◌, ◌*◌, ◌/◌, ◌<◌, ◌≤◌, Bool, true, false, ◌&&◌, nat_lt, nat_le, List, [], ◌∷◌, length, refl, sym, ◌∙◌, ap, subst, inl, inr, arith, Some, None}
 use Rattle.std.specs.Prelude.{◌||◌, ◌==◌, ◌%◌, if◌then◌else◌, not}
 use Rattle.std.specs.List.{list_all, list_any}
@@ -35,7 +35,7 @@ use Rattle.hba_driver.proofs.TurnLemmas.{turns_are_events}
 
 -- ---- the request of a slot is a proper command
 
--- its PRDs are sound where they stand, and header, command FIS and PRDs are those of one command
+-- its PRDs are sound where they are, and header, command FIS and PRDs belong to one command
 pub record IsFit (s : ℕ) (e : Entry) (m : Memory) : Type 0 where
   pub total : total_at m.structure (length m.client) (table_of s) (length e.prds) ≡ Some (total_of e.prds)
   pub proper : is_proper (header_for (request_of (request_fields s e.head)) (table_of s) (length e.prds)) (request_of (request_fields s e.head)) (total_of e.prds) s (is_queued e.head.work) ≡ true
@@ -58,7 +58,7 @@ total_same s n m k long client agree few =
     ∙ sym (ap (λ (prds : List Prd). total_if_sound (read_fault m.structure (length m.client) (table_of s + 128) n) (total_of prds)) same.entries
     ∙ ap (λ f. total_if_sound f (total_of (prds_at k.structure (table_of s + 128) n))) same.refusal)
 
--- ---- a request that is taken is one
+-- ---- a request that is taken is a proper command
 
 equal_is : (x y : ℕ) → x ≡ y → (x == y) ≡ true
 equal_is x y h = grind (arith, nat_tests)

@@ -1,4 +1,4 @@
--- A device that is flushed is in no software reset afterwards.
+-- A device that is flushed is not in software reset afterwards.
 use Rattle.std.proofs.Common.{◌≡◌, ℕ, ◌<◌, Bool, false, List, [], ◌∷◌, sym, subst, inl, inr, refl, Option, Some, None}
 use Rattle.std.specs.Prelude.{MatchOption, ◌==◌}
 use Rattle.std.proofs.lemmas.Bool.{cases_eq}
@@ -67,7 +67,7 @@ effects_off n [] old new before after below off acts = subst (λ (p : Port). Off
 effects_off n (e ∷ es) old new before after below off acts =
     effects_off n es acts.0 new acts.1 after below (effect_off n e old acts.0 before acts.1 below off acts.2) acts.4
 
--- ---- its flush ends one
+-- ---- its flush ends a reset
 
 cleared_off : (n : ℕ) (old new : Port) (before after : Memory) → n < 16 → ActsAll (order_effects (Clear n)) old before new after → Off (view_of n new)
 unfolding ActsAll order_effects

@@ -1,4 +1,4 @@
--- The tick that issues IDENTIFY DEVICE leaves it in slot 30, and none of its bytes came.
+-- The tick that issues IDENTIFY DEVICE leaves it in slot 30, with none of its bytes come.
 use Rattle.std.proofs.Common.{◌≡◌, ℕ, suc, ◌/◌, ◌^◌, ◌<◌, Bool, true, false, ◌&&◌, List, ◌∷◌, length, replicate, refl, sym, ◌∙◌, ap, subst, inl, inr, arith, Option, Some, None}
 use Rattle.std.specs.Prelude.{◌==◌, ◌%◌}
 use Rattle.std.specs.List.{list_all, range_with_len}

@@ -199,7 +199,7 @@ unfolding sight_of shown value_of register_at
 never_stopped port memory is =
     ap (λ (b : Bool). b && not (has_bit (shown port 0x40) 2)) (quiet_bit (bit_or port.registers.interrupts (bit ufs port.registers.unknown)) (or_none _ _ is.quiet (bit_low 4 port.registers.unknown refl)))
 
--- an act that leaves the port has not to start it again
+-- an act that leaves the port does not have to start it again
 acted_restarted : (a : Option Act) (file : TaskFile) (d : Driver) → ((b : Act) → a ≡ Some b → leaves_port b) → (acted a file d).plan.restarted ≡ d.plan.restarted
 unfolding plan_after
 acted_restarted None file d leaves = refl

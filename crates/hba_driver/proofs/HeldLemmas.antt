@@ -1,4 +1,4 @@
--- Writes that are issued lie beside reads that are, and what is put spares them.
+-- Issued writes lie beside issued reads, and what is put leaves them alone.
 use Rattle.std.proofs.Common.{◌≡◌, ℕ, ◌<◌, Bool, true, false, List, [], ◌∷◌, ◌++◌, length, refl, sym, ◌∙◌, ap, inl, inr, arith, Option, Some, None}
 use Rattle.std.specs.Prelude.{◌||◌}
 use Rattle.std.proofs.lemmas.Bool.{cases_Bool, cases_eq, true≢false}
@@ -44,7 +44,7 @@ or_read false b h = h
 
 -- ---- writes are beside reads
 
--- one slot of one device has not both
+-- one slot of one device does not have both
 not_both : (n s m r : ℕ) (t u : Transfer) (past : Touches) → n ≡ m → s ≡ r → IsWriting n s t past → IsReading m r u past → ⊥
 not_both n s m r t u past dev slot writing reading =
     let same : t ≡ u = some_same t u

@@ -1,4 +1,4 @@
--- What is true over every list of turns of the host.
+-- What holds over every list of turns of the host.
 use Rattle.std.proofs.Common.{◌≡◌, ◌≢◌, ℕ, ◌+◌, ◌<◌, ◌≤◌, ◌⊎◌, Bool, true, false, ◌&&◌, List, [], ◌∷◌, ◌++◌, length, set, refl, sym, ◌∙◌, ap, subst, inl, inr, arith, Option, Some, None}
 use Rattle.std.specs.Prelude.{◌==◌, ◌||◌, not, is_none, unwrap_or}
 use Rattle.std.specs.List.{list_any, range_with_len}
@@ -78,7 +78,7 @@ freed d c f = ap (λ (o : Option ℕ). match_some o d (λ slot. let x : Driver =
 
 -- ---- where a request comes from
 
--- it stood there before, or was just taken
+-- it was there before, or was just taken
 abbrev ComesOf : Driver → (s : ℕ) → Entry → Type 0
 ComesOf old s f = ((e : Entry) × (entry_at old.entries s ≡ Some e) × GoesOn e f) ⊎ (f.head.ticket ≡ old.given + 1)
 
@@ -202,7 +202,7 @@ requests_over (t ∷ turns) old new run r = requests_over turns run.0 new run.2 
 
 -- ---- what stays true of a ticket that was given
 
--- each request with this ticket is so far
+-- each request with this ticket passes the test
 record Stands (test : Phase → Bool) (ticket : ℕ) (d : Driver) : Type 0 where
   pub old : ticket ≤ d.given
   pub far : (s : ℕ) (e : Entry) → entry_at d.entries s ≡ Some e → e.head.ticket ≡ ticket → test e.head.phase ≡ true
@@ -210,7 +210,7 @@ record Stands (test : Phase → Bool) (ticket : ℕ) (d : Driver) : Type 0 where
 abbrev Stable : (Phase → Bool) → Type 0
 Stable test = (p q : Phase) → Goes p q → test p ≡ true → test q ≡ true
 
--- there is none any more
+-- there is no such request any more
 abbrev gone : Phase → Bool
 gone p = false
 
@@ -409,7 +409,7 @@ lives_over (t ∷ turns) old new run s e here = elim (lives_turn old t run.0 run
 
 -- ---- issued once
 
--- a tick issues this ticket alone, which no tick issued before and none will again
+-- a tick issues only this ticket, which no tick issued before and none will issue again
 record Issue (v : Sight) (file : TaskFile) (d : Driver) (tickets : List ℕ) : Type 0 where
   pub ticket : ℕ
   pub is : tickets ≡ ticket ∷ []
@@ -420,7 +420,7 @@ seen_requests : (v : Sight) (d : Driver) → AreRequests d.given d.entries → A
 seen_requests v d r =
     requests_logged d.given v.log (turn v d).logged (done_ended v.issued d.entries) (requests_rephased d.given (is_done v.issued) (Ended Done) d.entries (done_ended v.issued d.entries) r refl)
 
--- what waits when a tick issues it waited before
+-- a request that waits when a tick issues it waited before
 waited : (v : Sight) (d : Driver) (slot : ℕ) (e : Entry) → entry_at (seen v d).entries slot ≡ Some e → waits e.head ≡ true → (t : ℕ) → Stands past t d → (e.head.ticket == t) ≡ false
 waited v d slot e here wait t stands = not_equal e.head.ticket t (λ same.
     let b = back_of (entry_at d.entries slot) (entry_at (seen v d).entries slot) (keeps_seen v d slot) e here in
@@ -527,7 +527,7 @@ each_run_keeps old turns new run r =
       lives = lives_over turns old new run;
     }
 
--- the slot that a submit takes is one of 30, and no request stands there
+-- the slot that a submit takes is one of 30, and has no request
 pub free_below : (d : Driver) (memory : Memory) (dev : ℕ) (request : Request) → submit_refusal d memory dev request ≡ None → next_slot d < 30
 unfolding lowest_free
 free_below d memory dev request none =

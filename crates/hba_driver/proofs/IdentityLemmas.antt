@@ -1,4 +1,5 @@
--- The IDENTIFY DEVICE of a device stays in slot 30 until data of it came: whatever its device sends, and whatever goes out.
+-- The IDENTIFY DEVICE of a device stays in slot 30 until data of it came, whatever the device sends and
+-- whatever goes out.
 use Rattle.std.proofs.Common.{◌≡◌, ◌≢◌, ℕ, ◌<◌, Bool, true, false, ◌&&◌, set, length, refl, sym, ◌∙◌, ap, subst, inl, inr, Option, Some, None, get_or-set_other, get_or-set_same}
 use Rattle.std.specs.Prelude.{if◌then◌else◌, ◌==◌, ◌-◌, is_some, nat_lt, not, is_ok}
 use Rattle.std.specs.Option.{option_map}
@@ -36,7 +37,7 @@ use Rattle.hba_laws.proofs.StandLemmas.{some_inj}
 
 -- ---- slot 30 of a device
 
--- a PIO data-in of which bytes are missing
+-- a PIO data-in with bytes missing
 pub record IsShort (own : DeviceSlots) : Type 0 where
   pub issue : Issue
   pub is : own_issue own 30 ≡ Some issue
@@ -122,7 +123,7 @@ short_answered own h = by_waiting (waiting own)
     by_waiting None = h
     by_waiting (Some slot) = by_issue slot (own_issue own slot) refl
 
--- it is no queued command that may be named
+-- it is not a queued command, which might be named
 short_named : (own : DeviceSlots) (mask : ℕ) → IsShort own → IsShort (after_complete mask own)
 short_named own mask h = short_freed (is_done mask own) own (last_false (has_bit mask 30) (holds is_done_issue (own_issue own 30)) none) h
   where
@@ -167,7 +168,7 @@ short_arrived own count other h = by_context own.context refl
         by_test true = short_over own count c (other c is) h
         by_test false = h
 
--- the end of a block, which frees a slot whose bytes are whole
+-- the end of a block, which frees a slot whose bytes are complete
 short_ended : (own : DeviceSlots) (finishes : Bool) → IsShort own → IsShort (block_ended finishes own)
 short_ended own false h = h
 short_ended own true h = by_slot (sent_pio own)
@@ -187,7 +188,7 @@ abbrev pub is_here : Option Wrote → Bool
 is_here None = false
 is_here (Some wrote) = wrote.slot == 30
 
--- unless bytes went to it, it stays
+-- it stays unless bytes went to it
 abbrev Stays : DeviceSlots → Heard → Type 0
 Stays own h = is_here (wrote_by h.happening) ≡ false → IsShort own → IsShort (moved h.happening own)
 

@@ -89,7 +89,7 @@ good_turn old (Submitted dev request ticket) new h = good_submit old dev request
 good_turn old (Polled c) new h = good_poll (end_of old.memory) c old.driver new.driver h.polled h.driver
 good_turn old (Put at bytes) new h = good_same (end_of old.memory) old.driver new.driver h.driver
 
--- memory stays as long
+-- memory keeps its size
 pub as_long : (old : Host) (turns : List HostTurn) (new : Host) → DoesAll old turns new → IsSoundHost old → length new.memory.client ≡ length old.memory.client
 as_long old turns new run sound =
     let e = turns_are_events old new turns run sound in
@@ -124,7 +124,7 @@ no_request s e h = elim (cases_lt s 30) [
   | inr least ↦ none_some e (sym (get_or_past (replicate 30 None) s None (rw (length-replicate {A = Option Entry} 30 None) least)) ∙ h)
 ]
 
--- so it is over all turns of a driver that begins with no request
+-- the same over all turns of a driver that begins without requests
 pub good_since : (turns : List HostTurn) (old new : Host) → DoesAll old turns new → IsSoundHost old → old.driver.entries ≡ replicate 30 None → HaveGoodPrds (end_of new.memory) new.driver
 good_since turns old new run sound none =
     good_over turns old new run sound (λ s e here. no_request s e (ap (λ (entries : List (Option Entry)). entry_at entries s) (sym none) ∙ here))

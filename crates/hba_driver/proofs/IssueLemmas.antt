@@ -1,4 +1,4 @@
--- What one event leaves of it that all that is issued is the driver's.
+-- After one event, everything that is issued is still the driver's.
 use Rattle.std.proofs.Common.{◌≡◌, ℕ, ◌+◌, ◌*◌, ◌<◌, ◌≤◌, true, List, [], ◌∷◌, ◌++◌, length, take, drop, refl, sym, ◌∙◌, ap, subst, inl, inr, arith, Option, Some, None}
 use Rattle.std.specs.Prelude.{MatchOption, is_some, slice_index}
 use Rattle.std.specs.Option.{option_map}
@@ -69,7 +69,7 @@ issue_below slot i a table here = elim (cases_lt slot (length a.port.slots.issue
     none_some : no_issue ≡ Some i → ⊥
     none_some h = cc
 
--- and it is told by the history of its device
+-- the history of its device tells it
 pub told_of : (a : event.Host) (past : Touches) → IsTable a.port.slots → AreHistoriesOf a past → (s : ℕ) (i : Issue) → issue_at a.port.slots s ≡ Some i → (t : Transfer) × (issued s (own i.dev past) ≡ Some t)
 told_of a past table told s i here =
     let below = issue_below s i a table here in

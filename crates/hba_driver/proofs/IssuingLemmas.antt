@@ -1,4 +1,4 @@
--- What a write of PxCI issues, where the command of one slot stands.
+-- What a write of PxCI issues, if one slot has its command.
 use Rattle.std.proofs.Common.{◌≡◌, ◌≢◌, ℕ, zero, suc, ◌+◌, ◌*◌, ◌^◌, ◌<◌, ◌≤◌, ◌⊎◌, Bool, true, false, cond, eqb, List, ◌++◌, length, refl, sym, ◌∙◌, ap, subst, inl, inr, arith, Option, Some, None}
 use Rattle.std.specs.Prelude.{if◌then◌else◌, ◌&&◌, ◌||◌, ◌==◌, ◌%◌, not, is_none, is_some, nat_lt}
 use Rattle.std.specs.Option.{option_map, option_or}
@@ -154,7 +154,7 @@ bit_same slot = ap (λ (k : ℕ). k == 1) (bit_at-pow_same slot)
 pub bit_other : (slot s : ℕ) → s ≢ slot → has_bit (2 ^ slot) s ≡ false
 bit_other slot s other = ap (λ (k : ℕ). k == 1) (bit_at-pow_other slot s other)
 
--- one slot alone, and what stands there
+-- only this slot, and the command in it
 pub record Asked (port : Port) (memory : Memory) (slot s : ℕ) (command : Command) : Type 0 where
   pub slot_is : s ≡ slot
   pub command_is : command_at memory port.registers.clb slot (has_bit port.registers.armed slot) ≡ Some command
@@ -205,7 +205,7 @@ not_not true true h k = refl
 not_not true false h k = absurd (true≢false k)
 not_not false b h k = absurd (false≢true h)
 
--- and nothing is issued in the slot
+-- nothing is issued in the slot
 busy_when : (started test busy foreign : Bool) (e f : WriteError) (o : Option WriteError) → started ≡ true
     → option_or (if not started && test then Some refusal.Stopped else None) (if started then (if busy then Some e else if foreign then Some f else o) else None) ≡ None → busy ≡ false
 busy_when true test true foreign e f o run h = cc
@@ -229,7 +229,7 @@ idle port memory slot below h =
     none_below (λ k. has_bit (2 ^ slot) k && is_busy port.slots k) 32 (not_some (lowest (λ k. has_bit (2 ^ slot) k && is_busy port.slots k)) (busy_none port memory slot h)) slot below in
     not_there (has_bit (2 ^ slot) slot) (is_busy port.slots slot) (bit_same slot) calm
 
--- and the command that stands in the slot can be read
+-- the command in the slot can be read
 bad_when : (started test busy foreign bad : Bool) (e f g : WriteError) → started ≡ true
     → option_or (if not started && test then Some refusal.Stopped else None) (if started then (if busy then Some e else if foreign then Some f else if bad then Some g else None) else None) ≡ None → bad ≡ false
 bad_when true test true foreign bad e f g run h = cc
@@ -271,7 +271,7 @@ low_bits : (port : ℕ) → cut (places H2d PmPort) port ≡ port % 16
 unfolding cut places
 low_bits port = omega arith
 
--- the device that PxFBS.DEV names is that of the header
+-- the header names the device of PxFBS.DEV
 chosen_is : (port : Port) (memory : Memory) (slot : ℕ) → slot < 32 → refusal_of Ci port memory (2 ^ slot) ≡ None → (header_at memory.structure port.registers.clb slot).pmp ≡ port.registers.chosen
 chosen_is port memory slot below h =
     let calm : (has_bit (2 ^ slot) slot && is_foreign port.registers memory.structure slot) ≡ false =
@@ -346,7 +346,7 @@ pub record AreFields (d : Driver) (slot : ℕ) (fields : H2dFields) : Type 0 whe
   pub of_request : (e : Entry) → slot < 30 → entry_at d.entries slot ≡ Some e → request_fields slot e.head ≡ fields
   pub of_step : (path : Path) (given : H2dFields) → slot ≡ 30 → d.plan.path ≡ Some path → path.asked ≡ true → stage_fields path.dev path.stage ≡ Some given → given ≡ fields
 
--- what stands in the slot may be issued
+-- the command in the slot may be issued
 pub record MayIssue (d : Driver) (slot dev : ℕ) (prds : List Prd) (fields : H2dFields) : Type 0 where
   pub from : (t : Transfer) → t.table ≡ prds → t.work ≡ work_of (request_of fields) → From d dev slot t
   pub are : AreFields d slot fields
@@ -397,7 +397,7 @@ module _ (d : Driver) (a b : event.Host) (past : Touches) (slot dev : ℕ) (prds
       let busy : is_some (issue_at a.port.slots slot) ≡ true = subst (λ (k : ℕ). is_some (issue_at a.port.slots k) ≡ true) it.0 (told_there a past served.told n s t (served.issues n s t old).dev old) in
       false≢true (sym (idle a.port a.memory slot below does.0) ∙ busy)
 
-  -- the command that stood in the slot is that of its fields
+  -- the command in the slot is that of its fields
   fis_fresh : (n s : ℕ) (t : Transfer) (command : Command) → a.port.registers.chosen ≡ n → asked a.port.registers a.memory (2 ^ slot) s ≡ Some command → transfer_of a.memory command ≡ t → IsFisOf d n s t command
   fis_fresh n s t command chosen new is =
       let it = found s command new in

@@ -1,4 +1,4 @@
--- A device that is not known stays so in a tick, unless its IDENTIFY DEVICE came back.
+-- A device that is not known stays unknown in a tick, unless its IDENTIFY DEVICE came back.
 use Rattle.std.proofs.Common.{◌≡◌, ◌≢◌, ℕ, zero, suc, Bool, true, false, ◌&&◌, List, [], ◌∷◌, map, get_or, set, refl, sym, ◌∙◌, ap, subst, inl, inr, Option, Some, None}
 use Rattle.std.specs.Prelude.{if◌then◌else◌, ◌==◌, ◌%◌, is_some, nat_lt}
 use Rattle.std.specs.Option.{option_map, option_or}
@@ -65,7 +65,7 @@ abbrev pub comes_back : Sight → ℕ → Option Path → Bool
 comes_back v n None = false
 comes_back v n (Some path) = (path.dev == n) && (is_named path.stage && is_back v path)
 
--- a device that is written over
+-- one device is set
 set_new : (devices : List Device) (n k : ℕ) (d : Device) → (k ≡ n → is_trusted d ≡ false) → is_trusted (get_or devices n Absent) ≡ false → is_trusted (get_or (set devices k d) n Absent) ≡ false
 set_new [] n k d here h = h
 set_new (x ∷ devices) zero zero d here h = here refl
@@ -140,7 +140,7 @@ path_control v plan =
 
 -- ---- slot 30
 
--- what is found of a device that is another, or by a stage that finds nothing
+-- what is found of another device, or by a stage that finds nothing
 new_found : (n : ℕ) (v : Sight) (stage : Stage) (dev : ℕ) (plan : Plan) → (is_named stage ≡ true → dev ≢ n) → (is_logging stage ≡ true → dev ≢ n) → IsNew n plan → IsNew n (found_of v stage dev plan)
 unfolding found_of
 new_found n v Identify dev plan named logging h = record { device = set_new plan.devices n dev _ (λ same. absurd (named refl same)) h.device; path = h.path }
@@ -363,9 +363,9 @@ new_after n (act.Orders order) file plan h fits = new_ordered n order plan h
 new_after n (act.Steps dev stage) file plan h fits = record { device = h.device; path = fits }
 new_after n (act.Issues slot dev queued) file plan h fits = record { device = h.device; path = h.path }
 
--- ---- and of the requests
+-- ---- what an act leaves of the requests
 
--- none of the device's is issued
+-- no request of the device is issued
 abbrev pub NoneIssued : ℕ → List (Option Entry) → Type 0
 NoneIssued n entries = (s : ℕ) (e : Entry) → entry_at entries s ≡ Some e → is_issued e.head ≡ true → e.head.dev ≢ n
 

@@ -1,4 +1,4 @@
--- Over turns of the host: a device that is ready, and one of which a request is issued, is known.
+-- Over turns of the host, a device that is ready is known, and so is one of which a request is issued.
 use Rattle.std.proofs.Common.{◌≡◌, ◌≢◌, ℕ, zero, suc, ◌+◌, ◌<◌, Bool, true, false, ◌&&◌, ◌||◌, List, [], ◌∷◌, get_or, replicate, set, refl, sym, ◌∙◌, ap, subst, inl, inr, arith, Option, Some, None}
 use Rattle.std.specs.Prelude.{if◌then◌else◌, ◌==◌, not, is_some, nat_lt}
 use Rattle.std.specs.List.{list_any}
@@ -52,7 +52,7 @@ use Rattle.hba_driver.proofs.UpLemmas.{IsIssuedAt}
 
 -- ---- a device that is not known
 
--- where slot 30 has its IDENTIFY DEVICE, none of its data came
+-- if slot 30 has its IDENTIFY DEVICE, none of its data has come
 abbrev pub Awaits : ℕ → Option Path → Port → Type 0
 Awaits n o port = (p : Path) → o ≡ Some p → p.dev ≡ n → is_named p.stage ≡ true → p.asked ≡ true → IsAwaited n port
 
@@ -102,7 +102,7 @@ path_turn v plan entries p asked =
     (turn_if (is_some (order_due (control_seen v plan))) _ _ (λ o. o ≡ Some p → plan.path ≡ Some p) (λ e. sym (path_control v plan) ∙ e)
     (λ e. sym (path_control v plan) ∙ path_seen v (control_seen v plan) p asked e))
 
--- a path that an act leaves was there, and is of no device that is cleared
+-- a path that an act leaves was there before, and is not of a device that is cleared
 unless_was : (dev : ℕ) (o : Option Path) (p : Path) → unless dev o ≡ Some p → (o ≡ Some p) × (p.dev ≢ dev)
 unless_was dev None p e = absurd (cc)
 unless_was dev (Some path) p e = by_test (path.dev == dev) refl e
@@ -111,7 +111,7 @@ unless_was dev (Some path) p e = by_test (path.dev == dev) refl e
     by_test true is e = absurd (cc)
     by_test false is e = (e, λ same. true≢false (sym (eq-eqb path.dev dev (ap (λ (x : Path). x.dev) (some_path path p e) ∙ same)) ∙ is))
 
--- what is known of an act where the path that it leaves is this one
+-- what is known of an act that leaves this path
 data Leaves (a : Act) (plan : Plan) (p : Path) : Type 0 where
   Begins : (dev : ℕ) (stage : Stage) → a ≡ act.Steps dev stage → p ≡ record { dev = dev; stage = stage; asked = true } → Leaves a plan p
   Keeps : plan.path ≡ Some p → (a ≡ act.Stops → ⊥) → ((k : ℕ) → a ≡ act.Clears k → p.dev ≢ k) → ((k : ℕ) → a ≡ act.Orders (Clear k) → p.dev ≢ k) → ((dev : ℕ) (stage : Stage) → a ≡ act.Steps dev stage → ⊥) → Leaves a plan p
@@ -186,7 +186,7 @@ module _ (n : ℕ) (below : n < 15) (old new : Host) (w : IsOnWay old) where
       let less : (turn v old.driver).plan.opened < 7 = d.1 in
       omega (arith, same, less)
 
-  -- the very issue stays, unless the device or the port is cleared
+  -- the same issue stays, unless the device or the port is cleared
   kept_issue : (a : Act) (i : Issue) → due v old.driver ≡ Some a → (a ≡ act.Stops → ⊥) → ((k : ℕ) → a ≡ act.Clears k → n ≢ k) → ((k : ℕ) → a ≡ act.Orders (Clear k) → n ≢ k)
       → ActsAll (effects_due (Some a)) old.port old.memory new.port new.memory → IsIssuedAt old.port n 30 i → IsIssuedAt new.port n 30 i
   unfolding effects_of ActsAll
@@ -225,7 +225,7 @@ module _ (n : ℕ) (below : n < 15) (old new : Host) (w : IsOnWay old) where
         ∙ h.command;
   }
 
-  -- and the tick that issues it
+  -- the tick that issues it
   identify_due : due v old.driver ≡ Some (act.Steps n Identify) → ActsAll (effects_due (Some (act.Steps n Identify))) old.port old.memory new.port new.memory → IsAwaited n new.port
   unfolding effects_of stage_fields
   identify_due is acts =

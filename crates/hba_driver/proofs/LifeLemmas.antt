@@ -238,7 +238,7 @@ keeps_set entries slot s h = elim (cases_eq s slot) [
       subst (λ (o : Option Entry). Keeps (entry_at entries s) o) (sym (get_or-set_other entries slot s x None other)) (keeps_same (entry_at entries s))
 ]
 
--- ---- an act issues only what waits, for a device that is ready
+-- ---- an act issues only what waits for a device that is ready
 
 abbrev pub May : Plan → List (Option Entry) → Option Act → Type 0
 May plan entries None = Unit {0}
@@ -262,7 +262,7 @@ may_due v log l plan entries (Some (act.Issues slot dev queued)) due =
     let there : may_issue plan (entry_at entries slot) ≡ true = ap (may_issue plan) due.0.stands ∙ due.0.may in
     ap (may_issue plan) (waiting_stays log l entries slot (waits_if_may plan (entry_at entries slot) there)) ∙ there
 
--- what is due of what a tick has seen
+-- what is due, by what a tick has seen
 due_logged : (v : Sight) (log : ErrorLog) (l : Option Logged) (plan : Plan) (entries : List (Option Entry)) (a : Option Act) → Due v plan entries a → Due v plan (logged_ended log l entries) a
 due_logged v log l plan entries None due = due
 due_logged v log l plan entries (Some (act.Opens k)) due = due
@@ -306,7 +306,7 @@ pub keeps_tick : (v : Sight) (file : TaskFile) (d : Driver) (s : ℕ) → Keeps 
 unfolding after_tick
 keeps_tick v file d s = keeps_then (entry_at d.entries s) (entry_at (seen v d).entries s) _ (keeps_seen v d s) (keeps_acted (turn v d).act file (seen v d) (may_turn v d) s)
 
--- what a tick leaves of the last ticket, and of how many slots there are
+-- what a tick leaves of the last ticket and of the number of slots
 record Same (d e : Driver) : Type 0 where
   pub given : e.given ≡ d.given
   pub slots : length e.entries ≡ length d.entries

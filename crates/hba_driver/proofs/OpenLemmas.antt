@@ -1,4 +1,5 @@
--- The registers of a port that its driver opens and starts again: frames leave them, and the port takes each of these writes.
+-- The registers of a port that its driver opens and starts again: frames leave them, and the port takes each
+-- of these writes.
 use Rattle.std.proofs.Common.{◌≡◌, ℕ, zero, suc, ◌+◌, ◌<◌, ◌≤◌, Bool, true, false, ◌&&◌, nat_lt, List, refl, sym, ◌∙◌, ap, subst, inl, inr, arith, Option, Some, None}
 use Rattle.std.specs.Prelude.{◌||◌, ◌==◌, if◌then◌else◌, not, MatchOption}
 use Rattle.std.specs.Bool.{beq}
@@ -61,7 +62,7 @@ pub record Stays (r s : Registers) : Type 0 where
   pub switches : s.switching ≡ r.switching
   pub receives : s.receives ≡ r.receives
   pub starts : s.started ≡ r.started
-  -- and so do the bits of PxSACT that wait for their commands
+  -- the bits of PxSACT that wait for their commands stay too
   pub armed : s.armed ≡ r.armed
 
 stays_same : (r s : Registers) → s ≡ r → Stays r s
@@ -139,7 +140,7 @@ taken register offset value old new memory at free tries =
 
 -- ---- the writes that open the port, and start it again
 
--- such a write is not refused; the registers are as they are after one more of them, and no bit of PxSACT is set by it
+-- such a write is not refused; the registers are then as after one more write, and it sets no bit of PxSACT
 abbrev Step : (offset value n m : ℕ) → (old new : Port) → Memory → Type 0
 Step offset value n m old new memory = (write_refusal old memory offset value ≡ None) × AreDriven n m new.registers × (old.registers.armed ≡ 0 → new.registers.armed ≡ 0)
 

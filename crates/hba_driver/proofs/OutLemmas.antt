@@ -1,4 +1,4 @@
--- What is issued for a device stays issued until the device completes it, or it is flushed.
+-- What is issued for a device stays issued until the device completes it or is flushed.
 use Rattle.std.proofs.Common.{◌≡◌, ◌≢◌, ℕ, ◌+◌, ◌*◌, ◌<◌, Bool, true, false, cond, eqb, ◌&&◌, List, [], ◌∷◌, ◌++◌, drop, refl, sym, ◌∙◌, ap, subst, inl, inr, arith, Option, Some, None}
 use Rattle.std.specs.Prelude.{MatchOption, if◌then◌else◌, ◌==◌, ◌%◌, is_some, not, slice_index}
 use Rattle.std.specs.List.{list_all, list_any}
@@ -68,9 +68,9 @@ use Rattle.hba_driver.proofs.TickingLemmas.{is_calm}
 use Rattle.hba_driver.proofs.TurnLemmas.{sound_shared}
 use Rattle.hba_driver.proofs.UpLemmas.{IsIssuedAt}
 
--- ---- a command that its device alone completes
+-- ---- a command that only its device completes
 
--- a command of a device is issued in a slot, and is neither a Control nor one whose data end it
+-- a command of a device is issued in a slot; it is not a Control, and not one whose data ends it
 pub record HasOut (port : Port) (slot dev : ℕ) : Type 0 where
   pub issue : Issue
   pub is : IsIssuedAt port dev slot issue
@@ -82,7 +82,7 @@ out_same p q slot dev is h = subst (λ (x : Port). HasOut x slot dev) (sym is) h
 
 -- ---- events that complete nothing
 
--- an event that a frame may be, or the command that goes out
+-- an event that a frame may be, or a command that goes out
 abbrev Goes : Event → Type 0
 Goes (Issued slot t) = ⊥
 Goes (Sent slot) = Unit {0}
@@ -150,7 +150,7 @@ the_issue : (o : Option Transfer) (p : Option Issue) (t : Transfer) → o ≡ So
 the_issue o None t is same = let bad : Some t.work ≡ None = sym (ap (option_map work_of_transfer) is) ∙ same in cc
 the_issue o (Some i) t is same = (i, refl, some_inj i.work t.work (sym same ∙ ap (option_map work_of_transfer) is))
 
--- what a history goes on to issue the port does too
+-- what a history still has issued, the port has issued too
 out_told : (a b : event.Host) (dev slot : ℕ) (later : Touches) (h : HasOut a.port slot dev) (t : Transfer) → dev < 16 → AreHistoriesOf b later → t.work ≡ h.issue.work → issued slot (own dev later) ≡ Some t → HasOut b.port slot dev
 out_told a b dev slot later h t below told work is =
     let j = the_issue (issued slot (own dev later)) (own_issue (slots_of dev b.port.slots) slot) t is ((told dev below).issued slot) in
@@ -247,7 +247,7 @@ out_pushed old new frame past slot dev does sound served dev_below h =
 
 -- ---- a write
 
--- ST does not fall by it, and it clears no device
+-- the write does not make ST fall, and clears no device
 abbrev NoFall : Register → Registers → ℕ → Type 0
 NoFall Cmd r value = falls r value ≡ false
 NoFall Fbs r value = not (has_bit value dec) ≡ true
@@ -313,7 +313,7 @@ kept_write (Some register) offset value old new memory dev s i at calm below tri
 
 -- ---- effects
 
--- a write after which what is issued stands: ST does not fall, and no device is cleared
+-- a write after which what is issued stays: ST does not fall, and no device is cleared
 abbrev pub lasting : Option Register → ℕ → Bool
 lasting (Some Cmd) value = has_bit value 0
 lasting (Some Fbs) value = not (has_bit value dec)
@@ -372,7 +372,7 @@ out_effects : (es : List Effect) (old new : Port) (before after : Memory) (slot 
 out_effects es old new before after slot dev calm other below acts table h =
     record { issue = h.issue; is = kept_effects es old new before after dev slot h.issue calm other below acts table h.is; pio = h.pio; control = h.control }
 
--- ---- what each act leaves, but those two that end a fault
+-- ---- what each act leaves, except the two that end a fault
 
 lasting_issuing : (slot dev : ℕ) (queued : Bool) → list_all lasting_effect (issuing slot dev queued) ≡ true
 unfolding register_at
@@ -426,7 +426,7 @@ out_clear : (old new : Port) (before after : Memory) (slot dev k : ℕ) → dev 
 out_clear old new before after slot dev k below other may table acts h =
     record { issue = h.issue; is = kept_clear old new before after slot dev k h.issue below other may table acts h.is; pio = h.pio; control = h.control }
 
--- ---- each act, but one that stops the port
+-- ---- each act, except one that stops the port
 
 pub out_act : (a : Option Act) (old new : Port) (before after : Memory) (slot dev : ℕ) → dev < 16 → MayEnd a old → (a ≡ Some act.Stops → ⊥) → ((k : ℕ) → a ≡ Some (act.Clears k) → dev ≢ k)
     → ((k : ℕ) → a ≡ Some (act.Opens k) → ⊥) → list_any (flushes dev) (effects_due a) ≡ false → ActsAll (effects_due a) old before new after → IsTable old.slots → HasOut old slot dev → HasOut new slot dev

@@ -51,7 +51,7 @@ use Rattle.hba_driver.proofs.ReadLemmas.{HasPage}
 
 -- ---- a path that waits was there before
 
--- a path of this plan whose command is out was one before
+-- a path of this plan whose command is out was there before
 abbrev Back : Option Path → Option Path → Type 0
 Back old new = (x : Path) → new ≡ Some x → x.asked ≡ true → old ≡ Some x
 
@@ -114,7 +114,7 @@ unless_back : (dev : ℕ) (o : Option Path) → Back o (unless dev o)
 unless_back dev None = λ x here out. none_there x here
 unless_back dev (Some path) = either (λ (p : Option Path). Back (Some path) p) (path.dev == dev) None (Some path) (λ x here out. none_there x here) (λ x here out. here)
 
--- an act but for that of slot 30 begins no path
+-- no act except that of slot 30 begins a path
 abbrev pub Begins : Option Act → Path → Type 0
 Begins (Some (act.Steps dev stage)) x = x ≡ record { dev = dev; stage = stage; asked = true }
 Begins a x = ⊥
@@ -256,7 +256,7 @@ page_stage dev AwaitReset old new before after reads m acts = absurd (false≢tr
 
 -- ---- over a turn
 
--- what a table says it says in a memory with the same bytes there
+-- a table says the same in a memory with the same bytes there
 page_kept : (old new : Memory) → length old.structure ≡ 1048576 → SamePage old.structure new.structure → length new.client ≡ length old.client → IsPage old → IsPage new
 page_kept old new long same client is =
     let said = says_the_same (length old.client) page_at 1 old.structure new.structure same.agree (λ h. omega (arith, long, same.long, h), λ h. omega (arith, long, same.long, h)) in

@@ -42,7 +42,7 @@ use Rattle.hba_driver.proofs.StopLemmas.{either}
 
 -- ---- the orders' commands
 
--- a software reset is a Control, each other order a command
+-- a software reset is a Control, and every other order is a command
 abbrev IsKind : Bool → H2dFields → Type 0
 IsKind b f = is_control (work_of (request_of f)).kind ≡ b
 
@@ -90,7 +90,7 @@ plain_is (Clear port) f h = plain_by _ f refl h
 plain_is (Detect port) f h = plain_by _ f refl h
 plain_is Watch f h = plain_none f h
 
--- SRST is set in the first of both
+-- SRST is set in the first of the two
 on_control : (order : Order) (f : H2dFields) → is_on order ≡ true → order_fields order ≡ Some f → f.control ≡ 4
 unfolding order_fields
 on_control ResetOn f on h = ap (λ (x : H2dFields). x.control) (sym (some_inj _ f h))
@@ -131,7 +131,7 @@ begins_srst stage old frame next p is = by_way p.follows
     by_way (inr (inl h)) = let bad : Resets ≡ Asks = sym is ∙ h.2 in cc
     by_way (inr (inr h)) = let bad : Resets ≡ Signs = sym is ∙ h.2 in cc
 
--- and one that ends it clears it
+-- a frame that ends it clears SRST
 pub ends_srst : (stage : Stage31) (old : Host) (frame : Stamped) (next : Stage31) (p : Pushes31 stage old frame next) → next ≡ Signs → (p.unsent.fields.c ≡ false) × (p.unsent.fields.control ≡ 0)
 ends_srst stage old frame next p is = by_way p.follows
   where
@@ -329,7 +329,7 @@ module _ (old : Host) (g : IsGoing old) (stage : Stage31) (at : IsAt31 stage old
   healthy_of : (view : DeviceView) (i : Issue) → may_leave view i ≡ true → is_some view.fault ≡ false
   healthy_of view i h = leaves_healthy i.sent (is_some view.fault) (is_control i.work.kind || is_ready view.state && is_none (waiting view.slots)) h
 
-  -- what may leave is an issue that has not gone out
+  -- what may go out is an issue that has not gone out
   fresh_issue : (slot : ℕ) → next_own (view_of 15 old.port) ≡ Some slot → (i : Issue) × (own_issue (slots_of 15 old.port.slots) slot ≡ Some i) × (i.sent ≡ false) × (is_some (view_of 15 old.port).fault ≡ false)
   fresh_issue slot next =
       let low = lowest_is (λ s. holds (may_leave (view_of 15 old.port)) (own_issue (view_of 15 old.port).slots s)) 32 slot next in

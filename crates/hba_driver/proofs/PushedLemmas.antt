@@ -1,4 +1,5 @@
--- The command of a request goes out only to a device that is known: slot 30 has none, and slot 31 is that of the control port.
+-- The command of a request goes out only to a known device: slot 30 has none, and slot 31 belongs to the
+-- control port.
 use Rattle.std.proofs.Common.{◌≡◌, ◌≢◌, ◌⊎◌, ℕ, zero, suc, ◌*◌, ◌+◌, ◌^◌, ◌<◌, Bool, true, false, List, [], ◌∷◌, length, get_or, replicate, refl, sym, ◌∙◌, ap, subst, inl, inr, arith, Option, Some, None}
 use Rattle.std.specs.Prelude.{if◌then◌else◌}
 use Rattle.std.specs.Option.{option_or}
@@ -61,7 +62,7 @@ IsPlain port = (c : Command) → last_command port.commands 30 ≡ Some c → is
 plain_as : (old new : Port) → last_command new.commands 30 ≡ last_command old.commands 30 → IsPlain old → IsPlain new
 plain_as old new same h c is = h c (sym same ∙ is)
 
--- the command of the slot has the command FIS that stands under its header
+-- the command of the slot has the command FIS under its header
 module _ (memory : Memory) (armed : Bool) (fields : H2dFields) (c : Command) (asks : request_at (cfis_at memory.structure (header_at memory.structure 0 30).ctba) ≡ Some (request_of fields)) where
   abbrev Fis : List ℕ
   Fis = cfis_at memory.structure (header_at memory.structure 0 30).ctba
@@ -204,11 +205,11 @@ in_list issues s i e = elim (cases_lt s (length issues)) [
   | inr past ↦ let none : None ≡ Some i = sym (get_or_past issues s None past) ∙ e in absurd (cc)
 ]
 
--- each device of which a request is issued is so
+-- each device of which a request is issued is known
 abbrev pub known_issued : Host → (ℕ → Type 0) → Type 0
 known_issued h P = (s : ℕ) (e : Entry) → entry_at h.driver.entries s ≡ Some e → is_issued e.head ≡ true → P e.head.dev
 
--- the command of a request that goes out to a device is that of an entry of it that is issued
+-- the command of a request that goes out to a device is that of an issued entry of the device
 module _ (h new : Host) (frame : Stamped) (w : IsOnWay h) (plain : IsPlain h.port) (below : frame.stamp.port < 15) (asks : is_request frame.bytes ≡ true) where
   by_order : (dev slot : ℕ) (command : Command) → outgoing h.port h.memory ≡ out.Order dev slot command → frame.stamp.port ≡ dev → frame.bytes ≡ command.cfis → IsSomeCommand h frame
   by_order dev slot command is port bytes =

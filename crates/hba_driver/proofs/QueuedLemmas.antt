@@ -1,4 +1,4 @@
--- A request stays with its device from its submit on, and its command is told by its slot.
+-- A request stays with its device from its submit on, and its command is known by its slot.
 use Rattle.std.proofs.Common.{◌≡◌, ℕ, true, false, List, [], ◌∷◌, refl, sym, ◌∙◌, ap, subst, inl, inr, Some}
 use Rattle.std.specs.Prelude.{◌||◌}
 use Rattle.std.specs.List.{list_any}
@@ -24,7 +24,7 @@ use Rattle.hba_driver.proofs.SteadyTurns.{is_ready_dev}
 
 -- ---- a turn
 
--- what waits or is issued has not ended, and was not set aside before
+-- what waits or is issued had not ended and was not set aside before
 live_goes : (p q : Phase) → Goes p q → (waits_in q || is_issued_in q) ≡ true → (waits_in p || is_issued_in p) ≡ true
 live_goes Waits q goes live = refl
 live_goes Issued q goes live = refl
@@ -38,7 +38,7 @@ live_open Aside live ended = false≢true ended
 live_open (Ended o) live ended = false≢true live
 
 module _ (n s : ℕ) (old : Host) (new : Host) (e : Entry) (live : IsLiveAt n s new.driver.entries e) where
-  -- a request that is live ends in no tick
+  -- a live request ends in no tick
   unflushed : (turn : HostTurn) → Does old turn new → is_flushed n old turn ≡ false
   unflushed (Ticked acted) does = elim (cases_Bool (list_any (flushes n) (effects (sight_in old) old.driver))) [
     | inr none ↦ none

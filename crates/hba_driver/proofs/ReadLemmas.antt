@@ -39,12 +39,12 @@ counted : (s : List ℕ) (at n : ℕ) → length (prds_at s at n) ≡ n
 counted s at zero = refl
 counted s at (suc n) = ap (λ (k : ℕ). suc k) (counted s (at + 16) n)
 
--- a table of which a total is known is not refused
+-- a table with a known total is not refused
 unrefused : (fault : Option PrdError) (total t : ℕ) → total_if_sound fault total ≡ Some t → fault ≡ None
 unrefused None total t h = refl
 unrefused (Some e) total t h = let bad : None ≡ Some t = h in cc
 
--- nor is one without entries
+-- a table without entries is not refused either
 empty_read : (s : List ℕ) (len at : ℕ) → at ≤ length s → read_fault s len at 0 ≡ None
 empty_read s len at room = rw (le-ltb (length s) (at + 16 * 0) (omega (arith, room))) refl
 
@@ -57,7 +57,7 @@ then_there true c h = refl
 then_there false c h = absurd (false≢true h)
 
 module _ (h : Host) (w : IsOnWay h) (tables : HaveTables (shared_by h) w.past) (page : HasPage h.driver h.memory) where
-  -- so many entries, as the transfer has
+  -- as many entries as the transfer has
   as_many : (t : Transfer) (c : Command) → prds_of h.memory c ≡ t.table → c.count ≡ length t.table
   as_many t c same = sym (counted h.memory.structure (c.table + 128) c.count) ∙ ap (λ (prds : List Prd). length prds) same
 

@@ -1,4 +1,4 @@
--- What is known of the report of a request goes on at each turn.
+-- What is known of the report of a request stays known in each turn.
 use Rattle.std.proofs.Common.{◌≡◌, ◌≢◌, ℕ, ◌<◌, ◌⊎◌, Bool, true, false, List, refl, sym, ◌∙◌, ap, subst, inl, inr, arith, Some, None}
 use Rattle.std.specs.Prelude.{◌==◌, ◌||◌}
 use Rattle.std.specs.List.{list_any}
@@ -30,7 +30,7 @@ use Rattle.hba_driver.proofs.TrueLemmas.{IssuesIt, WentOut, ended_same, issued_a
 
 -- ---- a request in its slot
 
--- A request that is issued was reported to be done, or its command is out; and one that ended as Done was reported.
+-- A request that is issued was reported as done, or its command is out. One that ended as Done was reported.
 abbrev pub Stands : (ℕ → Entry → Type 0) → Port → ℕ → Entry → Phase → Type 0
 Stands P port s e Waits = Unit {0}
 Stands P port s e Issued = P s e ⊎ HasOut port s e.head.dev
@@ -38,7 +38,7 @@ Stands P port s e Aside = Unit {0}
 Stands P port s e (Ended Done) = P s e
 Stands P port s e (Ended outcome) = Unit {0}
 
--- so it is in each slot, where it is told of a request as it waited
+-- the same in each slot, told of a request as it waited
 abbrev pub AllStand : (ℕ → Entry → Type 0) → Host → Type 0
 AllStand P h = (s : ℕ) (e : Entry) → entry_at h.driver.entries s ≡ Some e → Stands P h.port s (rephased Waits e) e.head.phase
 

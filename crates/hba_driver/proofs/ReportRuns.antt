@@ -1,4 +1,4 @@
--- Over turns of the host: what ends as Done was reported, and was submitted as it stands.
+-- Over turns of the host, what ends as Done was reported, and was submitted as it is.
 use Rattle.std.proofs.Common.{◌≡◌, ℕ, ◌⊎◌, true, List, [], ◌∷◌, refl, sym, ◌∙◌, ap, subst, inl, inr, Some}
 use Rattle.std.specs.Prelude.{◌==◌}
 use Rattle.std.proofs.lemmas.Bool.{and_parts, eqb-true, false≢true}
@@ -138,7 +138,7 @@ submitted_later t turns old new run e i = record {
   is = i.is;
 }
 
--- what stands in a slot stood there before the turns, or was submitted in them
+-- what is in a slot was there before the turns, or was submitted in them
 submitted_over : (turns : List HostTurn) (old new : Host) (run : DoesAll old turns new) (s : ℕ) (f : Entry) → entry_at new.driver.entries s ≡ Some f
     → ((e : Entry) × (entry_at old.driver.entries s ≡ Some e) × (rephased Waits e ≡ rephased Waits f)) ⊎ SubmittedIn old new turns run (rephased Waits f)
 submitted_over [] old new run s f here = inl (f, ap (λ (h : Host). entry_at h.driver.entries s) (sym run) ∙ here, refl)

@@ -23,7 +23,7 @@ use Rattle.hba_driver.specs.Ticks.{entries_after, is_aside_of, is_named_of, is_o
 use Rattle.hba_driver.specs.Drivers.{AreRequests, Entry, entry_at, holds, is_read, rephase_all, rephased}
 use Rattle.hba_driver.proofs.LifeLemmas.{entry_of_rephased, length_of_rephased}
 
--- ---- no request, and none that is new
+-- ---- no request, and no new one
 
 abbrev no_entry : Option Entry
 no_entry = None
@@ -48,7 +48,7 @@ no_requests last n is = record {
   apart = λ s t e f h k ne reads. absurd (is_none_at n s e h);
 }
 
--- the request stood there before, but for its phase
+-- the request was there before, except for its phase
 pub record Back (before : Option Entry) (e : Entry) : Type 0 where
   pub entry : Entry
   pub was : before ≡ Some entry
@@ -115,7 +115,7 @@ requests_removed last order old h = h
 
 -- ---- one slot
 
--- what stands there once a slot is set
+-- what is there after a slot is set
 pub set_cases : (old : List (Option Entry)) (slot : ℕ) (x : Option Entry) (s : ℕ) (e : Entry) → entry_at (set old slot x) s ≡ Some e
     → ((s ≡ slot) × (x ≡ Some e)) ⊎ ((s ≢ slot) × (entry_at old s ≡ Some e))
 set_cases old slot x s e h = elim (cases_eq s slot) [
@@ -139,7 +139,7 @@ requests_put last old slot x h back = requests_from last old (set old slot x) h 
   | inr beside ↦ record { entry = e; was = beside.1; ticket = refl; work = refl; prds = refl }
 ])
 
--- an act changes phases alone
+-- an act changes only phases
 pub requests_after : (last : ℕ) (act : Act) (old : List (Option Entry)) → AreRequests last old → AreRequests last (entries_after act old)
 unfolding entries_after
 requests_after last (act.Opens k) old h = h
@@ -198,7 +198,7 @@ share_both ps qs =
     any_both share_byte ps qs
     ∙ any_same (λ q. list_any (λ p. share_byte p q) ps) (λ q. list_any (share_byte q) ps) qs (λ q. any_same (λ p. share_byte p q) (share_byte q) ps (λ p. share_swap p q))
 
--- the new one shares no byte with those that stand there, where one of the two reads
+-- the new request shares no byte with those that are there, if one of the two reads
 pub requests_taken : (last : ℕ) (old : List (Option Entry)) (slot : ℕ) (x : Option Entry) (new : Entry) → AreRequests last old → x ≡ Some new → new.head.ticket ≡ last + 1
     → ((s : ℕ) (e : Entry) → entry_at old s ≡ Some e → (is_read new.head.work || is_read e.head.work) ≡ true → share_with new.prds e.prds ≡ false) → AreRequests (last + 1) (set old slot x)
 requests_taken last old slot x new h is ticket free =

@@ -1,4 +1,4 @@
--- A tick that acts not leaves the driver as it was.
+-- A tick that does not act leaves the driver as it was.
 use Rattle.std.proofs.Common.{◌≡◌, ℕ, ◌⊎◌, Bool, true, false, List, length, refl, ap, ◌∙◌, subst, inl, inr, Option, Some, None}
 use Rattle.std.specs.Prelude.{if◌then◌else◌, ◌&&◌, not}
 use Rattle.std.specs.Option.{is_some, option_map}
@@ -61,7 +61,7 @@ not_due (Some f) a h = absurd (true≢false h)
 abbrev with_order : Order → Plan → Plan
 with_order o plan = record plan { order = o }
 
--- nothing is due of the order of a plan
+-- nothing is due for the order of a plan
 abbrev NothingDue : Plan → Type 0
 NothingDue plan = is_some (order_due plan) ≡ false
 
@@ -83,7 +83,7 @@ quiet_asked v plan a n =
     let still : (plan.asked && not (is_out v plan)) ≡ false = rw (a, out) refl in
     ap (met v) (else_is (plan.asked && not (is_out v plan)) _ plan still) ∙ then_is plan.asked plan _ a
 
--- it has none
+-- it has no command
 quiet_free : (v : Sight) (plan : Plan) → plan.asked ≡ false → control_news v plan ≡ false → NothingDue (control_seen v plan) → control_seen v plan ≡ plan
 quiet_free v plan a n h =
     let still : (plan.asked && not (is_out v plan)) ≡ false = rw a refl in
@@ -101,7 +101,7 @@ control_quiet v plan n h = elim (cases_Bool plan.asked) [
 
 -- ---- slot 30
 
--- a command that is out, or none, tells nothing
+-- a command that is out, or no command, tells nothing
 no_answer : {A : Type 0} (asked out more : Bool) (x y : A) → (if asked then not out else more) ≡ false → (if (asked && not out) then x else y) ≡ y
 no_answer true true more x y h = refl
 no_answer true false more x y h = absurd (true≢false h)

@@ -1,4 +1,4 @@
--- What is posted of a device's Register FISes stays in its row, but for its own Register FISes and its flush.
+-- A device's posted Register FIS stays in its row until its next Register FIS or its flush.
 use Rattle.std.proofs.Common.{◌≡◌, ◌≢◌, ℕ, ◌+◌, ◌-◌, ◌*◌, ◌<◌, ◌≤◌, ◌⊎◌, ◌&&◌, Bool, true, false, List, [], ◌∷◌, ◌++◌, length, take, drop, replicate, get_or, refl, sym, ◌∙◌, ap, subst, inl, inr, arith, Option, Some, None}
 use Rattle.std.specs.Prelude.{if◌then◌else◌, ◌==◌, not, nat_le, slice_index, Result, Ok, Err}
 use Rattle.std.specs.List.{list_all}
@@ -43,7 +43,7 @@ use Rattle.hba_driver.proofs.SoundLemmas.{sound_host, sound_turn}
 use Rattle.hba_driver.proofs.StandLemmas.{Same, both, few_prds, lt_of, runs, same_beside, same_memory, same_written}
 use Rattle.hba_driver.proofs.SubmitLemmas.{is_taken}
 
--- ---- where it stands
+-- ---- where it is
 
 -- the Register FIS of device n
 abbrev place : ℕ → ℕ
@@ -62,7 +62,7 @@ window_same at old new long same =
 pub d2h_same : (n : ℕ) (old new : List ℕ) → length new ≡ length old → AgreeFrom (place n) 20 old new → last_d2h new n ≡ last_d2h old n
 d2h_same n old new long same = window_same (place n) old new long same
 
--- a byte of it is one of the row
+-- a byte of it is a byte of the row
 byte_of : (n i : ℕ) (s : List ℕ) → n < 16 → i < 20 → get_or (rx.row_of (area_at s 4096) n) (64 + i) 0 ≡ slice_index s (place n + i)
 byte_of n i s low below =
     let at : 4096 + (256 * n + (64 + i)) ≡ place n + i = omega arith in
@@ -152,7 +152,7 @@ spares_act n (Some (act.Issues slot dev queued)) calm = spares_issuing n slot de
 
 -- ---- a FIS is posted
 
--- how long a FIS is that is posted at the place, or beside it
+-- the length of a FIS that is posted at the place, or beside it
 abbrev pub IsSized : Fis → Type 0
 IsSized (view.RegD2H f) = length f ≡ 20
 IsSized (view.DmaSetup f) = length f ≡ 28
@@ -190,7 +190,7 @@ sized frame fis h = sized_by (may_have (kind_of frame) (length frame)) (view_as 
 le_of : (a b : ℕ) → nat_le a b ≡ true → a ≤ b
 le_of a b h = grind (arith, nat_tests)
 
--- it is no Register FIS of a device
+-- it is not a Register FIS of a device
 abbrev pub IsNoRegister : Fis → Type 0
 IsNoRegister (view.RegD2H f) = ⊥
 IsNoRegister fis = Unit {0}
@@ -217,7 +217,7 @@ row_long n s low long =
     let d = length-take 256 (drop (256 * n) (take 4096 (drop 4096 s))) in
     omega (arith, a, b, c, d, low, long)
 
--- where it stands in the row
+-- its place in the row
 pub d2h_row : (n : ℕ) (s : List ℕ) → n < 16 → length s ≡ 1048576 → take 20 (drop 64 (rx.row_of (area_at s 4096) n)) ≡ last_d2h s n
 d2h_row n s low long =
     let row : List ℕ = rx.row_of (area_at s 4096) n in
@@ -316,7 +316,7 @@ zeros_at : (len k : ℕ) → k < len → get_or (zeros len) k 0 ≡ 0
 unfolding zeros
 zeros_at len k below = get_or-replicate len k 0 0 below
 
--- as the host opens
+-- when the host opens
 pub opens_row : (n given len : ℕ) → n < 16 → HasSignature n (opening_host given len) → ⊥
 opens_row n given len low signs = false≢true (sym (zero_row n (zeros client_start) (zeros_at client_start (place n) (omega (arith, low)))) ∙ signs)
 
@@ -345,7 +345,7 @@ set_window old bytes at long room =
     let below : i < 20 = omega (arith, c, h) in
     get_or-take 20 (drop at (rx.overwritten old at bytes)) i 0 below ∙ get_or-drop at (rx.overwritten old at bytes) i 0 ∙ at_place old bytes at i room (omega (arith, long, below)))
 
--- and in the tick that flushes the device
+-- in the tick that flushes the device
 clear_row : (n : ℕ) (old new : Port) (before after : Memory) → n < 16 → list_all is_effect (order_effects (Clear n)) ≡ true → ActsAll (order_effects (Clear n)) old before new after → length before.structure ≡ 1048576 → slice_index after.structure (place n) ≡ 0
 unfolding order_effects order_fields ActsAll
 clear_row n old new before after low is acts long =

@@ -11,7 +11,7 @@ use Rattle.hba_driver.specs.declared.slot.Head.{Head}
 use Rattle.hba_driver.specs.declared.slot.Phase.{Phase}
 use Rattle.hba_driver.specs.Drivers.{Entry, entry_at, holds, rephase, rephase_all, rephased}
 
--- what is read there is what stands there
+-- what is read there is what is there
 pub entry_read : (entries : List (Option Entry)) (slot : ℕ) (d : Option Entry) → slot < length entries → get_or entries slot d ≡ entry_at entries slot
 entry_read entries slot d below = get_or_default entries slot d None below
 
@@ -19,7 +19,7 @@ entry_read entries slot d below = get_or_default entries slot d None below
 abbrev pub rephase_at : (ℕ → Head → Bool) → Phase → List (Option Entry) → ℕ → Option Entry
 rephase_at test phase old slot = rephase (test slot) phase (entry_at old slot)
 
--- one slot more
+-- one more slot
 pub rephase_step : (test : ℕ → Head → Bool) (phase : Phase) (n : ℕ) (old new : List (Option Entry)) (b : Bool) (d e : Option Entry) → FilledTo n (rephase_at test phase old) None old new → n < length old
     → b ≡ holds (test n) (get_or new n d) → FilledTo (n + 1) (rephase_at test phase old) None old (set new n (if b then option_map (rephased phase) (get_or new n e) else get_or new n e))
 rephase_step test phase n old new b d e h inside is =
@@ -33,7 +33,7 @@ pub rephase_done : (test : ℕ → Head → Bool) (phase : Phase) (n : ℕ) (old
 unfolding rephase_all
 rephase_done test phase n old new h long = filled_all n (rephase_at test phase old) None old new h (omega (arith, long))
 
--- where the test holds of none, all is as it was
+-- if the test holds for none, everything is as it was
 no_option : (o : Option ℕ) → is_some o ≡ false → o ≡ None
 no_option None h = refl
 no_option (Some k) h = cc

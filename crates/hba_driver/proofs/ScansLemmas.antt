@@ -1,4 +1,4 @@
--- What a tick makes of the ports that a scan found, as the driver's plan keeps them.
+-- What a tick does to the ports that a scan found, as the driver's plan keeps them.
 use Rattle.std.proofs.Common.{◌≡◌, ℕ, ◌+◌, ◌⊎◌, Bool, true, false, ◌&&◌, nat_lt, refl, sym, ◌∙◌, ap, subst, inl, inr, arith, Option, Some, None}
 use Rattle.std.specs.Prelude.{◌==◌, is_some, nat_le}
 use Rattle.std.proofs.lemmas.Bool.{and_from, and_parts, cases_Bool, false≢true, true≢false}
@@ -28,7 +28,7 @@ left_in n c = comes_to c.order c.asked n && has_bit c.found n
 abbrev FoundIn : Control → Type 0
 FoundIn c = IsClearOf c.order c.found
 
--- ---- an order that waits is none of a scan
+-- ---- an order that waits is not an order of a scan
 
 abbrev Comes : ℕ → Bool → Order → Type 0
 Comes n asked o = comes_to o asked n ≡ true

@@ -47,7 +47,7 @@ use Rattle.hba_driver.proofs.Tick31Lemmas.{order_stands, other_stays}
 use Rattle.hba_driver.proofs.Took31Lemmas.{closed_same, going_runs, heard_part, none_done, notice_view, skipped_part, took_own, took_part}
 use Rattle.hba_driver.proofs.Turn31Lemmas.{closed_gives, control_in31, opens31, turn31}
 
--- ---- what is found tells by plan and part
+-- ---- plan and part tell what is found
 
 abbrev named_in : ℕ → Plan → DevicePart → Bool
 named_in n plan part = (is_scan plan.order && plan.asked) && tells n part
@@ -62,7 +62,7 @@ same_part : (old new : Host) → new.port ≡ old.port → new.memory ≡ old.me
 same_part old new port memory =
     ap (λ (p : Port). part_of 15 (record { port = p; memory = new.memory })) port ∙ ap (λ (m : Memory). part_of 15 (record { port = old.port; memory = m })) memory
 
--- an answer that names the port stands there
+-- the row has an answer that names the port
 record Named (n : ℕ) (plan : Plan) (part : DevicePart) : Type 0 where
   pub scan : is_scan plan.order ≡ true
   pub asked : plan.asked ≡ true
@@ -95,7 +95,7 @@ asked_open stage h at asked = elim (cases_lt h.driver.plan.opened 7) [
   | inr least ↦ least
 ]
 
--- ---- where the answer stands
+-- ---- where the answer is
 
 area_is : (h : Host) → IsGoing h → 7 ≤ h.driver.plan.opened → h.port.registers.fb ≡ 4096
 area_is h g least = g.way.sound.registers.area (omega (arith, least))
@@ -172,7 +172,7 @@ module _ (old : Host) (g : IsGoing old) (new : Host) (m : IsGoing new) (frame : 
     ]
   ]
 
-  -- an answer stands in the row
+  -- the row has an answer
   answer_row : 7 ≤ old.driver.plan.opened → seen frame ≡ Ok (view.RegD2H frame) → take 20 (drop 64 (rx.row_after (control_of old).row (view.RegD2H frame))) ≡ frame
   answer_row least viewed =
       let whole : length (control_of old).row ≡ 256 = row_is old g least in
@@ -234,7 +234,7 @@ module _ (old : Host) (g : IsGoing old) (frame : Option Stamped) (new : Host) (m
   push_same : own_events 15 (shared_by old) (event.Gave frame) ≡ [] → (n : ℕ) → found n new ≡ true → found n old ≡ true
   push_same none n h = sym (found_same n old new (ap (λ (d : Driver). d.plan) does.driver) (push_part none)) ∙ h
 
--- what went out stands in slot 31, or belongs to a software reset
+-- what went out is in slot 31, or belongs to a software reset
 gone_not : (stage : Stage31) (o : Order) (next : Stage31) → Follows31 stage o next → (n : ℕ) (plan : Plan) (part : DevicePart) → IsIn next plan.order plan.asked part → Named n plan part → ⊥
 gone_not stage o next (inl follows) n plan part is now = resets (subst (λ (s : Stage31). IsIn s plan.order plan.asked part) follows.2 is)
   where
@@ -292,7 +292,7 @@ module _ (old : Host) (g : IsGoing old) (stage : Stage31) (at : IsAt31 stage old
       and_from (is_scan old.driver.plan.order && old.driver.plan.asked) (tells n (control_of old))
       (and_from (is_scan old.driver.plan.order) old.driver.plan.asked (ap is_scan (sym order) ∙ now.scan) (sym asked ∙ now.asked)) (ap (tells n) (sym part) ∙ now.tells)
 
-  -- an answer that stands there after the tick stood there before
+  -- an answer that is there after the tick was there before
   named_tick : 7 ≤ old.driver.plan.opened → (n : ℕ) → Named n new.driver.plan (control_of new) → is_named n old ≡ true
   named_tick least n now = by_move move
     where

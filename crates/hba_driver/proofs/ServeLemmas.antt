@@ -107,7 +107,7 @@ act_clears dev (Some (act.Orders order)) h = ap (λ (o : Order). Some (act.Order
 act_clears dev (Some (act.Steps other stage)) h = absurd (false≢true (sym (steps_none dev other stage) ∙ h))
 act_clears dev (Some (act.Issues slot other queued)) h = absurd (false≢true (sym (issues_none dev slot other queued) ∙ h))
 
--- what is due tells what the driver comes to
+-- what is due tells what becomes of the driver
 tick_of : (v : Sight) (file : TaskFile) (d : Driver) (a : Act) → due v d ≡ Some a → after_tick v file d ≡ acted (Some a) file (seen v d)
 unfolding after_tick
 tick_of v file d a is = ap (λ (x : Option Act). acted x file (seen v d)) is
@@ -149,7 +149,7 @@ recovers v file d dev is below long =
     ap (λ (x : Driver). device_at x.plan dev) (tick_of v file d (act.Clears dev) is)
     ∙ recovers_after (seen v d) file dev below ((goes_turn v d.plan (done_ended v.issued d.entries)).devices ∙ long)
 
--- an open request of the device has ended so
+-- an open request of the device has ended this way
 some_same : (e f : Entry) → Some e ≡ Some f → e ≡ f
 some_same e f h = cc
 
@@ -165,7 +165,7 @@ none_some e P h = absurd (apart h)
 equal_is : (x y : ℕ) → x ≡ y → (x == y) ≡ true
 equal_is x y h = grind (arith, nat_tests)
 
--- what becomes of an entry of which a test holds, or that passes another anyway
+-- what becomes of an entry for which a test holds, or that passes another test in any case
 passes_by : (b : Bool) (phase : Phase) (test : Head → Bool) (e f : Entry) → test (rephased phase e).head ≡ true → (has_ended e.head ≡ true → test e.head ≡ true) → (has_ended e.head ≡ false → b ≡ true)
     → (if b then Some (rephased phase e) else Some e) ≡ Some f → test f.head ≡ true
 passes_by true phase test e f there ended h is = subst (λ (x : Entry). test x.head ≡ true) (some_same (rephased phase e) f is) there
@@ -206,7 +206,7 @@ withdrawn_after d file dev s f here own =
 withdraws : (v : Sight) (file : TaskFile) (d : Driver) (dev s : ℕ) (e : Entry) → due v d ≡ Some (act.Clears dev) → entry_at (after_tick v file d).entries s ≡ Some e → e.head.dev ≡ dev → is_withdrawn e.head ≡ true
 withdraws v file d dev s e is here own = withdrawn_after (seen v d) file dev s e (ap (λ (x : Driver). entry_at x.entries s) (sym (tick_of v file d (act.Clears dev) is)) ∙ here) own
 
--- every request ends as the port is stopped
+-- every request ends when the port is stopped
 stopped_at : (s : ℕ) (o : Option Entry) (f : Entry) → rephase (is_open s) (Ended PortError) o ≡ Some f → has_ended f.head ≡ true
 stopped_at s None f is = none_some f _ is
 stopped_at s (Some e) f is = passes_by (is_open s e.head) (Ended PortError) has_ended e f refl (λ h. h) (λ open'. rw open' refl) is

@@ -1,4 +1,4 @@
--- Each turn leaves it so that all that is issued is the driver's, and serves what is issued.
+-- After each turn everything that is issued is the driver's, and the turn serves what is issued.
 use Rattle.std.proofs.Common.{◌≡◌, ℕ, ◌+◌, ◌<◌, ◌≤◌, Bool, true, false, ◌&&◌, ◌||◌, List, [], ◌∷◌, ◌++◌, length, replicate, set, refl, sym, ◌∙◌, ap, subst, inl, inr, arith, Option, Some, None}
 use Rattle.std.specs.Prelude.{if◌then◌else◌, ◌==◌, ◌%◌, is_some, max, min, not, nat_le, nat_lt}
 use Rattle.std.specs.List.{list_any}
@@ -142,7 +142,7 @@ tick_goes D fs c old a new h may s go = λ past served.
     each_act D (seen v old.driver) v (file_shown new.port) fs c (turn v old.driver).act old.port new.port old.memory new.memory may (due_seen v old.driver) s.registers.commands (needs_area old s) s.ruled s.memory h.possible h.does
     (subst (λ (d : Driver). Goes D d fs c (shared_by new)) h.driver go) past (seen_served old.port old.memory old.driver past (sound_beside old.port old.memory s.ruled s.memory) served)
 
--- ---- commands stand over a turn
+-- ---- commands stay over a turn
 
 stands_turn : (old : Host) (t : HostTurn) (new : Host) → Does old t new → IsSoundHost old → IsSoundHost new → AreBounded old.driver → HaveCommands old.driver old.memory → HaveCommands old.driver new.memory
 stands_turn old t new h s n bounded commands k e here =
@@ -251,7 +251,7 @@ submit_moves d memory dev request h n s t from =
     from_moves d (after_submit d dev request) n s t
     (λ f below here goes of_dev. get_or-set_other d.entries (next_slot d) s _ None (free_other d memory dev request h s f here) ∙ here) (λ is x here a of_dev. here) (λ is h. h) from
 
--- its command stands, and that of each other
+-- its command stays, and so does that of each other request
 submit_served : (old : Host) (dev : ℕ) (request : Request) (ticket : ℕ) (new : Host) (past : Touches) → Does old (Submitted dev request ticket) new → IsServed old.driver (shared_by new) past → IsServed (after_submit old.driver dev request) (shared_by new) past
 submit_served old dev request ticket new past h served = record {
   told = served.told;

@@ -1,4 +1,4 @@
--- What each effect of a tick leaves of it that all that is issued is the driver's.
+-- After each effect of a tick, everything that is issued is still the driver's.
 use Rattle.std.proofs.Common.{◌≡◌, ◌≢◌, ℕ, ◌+◌, ◌*◌, ◌^◌, ◌<◌, ◌⊎◌, Bool, true, false, cond, List, [], ◌∷◌, ◌++◌, length, replicate, refl, sym, ◌∙◌, ap, subst, inl, inr, arith, append_assoc, Option, Some, None}
 use Rattle.std.specs.Prelude.{MatchOption, is_some}
 use Rattle.std.proofs.lemmas.Bool.{cases_lt, eq-eqb, true≢false}
@@ -47,7 +47,7 @@ use Rattle.hba_driver.proofs.StandLemmas.{Same, few_prds, header_area, in_slots,
 abbrev pub IsNoStep : Driver → Type 0
 IsNoStep d = (x : Path) → d.plan.path ≡ Some x → x.asked ≡ true → ⊥
 
--- of each request only the phase may be another
+-- of each request only the phase may change
 pub record Follows (d e : Driver) : Type 0 where
   pub devices : length e.plan.devices ≡ length d.plan.devices
   pub slots : length e.entries ≡ length d.entries
@@ -77,7 +77,7 @@ built_rephased : (phase : Rattle.hba_driver.specs.declared.slot.Phase.Phase) (s 
 unfolding request_fields
 built_rephased phase s x t command h = record { cfis = h.cfis; work = h.work }
 
--- what goes out of slot 30 is the path's, so that was there before
+-- what goes out of slot 30 is the path's, so it was there before
 step_stays : (d : Driver) (n s : ℕ) (t : Transfer) → IsNoStep d → s ≡ 30 → From d n s t → ⊥
 step_stays d n s t none is (inl r) = absurd (omega (arith, is, r.slot))
 step_stays d n s t none is (inr (inl i)) = none i.path i.goes i.asked
@@ -121,7 +121,7 @@ from_moves d e n s t entry step asks (inr (inr o)) = inr (inr (record { slot = o
 
 -- ---- what follows
 
--- where it is so of this driver and host, what follows serves
+-- if this holds for this driver and host, what follows serves
 abbrev pub Goes : Driver → Driver → List HostEvent → event.Host → event.Host → Type 0
 Goes D d fs c h = (past : Touches) → IsServed d h past → Rest D h fs c past
 
@@ -223,8 +223,8 @@ pub write_goes : (D d : Driver) (fs : List HostEvent) (c : event.Host) (offset v
 write_goes D d fs c offset value old new before after calm host acts go =
     write_by D d fs c (write_refusal old before offset value) (register_at offset) offset value old new before after refl refl calm host acts.0 acts.1 go
 
--- a write that the port takes and that issues nothing, after which the driver is another: what follows is asked of the
--- past with the touches of this write alone
+-- A write that the port takes, that issues nothing, and after which the driver is another. What follows is
+-- asked for the past with only the touches of this write.
 taken_here : (D d e : Driver) (fs : List HostEvent) (c : event.Host) (register : Register) (offset value : ℕ) (old new : Port) (before after : Memory) → register_at offset ≡ Some register
     → write_refusal old before offset value ≡ None → is_ci register ≡ false → Follows d e
     → ((past : Touches) (n s : ℕ) (t : Transfer) → n < 16 → issued s (own n (touched_by_write register (beside old before) value ++ past)) ≡ Some t → From d n s t → From e n s t)
@@ -250,7 +250,7 @@ taken_goes D d e fs c register offset value old new before after at is calm foll
     (subst (λ (r : Option Register). Goes D d (wrote_to r value ++ fs) c (beside old before)) (sym at)
     (taken_here D d e fs c register offset value old new before after at is calm follows moves host acts go))
 
--- the write of PxCI that issues what stands in a slot
+-- the write of PxCI that issues the command in a slot
 ci_by : (D d : Driver) (fs : List HostEvent) (c : event.Host) (o : Option WriteError) (offset slot dev : ℕ) (prds : List Prd) (fields : H2dFields) (old new : Port) (before after : Memory)
     → slot < 32 → dev < 16 → old.registers.clb ≡ 0 → Standing slot dev prds fields before → MayIssue d slot dev prds fields
     → write_refusal old before offset (2 ^ slot) ≡ o → register_at offset ≡ Some Ci → sound.IsHost (beside old before) → Tries old before offset (2 ^ slot) new → after ≡ before
@@ -293,7 +293,7 @@ flush_goes D d e fs c dev old new before after follows moves host acts go past s
 
 -- ---- the structure area is written
 
--- what requests wrote stands beside the driver's own commands and the received area
+-- what requests wrote is beside the driver's own commands and the received area
 stands_act : (d : Driver) (e : Effect) (old new : Port) (before after : Memory) → AreBounded d → is_effect e ≡ true → late e ≡ true → IsHostMemory before → Acts e old before new after → HaveCommands d before → HaveCommands d after
 stands_act d e old new before after bounded is l m acts h s x here =
     let below : s < 30 = in_slots d.entries s x bounded.slots here in
@@ -324,7 +324,7 @@ empties_goes D d fs c dev old new before after below is area host acts go past s
     (go past (calm_event d (beside old before) (beside new after) (event.Rewrote dev (replicate 256 0)) past host tt does tt (ap (λ (p : Port). p.commands) acts.0)
     (stands_act d (effect.Empties dev) old new before after served.bounded is refl m acts served.commands) served))
 
--- nothing is issued in a slot, of whatever device
+-- nothing is issued in a slot, for any device
 abbrev pub IsFree : Driver → ℕ → Type 0
 IsFree d slot = (n : ℕ) (t : Transfer) → From d n slot t → ⊥
 

@@ -35,7 +35,7 @@ path_set n old file is =
     ap (λ (p : Plan). p.path) (acted_plan (turn (sight_in old) old.driver).act file (seen (sight_in old) old.driver))
     ∙ ap (λ (a : Option Act). (match_some a (seen (sight_in old) old.driver).plan (λ x. plan_after x file (seen (sight_in old) old.driver).plan)).path) is
 
--- no device that is tended is at that stage
+-- no tended device is at that stage
 not_tended : (n : ℕ) (plan : Plan) → IsTendedBy n plan → IsAtStage n IsSetting plan → ⊥
 not_tended n plan (Fine fine path) there = subst IsSetting (path there.0 there.1.0 there.1.1.0).0 there.1.1.1
 not_tended n plan (Releases device works) there = stage_is n ReleaseReset true plan IsSetting works there

@@ -25,7 +25,7 @@ use Rattle.hba_driver.specs.Turns.{advanced, answered, control_news, control_see
 use Rattle.hba_driver.specs.Going.{leaves_port}
 use Rattle.hba_driver.proofs.StopLemmas.{either}
 
--- ---- the part of a plan that slot 31 looks at
+-- ---- the part of a plan that concerns slot 31
 
 pub record Control : Type 0 where
   pub order : Order
@@ -49,14 +49,15 @@ back_same v plan (Some path) = either (λ (p : Plan). control_in p ≡ control_i
 device_same : (v : Sight) (plan : Plan) → control_in (device_seen v plan) ≡ control_in plan
 device_same v plan = back_same v plan plan.path
 
--- ---- what a turn makes of it
+-- ---- what a turn does to it
 
--- an act that is no order
+-- an act that is not an order
 abbrev pub IsOther : Option Act → Type 0
 IsOther (Some (act.Orders order)) = ⊥
 IsOther a = Unit {0}
 
--- A fault comes first, and nothing is looked at; or all is looked at, and then the order that is due is the act, or none is.
+-- Either a fault comes first, and nothing is looked at. Or everything is looked at, and then the act is the
+-- order that is due, or no order.
 pub data IsSeen (v : Sight) (p : Plan) (a : Option Act) (q : Plan) : Type 0 where
   Early : IsOther a → control_in q ≡ control_in p → IsSeen v p a q
   Looked : IsOther a → control_in q ≡ control_in (control_seen v p) → IsSeen v p a q
@@ -136,7 +137,7 @@ module _ (v : Sight) (p : Plan) (entries : List (Option Entry)) where
 
 -- ---- what an act leaves of it
 
--- what is true of the acts of a host that goes on, and whose control port has no fault
+-- what holds for the acts of a host that goes on and whose control port has no fault
 pub record IsAllowed (a : Option Act) : Type 0 where
   pub leaves : (b : Act) → a ≡ Some b → leaves_port b
   pub clears : (dev : ℕ) → a ≡ Some (act.Clears dev) → dev < 15

@@ -1,4 +1,4 @@
--- What is true of port, driver and memory together as they open, and after each turn.
+-- What holds for port, driver and memory together when they open, and after each turn.
 use Rattle.std.proofs.Common.{◌≡◌, ℕ, ◌+◌, ◌<◌, ◌≤◌, Bool, true, List, [], ◌∷◌, length, drop, replicate, get_or, refl, sym, ◌∙◌, ap, subst, inl, inr, arith, Option, Some, None}
 use Rattle.std.specs.Prelude.{is_none, not}
 use Rattle.std.specs.List.{list_all}
@@ -68,7 +68,7 @@ put_client : (old new : Host) (at : ℕ) (bytes : List ℕ) → Does old (Put at
 put_client old new at bytes h =
     client_lens (shared_by old) (shared_by new) (event.Put at bytes ∷ []) (shared_by new, (record { inside = h.inside; after = h.memory }, h.port), refl)
 
--- ---- a turn that is no tick
+-- ---- a turn that is not a tick
 
 same_ruled : (old new : Host) → new.port ≡ old.port → IsSoundHost old → IsRuled new.port
 same_ruled old new is s = subst IsRuled (sym is) s.ruled
@@ -97,7 +97,7 @@ polled_plan d = by_slot (lowest_ended d.entries)
 
 -- ---- a tick
 
--- the lists of effects of which the first is this
+-- the lists of effects whose first is this
 acts_of : (es fs : List Effect) (old new : Port) (before after : Memory) → es ≡ fs → ActsAll es old before new after → ActsAll fs old before new after
 acts_of es fs old new before after is h = subst (λ (x : List Effect). ActsAll x old before new after) is h
 
@@ -193,7 +193,7 @@ sound_hosts : (old : Host) (turns : List HostTurn) (new : Host) (run : DoesAll o
 sound_hosts old [] new run s = sound_host old s
 sound_hosts old (t ∷ turns) new run s = (sound_host old s, sound_hosts run.0 turns new run.2 (sound_turn old t run.0 run.1 s))
 
--- ---- a host as it opens
+-- ---- a host when it opens
 
 abbrev no_entry : Option Entry
 no_entry = None

@@ -1,4 +1,4 @@
--- How far a request came over turns: its ticket is issued, and then its device completes it.
+-- How far a request has come over turns: its ticket is issued, and then its device completes it.
 use Rattle.std.proofs.Common.{◌≡◌, ℕ, Bool, true, false, List, [], ◌∷◌, refl}
 use Rattle.std.specs.Prelude.{◌&&◌, ◌||◌}
 use Rattle.std.specs.List.{list_any}
@@ -8,9 +8,9 @@ use Rattle.hba_driver.specs.HostTurns.{DoesAll, Host, HostTurn}
 pub data Stage : Type 0 where
   -- no tick has issued the ticket
   Idle : Stage
-  -- one has, and no frame since has completed it
+  -- a tick has issued it, and no frame since has completed it
   Out : Stage
-  -- one has, and a frame after it has
+  -- a tick has issued it, and a frame after the tick has completed it
   Whole : Stage
 
 abbrev pub stage_by : (issued completed : Bool) → Stage → Stage
@@ -27,7 +27,7 @@ abbrev pub stage_over : (ticket slot dev : ℕ) → Stage → (old new : Host) (
 stage_over ticket slot dev stage old new [] run = stage
 stage_over ticket slot dev stage old new (t ∷ turns) run = stage_over ticket slot dev (stage_after ticket slot dev stage old t) run.0 new turns run.2
 
--- what it tells that a request is whole in the end
+-- what it means that a request is whole in the end
 abbrev pub Tells : (ticket slot dev : ℕ) → Stage → (old new : Host) (turns : List HostTurn) → DoesAll old turns new → Type 0
 Tells ticket slot dev Idle old new turns run = is_completed ticket slot dev old new turns run ≡ true
 Tells ticket slot dev Out old new turns run = (list_any (completes slot dev) turns || is_completed ticket slot dev old new turns run) ≡ true

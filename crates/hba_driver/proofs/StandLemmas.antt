@@ -1,4 +1,4 @@
--- What a request has written into the structure area stands there.
+-- What a request has written into the structure area stays there.
 use Rattle.std.proofs.Common.{◌≡◌, ◌≢◌, ℕ, ◌+◌, ◌-◌, ◌*◌, ◌<◌, ◌≤◌, Bool, true, false, ◌&&◌, nat_lt, nat_le, List, [], ◌∷◌, ◌++◌, length, take, drop, replicate, get_or, refl, sym, ◌∙◌, ap, subst, inl, inr, arith, Option, Some, None, length-append}
 use Rattle.std.specs.Prelude.{◌||◌, not, slice_index}
 use Rattle.std.specs.List.{list_all, list_any}
@@ -48,7 +48,7 @@ no_entry = None
 
 -- ---- areas that agree
 
--- both are as long as ever, and agree there
+-- both have their full length, and agree there
 pub record Same (at count : ℕ) (old new : List ℕ) : Type 0 where
   pub long : length new ≡ 1048576
   pub agree : AgreeFrom at count old new
@@ -143,7 +143,7 @@ same_acts at count own (e ∷ es) old new before after is l h long =
     let first : Same at count before.structure h.1.structure = same_act at count own e old h.0 before h.1 effect_is.0 late_is.0 h.2 long in
     same_then at count before.structure h.1.structure after.structure first (same_acts at count own es h.0 new h.1 after effect_is.1 late_is.1 h.4 first.long)
 
--- each act writes commands into the slots 30 and 31 alone
+-- each act writes commands only into the slots 30 and 31
 late_issuing : (slot dev : ℕ) (queued : Bool) → list_all late (issuing slot dev queued) ≡ true
 late_issuing slot dev true = refl
 late_issuing slot dev false = refl
@@ -225,7 +225,7 @@ runs port frame h = and_first port.registers.started _ (not_or_or (is_running po
 
 -- ---- one turn
 
--- an area of a request's: apart from what the driver writes of its own, and from the commands of other slots
+-- an area of a request: apart from what the driver writes of its own, and from the commands of other slots
 pub record IsArea (s at count : ℕ) : Type 0 where
   pub own : IsOwn at count
   pub header : (n : ℕ) → n < 30 → n ≢ s → LieApart at count (header_place 0 n) 32

@@ -1,4 +1,4 @@
--- What a calm tick leaves of the plan of a device of which nothing failed.
+-- What a calm tick leaves of the plan of a device with which nothing has failed.
 use Rattle.std.proofs.Common.{◌≡◌, ◌≢◌, ℕ, ◌+◌, ◌⊎◌, ◌&&◌, Bool, true, false, nat_lt, List, length, get_or, set, refl, sym, ◌∙◌, ap, subst, inl, inr, arith, Option, Some, None}
 use Rattle.std.specs.Prelude.{if◌then◌else◌, ◌==◌, ◌%◌, not, is_some}
 use Rattle.std.specs.List.{range_with_len}
@@ -30,7 +30,8 @@ use Rattle.hba_driver.specs.Turns.{advanced, answered, control_news, control_see
 
 -- ---- what goes on
 
--- the plan stays steady for the device; a ready device stays ready; and it is asked only where it was, or where it signed
+-- The plan stays steady for the device. A ready device stays ready. It is asked only if it was asked before,
+-- or if it signed.
 pub record PlanKeeps (n : ℕ) (signs : Type 0) (p q : Plan) : Type 0 where
   pub steady : IsSteadyPlan n q
   pub ready : device_at p n ≡ Ready → device_at q n ≡ Ready
@@ -46,7 +47,7 @@ keeps_then n signs p q r h k = record {
   asks = λ a. elim (k.asks a) [ inl was ↦ h.asks was | inr signed ↦ inr signed ];
 }
 
--- where the device is as it was, and slot 30 works on it only where it did
+-- if the device is as it was, and slot 30 works on it only if it did before
 keeps_beside : (n : ℕ) (signs : Type 0) (p q : Plan) → IsSteadyPlan n p → device_at q n ≡ device_at p n → ((x : Path) → q.path ≡ Some x → x.dev ≡ n → p.path ≡ Some x)
     → (detects n q.asked q.order ≡ true → detects n p.asked p.order ≡ true) → PlanKeeps n signs p q
 keeps_beside n signs p q h same path order = record {
@@ -67,7 +68,7 @@ keeps_beside n signs p q h same path order = record {
 pub set_other : (devices : List Device) (m n : ℕ) (device : Device) → n ≢ m → get_or (set devices m device) n Absent ≡ get_or devices n Absent
 set_other devices m n device other = get_or-set_other devices m n device Absent other
 
--- one of a list that is set is what it is set to, or past its end
+-- an element of a list that is set is what it is set to, or past the end
 pub set_same : (devices : List Device) (n : ℕ) (device : Device) → (get_or (set devices n device) n Absent ≡ device) ⊎ (get_or (set devices n device) n Absent ≡ Absent)
 set_same devices n device = elim (cases_lt n (length devices)) [
   | inl below ↦ inl (get_or-set_same devices n device Absent below)
@@ -110,7 +111,7 @@ never_open n ports from h = by_test (nat_lt from ports) h
     by_test true k = false≢true k
     by_test false k = false≢true k
 
--- the device for which a detection is answered was absent
+-- if the search for a device is answered, the device was absent
 module _ (n : ℕ) (signs : Type 0) (v : Sight) (plan : Plan) (h : IsSteadyPlan n plan) where
   detected_here : (port : ℕ) → plan.order ≡ Detect port → port ≡ n → PlanKeeps n signs plan (with_next (Detect port) (noted v (Detect port) plan))
   unfolding noted next_order
@@ -224,7 +225,7 @@ path_to_dev dev (Some s) x h =
     ap (λ (p : Path). p.dev) (sym (same_path next x h))
 
 module _ (n : ℕ) (signs : Type 0) (v : Sight) (plan : Plan) (h : IsSteadyPlan n plan) where
-  -- its identify data came: it is ready, or of no use
+  -- its IDENTIFY data came: it is ready or unusable
   identified : (path : Path) → plan.path ≡ Some path → path.dev ≡ n → (stage : Stage) → path.stage ≡ stage → stage ≡ Identify
       → PlanKeeps n signs plan (record (found_of v stage path.dev plan) { path = path_to path.dev (next_stage stage) })
   unfolding found_of next_stage
@@ -338,7 +339,7 @@ turn_keeps n signs v plan entries h =
 
 -- ---- what is due
 
--- an order that is due is the plan's; a stage is due by the path that has slot 30, or for its device
+-- an order that is due is the plan's; a stage is due for the path that has slot 30, or for its device
 abbrev pub DueOf : Sight → Plan → Option Act → Type 0
 DueOf v plan None = Unit {0}
 DueOf v plan (Some (act.Orders order)) = order ≡ plan.order
@@ -443,7 +444,7 @@ unless_here port (Some path) x h = by_case (cases_eq path.dev port)
         let is : Some path ≡ Some x = sym (ap (λ (b : Bool). if b then None else Some path) (ne_eqb path.dev port other)) ∙ h in
         (is, λ same. other (ap (λ (p : Path). p.dev) (same_path path x is) ∙ same))
 
--- a stage is due for a device that recovers from nothing only where it starts and signed
+-- a stage is due for a device that does not recover only if the device starts and has signed
 starts : (device : Device) (signed : Bool) (stage : Stage) → IsFine device → first_stage device signed ≡ Some stage → (device ≡ Starting) × ((signed ≡ true) × (stage ≡ Identify))
 starts Absent signed stage fine h = none_stage stage h
   where

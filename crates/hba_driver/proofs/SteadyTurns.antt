@@ -1,4 +1,4 @@
--- What a turn leaves of the driver's plan and requests of a device of which nothing failed.
+-- What a turn leaves of the driver's plan and requests for a device with which nothing has failed.
 use Rattle.std.proofs.Common.{◌≡◌, ◌≢◌, ℕ, ◌+◌, ◌<◌, ◌⊎◌, ◌&&◌, ◌||◌, Bool, true, false, List, length, map, replicate, get_or, set, refl, sym, ◌∙◌, ap, subst, inl, inr, arith, Option, Some, None}
 use Rattle.std.specs.Prelude.{if◌then◌else◌, ◌==◌, not, slice_index_or}
 use Rattle.std.specs.List.{list_any, range_with_len}
@@ -281,7 +281,7 @@ turn_steady n old (Submitted dev request ticket) new does calm h =
 turn_steady n old (Polled c) new does calm h = poll_keeps n old c new does h
 turn_steady n old (Put at bytes) new does calm h = keeps_same n (HasSignature n old) old.driver new.driver does.driver h
 
--- ---- where nothing is known of the device
+-- ---- while nothing is known of the device
 
 absent_ready : (d : Device) → d ≡ Absent → d ≡ Ready → ⊥
 absent_ready d is r = cc
@@ -356,11 +356,11 @@ steady_fields n plan p h here to =
 starting_ready : (d : Device) → d ≡ Starting → d ≡ Ready → ⊥
 starting_ready d is r = cc
 
--- and while none of its requests is open
+-- only while none of its requests is open
 pub steps_alone : (n : ℕ) (d : Driver) (p : Path) (s : ℕ) (e : Entry) → IsSteady n d → d.plan.path ≡ Some p → p.dev ≡ n → IsOpenAt n s d.entries e → ⊥
 steps_alone n d p s e h here to there = starting_ready (device_at d.plan n) (h.plan.path p here to).1.1 (h.requests.ready s e there)
 
--- ---- where the port goes on
+-- ---- while the port goes on
 
 -- an order flushes the device, or not
 flush_or_other : (n : ℕ) (o : Order) → (o ≢ Clear n) ⊎ (o ≡ Clear n)

@@ -1,4 +1,4 @@
--- What a device sends stops the port only where the host's bus fails.
+-- What a device sends stops the port only by a host bus error.
 use Rattle.std.proofs.Common.{◌≡◌, ◌≢◌, ℕ, ◌-◌, ◌<◌, Bool, true, false, ◌&&◌, List, length, refl, sym, ◌∙◌, ap, inl, inr, arith, Option, Some, None}
 use Rattle.std.specs.Prelude.{◌==◌, ◌%◌, if◌then◌else◌, not, is_some, nat_lt, slice_index}
 use Rattle.std.proofs.lemmas.Bool.{false≢true, ne_eqb}
@@ -37,14 +37,14 @@ use Rattle.hba_laws.proofs.ViewLemmas.{HasContext, IsOwn, is_own}
 use Rattle.hba_driver.specs.Orders.{control_port}
 use Rattle.hba_driver.specs.Going.{CanBeRead, FaultsNeverStop, IsOfControl, IsReport, NothingStops}
 
--- a choice has what both values have
+-- what holds for both values holds for the choice
 pub either : {A : Type 0} (P : A → Type 0) (b : Bool) (x y : A) → P x → P y → P (if b then x else y)
 either P true x y h k = h
 either P false x y h k = k
 
 -- ---- a FIS that is heard
 
--- what is wrong, if anything is, is no fault of the port
+-- what is wrong, if anything, is not a fault of the port
 abbrev Spares : Option Fault → Type 0
 Spares f = is_some (port_cause f) ≡ false
 
@@ -94,7 +94,7 @@ data_calm : (own : DeviceSlots) (state : DeviceState) (sound : Bool) (count : �
 data_calm own state sound count None can = refl
 data_calm own state sound count (Some c) can = data_calm_of own state sound c.to_host count c refl (λ way. can c refl way)
 
--- where Data comes by a table that can be used
+-- if Data comes by a table that can be used
 fis_calm : (own : DeviceSlots) (state : DeviceState) (sound : Bool) (fis : Fis) → ((c : Context) → own.context ≡ Some c → c.to_host ≡ true → sound ≡ true) → Calm (heard_fis own state sound fis)
 unfolding heard_fis
 fis_calm own state sound (view.RegH2D f) can = refl
@@ -106,7 +106,7 @@ fis_calm own state sound (view.PioSetup f) can = pio_calm own state _ _ _ _ _
 fis_calm own state sound (view.Payload f) can = data_calm own state sound (length f - 4) own.context can
 fis_calm own state sound (view.Unknown f) can = refl
 
--- one that a device may not send is its own fault
+-- a FIS that a device may not send is a fault of the device
 bad_calm : (n : ℕ) → n ≢ control_port → Spares (Some (bad_fault n))
 bad_calm n other = rw (ne_eqb n 15 other) refl
 
@@ -173,7 +173,7 @@ module _ (host : event.Host) (is : IsHost host) (read : CanBeRead host) where
       by_issue None = refl
       by_issue (Some issue) = by_command issue.dev (Rattle.hba_fbs.specs.Views.last_command host.port.commands slot)
 
-  -- the data that is due is that of a context, whose table can be used
+  -- the data that is due belongs to a context whose table can be used
   with_spares : (dev offset len : ℕ) (o : Option Command) → is_some o ≡ true → fails_by_bus (data_with dev offset len o) ≡ false
   with_spares dev offset len None h = absurd (false≢true h)
   with_spares dev offset len (Some command) h = refl

@@ -1,4 +1,4 @@
--- What is known of a request that no refusal applies to.
+-- What is known of a request to which no refusal applies.
 use Rattle.std.proofs.Common.{◌≡◌, ◌≢◌, ℕ, zero, suc, ◌+◌, ◌*◌, ◌%◌, ◌<◌, ◌≤◌, Bool, true, false, List, [], ◌∷◌, Option, Some, None, length, get_or, refl, sym, subst, ◌∙◌, arith, All, inl, inr}
 use Rattle.std.specs.Prelude.{nat_lt, ◌==◌, ◌||◌, ◌&&◌, not, if◌then◌else◌}
 use Rattle.std.specs.List.{list_any}
@@ -88,7 +88,7 @@ pub can_be_written : (d : Driver) (memory : Memory) (request : Request) → IsTa
 can_be_written d memory request taken k e below =
     entry_good (end_of memory) (get_or request.prds.items k e) (none_passes (is_bad_prd (end_of memory)) request.prds.items k e taken.good below)
 
--- an entry that stands there and conflicts
+-- an entry that is there and conflicts
 and_false : (a b : Bool) → a ≡ true → (a && b) ≡ false → b ≡ false
 and_false true b h k = k
 and_false false b h k = absurd (false≢true h)

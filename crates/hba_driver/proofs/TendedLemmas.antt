@@ -60,7 +60,7 @@ recovering_absent way h = cc
 
 -- ---- what a tick leaves
 
--- with a tick that finds this sight, of which this is due
+-- for a tick with this sight, for which this is due
 pub record PlanTends (n : ℕ) (signs : Type 0) (v : Sight) (a : Option Act) (p q : Plan) : Type 0 where
   pub next : IsTendedPlan n q ⊎ ((a ≡ Some (act.Steps n AssertReset)) × ((device_at q n ≡ Recovering Reset) × (WorksOn n AssertReset true q × (detects n q.asked q.order ≡ true → ⊥))))
   pub ready : device_at p n ≡ Ready → device_at q n ≡ Ready
@@ -70,7 +70,7 @@ pub record PlanTends (n : ℕ) (signs : Type 0) (v : Sight) (a : Option Act) (p 
   pub releasing : IsAtStage n IsReleasing q → IsAtStage n IsReleasing p
   pub awaiting : IsAtStage n IsReleasing p → is_in_reset v n ≡ true → IsAtStage n IsReleasing q
 
--- ---- a device that recovers from nothing
+-- ---- a device that does not recover
 
 identify_not : (stages : Stage → Type 0) (s : Stage) → s ≡ Identify → (stages Identify → ⊥) → stages s → ⊥
 identify_not stages s is not h = not (subst stages is h)
@@ -109,7 +109,7 @@ module _ (n : ℕ) (signs : Type 0) (v : Sight) (a : Option Act) (p q : Plan) (h
 
 -- ---- a device that recovers
 
--- the order is none that looks for the device
+-- the order does not look for the device
 abbrev pub IsUnsought : ℕ → Plan → Type 0
 IsUnsought n plan = detects n plan.asked plan.order ≡ true → ⊥
 
@@ -210,7 +210,7 @@ control_leaves n v plan h =
     let first : Leaves n plan (answered v plan) = answered_leaves n v plan h in
     leaves_then n plan (answered v plan) (control_seen v plan) first (met_leaves n v (answered v plan) first.unsought)
 
--- ---- acts beside slot 30
+-- ---- acts that do not concern slot 30
 
 -- no stage is due, and an order that is due is the plan's
 abbrev Plainly : Plan → Option Act → Type 0
@@ -348,7 +348,7 @@ module _ (n : ℕ) (file : TaskFile) (plan : Plan) (h : IsUnsought n plan) where
   act_leaves (Some (act.Steps dev stage)) calm due = absurd due
   act_leaves (Some (act.Issues slot dev queued)) calm due = leaves_same n plan h
 
--- ---- where the device comes to
+-- ---- what becomes of the device
 
 abbrev path_at : ℕ → Stage → Bool → Path
 path_at n stage asked = record { dev = n; stage = stage; asked = asked }
@@ -415,7 +415,7 @@ module _ (n : ℕ) (signs : Type 0) (v : Sight) (a : Option Act) (p q : Plan) (u
   to_released at begun stepless device unsought (inr works) =
       to_work Reset AwaitReset false device works (inl (record { way = Awaits device works; order = unsought_order n q unsought })) (λ k. absurd k) (λ k. (begun, stepless)) (λ k. at) (λ there set. tt)
 
-  -- and the device signed
+  -- the device signed
   to_signed : IsAtStage n IsReleasing p → device_at q n ≡ Recovering Reset → IsUnsought n q → WorksOn n Identify true q → is_in_reset v n ≡ false → PlanTends n signs v a p q
   to_signed at device unsought works off =
       to_work Reset Identify true device works (inl (record { way = Identifies device works; order = unsought_order n q unsought })) (λ k. inr (inr (at, off))) (λ k. absurd k) (λ k. absurd k)
@@ -437,7 +437,7 @@ module _ (n : ℕ) (signs : Type 0) (v : Sight) (a : Option Act) (p q : Plan) (u
 seen_as : (v : Sight) (plan : Plan) (x : Path) → plan.path ≡ Some x → device_seen v plan ≡ path_met v (if is_back v x then advanced v x plan else plan)
 seen_as v plan x here = ap (λ (o : Option Path). path_met v (match_some o plan (λ path. if is_back v path then advanced v path plan else plan))) here
 
--- SRST was cleared: its signature is awaited, or came
+-- SRST was cleared; the signature is awaited, or came
 data ReleasedSeen (n : ℕ) (v : Sight) (q : Plan) : Type 0 where
   Going : device_at q n ≡ Recovering Reset → IsUnsought n q → WorksOn n ReleaseReset true q → ReleasedSeen n v q
   Waiting : device_at q n ≡ Recovering Reset → IsUnsought n q → WorksOn n AwaitReset false q → ReleasedSeen n v q
@@ -465,7 +465,8 @@ awaits_seen n v plan device unsought works =
     by_in true is = Waiting device unsought (ap (option_map (met_path v)) works ∙ ap (λ (c : Bool). Some (path_at n (if c then AwaitReset else Identify) false)) is)
     by_in false is = Signed device unsought (ap (option_map (met_path v)) works ∙ ap (λ (c : Bool). Some (path_at n (if c then AwaitReset else Identify) false)) is) is
 
--- a page of it is out, or came: then slot 30 is free, and the device recovers from nothing, or its log was not whole
+-- A page of the device is out, or came. In the second case slot 30 is free, and the device does not recover,
+-- or its log was not whole.
 data PageSeen (n : ℕ) (way : Recovery) (stage : Stage) (q : Plan) : Type 0 where
   StillOut : device_at q n ≡ Recovering way → IsUnsought n q → WorksOn n stage true q → PageSeen n way stage q
   Came : IsFine (device_at q n) → IsUnsought n q → q.path ≡ None → PageSeen n way stage q

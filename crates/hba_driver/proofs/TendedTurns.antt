@@ -1,4 +1,4 @@
--- What a turn leaves of the driver's plan and requests of a device that is together with its disk.
+-- What a turn leaves of the driver's plan and requests for a device that is together with its disk.
 use Rattle.std.proofs.Common.{◌≡◌, ◌≢◌, ℕ, ◌+◌, ◌<◌, ◌⊎◌, ◌||◌, Bool, true, false, List, set, refl, sym, ◌∙◌, ap, subst, inl, inr, arith, Option, Some, None}
 use Rattle.std.proofs.lemmas.Bool.{false≢true}
 use Rattle.std.proofs.lemmas.List.FromFn.{get_or-map-range_with_len}
@@ -57,7 +57,7 @@ issued_lives Issued h = refl
 issued_lives Aside h = absurd (false≢true h)
 issued_lives (Ended o) h = absurd (false≢true h)
 
--- what is issued lives
+-- an issued request is live
 pub issued_live : (e : Entry) → is_issued e.head ≡ true → (waits e.head || is_issued e.head) ≡ true
 issued_live e h = issued_lives e.head.phase h
 
@@ -94,7 +94,7 @@ requests_keep n p q old new ready keeps h = record {
       h.alone s r b.entry c.entry b.is c.is (sym (ap is_flush b.work) ∙ flush);
 }
 
--- ---- a device of which nothing failed since its flush
+-- ---- a device with which nothing has failed since its flush
 
 pub steady_tends : (n : ℕ) (d : Driver) → IsSteady n d → IsTended n d
 steady_tends n d h = record {

@@ -83,11 +83,11 @@ await_none : (o : Order) → o ≡ AwaitSignature → is_some (order_fields o) �
 unfolding order_fields
 await_none o is = ap (λ (x : Order). is_some (order_fields x)) is
 
--- whether a software reset goes on, and whether an answer was an error
+-- whether a software reset is under way, and whether an answer was an error
 abbrev flags31 : Stage31 → Bool × Bool
 flags31 stage = (is_resetting stage, has_failed stage)
 
--- ---- stages are told by order, asked and part
+-- ---- order, asked and part tell the stage
 
 pub in_same : (stage : Stage31) (o p : Order) (a b : Bool) (x y : DevicePart) → p ≡ o → b ≡ a → y ≡ x → IsIn stage o a x → IsIn stage p b y
 in_same stage o p a b x y order asked part is =
@@ -150,7 +150,7 @@ module _ (h : Host) (g : IsGoing h) (stage : Stage31) (at : IsAt31 stage h) wher
       area = g.way.sound.registers.area (omega (arith, least));
     }
 
-    -- slot 31 is free where no order is asked
+    -- slot 31 is free while no order is asked
     free31 : (seen v h.driver).plan.asked ≡ false → issue_at h.port.slots 31 ≡ None
     free31 asked = elim (cases_Bool (is_some (issue_at h.port.slots 31))) [
       | inl busy ↦
@@ -173,7 +173,7 @@ module _ (h : Host) (g : IsGoing h) (stage : Stage31) (at : IsAt31 stage h) wher
         leaves_then h.port acts.0 new.port h.memory acts.1 new.memory stored
         (issuing_leaves 30 dev false acts.0 new.port acts.1 new.memory low (subst (λ (q : Port). IsUp q.registers) (sym acts.2.0) up) stored.runs acts.4)
 
-    -- an act that is no order leaves the control port's part
+    -- an act that is not an order leaves the control port's part
     other_leaves : has_failed stage ≡ false → (a : Option Act) → due v h.driver ≡ a → IsOther a → Due v (seen v h.driver).plan (seen v h.driver).entries a → (new : Host) → ActsAll (effects_due a) h.port h.memory new.port new.memory
         → Leaves15 h.port h.memory new.port new.memory
     unfolding effects_of ActsAll
@@ -237,7 +237,7 @@ module _ (h : Host) (g : IsGoing h) (stage : Stage31) (at : IsAt31 stage h) wher
     unfolding next_order
     next_reset on ports found o is = ap (λ (x : Order). met_order v (next_order ports found x)) is ∙ met_await on AwaitSignature refl
 
-    -- ---- a tick that issues no order, in a plan of which this was seen
+    -- ---- a tick that issues no order, in a plan that shows this
 
     -- stage, order and whether it is asked, as they are seen
     pub record Seen31 : Type 0 where

@@ -1,4 +1,4 @@
--- A tick leaves it so that all that is issued is the driver's.
+-- After a tick, everything that is issued is still the driver's.
 use Rattle.std.proofs.Common.{◌≡◌, ◌≢◌, ℕ, ◌+◌, ◌*◌, ◌^◌, ◌<◌, ◌⊎◌, Bool, true, false, ◌&&◌, List, [], ◌∷◌, ◌++◌, length, set, refl, sym, ◌∙◌, ap, subst, inl, inr, arith, Option, Some, None}
 use Rattle.std.specs.Prelude.{MatchOption, if◌then◌else◌, not, ◌%◌, ◌==◌}
 use Rattle.std.specs.List.{list_all}
@@ -98,7 +98,7 @@ issuing_goes D d fs c slot dev true prds fields old new before after below dev_b
     first_goes D d fs c (beside old before) (events_of_effect (effect.Writes px_fbs (256 * dev + 1)) old before acts.1) rest
     (write_goes D d (rest ++ fs) c px_fbs (256 * dev + 1) old acts.0 before acts.1 refl (sound_beside old before ruled m) acts.2 second)
 
--- a command of the driver's own is written and issued; between the two the driver goes on
+-- a command of the driver's own is written and issued; in between the driver goes on
 sending_goes : (D d e : Driver) (fs : List HostEvent) (c : event.Host) (slot dev : ℕ) (fields : H2dFields) (buffer : Bool) (old new : Port) (before after : Memory)
     → is_effect (effect.Commands slot fields buffer) ≡ true → Rattle.hba_driver.proofs.StandLemmas.late (effect.Commands slot fields buffer) ≡ true → dev < 16 → (request_of fields).pm_port ≡ dev → IsFree d slot
     → Follows d e → ((n s : ℕ) (t : Transfer) → From d n s t → From e n s t) → MayIssue e slot dev (prds_with buffer) fields → old.registers.clb ≡ 0 → old.registers.fb ≡ 4096 → IsRuled old → IsHostMemory before
@@ -117,7 +117,7 @@ sending_goes D d e fs c slot dev fields buffer old new before after is l dev_bel
 
 -- ---- orders
 
--- the driver waits for an order's answer, and else is as it was
+-- the driver waits for the answer to an order, and is otherwise as it was
 record Asks (d e : Driver) : Type 0 where
   pub follows : Follows d e
   pub moves : (n s : ℕ) (t : Transfer) → From d n s t → From e n s t
@@ -527,13 +527,13 @@ restart_act D d file fs c k old new before after ruled m acts go =
 
 -- ---- each act
 
--- the received area has to be the driver's
+-- the received area must be the driver's
 abbrev pub Needs : Option Act → Type 0
 Needs None = ⊥
 Needs (Some (act.Opens k)) = ⊥
 Needs (Some a) = Unit {0}
 
--- an act that is none of those that end a fault
+-- an act that does not end a fault
 abbrev pub is_calm : Option Act → Bool
 is_calm (Some act.Stops) = false
 is_calm (Some (act.Clears dev)) = false

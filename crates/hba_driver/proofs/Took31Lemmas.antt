@@ -99,7 +99,7 @@ module _ (old : Host) (g : IsGoing old) (new : Host) (n : IsGoing new) (frame : 
         (took_part least ∙ ap (λ (b : Bool). part_after_all 15 (control_of old) ((if b then Came frame ∷ [] else []) ++ [])) (ne_eqb (port_of frame) 15 other)) at
   ]
 
-  -- the control port's own
+  -- a frame of the control port
   pub took_own : 7 ≤ old.driver.plan.opened → port_of frame ≡ 15 → control_of new ≡ part_after 15 (control_of old) (Came frame)
   took_own least own =
       took_part least ∙ ap (λ (b : Bool). part_after_all 15 (control_of old) ((if b then Came frame ∷ [] else []) ++ [])) (own_is (port_of frame) own)
@@ -135,7 +135,7 @@ heard_notice own state status error mask right none =
 notice_fault : (own : DeviceSlots) → short_fault (completed 0 own) ≡ None
 notice_fault own = ap (λ (n : ℕ). if n == 0 then None else Some (fault.Device cause.Short)) (none_short own)
 
--- the parts say the same of slot 31
+-- the parts say the same about slot 31
 pub record Alike31 (x y : DevicePart) : Type 0 where
   pub issue : own_issue y.view.slots 31 ≡ own_issue x.view.slots 31
   pub command : is_some (own_issue x.view.slots 31) ≡ true → y.commands 31 ≡ x.commands 31
@@ -197,7 +197,7 @@ heard_right own state status error right done =
     else if is_busy status then quietly (with_file state status error) happening.Nothing else answered (answer_of own) (with_file state status error)) right
     ∙ ap (λ (b : Bool). if b then quietly (with_file state status error) happening.Nothing else answered (answer_of own) (with_file state status error)) done
 
--- of a command that moves no data
+-- the answer to a command that moves no data
 abbrev IsPlainAnswer : Answered → Type 0
 IsPlainAnswer answer.Nobody = Unit {0}
 IsPlainAnswer (answer.Queued slot) = ⊥
@@ -260,7 +260,7 @@ pub record Took31 (stage : Stage31) (frame : List ℕ) (new : Host) : Type 0 whe
   pub waits : next ≡ Waits → stage ≡ Waits
 
 module _ (old : Host) (g : IsGoing old) (new : Host) (n : IsGoing new) (frame : List ℕ) (report : TakeReport) (does : Does old (Took frame report) new) (of : IsOfControl frame) (own : port_of frame ≡ 15) (stage : Stage31) (at : IsAt31 stage old) where
-  -- the part that a view with another state, without fault and setup, makes
+  -- the part that a view makes with another state, without fault and setup
   made31 : (next : Stage31) (w : DeviceView) (fis : Fis) → control_of new ≡ record (with_view (control_of old) w) { row = row_with (control_of old).row (Some fis) } → is_some w.fault ≡ has_failed next → w.slots.context ≡ None
       → w.state.resetting ≡ is_resetting next → IsIn next old.driver.plan.order old.driver.plan.asked (record (with_view (control_of old) w) { row = row_with (control_of old).row (Some fis) })
       → (old.driver.plan.opened < 7 → next ≡ Rests) → IsAt31 next new

@@ -90,7 +90,7 @@ or_false false h = h
 
 -- ---- what a tick issues
 
--- a tick that issues a ticket issues what waits in one slot under it
+-- a tick that issues a ticket issues the request that waits under it, in one slot
 pub record IssuesIt (v : Sight) (d : Driver) (ticket : ℕ) : Type 0 where
   pub slot : ℕ
   pub dev : ℕ
@@ -116,7 +116,7 @@ issued_act v d ticket (Some (act.Clears dev)) is h = absurd (false≢true h)
 issued_act v d ticket (Some (act.Steps dev stage)) is h = absurd (false≢true h)
 issued_act v d ticket (Some (act.Issues slot dev queued)) is h = issued_entry v d ticket slot dev queued is (entry_at (seen v d).entries slot) refl h
 
--- what waits is not issued but by an act that issues its ticket
+-- only an act that issues its ticket issues a request that waits
 issued_as : (e f : Entry) → Some e ≡ Some f → waits_in e.head.phase ≡ true → is_issued_in f.head.phase ≡ true → ⊥
 issued_as e f is wait h = waits_not f.head.phase (subst (λ (x : Entry). waits_in x.head.phase ≡ true) (some_inj e f is) wait) h
 
@@ -246,7 +246,7 @@ went_out h a new ticket does w i =
       issued = subst (λ (n : ℕ). HasOut new.port i.slot n) (sym waiting.0.of_dev ∙ ap (λ (e : Entry). e.head.dev) same) out;
     }
 
--- ---- how far a request came
+-- ---- how far a request has come
 
 abbrev Fits : Stage → Port → (slot dev : ℕ) → Phase → Type 0
 Fits stage port slot dev Waits = Unit {0}
@@ -255,7 +255,7 @@ Fits stage port slot dev Issued = (stage ≡ Whole) ⊎ ((stage ≡ Out) × HasO
 Fits stage port slot dev (Ended Done) = stage ≡ Whole
 Fits stage port slot dev (Ended outcome) = Unit {0}
 
--- of the request of this ticket, where it stands in its slot
+-- how far the request of this ticket has come, in its slot
 abbrev Far : (ticket slot dev : ℕ) → Host → Stage → Type 0
 Far ticket slot dev h stage =
     (e : Entry) → entry_at h.driver.entries slot ≡ Some e → e.head.ticket ≡ ticket → e.head.dev ≡ dev → Fits stage h.port slot dev e.head.phase
@@ -307,7 +307,7 @@ took_out false stage old new slot dev keeps is h = inr (is, keeps refl h)
 done_bar : (p : Phase) → p ≡ Ended Done → is_issued_in p ≡ true → ⊥
 done_bar p h k = false≢true (sym (ap is_issued_in h) ∙ k)
 
--- what stands as Done after a tick is whole before it
+-- what is there as Done after a tick is whole before it
 fits_ended : (stage : Stage) (port : Port) (slot dev : ℕ) (p : Phase) → issue_at port.slots slot ≡ None → is_issued_in p ≡ true → Fits stage port slot dev p → stage ≡ Whole
 fits_ended stage port slot dev Waits free is h = absurd (false≢true is)
 fits_ended stage port slot dev Issued free is (inl h) = h
@@ -368,7 +368,7 @@ module _ (ticket slot dev : ℕ) (h : Host) (a : Bool) (new : Host) (does : Does
       let out : HasOut new.port slot dev = subst (λ (n : ℕ). HasOut new.port slot n) to (subst (λ (k : ℕ). HasOut new.port k o.entry.head.dev) (sym at) o.issued) in
       subst (λ (x : Entry). Fits Out new.port slot dev x.head.phase) (sym same) (inr (refl, out))
 
-  -- it does not
+  -- the tick does not issue it
   far_other : list_any (λ y. y == ticket) (issued_in_tick v h.driver) ≡ false → Far ticket slot dev new stage
   far_other none f here of_ticket of_dev = elim (comes_from h (Ticked a) new does slot f here) [
     | inr fresh ↦ absurd fresh
@@ -458,9 +458,9 @@ far_over ticket slot dev below dev_below [] stage old new run w far = subst (λ 
 far_over ticket slot dev below dev_below (t ∷ turns) stage old new run w far =
     far_over ticket slot dev below dev_below turns (stage_after ticket slot dev stage old t) run.0 new run.2 (way_turn old t run.0 run.1 w) (far_turn ticket slot dev old t run.0 stage below dev_below run.1 w far)
 
--- ---- for whom a request was taken
+-- ---- the device for which a request was taken
 
--- it stood there before the turns, or one of them took it
+-- it was there before the turns, or one of them took it
 abbrev Comes : Host → List HostTurn → ℕ → Entry → Type 0
 Comes old turns s f =
     ((e : Entry) × (entry_at old.driver.entries s ≡ Some e) × (e.head.ticket ≡ f.head.ticket) × (e.head.dev ≡ f.head.dev)) ⊎ (list_any (takes f.head.ticket f.head.dev) turns ≡ true)

@@ -100,7 +100,7 @@ push_turn old g (Some f) new n does stage at = elim (cases_eq f.stamp.port 15) [
 
 -- ---- a frame comes
 
--- what may come is of the control port
+-- what may come is a FIS of the control port
 of_control : (stage : Stage31) (frame : List ℕ) → MayCome31 stage frame → IsReport frame
 of_control Rests frame is = inr is.viewed
 of_control Waits frame is = inr is.viewed
@@ -153,7 +153,7 @@ unfolding ActsAll
 opening_view k less old new before after off acts = ap (view_of 15) acts.4.0 ∙ opens_view k less old acts.0 before acts.1 off acts.2
 
 module _ (old : Host) (g : IsGoing old) (stage : Stage31) (at : IsAt31 stage old) (acted : Bool) (new : Host) (does : Does old (Ticked acted) new) where
-  -- what is due where a device is flushed
+  -- what is due if a device is flushed
   clears_due : (n : ℕ) → orders_clear n old ≡ true → due (sight_in old) old.driver ≡ Some (act.Orders (Clear n))
   clears_due n flushed = act_clears n (due (sight_in old) old.driver) flushed
 
@@ -161,7 +161,7 @@ module _ (old : Host) (g : IsGoing old) (stage : Stage31) (at : IsAt31 stage old
   first_any true c e = refl
   first_any false c e = absurd (false≢true e)
 
-  -- and where its port is cleared a device is flushed
+  -- if its port is cleared, the device is flushed
   flushed_by : (n : ℕ) → due (sight_in old) old.driver ≡ Some (act.Orders (Clear n)) → orders_clear n old ≡ true
   unfolding effects_of order_effects
   flushed_by n is = ap (λ (a : Option Act). list_any (flushes n) (effects_due a)) is ∙ first_any (n == n) (list_any (flushes n) (effect.Empties n ∷ order_command (Clear n))) (eq-eqb n n refl)

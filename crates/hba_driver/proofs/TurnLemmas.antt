@@ -40,7 +40,7 @@ use Rattle.hba_driver.proofs.SubmitLemmas.{is_taken}
 
 -- ---- a tick
 
--- it leaves the received area to whoever has it
+-- it leaves the received area as it is
 abbrev spares_area : Effect → Bool
 spares_area e = not (wants_area e)
 
@@ -128,7 +128,7 @@ good_turns (t ∷ turns) old new run s =
 
 -- ---- what the events tell
 
--- nothing is told of what the driver does
+-- it tells nothing of what the driver does
 record IsSilent {A : Type 0} (f : HostEvent → List A) : Type 0 where
   pub wrote : (r : Register) (value : ℕ) → f (event.Wrote r value) ≡ []
   pub flushed : (dev : ℕ) → f (event.Flushed dev) ≡ []
@@ -158,7 +158,7 @@ silent_effects f silent (e ∷ es) old new before after acts =
     ∙ ap (λ xs. xs ++ flat_map f (events_of_effects es acts.0 acts.1 new after acts.4)) (silent_effect f silent e old before acts.1)
     ∙ silent_effects f silent es acts.0 new acts.1 after acts.4
 
--- where each turn tells what its events do, so do all
+-- if each turn tells what its events tell, so do all together
 tell_over : {A : Type 0} (f : HostEvent → List A) (g : HostTurn → List A) → ((old : Host) (t : HostTurn) (new : Host) (h : Does old t new) → flat_map f (events_of old t new h) ≡ g t)
     → (turns : List HostTurn) (old new : Host) (run : DoesAll old turns new) → flat_map f (events_over old new turns run) ≡ flat_map g turns
 tell_over f g each [] old new run = refl
@@ -200,7 +200,7 @@ tell_put old (Submitted dev request ticket) new h = refl
 tell_put old (Polled c) new h = refl
 tell_put old (Put at bytes) new h = refl
 
--- ---- each event that takes takes a frame
+-- ---- each event that takes something takes a frame
 
 framed_then : (es fs : List HostEvent) → AreFramed es → AreFramed fs → AreFramed (es ++ fs)
 framed_then [] fs h k = k

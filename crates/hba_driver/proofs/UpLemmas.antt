@@ -1,4 +1,4 @@
--- The port is open: it takes the writes by which the driver issues a command, and the command is issued.
+-- The port is open: it takes the writes with which the driver issues a command, and the command is issued.
 use Rattle.std.proofs.Common.{◌≡◌, ℕ, ◌+◌, ◌-◌, ◌*◌, ◌/◌, ◌^◌, ◌<◌, ◌≤◌, Bool, true, false, cond, ◌&&◌, nat_le, bit_or, w32, List, length, refl, sym, ◌∙◌, ap, subst, inl, inr, arith, Option, Some, None}
 use Rattle.std.specs.Prelude.{MatchOption, if◌then◌else◌, ◌==◌, ◌%◌, not, is_none, is_some}
 use Rattle.std.specs.Bool.{beq}
@@ -89,9 +89,10 @@ own_bits slot below =
     none : (n : ℕ) → 0 * n ≡ 0
     none n = omega arith
 
--- ---- the command that stands in a slot
+-- ---- the command in a slot
 
--- for this device: header, command FIS and PRDs, which are proper where the slot's bit in PxSACT is this
+-- a command for this device: header, command FIS and PRDs, which are proper with this bit of the slot in
+-- PxSACT
 pub record Placed (slot dev : ℕ) (prds : List Prd) (fields : H2dFields) (armed : Bool) (memory : Memory) : Type 0 where
   pub header : header_at memory.structure 0 slot ≡ header_for (request_of fields) (table_of slot) (length prds)
   pub to_dev : (request_of fields).pm_port ≡ dev
@@ -138,7 +139,7 @@ in_table port s i at = elim (cases_lt s (length port.slots.issues)) [
   | inr past ↦ let none : None ≡ Some i = sym (get_or_past port.slots.issues s None past) ∙ at in cc
 ]
 
--- where no device has a new issue in it, a free slot stays free
+-- if no device has a new issue in it, a free slot stays free
 pub free_by : (old new : Port) (s : ℕ) → IsTable new.slots → ((n : ℕ) (i : Issue) → n < 16 → IsIssuedAt new n s i → IsIssuedAt old n s i) → issue_at old.slots s ≡ None → issue_at new.slots s ≡ None
 free_by old new s table was free = by_issue (issue_at new.slots s) refl
   where
@@ -238,7 +239,7 @@ pub record Ready (slot dev : ℕ) (prds : List Prd) (fields : H2dFields) (port :
   pub free : issue_at port.slots slot ≡ None
   pub placed : Placed slot dev prds fields (has_bit port.registers.armed slot) memory
 
--- and what it leaves
+-- what the write leaves
 pub record CiDone (slot dev : ℕ) (fields : H2dFields) (old : Port) (memory : Memory) (new : Port) : Type 0 where
   pub accepted : write_refusal old memory px_ci (2 ^ slot) ≡ None
   pub up : IsUp new.registers

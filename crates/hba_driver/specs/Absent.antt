@@ -1,13 +1,13 @@
 -- A device that the driver takes to be absent, over turns that do not flush it (Serial ATA 3.x, port
--- multipliers: a device is looked for at a fan-out port by SStatus, PSCR[0] of the port).
+-- multipliers: SStatus, PSCR[0] of a fan-out port, says whether a device is there).
 use Rattle.std.specs.Prelude.{ℕ, ◌≡◌, true}
 use Rattle.hba_driver.specs.declared.plan.Device.TheVariants.{Absent}
 use Rattle.hba_driver.specs.Drivers.{device_at}
 use Rattle.hba_driver.specs.HostTurns.{Does, Host, HostTurn}
 use Rattle.hba_driver.specs.Steady.{IsSteadyTurn, detects}
 
--- A device that is looked for only while it is taken to be absent, and is taken so after a calm turn, was so
--- before it.
+-- If a device is looked for only while it is taken to be absent, and is taken to be absent after a calm turn,
+-- then it was so before the turn.
 abbrev pub EachWasAbsent : Type 0
 EachWasAbsent =
     (n : ℕ) (old : Host) (turn : HostTurn) (new : Host) → Does old turn new → IsSteadyTurn n old turn

@@ -1,5 +1,5 @@
--- The port takes every write of the driver: in no tick of a run from an opening is a register missing
--- or locked or a slot busy, and what is issued stands in memory as its slot wants it (AHCI 1.3.1,
+-- The port takes every write of the driver. In no tick of a run from an opening is a register missing or
+-- locked or a slot busy, and each command that is issued is in memory as its slot needs it (AHCI 1.3.1,
 -- section 3.3, port registers, 5.5, how commands are issued, and chapter 9).
 use Rattle.std.specs.Prelude.{ℕ, ◌≡◌, true, List, [], ◌∷◌, None}
 use Rattle.host_memory.specs.Memory.{Memory, is_memory_size}
@@ -12,12 +12,12 @@ use Rattle.hba_driver.specs.Events.{opening_host}
 use Rattle.hba_driver.specs.HostTurns.{Does, DoesAll, Host, HostTurn, Ticked, sight_in}
 use Rattle.hba_driver.specs.Ticks.{effects}
 
--- a write is to a register that there is, and is not refused
+-- a write is to a register that exists, and is not refused
 abbrev pub IsAccepted : Effect → Port → Memory → Type 0
 IsAccepted (effect.Writes offset value) port memory = write_refusal port memory offset value ≡ None
 IsAccepted e port memory = Unit {0}
 
--- so is each of these effects, at port and memory as they stand before it
+-- each of these effects is accepted, with port and memory as they are before it
 unfoldable pub AreAccepted : (es : List Effect) (old : Port) (before : Memory) (new : Port) (after : Memory)
     → ActsAll es old before new after → Type 0
 unfolding ActsAll
@@ -25,7 +25,7 @@ AreAccepted [] old before new after acts = Unit {0}
 AreAccepted (e ∷ es) old before new after acts =
     IsAccepted e old before × AreAccepted es acts.0 acts.1 new after acts.4
 
--- and each of a tick
+-- each effect of a tick is accepted
 abbrev pub TurnAccepts : (old : Host) (turn : HostTurn) (new : Host) → Does old turn new → Type 0
 TurnAccepts old (Ticked acted) new does =
     AreAccepted (effects (sight_in old) old.driver) old.port old.memory new.port new.memory does.does

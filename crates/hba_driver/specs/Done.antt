@@ -1,9 +1,9 @@
 -- Done is true: a request that ends as Done, and so one that is polled as Done, was completed by its own
--- device, after the tick that issued it and before the tick that ended it (AHCI 1.3.1, 5.3 and 9.3;
--- Serial ATA 3.x, 10.5; native command queuing).
+-- device, after the tick that issued it and before the tick that ended it (AHCI 1.3.1, 5.3 and 9.3; Serial
+-- ATA 3.x, 10.5; native command queuing).
 --
--- Cited: the turns of the host and their tickets (specs/HostTurns.antt). That the device said so of just
--- the slots that a report names as done is DoneIsCompleted of `hba_laws` (specs/Delivering.antt).
+-- Cited: the turns of the host and their tickets (specs/HostTurns.antt). DoneIsCompleted of `hba_laws`
+-- (specs/Delivering.antt) says that the device named exactly the slots that a report names as done.
 use Rattle.std.specs.Prelude.{ℕ, ◌≡◌, ◌==◌, ◌&&◌, ◌||◌, Bool, true, false, List, [], ◌∷◌, Some}
 use Rattle.std.specs.List.{list_any}
 use Rattle.host_memory.specs.Memory.{is_memory_size}
@@ -31,7 +31,7 @@ abbrev pub completes : (slot dev : ℕ) → HostTurn → Bool
 completes slot dev (Took frame report) = has_bit report.done slot && (port_of frame == dev)
 completes slot dev turn = false
 
--- in these turns a tick issues the ticket, and after it such a frame is taken
+-- in these turns a tick issues the ticket, and such a frame is taken after it
 abbrev pub is_completed : (ticket slot dev : ℕ) (old new : Host) (turns : List HostTurn)
     → DoesAll old turns new → Bool
 is_completed ticket slot dev old new [] run = false
@@ -39,7 +39,7 @@ is_completed ticket slot dev old new (turn ∷ turns) run =
     (issues ticket old turn && list_any (completes slot dev) turns)
     || is_completed ticket slot dev run.0 new turns run.2
 
--- the request of a ticket, in its slot: its device, for which it was taken, and which completed it
+-- the request of a ticket, in its slot, and the device for which it was taken and which completed it
 pub record WasCompleted (ticket slot : ℕ) (old new : Host) (turns : List HostTurn)
     (run : DoesAll old turns new) : Type 0 where
   pub dev : ℕ
@@ -47,13 +47,13 @@ pub record WasCompleted (ticket slot : ℕ) (old new : Host) (turns : List HostT
   pub completed : is_completed ticket slot dev old new turns run ≡ true
 
 pub record DoneIsTrue : Type 0 where
-  -- after a tick: what stands as Done was completed in the turns before the tick
+  -- after a tick: what is there as Done was completed in the turns before the tick
   pub ends : (given len : ℕ) → is_memory_size len ≡ true → (turns : List HostTurn) (h : Host)
       (run : DoesAll (opening_host given len) turns h) (acted : Bool) (after : Host)
       → Does h (Ticked acted) after
       → (s : ℕ) (e : Entry) → entry_at after.driver.entries s ≡ Some e → e.head.phase ≡ Ended Done
       → is_completed e.head.ticket s e.head.dev (opening_host given len) h turns run ≡ true
-  -- at a poll: so was what is polled as Done, by the device for which it was taken
+  -- at a poll: what is polled as Done was completed by the device for which it was taken
   pub polled : (given len : ℕ) → is_memory_size len ≡ true → (turns : List HostTurn) (h : Host)
       (run : DoesAll (opening_host given len) turns h) (completion : Completion) (after : Host)
       → Does h (Polled completion) after → completion.outcome ≡ Done

@@ -1,6 +1,6 @@
 -- The driver as its callers see it. It drives one AHCI host port (AHCI 1.3.1) with a port multiplier behind
--- it (Serial ATA 3.x, port multipliers): requests stand in the slots 0 to 29, commands of its own go through
--- slot 30 to a device and through slot 31 to the control port of the multiplier, port Fh.
+-- it (Serial ATA 3.x, port multipliers). Requests use the slots 0 to 29. The driver's own commands go to a
+-- device through slot 30, and to the control port of the multiplier, port Fh, through slot 31.
 use Rattle.std.specs.Prelude.{ℕ, ◌≡◌, ◌≢◌, ◌<◌, ◌≤◌, ◌||◌, Bool, true, false, if◌then◌else◌, List, map}
 use Rattle.std.specs.Prelude.{replicate, length, slice_index_or, slice_set, Option, Some, None}
 use Rattle.std.specs.Option.{option_map}
@@ -19,7 +19,7 @@ use Rattle.hba_driver.specs.declared.slot.Head.{Head}
 use Rattle.hba_driver.specs.declared.slot.Phase.{Phase}
 use Rattle.hba_driver.specs.declared.slot.Phase.TheVariants.{Waits, Issued, Aside, Ended}
 
--- a request that was taken and not polled: its head, and where its bytes lie
+-- a request that was taken and is not polled yet: its head, and where its bytes are
 pub record Entry : Type 0 where
   pub head : Head
   pub prds : List Prd
@@ -51,7 +51,7 @@ opening_plan = record {
   devices = replicate 15 Absent;
 }
 
--- nothing is done yet, and this was the last ticket
+-- a driver that has done nothing, after this last ticket
 abbrev pub new_driver : (given : ℕ) → Driver
 new_driver given = record { plan = opening_plan; given = given; entries = replicate 30 None }
 
@@ -68,7 +68,7 @@ with_device dev device plan = record plan { devices = slice_set plan.devices dev
 abbrev pub entry_at : List (Option Entry) → ℕ → Option Entry
 entry_at entries slot = slice_index_or entries slot None
 
--- an entry is there, and the test holds of its head
+-- there is an entry, and the test holds for its head
 abbrev pub holds : (Head → Bool) → Option Entry → Bool
 holds test None = false
 holds test (Some entry) = test entry.head
@@ -97,7 +97,7 @@ is_aside_in Issued = false
 is_aside_in Aside = true
 is_aside_in (Ended outcome) = false
 
--- it was set aside, until its device has recovered
+-- it was set aside until its device has recovered
 abbrev pub is_aside : Head → Bool
 is_aside head = is_aside_in head.phase
 
@@ -110,15 +110,15 @@ has_ended_in (Ended outcome) = true
 abbrev pub has_ended : Head → Bool
 has_ended head = has_ended_in head.phase
 
--- the request of an entry has come to this
+-- an entry with the phase of its request set
 abbrev pub rephased : Phase → Entry → Entry
 rephased phase entry = record entry { head = record entry.head { phase = phase } }
 
--- so has it where the test holds of its head, and else it stays
+-- the phase is set if the test holds for the head
 abbrev pub rephase : (Head → Bool) → Phase → Option Entry → Option Entry
 rephase test phase entry = if holds test entry then option_map (rephased phase) entry else entry
 
--- so have the requests in all slots, where the test holds of slot and head
+-- the phase is set in each slot for which the test holds, by slot and head
 unfoldable pub rephase_all : (ℕ → Head → Bool) → Phase → List (Option Entry) → List (Option Entry)
 rephase_all test phase entries =
     map (λ slot. rephase (test slot) phase (entry_at entries slot)) (range_with_len 0 (length entries))
@@ -138,12 +138,12 @@ IsOrder (Clear port) = port < 15
 IsOrder (Detect port) = port < 15
 IsOrder order = Unit {0}
 
--- and so is a path of slot 30
+-- a path of slot 30 is to such a port too
 abbrev pub IsPath : Option Path → Type 0
 IsPath None = Unit {0}
 IsPath (Some path) = path.dev < 15
 
--- what every plan keeps
+-- what holds for every plan
 pub record IsSoundPlan (plan : Plan) : Type 0 where
   pub opened : plan.opened ≤ 7
   pub restarted : plan.restarted ≤ 2
@@ -151,14 +151,14 @@ pub record IsSoundPlan (plan : Plan) : Type 0 where
   pub ports : plan.ports < 16
   pub path : IsPath plan.path
 
--- the requests of every driver, of which this was the last ticket that was given
+-- the requests of every driver whose last ticket is this
 pub record AreRequests (last : ℕ) (entries : List (Option Entry)) : Type 0 where
   pub slots : length entries ≡ 30
-  -- each has a ticket that was given, and no other request has it
+  -- each has a ticket that was given, and no other request has the same
   pub given : (s : ℕ) (e : Entry) → entry_at entries s ≡ Some e → e.head.ticket ≤ last
   pub own : (s t : ℕ) (e f : Entry) → entry_at entries s ≡ Some e → entry_at entries t ≡ Some f
       → e.head.ticket ≡ f.head.ticket → s ≡ t
-  -- two of which one reads share no byte
+  -- two requests of which one reads share no byte
   pub apart : (s t : ℕ) (e f : Entry) → entry_at entries s ≡ Some e → entry_at entries t ≡ Some f → s ≢ t
       → (is_read e.head.work || is_read f.head.work) ≡ true → share_with e.prds f.prds ≡ false
 

@@ -26,8 +26,7 @@ use Rattle.hba_driver.specs.Sights.{px_sntf}
 
 -- ---- the effects of an act
 
--- The command list begins at 0 and the received area at 1000h; FBS.EN is set, then FRE, then ST with FRE and
--- PMA.
+-- The command list is at 0 and the received area at 1000h. FBS.EN is set, then FRE, then ST with FRE and PMA.
 abbrev pub opening_writes : List Effect
 opening_writes =
     effect.Writes px_clb 0 ∷ effect.Writes px_clbu 0 ∷ effect.Writes px_fb 0x1000 ∷ effect.Writes px_fbu 0
@@ -36,8 +35,8 @@ opening_writes =
 unfoldable pub opening_write : ℕ → Effect
 opening_write k = slice_index_or opening_writes k (effect.Writes px_cmd 0x20011)
 
--- After a fault of the port ST is cleared, which ends all that is issued; then all of PxIS is cleared, and ST
--- is set again.
+-- After a fault of the port, ST is cleared, which ends everything that is issued. Then all of PxIS is
+-- cleared, and ST is set again.
 abbrev pub restart_writes : List Effect
 restart_writes = effect.Writes px_is 0xFFFFFFFF ∷ effect.Writes px_cmd 0x20011 ∷ []
 
@@ -48,13 +47,13 @@ restart_write k = slice_index_or restart_writes k (effect.Writes px_cmd 0x20011)
 abbrev pub clearing : (dev : ℕ) → List Effect
 clearing dev = effect.Writes px_is 0x49000000 ∷ effect.Writes px_fbs (256 * dev + 3) ∷ []
 
--- the device and EN in PxFBS, the slot's bit in PxSACT where the command is queued, and in PxCI
+-- the device and EN go to PxFBS, the slot's bit to PxSACT if the command is queued, and then to PxCI
 abbrev pub issuing : (slot dev : ℕ) → (queued : Bool) → List Effect
 issuing slot dev true = effect.Writes px_fbs (256 * dev + 1) ∷ effect.Writes px_sact (2 ^ slot)
     ∷ effect.Writes px_ci (2 ^ slot) ∷ []
 issuing slot dev false = effect.Writes px_fbs (256 * dev + 1) ∷ effect.Writes px_ci (2 ^ slot) ∷ []
 
--- a command of the driver's own is written into its slot and issued; buffer says that its data go to the
+-- a command of the driver's own is written into its slot and issued; buffer says that its data goes to the
 -- driver's buffer
 abbrev pub sending : (slot dev : ℕ) → H2dFields → (buffer : Bool) → List Effect
 sending slot dev fields buffer = effect.Commands slot fields buffer ∷ issuing slot dev false
@@ -62,7 +61,7 @@ sending slot dev fields buffer = effect.Commands slot fields buffer ∷ issuing 
 abbrev pub order_command : Order → List Effect
 order_command order = match_some (order_fields order) [] (λ fields. sending 31 control_port fields false)
 
--- before a scan PxSNTF is cleared; a port that a scan found is flushed, and its row is emptied
+-- PxSNTF is cleared before a scan; a port that a scan found is flushed, and its row is emptied
 unfoldable pub order_effects : Order → List Effect
 order_effects Scan = effect.Writes px_sntf 0x8000 ∷ order_command Scan
 order_effects (Clear port) = effect.Flushes port ∷ effect.Empties port ∷ order_command (Clear port)
@@ -83,7 +82,7 @@ effects_of (act.Issues slot dev queued) = issuing slot dev queued
 
 -- ---- what an effect leaves of port and memory
 
--- where the command table of a slot lies
+-- the address of a slot's command table
 abbrev pub table_of : ℕ → ℕ
 table_of slot = 8192 + 4096 * slot
 
@@ -95,7 +94,7 @@ abbrev pub prds_with : (buffer : Bool) → List Prd
 prds_with true = buffer_prd ∷ []
 prds_with false = []
 
--- a value is written, where the port takes it
+-- a value is written, if the port takes it
 pub record Tries (old : Port) (memory : Memory) (offset value : ℕ) (new : Port) : Type 0 where
   pub accepted : write_refusal old memory offset value ≡ None → Writes old memory offset value new
   pub refused : (e : WriteError) → write_refusal old memory offset value ≡ Some e → new ≡ old
@@ -105,7 +104,7 @@ abbrev pub emptied : ℕ → Memory → Memory
 emptied dev memory =
     record memory { structure = overwritten memory.structure (4096 + 256 * dev) (replicate 256 0) }
 
--- a command stands in its slot
+-- a command is written into its slot
 pub record Commands (old : Memory) (slot : ℕ) (fields : H2dFields) (prds : List Prd)
     (new : Memory) : Type 0 where
   pub structure : IsWritten 0 slot (table_of slot) fields prds old.structure new.structure
@@ -118,20 +117,20 @@ Acts (effect.Empties dev) old before new after = (new ≡ old) × (after ≡ emp
 Acts (effect.Commands slot fields buffer) old before new after =
     (new ≡ old) × Commands before slot fields (prds_with buffer) after
 
--- what every port keeps by itself: its registers, the commands of its slots, its slots and errors
+-- what holds for every port by itself: its registers, the commands of its slots, its slots and errors
 pub record IsRuled (port : Port) : Type 0 where
   pub rules : IsPort port
   pub table : IsTable port.slots
   pub faults : AreErrors port.errors
 
--- one effect after another, and between them a port keeps what every port does
+-- one effect after another; in between, what holds for every port holds
 unfoldable pub ActsAll : List Effect → Port → Memory → Port → Memory → Type 0
 ActsAll [] old before new after = (new ≡ old) × (after ≡ before)
 ActsAll (first ∷ rest) old before new after =
     (port : Port) × (memory : Memory) × Acts first old before port memory × IsRuled port
     × ActsAll rest port memory new after
 
--- the slot, or the device, is there
+-- the slot or the device exists
 abbrev pub is_effect : Effect → Bool
 is_effect (effect.Writes offset value) = true
 is_effect (effect.Flushes dev) = nat_lt dev 16

@@ -1,6 +1,6 @@
--- The turns of a host as events of its port and memory: each turn is a list of them, and a list of
--- turns the lists of its turns, one after another (AHCI 1.3.1, 3.3, registers, 4.2, memory
--- structures, and chapters 5 and 9).
+-- The turns of a host as events of its port and memory. Each turn is a list of events, and a list of turns is
+-- the lists of its turns, one after another (AHCI 1.3.1, 3.3, registers, 4.2, memory structures, and chapters
+-- 5 and 9).
 use Rattle.std.specs.Prelude.{ℕ, ◌≡◌, ◌<◌, ◌≤◌, true, false, List, [], ◌∷◌, ◌++◌, replicate}
 use Rattle.std.specs.Prelude.{Option, Some, None}
 use Rattle.std.specs.List.{flat_map}
@@ -32,18 +32,18 @@ use Rattle.hba_driver.specs.Ticks.{effects}
 abbrev pub shared_by : Host → event.Host
 shared_by h = record { port = h.port; memory = h.memory }
 
--- a value is written where a register stands
+-- a value is written to a register that exists
 abbrev pub wrote_to : Option Register → ℕ → List HostEvent
 wrote_to None value = []
 wrote_to (Some register) value = event.Wrote register value ∷ []
 
--- a write that the port takes; one that it refuses leaves all as it was, and is no event
+-- a write that the port takes; one that it refuses changes nothing, and is no event
 abbrev pub tried : Port → Memory → (offset value : ℕ) → List HostEvent
 tried port memory offset value =
     match_some (write_refusal port memory offset value)
     (wrote_to (register_at offset) value) (λ e. [])
 
--- an effect, from port and memory before it, and the memory after it
+-- an effect, by port and memory before it and the memory after it
 abbrev pub events_of_effect : Effect → Port → (before after : Memory) → List HostEvent
 events_of_effect (effect.Writes offset value) port before after = tried port before offset value
 events_of_effect (effect.Flushes dev) port before after = event.Flushed dev ∷ []
@@ -70,7 +70,7 @@ events_of old (Submitted dev request ticket) new does = event.Stored new.memory.
 events_of old (Polled completion) new does = []
 events_of old (Put at bytes) new does = event.Put at bytes ∷ []
 
--- and of turns, one after another
+-- the events of turns, one after another
 abbrev pub events_over : (old new : Host) (turns : List HostTurn) → DoesAll old turns new
     → List HostEvent
 events_over old new [] run = []
@@ -79,13 +79,13 @@ events_over old new (turn ∷ turns) run =
 
 -- ---- port, driver and memory together
 
--- The registers of a port whose driver has done so many of the seven writes that open it, and, since a
--- fault stopped it, so many of the two that start it again. The driver alone writes them.
+-- The registers of a port whose driver has made this many of the seven writes that open it and, since a fault
+-- stopped it, this many of the two that start it again. Only the driver writes them.
 pub record AreDriven (opened restarted : ℕ) (r : Registers) : Type 0 where
-  -- the command list begins at 0
+  -- the command list is at 0
   pub commands : r.clb ≡ 0
   pub list_high : 2 ≤ opened → r.clbu ≡ 0
-  -- the received area begins at 1000h from the third write on
+  -- the received area is at 1000h from the third write on
   pub area : 3 ≤ opened → r.fb ≡ 4096
   pub area_high : 4 ≤ opened → r.fbu ≡ 0
   -- the port switches between devices from the fifth on
@@ -101,7 +101,7 @@ pub record AreDriven (opened restarted : ℕ) (r : Registers) : Type 0 where
 abbrev pub KnowsNone : Plan → Type 0
 KnowsNone plan = plan.opened < 7 → (dev : ℕ) → device_at plan dev ≡ Absent
 
--- What is true of a host, from its opening on, after each of its turns.
+-- What holds for a host, from its opening on, after each of its turns.
 pub record IsSoundHost (h : Host) : Type 0 where
   pub ruled : IsRuled h.port
   pub memory : IsHostMemory h.memory
@@ -109,7 +109,7 @@ pub record IsSoundHost (h : Host) : Type 0 where
   pub registers : AreDriven h.driver.plan.opened h.driver.plan.restarted h.port.registers
   pub devices : KnowsNone h.driver.plan
 
--- a new port and a new driver, beside a memory of so many zeros
+-- a new port and a new driver, with a memory of this many zeros
 abbrev pub opening_host : (given len : ℕ) → Host
 opening_host given len = record {
   port = opening_port;
@@ -123,7 +123,7 @@ pub record HostsAreSound : Type 0 where
   pub opens : (given len : ℕ) → is_memory_size len ≡ true → IsSoundHost (opening_host given len)
   pub stays : (old : Host) (turn : HostTurn) (new : Host) → Does old turn new
       → IsSoundHost old → IsSoundHost new
-  -- so it does over turns, and at each of them a port that runs has the driver's received area
+  -- it stays sound over turns, and at each of them a port that runs has the driver's received area
   pub last : (old : Host) (turns : List HostTurn) (new : Host) → DoesAll old turns new
       → IsSoundHost old → IsSoundHost new
   pub each : (old : Host) (turns : List HostTurn) (new : Host) (run : DoesAll old turns new)
@@ -131,8 +131,8 @@ pub record HostsAreSound : Type 0 where
 
 -- ---- laws: turns are events
 
--- The events of turns run from port and memory before them to port and memory after them; each host
--- among them keeps what every port and every memory does, and what is taken is a frame.
+-- The events of turns run from port and memory before them to port and memory after them. For each host among
+-- them, what holds for every port and every memory holds, and what is taken is a frame.
 pub record AreEvents (old new : Host) (turns : List HostTurn) (run : DoesAll old turns new)
     : Type 0 where
   pub runs : Runs (shared_by old) (events_over old new turns run) (shared_by new)
@@ -145,7 +145,7 @@ TurnsAreEvents =
 
 -- ---- laws: what the events are
 
--- the frames that a turn takes, and that an event takes, each with its report
+-- the frames that a turn takes, or an event, each with its report
 abbrev pub taken_by : HostTurn → List (List ℕ × TakeReport)
 taken_by (Took frame report) = (frame, report) ∷ []
 taken_by turn = []
@@ -154,7 +154,7 @@ abbrev pub took : HostEvent → List (List ℕ × TakeReport)
 took (event.Took frame report) = (frame, report) ∷ []
 took e = []
 
--- what the port gives when it is asked for a frame, in a turn and in an event
+-- what the port gives when it is asked for a frame, in a turn or in an event
 abbrev pub pushed_by : HostTurn → List (Option Stamped)
 pushed_by (Pushed frame) = frame ∷ []
 pushed_by turn = []
@@ -172,8 +172,8 @@ abbrev pub put : HostEvent → List (ℕ × List ℕ)
 put (event.Put at bytes) = (at, bytes) ∷ []
 put e = []
 
--- The frames that are taken, those that are given and the bytes that clients write are in the events
--- what they are in the turns, in their order: no tick and no request adds one.
+-- The frames that are taken, those that are given and the bytes that clients write are the same in the events
+-- as in the turns, in the same order: no tick and no request adds one.
 pub record TurnsTell (old new : Host) (turns : List HostTurn) (run : DoesAll old turns new)
     : Type 0 where
   pub taken : flat_map took (events_over old new turns run) ≡ flat_map taken_by turns

@@ -11,8 +11,8 @@ use Rattle.hba_driver.specs.Drivers.{Driver, Entry, entry_at, has_ended, is_asid
 use Rattle.hba_driver.specs.Ticks.{after_tick, is_named, log_outcome}
 use Rattle.hba_driver.specs.Turns.{control_seen, is_back}
 
--- The request was set aside; the read of its device's error log is over, and the log is whole and names the
--- request; Status and Error are the log's, or, where it names no queued command, those of the device after
+-- The request was set aside. The read of its device's error log is over, and the log is whole and names the
+-- request. Status and Error are the log's or, if the log names no queued command, those of the device after
 -- its fault.
 pub record IsNamedBy (v : Sight) (d : Driver) (s : ℕ) (e : Entry) (status error : ℕ) : Type 0 where
   pub aside : is_aside e.head ≡ true
@@ -26,7 +26,7 @@ pub record IsNamedBy (v : Sight) (d : Driver) (s : ℕ) (e : Entry) (status erro
   pub named : is_named v.log s e.head ≡ true
   pub outcome : log_outcome v.log file ≡ DeviceError status error
 
--- a tick ends a request so only where that holds
+-- a tick ends a request this way only if that holds
 abbrev pub ErrorsAreNamed : Type 0
 ErrorsAreNamed =
     (v : Sight) (after : TaskFile) (d : Driver) (s : ℕ) (e f : Entry) (status error : ℕ)

@@ -1,6 +1,6 @@
--- When a host port goes on: what a device sends stops it only where the host's bus fails, and what the
--- control port of a multiplier sends only where it is no FIS of the control port (AHCI 1.3.1, 6.1, error
--- types, and 9.3, FIS-based Switching; Serial ATA 3.x, 16.2, control port).
+-- When a host port goes on. What a device sends stops the port only by a host bus error. What the control
+-- port of a multiplier sends stops it only if it is no FIS of the control port (AHCI 1.3.1, 6.1, error types,
+-- and 9.3, FIS-based Switching; Serial ATA 3.x, 16.2, control port).
 use Rattle.std.specs.Prelude.{ℕ, ◌≡◌, ◌<◌, ◌⊎◌, true, false, List, [], ◌∷◌, Some, None, Ok, is_some}
 use Rattle.fis_view.specs.Seen.{seen}
 use Rattle.fis_view.specs.declared.view.Fis.TheVariants as view
@@ -23,7 +23,7 @@ use Rattle.hba_driver.specs.Ticks.{due}
 abbrev pub IsReport : List ℕ → Type 0
 IsReport bytes = (seen bytes ≡ Ok (view.RegD2H bytes)) ⊎ (seen bytes ≡ Ok (view.SetBits bytes))
 
--- each FIS of the control port is one
+-- if the FIS comes from the control port, it is one of these
 abbrev pub IsOfControl : List ℕ → Type 0
 IsOfControl frame = port_of frame ≡ control_port → IsReport frame
 
@@ -44,7 +44,7 @@ FaultsNeverStop = (host : event.Host) → IsHost host → CanBeRead host → Not
 
 -- ---- over turns
 
--- so is each FIS of the control port that is taken
+-- each FIS of the control port that is taken is one of these
 abbrev pub AreOfControl : List HostTurn → Type 0
 AreOfControl [] = Unit {0}
 AreOfControl (Took frame report ∷ turns) = IsOfControl frame × AreOfControl turns
@@ -56,7 +56,7 @@ leaves_port act.Stops = ⊥
 leaves_port (act.Restarts k) = ⊥
 leaves_port other = Unit {0}
 
--- no fault of the port stands, nothing that comes or goes next makes one, and so no tick stops the port
+-- no fault of the port stands, nothing that comes or goes next causes one, and so no tick stops the port
 pub record GoesOn (h : Host) : Type 0 where
   pub faultless : h.port.errors.port ≡ None
   pub next : NothingStops (shared_by h)

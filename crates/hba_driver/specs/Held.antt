@@ -1,8 +1,7 @@
--- Writes that the driver issued keep their bytes: what is issued that reads lies beside them, and no
--- client puts bytes into them (AHCI 1.3.1, 4.2.3.3, Physical Region Descriptor Table, and 5.5, how
--- commands are issued).
+-- Writes that the driver issued keep their bytes. Issued reads lie beside them, and no client puts bytes into
+-- them (AHCI 1.3.1, 4.2.3.3, Physical Region Descriptor Table, and 5.5, how commands are issued).
 --
--- Cited, of `hba_laws`: what is kept of writes that are issued (`HoldsWrites`, specs/Sent.antt).
+-- Cited from `hba_laws`: what holds for the bytes of issued writes (`HoldsWrites`, specs/Sent.antt).
 use Rattle.std.specs.Prelude.{[], ◌∷◌}
 use Rattle.hba_laws.specs.Client.{Touches}
 use Rattle.hba_laws.specs.Delivering.{touches_after}
@@ -11,7 +10,7 @@ use Rattle.hba_driver.specs.Events.{IsSoundHost, events_over, shared_by}
 use Rattle.hba_driver.specs.HostTurns.{DoesAll, Host, HostTurn}
 use Rattle.hba_driver.specs.Served.{IsServed, RunServes}
 
--- So it is over each turn, whose events serve what is issued.
+-- This holds over each turn whose events serve what is issued.
 abbrev pub TurnsHoldWrites : Type 0
 TurnsHoldWrites =
     (old : Host) (turn : HostTurn) (new : Host) (run : DoesAll old (turn ∷ []) new)

@@ -1,6 +1,6 @@
 -- What the host does, turn by turn: host port, driver and memory together. A frame that is taken or asked for
--- leaves the driver as it is; whatever the driver does between two ticks leaves the port as it is. What every
--- port keeps by itself a turn leaves kept.
+-- leaves the driver as it is. What the driver does between two ticks leaves the port as it is. Whatever holds
+-- for every port by itself holds after a turn too.
 use Rattle.std.specs.Prelude.{ℕ, ◌≡◌, ◌-◌, Bool, true, false, List, [], ◌∷◌, ◌++◌, length, Option, Some, None}
 use Rattle.std.specs.List.{list_all}
 use Rattle.fis_view.specs.Frames.{IsFrame, Stamped}
@@ -30,8 +30,7 @@ pub record Host : Type 0 where
 pub data HostTurn : Type 0 where
   -- the port takes a frame
   Took : (frame : List ℕ) → (report : TakeReport) → HostTurn
-  -- the port is asked for a frame, and gives this one, or none; a table that is found spoilt then
-  -- stops it
+  -- the port is asked for a frame and gives this one, or none; if it finds a spoilt table, that stops it
   Pushed : (frame : Option Stamped) → HostTurn
   -- the driver ticks, and says whether it acted
   Ticked : (acted : Bool) → HostTurn
@@ -102,7 +101,7 @@ DoesAll old (turn ∷ turns) new = (mid : Host) × Does old turn mid × DoesAll 
 
 -- ---- tickets
 
--- that are given in these turns
+-- the tickets that are given in these turns
 abbrev pub given_in : List HostTurn → List ℕ
 given_in [] = []
 given_in (Took frame report ∷ turns) = given_in turns
@@ -112,7 +111,7 @@ given_in (Submitted dev request ticket ∷ turns) = ticket ∷ given_in turns
 given_in (Polled completion ∷ turns) = given_in turns
 given_in (Put at bytes ∷ turns) = given_in turns
 
--- that are polled
+-- the tickets that are polled
 abbrev pub polled_by : HostTurn → List ℕ
 polled_by (Polled completion) = completion.ticket.0 ∷ []
 polled_by _ = []
@@ -121,7 +120,7 @@ abbrev pub polled_in : List HostTurn → List ℕ
 polled_in [] = []
 polled_in (turn ∷ turns) = polled_by turn ++ polled_in turns
 
--- that a tick issues
+-- the tickets that a tick issues
 abbrev pub ticket_of : Option Entry → List ℕ
 ticket_of None = []
 ticket_of (Some entry) = entry.head.ticket ∷ []
@@ -143,15 +142,15 @@ abbrev pub issued_by : Host → HostTurn → List ℕ
 issued_by old (Ticked acted) = issued_in_tick (sight_in old) old.driver
 issued_by old _ = []
 
--- and over the turns
+-- the tickets that are issued over the turns
 abbrev pub issued_over : (old new : Host) → (turns : List HostTurn) → DoesAll old turns new → List ℕ
 issued_over old new [] run = []
 issued_over old new (turn ∷ turns) run = issued_by old turn ++ issued_over run.0 new turns run.2
 
--- ---- hosts as they come
+-- ---- the hosts of a run
 
--- What is true of the hosts of a run: what their port, driver and memory keep by themselves, and that the
--- received area of a port that runs is the driver's.
+-- What holds for the hosts of a run: the rules of port, driver and memory by themselves; and the received
+-- area of a port that runs is the driver's.
 pub record IsHost (h : Host) : Type 0 where
   pub memory : IsHostMemory h.memory
   pub area : h.port.registers.started ≡ true → h.port.registers.fb ≡ 4096

@@ -1,6 +1,6 @@
--- Which devices the driver knows: one whose IDENTIFY data it accepted since it flushed the device
--- last (ACS-3, IDENTIFY DEVICE; Serial ATA 3.x, 16.3, port multiplier: presence of a device on a
--- port). Only to such a device are requests issued.
+-- Which devices the driver knows: those whose IDENTIFY data it accepted since it last flushed the device
+-- (ACS-3, IDENTIFY DEVICE; Serial ATA 3.x, 16.3, port multiplier: presence of a device on a port). Requests
+-- are issued only to such a device.
 use Rattle.std.specs.Prelude.{ℕ, ◌≡◌, ◌<◌, ◌==◌, ◌&&◌, ◌||◌, Bool, true, false, if◌then◌else◌}
 use Rattle.std.specs.Prelude.{List, [], ◌∷◌, Option, Some, None}
 use Rattle.std.specs.List.{list_any}
@@ -34,8 +34,8 @@ abbrev pub is_identity : Port → Option Wrote → Bool
 is_identity port None = false
 is_identity port (Some wrote) = is_identify (last_command port.commands wrote.slot)
 
--- IDENTIFY data of device n are accepted: a FIS of it of which the port wrote bytes for an
--- IDENTIFY DEVICE
+-- IDENTIFY data of device n is accepted: the port takes a FIS of it and writes its bytes for an IDENTIFY
+-- DEVICE
 abbrev pub identifies : ℕ → Host → HostTurn → Bool
 identifies n old (Took frame report) = port_of frame == n && is_identity old.port report.wrote
 identifies n old turn = false
@@ -45,7 +45,7 @@ abbrev pub is_flushed : ℕ → Host → HostTurn → Bool
 is_flushed n old (Ticked acted) = list_any (flushes n) (effects (sight_in old) old.driver)
 is_flushed n old turn = false
 
--- whether IDENTIFY data of device n were accepted since it was flushed last
+-- IDENTIFY data of device n was accepted since it was last flushed
 abbrev pub known_after : ℕ → Bool → Host → HostTurn → Bool
 known_after n known old turn =
     if is_flushed n old turn then false else known || identifies n old turn
@@ -56,7 +56,7 @@ known_over n known old new [] run = known
 known_over n known old new (turn ∷ turns) run =
     known_over n (known_after n known old turn) run.0 new turns run.2
 
--- queued reads and writes, and commands without data; those of slot 30 read a page, or reset
+-- queued reads and writes, and commands without data; the commands of slot 30 read a page, or reset
 abbrev pub is_asked : Kind → Bool
 is_asked QueuedRead = true
 is_asked QueuedWrite = true
@@ -68,8 +68,8 @@ is_asked Control = false
 abbrev pub is_request : List ℕ → Bool
 is_request bytes = match_some (request_at bytes) false (λ request. is_asked (kind_of request))
 
--- Over every list of turns of the host, from its opening on: a device that is ready is known, and so
--- is one of which a request is issued, and one to which the command of a request goes out.
+-- Over every list of turns of the host from its opening: a device that is ready is known, and so is one of
+-- which a request is issued, and one to which the command of a request goes out.
 pub record DevicesAreKnown : Type 0 where
   pub ready : (given len : ℕ) → is_memory_size len ≡ true → (turns : List HostTurn) (h : Host)
       (run : DoesAll (opening_host given len) turns h) (n : ℕ) → n < 15

@@ -1,4 +1,4 @@
--- What is true of the driver over any list of turns of the host, from any sound state, whatever the devices
+-- What holds for the driver over any list of turns of the host, from any sound state, whatever the devices
 -- send.
 use Rattle.std.specs.Prelude.{ℕ, ◌≡◌, ◌+◌, ◌<◌, ◌==◌, ◌&&◌, ◌||◌, ◌⊎◌, Bool, true, false, List, [], ◌∷◌}
 use Rattle.std.specs.Prelude.{length, Option, Some, None}
@@ -33,20 +33,20 @@ use Rattle.hba_driver.specs.Turns.{may_issue}
 
 -- ---- the life of a request
 
--- from waiting to issued, from both to where it is set aside or to its end, from there to its end, and then
--- no further
+-- A request goes from waiting to issued. From both it may be set aside or end. From being set aside it goes
+-- to its end, and then no further.
 abbrev pub Goes : Phase → Phase → Type 0
 Goes Waits later = Unit {0}
 Goes Issued later = waits_in later ≡ false
 Goes Aside later = (waits_in later || is_issued_in later) ≡ false
 Goes (Ended outcome) later = later ≡ Ended outcome
 
--- of a request only the phase may be another later
+-- of a request, only the phase may change
 pub record GoesOn (e later : Entry) : Type 0 where
   pub same : later ≡ rephased later.head.phase e
   pub goes : Goes e.head.phase later.head.phase
 
--- it stands there still
+-- the request is still there
 pub record Kept (e : Entry) (later : Option Entry) : Type 0 where
   pub entry : Entry
   pub is : later ≡ Some entry
@@ -70,17 +70,17 @@ flushes dev (effect.Flushes other) = other == dev
 flushes dev (effect.Empties other) = false
 flushes dev (effect.Commands slot fields buffer) = false
 
--- a request that the port has no command of, and of which none will be issued
+-- a request for which the port has no command, and for which none will be issued
 abbrev pub is_withdrawn : Head → Bool
 is_withdrawn head = is_aside head || has_ended head
 
 -- what a tick does to devices
 pub record TicksServe : Type 0 where
-  -- a request is issued only where it waits and its device is ready
+  -- a request is issued only if it waits and its device is ready
   pub ready : (v : Sight) (d : Driver) (slot dev : ℕ) (queued : Bool)
       → due v d ≡ Some (act.Issues slot dev queued)
       → may_issue (turn v d).plan (entry_at (seen v d).entries slot) ≡ true
-  -- in the tick of its flush a device is taken to be absent, and none of its requests is left open
+  -- in the tick of its flush a device is taken to be absent, and none of its requests stays open
   pub leaves : (v : Sight) (file : TaskFile) (d : Driver) (dev : ℕ) → list_any (flushes dev)
       (effects v d) ≡ true → device_at (after_tick v file d).plan dev ≡ Absent
   pub ends : (v : Sight) (file : TaskFile) (d : Driver) (dev s : ℕ) (e : Entry) → list_any (flushes dev)
@@ -100,12 +100,12 @@ pub record TicksServe : Type 0 where
 
 -- ---- over lists of turns
 
--- no number stands twice in the list
+-- no number is twice in the list
 abbrev pub AreOnce : List ℕ → Type 0
 AreOnce [] = Unit {0}
 AreOnce (x ∷ xs) = (list_any (λ y. y == x) xs ≡ false) × AreOnce xs
 
--- they are the same, and of an error of the device Status and Error are too
+-- the outcomes are the same; for an error of the device, Status and Error are the same too
 abbrev pub is_outcome : Outcome → Outcome → Bool
 is_outcome Done Done = true
 is_outcome (DeviceError status error) (DeviceError other_status other_error) =
@@ -115,14 +115,14 @@ is_outcome Removed Removed = true
 is_outcome PortError PortError = true
 is_outcome one other = false
 
--- a request that has come to this may be polled with this outcome: one that has ended with its own alone
+-- a request in this phase may be polled with this outcome: only an ended one may, and with its own outcome
 abbrev pub ends_as : Phase → Outcome → Bool
 ends_as Waits outcome = true
 ends_as Issued outcome = true
 ends_as Aside outcome = true
 ends_as (Ended one) outcome = is_outcome one outcome
 
--- the turn polls this request out of this slot, with the outcome of its end if it has one
+-- the turn polls this request from this slot, with the outcome of its end if it has one
 abbrev pub gives : ℕ → Entry → HostTurn → Bool
 gives s e (Took frame report) = false
 gives s e (Pushed frame) = false
@@ -133,14 +133,14 @@ gives s e (Polled completion) =
     && ends_as e.head.phase completion.outcome
 gives s e (Put at bytes) = false
 
--- A request stands in its slot, and goes on, until it is polled there. So from the tick on that ends it
--- it waits for the poll that answers how it ended.
+-- A request stays in its slot, and goes on, until it is polled there. So from the tick that ends it on, it
+-- waits for the poll that answers how it ended.
 abbrev pub Lives : ℕ → Entry → List HostTurn → Host → Type 0
 Lives s e turns new = Kept e (entry_at new.driver.entries s) ⊎ (list_any (gives s e) turns ≡ true)
 
 pub record TurnsKeep (old : Host) (turns : List HostTurn) (new : Host)
     (run : DoesAll old turns new) : Type 0 where
-  -- requests stay sound: tickets are each one's own, and where one of two reads they share no byte
+  -- requests stay sound: each has a ticket of its own, and two of which one reads share no byte
   pub sound : AreRequests new.driver.given new.driver.entries
   -- tickets are given one after another
   pub given : given_in turns ≡ range_with_len (old.driver.given + 1) (length (given_in turns))
@@ -156,13 +156,13 @@ EachRunKeeps = (old : Host) (turns : List HostTurn) (new : Host) (run : DoesAll 
 
 -- ---- the structure area
 
--- header and table of a slot stand as they were
+-- header and table of a slot are as they were
 pub record Stands (s : ℕ) (old new : Memory) : Type 0 where
   pub header : AgreeFrom (header_place 0 s) 32 old.structure new.structure
   pub table : AgreeFrom (table_of s) 4096 old.structure new.structure
 
--- What a request has written into the structure area stands there until it is polled: nothing else is written
--- but received FISes, the rows of devices that are flushed, and the commands of other slots.
+-- What a request has written into the structure area stays there until the request is polled. Nothing else is
+-- written there except received FISes, the rows of devices that are flushed, and the commands of other slots.
 abbrev pub CommandsStand : Type 0
 CommandsStand =
     (old : Host) (turns : List HostTurn) (new : Host) (run : DoesAll old turns new)
@@ -172,8 +172,7 @@ CommandsStand =
 
 -- ---- requests that are done
 
--- A tick ends a request as Done only where it was issued and nothing is issued in its slot of the port any
--- more.
+-- A tick ends a request as Done only if it was issued and nothing is issued in its slot of the port any more.
 abbrev pub DoneIsFree : Type 0
 DoneIsFree =
     (port : Port) (memory : Memory) (file : TaskFile) (d : Driver) (s : ℕ) (e f : Entry) → IsTable port.slots

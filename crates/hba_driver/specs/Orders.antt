@@ -1,6 +1,5 @@
--- The commands that the driver issues of its own, as tables: READ PORT MULTIPLIER and WRITE PORT MULTIPLIER
--- (Serial ATA 3.x, port multiplier commands), software reset, IDENTIFY DEVICE and the commands of requests
--- (ACS-3).
+-- The driver's own commands as tables: READ PORT MULTIPLIER and WRITE PORT MULTIPLIER (Serial ATA 3.x, port
+-- multiplier commands), software reset, IDENTIFY DEVICE and the commands of requests (ACS-3).
 use Rattle.std.specs.Prelude.{ℕ, ◌+◌, ◌*◌, ◌/◌, ◌%◌, ◌&&◌, Bool, true, false, nat_lt, nat_le, if◌then◌else◌}
 use Rattle.std.specs.Prelude.{Option, Some, None}
 use Rattle.fis_view.specs.declared.build.H2dFields.{H2dFields}
@@ -17,7 +16,7 @@ use Rattle.hba_driver.specs.declared.slot.Head.{Head}
 abbrev pub control_port : ℕ
 control_port = 15
 
--- a command of these fields, all others 0
+-- a command with these fields, all others 0
 abbrev pub command : (port command features lba device count : ℕ) → H2dFields
 command port code features lba device count = record {
   pm_port = port;
@@ -35,16 +34,16 @@ command port code features lba device count = record {
 abbrev pub control : (port value : ℕ) → H2dFields
 control port value = record (command port 0 0 0 0 0) { c = false; control = value }
 
--- READ PORT MULTIPLIER of a register of a port, Fh for those of the multiplier itself
+-- READ PORT MULTIPLIER of a register of a port, or of the multiplier itself, port Fh
 abbrev pub reads : (port register : ℕ) → H2dFields
 reads port register = command control_port 0xE4 register 0 port 0
 
--- WRITE PORT MULTIPLIER: the low byte of the value stands in Count, the others in LBA
+-- WRITE PORT MULTIPLIER: the low byte of the value is in Count, the others are in LBA
 abbrev pub writes : (port register value : ℕ) → H2dFields
 writes port register value = command control_port 0xE8 register (value / 256) port (value % 256)
 
 -- registers of the multiplier: GSCR[2] has the number of its ports, GSCR[32] a bit for each port with an
--- error, GSCR[33] the bits of PSCR[1] that count as one, GSCR[96] the features that are on
+-- error, GSCR[33] the bits of PSCR[1] that count as an error, GSCR[96] the enabled features
 abbrev pub port_count : ℕ
 port_count = 2
 
@@ -57,7 +56,7 @@ error_mask = 33
 abbrev pub features_on : ℕ
 features_on = 96
 
--- and of a port: PSCR[0] SStatus, PSCR[1] SError, PSCR[2] SControl
+-- registers of a port: PSCR[0] SStatus, PSCR[1] SError, PSCR[2] SControl
 abbrev pub sstatus : ℕ
 sstatus = 0
 
@@ -71,7 +70,7 @@ scontrol = 2
 abbrev pub changes : ℕ
 changes = 0x04010000
 
--- what slot 31 issues for an order, None where it issues nothing
+-- the command that slot 31 issues for an order, None if it issues nothing
 unfoldable pub order_fields : Order → Option H2dFields
 order_fields ResetOn = Some (control control_port 4)
 order_fields ResetOff = Some (control control_port 0)
@@ -85,7 +84,7 @@ order_fields (Clear port) = Some (writes port serror changes)
 order_fields (Detect port) = Some (reads port sstatus)
 order_fields Watch = None
 
--- the scan goes on with the lowest port from this one on that GSCR[32] named, and else it is over
+-- the scan goes on with the lowest port from this one on that GSCR[32] named; if there is none, it is over
 unfoldable pub scan_from : (found : ℕ) → ℕ → Order
 scan_from found from =
     match_some (lowest_below (λ port. nat_le from port && has_bit found port) 15) Watch Clear
@@ -94,8 +93,8 @@ scan_from found from =
 abbrev pub open_from : (ports : ℕ) → ℕ → Order
 open_from ports from = if nat_lt from ports then Open from else Scan
 
--- the order after the answer of an order came, for a multiplier with so many ports, and the ports that the
--- last scan found
+-- the order after the answer to an order, for a multiplier with this many ports, of which the last scan found
+-- these
 unfoldable pub next_order : (ports found : ℕ) → Order → Order
 next_order ports found ResetOn = ResetOff
 next_order ports found ResetOff = AwaitSignature
@@ -119,8 +118,8 @@ identify_fields dev = command dev 0xEC 0 0 0 0
 abbrev pub log_fields : (dev : ℕ) → H2dFields
 log_fields dev = command dev 0x2F 0 0x10 0 1
 
--- READ FPDMA QUEUED and WRITE FPDMA QUEUED have their length in Features and their tag, the slot, in bits 7:3
--- of Count
+-- READ FPDMA QUEUED and WRITE FPDMA QUEUED have their length in Features, and their tag, the slot, in bits
+-- 7:3 of Count
 abbrev pub work_fields : (slot : ℕ) → Work → (dev lba sectors : ℕ) → H2dFields
 work_fields slot work.Read dev lba sectors = command dev 0x60 sectors lba 0x40 (8 * slot)
 work_fields slot work.Write dev lba sectors = command dev 0x61 sectors lba 0x40 (8 * slot)

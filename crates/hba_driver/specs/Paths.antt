@@ -1,5 +1,5 @@
--- What slot 30 does with a device, stage by stage: it is identified (ACS-3, IDENTIFY DEVICE), its error log
--- is read (ACS-3, READ LOG EXT and the NCQ Command Error log), or it is reset (Serial ATA 3.x, software
+-- What slot 30 does with a device, stage by stage: it identifies the device (ACS-3, IDENTIFY DEVICE), reads
+-- its error log (ACS-3, READ LOG EXT and the NCQ Command Error log), or resets it (Serial ATA 3.x, software
 -- reset).
 use Rattle.std.specs.Prelude.{ℕ, Bool, true, false, if◌then◌else◌, Option, Some, None}
 use Rattle.fis_view.specs.declared.build.H2dFields.{H2dFields}
@@ -14,7 +14,7 @@ use Rattle.hba_driver.specs.declared.plan.Device.{Device}
 use Rattle.hba_driver.specs.declared.plan.Device.TheVariants.{Absent, Starting, Ready, Recovering}
 use Rattle.hba_driver.specs.Orders.{control, identify_fields, log_fields}
 
--- what slot 30 issues for a stage, None where it issues nothing
+-- the command that slot 30 issues for a stage, None if it issues nothing
 unfoldable pub stage_fields : (dev : ℕ) → Stage → Option H2dFields
 stage_fields dev Identify = Some (identify_fields dev)
 stage_fields dev (ReadLog file) = Some (log_fields dev)
@@ -30,8 +30,8 @@ reads_page AssertReset = false
 reads_page ReleaseReset = false
 reads_page AwaitReset = false
 
--- the stage after the command of a stage is over, None where the path ends with it; the end of the reset,
--- which has no command, is followed by IDENTIFY DEVICE
+-- the stage after the command of a stage is over, None if the path ends with it; IDENTIFY DEVICE follows the
+-- end of the reset, which has no command
 unfoldable pub next_stage : Stage → Option Stage
 next_stage Identify = None
 next_stage (ReadLog file) = None
@@ -39,15 +39,15 @@ next_stage AssertReset = Some ReleaseReset
 next_stage ReleaseReset = Some AwaitReset
 next_stage AwaitReset = Some Identify
 
--- the first stage of what is due for a device: one that starts is identified once its signature came
+-- the first stage of what is due for a device; a device that starts is identified once its signature came
 abbrev pub first_stage : Device → (signed : Bool) → Option Stage
 first_stage Starting signed = if signed then Some Identify else None
 first_stage (Recovering (Log file)) signed = Some (ReadLog file)
 first_stage (Recovering Reset) signed = Some AssertReset
 first_stage device signed = None
 
--- How a device recovers from a fault, after which it had this task file: one that was ready and has ERR, bit
--- 0 of Status, set tells by its log which of its commands failed; any other is reset.
+-- How a device recovers from a fault, if this was its task file after it. If the device was ready and ERR,
+-- bit 0 of Status, is set, its log tells which of its commands failed. Any other device is reset.
 abbrev pub recovery : Device → TaskFile → Recovery
 recovery Ready file = if has_bit file.status 0 then Log file else Reset
 recovery device file = Reset

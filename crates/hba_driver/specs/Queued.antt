@@ -1,7 +1,7 @@
--- From its submit to its issue, and on until its end, a request stays with the device for which it was
--- taken: no tick in between flushes the device, and what goes out as its command is told by its slot
--- (AHCI 1.3.1, 5.3, how a port sends commands, and chapter 9, FIS-based Switching; Serial ATA 3.x, 16.3,
--- port multiplier: presence of a device on a port).
+-- From its submit to its issue, and on until its end, a request stays with the device for which it was taken.
+-- No tick in between flushes the device, and what goes out as its command is known by its slot (AHCI 1.3.1,
+-- 5.3, how a port sends commands, and chapter 9, FIS-based Switching; Serial ATA 3.x, 16.3, port multiplier:
+-- presence of a device on a port).
 --
 -- Cited: requests that wait or are issued (specs/Tended.antt); the flush of a device, and the commands of
 -- requests (specs/Known.antt).
@@ -20,7 +20,7 @@ use Rattle.hba_driver.specs.Known.{is_flushed, is_request}
 use Rattle.hba_driver.specs.Submits.{new_entry}
 use Rattle.hba_driver.specs.Tended.{IsLiveAt}
 
--- Where a request of device n that waits or is issued after a turn comes from.
+-- Where a request of device n comes from that waits or is issued after a turn.
 pub data IsQueuedBy (n s : ℕ) (old : Host) (turn : HostTurn) (e : Entry) : Type 0 where
   -- it waited or was issued before the turn, which does not flush the device
   Stood : (was : Entry) → IsLiveAt n s old.driver.entries was → rephased Waits was ≡ rephased Waits e
@@ -30,7 +30,7 @@ pub data IsQueuedBy (n s : ℕ) (old : Host) (turn : HostTurn) (e : Entry) : Typ
       → device_at old.driver.plan n ≡ Ready → new_entry ticket n request ≡ e
       → is_flushed n old turn ≡ false → IsQueuedBy n s old turn e
 
--- the frame that goes out next is the command of a request, which is issued in its slot
+-- the frame that goes out next is the command of a request that is issued in its slot
 pub record IsCommandOf (slot : ℕ) (e : Entry) (h : Host) (frame : Stamped) : Type 0 where
   pub command : Command
   pub next : outgoing h.port h.memory ≡ Order e.head.dev slot command
@@ -39,7 +39,7 @@ pub record IsCommandOf (slot : ℕ) (e : Entry) (h : Host) (frame : Stamped) : T
   pub stands : entry_at h.driver.entries slot ≡ Some e
   pub issued : is_issued e.head ≡ true
 
--- so it is for one of the requests
+-- the frame is the command of one of the requests
 pub record IsSomeCommand (h : Host) (frame : Stamped) : Type 0 where
   pub slot : ℕ
   pub entry : Entry
@@ -49,7 +49,7 @@ pub record RequestsStay : Type 0 where
   -- a request that waits or is issued did so before, and its device was not flushed since
   pub stays : (n s : ℕ) (old : Host) (turn : HostTurn) (new : Host) → Does old turn new → (e : Entry)
       → IsLiveAt n s new.driver.entries e → IsQueuedBy n s old turn e
-  -- the command of a request that goes out is that of one which is issued in its slot, for its device
+  -- the command of a request that goes out is that of one issued in its slot, for its device
   pub goes : (given len : ℕ) → is_memory_size len ≡ true → (turns : List HostTurn) (h : Host)
       (run : DoesAll (opening_host given len) turns h) (frame : Stamped) (after : Host)
       → Does h (Pushed (Some frame)) after → frame.stamp.port < 15 → is_request frame.bytes ≡ true

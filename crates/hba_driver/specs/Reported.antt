@@ -1,9 +1,9 @@
--- Where a request that is polled as Done was reported so: at a frame of its own device, taken while the
--- command was issued that was written for it as it was submitted under its ticket (AHCI 1.3.1, 5.3 and 9.3;
--- Serial ATA 3.x, 10.5; native command queuing).
+-- Where a request that is polled as Done was reported as done: at a frame of its own device. The frame was
+-- taken while the command was issued that was written for the request when it was submitted under its ticket
+-- (AHCI 1.3.1, 5.3 and 9.3; Serial ATA 3.x, 10.5; native command queuing).
 --
--- Cited: the turns of the host (specs/HostTurns.antt), requests (specs/Drivers.antt) and what a request
--- that is taken is (specs/Submits.antt).
+-- Cited: the turns of the host (specs/HostTurns.antt), requests (specs/Drivers.antt), and taking a request
+-- (specs/Submits.antt).
 use Rattle.std.specs.Prelude.{ℕ, ◌≡◌, true, List, [], ◌∷◌, ◌++◌, Some}
 use Rattle.host_memory.specs.Memory.{is_memory_size}
 use Rattle.slots.specs.Slots.{has_bit}
@@ -23,7 +23,7 @@ abbrev pub hosts_over : (old new : Host) → (turns : List HostTurn) → DoesAll
 hosts_over old new [] run = []
 hosts_over old new (turn ∷ turns) run = old ∷ hosts_over run.0 new turns run.2
 
--- The turn is one of a run: what the run does before it, the turn itself, and what the run does after it.
+-- The turn is a turn of a run: what the run does before it, the turn itself, and what the run does after it.
 pub record IsTurnOf (turn : HostTurn) (old new : Host) (turns : List HostTurn) (run : DoesAll old turns new)
     : Type 0 where
   pub before : List HostTurn
@@ -38,9 +38,9 @@ pub record IsTurnOf (turn : HostTurn) (old new : Host) (turns : List HostTurn) (
   pub hosts : hosts_over old new turns run ≡ hosts_over old at before came
       ++ at ∷ hosts_over next new after went
 
--- What was polled as Done, in these turns: a frame of its device was taken whose report says that the
--- command of its slot is done. There stood then, issued, and stands now, ended, just what was submitted
--- for the device under the ticket.
+-- What was polled as Done, in these turns. A frame of its device was taken whose report says that the command
+-- of its slot is done. What was submitted for the device under the ticket was in the slot then, issued, and
+-- is there now, ended.
 pub record WasReported (ticket slot : ℕ) (old new : Host) (turns : List HostTurn)
     (run : DoesAll old turns new)
     : Type 0 where
@@ -55,7 +55,7 @@ pub record WasReported (ticket slot : ℕ) (old new : Host) (turns : List HostTu
   pub issued : entry_at took.at.driver.entries slot ≡ Some (rephased Issued (new_entry ticket dev request))
   pub ended : entry_at new.driver.entries slot ≡ Some (rephased (Ended Done) (new_entry ticket dev request))
 
--- so it is over every list of turns from an opening
+-- this holds over every list of turns from an opening
 abbrev pub DoneWasReported : Type 0
 DoneWasReported =
     (given len : ℕ) → is_memory_size len ≡ true → (turns : List HostTurn) (h : Host)

@@ -1,4 +1,5 @@
--- The bytes of requests, and how a request is taken, polled and refused. The refusals are the driver's own.
+-- The bytes of requests, and how a request is taken, polled and refused. The refusals are defined by this
+-- driver.
 use Rattle.std.specs.Prelude.{ℕ, ◌+◌, ◌*◌, ◌%◌, ◌==◌, ◌&&◌, ◌||◌, Bool, true, false, not, nat_lt, nat_le}
 use Rattle.std.specs.Prelude.{if◌then◌else◌, List, length, Option, Some, None, is_none}
 use Rattle.std.specs.List.{list_any}
@@ -19,11 +20,11 @@ use Rattle.hba_driver.specs.Orders.{is_flush}
 
 -- ---- bytes in use
 
--- so many bytes from an address on share one with so many from another
+-- len bytes from an address on share a byte with bytes bytes from another
 abbrev pub share_bytes : (at len other bytes : ℕ) → Bool
 share_bytes at len other bytes = nat_lt at (other + bytes) && nat_lt other (at + len)
 
--- one of the bytes is one of these entries'
+-- one of the bytes belongs to one of these entries
 abbrev pub is_among : (at len : ℕ) → List Prd → Bool
 is_among at len prds = list_any (λ prd. share_bytes at len prd.address prd.bytes) prds
 
@@ -31,18 +32,18 @@ abbrev pub is_used_by : (at len : ℕ) → Option Entry → Bool
 is_used_by at len None = false
 is_used_by at len (Some entry) = is_among at len entry.prds
 
--- one of the bytes is of the driver's buffer, 100000h to 1001FFh, or of a request that is not polled
+-- one of the bytes belongs to the driver's buffer, 100000h to 1001FFh, or to a request that is not polled yet
 abbrev pub in_use : Driver → (at len : ℕ) → Bool
 in_use d at len =
     nat_lt 0 len && (share_bytes at len client_start 512 || list_any (is_used_by at len) d.entries)
 
 -- ---- refusals
 
--- the request of a device has not ended, and it is a Flush, or the new one is
+-- the request of a device has not ended, and it or the new one is a Flush
 abbrev pub blocks : (dev : ℕ) → Work → Head → Bool
 blocks dev work head = (head.dev == dev) && not (has_ended head) && (is_flush work || is_flush head.work)
 
--- a Flush has no sectors; a read or a write has 1 to 256, and its first is below 2^48
+-- a Flush has no sectors; a read or a write has 1 to 256, the first below 2^48
 abbrev pub is_bad_count : Request → Bool
 is_bad_count request =
     if is_flush request.work then not (request.sectors == 0)
@@ -53,7 +54,7 @@ abbrev pub is_mismatch : Request → Bool
 is_mismatch request =
     nat_lt 248 (length request.prds.items) || not (total_of request.prds.items == request.sectors * 512)
 
--- a PRD that no request may have: odd, empty, above 4 MiB, or not within 100200h to the end of memory
+-- a PRD that no request may have: odd, empty, above 4 MiB, or not between 100200h and the end of memory
 abbrev pub is_bad_prd : (end : ℕ) → Prd → Bool
 is_bad_prd end prd =
     (prd.address % 2 == 1) || (prd.bytes % 2 == 1) || (prd.bytes == 0) || nat_lt 4194304 prd.bytes
@@ -78,13 +79,13 @@ lowest_free entries = lowest_below (λ slot. is_free (entry_at entries slot)) 30
 abbrev pub is_full : List (Option Entry) → Bool
 is_full entries = is_none (lowest_free entries)
 
--- a device takes requests where it is ready, and will again where it recovers
+-- a ready device takes requests; a recovering device will take them again
 abbrev pub device_refusal : Device → Option SubmitError
 device_refusal Ready = None
 device_refusal (Recovering way) = Some refusal.Recovering
 device_refusal device = Some refusal.NoDevice
 
--- why a request is refused by what it is
+-- why a request is refused because of what it is
 abbrev pub shape_refusal : (end : ℕ) → Request → Option SubmitError
 shape_refusal end request =
     if is_bad_count request then Some refusal.BadCount
@@ -92,7 +93,7 @@ shape_refusal end request =
     else if list_any (is_bad_prd end) request.prds.items then Some refusal.BadPrd
     else None
 
--- why by what the driver has taken already
+-- why a request is refused because of what the driver has taken already
 abbrev pub room_refusal : Driver → Request → Option SubmitError
 room_refusal d request =
     if overlaps d request then Some refusal.Overlap

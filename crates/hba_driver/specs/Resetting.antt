@@ -1,4 +1,4 @@
--- The tick that issues the software reset of a device that is tended (Serial ATA 3.x, software reset).
+-- The tick that issues the software reset of a tended device (Serial ATA 3.x, software reset).
 use Rattle.std.specs.Prelude.{ℕ, ◌≡◌, ◌<◌, Bool, true, false, Some}
 use Rattle.hba_driver.specs.Drivers.{Entry, entry_at}
 use Rattle.hba_driver.specs.HostTurns.{Does, Host, Ticked}
@@ -7,8 +7,8 @@ use Rattle.hba_driver.specs.Slot30.{IsPlan30, Sets}
 use Rattle.hba_driver.specs.Steady.{detects}
 use Rattle.hba_driver.specs.Tended.{IsResetTurn, IsTended}
 
--- The driver stands then where it waits for the Control that sets SRST to go out, and no request of the
--- device waits or is issued.
+-- Then the driver waits for the Control that sets SRST to go out, and no request of the device waits or is
+-- issued.
 pub record IsSetDriven (n : ℕ) (h : Host) : Type 0 where
   pub plan : IsPlan30 n Sets h.driver.plan
   pub unsought : detects n h.driver.plan.asked h.driver.plan.order ≡ false

@@ -1,6 +1,6 @@
--- Scans of the ports of a multiplier: the driver reads GSCR[32], which has a bit for each port with
--- an error, and clears the errors of each port that the answer names, from the lowest on (Serial
--- ATA 3.x, 16.2 and 16.3, port multiplier: GSCR[32], PSCR[1]).
+-- Scans of the ports of a multiplier. The driver reads GSCR[32], which has a bit for each port with an error,
+-- and clears the errors of each port that the answer names, lowest port first (Serial ATA 3.x, 16.2 and 16.3,
+-- port multiplier: GSCR[32], PSCR[1]).
 use Rattle.std.specs.Prelude.{ℕ, ◌≡◌, ◌<◌, ◌==◌, ◌&&◌, ◌||◌, Bool, true, false, not, nat_lt, nat_le}
 use Rattle.std.specs.Prelude.{if◌then◌else◌, List, [], ◌∷◌, take, drop, is_none, Result, Ok}
 use Rattle.fis_view.specs.Seen.{seen}
@@ -25,15 +25,14 @@ use Rattle.hba_driver.specs.Slot31.{orders_clear}
 
 -- ---- which ports the scan found
 
--- after this order, or with it where it was not issued, the scan may come to port n
+-- after this order, or with it if it was not issued, the scan may come to port n
 abbrev pub comes_to : Order → (asked : Bool) → ℕ → Bool
 comes_to (Clear port) false n = nat_le port n
 comes_to (Clear port) true n = nat_lt port n
 comes_to (Detect port) asked n = nat_lt port n
 comes_to order asked n = false
 
--- the driver has looked at the answer, which named port n, and has not ordered since that the port
--- be cleared
+-- the driver has looked at the answer that named port n, and has not ordered since that the port be cleared
 abbrev pub is_left : ℕ → Plan → Bool
 is_left n plan = comes_to plan.order plan.asked n && has_bit plan.found n
 
@@ -41,7 +40,7 @@ abbrev pub is_scan : Order → Bool
 is_scan Scan = true
 is_scan order = false
 
--- the value in the last answer of the control port, whose Register FIS stands at 40h of its row
+-- the value in the last answer of the control port, whose Register FIS is at 40h of its row
 abbrev pub told_in : DevicePart → ℕ
 told_in part = answer_in (seen (take 20 (drop 64 part.row)))
 
@@ -57,7 +56,7 @@ is_named n h = (is_scan h.driver.plan.order && h.driver.plan.asked) && tells n (
 abbrev pub found : ℕ → Host → Bool
 found n h = is_left n h.driver.plan || is_named n h
 
--- the order to clear a port is one to clear a port that was found
+-- an order to clear a port clears a port that was found
 abbrev pub IsClearOf : Order → (found : ℕ) → Type 0
 IsClearOf (Clear port) found = has_bit found port ≡ true
 IsClearOf order found = Unit {0}
@@ -65,7 +64,7 @@ IsClearOf order found = Unit {0}
 abbrev pub IsFound : Plan → Type 0
 IsFound plan = IsClearOf plan.order plan.found
 
--- ---- what a turn is to them
+-- ---- what a turn does to them
 
 -- the frame is the answer to a read of GSCR[32], and names port n
 pub record Names (n : ℕ) (stage : Stage31) (old : Host) (frame : List ℕ) : Type 0 where
@@ -80,22 +79,22 @@ abbrev pub Finds : ℕ → (stage : Stage31) → (old : Host) → HostTurn → T
 Finds n stage old (Took frame report) = Names n stage old frame
 Finds n stage old turn = ⊥
 
--- a tick orders that a port be cleared only where it was found, and then it is found no longer
+-- a tick orders that a port be cleared only if the port was found, and then it is no longer found
 abbrev pub Clears : ℕ → (old : Host) → HostTurn → (new : Host) → Type 0
 Clears n old (Ticked acted) new =
     orders_clear n old ≡ true → (found n old ≡ true) × (found n new ≡ false)
 Clears n old turn new = Unit {0}
 
--- what a turn of a host is to port n, where slot 31 is at this stage before it
+-- what a turn of a host does to port n, with slot 31 at this stage before it
 pub record ScansOn (n : ℕ) (stage : Stage31) (old : Host) (turn : HostTurn) (new : Host)
     : Type 0 where
-  -- a port comes to be found only where an answer that names it is taken
+  -- a port becomes found only when an answer that names it is taken
   pub begins : found n old ≡ false → found n new ≡ true → Finds n stage old turn
   pub clears : Clears n old turn new
 
 -- ---- the law
 
--- an answer of the control port: a Register FIS, and it is not busy
+-- an answer of the control port: a Register FIS that is not busy
 abbrev pub is_answer : Result Fis FisFault → Bool
 is_answer (Ok (view.RegD2H f)) = not (is_busy (field D2h Status f))
 is_answer fis = false
@@ -110,8 +109,7 @@ answers_scan stage old frame =
     (port_of frame == control_port)
     && (is_asking stage && (is_scan old.driver.plan.order && is_answer (seen frame)))
 
--- the last answer to a read of GSCR[32] named port n, and no order was given since that the port be
--- cleared
+-- the last answer to a read of GSCR[32] named port n, and no order to clear the port was given since
 abbrev pub named_after : ℕ → (named : Bool) → (stage : Stage31) → (old : Host) → HostTurn
     → Bool
 named_after n named stage old (Took frame report) =
@@ -119,12 +117,12 @@ named_after n named stage old (Took frame report) =
 named_after n named stage old (Ticked acted) = named && not (orders_clear n old)
 named_after n named stage old turn = named
 
--- the tick orders that port n be cleared only where it was named
+-- the tick orders that port n be cleared only if the port was named
 abbrev pub ClearsNamed : ℕ → (named : Bool) → (old : Host) → HostTurn → Type 0
 ClearsNamed n named old (Ticked acted) = orders_clear n old ≡ true → named ≡ true
 ClearsNamed n named old turn = Unit {0}
 
--- so it is in each of these turns, as long as the control port sends what may come
+-- this holds in each of these turns, as long as the control port sends what may come
 abbrev pub Scans : (n : ℕ) → (named : Bool) → (stage : Stage31) → (old : Host)
     → (turns : List HostTurn) → (new : Host) → DoesAll old turns new → Type 0
 Scans n named stage old [] new run = Unit {0}
@@ -132,8 +130,8 @@ Scans n named stage old (turn ∷ turns) new run =
     MayBe31 stage turn → (t : Turns31 stage old turn run.0) × ClearsNamed n named old turn
     × Scans n (named_after n named stage old turn) t.next run.0 turns new run.2
 
--- From the opening of the host on the driver orders that a port be cleared only where the last
--- answer of the multiplier to a read of GSCR[32] named the port, and at most once for each answer.
+-- From the opening of the host, the driver orders that a port be cleared only if the last answer of the
+-- multiplier to a read of GSCR[32] named the port, and at most once for each answer.
 abbrev pub ScansClear : Type 0
 ScansClear =
     (given len : ℕ) → is_memory_size len ≡ true → (turns : List HostTurn) (h : Host)

@@ -1,7 +1,7 @@
--- What is issued at the port is the driver's: a request of its own, its command to a device in slot 30,
--- or an order to the multiplier. So no two reads that are issued share a byte, no client writes into
--- one, and the PRDs of a command stay while it is issued (AHCI 1.3.1, 4.2.3.3, Physical Region
--- Descriptor Table, and 5.5, how commands are issued).
+-- What is issued at the port is the driver's: a request of its own, its command to a device in slot 30, or an
+-- order to the multiplier. So no two issued reads share a byte, no client writes into one, and the PRDs of a
+-- command stay while it is issued (AHCI 1.3.1, 4.2.3.3, Physical Region Descriptor Table, and 5.5, how
+-- commands are issued).
 use Rattle.std.specs.Prelude.{ℕ, ◌≡◌, ◌+◌, ◌<◌, ◌≤◌, ◌⊎◌, true, false, List, [], ◌∷◌, length}
 use Rattle.std.specs.Prelude.{Some}
 use Rattle.fis_view.specs.Built.{IsBuilt, h2d_given}
@@ -35,7 +35,7 @@ use Rattle.hba_driver.specs.Paths.{reads_page, stage_fields}
 
 -- ---- what a request wrote
 
--- its command stands in the structure area: header, command FIS and PRDs
+-- its command is in the structure area: header, command FIS and PRDs
 pub record HasCommand (s : ℕ) (e : Entry) (memory : Memory) : Type 0 where
   pub header : header_at memory.structure 0 s
       ≡ header_for (request_of (request_fields s e.head)) (table_of s) (length e.prds)
@@ -46,18 +46,18 @@ pub record HasCommand (s : ℕ) (e : Entry) (memory : Memory) : Type 0 where
       (cfis_at memory.structure (table_of s))
   pub entries : prds_at memory.structure (table_of s + 128) (length e.prds) ≡ e.prds
 
--- so it is for each request that is not polled
+-- the same for each request that is not polled yet
 abbrev pub HaveCommands : Driver → Memory → Type 0
 HaveCommands d memory =
     (s : ℕ) (e : Entry) → entry_at d.entries s ≡ Some e → HasCommand s e memory
 
--- a read or a write has 1 to 256 sectors, and its first is below 2^48
+-- a read or a write has 1 to 256 sectors, the first below 2^48
 pub record HasSize (head : Head) : Type 0 where
   pub some : 0 < head.sectors
   pub most : head.sectors ≤ 256
   pub place : head.lba < 0x1000000000000
 
--- a request is to a fan-out port, and its PRDs are not too many and apart from the driver's buffer
+-- a request is to a fan-out port; its PRDs are few enough and apart from the driver's buffer
 pub record IsBounded (e : Entry) : Type 0 where
   pub dev : e.head.dev < 15
   pub size : is_queued e.head.work ≡ true → HasSize e.head
@@ -98,7 +98,7 @@ pub record IsOrdered (d : Driver) (n s : ℕ) (t : Transfer) : Type 0 where
   pub goes : d.plan.asked ≡ true
   pub table : t.table ≡ []
 
--- and in any case the PRDs have the command's bytes, and are apart
+-- in each case the PRDs have the command's bytes, and are apart
 pub record IsIssueOf (d : Driver) (n s : ℕ) (t : Transfer) : Type 0 where
   pub dev : n < 16
   pub from : IsRequest d n s t ⊎ (IsStep d n s t ⊎ IsOrdered d n s t)
@@ -111,13 +111,13 @@ IssuesAreRequests d past =
 
 -- ---- what goes out
 
--- the command FIS is built of these fields, and the command moves what they ask for
+-- the command FIS is built from these fields, and the command moves what they ask for
 pub record IsBuiltOf (fields : H2dFields) (t : Transfer) (command : Command) : Type 0 where
   pub cfis : IsBuilt H2d (h2d_given fields) command.cfis
   pub work : t.work ≡ moved_by (request_of fields)
 
--- What goes out of a slot has its device as PM Port, and is the command of the request that stands
--- in the slot, or of the path that has slot 30.
+-- What goes out of a slot has its device as PM Port. It is the command of the request in the slot, or of the
+-- path that has slot 30.
 pub record IsFisOf (d : Driver) (n s : ℕ) (t : Transfer) (command : Command) : Type 0 where
   pub to_dev : field H2d PmPort command.cfis ≡ n
   pub of_request : (e : Entry) → s < 30 → entry_at d.entries s ≡ Some e
@@ -126,18 +126,18 @@ pub record IsFisOf (d : Driver) (n s : ℕ) (t : Transfer) (command : Command) :
       → path.asked ≡ true → stage_fields path.dev path.stage ≡ Some fields
       → IsBuiltOf fields t command
 
--- so it is for each command that is issued
+-- the same for each command that is issued
 abbrev pub FisesAreTheirs : Driver → Port → Touches → Type 0
 FisesAreTheirs d port past =
     (n s : ℕ) (t : Transfer) (command : Command) → issued s (own n past) ≡ Some t
     → last_command port.commands s ≡ Some command → IsFisOf d n s t command
 
--- the command that was issued last in a slot has the slot's own table
+-- the command that was last issued in a slot has the slot's own table
 pub record HasItsTable (s : ℕ) (command : Command) : Type 0 where
   pub table : command.table ≡ table_of s
   pub few : command.count ≤ 248
 
--- ---- what is true of port, driver and memory after these touches
+-- ---- what holds for port, driver and memory after these touches
 
 pub record IsServed (d : Driver) (h : event.Host) (past : Touches) : Type 0 where
   pub told : AreHistoriesOf h past
@@ -150,9 +150,9 @@ pub record IsServed (d : Driver) (h : event.Host) (past : Touches) : Type 0 wher
 
 -- ---- the law
 
--- The events of turns run from port and memory before them to port and memory after them. Over them
--- the PRDs of a command stay while it is issued; where Data comes the reads that are issued are apart,
--- and what a client writes spares their places.
+-- The events of turns run from port and memory before them to port and memory after them. Over them the PRDs
+-- of a command stay while it is issued. Where Data comes the issued reads are apart, and what a client writes
+-- leaves their places alone.
 pub record RunServes (old new : Host) (turns : List HostTurn) (run : DoesAll old turns new)
     (past : Touches) : Type 0 where
   pub runs : Runs (shared_by old) (events_over old new turns run) (shared_by new)
@@ -164,7 +164,7 @@ pub record RunServes (old new : Host) (turns : List HostTurn) (run : DoesAll old
       (touches_after past (shared_by old) (shared_by new) (events_over old new turns run) runs)
 
 pub record TurnsServe : Type 0 where
-  -- nothing is issued at a port that opens
+  -- nothing is issued at a new port
   pub opens : (given len : ℕ) → is_memory_size len ≡ true
       → IsServed (new_driver given) (shared_by (opening_host given len)) []
   pub runs : (old new : Host) (turns : List HostTurn) (run : DoesAll old turns new)

@@ -23,30 +23,30 @@ use Rattle.hba_driver.specs.declared.sight.Sight.{Sight}
 unfoldable pub shown : Port → ℕ → ℕ
 shown port offset = result_unwrap_or (read_at port offset) 0
 
--- the last Register Device to Host FIS of a PM Port: at 40h of its row of the received area, which begins at
+-- the last Register Device to Host FIS of a PM Port: at 40h of its row of the received area, which is at
 -- 1000h
 abbrev pub last_d2h : List ℕ → ℕ → List ℕ
 last_d2h structure dev = take 20 (drop (4160 + 256 * dev) structure)
 
--- a register's value in the answer of the multiplier, or its signature as a number: Count 7:0, LBA 7:0, LBA
--- 15:8 and LBA 23:16, the first lowest
+-- a register's value in the answer of the multiplier, or its signature as a number; lowest byte first: Count
+-- 7:0, LBA 7:0, LBA 15:8 and LBA 23:16
 abbrev pub answer_in : Result Fis FisFault → ℕ
 answer_in (Ok (view.RegD2H f)) =
     field table.D2h table.Lba f % 2 ^ 24 * 256 + field table.D2h table.Count f % 2 ^ 8
 answer_in _ = 0
 
--- a signature, of an ATA device: LBA 23:8 is 0
+-- the signature of an ATA device: LBA 23:8 is 0
 abbrev pub is_ata : Result Fis FisFault → Bool
 is_ata (Ok (view.RegD2H f)) = is_signature f && (field table.D2h table.Lba f / 2 ^ 8 % 2 ^ 16 == 0)
 is_ata _ = false
 
--- the identify data in the driver's buffer, which begins the client area, are those of a device for queued
+-- the IDENTIFY data in the driver's buffer, at the start of the client area, is that of a device for queued
 -- commands: word 76 has bit 8, and word 75 says a queue of 32
 abbrev pub is_usable : List ℕ → Bool
 is_usable client = (slice_index client 153 % 2 == 1) && (slice_index client 150 % 32 == 31)
 
--- The NCQ Command Error log in that buffer: it is whole where its 512 bytes add up to 0 modulo 256. Byte 0
--- has NQ in bit 7 (the command that failed was not queued) and else its tag in bits 4:0; byte 2 is Status,
+-- The NCQ Command Error log in that buffer. It is whole if its 512 bytes add up to 0 modulo 256. Bit 7 of
+-- byte 0 is NQ: the command that failed was not queued. Otherwise bits 4:0 are its tag. Byte 2 is Status,
 -- byte 3 Error.
 abbrev pub log_in : List ℕ → ErrorLog
 log_in client = record {
@@ -91,7 +91,7 @@ px_sntf = 0x3C
 abbrev pub px_fbs : ℕ
 px_fbs = 0x40
 
--- PxIS.HBFS with PxFBS.SDE 0: a fault has stopped the port as a whole
+-- PxIS.HBFS with PxFBS.SDE 0: a fault has stopped the whole port
 abbrev pub is_stopped : (is fbs : ℕ) → Bool
 is_stopped is fbs = has_bit is 29 && not (has_bit fbs 2)
 
@@ -103,7 +103,7 @@ faulty_in fbs = if has_bit fbs 2 then Some (fbs / 2 ^ 16 % 16) else None
 abbrev pub file_in : (tfd : ℕ) → TaskFile
 file_in tfd = record { status = tfd % 256; error = tfd / 256 % 256 }
 
--- as the port shows it, of the device that PxFBS.DEV names
+-- the task file that the port shows, of the device in PxFBS.DEV
 abbrev pub file_shown : Port → TaskFile
 file_shown port = file_in (shown port px_tfd)
 

@@ -1,7 +1,6 @@
--- Slot 30 over turns of the host, while a device recovers from a fault (AHCI 1.3.1, 6.2.2, error
--- recovery, and 9.3, FIS-based Switching, on errors; Serial ATA 3.x, software reset; ACS-3, READ LOG
--- EXT): its fault is cleared, and then its error log is read, or it is reset. Meanwhile no request of
--- it waits or is issued.
+-- Slot 30 over turns of the host, while a device recovers from a fault (AHCI 1.3.1, 6.2.2, error recovery,
+-- and 9.3, FIS-based Switching, on errors; Serial ATA 3.x, software reset; ACS-3, READ LOG EXT). Its fault is
+-- cleared, and then its error log is read, or it is reset. Meanwhile no request of it waits or is issued.
 use Rattle.std.specs.Prelude.{ℕ, ◌≡◌, ◌≢◌, ◌<◌, ◌≤◌, ◌⊎◌, ◌&&◌, Bool, true, false, not, Option, Some, None}
 use Rattle.std.specs.Prelude.{List, is_some}
 use Rattle.fis_view.specs.Built.{IsBuilt, h2d_given}
@@ -46,9 +45,9 @@ use Rattle.hba_driver.specs.Steady.{IsFlushTick, detects}
 use Rattle.hba_driver.specs.Turns.{is_out, is_there}
 
 pub data Stage30 : Type 0 where
-  -- the device has a fault, which the driver has not cleared
+  -- the device has a fault that the driver has not cleared
   Faulty : Stage30
-  -- it was cleared
+  -- the fault was cleared
   Cleared : Stage30
   -- READ LOG EXT is issued, and has not gone out
   Asks : Stage30
@@ -67,7 +66,7 @@ abbrev pub is_faulty : Stage30 → Bool
 is_faulty Faulty = true
 is_faulty stage = false
 
--- a software reset of the device goes on
+-- a software reset of the device is under way
 abbrev pub is_resetting : Stage30 → Bool
 is_resetting On = true
 is_resetting Clears = true
@@ -81,7 +80,7 @@ fields30 n Sets = Some (control n 4)
 fields30 n Clears = Some (control n 0)
 fields30 n stage = None
 
--- the stage after it went out
+-- the stage after the command went out
 abbrev pub sent30 : Stage30 → Stage30
 sent30 Asks = LogSent
 sent30 Sets = On
@@ -93,7 +92,7 @@ sent30 stage = stage
 abbrev pub path_of : ℕ → Stage → Bool → Option Path
 path_of n stage asked = Some (record { dev = n; stage = stage; asked = asked })
 
--- the device recovers by its log, which slot 30 was given to read
+-- the device recovers by its log, and slot 30 is to read it
 pub record ReadsLog (n : ℕ) (plan : Plan) : Type 0 where
   pub file : TaskFile
   pub device : device_at plan n ≡ Recovering (Log file)
@@ -151,9 +150,9 @@ IsSlot30 n On port = IsFree30 n port
 IsSlot30 n Clears port = IsUnsent30 n (control n 0) port
 IsSlot30 n Off port = IsFree30 n port
 
--- ---- where a host is with a device
+-- ---- how far a host is with a device
 
--- once its fault is cleared: no data is set up, and no request of it waits or is issued
+-- after its fault is cleared: no data is set up, and no request of it waits or is issued
 pub record IsApart30 (n : ℕ) (stage : Stage30) (h : Host) : Type 0 where
   pub plan : IsPlan30 n stage h.driver.plan
   pub slot : IsSlot30 n stage h.port
@@ -162,7 +161,7 @@ pub record IsApart30 (n : ℕ) (stage : Stage30) (h : Host) : Type 0 where
   pub withdrawn : (s : ℕ) (e : Entry) → entry_at h.driver.entries s ≡ Some e → e.head.dev ≡ n
       → is_withdrawn e.head ≡ true
 
--- The port is open. The device may be looked for meanwhile: one that is found there recovers on.
+-- The port is open. The device may be looked for meanwhile; if it is found there, it goes on recovering.
 pub record IsAt30 (n : ℕ) (stage : Stage30) (h : Host) : Type 0 where
   pub opened : 7 ≤ h.driver.plan.opened
   pub fault : is_some (view_of n h.port).fault ≡ is_faulty stage
@@ -170,8 +169,7 @@ pub record IsAt30 (n : ℕ) (stage : Stage30) (h : Host) : Type 0 where
 
 -- ---- what a turn changes
 
--- No FIS of the device comes before its log is asked for, and while it is reset none but a
--- signature ends that.
+-- No FIS of the device comes before its log is asked for. While it is reset, only a signature ends that.
 abbrev pub MayCome30 : Stage30 → List ℕ → Type 0
 MayCome30 Asks frame = ⊥
 MayCome30 LogSent frame = ⊥
@@ -217,27 +215,27 @@ pub record Turns30 (n : ℕ) (stage : Stage30) (turn : HostTurn) (new : Host) : 
   pub at : IsAt30 n next new
   pub is : IsNext30 n stage turn next
 
--- what the port of a host keeps, beside that it goes on: no bit of PxSACT waits for its command
+-- what holds for the port of a host, besides that it goes on: no bit of PxSACT waits for its command
 pub record IsOn30 (past : Touches) (h : Host) : Type 0 where
   pub sound : IsSoundHost h
   pub served : IsServed h.driver (shared_by h) past
   pub going : GoesOn h
   pub unarmed : h.port.registers.armed ≡ 0
 
--- A tick that clears the fault has the device go by its log only where it was ready, and its Status
--- had ERR; the log is read with the task file that PxTFD shows then.
+-- A tick that clears the fault has the device recover by its log only if it was ready and its Status had ERR.
+-- The task file of the log is the one that PxTFD shows then.
 pub record IsLogged (n : ℕ) (old new : Host) (file : TaskFile) : Type 0 where
   pub ready : device_at old.driver.plan n ≡ Ready
   pub shown : file ≡ file_shown new.port
   pub failed : has_bit (view_of n old.port).state.status 0 ≡ true
 
--- a tick sees the answer of PSCR[0] of the device's port, by which none is there
+-- a tick sees the answer of PSCR[0] of the device's port, which says that no device is there
 pub record FindsNone (n : ℕ) (old : Host) : Type 0 where
   pub order : old.driver.plan.order ≡ Detect n
   pub came : (old.driver.plan.asked && not (is_out (sight_in old) old.driver.plan)) ≡ true
   pub none : is_there (sight_in old).answer ≡ false
 
--- Ticks lead from stage to stage, but for one that flushes the device and one that finds none there.
+-- Ticks lead from stage to stage, except one that flushes the device and one that finds none there.
 pub record TicksLead30 (n : ℕ) : Type 0 where
   pub turns : (past : Touches) (old : Host) (acted : Bool) (new : Host) (stage : Stage30) → n < 15
       → IsOn30 past old → Does old (Ticked acted) new → IsAt30 n stage old
@@ -247,9 +245,7 @@ pub record TicksLead30 (n : ℕ) : Type 0 where
       → (IsFlushTick n old → ⊥) → is_some (view_of n new.port).fault ≡ false
       → device_at new.driver.plan n ≡ Recovering (Log file) → IsLogged n old new file
 
--- At each stage but the first, nothing of the device is issued but for what slot 30 holds, and
--- nothing
--- queued.
+-- At each stage except the first, only what slot 30 holds is issued for the device, and nothing queued.
 pub record IsAlone30 (n : ℕ) : Type 0 where
   pub issues : (past : Touches) (h : Host) (stage : Stage30) → n < 15
       → IsServed h.driver (shared_by h) past → IsAt30 n stage h → is_faulty stage ≡ false
@@ -266,7 +262,7 @@ PushesOn30 n =
     → IsSoundHost old → IsServed old.driver (shared_by old) past → Does old (Pushed frame) new
     → IsAt30 n stage old → Turns30 n stage (Pushed frame) new
 
--- What comes from it is ignored while it has a fault, or is reset, and else leaves it there or is a
+-- What comes from it is ignored while it has a fault or is reset. Otherwise it leaves the stage or is a
 -- fault.
 pub record TakesLead30 (n : ℕ) : Type 0 where
   pub turns : (past : Touches) (old : Host) (frame : List ℕ) (report : TakeReport) (new : Host)
@@ -279,7 +275,7 @@ pub record TakesLead30 (n : ℕ) : Type 0 where
       → is_some (view_of n old.port).fault ≡ false → is_some (view_of n new.port).fault ≡ true
       → IsAt30 n Faulty new
 
--- Requests of other devices are taken meanwhile, and none of it.
+-- Meanwhile requests of other devices are taken, and none of it.
 pub record StaysOn30 (n : ℕ) : Type 0 where
   pub submitted : (old : Host) (dev : ℕ) (request : Request) (ticket : ℕ) (new : Host)
       (stage : Stage30) → Does old (Submitted dev request ticket) new → IsAt30 n stage old
@@ -289,7 +285,8 @@ pub record StaysOn30 (n : ℕ) : Type 0 where
   pub put : (old : Host) (at : ℕ) (bytes : List ℕ) (new : Host) (stage : Stage30)
       → Does old (Put at bytes) new → IsAt30 n stage old → IsAt30 n stage new
 
--- A device that is not being looked for is not until a tick flushes it. So no tick finds none there.
+-- A device that is not being looked for is not looked for until a tick flushes it. So no tick finds none
+-- there.
 abbrev pub IsUnsought : ℕ → Host → Type 0
 IsUnsought n h = detects n h.driver.plan.asked h.driver.plan.order ≡ false
 

@@ -1,7 +1,7 @@
--- Slot 31 over turns of the host: where it is with the control port of the multiplier (Serial ATA 3.x, 16.2:
--- READ PORT MULTIPLIER and WRITE PORT MULTIPLIER, software reset of the control port). An order is issued,
--- goes out and is answered before the next one is issued; of a software reset the two FISes have no answer
--- but the signature.
+-- Slot 31 over turns of the host: how far it is with the control port of the multiplier (Serial ATA 3.x,
+-- 16.2: READ PORT MULTIPLIER and WRITE PORT MULTIPLIER, software reset of the control port). An order is
+-- issued, goes out and is answered before the next one is issued. The two FISes of a software reset have no
+-- answer but the signature.
 use Rattle.std.specs.Prelude.{ℕ, ◌≡◌, ◌≢◌, ◌<◌, ◌⊎◌, ◌||◌, Bool, List, [], ◌∷◌, Ok, true, false, Some, None}
 use Rattle.std.specs.Prelude.{is_some}
 use Rattle.std.specs.List.{list_any}
@@ -31,7 +31,7 @@ use Rattle.hba_driver.specs.Orders.{control_port, order_fields}
 pub data Stage31 : Type 0 where
   -- no order is issued
   Rests : Stage31
-  -- one is, and has not gone out
+  -- an order is issued, and has not gone out
   Waits : Stage31
   -- SRST went out
   Resets : Stage31
@@ -41,10 +41,10 @@ pub data Stage31 : Type 0 where
   Asks : Stage31
   -- the answer came
   Told : Stage31
-  -- it came, and was an error
+  -- the answer came, and was an error
   Fails : Stage31
 
--- a software reset of the control port goes on
+-- a software reset of the control port is under way
 abbrev pub is_resetting : Stage31 → Bool
 is_resetting Rests = false
 is_resetting Waits = false
@@ -89,14 +89,14 @@ pub record IsUnsent (order : Order) (part : DevicePart) : Type 0 where
 abbrev pub IsFree31 : DevicePart → Type 0
 IsFree31 part = own_issue part.view.slots 31 ≡ None
 
--- its command went out, and was not answered
+-- the command of the order went out, and was not answered
 pub record IsSent (part : DevicePart) : Type 0 where
   pub issue : Issue
   pub issued : own_issue part.view.slots 31 ≡ Some issue
   pub sent : issue.sent ≡ true
   pub plain : (is_pio issue.work.kind || is_queued issue.work.kind) ≡ false
 
--- what the order, whether it is asked, and the control port are at each stage
+-- the order, whether it is asked, and the control port, at each stage
 abbrev pub IsIn : Stage31 → Order → Bool → DevicePart → Type 0
 IsIn Rests order asked part = (asked ≡ false) × (is_off order ≡ false)
 IsIn Waits order asked part = (asked ≡ true) × (is_off order ≡ false) × IsUnsent order part
@@ -109,8 +109,8 @@ IsIn Asks order asked part = (asked ≡ true) × (is_on order ≡ false) × IsSe
 IsIn Told order asked part = (asked ≡ true) × (is_on order ≡ false) × (IsFree31 part ⊎ IsSent part)
 IsIn Fails order asked part = Unit {0}
 
--- the control port of a host whose slot 31 is at this stage; nothing is wrong with it but where it failed,
--- and no data is set up
+-- the control port of a host whose slot 31 is at this stage; it has no fault unless the order failed, and no
+-- data is set up
 pub record IsAt31 (stage : Stage31) (h : Host) : Type 0 where
   pub fault : is_some (control_of h).view.fault ≡ has_failed stage
   pub context : (control_of h).view.slots.context ≡ None
@@ -133,13 +133,13 @@ is_quiet Asks = false
 is_quiet Told = true
 is_quiet Fails = true
 
--- and no command is issued that has not gone out
+-- no command is issued that has not gone out
 abbrev pub is_idle : Stage31 → Bool
 is_idle Rests = true
 is_idle Told = true
 is_idle stage = false
 
--- what is on its way stays, and slot 31 rests where nothing is
+-- what is on its way stays; if nothing is, slot 31 rests
 abbrev pub StaysOn : Stage31 → Stage31 → Type 0
 StaysOn old new = (new ≡ old) ⊎ ((is_idle old ≡ true) × (is_quiet new ≡ true))
 
@@ -161,7 +161,7 @@ pub record IsNotice31 (frame : List ℕ) : Type 0 where
   pub right : is_error (field Bits Status frame) ≡ false
   pub names : field Bits SActive frame ≡ 0
 
--- it comes at this stage
+-- what may come at this stage
 abbrev pub MayCome31 : Stage31 → List ℕ → Type 0
 MayCome31 Signs frame = IsNotice31 frame ⊎ IsSignature31 frame
 MayCome31 Asks frame = IsNotice31 frame ⊎ IsAnswer31 frame
@@ -171,8 +171,8 @@ MayCome31 stage frame = IsNotice31 frame
 abbrev pub TicksOn : Stage31 → Stage31 → Type 0
 TicksOn old new = StaysOn old new ⊎ ((old ≡ Fails) × (new ≡ Rests))
 
--- the stage after a frame to the control port: of the first FIS of a software reset, of a command, and of the
--- second FIS
+-- the stage after a frame to the control port: after the first FIS of a software reset, after a command, and
+-- after the second FIS
 abbrev pub Follows31 : Stage31 → Order → Stage31 → Type 0
 Follows31 stage order next =
     ((stage ≡ Waits) × (is_on order ≡ true) × (next ≡ Resets))
@@ -196,7 +196,7 @@ TakesOn stage frame next =
 abbrev pub orders_clear : ℕ → Host → Bool
 orders_clear n h = list_any (flushes n) (effects (sight_in h) h.driver)
 
--- an order is issued only where nothing of the control port is on its way, and no command is issued that has
+-- an order is issued only while nothing of the control port is on its way and no command is issued that has
 -- not gone out
 pub record Ticks31 (stage : Stage31) (old : Host) (new : Host) (next : Stage31) : Type 0 where
   pub stays : TicksOn stage next
@@ -219,14 +219,14 @@ abbrev pub MayBe31 : Stage31 → HostTurn → Type 0
 MayBe31 stage (Took frame report) = port_of frame ≡ control_port → MayCome31 stage frame
 MayBe31 stage turn = Unit {0}
 
--- the command of the order is issued, and not answered
+-- the command of the order is issued and not answered
 abbrev pub is_pending : Stage31 → Bool
 is_pending Waits = true
 is_pending Asks = true
 is_pending stage = false
 
--- An order whose command is issued stands until the answer came. Only a tick makes a command wait, and
--- it flushes the device of a port that the command clears.
+-- An order whose command is issued stays until its answer came. Only a tick makes a command wait, and the
+-- tick flushes the device of a port that the command clears.
 abbrev pub Stands31 : (stage : Stage31) (old : Host) (turn : HostTurn) (new : Host) (next : Stage31)
     → Type 0
 Stands31 stage old (Took frame report) new next = next ≡ Waits → stage ≡ Waits
@@ -252,7 +252,7 @@ Comes31 stage old [] new run = Unit {0}
 Comes31 stage old (turn ∷ turns) new run =
     MayBe31 stage turn → (t : Turns31 stage old turn run.0) × Comes31 t.next run.0 turns new run.2
 
--- Slot 31 rests as the host opens, and goes from stage to stage with each turn from there on, as long as the
+-- Slot 31 rests when the host opens. From there it goes from stage to stage with each turn, as long as the
 -- control port sends what may come.
 abbrev pub OrdersTakeTurns : Type 0
 OrdersTakeTurns =

@@ -1,7 +1,7 @@
--- What the driver keeps of a device of which nothing failed since its flush: how far it came with
--- it, which of its requests may be open together, and what a tick is to it that does not flush it
--- and ends no fault of it (AHCI 1.3.1, 5.5, how commands are issued, and chapter 9, FIS-based Switching;
--- ACS-3, IDENTIFY DEVICE, FLUSH CACHE EXT and queued commands; Serial ATA 3.x, 10.5.6, signatures).
+-- What holds in the driver for a device with which nothing has failed since its flush: how far the driver is
+-- with it, which of its requests may be open together, and what a tick does that does not flush it and ends
+-- no fault of it (AHCI 1.3.1, 5.5, how commands are issued, and chapter 9, FIS-based Switching; ACS-3,
+-- IDENTIFY DEVICE, FLUSH CACHE EXT and queued commands; Serial ATA 3.x, 10.5.6, signatures).
 use Rattle.std.specs.Prelude.{ℕ, ◌≡◌, ◌≢◌, ◌^◌, ◌<◌, ◌⊎◌, ◌==◌, ◌&&◌, Bool, true, false}
 use Rattle.std.specs.Prelude.{List, [], ◌∷◌, Option, Some, None, Ok, is_some}
 use Rattle.fis_view.specs.Seen.{seen}
@@ -34,19 +34,19 @@ use Rattle.hba_driver.specs.Ticks.{due}
 
 -- ---- the plan
 
--- the device recovers from nothing
+-- the device does not recover
 abbrev pub IsFine : Device → Type 0
 IsFine (Recovering way) = ⊥
 IsFine device = Unit {0}
 
--- a device is about to be looked for at this port, after its flush
+-- the driver is about to look for a device at this port, after its flush
 abbrev pub detects : ℕ → (asked : Bool) → Order → Bool
 detects n asked (Detect port) = port == n
 detects n asked (Clear port) = asked && (port == n)
 detects n asked order = false
 
--- The device recovers from nothing; slot 30 works on it only to identify it while it starts; and it
--- is looked for only while it is taken to be absent.
+-- The device does not recover. Slot 30 works on it only to identify it while it starts. It is looked for only
+-- while it is taken to be absent.
 pub record IsSteadyPlan (n : ℕ) (plan : Plan) : Type 0 where
   pub fine : IsFine (device_at plan n)
   pub path : (p : Path) → plan.path ≡ Some p → p.dev ≡ n
@@ -97,12 +97,12 @@ IsFlushTick n old = due (sight_in old) old.driver ≡ Some (act.Orders (Clear n)
 abbrev pub IsClearTick : ℕ → Host → Type 0
 IsClearTick n old = due (sight_in old) old.driver ≡ Some (act.Clears n)
 
--- a turn is none of the driver's, or calm for the device
+-- a turn is not a tick, or is calm for the device
 abbrev pub IsSteadyTurn : ℕ → Host → HostTurn → Type 0
 IsSteadyTurn n old (Ticked acted) = IsCalmTick n old
 IsSteadyTurn n old turn = Unit {0}
 
--- the row of the device in the received area shows the signature of a disk
+-- the device's row of the received area shows the signature of a disk
 abbrev pub HasSignature : ℕ → Host → Type 0
 HasSignature n h = is_ata (seen (last_d2h h.memory.structure n)) ≡ true
 
@@ -122,7 +122,7 @@ WritesBeside n host Ci value = n ≢ host.port.registers.chosen
 WritesBeside n host Fbs value = cleared_by host.port.errors value ≢ Some n
 WritesBeside n host register value = Unit {0}
 
--- the event is none of the device's; and no frame comes or goes
+-- the event does not concern the device, and no frame comes or goes
 abbrev pub IsBeside : ℕ → event.Host → HostEvent → Type 0
 IsBeside n host (event.Took frame report) = ⊥
 IsBeside n host (event.Wrote register value) = WritesBeside n host register value
@@ -132,14 +132,14 @@ IsBeside n host (event.Stored structure) = Unit {0}
 IsBeside n host (event.Rewrote dev row) = Unit {0}
 IsBeside n host (event.Put at bytes) = Unit {0}
 
--- the event issues what stands in this slot for the device
+-- the event issues the command in this slot for the device
 pub record Issues (n slot : ℕ) (host : event.Host) (e : HostEvent) : Type 0 where
   pub is : e ≡ event.Wrote Ci (2 ^ slot)
   pub below : slot < 32
   pub for_dev : host.port.registers.chosen ≡ n
   pub command : is_some (asked host.port.registers host.memory (2 ^ slot) slot) ≡ true
 
--- so it is with each of them
+-- the same for each of these events
 abbrev pub AreBeside : (n slot : ℕ) → (old new : event.Host) → (events : List HostEvent)
     → Runs old events new → Type 0
 AreBeside n slot old new [] run = Unit {0}
@@ -158,10 +158,10 @@ abbrev pub slot_in : Host → ℕ
 slot_in old = slot_of (due (sight_in old) old.driver)
 
 pub record TurnsAreSteady (n : ℕ) : Type 0 where
-  -- as it opens
+  -- when the driver opens
   pub opens : (given : ℕ)
       → IsSteady n (new_driver given) × (IsAskedOf n (new_driver given).plan → ⊥)
-  -- after its flush
+  -- after the device's flush
   pub flushed : (old : Host) (acted : Bool) (new : Host) → Does old (Ticked acted) new
       → IsFlushTick n old → IsSteady n new.driver × (IsAskedOf n new.driver.plan → ⊥)
   pub stays : (old : Host) (turn : HostTurn) (new : Host) → Does old turn new
@@ -170,7 +170,7 @@ pub record TurnsAreSteady (n : ℕ) : Type 0 where
   pub asks : (old : Host) (turn : HostTurn) (new : Host) → Does old turn new
       → IsSteadyTurn n old turn → IsSteady n old.driver → IsAskedOf n new.driver.plan
       → IsAskedOf n old.driver.plan ⊎ HasSignature n old
-  -- its row of the received area is empty as the host opens and after its flush, and stays
+  -- its row of the received area is empty when the host opens and after its flush, and stays empty
   pub opens_row : (given len : ℕ) → n < 16 → HasSignature n (opening_host given len) → ⊥
   pub flushed_row : (old : Host) (acted : Bool) (new : Host) → n < 16
       → Does old (Ticked acted) new → IsSoundHost old → IsFlushTick n old → HasSignature n new → ⊥

@@ -20,7 +20,7 @@ use Rattle.hba_driver.specs.Requests.{blocks, device_refusal, lowest_free, room_
 
 -- ---- submit
 
--- a request of the device stands against it
+-- a request of the device prevents this one
 abbrev pub is_blocked : Driver → ℕ → Request → Bool
 is_blocked d dev request = list_any (holds (blocks dev request.work)) d.entries
 
@@ -56,14 +56,14 @@ new_head ticket dev request = record {
 abbrev pub new_entry : (ticket dev : ℕ) → Request → Entry
 new_entry ticket dev request = record { head = new_head ticket dev request; prds = request.prds.items }
 
--- the driver that has taken it, under the next ticket
+-- the driver after it has taken the request under the next ticket
 abbrev pub after_submit : Driver → ℕ → Request → Driver
 after_submit d dev request = record d {
   given = d.given + 1;
   entries = slice_set d.entries (next_slot d) (Some (new_entry (d.given + 1) dev request));
 }
 
--- A request is taken: it waits in the lowest free slot, and its command stands there.
+-- A request is taken: it waits in the lowest free slot, and its command is written there.
 pub record Takes (old : Driver) (before : Memory) (dev : ℕ) (request : Request) (ticket : ℕ) (new : Driver)
     (after : Memory) : Type 0 where
   pub next : ticket ≡ old.given + 1
@@ -93,7 +93,7 @@ unfoldable pub completion_of : Driver → Option Completion
 completion_of d =
     match_some (lowest_ended d.entries) None (λ slot. completion_at slot (entry_at d.entries slot))
 
--- and what it leaves: the slot is free
+-- what a poll leaves: the slot is free
 unfoldable pub after_poll : Driver → Driver
 after_poll d =
     match_some (lowest_ended d.entries) d (λ slot. record d { entries = slice_set d.entries slot None })

@@ -1,9 +1,9 @@
--- What the driver keeps of a device while its port and the disk are together: from its flush on,
--- and again from where both began anew after an error, with the log of that or with a software
--- reset (AHCI 1.3.1, 5.5, how commands are issued, and 6.2.2, error recovery; ACS-3, READ LOG EXT,
--- IDENTIFY DEVICE and FLUSH CACHE EXT; Serial ATA 3.x, 10.5.6, signatures, and software reset).
+-- What holds in the driver for a device while the device's port and the disk are together: from its flush on,
+-- and again after an error from where both began anew, with the log or with a software reset (AHCI 1.3.1,
+-- 5.5, how commands are issued, and 6.2.2, error recovery; ACS-3, READ LOG EXT, IDENTIFY DEVICE and FLUSH
+-- CACHE EXT; Serial ATA 3.x, 10.5.6, signatures, and software reset).
 --
--- Cited: a device of which nothing failed since its flush, and which ticks are calm for one
+-- Cited: a device with which nothing has failed since its flush, and the ticks that are calm for one
 -- (specs/Steady.antt).
 use Rattle.std.specs.Prelude.{ℕ, ◌≡◌, ◌≢◌, ◌<◌, ◌⊎◌, ◌||◌, Bool, true, false, List}
 use Rattle.std.specs.Prelude.{None, Option, Some}
@@ -51,7 +51,7 @@ IsAsking AssertReset = ⊥
 IsAsking ReleaseReset = ⊥
 IsAsking AwaitReset = ⊥
 
--- SRST is cleared, or was, and the signature is awaited
+-- SRST is or was cleared, and the signature is awaited
 abbrev pub IsReleasing : Stage → Type 0
 IsReleasing Identify = ⊥
 IsReleasing (ReadLog file) = ⊥
@@ -59,7 +59,7 @@ IsReleasing AssertReset = ⊥
 IsReleasing ReleaseReset = Unit {0}
 IsReleasing AwaitReset = Unit {0}
 
--- both began anew as the command of the stage reached the disk: it went out
+-- both began anew when the command of the stage reached the disk: it went out
 abbrev pub IsBegun : Stage → Type 0
 IsBegun Identify = ⊥
 IsBegun (ReadLog file) = Unit {0}
@@ -69,28 +69,28 @@ IsBegun AwaitReset = Unit {0}
 
 -- ---- the plan
 
--- how slot 30 and what is known of the device stand
+-- the state of slot 30 and of what is known of the device
 pub data IsTendedBy (n : ℕ) (plan : Plan) : Type 0 where
-  -- the device recovers from nothing, and slot 30 works on it only to identify it while it starts
+  -- the device does not recover, and slot 30 works on it only to identify it while it starts
   Fine : IsFine (device_at plan n)
       → ((p : Path) → plan.path ≡ Some p → p.dev ≡ n
       → (p.stage ≡ Identify) × ((p.asked ≡ true) × (device_at plan n ≡ Starting)))
       → IsTendedBy n plan
-  -- it is reset, and SRST was cleared
+  -- the device is reset, and SRST was cleared
   Releases : device_at plan n ≡ Recovering Reset → WorksOn n ReleaseReset true plan
       → IsTendedBy n plan
   Awaits : device_at plan n ≡ Recovering Reset → WorksOn n AwaitReset false plan
       → IsTendedBy n plan
-  -- it signed after its reset, and is identified
+  -- the device signed after its reset, and is identified
   Identifies : device_at plan n ≡ Recovering Reset → WorksOn n Identify true plan
       → IsTendedBy n plan
   -- its log is read
   Logs : (before file : TaskFile) → device_at plan n ≡ Recovering (Log before)
       → WorksOn n (ReadLog file) true plan → IsTendedBy n plan
-  -- its log was not whole, so it is to be reset
+  -- its log was not whole, so the device is to be reset
   Spoilt : device_at plan n ≡ Recovering Reset → IsUnworked n plan → IsTendedBy n plan
 
--- and it is looked for only while it is taken to be absent
+-- the device is looked for only while it is taken to be absent
 pub record IsTendedPlan (n : ℕ) (plan : Plan) : Type 0 where
   pub way : IsTendedBy n plan
   pub order : detects n plan.asked plan.order ≡ true
@@ -142,26 +142,26 @@ abbrev pub IsSteplessTurn : Host → HostTurn → Type 0
 IsSteplessTurn old (Ticked acted) = IsStepless (due (sight_in old) old.driver)
 IsSteplessTurn old turn = Unit {0}
 
--- the port has the device in no software reset
+-- the port does not have the device in software reset
 abbrev pub IsUnreset : ℕ → Host → Type 0
 IsUnreset n h = (view_of n h.port).state.resetting ≡ false
 
--- What a turn leaves of the driver's side of a device.
+-- What a turn leaves on the driver's side of a device.
 pub record TendsOn (n : ℕ) (old : Host) (turn : HostTurn) (new : Host) : Type 0 where
-  -- it is tended further, or its reset is issued
+  -- it is still tended, or its reset is issued
   pub next : IsTended n new.driver ⊎ (IsResetTurn n old turn × IsBeingReset n new.driver)
   pub ready : device_at old.driver.plan n ≡ Ready → device_at new.driver.plan n ≡ Ready
-  -- it is asked for something only if it was before, or its signature came
+  -- it is asked for something only if it was before, or if its signature came
   pub asks : IsAskedOn n new.driver.plan → IsAskedOn n old.driver.plan
       ⊎ ((IsFine (device_at old.driver.plan n) × HasSignature n old)
       ⊎ (IsAtStage n IsReleasing old.driver.plan × IsUnreset n old))
-  -- it recovers from nothing only if it did not before, or was asked for something
+  -- if it does not recover now, it did not before, or it was asked for something
   pub well : IsFine (device_at new.driver.plan n)
       → IsFine (device_at old.driver.plan n) ⊎ IsAskedOn n old.driver.plan
-  -- what both began anew with was out before, and slot 30 issues nothing
+  -- if both began anew, the command for it was out before, and slot 30 issues nothing
   pub begun : IsAtStage n IsBegun new.driver.plan
       → IsAtStage n IsBegun old.driver.plan × IsSteplessTurn old turn
-  -- its signature is awaited only if it was, and as long as it is in reset
+  -- its signature is awaited only if it was before, and as long as it is in reset
   pub releasing : IsAtStage n IsReleasing new.driver.plan
       → IsAtStage n IsReleasing old.driver.plan
   pub awaiting : IsAtStage n IsReleasing old.driver.plan
@@ -170,17 +170,17 @@ pub record TendsOn (n : ℕ) (old : Host) (turn : HostTurn) (new : Host) : Type 
 -- ---- the law
 
 pub record TurnsTend (n : ℕ) : Type 0 where
-  -- so it is of a device of which nothing failed since its flush
+  -- a device with which nothing has failed since its flush is tended
   pub steady : (d : Driver) → IsSteady n d → IsTended n d
-  -- as it opens, and after its flush
+  -- when the driver opens, and after the device's flush
   pub opens : (given : ℕ)
       → IsTended n (new_driver given) × (IsAskedOn n (new_driver given).plan → ⊥)
   pub flushed : (old : Host) (acted : Bool) (new : Host) → Does old (Ticked acted) new
       → IsFlushTick n old → IsTended n new.driver × (IsAskedOn n new.driver.plan → ⊥)
-  -- it is in no software reset after its flush
+  -- it is not in software reset after its flush
   pub unreset : (old : Host) (acted : Bool) (new : Host) → n < 16 → Does old (Ticked acted) new
       → IsFlushTick n old → IsUnreset n new
-  -- where its software reset is issued, what slot 30 held before is over
+  -- when its software reset is issued, what slot 30 held before is over
   pub over : (old : Host) (acted : Bool) (p : Path) → IsSoundHost old
       → IsResetTurn n old (Ticked acted) → old.driver.plan.path ≡ Some p → p.asked ≡ true
       → issue_at old.port.slots 30 ≡ None

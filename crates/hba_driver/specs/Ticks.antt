@@ -40,23 +40,23 @@ use Rattle.hba_driver.specs.Turns.{turn_of}
 abbrev pub is_done : (issued : ℕ) → ℕ → Head → Bool
 is_done issued slot head = is_issued head && not (has_bit issued slot)
 
--- that have not ended
+-- not ended
 abbrev pub is_open : ℕ → Head → Bool
 is_open slot head = not (has_ended head)
 
--- of a device
+-- not ended, and of a device
 abbrev pub is_open_of : (dev : ℕ) → ℕ → Head → Bool
 is_open_of dev slot head = (head.dev == dev) && not (has_ended head)
 
--- that were set aside
+-- set aside, and of a device
 abbrev pub is_aside_of : (dev : ℕ) → ℕ → Head → Bool
 is_aside_of dev slot head = (head.dev == dev) && is_aside head
 
--- a log names the request with its tag, or, where no queued command failed, a Flush
+-- a log names the request by its tag or, if no queued command failed, as a Flush
 abbrev pub is_named : ErrorLog → ℕ → Head → Bool
 is_named log slot head = if log.unqueued then is_flush head.work else slot == log.tag
 
--- the one among those of its device that were set aside
+-- the one that it names among those of its device that were set aside
 abbrev pub is_named_of : ErrorLog → (dev : ℕ) → ℕ → Head → Bool
 is_named_of log dev slot head = is_aside_of dev slot head && is_named log slot head
 
@@ -76,7 +76,7 @@ unfoldable pub any_done : (issued : ℕ) → List (Option Entry) → Bool
 any_done issued entries =
     is_some (lowest_below (λ slot. holds (is_done issued slot) (entry_at entries slot)) 30)
 
--- how the request ends that a log names: with the log's Status and Error, or with those of the device after
+-- how a request ends that the log names: with the log's Status and Error, or with those of the device after
 -- its fault
 abbrev pub log_outcome : ErrorLog → TaskFile → Outcome
 log_outcome log file =
@@ -94,7 +94,7 @@ logged_ended log (Some l) entries = log_ended log l entries
 
 -- ---- what an act leaves of the plan
 
--- slot 30 works on this device no longer
+-- slot 30 no longer works on this device
 abbrev pub unless : (dev : ℕ) → Option Path → Option Path
 unless dev None = None
 unless dev (Some path) = if path.dev == dev then None else Some path
@@ -106,7 +106,7 @@ abbrev pub ordered : Order → Plan → Plan
 ordered (Clear port) plan = record (plan_without port plan) { asked = true }
 ordered order plan = record plan { asked = true }
 
--- slot 31 begins with the software reset of the multiplier, whatever it was at
+-- slot 31 begins with the software reset of the multiplier, whatever it did before
 abbrev pub from_reset : Plan → Plan
 from_reset plan = record plan { order = ResetOn; asked = false }
 
@@ -118,7 +118,7 @@ stopped_plan plan = record (from_reset plan) {
   devices = map reset_if_there plan.devices;
 }
 
--- the device that had a fault recovers, and slot 30 works on it no longer
+-- the device that had a fault recovers, and slot 30 no longer works on it
 abbrev pub recovering : (dev : ℕ) → TaskFile → Plan → Plan
 recovering dev file plan =
     record (with_device dev (Recovering (recovery (device_at plan dev) file)) plan)
@@ -127,7 +127,7 @@ recovering dev file plan =
 abbrev pub cleared_plan : (dev : ℕ) → TaskFile → Plan → Plan
 cleared_plan dev file plan = if nat_lt dev control_port then recovering dev file plan else from_reset plan
 
--- the file is the task file that PxTFD shows once the act was done
+-- file is the task file that PxTFD shows after the act
 unfoldable pub plan_after : Act → TaskFile → Plan → Plan
 plan_after (act.Opens k) file plan = record plan { opened = k + 1 }
 plan_after act.Stops file plan = stopped_plan plan
@@ -138,14 +138,14 @@ plan_after (act.Steps dev stage) file plan =
     record plan { path = Some (record { dev = dev; stage = stage; asked = true }) }
 plan_after (act.Issues slot dev queued) file plan = plan
 
--- ---- and of the requests
+-- ---- what an act leaves of the requests
 
--- those of a port that a scan found are removed
+-- the requests of a port that a scan found are removed
 abbrev pub removed : Order → List (Option Entry) → List (Option Entry)
 removed (Clear port) entries = rephase_all (is_open_of port) (Ended Removed) entries
 removed order entries = entries
 
--- as a device is reset, those that were set aside are aborted
+-- when a device is reset, its requests that were set aside are aborted
 abbrev pub stage_ended : ℕ → Stage → List (Option Entry) → List (Option Entry)
 stage_ended dev AssertReset entries = rephase_all (is_aside_of dev) (Ended Aborted) entries
 stage_ended dev stage entries = entries
@@ -166,11 +166,11 @@ acted (Some a) file d = record d { plan = plan_after a file d.plan; entries = en
 
 -- ---- the tick
 
--- what is due once the requests that are done have ended
+-- what is due after the requests that are done have ended
 abbrev pub turn : Sight → Driver → Turn
 turn v d = turn_of v d.plan (done_ended v.issued d.entries)
 
--- the driver that has looked at all that came
+-- the driver after it has looked at all that came
 abbrev pub seen : Sight → Driver → Driver
 seen v d = record d {
   plan = (turn v d).plan;
@@ -180,8 +180,8 @@ seen v d = record d {
 abbrev pub due : Sight → Driver → Option Act
 due v d = (turn v d).act
 
--- of the task file that PxTFD shows after its effects the driver looks at Status and Error where a fault was
--- cleared
+-- when a fault was cleared, the driver looks at Status and Error of the task file that PxTFD shows after the
+-- effects
 unfoldable pub after_tick : Sight → TaskFile → Driver → Driver
 after_tick v file d = acted (turn v d).act file (seen v d)
 

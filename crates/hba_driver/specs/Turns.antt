@@ -1,7 +1,7 @@
--- What is due: a function of what is known and of what a tick sees. The driver's list, from the first item to
--- the last: open the port, start it again after a fault, clear the fault of a device, bring up the multiplier
--- and watch it by slot 31, identify a device or recover it by slot 30, issue a request (AHCI 1.3.1, 5.5,
--- 6.2.2, error recovery, and 9.3, FIS-based Switching, on errors).
+-- What is due, as a function of what is known and of what a tick sees. The driver's list, first item first:
+-- open the port, start it again after a fault, clear the fault of a device, bring up the multiplier and watch
+-- it by slot 31, identify a device or recover it by slot 30, issue a request (AHCI 1.3.1, 5.5, 6.2.2, error
+-- recovery, and 9.3, FIS-based Switching, on errors).
 use Rattle.std.specs.Prelude.{ℕ, ◌%◌, ◌<◌, ◌==◌, ◌&&◌, ◌||◌, Bool, true, false, not, nat_lt, if◌then◌else◌}
 use Rattle.std.specs.Prelude.{List, slice_index_or, Option, Some, None, is_some}
 use Rattle.std.specs.Option.{option_map, option_or}
@@ -31,13 +31,14 @@ use Rattle.hba_driver.specs.Paths.{first_stage, next_stage, stage_fields}
 abbrev pub is_there : ℕ → Bool
 is_there status = status % 16 == 3
 
--- What is known of a device that is there: it starts, and is to send its signature. One that recovers from a
--- fault is reset, or its log is read; its signature may have come before that, and does not come again.
+-- What is known of a device that is there: it starts, and is to send its signature. A device that recovers
+-- from a fault is reset, or its log is read; its signature may have come before that, and does not come
+-- again.
 abbrev pub found_there : Device → Device
 found_there (Recovering way) = Recovering way
 found_there device = Starting
 
--- so it is after the answer of PSCR[0] of its port, SStatus
+-- what is known after the answer of PSCR[0] of its port, SStatus
 abbrev pub detected : ℕ → Device → Device
 detected status device = if is_there status then found_there device else Absent
 
@@ -60,8 +61,8 @@ abbrev pub answered : Sight → Plan → Plan
 answered v plan =
     if plan.asked && not (is_out v plan) then with_next plan.order (noted v plan.order plan) else plan
 
--- The software reset of the multiplier ends with its signature, which then stands in its own row of the
--- received area, as an answer does; after another one it is reset again.
+-- The software reset of the multiplier ends with its signature, which is then in its own row of the received
+-- area, as an answer is. After another signature the multiplier is reset again.
 abbrev pub signed_order : Sight → Order
 signed_order v =
     if v.resetting then AwaitSignature else if v.answer == 0x96690101 then CountPorts else ResetOn
@@ -89,7 +90,7 @@ control_news v plan = if plan.asked then not (is_out v plan) else awaits plan.or
 
 -- ---- slot 30: a device
 
--- the identify data of a device came, or its log: one that is not whole leads to a reset
+-- the IDENTIFY data of a device came, or its log; a log that is not whole leads to a reset
 unfoldable pub found_of : Sight → Stage → ℕ → Plan → Plan
 found_of v Identify dev plan = with_device dev (if v.usable then Ready else Unusable) plan
 found_of v (ReadLog file) dev plan = with_device dev (if v.log.whole then Ready else Recovering Reset) plan
@@ -99,12 +100,12 @@ found_of v stage dev plan = plan
 abbrev pub path_to : ℕ → Option Stage → Option Path
 path_to dev stage = option_map (λ s. record { dev = dev; stage = s; asked = false }) stage
 
--- the command of a path's stage is over: what came of it is noted, and the path goes on, or ends
+-- the command of a path's stage is over: what came of it is noted, and the path goes on or ends
 abbrev pub advanced : Sight → Path → Plan → Plan
 advanced v path plan =
     record (found_of v path.stage path.dev plan) { path = path_to path.dev (next_stage path.stage) }
 
--- its command was issued, and is not out any more
+-- its command was issued, and is back
 abbrev pub is_back : Sight → Path → Bool
 is_back v path = path.asked && not (has_bit v.issued 30)
 
@@ -112,11 +113,11 @@ abbrev pub path_answered : Sight → Plan → Plan
 path_answered v plan =
     match_some plan.path plan (λ path. if is_back v path then advanced v path plan else plan)
 
--- a software reset of the device goes on
+-- a software reset of the device is under way
 abbrev pub is_in_reset : Sight → ℕ → Bool
 is_in_reset v dev = slice_index_or v.in_reset dev false
 
--- the end of a reset is awaited: once it came the device is identified
+-- the end of a reset is awaited; once it came, the device is identified
 unfoldable pub met_stage : Sight → ℕ → Stage → Stage
 met_stage v dev AwaitReset = if is_in_reset v dev then AwaitReset else Identify
 met_stage v dev stage = stage
@@ -142,7 +143,7 @@ path_news v path =
 abbrev pub device_news : Sight → Plan → Bool
 device_news v plan = match_some plan.path false (path_news v)
 
--- the device whose log came and is whole, with the task file after its fault
+-- the device whose log came and is whole, with its task file after the fault
 unfoldable pub logged_by : Sight → ℕ → Stage → Option Logged
 logged_by v dev (ReadLog file) = if v.log.whole then Some (record { dev = dev; file = file }) else None
 logged_by v dev stage = None
@@ -157,7 +158,7 @@ device_logged v plan =
 abbrev pub opening_due : Plan → Option Act
 opening_due plan = if nat_lt plan.opened 7 then Some (act.Opens plan.opened) else None
 
--- the next of the two writes that start it again after a fault
+-- the next of the two writes that start the port again after a fault
 abbrev pub restart_due : Plan → Option Act
 restart_due plan = if nat_lt plan.restarted 2 then Some (act.Restarts plan.restarted) else None
 
@@ -165,7 +166,7 @@ restart_due plan = if nat_lt plan.restarted 2 then Some (act.Restarts plan.resta
 abbrev pub fault_due : Sight → Option Act
 fault_due v = if v.stopped then Some act.Stops else option_map act.Clears v.faulty
 
--- these come before all else
+-- these come before everything else
 unfoldable pub early_due : Sight → Plan → Option Act
 early_due v plan = option_or (opening_due plan) (option_or (restart_due plan) (fault_due v))
 
@@ -178,15 +179,15 @@ order_due plan =
 abbrev pub stage_for : Sight → Plan → ℕ → Option Stage
 stage_for v plan dev = first_stage (device_at plan dev) (slice_index_or v.signed dev false)
 
--- the command of a stage, where it has one
+-- the command of a stage, if it has one
 abbrev pub step_of : ℕ → Stage → Option Act
 step_of dev stage = option_map (λ fields. act.Steps dev stage) (stage_fields dev stage)
 
--- the path that has slot 30 holds it to its end
+-- a path that has slot 30 keeps it to its end
 abbrev pub path_due : Path → Option Act
 path_due path = if path.asked then None else step_of path.dev path.stage
 
--- where none has, the lowest device for which something is due gets it
+-- if no path has slot 30, the lowest device for which something is due gets it
 abbrev pub is_due : Sight → Plan → ℕ → Bool
 is_due v plan dev = is_some (stage_for v plan dev)
 
@@ -205,7 +206,7 @@ is_ready _ = false
 abbrev pub may_issue : Plan → Option Entry → Bool
 may_issue plan entry = holds (λ head. waits head && is_ready (device_at plan head.dev)) entry
 
--- the command of what stands in a slot is issued
+-- the command in a slot is issued
 abbrev pub issue_of : ℕ → Option Entry → Option Act
 issue_of slot None = None
 issue_of slot (Some entry) = Some (act.Issues slot entry.head.dev (is_queued entry.head.work))
@@ -216,7 +217,7 @@ request_due plan entries =
     match_some (lowest_below (λ slot. may_issue plan (entry_at entries slot)) 30) None
     (λ slot. issue_of slot (entry_at entries slot))
 
--- an act is to a device and a slot that are there
+-- an act is to a device and a slot that exist
 abbrev pub IsAct : Act → Type 0
 IsAct (act.Opens k) = k < 7
 IsAct act.Stops = Unit {0}
@@ -228,7 +229,7 @@ IsAct (act.Issues slot dev queued) = slot < 30
 
 -- ---- the turn: what is known then, the first act that is due, whether an answer came, and whose log it was
 
--- slot 30 and the requests, where slot 31 has nothing to issue
+-- slot 30 and the requests, if slot 31 has nothing to issue
 abbrev pub device_turn : Sight → Bool → Plan → List (Option Entry) → Turn
 device_turn v news plan entries = record {
   plan = device_seen v plan;

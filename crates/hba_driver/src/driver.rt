@@ -28,7 +28,7 @@ use hba_fbs::HostPort;
 use host_memory::{CLIENT_START, HostMemory, have_overlap};
 use std::marker::Model;
 
-/// How many bytes the driver's own buffer has. It begins the client area.
+/// The size of the driver's own buffer in bytes. It is the start of the client area.
 const BUFFER_LEN: u32 = 0x200;
 
 /// A driver.
@@ -51,14 +51,14 @@ impl Model for Driver {
 }
 
 impl Driver {
-    /// A driver that has done nothing yet, whose first ticket is 1.
+    /// A driver that has done nothing yet. Its first ticket is 1.
     pub fn new() -> Driver
         ensures { result ≡ new_driver 0 }
     {
         Driver::with_next_ticket(1)
     }
 
-    /// The same, but that its first ticket is this one, or 1 for 0.
+    /// A driver that has done nothing yet. Its first ticket is `ticket`, or 1 for 0.
     pub fn with_next_ticket(ticket: u32) -> Driver
         ensures { result ≡ new_driver (ticket - 1) }
     {
@@ -69,14 +69,14 @@ impl Driver {
         }
     }
 
-    /// What is true of every driver. It does nothing when it runs.
+    /// The rules that hold for every driver. The call has no effect.
     pub fn keeps_rules(&self)
         ensures { IsSound self.now }
     {
         let _ = &self.plan;
     }
 
-    // What an act leaves of it, after which PxTFD shows this task file.
+    // What an act leaves of the driver; PxTFD shows this task file after it.
     fn act(&mut self, act: Act, file: TaskFile)
         requires { IsAct act }
         ensures { self.new ≡ acted_of (Some act) file self.old }
@@ -85,7 +85,7 @@ impl Driver {
         apply(&mut self.slots, act);
     }
 
-    // So does what is due, if something is.
+    // The same for what is due, if something is.
     fn advance(&mut self, act: Option<Act>, file: TaskFile)
         requires { IfSome act IsAct }
         ensures { self.new ≡ acted_of act file self.old }
@@ -95,7 +95,7 @@ impl Driver {
         }
     }
 
-    // It looks at all that came: what it is to do to port and memory, and whether it acts.
+    // Looks at all that came. Answers what is due to port and memory, and whether something is due or came.
     #[tactic(auto, unfolding(crate::specs::Ticks::acts))]
     fn look(&mut self, sight: Sight) -> (Option<Act>, bool)
         ensures driver { self.new ≡ seen sight self.old }
@@ -112,8 +112,8 @@ impl Driver {
         (turn.act, turn.act.is_some() || (ended || turn.news))
     }
 
-    /// Does the next thing that is due, and says whether something was done or seen. Each request that
-    /// its device has done has ended first. A fault of the port or of a device is cleared before all else.
+    /// Does the next thing that is due, and says whether something was done or seen. Each request that its
+    /// device has done ends first. A fault of the port or of a device is cleared before anything else.
     #[tactic(auto, unfolding(crate::specs::Ticks::after_tick))]
     pub fn tick(&mut self, port: &mut HostPort, memory: &mut HostMemory) -> bool
         ensures driver { self.new
@@ -133,7 +133,7 @@ impl Driver {
         acted
     }
 
-    // Why a request is refused by what the driver has taken.
+    // Why a request is refused because of what the driver has taken already.
     fn room_refusal(&self, request: &Request) -> Option<SubmitError>
         ensures { result ≡ room_refusal_of self.now request.now }
     {
@@ -163,8 +163,8 @@ impl Driver {
         self.room_refusal(request)
     }
 
-    /// Takes a request for a device: its command stands in the lowest free slot, and it waits there
-    /// for its issue. Its ticket is the next one.
+    /// Takes a request for a device under the next ticket. Its command is written into the lowest free slot,
+    /// and waits there for its issue.
     pub fn submit(
         &mut self,
         memory: &mut HostMemory,
@@ -204,7 +204,7 @@ impl Driver {
         Ok(Ticket(ticket))
     }
 
-    /// The ended request of the lowest slot, which is free then.
+    /// Gives the ended request of the lowest slot and frees the slot.
     #[tactic(auto, unfolding(crate::specs::Submits::completion_of, crate::specs::Submits::after_poll))]
     pub fn poll(&mut self) -> Option<Completion>
         ensures polled { result ≡ completion_of self.old }
@@ -218,8 +218,8 @@ impl Driver {
         completion
     }
 
-    /// Whether one of so many bytes from an address on is in use: it is one of the driver's own
-    /// buffer, or of a request that is not polled.
+    /// Whether one of `len` bytes from an address on is in use: it belongs to the driver's own buffer, or to
+    /// a request that is not polled yet.
     pub fn in_use(&self, at: u32, len: u32) -> bool
         ensures { result ≡ in_use_of self.now at len }
     {

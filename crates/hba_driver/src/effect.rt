@@ -23,9 +23,9 @@ pub(crate) enum Effect {
     Writes(u32, u32),
     /// A device is flushed.
     Flushes(u8),
-    /// The row of a device in the received area becomes 0.
+    /// The row of a device in the received area is set to 0.
     Empties(u8),
-    /// A command is written into a slot, and whether its data go to the driver's buffer.
+    /// A command is written into a slot. The flag says whether its data goes to the driver's buffer.
     Commands(u8, H2dFields, bool),
 }
 
@@ -46,7 +46,7 @@ fn bit(k: u8) -> u32
     1 << k
 }
 
-/// Where the command table of a slot lies.
+/// The address of a slot's command table.
 pub(crate) fn table_of(slot: u8) -> u32
     ensures { result ≡ table_of_slot slot }
 {
@@ -107,7 +107,7 @@ impl Effect {
     }
 }
 
-// One after another.
+// Performs the effects one after another.
 #[tactic(auto, unfolding(crate::specs::Effects::ActsAll))]
 fn perform_all(effects: &[Effect], port: &mut HostPort, memory: &mut HostMemory)
     requires { list_all is_effect effects.now ≡ true }
@@ -149,7 +149,7 @@ fn restart_write(k: u8) -> Effect
     }
 }
 
-// The fault of a device is cleared: OFS, IFS and TFES of PxIS, and DEC, with the device and EN, in PxFBS.
+// Clears the fault of a device: OFS, IFS and TFES in PxIS, and DEC, with the device and EN, in PxFBS.
 fn clear_fault(dev: u8, port: &mut HostPort, memory: &mut HostMemory)
     ensures { ActsAll (clearing dev) port.old memory.old port.new memory.new }
 {
@@ -158,14 +158,14 @@ fn clear_fault(dev: u8, port: &mut HostPort, memory: &mut HostMemory)
     perform_all(&[seen, cleared], port, memory);
 }
 
-// The device and EN in PxFBS.
+// Writes the device and EN to PxFBS.
 fn choose(dev: u8) -> Effect
     ensures { result ≡ Effect.Writes 64 (256 * dev + 1) }
 {
     Effect::Writes(FBS, 0x100 * u32::from(dev) + 1)
 }
 
-// The slot's bit in PxCI.
+// Writes the slot's bit to PxCI.
 fn issue(slot: u8) -> Effect
     requires { slot < 32 }
     ensures { result ≡ Effect.Writes 56 (2 ^ slot) }
@@ -174,7 +174,7 @@ fn issue(slot: u8) -> Effect
 }
 
 impl Order {
-    // What its issue does.
+    // Performs the order.
     #[tactic(auto, unfolding(crate::specs::Effects::order_effects))]
     fn perform(self, port: &mut HostPort, memory: &mut HostMemory)
         requires { IsOrder self }
@@ -200,7 +200,7 @@ impl Order {
 }
 
 impl Stage {
-    // What its issue does.
+    // Performs the stage, for a device.
     fn perform(self, dev: u8, port: &mut HostPort, memory: &mut HostMemory)
         requires { dev < 15 }
         ensures { ActsAll (stage_effects dev self) port.old memory.old port.new memory.new }
@@ -214,7 +214,7 @@ impl Stage {
 }
 
 impl Act {
-    /// What it does to port and memory.
+    /// Performs the act on port and memory.
     #[tactic(auto, unfolding(crate::specs::Effects::effects_of))]
     pub(crate) fn perform(self, port: &mut HostPort, memory: &mut HostMemory)
         requires { IsAct self }

@@ -1,8 +1,9 @@
 //! A small driver of one AHCI host port with a port multiplier behind it.
 //!
-//! [`Driver::tick`] does the next thing that is due: it opens the port, clears faults, brings up the multiplier and the
-//! devices behind it, lets devices recover, and issues the requests that wait. [`Driver::submit`] takes a request or says why not, and [`Driver::poll`] gives an
-//! ended one. All room lies in fixed fields: no call takes memory.
+//! [`Driver::tick`] does the next thing that is due. It opens the port, clears faults, brings up the
+//! multiplier and the devices behind it, lets devices recover, and issues the requests that wait.
+//! [`Driver::submit`] takes a request or says why not. [`Driver::poll`] gives an ended one. The driver's
+//! fields have a fixed size: no call takes memory.
 #![tactic(auto)]
 
 mod driver;

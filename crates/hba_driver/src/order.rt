@@ -1,4 +1,4 @@
-//! What slot 31 does: the bring-up of the multiplier, and the scan of its ports.
+//! What slot 31 does: it brings up the multiplier and scans its ports.
 
 ghost use Rattle.std.specs.Prelude.{◌≡◌, ◌<◌, IfSome};
 ghost use Rattle.hba_driver.specs.Orders.{command as command_of, control as control_of, next_order, open_from as open_from_of, order_fields, reads as reads_of, scan_from as scan_from_of, writes as writes_of};
@@ -9,28 +9,28 @@ ghost use Rattle.std.specs.Prelude.{nat_le, ◌&&◌};
 use crate::sight::has_bit;
 use fis_view::H2dFields;
 
-/// What slot 31 does next. Each that has a command is over when its answer came.
+/// What slot 31 does next. An order with a command is over when its answer came.
 #[derive(Clone, Copy, Debug, PartialEq, Eq)]
 pub(crate) enum Order {
     /// Software reset of the multiplier, with SRST set.
     ResetOn,
-    /// The same with SRST clear.
+    /// Software reset of the multiplier, with SRST clear.
     ResetOff,
     /// Its signature is awaited.
     AwaitSignature,
-    /// How many ports it has is read.
+    /// The number of its ports is read.
     CountPorts,
-    /// Which errors of a port count is written.
+    /// The mask of the port errors that count is written.
     SetMask,
     /// Its notifications are turned on.
     Enable,
     /// A port is opened.
     Open(u8),
-    /// Which ports have an error is read.
+    /// The ports with an error are read.
     Scan,
     /// The errors of a port that the scan found are cleared.
     Clear(u8),
-    /// Whether a device is at that port is read.
+    /// PSCR[0] of that port is read: whether a device is there.
     Detect(u8),
     /// A notification is awaited.
     Watch,
@@ -43,7 +43,7 @@ pub(crate) const CONTROL_PORT: u8 = 15;
 const READ: u8 = 0xE4;
 /// WRITE PORT MULTIPLIER.
 const WRITE: u8 = 0xE8;
-/// GSCR[2] bits 3:0: how many ports.
+/// GSCR[2] bits 3:0: the number of ports.
 const PORT_COUNT: u16 = 2;
 /// GSCR[32]: a bit for each port with an error.
 const ERROR_PORTS: u16 = 32;
@@ -64,7 +64,7 @@ const NOTIFICATIONS: u32 = 8;
 /// SRST, of the Device Control register.
 const SRST_MASK: u8 = 4;
 
-/// A command of these fields, all others 0.
+/// A command with these fields, all others 0.
 pub(crate) fn command(
     port: u8,
     command: u8,
@@ -162,7 +162,7 @@ fn open_from(ports: u8, from: u8) -> Order
 }
 
 impl Order {
-    /// What it issues, if it issues something.
+    /// The command that the order issues, if it has one.
     #[tactic(auto, unfolding(crate::specs::Orders::order_fields))]
     pub(crate) fn fields(self) -> Option<H2dFields>
         ensures { result ≡ order_fields self }
@@ -181,8 +181,7 @@ impl Order {
         }
     }
 
-    /// The order after this one, for a multiplier with so many ports, and the ports that the last
-    /// scan found.
+    /// The order after this one, for a multiplier with `ports` ports, of which the last scan found `found`.
     #[tactic(auto, unfolding(crate::specs::Orders::next_order))]
     pub(crate) fn next(self, ports: u8, found: u32) -> Order
         requires order { IsOrder self }

@@ -1,4 +1,4 @@
-//! What slot 30 does with a device: it is identified, its error log is read, or it is reset.
+//! What slot 30 does with a device: it identifies the device, reads its error log, or resets it.
 
 ghost use Rattle.std.specs.Prelude.{◌≡◌, ◌<◌, IfSome, Some, length, map, None};
 ghost use Rattle.std.specs.Option.{option_map};
@@ -26,22 +26,22 @@ pub(crate) struct TaskFile {
 /// How a device recovers from a fault.
 #[derive(Clone, Copy, Debug, PartialEq, Eq)]
 pub(crate) enum Recovery {
-    /// By its error log. After the fault it had this task file.
+    /// By its error log. This was its task file after the fault.
     Log(TaskFile),
     /// By a software reset.
     Reset,
 }
 
-/// What slot 30 does next with a device. Each that has a command is over when its answer came.
+/// What slot 30 does next with a device. A stage with a command is over when its answer came.
 #[derive(Clone, Copy, Debug, PartialEq, Eq)]
 pub(crate) enum Stage {
-    /// Its identify data are read.
+    /// Its IDENTIFY data is read.
     Identify,
-    /// Its error log is read. After its fault it had this task file.
+    /// Its error log is read. This was its task file after the fault.
     ReadLog(TaskFile),
     /// Software reset, with SRST set.
     AssertReset,
-    /// The same with SRST clear.
+    /// Software reset, with SRST clear.
     ReleaseReset,
     /// The end of the reset is awaited.
     AwaitReset,
@@ -91,7 +91,7 @@ fn file_of(value: u32) -> TaskFile
 }
 
 impl TaskFile {
-    /// As the port shows it, of the device that it has chosen.
+    /// The task file that the port shows: that of the device in PxFBS.DEV.
     pub(crate) fn shown(port: &HostPort) -> TaskFile
         ensures { result ≡ file_shown port.now }
     {
@@ -100,7 +100,7 @@ impl TaskFile {
 }
 
 impl Stage {
-    /// What it issues, if it issues something.
+    /// The command that the stage issues, if it has one.
     #[tactic(auto, unfolding(crate::specs::Paths::stage_fields))]
     pub(crate) fn fields(self, dev: u8) -> Option<H2dFields>
         ensures { result ≡ stage_fields dev self }
@@ -143,7 +143,7 @@ impl Stage {
         matches!(self, Stage::AwaitReset)
     }
 
-    // The stage that is due where this one waited.
+    // The stage that is due after this one has waited.
     #[tactic(auto, unfolding(crate::specs::Turns::met_stage))]
     fn met(self, sight: Sight, dev: u8) -> Stage
         ensures { result ≡ met_stage sight dev self }
@@ -154,7 +154,7 @@ impl Stage {
         }
     }
 
-    // The device with its task file, where this is its log and it is whole.
+    // The device with its task file, if this is its log and the log is whole.
     #[tactic(auto, unfolding(crate::specs::Turns::logged_by))]
     fn logged(self, sight: Sight, dev: u8) -> Option<Logged>
         ensures { result ≡ logged_by sight dev self }
@@ -172,7 +172,7 @@ fn is_in_reset(sight: Sight, dev: u8) -> bool
     is_at(&sight.in_reset, dev)
 }
 
-// A path that goes on with a stage, if there is one.
+// A path that continues with a stage, if there is one.
 fn path_of(dev: u8, stage: Option<Stage>) -> Option<Path>
     ensures { result ≡ path_to dev stage }
 {
@@ -187,7 +187,7 @@ fn path_of(dev: u8, stage: Option<Stage>) -> Option<Path>
 }
 
 impl Path {
-    // Whether its command was issued and is not out any more.
+    // Whether its command was issued and is back.
     fn is_back(self, sight: Sight) -> bool
         ensures { result ≡ is_back_of sight self }
     {
@@ -219,7 +219,7 @@ impl Path {
 }
 
 impl Device {
-    /// How it recovers from a fault, after which it had this task file.
+    /// How the device recovers from a fault, if this is its task file after it.
     pub(crate) fn recovery(self, file: TaskFile) -> Recovery
         ensures { result ≡ recovery_of self file }
     {
@@ -240,7 +240,7 @@ impl Device {
         }
     }
 
-    // The first stage of what is due for it.
+    // The first stage of what is due for the device.
     fn first_stage(self, signed: bool) -> Option<Stage>
         ensures { result ≡ first_stage self signed }
     {
@@ -265,7 +265,7 @@ pub(crate) fn reset_all(devices: [Device; 15]) -> [Device; 15]
 }
 
 impl Plan {
-    // What came of a stage is known.
+    // Notes what a stage found.
     #[tactic(auto, unfolding(crate::specs::Turns::found_of))]
     fn found(self, sight: Sight, stage: Stage, dev: u8) -> Plan
         requires dev { dev < 15 }
@@ -295,7 +295,7 @@ impl Plan {
         }
     }
 
-    // The answer to slot 30, if it came, is noted.
+    // Notes the answer to slot 30, if it came.
     fn path_answered(self, sight: Sight) -> Plan
         requires { IsSoundPlan self }
         ensures value { result ≡ path_answered sight self }
@@ -313,7 +313,7 @@ impl Plan {
         }
     }
 
-    /// What slot 30 shows is noted.
+    /// Notes what slot 30 shows.
     pub(crate) fn device_seen(self, sight: Sight) -> Plan
         requires { IsSoundPlan self }
         ensures value { result ≡ device_seen_by sight self }

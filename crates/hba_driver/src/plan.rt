@@ -13,13 +13,13 @@ use crate::sight::{Sight, has_bit};
 pub(crate) enum Device {
     /// None is there.
     Absent,
-    /// It is there, and is not identified.
+    /// It is there and not identified.
     Starting,
     /// It takes requests.
     Ready,
     /// It takes no queued commands.
     Unusable,
-    /// It recovers from a fault, and takes requests again once it has.
+    /// It recovers from a fault. After that it takes requests again.
     Recovering(Recovery),
 }
 
@@ -28,12 +28,12 @@ const MULTIPLIER: u32 = 0x9669_0101;
 /// The slot of commands to the multiplier.
 const CONTROL_SLOT: u8 = 31;
 
-/// What the driver knows, but for its requests.
+/// What the driver knows, apart from its requests.
 #[derive(Clone, Copy, Debug, PartialEq, Eq)]
 pub(crate) struct Plan {
-    /// How many of the seven writes that open the port were done.
+    /// How many of the seven writes that open the port were made.
     pub(crate) opened: u8,
-    /// How many of the two writes that start it again after a fault were done.
+    /// How many of the two writes that start the port again after a fault were made.
     pub(crate) restarted: u8,
     /// What slot 31 does next.
     pub(crate) order: Order,
@@ -45,7 +45,7 @@ pub(crate) struct Plan {
     pub(crate) found: u32,
     /// The device that has slot 30.
     pub(crate) path: Option<Path>,
-    /// By port.
+    /// What is known of each device, by port.
     pub(crate) devices: [Device; 15],
 }
 
@@ -60,7 +60,8 @@ impl Device {
         }
     }
 
-    // It is there. One that recovers goes on: its signature may be gone, so it is not waited for.
+    // The device is there. If it recovers, it goes on: its signature may have come already, so none is
+    // awaited.
     fn found_there(self) -> Device
         ensures { result ≡ found_there_of self }
     {
@@ -71,7 +72,7 @@ impl Device {
         }
     }
 
-    // What PSCR[0] of its port tells: SStatus.DET is 3 where a device is there.
+    // What PSCR[0] of its port tells: a device is there if SStatus.DET is 3.
     fn detected(self, status: u32) -> Device
         ensures { result ≡ detected_by status self }
     {
@@ -84,7 +85,7 @@ impl Device {
 }
 
 impl Plan {
-    /// Nothing is done yet.
+    /// A plan with nothing done.
     pub(crate) fn new() -> Plan
         ensures value { result ≡ opening_plan }
         ensures sound { IsSoundPlan result }
@@ -111,7 +112,7 @@ impl Plan {
         }
     }
 
-    /// A device is known to be so.
+    /// The plan with this known of a device.
     pub(crate) fn with_device(self, dev: u8, device: Device) -> Plan
         requires { dev < 15 }
         ensures { result ≡ with_device_of dev device self }
@@ -121,7 +122,7 @@ impl Plan {
         Plan { devices, ..self }
     }
 
-    // What the answer of an order tells.
+    // Notes what the answer of an order tells.
     #[tactic(auto, unfolding(crate::specs::Turns::noted))]
     fn noted(self, sight: Sight, order: Order) -> Plan
         requires order { IsOrder order }
@@ -172,7 +173,7 @@ impl Plan {
         has_bit(sight.issued, CONTROL_SLOT)
     }
 
-    // The answer of the order, if it came, is noted.
+    // Notes the answer of the order, if it came.
     fn answered(self, sight: Sight) -> Plan
         requires { IsSoundPlan self }
         ensures value { result ≡ answered_by sight self }
@@ -186,7 +187,7 @@ impl Plan {
         }
     }
 
-    /// What slot 31 shows is noted.
+    /// Notes what slot 31 shows.
     pub(crate) fn control_seen(self, sight: Sight) -> Plan
         requires { IsSoundPlan self }
         ensures value { result ≡ control_seen_by sight self }
@@ -234,7 +235,7 @@ impl Order {
         }
     }
 
-    // The order that is due where this one waited.
+    // The order that is due after this one has waited.
     #[tactic(auto, unfolding(crate::specs::Turns::met_order))]
     fn met(self, sight: Sight) -> Order
         requires { IsOrder self }

@@ -9,11 +9,11 @@ use crate::plan::Device;
 use crate::request::{Request, SubmitError};
 use host_memory::{Prd, total_of};
 
-/// The driver's buffer lies from the beginning of the client area up to here.
+/// The end of the driver's buffer, which is the start of the client area.
 const REQUESTS: u32 = 0x10_0200;
 
 impl Device {
-    /// Why it takes no request.
+    /// Why the device takes no request.
     pub(crate) fn refusal(self) -> Option<SubmitError>
         ensures { result ≡ device_refusal self }
     {
@@ -58,7 +58,7 @@ fn have_bad_prd(end: u32, prds: &[Prd]) -> bool
     prds.iter().any(|prd| is_bad_prd(end, *prd))
 }
 
-/// Why a request is refused by what it is, for a client area that ends there.
+/// Why a request is refused because of what it is, for a client area that ends at `end`.
 pub(crate) fn shape_refusal(end: u32, request: &Request) -> Option<SubmitError>
     ensures { result ≡ shape_refusal_of end request.now }
 {

@@ -10,7 +10,7 @@ pub enum Work {
     Read,
     /// Bytes of memory go to sectors of the device.
     Write,
-    /// What the device holds back goes to its medium. It has no sectors.
+    /// What the device holds back goes to its medium. A Flush has no sectors.
     Flush,
 }
 
@@ -21,22 +21,22 @@ pub struct Request {
     pub work: Work,
     /// The first sector, below 2^48.
     pub lba: u64,
-    /// How many sectors of 512 bytes, 1 to 256.
+    /// The number of sectors of 512 bytes, 1 to 256.
     pub sectors: u16,
-    /// Where the bytes lie, in order: at most 248 entries, each even and of 2 bytes to 4 MiB.
+    /// Where the bytes are, in order: at most 248 entries, each of 2 bytes to 4 MiB and even.
     pub prds: Vec<Prd>,
 }
 
-/// What names a request from its submit on. Tickets count from 1.
+/// The name of a request from its submit on. Tickets count from 1.
 #[derive(Clone, Copy, Debug, PartialEq, Eq)]
 pub struct Ticket(pub u32);
 
 /// How a request ended.
 #[derive(Clone, Copy, Debug, PartialEq, Eq)]
 pub enum Outcome {
-    /// The device has done it.
+    /// The device did it.
     Done,
-    /// The device has failed it, and shows this Status and this Error.
+    /// The device failed it, and shows this Status and this Error.
     DeviceError {
         /// Status of its task file.
         status: u8,
@@ -45,7 +45,7 @@ pub enum Outcome {
     },
     /// Its device had a fault in which another command failed, or was reset.
     Aborted,
-    /// The device was taken away, or came anew.
+    /// The device was removed or replaced.
     Removed,
     /// The port had a fault.
     PortError,
@@ -56,14 +56,13 @@ pub enum Outcome {
 pub struct Completion {
     /// The ticket that its submit gave.
     pub ticket: Ticket,
-    /// The slot in which it stood, which is free again.
+    /// The slot in which it was. It is free again.
     pub slot: u8,
     /// How it ended.
     pub outcome: Outcome,
 }
 
-/// Why a request is refused. They are tested in the order of their numbers, and a refusal changes
-/// nothing.
+/// Why a request is refused. The tests are made in the order of the numbers. A refusal changes nothing.
 #[derive(Clone, Copy, Debug, PartialEq, Eq, Error)]
 pub enum SubmitError {
     /// There is no such device, or it is not ready.
@@ -72,26 +71,26 @@ pub enum SubmitError {
     /// The device recovers from a fault.
     #[error("the device recovers")]
     Recovering = 2,
-    /// A Flush stands alone: a request of the device has not ended, and it or the new one is a Flush.
+    /// A Flush is alone: a request of the device has not ended, and that one or the new one is a Flush.
     #[error("the queue is busy")]
     QueueBusy = 3,
-    /// No sector or more than 256, or a first sector from 2^48 on; of a Flush, a sector.
+    /// There is no sector or more than 256, the first sector is 2^48 or above, or a Flush has sectors.
     #[error("bad count")]
     BadCount = 4,
-    /// The entries have not 512 bytes for each sector, or there are more than 248.
+    /// The entries do not have 512 bytes for each sector, or there are more than 248.
     #[error("length mismatch")]
     LengthMismatch = 5,
-    /// An entry is odd, empty or above 4 MiB, or lies not within 100200h to the end of memory.
+    /// An entry is odd, empty or above 4 MiB, or does not lie between 100200h and the end of memory.
     #[error("bad entry")]
     BadPrd = 6,
-    /// Two entries share a byte, or one of them shares one with a request that is not polled, where
-    /// one of the two requests reads.
+    /// Two entries share a byte, or an entry shares one with a request that is not polled yet, and one of the
+    /// two requests reads.
     #[error("entries overlap")]
     Overlap = 7,
     /// No slot is free.
     #[error("no free slot")]
     NoSlot = 8,
-    /// The largest ticket was given.
+    /// The largest ticket has been given.
     #[error("no more tickets")]
     TicketsSpent = 9,
 }

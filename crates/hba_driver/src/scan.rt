@@ -18,7 +18,7 @@ use crate::slot::{Group, Phase, Slot};
 use crate::turn::{Act, Logged};
 use host_memory::Prd;
 
-/// The lowest slot with a request that waits for a device that is ready.
+/// The lowest slot with a request that waits and whose device is ready.
 pub(crate) fn lowest_due(plan: &Plan, slots: &[Slot; 30]) -> Option<u8>
     ensures value { result ≡ lowest_below (λ slot. may_issue plan.now (entry_at slots.now slot)) 30 }
     ensures below { IfSome result (λ slot. slot < 30) }
@@ -59,7 +59,7 @@ pub(crate) fn lowest_ended(slots: &[Slot; 30]) -> Option<u8>
     None
 }
 
-/// Whether a request is issued whose bit is not among these.
+/// Whether some request is issued and its bit is not among these.
 #[tactic(auto, unfolding(crate::specs::Ticks::any_done))]
 pub(crate) fn any_done(slots: &[Slot; 30], issued: u32) -> bool
     ensures { result ≡ any_done_of issued slots.now }
@@ -72,7 +72,7 @@ pub(crate) fn any_done(slots: &[Slot; 30], issued: u32) -> bool
     false
 }
 
-// Each request of a group has come to this.
+// Sets the phase of each request in a group.
 fn rephase(slots: &mut [Slot; 30], group: Group, phase: Phase)
     ensures rephased { slots.new ≡ rephase_all (is_in group) phase slots.old }
     ensures long { length slots.new ≡ 30 }
@@ -83,7 +83,7 @@ fn rephase(slots: &mut [Slot; 30], group: Group, phase: Phase)
     }
 }
 
-/// Each request that is issued, and whose bit is not among these, has ended.
+/// Ends each request that is issued and whose bit is not among these.
 pub(crate) fn end_done(slots: &mut [Slot; 30], issued: u32)
     ensures ended { slots.new ≡ done_ended issued slots.old }
     ensures long { length slots.new ≡ 30 }
@@ -91,7 +91,7 @@ pub(crate) fn end_done(slots: &mut [Slot; 30], issued: u32)
     rephase(slots, Group::DoneOf(issued), Phase::Ended(Outcome::Done));
 }
 
-// How the request ends that a log names, of a device with this task file after its fault.
+// How a request ends that a log names, if its device had this task file after its fault.
 fn outcome_of(log: ErrorLog, file: TaskFile) -> Outcome
     ensures { result ≡ log_outcome log file }
 {
@@ -108,7 +108,7 @@ fn outcome_of(log: ErrorLog, file: TaskFile) -> Outcome
     }
 }
 
-// Each request of the device that was set aside has ended: as the log says, if it names it.
+// Ends each request of the device that was set aside, as the log says for the one that it names.
 fn end_by_log(slots: &mut [Slot; 30], log: ErrorLog, logged: Logged)
     ensures ended { slots.new ≡ log_ended log logged slots.old }
     ensures long { length slots.new ≡ 30 }
@@ -122,7 +122,7 @@ fn end_by_log(slots: &mut [Slot; 30], log: ErrorLog, logged: Logged)
     );
 }
 
-/// Each request that was set aside has ended, of the device whose log came.
+/// Ends each request that was set aside, of the device whose log came.
 pub(crate) fn end_logged(slots: &mut [Slot; 30], log: ErrorLog, logged: Option<Logged>)
     ensures ended { slots.new ≡ logged_ended log logged slots.old }
     ensures long { length slots.new ≡ 30 }
@@ -153,14 +153,14 @@ pub(crate) fn apply(slots: &mut [Slot; 30], act: Act)
     }
 }
 
-/// Whether a request keeps this work for a device from being taken.
+/// Whether a request prevents this work from being taken for a device.
 pub(crate) fn are_blocked(slots: &[Slot; 30], dev: u8, work: Work) -> bool
     ensures { result ≡ list_any (holds (blocks dev work)) slots.now }
 {
     slots.iter().any(|slot| slot.blocks(dev, work))
 }
 
-/// Whether a request has one of the bytes of these entries, where one of the two reads.
+/// Whether a request has one of the bytes of these entries, and one of the two reads.
 pub(crate) fn have_conflict(slots: &[Slot; 30], work: Work, prds: &[Prd]) -> bool
     ensures { result ≡ list_any (conflicts work prds.now) slots.now }
 {

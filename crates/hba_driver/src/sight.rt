@@ -56,7 +56,7 @@ pub(crate) struct ErrorLog {
     pub(crate) whole: bool,
     /// The command that failed was not queued.
     pub(crate) unqueued: bool,
-    /// The tag of the command that failed, where it was queued.
+    /// The tag of the command that failed, if it was queued.
     pub(crate) tag: u8,
     pub(crate) status: u8,
     pub(crate) error: u8,
@@ -67,7 +67,7 @@ pub(crate) struct ErrorLog {
 pub(crate) struct Sight {
     /// PxCI and PxSACT together: the slots that are not done.
     pub(crate) issued: u32,
-    /// A fault has stopped the port as a whole.
+    /// A fault has stopped the whole port.
     pub(crate) stopped: bool,
     /// The device whose fault the port shows.
     pub(crate) faulty: Option<u8>,
@@ -75,15 +75,15 @@ pub(crate) struct Sight {
     pub(crate) resetting: bool,
     /// By device: it is in software reset.
     pub(crate) in_reset: [bool; 16],
-    /// PxSNTF has the bit of the multiplier.
+    /// PxSNTF has the multiplier's bit.
     pub(crate) notified: bool,
     /// The value in the multiplier's last answer, or its signature.
     pub(crate) answer: u32,
-    /// By device: the signature of an ATA device stands in its row of the received area.
+    /// By device: its row of the received area has the signature of an ATA device.
     pub(crate) signed: [bool; 16],
-    /// The identify data in the driver's buffer are those of a device for queued commands.
+    /// The IDENTIFY data in the driver's buffer is that of a device for queued commands.
     pub(crate) usable: bool,
-    /// The error log, where the driver's buffer has it.
+    /// The error log, if the driver's buffer has it.
     pub(crate) log: ErrorLog,
 }
 
@@ -179,7 +179,7 @@ pub(crate) fn is_at(flags: &[bool; 16], dev: u8) -> bool
     }
 }
 
-// What these bytes add up to.
+// The sum of these bytes.
 fn sum_of(bytes: &[u8]) -> u32
     requires { length bytes.now ≤ 65536 }
     ensures { result ≡ sum bytes.now }
@@ -232,7 +232,7 @@ fn faulty(switching: u32) -> Option<u8>
 }
 
 impl Sight {
-    /// What there is to see.
+    /// All that there is to see.
     #[tactic(auto, unfolding(crate::specs::Sights::sight_of))]
     pub(crate) fn of(port: &HostPort, memory: &HostMemory) -> Sight
         ensures { result ≡ sight_of port.now memory.now }

@@ -1,4 +1,4 @@
-//! One slot: a request that was taken and not polled, or none.
+//! One slot: a request that was taken and is not polled yet, or none.
 
 ghost use Rattle.std.specs.Prelude.{◌≡◌, ◌≤◌, ◌<◌, Some, None, if◌then◌else◌, length, take};
 ghost use Rattle.std.specs.Option.{option_map};
@@ -26,28 +26,28 @@ pub(crate) enum Phase {
     Waits,
     /// Its command is issued.
     Issued,
-    /// It was set aside, until its device has recovered.
+    /// It was set aside until its device has recovered.
     Aside,
-    /// It has ended so, and waits for its poll.
+    /// It has ended in this way, and waits for its poll.
     Ended(Outcome),
 }
 
 /// A group of requests.
 #[derive(Clone, Copy, Debug, PartialEq, Eq)]
 pub(crate) enum Group {
-    /// That are issued, and whose bits are not among these.
+    /// Those that are issued and whose bits are not among these.
     DoneOf(u32),
-    /// That have not ended.
+    /// Those that have not ended.
     Open,
-    /// That have not ended, of a device.
+    /// Those of a device that have not ended.
     OpenOf(u8),
-    /// That were set aside, of a device.
+    /// Those of a device that were set aside.
     AsideOf(u8),
-    /// Those of them that this log names.
+    /// The one among those set aside of a device that this log names.
     NamedBy(ErrorLog, u8),
 }
 
-/// What is known of a request beside where its bytes lie.
+/// What is known of a request, apart from where its bytes are.
 #[derive(Clone, Copy, Debug, PartialEq, Eq)]
 pub(crate) struct Head {
     pub(crate) ticket: u32,
@@ -60,13 +60,13 @@ pub(crate) struct Head {
 
 /// The most entries of a request.
 const MAX_PRDS: usize = 248;
-/// What stands where no entry is.
+/// What is in the places without an entry.
 const NO_PRD: Prd = Prd {
     address: 0,
     bytes: 0,
 };
 
-/// A request with the entries that say where its bytes lie, or none.
+/// A request with the entries that say where its bytes are, or none.
 #[derive(Drop)]
 pub(crate) struct Slot {
     head: Option<Head>,
@@ -128,7 +128,7 @@ impl Work {
 }
 
 impl Head {
-    // Whether its command is issued, and the slot's bit is not among these.
+    // Whether its command is issued and the slot's bit is not among these.
     fn is_done(self, issued: u32, slot: u8) -> bool
         requires { slot < 32 }
         ensures { result ≡ is_done_head issued slot self }
@@ -136,21 +136,21 @@ impl Head {
         self.is_issued() && !has_bit(issued, slot)
     }
 
-    // Whether it is one of the device and has not ended.
+    // Whether it belongs to the device and has not ended.
     fn is_open_of(self, dev: u8, slot: u8) -> bool
         ensures { result ≡ is_open_of_head dev slot self }
     {
         self.dev == dev && !self.has_ended()
     }
 
-    // Whether it is one of the device and was set aside.
+    // Whether it belongs to the device and was set aside.
     fn is_aside_of(self, dev: u8, slot: u8) -> bool
         ensures { result ≡ is_aside_of_head dev slot self }
     {
         self.dev == dev && self.is_aside()
     }
 
-    // Whether a log names it: by its tag, or, where no queued command failed, as a Flush.
+    // Whether a log names it: by its tag or, if no queued command failed, as a Flush.
     fn is_named(self, log: ErrorLog, slot: u8) -> bool
         ensures { result ≡ is_named log slot self }
     {
@@ -215,7 +215,7 @@ impl Head {
         }
     }
 
-    /// Its command, in this slot.
+    /// Its command in this slot.
     #[tactic(auto, unfolding(crate::specs::Orders::request_fields))]
     pub(crate) fn fields(self, slot: u8) -> H2dFields
         requires { slot < 32 }
@@ -244,7 +244,7 @@ impl Head {
     }
 }
 
-// Whether so many bytes from one address on and so many from another share one.
+// Whether `len` bytes from one address on and `bytes` bytes from another share a byte.
 pub(crate) fn share_bytes(at: u32, len: u32, other: u32, bytes: u32) -> bool
     ensures { result ≡ share_bytes_of at len other bytes }
 {
@@ -279,7 +279,7 @@ fn share_with(prds: &[Prd], others: &[Prd]) -> bool
     prds.iter().any(|prd| shares_with(*prd, others))
 }
 
-// These entries, and then none.
+// These entries, followed by none.
 fn filled(prds: &[Prd]) -> [Prd; 248]
     requires { length prds.now ≤ 248 }
     ensures { take (length prds.now) result ≡ prds.now }
@@ -292,7 +292,7 @@ fn filled(prds: &[Prd]) -> [Prd; 248]
 impl Slot {
     ghost use Rattle.hba_driver.specs.Drivers.{Entry};
 
-    /// With no request.
+    /// A slot without a request.
     pub(crate) fn new() -> Self
         ensures { result ≡ None }
     {
@@ -303,7 +303,7 @@ impl Slot {
         }
     }
 
-    /// A request stands in it.
+    /// Puts a request into the slot.
     pub(crate) fn fill(&mut self, head: Head, prds: &[Prd])
         requires { length prds.now ≤ 248 }
         ensures { self.new ≡ Some (record { head = head; prds = prds.now }) }
@@ -315,7 +315,7 @@ impl Slot {
         };
     }
 
-    /// Its request is gone.
+    /// Takes the request out of the slot.
     pub(crate) fn clear(&mut self)
         ensures { self.new ≡ None }
     {
@@ -348,7 +348,7 @@ impl Slot {
         }
     }
 
-    /// Whether its request keeps this work for the device from being taken.
+    /// Whether its request prevents this work from being taken for the device.
     pub(crate) fn blocks(&self, dev: u8, work: Work) -> bool
         ensures { result ≡ holds (blocks_of dev work) self.now }
     {
@@ -360,7 +360,7 @@ impl Slot {
         }
     }
 
-    /// Whether its request has one of these bytes, where one of the two reads.
+    /// Whether its request has one of these bytes, and one of the two reads.
     pub(crate) fn conflicts(&self, work: Work, prds: &[Prd]) -> bool
         ensures { result ≡ conflicts_of work prds.now self.now }
     {
@@ -393,7 +393,7 @@ impl Slot {
         }
     }
 
-    /// Its request has come to this.
+    /// Sets the phase of its request.
     pub(crate) fn set_phase(&mut self, phase: Phase)
         ensures { self.new ≡ option_map (rephased phase) self.old }
     {
@@ -402,7 +402,7 @@ impl Slot {
         }
     }
 
-    /// So it has, where it does.
+    /// Sets the phase of its request, if `comes`.
     pub(crate) fn set_phase_if(&mut self, comes: bool, phase: Phase)
         ensures { self.new ≡ (if comes then option_map (rephased phase) self.old else self.old) }
     {
@@ -421,7 +421,7 @@ impl Slot {
         }
     }
 
-    /// Its issue.
+    /// The issue of its request.
     pub(crate) fn issue(&self, slot: u8) -> Option<Act>
         ensures { result ≡ issue_of slot self.now }
     {

@@ -16,11 +16,11 @@ use crate::slot::Slot;
 /// What a tick does.
 #[derive(Clone, Copy, Debug, PartialEq, Eq)]
 pub(crate) enum Act {
-    /// The next write, of this number, that opens the port.
+    /// The next write that opens the port, with its number.
     Opens(u8),
     /// The port is stopped.
     Stops,
-    /// The next write, of this number, that starts it again.
+    /// The next write that starts the port again, with its number.
     Restarts(u8),
     /// The fault of a device is cleared.
     Clears(u8),
@@ -28,18 +28,18 @@ pub(crate) enum Act {
     Orders(Order),
     /// The command of a stage, for a device.
     Steps(u8, Stage),
-    /// The request of a slot is issued, for a device, and whether its command is queued.
+    /// The request of a slot is issued for a device. The flag says whether its command is queued.
     Issues(u8, u8, bool),
 }
 
-/// The device whose log came and is whole, with the task file that it had after its fault.
+/// The device whose log came and is whole, with its task file after its fault.
 #[derive(Clone, Copy, Debug, PartialEq, Eq)]
 pub(crate) struct Logged {
     pub(crate) dev: u8,
     pub(crate) file: TaskFile,
 }
 
-/// What is known once a tick has looked at what came, and what is due then.
+/// What is known after a tick has looked at what came, and what is due then.
 #[derive(Clone, Copy, Debug, PartialEq, Eq)]
 pub(crate) struct Turn {
     pub(crate) plan: Plan,
@@ -47,12 +47,12 @@ pub(crate) struct Turn {
     pub(crate) act: Option<Act>,
     /// Whether something came.
     pub(crate) news: bool,
-    /// Whose log it was.
+    /// The device whose log came.
     pub(crate) logged: Option<Logged>,
 }
 
 impl Turn {
-    // Without slot 30.
+    // A turn without slot 30.
     fn plain(plan: Plan, act: Option<Act>, news: bool) -> Turn
         ensures { result ≡ plain_turn plan act news }
     {
@@ -76,7 +76,7 @@ fn request_due(plan: Plan, slots: &[Slot; 30]) -> Option<Act>
     }
 }
 
-// The fault that the port shows is due to be cleared.
+// The clearing of the fault that the port shows.
 fn fault_due(sight: Sight) -> Option<Act>
     ensures value { result ≡ fault_due_of sight }
     ensures act { IfSome result IsAct }
@@ -91,7 +91,7 @@ fn fault_due(sight: Sight) -> Option<Act>
 }
 
 impl Stage {
-    // Its command, where it has one.
+    // The command of the stage, if it has one.
     fn step(self, dev: u8) -> Option<Act>
         requires { dev < 15 }
         ensures value { result ≡ step_of dev self }
@@ -156,7 +156,7 @@ impl Plan {
         }
     }
 
-    // What comes before all else.
+    // What comes before everything else.
     #[tactic(auto, unfolding(crate::specs::Turns::early_due))]
     fn early_due(self, sight: Sight) -> Option<Act>
         ensures value { result ≡ early_due_of sight self }
@@ -197,7 +197,7 @@ impl Plan {
         }
     }
 
-    // Slot 30, and then the requests.
+    // What is due by slot 30, or else for the requests.
     fn device_due(self, sight: Sight, slots: &[Slot; 30]) -> Option<Act>
         requires { IsSoundPlan self }
         ensures value { result ≡ option_or (device_due_of sight self) (request_due_of self slots.now) }
@@ -237,7 +237,7 @@ impl Plan {
         self.device_turn(sight, news, slots)
     }
 
-    // The path that has slot 30, if it is not one of this device.
+    // The path that has slot 30, if it is not a path of this device.
     fn path_unless(self, dev: u8) -> Option<Path>
         ensures { result ≡ unless_of dev self.path }
     {
@@ -285,7 +285,7 @@ impl Plan {
         }
     }
 
-    // The device recovers from its fault, after which it had this task file.
+    // The device recovers from its fault. This was its task file after the fault.
     fn recovering(self, dev: u8, file: TaskFile) -> Plan
         requires dev { dev < 15 }
         requires sound { IsSoundPlan self }
@@ -299,7 +299,7 @@ impl Plan {
         }
     }
 
-    // The fault of the device, or of the multiplier, was cleared.
+    // After the fault of the device, or of the multiplier, was cleared.
     fn cleared(self, dev: u8, file: TaskFile) -> Plan
         requires { IsSoundPlan self }
         ensures value { result ≡ cleared_plan dev file self }
@@ -333,7 +333,8 @@ impl Plan {
     fn stepped(self, dev: u8, stage: Stage) -> Plan
         requires dev { dev < 15 }
         requires sound { IsSoundPlan self }
-        ensures value { result ≡ record self { path = Some (record { dev = dev; stage = stage; asked = true }) } }
+        ensures value { result
+            ≡ record self { path = Some (record { dev = dev; stage = stage; asked = true }) } }
         ensures sound { IsSoundPlan result }
     {
         let path = Path {
@@ -347,7 +348,7 @@ impl Plan {
         }
     }
 
-    /// What is known once this was done, and PxTFD shows this task file.
+    /// What is known after this act; PxTFD shows this task file then.
     #[tactic(auto, unfolding(crate::specs::Ticks::plan_after))]
     pub(crate) fn after(self, act: Act, file: TaskFile) -> Plan
         requires act { IsAct act }
@@ -372,7 +373,7 @@ impl Plan {
         }
     }
 
-    /// What is due with these requests, where the tick sees this.
+    /// What is due with these requests, for a tick that sees this.
     #[tactic(auto, unfolding(crate::specs::Turns::turn_of))]
     pub(crate) fn turn(self, sight: Sight, slots: &[Slot; 30]) -> Turn
         requires { IsSoundPlan self }

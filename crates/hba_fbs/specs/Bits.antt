@@ -9,7 +9,7 @@ bit k set = if set then 2 ^ k else 0
 
 -- the bits of x that are not in y
 abbrev pub without : ℕ → ℕ → ℕ
-without x y = bit_and x (4294967295 - y)
+without x y = bit_and x (0xFFFFFFFF - y)
 
 -- ---- PxCMD
 

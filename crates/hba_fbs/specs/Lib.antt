@@ -11,3 +11,5 @@ pub mod Tables
 pub mod Posting
 pub mod Taking
 pub mod Sending
+pub mod Due
+pub mod Resets

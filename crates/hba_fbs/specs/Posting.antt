@@ -16,7 +16,7 @@ use Rattle.hba_fbs.specs.Status.{is_quiet}
 
 -- the 4 KiB from PxFB on
 abbrev pub area_at : List ℕ → ℕ → List ℕ
-area_at structure fb = take 4096 (drop fb structure)
+area_at structure fb = take 0x1000 (drop fb structure)
 
 -- A FIS of a device is posted to its place in the device's own row of the received area. No other byte
 -- changes.
@@ -25,7 +25,7 @@ pub record Posts (fb dev : ℕ) (fis : Fis) (old new : List ℕ) : Type 0 where
   pub own : rx.row_of (area_at new fb) dev ≡ rx.row_after (rx.row_of (area_at old fb) dev) fis
   pub others : rx.LeavesOthers dev (area_at old fb) (area_at new fb)
   pub before : take fb new ≡ take fb old
-  pub behind : drop (fb + 4096) new ≡ drop (fb + 4096) old
+  pub behind : drop (fb + 0x1000) new ≡ drop (fb + 0x1000) old
 
 -- ---- signatures
 

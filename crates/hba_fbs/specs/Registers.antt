@@ -25,7 +25,7 @@ opening_registers = record {
   started = false;
   receives = false;
   multiplied = false;
-  signature = 4294967295;
+  signature = 0xFFFFFFFF;
   unknown = false;
   armed = 0;
   notified = 0;
@@ -38,9 +38,9 @@ opening_registers = record {
 pub record AreRegisters (r : Registers) : Type 0 where
   pub chosen : r.chosen < 16
   -- the command list is in use while ST is 1, and FRE is 1 then
-  pub started : r.started ≡ true → (r.receives ≡ true) × (r.clb + 1024 ≤ 0x100000)
+  pub started : r.started ≡ true → (r.receives ≡ true) × (r.clb + 0x400 ≤ 0x100000)
   -- the received area is in use while FRE is 1
-  pub receives : r.receives ≡ true → r.fb + 4096 ≤ 0x100000
+  pub receives : r.receives ≡ true → r.fb + 0x1000 ≤ 0x100000
 
 -- ---- what they show
 
@@ -57,11 +57,11 @@ fbs_of r = bit en r.switching + dev_unit * r.chosen + ado
 
 -- the received area does not lie in the structure area
 abbrev pub is_area_outside : Registers → Bool
-is_area_outside r = not (r.fbu == 0) || nat_lt 0x100000 (r.fb + 4096)
+is_area_outside r = not (r.fbu == 0) || nat_lt 0x100000 (r.fb + 0x1000)
 
 -- the command list does not lie in the structure area
 abbrev pub is_list_outside : Registers → Bool
-is_list_outside r = not (r.clbu == 0) || nat_lt 0x100000 (r.clb + 1024)
+is_list_outside r = not (r.clbu == 0) || nat_lt 0x100000 (r.clb + 0x400)
 
 -- why a write of PxCMD with these bits ST and FRE is refused
 unfoldable pub cmd_refusal : Registers → (starts receives : Bool) → Option WriteError
@@ -103,9 +103,9 @@ falls r value = r.started && not (has_bit value st)
 
 -- A write of PxCI takes the bits of the slots that it issues out of the armed ones. PxFBS.DEC is not stored.
 unfoldable pub written : Register → Registers → ℕ → Registers
-written Clb r value = record r { clb = value / 1024 * 1024 }
+written Clb r value = record r { clb = value / 0x400 * 0x400 }
 written Clbu r value = record r { clbu = value }
-written Fb r value = record r { fb = value / 4096 * 4096 }
+written Fb r value = record r { fb = value / 0x1000 * 0x1000 }
 written Fbu r value = record r { fbu = value }
 written Is r value = record r { interrupts = without r.interrupts (bit_and value interrupts) }
 written Ie r value = record r { enabled = value }
@@ -120,5 +120,5 @@ written Sig r value = r
 written Serr r value = record r { unknown = r.unknown && not (has_bit value unknown_fis) }
 written Sact r value = record r { armed = bit_or r.armed value }
 written Ci r value = record r { armed = without r.armed value }
-written Sntf r value = record r { notified = bit_and r.notified (65535 - value % 65536) }
+written Sntf r value = record r { notified = bit_and r.notified (0xFFFF - value % 0x10000) }
 written Fbs r value = record r { switching = has_bit value en; chosen = value / dev_unit % 16 }

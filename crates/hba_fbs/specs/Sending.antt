@@ -70,7 +70,7 @@ resets cfis = has_bit (slice_index cfis 15) 2
 abbrev pub state_sent : DeviceState → Command → DeviceState
 state_sent state command =
     if is_control command.work.kind then record state { resetting = state.resetting || resets command.cfis }
-    else record state { status = bit_or state.status 128 }
+    else record state { status = bit_or state.status 0x80 }
 
 -- the view of a device after the command of its slot went out
 abbrev pub view_sent : DeviceView → ℕ → Command → DeviceView
@@ -125,7 +125,7 @@ MayRest port = is_running port ≡ true → (next_receiver port ≡ None) × (ne
 
 -- the largest running number, which stays once it is reached
 abbrev pub largest : ℕ
-largest = 4294967295
+largest = 0xFFFFFFFF
 
 abbrev pub counted : ℕ → ℕ
 counted n = min (n + 1) largest

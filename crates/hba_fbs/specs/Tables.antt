@@ -15,7 +15,7 @@ use Rattle.hba_fbs.specs.Views.{last_command}
 
 -- the PRDs of a command as they are now, from byte 80h of its table on
 abbrev pub prds_of : Memory → Command → List Prd
-prds_of memory command = prds_at memory.structure (command.table + 128) command.count
+prds_of memory command = prds_at memory.structure (command.table + 0x80) command.count
 
 -- the memory with these two areas
 abbrev pub areas : List ℕ → List ℕ → Memory
@@ -32,7 +32,7 @@ IsTableOf memory command table = MatchOption command ⊥ (λ c. table ≡ table_
 -- the PRDs of a command can be read and have len bytes in all
 abbrev pub is_readable : Memory → ℕ → Command → Bool
 is_readable memory len command =
-    is_none (read_fault memory.structure (length memory.client) (command.table + 128) command.count)
+    is_none (read_fault memory.structure (length memory.client) (command.table + 0x80) command.count)
     && (total_of (prds_of memory command) == len)
 
 -- the command of a device's slot, if its PRDs can be read and have the slot's bytes

@@ -34,7 +34,7 @@ pub(crate) fn any_busy(slots: &SlotTable, value: u32) -> bool
 
 fn names_other(registers: Registers, structure: &[u8], dev: u8, value: u32, slot: u8) -> bool
     requires slot { slot < 32 }
-    requires list { registers.clb + 1024 ≤ length structure.now }
+    requires list { registers.clb + 0x400 ≤ length structure.now }
     ensures { result ≡ (has_bit_of value slot && names_other_of registers structure.now dev slot) }
 {
     has_bit(value, u32::from(slot)) && pmp(structure, registers.clb, slot) != dev
@@ -42,7 +42,7 @@ fn names_other(registers: Registers, structure: &[u8], dev: u8, value: u32, slot
 
 /// Whether the header of one of these slots names a device other than this one.
 pub(crate) fn any_other(registers: Registers, structure: &[u8], dev: u8, value: u32) -> bool
-    requires { registers.clb + 1024 ≤ length structure.now }
+    requires { registers.clb + 0x400 ≤ length structure.now }
     ensures { result ≡ any_slot value (names_other_of registers structure.now dev) }
 {
     for slot in 0..32_u8 {
@@ -105,7 +105,7 @@ pub(crate) fn aimed(registers: Registers, structure: &[u8], value: u32) -> u8
 // The command in a slot, as it is in memory now.
 fn standing(registers: Registers, memory: &HostMemory, slot: u8) -> Option<Command>
     requires slot { slot < 32 }
-    requires list { registers.clb + 1024 ≤ 1048576 }
+    requires list { registers.clb + 0x400 ≤ 0x100000 }
     ensures value { result
         ≡ command_at memory.now registers.clb slot (has_bit_of registers.armed slot) }
     ensures work { IfSome result (λ command. IsWork command.work) }
@@ -116,7 +116,7 @@ fn standing(registers: Registers, memory: &HostMemory, slot: u8) -> Option<Comma
 
 fn is_bad(registers: Registers, memory: &HostMemory, value: u32, slot: u8) -> bool
     requires slot { slot < 32 }
-    requires list { registers.clb + 1024 ≤ 1048576 }
+    requires list { registers.clb + 0x400 ≤ 0x100000 }
     ensures { result ≡ (has_bit_of value slot && is_bad_slot registers memory.now slot) }
 {
     has_bit(value, u32::from(slot)) && standing(registers, memory, slot).is_none()
@@ -124,7 +124,7 @@ fn is_bad(registers: Registers, memory: &HostMemory, value: u32, slot: u8) -> bo
 
 /// Whether the header or the command table of one of these slots is bad.
 pub(crate) fn any_bad(registers: Registers, memory: &HostMemory, value: u32) -> bool
-    requires { registers.clb + 1024 ≤ 1048576 }
+    requires { registers.clb + 0x400 ≤ 0x100000 }
     ensures { result ≡ any_slot value (is_bad_slot registers memory.now) }
 {
     for slot in 0..32_u8 {
@@ -138,7 +138,7 @@ pub(crate) fn any_bad(registers: Registers, memory: &HostMemory, value: u32) -> 
 // The command to issue in a slot, if the slot's bit is set.
 fn asked(registers: Registers, memory: &HostMemory, value: u32, slot: u8) -> Option<Command>
     requires slot { slot < 32 }
-    requires list { registers.clb + 1024 ≤ 1048576 }
+    requires list { registers.clb + 0x400 ≤ 0x100000 }
     ensures value { result ≡ asked_of registers memory.now value slot }
     ensures work { IfSome result (λ command. IsWork command.work) }
 {
@@ -181,7 +181,7 @@ pub(crate) fn issue_all(
     dev: u8,
     value: u32,
 )
-    requires list { registers.clb + 1024 ≤ 1048576 }
+    requires list { registers.clb + 0x400 ≤ 0x100000 }
     requires dev { dev < 16 }
     requires free { any_slot value (is_busy_slot slots.old) ≡ false }
     ensures own { slots_of dev slots.new

@@ -3,8 +3,8 @@
 //!
 //! The value of a [`HostPort`] has its own registers, the slots, the errors, the task file of each device,
 //! the commands of the issued slots, and the running number of its frames. The view of a device is a function
-//! of this value. Of the slots, task files and faults, the FISes of a device look at its own view and change
-//! nothing else.
+//! of this value. Of the slots, task files and faults, the FISes of a device look at and change only the
+//! device's own view.
 //!
 //! [`HostPort::read`] shows a register. [`HostPort::write`] takes all bits of a value, or refuses the write.
 //! [`HostPort::take`] takes a FIS. [`HostPort::next_out`] gives the next frame to go out; no other call asks
@@ -13,6 +13,7 @@
 
 mod bits;
 mod data;
+mod due;
 mod error;
 mod hearing;
 mod issue;
@@ -21,11 +22,13 @@ mod post;
 mod register;
 mod registers;
 mod report;
+mod reset;
 mod sending;
 mod state;
 mod status;
 mod take;
 
+pub use due::Due;
 pub use error::{NoRegister, WriteError};
 pub use hearing::{Fault, Happening, Heard};
 pub use port::HostPort;

@@ -229,7 +229,7 @@ impl HostPort {
 
     // Why a write of PxCI is refused because of its slots.
     fn issue_refusal(&self, value: u32, memory: &HostMemory) -> Option<WriteError>
-        requires { self.now.registers.clb + 1024 ≤ 1048576 }
+        requires { self.now.registers.clb + 0x400 ≤ 0x100000 }
         ensures { result ≡ issue_refusal_of self.now memory.now value }
     {
         if any_busy(&self.slots, value) {
@@ -305,7 +305,7 @@ impl HostPort {
     // Issues the commands in these slots for a device.
     fn issue_for(&mut self, dev: u8, value: u32, memory: &HostMemory)
         requires dev { dev < 16 }
-        requires list { self.old.registers.clb + 1024 ≤ 1048576 }
+        requires list { self.old.registers.clb + 0x400 ≤ 0x100000 }
         requires free { any_slot value (is_busy self.old.slots) ≡ false }
         ensures own { view_of dev self.new
             ≡ view_with dev (asked self.old.registers memory.now value) (view_of dev self.old) }
@@ -331,7 +331,7 @@ impl HostPort {
 
     // Issues the commands in these slots.
     fn issue(&mut self, value: u32, memory: &HostMemory)
-        requires list { self.old.registers.clb + 1024 ≤ 1048576 }
+        requires list { self.old.registers.clb + 0x400 ≤ 0x100000 }
         requires free { any_slot value (is_busy self.old.slots) ≡ false }
         ensures own { let dev = aimed_at self.old.registers memory.now.structure value in
             view_of dev self.new ≡ view_issued self.old.registers memory.now value (view_of dev self.old) }

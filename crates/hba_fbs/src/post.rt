@@ -15,7 +15,7 @@ use port_errors::Interrupts;
 use rx_area::{Posted, RxArea};
 
 fn post_into(area: &mut [u8], dev: u8, fis: &Fis<'_>) -> Posted
-    requires area { length area.old ≡ 4096 }
+    requires area { length area.old ≡ 0x1000 }
     requires dev { dev < 16 }
     ensures posted { result ≡ posted_at fis.now }
     ensures after { area.new ≡ after_post area.old dev fis.now }
@@ -27,7 +27,7 @@ fn post_into(area: &mut [u8], dev: u8, fis: &Fis<'_>) -> Posted
 }
 
 fn post_at(structure: &mut [u8], fb: u32, dev: u8, fis: &Fis<'_>) -> Posted
-    requires area { fb + 4096 ≤ length structure.old }
+    requires area { fb + 0x1000 ≤ length structure.old }
     requires dev { dev < 16 }
     ensures posted { result ≡ posted_at fis.now }
     ensures posts { Posts fb dev fis.now structure.old structure.new }
@@ -38,7 +38,7 @@ fn post_at(structure: &mut [u8], fb: u32, dev: u8, fis: &Fis<'_>) -> Posted
 
 /// Posts a FIS of a device to the received area at `fb`.
 pub(crate) fn post(memory: &mut HostMemory, fb: u32, dev: u8, fis: &Fis<'_>) -> Posted
-    requires area { fb + 4096 ≤ 1048576 }
+    requires area { fb + 0x1000 ≤ 0x100000 }
     requires dev { dev < 16 }
     ensures posted { result ≡ posted_at fis.now }
     ensures posts { Posts fb dev fis.now memory.old.structure memory.new.structure }

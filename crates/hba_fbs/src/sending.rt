@@ -43,7 +43,7 @@ fn is_ready(state: DeviceState) -> bool
 }
 
 fn low_half(mask: u32) -> u16
-    requires { mask < 65536 }
+    requires { mask < 0x10000 }
     ensures { result ≡ mask }
 {
     mask as u16
@@ -218,7 +218,7 @@ fn failed(registers: Registers, interrupts: u32) -> Registers
 impl HostPort {
     // The device to which data goes next.
     #[tactic(auto, unfolding(crate::specs::Sending::next_receiver))]
-    fn next_receiver(&self) -> Option<u8>
+    pub(crate) fn next_receiver(&self) -> Option<u8>
         ensures value { result ≡ next_receiver_of self.now }
         ensures below { IfSome result (λ dev. dev < 16) }
         ensures due { IfSome result (λ dev. IsSome (payload_of (context_of self.now.slots dev))) }

@@ -37,13 +37,14 @@ static TABLE: [(Register, u32, u32, u32); 14] = [
     (Register::Fbs, 0x40, 0xF000, 0x0000_0F01),
 ];
 
-/// What a write of this value to a register of a port that opened is answered with, and what the register shows then.
+/// What a write of this value to a register of a port that opened is answered with, and what the
+/// register shows then.
 fn stores(rig: &mut Rig, row: Row) -> bool {
     rig.open();
     rig.first_wrong(&[row]).is_none()
 }
 
-/// A row of the table, for bit k: it is stored or stays, and ones to PxSACT and PxCI are refused.
+/// A row of the table, for bit k: it is stored or stays, and ones in PxSACT and PxCI are refused.
 fn bit_row(k: u32, offset: u32, opening: u32, stored: u32) -> Row {
     let value = 1_u32.wrapping_shl(k);
     let refused = offset == 0x34 || offset == 0x38;
@@ -61,7 +62,7 @@ fn bit_row(k: u32, offset: u32, opening: u32, stored: u32) -> Row {
     )
 }
 
-/// Each bit of each register of a port that opened, but for ST and FRE.
+/// Each bit of each register of a port that opened, except ST and FRE.
 #[test]
 fn registers_are_those_of_the_table(rt: HostRuntime) -> Result<(), MemoryError> {
     let mut rig = Rig::new(rt.alloc())?;
@@ -78,7 +79,7 @@ fn registers_are_those_of_the_table(rt: HostRuntime) -> Result<(), MemoryError> 
     Ok(())
 }
 
-/// Where there is no register.
+/// Offsets without a register.
 #[test]
 fn other_offsets_are_refused(rt: HostRuntime) -> Result<(), MemoryError> {
     let mut rig = Rig::new(rt.alloc())?;
@@ -91,7 +92,8 @@ fn other_offsets_are_refused(rt: HostRuntime) -> Result<(), MemoryError> {
     Ok(())
 }
 
-/// Sets the bits of the blocks of data: by a DMA Setup of device 1, whose Data is too long, and a PIO Setup of device 2.
+/// Sets the bits of the blocks of data, by a DMA Setup of device 1, whose Data is too long, and a PIO
+/// Setup of device 2.
 fn sets_bits_of_blocks(rt: &impl Abort, rig: &mut Rig) -> Result<(), Fail> {
     issue(rt, rig, 1, 1, 0x60, &[prd(0x10_1000, 1024)])?;
     rig.take_all(&[&answer(1), &setup(0x41, true, 1, 0, 256), &data(1, 1)])?;
@@ -100,8 +102,8 @@ fn sets_bits_of_blocks(rt: &impl Abort, rig: &mut Rig) -> Result<(), Fail> {
     Ok(())
 }
 
-/// Sets the others: by a FIS of an unknown type, a Register FIS, a task file error, a length that is wrong, and at last a
-/// FIS of the control port that stops the port.
+/// Sets the other bits: by a FIS of an unknown type, a Register FIS, a task file error, a length that
+/// is wrong, and last a FIS of the control port that stops the port.
 fn sets_other_bits(rig: &mut Rig) -> Result<(), FrameError> {
     rig.take_all(&[
         &[0xC7, 0, 0, 0],
@@ -120,7 +122,7 @@ fn notify(rig: &mut Rig) -> Result<(), FrameError> {
     Ok(())
 }
 
-/// In a port in whose registers each bit is set that may be.
+/// Whether a row holds in a port whose registers have each bit set that may be set.
 fn clears(rt: &impl Abort, rig: &mut Rig, row: Row) -> Result<bool, Fail> {
     rig.start();
     notify(rig)?;
@@ -151,7 +153,7 @@ fn ones_clear_bits(rt: HostRuntime) -> Result<(), Fail> {
     Ok(())
 }
 
-/// A device is in the middle of a PIO data-in command, with Status D8h, as ST falls.
+/// A device is in the middle of a PIO data-in command, with Status D8h, when ST falls.
 #[test]
 fn a_stop_clears_busy(rt: HostRuntime) -> Result<(), Fail> {
     let mut rig = Rig::started(rt.alloc())?;
@@ -167,7 +169,8 @@ fn a_stop_clears_busy(rt: HostRuntime) -> Result<(), Fail> {
     Ok(())
 }
 
-/// While ST is 1 some registers stay; it falls and rises, and leaves PxFBS as written.
+/// ST rises in both modes. While it is 1, some registers stay. It falls and rises, and leaves PxFBS as
+/// written.
 #[test]
 fn starts_and_stops(rt: HostRuntime) -> Result<(), MemoryError> {
     let mut rig = Rig::new(rt.alloc())?;
@@ -198,7 +201,7 @@ fn starts_and_stops(rt: HostRuntime) -> Result<(), MemoryError> {
     Ok(())
 }
 
-/// The last places of the received area and of the command list, and those after them.
+/// The last places of the received area and of the command list, and the places after them.
 #[test]
 fn areas_lie_inside(rt: HostRuntime) -> Result<(), MemoryError> {
     let mut rig = Rig::new(rt.alloc())?;
@@ -241,8 +244,9 @@ fn write_read(rt: &impl Abort, rig: &mut Rig, slot: u8, dev: u8, table: u32) {
     rig.write_slot(rt, slot, table, &fields, &[prd(0x10_1000, 512)]);
 }
 
-/// Slots 0 and 2 are good ones of device 2, the table of 2 at the last place that has room for it; slot 1 is one of device
-/// 3, and the table of slot 3 has no room. Each refusal is looked for in all of the slots before the next.
+/// Slots 0 and 2 are good slots of device 2; the table of slot 2 lies at the last place that has room
+/// for it. Slot 1 is a slot of device 3, and the table of slot 3 has no room. Each refusal is looked
+/// for in all of the slots before the next.
 #[test]
 fn slots_are_issued_all_or_none(rt: HostRuntime) -> Result<(), MemoryError> {
     let mut rig = Rig::new(rt.alloc())?;

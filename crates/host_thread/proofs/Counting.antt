@@ -63,7 +63,7 @@ some n =
     let lt : 0 < suc n = omega arith in
     grind (arith, lt)
 
--- one is under way where the count is not 0
+-- one is under way if the count is not 0
 pub any_counted : (states : List State) → list_any is_submitted states ≡ nat_lt 0 (count_submitted states)
 any_counted [] = refl
 any_counted (s ∷ states) = first (is_submitted s) (any_counted states)
@@ -73,7 +73,7 @@ any_counted (s ∷ states) = first (is_submitted s) (any_counted states)
     first true rest = sym (some (length (filter is_submitted states)))
     first false rest = rest
 
--- none is where all wait
+-- none is if all wait
 pub none_submitted : (n : ℕ) → 0 ≡ count_submitted (replicate n state.Waits)
 none_submitted zero = refl
 none_submitted (suc n) = none_submitted n
@@ -118,7 +118,7 @@ any_at (x ∷ states) (suc i) d lt is = or_true (is_open x) (list_any is_open st
     or_true true b h = refl
     or_true false b h = h
 
--- One is open where one was not given yet, or is under way.
+-- One is open if one was not given yet, or is under way.
 pub open_counted : (next : ℕ) (states : List State) → AreGiven next states
     → list_any is_open states ≡ (nat_lt next (length states) || nat_lt 0 (count_submitted states))
 open_counted next states given = elim (cases_lt next (length states)) [

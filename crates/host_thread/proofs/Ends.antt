@@ -114,7 +114,7 @@ module _ (start : Memory) (plan : List Planned) (states : List State) (i : ℕ) 
         ];
       }
 
--- a request is polled that is none of these
+-- a request is polled that is not one of these
 pub polled_beside : (start : Memory) (plan : List Planned) (states : List State) (completion : Completion)
     → ((j : ℕ) (s : State) → j < length states → slice_index_or states j s ≡ state.Submitted completion.ticket → ⊥)
     → (turns : List HostTurn) → AreTrue start turns plan states → AreTrue start (turns ++ Polled completion ∷ []) plan states

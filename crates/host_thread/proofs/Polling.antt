@@ -1,4 +1,4 @@
--- Where no ended request is polled, the driver stays as it is.
+-- If no ended request is polled, the driver stays as it is.
 use Rattle.std.proofs.Common.{◌≡◌, ℕ, true, List, Option, Some, None, refl}
 use Rattle.std.specs.Prelude.{slice_set}
 use Rattle.slots.specs.Slots.{match_some}

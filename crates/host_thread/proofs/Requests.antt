@@ -24,7 +24,7 @@ any_default [] i d e lt = absurd (omega (arith, lt))
 any_default (x ∷ xs) zero d e lt = refl
 any_default (x ∷ xs) (suc i) d e lt = any_default xs i d e (omega (arith, lt))
 
--- where none is so, none at any place is
+-- if none has the property, none at any place has
 none_at : {X : Type 0} (test : X → Bool) (xs : List X) (i : ℕ) (d : X) → list_any test xs ≡ false → i < length xs
     → test (slice_index_or xs i d) ≡ false
 none_at test [] i d none lt = absurd (omega (arith, lt))
@@ -206,7 +206,7 @@ module _ (start : Memory) (plan : List Planned) (states : List State) (i : ℕ) 
 
 -- ---- whose turn it is
 
--- It is the turn of the request at place i, and where it waits, none is under way.
+-- It is the turn of the request at place i. If that request waits, none is under way.
 pub record IsDue (plan : List Planned) (states : List State) (i : ℕ) (wait : Bool) : Type 0 where
   pub there : i < length plan
   pub all : length states ≡ length plan
@@ -285,7 +285,7 @@ one_given states i s h is = set_given states (i + 1) i s is (omega arith)
     (λ j d lt less. elim (cases_eq j i) [ inl here ↦ inl here | inr away ↦ inr (h.before j d (omega (arith, lt, away)) less) ])
     (λ j d from less. h.later j d (omega (arith, from)) less)
 
--- one that was taken is polled
+-- a request that was taken is polled
 pub still_given : (states : List State) (next i : ℕ) (ticket : Ticket) (s : State) → AreGiven next states → i < length states
     → slice_index_or states i state.Waits ≡ state.Submitted ticket → is_waiting s ≡ false → AreGiven next (slice_set states i s)
 still_given states next i ticket s h there was is =

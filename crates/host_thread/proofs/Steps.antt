@@ -31,7 +31,7 @@ does_append a b c (turn ∷ first) second does more = (does.0, does.1, does_appe
 
 -- ---- a run goes on
 
--- with these turns more, of which the lists grew by what they took and gave
+-- with these turns more, by which the lists grew by what they took and gave
 pub goes_more : (old new : HostView) (more : List HostTurn) → DoesAll old.host more new.host
     → map (λ f. f.bytes) new.frames.taken ≡ map (λ f. f.bytes) old.frames.taken ++ flat_map took_by more
     → new.commands.sent ++ option_to_list new.hand ≡ (old.commands.sent ++ option_to_list old.hand) ++ flat_map pushed_by more
@@ -152,7 +152,7 @@ module _ (old : HostView) where
       (λ d. subst (λ (o : Planned). WasRefused (IsNext start old.plan old.states i o.wait) start (turns ++ []) o refusal)
       (any_default old.plan i q d there) was))
 
-  -- a request is polled that is none of the plan
+  -- a request is polled that is not in the plan
   pub polls_other : (host : Host) (completion : Completion) → Polls old.host completion host
       → ((j : ℕ) (s : State) → j < length old.states → slice_index_or old.states j s ≡ state.Submitted completion.ticket → ⊥)
       → GoesOn old (with_host host)

@@ -46,7 +46,7 @@ taken_low (suc k) zero (s ∷ states) new le = absurd (omega (arith, le))
 taken_low (suc k) (suc i) (s ∷ states) new le =
     heads (was_taken s) (was_taken s) s s _ _ refl (taken_low k i states new (omega (arith, le)))
 
--- and nothing at all where the request was taken before as now
+-- and nothing at all if the request was taken before as it is now
 pub taken_same : (k i : ℕ) (states : List State) (new d : State) → was_taken new ≡ was_taken (slice_index_or states i d)
     → taken_before k (slice_set states i new) ≡ taken_before k states
 taken_same zero i states new d same = refl
@@ -54,7 +54,7 @@ taken_same (suc k) i [] new d same = refl
 taken_same (suc k) zero (s ∷ states) new d same = heads (was_taken new) (was_taken s) new s _ _ same refl
 taken_same (suc k) (suc i) (s ∷ states) new d same = heads (was_taken s) (was_taken s) s s _ _ refl (taken_same k i states new d same)
 
--- ---- one place more
+-- ---- one more place
 
 taken_next : (states : List State) (i : ℕ) (d : State) (b : Bool) → i < length states → was_taken (slice_index_or states i d) ≡ b
     → taken_before (i + 1) states ≡ taken_before i states + cond b 1 0
@@ -78,7 +78,7 @@ module _ (states : List State) (i : ℕ) (later : (j : ℕ) (s : State) → i �
       let none : taken_before (i + n) states + 0 ≡ taken_before (i + n) states = omega arith in
       ap (λ k. taken_before k states) same ∙ next ∙ none ∙ before
 
--- where all from place i on wait, all that were taken lie before it
+-- if all from place i on wait, all that were taken lie before it
 pub taken_all : (states : List State) (i : ℕ) → AreGiven i states → i ≤ length states → taken_before (length states) states ≡ taken_before i states
 taken_all states i given le =
     let later : (j : ℕ) (s : State) → i ≤ j → j < length states → was_taken (slice_index_or states j s) ≡ false =

@@ -80,7 +80,7 @@ module _ (start : Memory) (turns : List HostTurn) (host : Host) (does : DoesAll 
       ticket_is start turns host does was.before was.rest (slice_index_or plan i p).dev (slice_index_or plan i p).request ticket.0 was.are
       ∙ ap (λ n. n + 1) was.so.few
 
-  -- so no two that are open have the same
+  -- so no two that are open have the same ticket
   pub one_place : (i j : ℕ) (d e : State) (p : Planned) (one other : Ticket) → i < length states → j < length states
       → slice_index_or states i d ≡ state.Submitted one → slice_index_or states j e ≡ state.Submitted other → j ≢ i → one.0 ≢ other.0
   one_place i j d e p one other there less is also apart same =

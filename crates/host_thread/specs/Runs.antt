@@ -1,6 +1,6 @@
--- What the host's thread does: there is one list of turns of the host, of which the lists of its
--- seats are the projections, and port, driver and memory the outcome; and what it says of each
--- request of its plan is in these turns, in the order of the plan and behind its barriers.
+-- What the host's thread does. There is one list of turns of the host. The lists of its seats are
+-- projections of it, and port, driver and memory are its outcome. What the thread says of each
+-- request of its plan is in these turns, in the order of the plan and after its barriers.
 use Rattle.std.specs.Prelude.{◌≡◌, ℕ, ◌<◌, ◌≤◌, ◌==◌, ◌⊎◌, ⊤, Bool, true, false, List, ◌++◌, [], ◌∷◌, filter}
 use Rattle.std.specs.Prelude.{length, map, slice_index_or, take, Option, Some}
 use Rattle.std.specs.List.{Contains, flat_map, list_any}
@@ -108,7 +108,7 @@ taken_before i states = length (filter was_taken (take i states))
 abbrev pub count_submitted : List State → ℕ
 count_submitted states = length (filter is_submitted states)
 
--- a refusal that may pass: the device comes and recovers, its queue goes on, and slots get free
+-- a refusal that may pass: the device comes and recovers, its queue goes on, and slots become free
 abbrev pub is_for_now : SubmitError → Bool
 is_for_now refusal.NoDevice = true
 is_for_now refusal.Recovering = true
@@ -129,14 +129,14 @@ pub record IsRefusedForNow (host : Host) (p : Planned) : Type 0 where
   pub refused : submit_refusal host.driver host.memory p.dev p.request ≡ Some refusal
   pub passes : is_for_now refusal ≡ true
 
--- The next request of the plan, if there is one, is not given to the driver: it waits for others that are
--- under way, or the driver refuses it for now.
+-- The next request of the plan, if there is one, is not given to the driver: it waits for others that
+-- are under way, or the driver refuses it for now.
 abbrev pub MayWait : HostView → Type 0
 MayWait w = (i : ℕ) (p : Planned) → AreGiven i w.states → i < length w.plan
     → (((slice_index_or w.plan i p).wait ≡ true) × (list_any is_submitted w.states ≡ true))
     ⊎ IsRefusedForNow w.host (slice_index_or w.plan i p)
 
--- It was taken under this ticket, after turns of which this is so.
+-- It was taken under this ticket, after turns for which this holds.
 pub record WasTaken (IsSo : List HostTurn → Type 0) (turns : List HostTurn) (p : Planned)
     (ticket : ℕ) : Type 0 where
   pub before : List HostTurn
@@ -152,7 +152,8 @@ pub record WasPolled (IsSo : List HostTurn → Type 0) (turns : List HostTurn) (
   pub polled : Contains turns (Polled completion)
   pub ended_so : completion.outcome ≡ outcome
 
--- there was a moment, after turns of which this is so, at which the driver refused it so, and not for now
+-- there was a moment, after turns for which this holds, at which the driver refused it in this way,
+-- and not only for now
 pub record WasRefused (IsSo : List HostTurn → Type 0) (start : Memory) (turns : List HostTurn) (p : Planned)
     (refusal : SubmitError) : Type 0 where
   pub before : List HostTurn
@@ -168,7 +169,8 @@ abbrev pub IsEnd : (List HostTurn → Type 0) → Memory → List HostTurn → P
 IsEnd IsSo start turns p (ended.Polled outcome) = WasPolled IsSo turns p outcome
 IsEnd IsSo start turns p (ended.Refused refusal) = WasRefused IsSo start turns p refusal
 
--- what the worker says of a request is so, and it was given to the driver after turns of which this is so
+-- what the worker says of a request is true, and the request was given to the driver after turns for
+-- which this holds
 abbrev pub IsTrue : (List HostTurn → Type 0) → Memory → List HostTurn → Planned → State → Type 0
 IsTrue IsSo start turns p state.Waits = ⊤
 IsTrue IsSo start turns p (state.Submitted ticket) = WasTaken IsSo turns p ticket.0
@@ -179,7 +181,7 @@ IsTrue IsSo start turns p (state.Ended end) = IsEnd IsSo start turns p end
 abbrev pub at_any_time : List HostTurn → Type 0
 at_any_time turns = ⊤
 
--- Within these turns it was given to the driver, as is said of it in the end.
+-- Within these turns the request was given to the driver, as is said of it in the end.
 abbrev pub HasBegun : Memory → List HostTurn → Planned → State → Type 0
 HasBegun start turns p state.Waits = ⊥
 HasBegun start turns p (state.Submitted ticket) = WasTaken at_any_time turns p ticket.0
@@ -187,27 +189,28 @@ HasBegun start turns p (state.Ended (ended.Polled outcome)) =
     (ticket : ℕ) × WasTaken at_any_time turns p ticket
 HasBegun start turns p (state.Ended (ended.Refused refusal)) = WasRefused at_any_time start turns p refusal
 
--- Within these turns it has ended, as is said of it in the end: it was polled or refused.
+-- Within these turns the request has ended, as is said of it in the end: it was polled or refused.
 abbrev pub HasEnded : Memory → List HostTurn → Planned → State → Type 0
 HasEnded start turns p (state.Ended end) = IsEnd at_any_time start turns p end
 HasEnded start turns p s = ⊥
 
--- what a request that waits wants of each before it; one that does not
+-- what a request requires of each before it: one that waits, that it has ended; one that does not,
+-- that it has begun
 abbrev pub IsPast : Bool → Memory → List HostTurn → Planned → State → Type 0
 IsPast true start turns p s = HasEnded start turns p s
 IsPast false start turns p s = HasBegun start turns p s
 
--- After these turns it is the turn of the request at place i: all before it were given to the driver, and
--- where it waits, all before it have ended; and those of them that were taken were taken once each, and
--- nothing else was.
+-- After these turns it is the turn of the request at place i. All requests before it were given to
+-- the driver. If it waits, all before it have ended. Those of them that were taken were taken once
+-- each, and nothing else was.
 pub record IsNext (start : Memory) (plan : List Planned) (states : List State) (i : ℕ) (wait : Bool)
     (turns : List HostTurn) : Type 0 where
   pub each : (j : ℕ) (p : Planned) (s : State) → j < i
       → IsPast wait start turns (slice_index_or plan j p) (slice_index_or states j s)
   pub few : length (given_in turns) ≡ taken_before i states
 
--- What is said of each request is so, and each was given to the driver in its turn. Nothing else was taken
--- but those of which it is said, once each; and of one that is said to be open nothing was polled.
+-- What is said of each request is true, and each was given to the driver in its turn. Only those of
+-- which it is said were taken, once each. Nothing was polled of a request that is said to be open.
 pub record AreTrue (start : Memory) (turns : List HostTurn) (plan : List Planned)
     (states : List State) : Type 0 where
   pub each : (i : ℕ) (p : Planned) (s : State) → i < length states
@@ -220,9 +223,9 @@ pub record AreTrue (start : Memory) (turns : List HostTurn) (plan : List Planned
 
 -- ---- the run
 
--- There is one list of turns, from a new host beside this memory to this one. The FISes that they
--- take are those that were taken, in their order; those that they give are those that were sent,
--- and then the one in the hand; and what is said of the requests of the plan is so.
+-- There is one list of turns, from a new host beside this memory to this one. The FISes that the
+-- turns take are those that were taken, in their order. Those that they give are those that were
+-- sent, and then the one in the hand. What is said of the requests of the plan is true.
 pub record IsRun (start : Memory) (w : HostView) : Type 0 where
   pub turns : List HostTurn
   pub does : DoesAll (starting start) turns w.host
@@ -230,6 +233,6 @@ pub record IsRun (start : Memory) (w : HostView) : Type 0 where
   pub pushed : w.commands.sent ++ option_to_list w.hand ≡ flat_map pushed_by turns
   pub requests : AreTrue start turns w.plan w.states
 
--- beside whatever memory it was a run, it still is
+-- it is still a run beside whatever memory it was one
 abbrev pub GoesOn : HostView → HostView → Type 0
 GoesOn old new = (start : Memory) → IsRun start old → IsRun start new

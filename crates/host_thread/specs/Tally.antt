@@ -17,7 +17,7 @@ counted_by n c row = if are_these row.port row.conn n c then row.count else 0
 abbrev pub count_on : ℕ → ℕ → List Row → ℕ
 count_on n c rows = sum_by (counted_by n c) rows
 
--- one FIS more of this port and connection is counted, and none of any other
+-- one more FIS of this port and connection is counted, and none of any other
 abbrev pub CountsOne : (port conn : ℕ) → List Row → List Row → Type 0
 CountsOne port conn old new =
     (n c : ℕ) → count_on n c new ≡ count_on n c old + (if are_these port conn n c then 1 else 0)
@@ -25,8 +25,8 @@ CountsOne port conn old new =
 abbrev pub no_row : Row
 no_row = record { port = 0; conn = 0; count = 0 }
 
--- The rows count what was taken of each connection of a device port. No count is above 2^32, since
--- numbers are below.
+-- The rows count what was taken of each connection of a device port. No count is above 2^32, because
+-- all numbers are below.
 pub record AreCounted (rows : List Row) (taken : List Stamped) : Type 0 where
   pub counts : (n c : ℕ) → n < control_port → count_on n c rows ≡ length (of_port n c taken)
   pub few : (n c : ℕ) → count_on n c rows ≤ 2 ^ 32

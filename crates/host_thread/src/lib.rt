@@ -1,15 +1,15 @@
 //! The host in a thread of its own.
 //!
-//! A [`HostWorker`] is a host port, a driver and their memory with the two seats of the host, and a
+//! A [`HostWorker`] is a host port, a driver and their memory, with the two seats of the host and a
 //! plan of requests. It takes FISes, lets the driver tick, sends what the port gives, submits the
 //! requests of the plan in their order, and polls those that ended. It ends when all have ended.
 //!
-//! Whatever other threads do, what it took is in stamped order, and it is a run, `specs/Runs.antt`:
-//! there is one list of turns of the host, of which the lists of its seats are the projections, and
-//! of which the laws of `hba_driver` speak. What it says of each request of its plan is in these
-//! turns: each was given to the driver after all before it, and one that waits after all before it
-//! had ended. Nothing else was given, and each that was taken was taken once; of one that is open
-//! nothing was polled; and none ends by a refusal that may pass.
+//! Whatever other threads do, what it took is in stamped order, and it is a run (`specs/Runs.antt`):
+//! there is one list of turns of the host. The lists of its seats are projections of it, and the laws
+//! of `hba_driver` speak about it. What the worker says of each request of its plan is in these
+//! turns. Each request was given to the driver after all before it. A request that waits was given
+//! after all before it had ended. Nothing else was given, and each request that was taken was taken
+//! once. Nothing was polled of a request that is open. None ends by a refusal that may pass.
 #![tactic(auto)]
 
 mod end;

@@ -80,7 +80,7 @@ pub(crate) fn place_of(states: &[State], first: usize, ticket: Ticket) -> Option
     None
 }
 
-/// Whether a request that was refused so is tried again.
+/// Whether a request that was refused in this way is tried again.
 pub(crate) fn is_tried_again(refusal: SubmitError) -> bool
     ensures { result ≡ is_for_now refusal }
 {

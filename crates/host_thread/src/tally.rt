@@ -14,7 +14,7 @@ pub struct Row {
     pub(crate) count: u64,
 }
 
-/// Makes room for one row more.
+/// Makes room for one more row.
 pub(crate) fn make_room(rows: &mut Vec<Row>) -> Result<(), AllocError>
     ensures rows { rows.new.items ≡ rows.old.items }
     ensures room { OnOk result (vec_len rows.new < vec_capacity rows.new) }
@@ -36,7 +36,7 @@ fn place_of(rows: &[Row], port: u8, conn: u32) -> Option<usize>
     None
 }
 
-/// Counts one FIS more.
+/// Counts one more FIS.
 pub(crate) fn note(rows: &mut Vec<Row>, port: u8, conn: u32)
     requires room { vec_len rows.old < vec_capacity rows.old }
     requires few { count_on port conn rows.old.items < 2 ^ 32 }

@@ -38,7 +38,7 @@ fn tell<R: Wait>(rt: &R, up: &mut Tx<'_, ToHost>, frame: Frame) -> bool
     up.send(rt, ToHost(frame)).is_ok()
 }
 
-/// So many reads of the first sector of device 0.
+/// This many reads of the first sector of device 0.
 fn reads(alloc: Global, count: usize) -> Result<Vec<Planned>, Fail> {
     let mut plan = Vec::new(alloc);
     for _ in 0..count {
@@ -66,9 +66,9 @@ fn first_down<R: Wait>(rt: &R, down: &mut Rx<'_, Down>) -> Option<u8> {
     down.take(rt).map(|item| item.0.pm_port())
 }
 
-/// A host with so many reads to do works until nothing moved in ten turns. Answers whether a read is open then, how
-/// many FISes were taken of connection 2 of port 3, and the PM Port of the first FIS that went
-/// down.
+/// A host with this many reads to do works until nothing moved in ten turns. Answers whether a read
+/// is open then, how many FISes were taken of connection 2 of port 3, and the PM Port of the first
+/// FIS that went down.
 fn worked<R: Wait>(
     rt: &R,
     alloc: Global,

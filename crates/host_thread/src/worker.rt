@@ -19,7 +19,7 @@ use std::alloc::{AllocError, Global};
 use std::marker::Model;
 use std::sync::Wait;
 
-/// A driver has so many requests at most.
+/// The most requests that a driver has.
 const SLOTS: u32 = 30;
 
 /// A host with its seats and its plan, and a place for a FIS that a full link did not take.
@@ -35,7 +35,7 @@ pub struct HostWorker<'a> {
     next: usize,
     /// How many were taken and not polled yet.
     under_way: usize,
-    /// The places of those that were taken, in their order: tickets count up from 1.
+    /// The places of those that were taken, in order: tickets count up from 1.
     places: Vec<usize>,
     /// How many FISes of each connection were taken.
     rows: Vec<Row>,
@@ -70,8 +70,8 @@ impl<'a> Model for HostWorker<'a> {
 }
 
 impl<'a> HostWorker<'a> {
-    /// A new port and a new driver beside this memory, over links that nothing went over. No
-    /// request of the plan was taken.
+    /// A new port and a new driver beside this memory, over links that nothing went over. No request
+    /// of the plan was taken.
     pub fn new(
         alloc: Global,
         frames: Rx<'a, ToHost>,
@@ -127,7 +127,7 @@ impl<'a> HostWorker<'a> {
         self.host.tick()
     }
 
-    /// Asks the port for a FIS, where the hand is empty.
+    /// Asks the port for a FIS, if the hand is empty.
     fn ask(&mut self) -> Result<(), AllocError>
         ensures run { GoesOn self.old self.new }
         ensures same { Same self.old self.new }
@@ -141,7 +141,7 @@ impl<'a> HostWorker<'a> {
         Ok(())
     }
 
-    /// Sends the FIS in the hand. It stays there where the link is full.
+    /// Sends the FIS in the hand. It stays there if the link is full.
     fn send<R: Wait>(&mut self, rt: &R) -> bool
         ensures run { GoesOn self.old self.new }
         ensures same { Same self.old self.new }
@@ -158,8 +158,8 @@ impl<'a> HostWorker<'a> {
         }
     }
 
-    /// Submits the next request of the plan, where it need not wait. One that is refused for now is
-    /// tried again. Room for its place is made before.
+    /// Submits the next request of the plan, if it need not wait. A request that is refused for now
+    /// is tried again. Room for its place is made before.
     fn submit(&mut self) -> Result<bool, AllocError>
         ensures run { GoesOn self.old self.new }
         ensures same { Same self.old self.new }
@@ -232,7 +232,8 @@ impl<'a> HostWorker<'a> {
         polled
     }
 
-    /// Tries each step once, and says whether anything moved. What went over a link is told to the multiplier.
+    /// Tries each step once, and says whether anything moved. Rings for the multiplier if something
+    /// went over a link.
     fn turn<R: Wait>(&mut self, rt: &R, post: &Post<'_>) -> Result<bool, AllocError>
         ensures run { GoesOn self.old self.new }
         ensures same { Same self.old self.new }

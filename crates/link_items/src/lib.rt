@@ -10,6 +10,3 @@ mod orders;
 
 pub use items::{Down, FromDevice, Presence, ToHost};
 pub use orders::order_goes_on;
-
-#[cfg(test)]
-mod tests;

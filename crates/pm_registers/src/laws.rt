@@ -9,9 +9,11 @@ ghost use Rattle.pm_registers.specs.RegisterMap.{RegisterMap, opening};
 /// PSCR\[1\] is cleared only by writing a one to it. For every sound map: a call leaves it sound, and a
 /// device is present at a port exactly from its coming to its going.
 pub fn registers_follow_calls()
-    ensures summary { (ports : ℕ) (calls : List Call) → ports ≤ 15 → SummaryAgrees (after (opening ports) calls) }
+    ensures summary { (ports : ℕ) (calls : List Call) → ports ≤ 15
+        → SummaryAgrees (after (opening ports) calls) }
     ensures due { (ports : ℕ) (calls : List Call) →
         ((after (opening ports) calls).due ≡ true) ↔ NotifiedSince (opening ports) calls }
-    ensures cleared { (ports : ℕ) (calls : List Call) → ports ≤ 15 → ClearedByOnes (after (opening ports) calls) }
+    ensures cleared { (ports : ℕ) (calls : List Call) → ports ≤ 15
+        → ClearedByOnes (after (opening ports) calls) }
     ensures sound { (m : RegisterMap) (call : Call) → KeepsSound m call }
 {}

@@ -29,7 +29,7 @@ to_port-append : (n : ℕ) (front more : List (ℕ × Stamped)) → to_port n (f
 to_port-append n front more = ap (map (λ (s : ℕ × Stamped). s.1)) (filter-append (λ (s : ℕ × Stamped). s.0 == n) front more)
     ∙ map-append (λ (s : ℕ × Stamped). s.1) _ _
 
--- one FIS more went down
+-- one more FIS went down
 pub down_more : (n m : ℕ) (front : List (ℕ × Stamped)) (frame : Stamped)
     → to_port n (front ++ (m, frame) ∷ []) ≡ to_port n front ++ (if m == n then frame ∷ [] else [])
 down_more n m front frame = to_port-append n front ((m, frame) ∷ []) ∙ ap (λ l. to_port n front ++ l) (by (m == n))
@@ -40,7 +40,7 @@ down_more n m front frame = to_port-append n front ((m, frame) ∷ []) ∙ ap (�
 
 -- ---- a sound worker goes on
 
--- With these calls more, of which the lists grew by what they took and gave, it is still a run.
+-- With these calls more, by which the lists grew by what they took and gave, it is still a run.
 pub sound_more : (old new : PmView) (was : IsSound old) (more : List Call)
     → DoesAll (all_past none_past was.run.calls) old.pm more new.pm
     → length new.ports ≡ length old.ports

@@ -59,7 +59,7 @@ module _ (n c : ℕ) where
       by_conn true = refl
       by_conn false = refl
 
-  -- of a connection that is not gone, what comes in is what is taken
+  -- for a connection that is not gone, what comes in is what is taken
   all_came : (old : PmState) (call : Call) (new : PmState) → Does old call new → port.is_gone (port_at old n) c ≡ false
       → came_by n c call ≡ risen n c (taken_by n call)
   all_came old (FromDevice m frame (Ok offered.Held)) new does not_so = by_port (m == n)

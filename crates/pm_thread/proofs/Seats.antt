@@ -3,11 +3,8 @@ use Rattle.std.proofs.Common.{◌≡◌, ◌≢◌, ◌==◌, ◌<◌, ℕ, zero
 use Rattle.std.specs.Prelude.{All, if◌then◌else◌, slice_index_or, slice_set}
 use Rattle.std.proofs.Math.Seq.{map-set_same}
 use Rattle.std.proofs.lemmas.Bool.{cases_eq, eq-eqb, ne_eqb}
-use Rattle.std.proofs.lemmas.List.Elements.{All-cons, All-nil, All-tail}
-use Rattle.fis_view.specs.Frames.{Stamped}
-use Rattle.multiplier.specs.Orders.{InDeviceOrder}
-use Rattle.link_items.proofs.OrderLemmas.{device_first}
-use Rattle.pm_thread.specs.Runs.{PmView, PortSeats, IsUnused, SameLinks, ends_of, at_port}
+use Rattle.std.proofs.lemmas.List.Elements.{All-tail}
+use Rattle.pm_thread.specs.Runs.{PmView, PortSeats, SameLinks, ends_of, at_port}
 
 module _ {A : Type 0} (part : PortSeats → List A) where
   -- a port that takes the place of one with the same part
@@ -47,7 +44,7 @@ module _ {A : Type 0} (part : PortSeats → List A) where
         ∙ ap (λ b. at_port part ports n ++ (if b then xs else [])) (sym (ne_eqb i n (λ same. away (sym same))))
   ]
 
-  -- what holds of each holds after
+  -- what holds for each holds for each after it
   pub each_at : (P : List A → Type 0) (ports : List PortSeats) (i : ℕ) (q : PortSeats) → P (part q) → ((n : ℕ) → P (at_port part ports n))
       → (n : ℕ) → P (at_port part (slice_set ports i q) n)
   each_at P [] i q is all n = all n
@@ -72,11 +69,3 @@ same_links old new i q d set same host commands = record {
   host = ap (λ s. record { link = s.link; room = s.room }) host;
   commands = ap (λ s. record { link = s.link; room = s.room }) commands;
 }
-
--- one port that nothing went over
-pub one_unused : (p : PortSeats) → IsUnused p → All IsUnused (p ∷ [])
-one_unused p unused = All-cons IsUnused p [] unused (All-nil IsUnused)
-
--- the first FIS of a device is in order
-pub first_in_order : (sent : List Stamped) (f : Stamped) → sent ≡ [] → f.stamp.number ≡ 0 → InDeviceOrder (sent ++ f ∷ [])
-first_in_order sent f none is = subst (λ l. InDeviceOrder (l ++ f ∷ [])) (sym none) (device_first f is)

@@ -60,7 +60,7 @@ gone_count : (old : PmState) (n conn : ℕ) (result : Result (Unit {0}) GoneErro
 gone_count old n conn (Ok done) new rule = ap (λ (m : PmState). m.registers.ports) rule.1
 gone_count old n conn (Err e) new rule = ap (λ (m : PmState). m.registers.ports) rule.1
 
--- a frame is given back only where the port holds one
+-- a frame is given back only if the port holds one
 module _ (old : PmState) (n : ℕ) (frame : Stamped) (new : PmState) (empty : (port_at old n).up ≡ None) where
   pub not_back : (back : Stamped) → FromDeviceRule old n frame (Err back) new → ⊥
   not_back back rule = absurd (let wrong : true ≡ false = sym rule.1 ∙ ap is_some empty in cc)

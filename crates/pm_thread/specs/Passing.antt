@@ -15,10 +15,10 @@ risen n c frames = map (rising n) (of_connection c frames)
 pub record Passes (w : PmView) : Type 0 where
   -- what was sent to the host is in stamped order
   pub order : InStampedOrder w.host.sent
-  -- of a connection whose removal is not recorded, what went up and then what the port holds is
-  -- what was taken
+  -- for a connection whose removal is not recorded, what went up and then what the port holds is what
+  -- was taken
   pub whole : (n c : ℕ) → n < 15 → is_gone (port_at w.pm n) c ≡ false
       → of_conn n c w.host.sent ++ held_of n c w.pm ≡ risen n c (frames_at w.ports n)
-  -- of each connection what went up is a beginning of what was taken
+  -- for each connection, what went up is a beginning of what was taken
   pub begun : (n c : ℕ) → n < 15
       → IsPrefixOf (of_conn n c w.host.sent) (risen n c (frames_at w.ports n))

@@ -1,5 +1,5 @@
--- What the multiplier's thread does: there is one list of calls of the multiplier, of which the
--- lists of its seats are the projections and the multiplier the outcome.
+-- What the multiplier's thread does. There is one list of calls of the multiplier. The lists of its
+-- seats are projections of it, and the multiplier is its outcome.
 use Rattle.std.specs.Prelude.{◌≡◌, ℕ, zero, suc, ◌≤◌, ◌==◌, if◌then◌else◌, List, [], ◌∷◌, ◌++◌, length, map}
 use Rattle.std.specs.Prelude.{Option, Ok}
 use Rattle.std.specs.List.{flat_map}
@@ -68,7 +68,7 @@ pub record IsUnused (p : PortSeats) : Type 0 where
 
 -- ---- what went over the links of port n
 
--- a list of the seats of port n; where there is no such port, none
+-- a list of the seats of port n; empty if there is no such port
 abbrev pub at_port : {A : Type 0} → (PortSeats → List A) → List PortSeats → ℕ → List A
 at_port part [] n = []
 at_port part (p ∷ ports) zero = part p
@@ -111,10 +111,10 @@ none_past = record { up = []; down = []; made = [] }
 
 -- ---- the run
 
--- There is one list of calls, from a new multiplier to this one. Port by port they took, in their
--- order, what was taken of the device, and were told the connections that came and went; what was
--- taken of the host is what they took of it, and then the FIS in the hand. What they gave and did
--- not take back is what was sent to the host, and to each device.
+-- There is one list of calls, from a new multiplier to this one. Port by port, in their order, the
+-- calls took what was taken of the device, and were told the connections that came and went. What was
+-- taken of the host is what the calls took of it, and then the FIS in the hand. What they gave and
+-- did not take back is what was sent to the host, and to each device.
 pub record IsRun (w : PmView) : Type 0 where
   pub calls : List Call
   pub does : DoesAll none_past (opening (length w.ports)) calls w.pm

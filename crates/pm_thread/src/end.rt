@@ -9,6 +9,6 @@ pub struct PmEnd<'a> {
     pub worker: PmWorker<'a>,
     /// The fault that ended it, if one did.
     pub fault: Option<Fault>,
-    /// That its turns were spent, if they were.
+    /// The turns were spent, if they were.
     pub spent: Option<Spent>,
 }

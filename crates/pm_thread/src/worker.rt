@@ -15,8 +15,7 @@ use std::alloc::{AllocError, Global};
 use std::marker::Model;
 use std::sync::Wait;
 
-/// A multiplier with the seats of its links, and a place for a FIS of the host that it has not
-/// taken.
+/// A multiplier with the seats of its links, and a place for a FIS of the host that it has not taken.
 #[derive(Drop)]
 pub struct PmWorker<'a> {
     pm: Multiplier,
@@ -76,8 +75,9 @@ impl<'a> PmWorker<'a> {
         }
     }
 
-    /// The multiplier and its seats. It is a run; what went up is in stamped order, and of each connection a beginning of
-    /// what was taken of it, with what the port holds all of it as long as its removal is not recorded.
+    /// The multiplier and its seats. It is a run. What went up is in stamped order. For each
+    /// connection, what went up is a beginning of what was taken of it; with what the port holds, it
+    /// is all of it as long as the removal of the connection is not recorded.
     pub fn into_parts(self) -> (Multiplier, Vec<PmPort<'a>>, Tx<'a, ToHost>, Rx<'a, Down>)
         ensures multiplier { result.0 ≡ self.entry.pm }
         ensures ports { result.1.items ≡ self.entry.ports }
@@ -97,8 +97,8 @@ impl<'a> PmWorker<'a> {
         (pm, ports, host, commands)
     }
 
-    /// Has port `n` record what comes next on its presence link. A change that the port refuses
-    /// leaves it as it is.
+    /// Port `n` records what comes next on its presence link. A change that the port refuses leaves
+    /// the port as it is.
     fn record<R: Wait>(&mut self, rt: &R, n: u8) -> bool
         requires { n < length self.old.ports }
         ensures links { SameLinks self.old self.new }
@@ -117,7 +117,7 @@ impl<'a> PmWorker<'a> {
         true
     }
 
-    /// Takes the next FIS of the device at port `n`, where the port holds none.
+    /// Takes the next FIS of the device at port `n`, if the port holds none.
     fn receive<R: Wait>(&mut self, rt: &R, n: u8) -> bool
         requires { n < length self.old.ports }
         ensures links { SameLinks self.old self.new }
@@ -136,7 +136,7 @@ impl<'a> PmWorker<'a> {
         }
     }
 
-    /// Sends the FIS that waits for the device at port `n`. It waits on where the link is full.
+    /// Sends the FIS that waits for the device at port `n`. It goes on waiting if the link is full.
     fn pass_down<R: Wait>(&mut self, rt: &R, n: u8) -> bool
         requires { n < length self.old.ports }
         ensures links { SameLinks self.old self.new }
@@ -170,7 +170,7 @@ impl<'a> PmWorker<'a> {
         true
     }
 
-    /// Has the multiplier take the FIS in the hand. One that it gives back stays there.
+    /// The multiplier takes the FIS in the hand. A FIS that it gives back stays there.
     fn hear(&mut self) -> Result<bool, AllocError>
         ensures links { SameLinks self.old self.new }
         ensures count { length self.new.ports ≡ length self.old.ports }
@@ -190,8 +190,8 @@ impl<'a> PmWorker<'a> {
         }
     }
 
-    /// Sends the FIS of the place that is served next up to the host. It goes back where the link
-    /// is full.
+    /// Sends the FIS of the place that is served next up to the host. It goes back if the link is
+    /// full.
     fn pass_up<R: Wait>(&mut self, rt: &R) -> Result<bool, AllocError>
         ensures links { SameLinks self.old self.new }
         ensures count { length self.new.ports ≡ length self.old.ports }
@@ -220,7 +220,7 @@ impl<'a> PmWorker<'a> {
         recorded || received || passed
     }
 
-    /// Tries the steps of each port once. What went over a link is told to the device there.
+    /// Tries the steps of each port once. Rings for the device there if something went over a link.
     fn turn_ports<R: Wait>(&mut self, rt: &R, post: &Post<'_>) -> bool
         ensures { SameLinks self.old self.new }
     {
@@ -234,8 +234,8 @@ impl<'a> PmWorker<'a> {
         moved
     }
 
-    /// Tries each step once, those of the ports first, and says whether anything moved. What went over a link is told to
-    /// the worker at its other end.
+    /// Tries each step once, those of the ports first, and says whether anything moved. Rings for the
+    /// worker at the other end of each link that something went over.
     fn turn<R: Wait>(&mut self, rt: &R, post: &Post<'_>) -> Result<bool, AllocError>
         ensures { SameLinks self.old self.new }
     {

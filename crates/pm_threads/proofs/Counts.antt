@@ -27,7 +27,7 @@ or_none : {T : Type 0} (o : Option T) → option_or o None ≡ o
 or_none None = refl
 or_none (Some x) = refl
 
--- the second where the test says so, else what the first is
+-- the second if the test says so, else what the first is
 picked : {T : Type 0} (a b now : Bool) (x y : T) → ((a ≡ false) × (b ≡ true) × (now ≡ true) × (y ≡ x)) ⊎ ((b ≡ false) × (now ≡ a))
     → option_or (if a then Some x else None) (if b then Some y else None) ≡ (if now then Some x else None)
 picked a b now x y (inl h) = rw (h.0, h.1, h.2, h.3) refl
@@ -86,7 +86,7 @@ at_port m n false in_range x y same is row = inr (
 
 -- ---- the rows of one device
 
--- one row more
+-- one more row
 pub rows_more : (row : ℕ → ConnCount) (k : ℕ) (old rows : List ConnCount) (r : ConnCount) → r ≡ row (k + 1) → rows ≡ old ++ rows_on row k
     → rows ++ r ∷ [] ≡ old ++ rows_on row (k + 1)
 rows_more row k old rows r is so =
@@ -122,7 +122,7 @@ module _ (row : ℕ → ConnCount) (n : ℕ) (of_port : (c : ℕ) → (row c).po
             (All-push (Under n (suc k)) (rows ++ rows_on row k) (row (suc k)) (λ i d lt. still_under k (get_or (rows ++ rows_on row k) i d) (so.1 i d lt)) (is_under k)),
       )
 
-  -- the row of a connection is there exactly where it is one of the first k
+  -- the row of a connection is there exactly if it is one of the first k
   found_on : (m c k : ℕ) → row_of m c (rows_on row k) ≡ (if m == n && (nat_le 1 c && nat_le c k) then Some (row c) else None)
   found_on m c zero = ap (λ b. if b then Some (row c) else None) (none_of_none m n c)
   found_on m c (suc k) =
@@ -179,7 +179,7 @@ under_next : (n k : ℕ) (r : ConnCount) → Under n k r → Under (n + 1) 0 r
 under_next n k r (inl lower) = inl (omega (arith, lower))
 under_next n k r (inr same) = inl (let p = same.0 in omega (arith, p))
 
--- the rows of one port more
+-- the rows of one more port
 pub up_to_more : (disks : List (StationState Unit)) (taken : List Stamped) (n : ℕ) (s other : StationState Unit) (rows new : List ConnCount) → n < length disks
     → get_or disks n other ≡ s → CountsAt rows n s taken new → UpTo disks taken n rows → UpTo disks taken (n + 1) new
 up_to_more disks taken n s other rows new lt is counts h =
@@ -212,7 +212,7 @@ and_false : (b : Bool) → (b && false) ≡ false
 and_false true = refl
 and_false false = refl
 
--- no connection came of a port that is not there
+-- no connection came at a port that is not there
 came_of_some : (disks : List (StationState Unit)) (m c : ℕ) → (nat_lt m (length disks) && has_come c (told_at disks m)) ≡ has_come c (told_at disks m)
 came_of_some disks m c = elim (cases_lt m (length disks)) [
   | inl lt ↦ rw (lt-ltb m (length disks) lt) refl

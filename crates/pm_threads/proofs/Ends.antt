@@ -64,7 +64,7 @@ module _ {D : Type 0} where
     presence = same.presence.0 ∙ tied.presence ∙ sym (ap (λ x. x.presence.link) ends);
   }
 
--- the ends of workers, in whatever they lie
+-- the ends of workers, whatever they lie in
 module _ {D E : Type 0} (station : E → StationState D) (R : StationState D → E → Type 0) where
   module _ (same : (w : StationState D) (e : E) → R w e → IsAtSamePort w (station e)) where
     pub all_at_ports : (ws : List (StationState D)) (es : List E) → AllZip R ws es → map (λ s. s.port) (map station es) ≡ map (λ w. w.port) ws
@@ -124,7 +124,7 @@ module _ {E : Type 0} (fault_of : E → Option Fault) where
     first_refused w x rest (Some fault.OutOfMemory) r e h later = later h
     first_refused w x rest (Some fault.GateShut) r e h later = by w x r e
 
-    -- where a worker ended by its gate, that may refuse
+    -- if a worker ended by its gate, that gate may refuse
     pub one_refused : (ws : List (StationState D)) (es : List E) → AllZip R ws es → list_any (λ e. is_shut (fault_of e)) es ≡ true → MayRefuse
     one_refused [] [] r h = absurd cc
     one_refused [] (x ∷ es) r h = absurd r
@@ -132,7 +132,7 @@ module _ {E : Type 0} (fault_of : E → Option Fault) where
     one_refused (w ∷ ws) (x ∷ es) r h =
         first_refused w x (list_any (λ e. is_shut (fault_of e)) es) (fault_of x) r.0 refl h (λ t. one_refused ws es r.1 t)
 
--- what follows of two clauses on a success
+-- what follows from two clauses on a success
 pub on_ok : {T E : Type 0} (r : Result T E) (P : Type 0) (Q S : T → Type 0) → IfOk r Q → OnOk r P → ((x : T) → Q x → P → S x) → IfOk r S
 on_ok (Ok x) P Q S q p f = f x q p
 on_ok (Err e) P Q S q p f = tt

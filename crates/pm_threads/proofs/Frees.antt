@@ -1,4 +1,4 @@
--- Links of which no seat was given.
+-- Links whose seats were not given.
 use Rattle.std.proofs.Common.{◌≡◌, ℕ, false, List, refl, sym, ap, subst}
 use Rattle.std.specs.Prelude.{All, replicate}
 use Rattle.std.proofs.lemmas.List.Elements.{All-replicate}

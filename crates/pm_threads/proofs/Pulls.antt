@@ -1,4 +1,4 @@
--- The pulls of one port, one more.
+-- The pulls of one port, with one more.
 use Rattle.std.proofs.Common.{◌≡◌, ℕ, suc, ◌+◌, ◌<◌, ◌==◌, List, [], ◌∷◌, ◌++◌, length, get_or, take, Bool, true, false, refl, ap, ◌∙◌, arith}
 use Rattle.std.specs.Prelude.{filter, if◌then◌else◌, map}
 use Rattle.std.proofs.lemmas.List.{map-append}

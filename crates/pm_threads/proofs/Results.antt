@@ -1,4 +1,4 @@
--- How the first requests ended, one more.
+-- How the first requests ended, with one more.
 use Rattle.std.proofs.Common.{◌≡◌, ℕ, ◌+◌, ◌<◌, suc, List, [], ◌∷◌, ◌++◌, length, get_or, take, Some, sym, ap, ◌∙◌, arith}
 use Rattle.std.specs.Prelude.{map, Result}
 use Rattle.std.proofs.lemmas.List.{map-append}

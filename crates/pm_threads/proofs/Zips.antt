@@ -7,7 +7,7 @@ use Rattle.disk_thread.specs.declared.worker.DiskEnd.{DiskEnd}
 use Rattle.pm_threads.specs.Seats.{first_ports}
 
 module _ {A B : Type 0} (R : A → B → Type 0) where
-  -- one pair more, at the end
+  -- one more pair, at the end
   pub zip_push : (xs : List A) (ys : List B) (x : A) (y : B) → AllZip R xs ys → R x y → AllZip R (xs ++ x ∷ []) (ys ++ y ∷ [])
   zip_push [] [] x y h r = (r, tt)
   zip_push [] (y' ∷ ys) x y h r = absurd h
@@ -51,12 +51,12 @@ module _ {A B E : Type 0} (f : E → A) (R : A → B → Type 0) where
   pub map_pop : (es : List E) (ys : List B) (e : E) (y : B) → AllZip R (map f (es ++ e ∷ [])) (ys ++ y ∷ []) → AllZip R (map f es) ys × R (f e) y
   map_pop es ys e y h = zip_pop R (map f es) ys (f e) y (subst (λ l. AllZip R l (ys ++ y ∷ [])) (map-append f es (e ∷ [])) h)
 
-  -- where there are none on the right, there is no last one on the left
+  -- if there are none on the right, there is no last one on the left
   pub map_last : (es : List E) (ys : List B) (e : E) → ys ≡ [] → AllZip R (map f (es ++ e ∷ [])) ys → ⊥
   map_last es [] e is h = no_left R (map f es) (f e) (subst (λ l. AllZip R l []) (map-append f es (e ∷ [])) h)
   map_last es (y ∷ ys) e is h = absurd cc
 
--- the ports from 0 on, one more
+-- the ports from 0 on, with one more
 ports_from : (a n : ℕ) → range_with_len a (suc n) ≡ range_with_len a n ++ (a + n) ∷ []
 ports_from a zero = ap (λ k. k ∷ []) (let e : a ≡ a + 0 = omega arith in e)
 ports_from a (suc n) =

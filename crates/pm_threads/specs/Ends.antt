@@ -27,25 +27,25 @@ pub record Ends : Type 0 where
   pub pm : PmView
   pub host : HostView
 
--- they are of one run: their seats are of the same links, of 15 ports at most
+-- they are of one run: their seats are of the same links, of at most 15 ports
 pub record AreOfOneRun (e : Ends) : Type 0 where
   pub few : length e.disks ≤ 15
   pub tied : AllZip TiedTo e.disks e.pm.ports
   pub up : e.pm.host.link ≡ e.host.frames.link
   pub down : e.host.commands.link ≡ e.pm.commands.link
 
--- what the device at port n sent; where there is no such port, nothing
+-- what the device at port n sent; nothing if there is no such port
 abbrev pub sent_at : List (StationState Unit) → ℕ → List Stamped
 sent_at [] n = []
 sent_at (s ∷ disks) zero = s.frames.sent
 sent_at (s ∷ disks) (suc n) = sent_at disks n
 
--- For each port and connection: what the host took of it is a beginning of what its device sent on it, as it
--- goes up.
+-- For each port and connection, what the host took of it is a beginning of what its device sent on
+-- it, as it goes up.
 abbrev pub EachArrives : List (StationState Unit) → List Stamped → Type 0
 EachArrives disks taken = (n c : ℕ) → n < 15 → IsPrefixOf (of_conn n c taken) (risen n c (sent_at disks n))
 
--- the station is a run of this unit, of which those of these pulls are due that are at its port
+-- the station is a run of this unit, with those of these pulls due that are at its port
 abbrev pub RunsWith : {D : Type 0} → (D → Plan) → (D → List Happening → Type 0)
     → (Plan → List Happening → List ℕ → Type 0)
     → List (ℕ × ℕ) → D → StationState D → Type 0
@@ -55,13 +55,13 @@ RunsWith plan_of StandsFor MaySend pulls unit s =
 abbrev pub RanWith : List (ℕ × ℕ) → Unit → StationState Unit → Type 0
 RanWith pulls unit s = RunsWith plan_of StandsFor MaySend pulls unit s
 
--- whatever units' runs the stations were, with whatever pulls, they are
+-- whatever units and pulls the stations were runs of, they still are
 abbrev pub AllGoOn : List (StationState Unit) → List (StationState Unit) → Type 0
 AllGoOn old new =
     (pulls : List (ℕ × ℕ)) (units : List Unit) → AllZip (RanWith pulls) units old
     → AllZip (RanWith pulls) units new
 
--- ---- runs of which nothing is left
+-- ---- runs that leave no ends
 
 -- whether a worker ended by this fault
 abbrev pub is_short : Option Fault → Bool
@@ -77,7 +77,7 @@ abbrev pub is_given : Option PostState → Bool
 is_given None = false
 is_given (Some spent) = true
 
--- whether the worker of a device, of the multiplier or of the host ended by want of memory
+-- whether the worker of a device, of the multiplier or of the host ended by lack of memory
 abbrev pub is_any_short : List (DiskEnd Unit) → (pm host : Option Fault) → Bool
 is_any_short disks pm host = list_any (λ e. is_short e.fault) disks || is_short pm || is_short host
 
@@ -85,8 +85,8 @@ is_any_short disks pm host = list_any (λ e. is_short e.fault) disks || is_short
 abbrev pub is_any_spent : List (DiskEnd Unit) → (pm host : Option PostState) → Bool
 is_any_spent disks pm host = list_any (λ e. is_given e.spent) disks || is_given pm || is_given host
 
--- The workers of these units with these pulls, and of a host with this plan beside this memory, ran until a
--- request was open and none had a fault.
+-- The workers of these units with these pulls, and of a host with this plan beside this memory, ran
+-- until a request was open and none had a fault.
 pub record LeavesOpen (units : List Unit) (pulls : List (ℕ × ℕ)) (start : Memory)
     (plan : List Planned) : Type 0 where
   pub disks : List (StationState Unit)
@@ -96,8 +96,8 @@ pub record LeavesOpen (units : List Unit) (pulls : List (ℕ × ℕ)) (start : M
   pub plan_is : host.plan ≡ plan
   pub open_is : list_any is_open host.states ≡ true
 
--- where that is so, whatever units' runs the workers were, with whatever pulls, and whatever memory the
--- host's stood beside
+-- if that holds, whatever units and pulls the workers were runs of, and whatever memory the host's
+-- worker stood beside
 abbrev pub MayLeaveOpen : Type 0 → List (StationState Unit) → HostView → Type 0
 MayLeaveOpen IsSo workers host =
     (units : List Unit) (pulls : List (ℕ × ℕ)) (start : Memory) → AllZip (RanWith pulls) units workers

@@ -37,7 +37,7 @@ pub record AllFree (l : LinksState) : Type 0 where
   pub up : l.up.seated ≡ false
   pub down : l.down.seated ≡ false
 
--- whether there may be so many ports, with so many places on each link
+-- whether there may be this many ports, with this many places on each link
 abbrev pub is_config : ℕ → ℕ → Bool
 is_config ports capacity = (nat_le 1 ports && nat_le ports 15) && is_capacity capacity
 
@@ -54,7 +54,7 @@ new_links ports capacity =
       given = false;
     }
 
--- why no links are made, where one link is refused
+-- why no links are made, if one link is refused
 abbrev pub IsErrorOf : LinkError → LinksError → Type 0
 IsErrorOf link.BadCapacity e = e ≡ links.BadConfig
 IsErrorOf link.OutOfMemory e = e ≡ links.OutOfMemory

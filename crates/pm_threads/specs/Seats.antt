@@ -22,6 +22,6 @@ pub record Handed {D : Type 0} (s : StationState D) (p : PortSeats) : Type 0 whe
   pub commands : IsPrefixOf s.commands.taken p.commands.sent
   pub presence : IsPrefixOf p.presence.taken s.presence.sent
 
--- the ports from 0 on, so many
+-- the first ports from 0 on, this many
 abbrev pub first_ports : ℕ → List ℕ
 first_ports count = range_with_len 0 count

@@ -6,19 +6,19 @@ use Rattle.host_memory.specs.Memory.{Memory, client_start, is_memory_size, overw
 use Rattle.pm_threads.specs.Links.{LinksState}
 use Rattle.pm_threads.specs.declared.setup.Setup.{Setup}
 
--- whether so many bytes from this address on lie in the client area of a memory
+-- whether this many bytes from this address on lie in the client area of a memory
 abbrev pub lies_in : ℕ → ℕ → ℕ → Bool
 lies_in memory at count = nat_le client_start at && nat_le at memory && nat_le count (memory - at)
 
--- whether there may be so many ports, units, turns and bytes of memory: 1 to 15 ports, a unit for each, 1 to
--- 16,777,216 turns, a memory of a size that there is
+-- whether there may be this many ports, units, turns and bytes of memory: 1 to 15 ports, a unit for
+-- each, 1 to 16,777,216 turns, and a memory of a permitted size
 abbrev pub are_numbers : ℕ → ℕ → ℕ → ℕ → Bool
 are_numbers ports units turns memory =
     nat_le 1 ports && nat_le ports 15 && (units == ports) && nat_le 1 turns && nat_le turns 0x1000000
     && is_memory_size memory
 
--- Whether a run of so many ports can have this: its numbers fit, its puts lie in the client area, and its
--- requests and pulls are of ports that are there.
+-- Whether a run with this many ports can have this setup: its numbers fit, its puts lie in the client
+-- area, and its requests and pulls are for ports that are there.
 abbrev pub is_fitting : ℕ → Setup → Bool
 is_fitting ports s =
     are_numbers ports (length s.units.items) s.turns s.memory
@@ -40,6 +40,6 @@ put_all m [] = m
 put_all m (p ∷ ps) =
     put_all (record { structure = m.structure; client = overwritten m.client (p.0 - client_start) p.1 }) ps
 
--- a memory of so many bytes, all 0 but for these
+-- a memory of this many bytes, all 0 except these
 abbrev pub memory_of : ℕ → List (ℕ × List ℕ) → Memory
 memory_of len puts = put_all (zeroed len) puts

@@ -21,7 +21,7 @@ use Rattle.host_thread.specs.declared.plan.State.TheVariants as state
 
 -- ---- counts
 
--- a list of the device at port n; where there is no such port, none
+-- a list of the device at port n; empty if there is no such port
 abbrev pub at_place : {A : Type 0} → (StationState Unit → List A) → List (StationState Unit) → ℕ → List A
 at_place part [] n = []
 at_place part (s ∷ disks) zero = part s
@@ -35,14 +35,14 @@ given_at disks n = at_place all_given disks n
 abbrev pub told_at : List (StationState Unit) → ℕ → List Presence
 told_at disks n = at_place all_told disks n
 
--- the row of connection c of port n, whose device gave these FISes: how many it sent on it, and how many of
--- it the host took
+-- the row of connection c of port n, whose device gave these FISes: how many it sent on the
+-- connection, and how many of them the host took
 abbrev pub row_for : List Stamped → List Stamped → ℕ → ℕ → ConnCount
 row_for given taken n c =
     record { port = n; conn = c; sent = length (of_connection c given); taken = length (of_port n c taken) }
 
--- There is a row for each connection of each port that came and for no other, with what was sent and taken on
--- it.
+-- There is a row for each connection of each port that came and for no other, with what was sent and
+-- taken on it.
 pub record AreCounted (rows : List ConnCount) (disks : List (StationState Unit))
     (taken : List Stamped) : Type 0 where
   pub sorted : AreSorted rows
@@ -66,8 +66,8 @@ pub record CountsAt {D : Type 0} (old : List ConnCount) (n : ℕ) (s : StationSt
 
 -- ---- memory
 
--- This memory is what turns of the host made of the one that it began with, and those of them that take a FIS
--- took what was taken of its link.
+-- This memory is what turns of the host made of the one that it began with. The turns that take a FIS
+-- took what was taken off its link.
 pub record IsMadeOf (start : Memory) (w : HostView) (memory : Memory) : Type 0 where
   pub turns : List HostTurn
   pub host : Host

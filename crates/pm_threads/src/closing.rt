@@ -31,11 +31,11 @@ pub struct Summary {
     /// How many FISes were sent and taken, in a row for each connection of each port that came, sorted by port and
     /// connection.
     pub counts: Vec<ConnCount>,
-    /// How each request of the plan ended, in their order: its outcome, or why it was refused.
+    /// How each request of the plan ended, in order: its outcome, or why it was refused.
     pub results: Vec<Result<Outcome, SubmitError>>,
     /// The memory of the host.
     pub memory: HostMemory,
-    /// The devices, that of port n at place n, as their threads left them.
+    /// The devices, as their threads left them; that of port n at place n.
     pub units: Vec<Unit>,
 }
 
@@ -58,11 +58,11 @@ impl From<AllocError> for CloseError {
     }
 }
 
-/// Brings the seats of all links together, also where no memory is found for the summary. What the host took of each
-/// connection is a beginning of what its device sent on it, and is in stamped order; on every link what was taken is a
-/// beginning of what was sent; and what the multiplier took of a connection whose removal it has not recorded is what it
-/// put up and what it holds: the
-/// multiplier is a run of its calls. The memory is what the turns of the host made of it.
+/// Brings the seats of all links together, even if no memory is found for the summary. What the host
+/// took of each connection is a beginning of what its device sent on it, and is in stamped order. On
+/// every link what was taken is a beginning of what was sent. The multiplier is a run of its calls:
+/// what it took of a connection whose removal it has not recorded is what it put up and what it
+/// holds. The memory is what the turns of the host made of it.
 #[tactic(auto, using(crate::proofs::Ends::link_prefix))]
 pub fn close<'a, R: Wait>(
     rt: &R,

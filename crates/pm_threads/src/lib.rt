@@ -1,8 +1,8 @@
 //! Disks, a port multiplier and a host, each in a thread of its own, on links between threads.
 //!
-//! [`run_threads`] seats a worker at each end of the [`Links`] and runs all of them side by side; [`close`] brings the
-//! seats together again, and says what holds of every run, whatever the threads did when: what the host took of a
-//! connection is a beginning of what its device sent on it.
+//! [`run_threads`] seats a worker at each end of the [`Links`] and runs all of them side by side.
+//! [`close`] brings the seats together again. It says what holds for every run, whatever the threads
+//! did when: what the host took of a connection is a beginning of what its device sent on it.
 #![tactic(auto)]
 
 mod closing;

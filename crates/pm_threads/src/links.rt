@@ -65,8 +65,8 @@ impl DeviceLinks {
     }
 }
 
-/// All links of a run: of each device one for its FISes, one for those to it and one for its connections as they come
-/// and go, and at the host one up and one down.
+/// All links of a run. Each device has one for its FISes, one for those to it and one for its
+/// connections as they come and go. The host has one up and one down.
 #[derive(Drop)]
 pub struct Links {
     pub(crate) devices: Vec<DeviceLinks>,
@@ -89,7 +89,8 @@ impl Model for Links {
 }
 
 impl Links {
-    /// The links of a multiplier with so many device ports, each link with so many places. None has given its seats.
+    /// The links of a multiplier with this many device ports, each link with this many places. No
+    /// seat has been given.
     #[tactic(auto, using(crate::proofs::Replicas::replicate_push))]
     pub fn new(alloc: Global, ports: u8, capacity: usize) -> Result<Links, LinksError>
         ensures ok { IfOk result (λ links. links ≡ new_links ports capacity) }
@@ -115,7 +116,8 @@ impl Links {
         })
     }
 
-    /// Whether a run has taken their seats, as each does that does not answer `BadSetup`. Then they serve no other.
+    /// Whether a run has taken their seats. Each run takes them that does not answer `BadSetup`. Then
+    /// they serve no other run.
     pub fn are_given(&self) -> bool
         ensures { result ≡ self.now.given }
     {

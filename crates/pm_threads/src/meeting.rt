@@ -11,7 +11,7 @@ use ruled_links::meet;
 use std::alloc::{AllocError, Global};
 use std::sync::Wait;
 
-/// The three links of a device, which is given back.
+/// The three links of a device, and the device, which is given back.
 fn meet_at<'a, D: Device + Drop, R: Wait>(rt: &R, end: DiskEnd<'a, D>, port: PmPort<'a>) -> D
     requires { TiedTo end.station port }
     ensures handed { Handed end.entry.station port.entry }
@@ -34,7 +34,8 @@ fn meet_at<'a, D: Device + Drop, R: Wait>(rt: &R, end: DiskEnd<'a, D>, port: PmP
     unit
 }
 
-/// The links of all devices, which are given back in their order. All meet, also where no memory is found for the list.
+/// The links of all devices, which are given back in order. All meet, even if no memory is found for
+/// the list.
 pub(crate) fn meet_all<'a, D: Device + Drop, R: Wait>(
     rt: &R,
     alloc: Global,

@@ -21,7 +21,7 @@ use std::sync::Wait;
 use std::thread::Threads;
 use thiserror::Error;
 
-/// Why there is nothing left of a run.
+/// Why a run leaves no ends.
 #[derive(Clone, Copy, Debug, PartialEq, Eq, Error)]
 pub enum RunError {
     /// The allocator refused memory, or a thread could not be made. It comes before all others but BadSetup.
@@ -33,7 +33,7 @@ pub enum RunError {
     /// The gate of the disks did not open.
     #[error("gate shut")]
     GateShut = 3,
-    /// The setup is none that a run on these links can have, or their seats were given before.
+    /// The setup is not one that a run on these links can have, or their seats were given before.
     #[error("bad setup")]
     BadSetup = 4,
 }
@@ -49,7 +49,7 @@ impl From<AllocError> for RunError {
     }
 }
 
-/// Whether a worker ended by want of memory.
+/// Whether a worker ended by lack of memory.
 fn is_short(fault: Option<Fault>) -> bool
     ensures { result ≡ is_short fault }
 {
@@ -63,28 +63,28 @@ fn is_shut(fault: Option<Fault>) -> bool
     matches!(fault, Some(Fault::GateShut))
 }
 
-/// Whether there are turns that were spent.
+/// Whether some turns were spent.
 fn is_given(spent: Option<Spent>) -> bool
     ensures { result ≡ is_given spent }
 {
     spent.is_some()
 }
 
-/// Whether the worker of a device ended by want of memory.
+/// Whether the worker of a device ended by lack of memory.
 fn any_short(disks: &[DiskEnd<'_, Unit>]) -> bool
     ensures { result ≡ list_any (λ end. is_short end.fault) disks.now }
 {
     disks.iter().any(|end| is_short(end.fault))
 }
 
-/// Whether a worker ended by want of memory.
+/// Whether a worker ended by lack of memory.
 fn is_any_short(disks: &[DiskEnd<'_, Unit>], pm: Option<Fault>, host: Option<Fault>) -> bool
     ensures { result ≡ is_any_short disks.now pm host }
 {
     any_short(disks) || is_short(pm) || is_short(host)
 }
 
-/// Whether one ended by its gate.
+/// Whether a worker ended by its gate.
 fn any_shut(disks: &[DiskEnd<'_, Unit>]) -> bool
     ensures { result ≡ list_any (λ end. is_shut end.fault) disks.now }
 {
@@ -105,21 +105,27 @@ fn is_any_spent(disks: &[DiskEnd<'_, Unit>], pm: Option<Spent>, host: Option<Spe
     any_spent(disks) || is_given(pm) || is_given(host)
 }
 
-/// What is left of a run, where no worker ended by a fault and no request is open.
+/// What is left of a run, if no worker ended by a fault and no request is open.
 fn finished<'a>(
     disks: Vec<DiskEnd<'a, Unit>>,
     pm: PmEnd<'a>,
     host: HostEnd<'a>,
 ) -> Result<Finished<'a>, RunError>
-    requires { AreOfOneRun (record { disks = map (λ e. e.station) disks.items; pm = pm.worker; host = host.worker }) }
+    requires { AreOfOneRun (record {
+      disks = map (λ e. e.station) disks.items;
+      pm = pm.worker;
+      host = host.worker;
+    }) }
     ensures disks { IfOk result (λ f. f.disks ≡ map (λ e. e.station) disks.entry.items) }
     ensures no_fault { OnOk result (All (λ e. e.fault ≡ None) disks.entry.items) }
     ensures host { IfOk result (λ f. f.host ≡ host.entry.worker) }
     ensures closed { OnOk result (list_any is_open host.entry.worker.states ≡ false) }
     ensures bad_setup { result ≡ Err RunError.BadSetup → ⊥ }
-    ensures short { is_any_short disks.entry.items pm.entry.fault host.entry.fault ≡ true → result ≡ Err RunError.OutOfMemory }
+    ensures short { is_any_short disks.entry.items pm.entry.fault host.entry.fault ≡ true
+        → result ≡ Err RunError.OutOfMemory }
     ensures gate { result ≡ Err RunError.GateShut → list_any (λ e. is_shut e.fault) disks.entry.items ≡ true }
-    ensures spent { result ≡ Err RunError.TurnsSpent → is_any_spent disks.entry.items pm.entry.spent host.entry.spent ≡ true }
+    ensures spent { result ≡ Err RunError.TurnsSpent
+        → is_any_spent disks.entry.items pm.entry.spent host.entry.spent ≡ true }
     ensures quiet { result ≡ Err RunError.TurnsSpent → All (λ e. e.fault ≡ None) disks.entry.items }
     ensures open { result ≡ Err RunError.TurnsSpent → list_any is_open host.entry.worker.states ≡ true }
 {
@@ -142,8 +148,8 @@ fn finished<'a>(
     })
 }
 
-/// Runs the workers side by side, until all have ended. Whatever units' runs the stations were, they go on to be, and so does
-/// the host.
+/// Runs the workers side by side, until all have ended. The stations stay runs of whatever units they
+/// were runs of, and so does the host.
 fn run_seated<'a, 'g, G: Gate + Sync, R: Threads + Wait + Sync>(
     rt: &R,
     alloc: Global,
@@ -169,9 +175,10 @@ fn run_seated<'a, 'g, G: Gate + Sync, R: Threads + Wait + Sync>(
     finished(disks, pm, host)
 }
 
-/// Runs each device, the multiplier and the host in threads of their own, until all requests have ended or a
-/// worker's turns are spent. The end of each device is a run of the unit that was given for its port, which was pulled out just when that was
-/// due, and that of the host one beside the memory with the puts.
+/// Runs each device, the multiplier and the host in threads of their own, until all requests have
+/// ended or a worker's turns are spent. The end of each device is a run of the unit that was given
+/// for its port, which was pulled out exactly when that was due. The end of the host is a run beside
+/// the memory with the puts.
 pub fn run_threads<'a, G: Gate + Sync, R: Threads + Wait + Sync>(
     rt: &R,
     alloc: Global,

@@ -90,7 +90,7 @@ pub(crate) fn seated<'a, 'g, D: Device + Drop, G: Gate>(
     with_last(workers, ports, worker, port)
 }
 
-/// One worker and one port more.
+/// One more worker and one more port.
 fn with_last<'a, 'g, D: Device + Drop, G: Gate>(
     mut workers: Vec<DiskWorker<'a, 'g, D, G>>,
     mut ports: Vec<PmPort<'a>>,

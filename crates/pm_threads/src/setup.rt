@@ -25,15 +25,15 @@ pub struct Setup {
     pub memory: u32,
     /// What is put into the client area before the run, each at its address.
     pub puts: Vec<(u32, Vec<u8>)>,
-    /// The requests of the host, in their order.
+    /// The requests of the host, in order.
     pub plan: Vec<Planned>,
     /// Which device is pulled out, and plugged in again, after how many of its FISes.
     pub pulls: Vec<(u8, u32)>,
-    /// In how many turns in a row of a worker nothing may move.
+    /// The most turns in a row of a worker in which nothing moves.
     pub turns: u64,
 }
 
-/// Whether so many bytes from this address on lie in the client area of a memory.
+/// Whether this many bytes from this address on lie in the client area of a memory.
 fn lies_in_client(at: u32, count: usize, memory: u32) -> bool
     ensures { result ≡ lies_in memory at count }
 {
@@ -41,7 +41,7 @@ fn lies_in_client(at: u32, count: usize, memory: u32) -> bool
     at >= CLIENT_START && at <= u64::from(memory) && count as u64 <= u64::from(memory) - at
 }
 
-/// Whether there may be so many ports, units, turns and bytes of memory.
+/// Whether there may be this many ports, units, turns and bytes of memory.
 fn numbers_fit(ports: usize, units: usize, turns: u64, memory: u32) -> bool
     ensures { result ≡ are_numbers ports units turns memory }
 {
@@ -63,14 +63,14 @@ fn puts_fit(puts: &[(u32, Vec<u8>)], memory: u32) -> bool
         .all(|put| lies_in_client(put.0, put.1.len(), memory))
 }
 
-/// Whether all requests are of ports that are there.
+/// Whether all requests are for ports that are there.
 fn plan_fits(plan: &[Planned], ports: usize) -> bool
     ensures { result ≡ list_all (λ planned. nat_lt planned.dev ports) plan.now }
 {
     plan.iter().all(|planned| usize::from(planned.dev) < ports)
 }
 
-/// Whether all pulls are of ports that are there.
+/// Whether all pulls are for ports that are there.
 fn pulls_fit(pulls: &[(u8, u32)], ports: usize) -> bool
     ensures { result ≡ list_all (λ pull. nat_lt pull.0 ports) pulls.now }
 {
@@ -78,7 +78,7 @@ fn pulls_fit(pulls: &[(u8, u32)], ports: usize) -> bool
 }
 
 impl Setup {
-    /// Whether a run of so many ports can have this.
+    /// Whether a run with this many ports can have this setup.
     pub(crate) fn fits(&self, ports: usize) -> bool
         ensures { result ≡ is_fitting ports self.now }
     {

@@ -1,9 +1,9 @@
 //! Reads a list of frames or a scenario from standard input and writes what they mean.
 //!
-//! `pm_trace decode` prints each frame in words, `pm_trace run` plays a scenario on a world of devices, a
-//! port multiplier and a host, and `pm_trace threads` has each of these work in a thread of its own.
-//! The input may also be a file that the command line names. Standard error says why an input or a command line is refused;
-//! the exit status says how a run ended.
+//! `pm_trace decode` prints each frame in words, `pm_trace run` plays a scenario on a world of
+//! devices, a port multiplier and a host, and `pm_trace threads` runs each of these in a thread of
+//! its own. The input may also be a file that the command line names. Standard error says why an
+//! input or a command line is refused. The exit status says how a run ended.
 #![tactic(auto)]
 
 use std::alloc::Global;
@@ -20,8 +20,8 @@ fn main(rt: HostRuntime) -> ExitCode {
     ExitCode::from(status)
 }
 
-/// The words of the command line after the program's name. One that is no text is refused like any other
-/// that is not known.
+/// The words of the command line after the program's name. A word that is not text is refused like
+/// any other unknown word.
 fn words<R: Env + AllocGlobal>(rt: &R) -> Result<Vec<String>, Failure> {
     match env::args(rt) {
         Ok(words) => Ok(words.skip(1).collect(rt.alloc())?),

@@ -1,4 +1,5 @@
--- From each order to clear a port until that is taken the host serves the device at the port anew, and it and a disk that is plugged in there are ends that go on.
+-- From each order to clear a port until that order is taken, the host serves the device at the port
+-- anew. The host and a disk that is plugged in there are ends that go on.
 use Rattle.std.proofs.Common.{◌≡◌, ◌==◌, ℕ, ◌<◌, Bool, true, false, List, [], ◌∷◌, ◌++◌, append_assoc, length, refl, sym, ap, subst, ◌∙◌, inl, inr}
 use Rattle.std.proofs.Common.{Ok, arith}
 use Rattle.std.proofs.Common.{map}
@@ -8,7 +9,11 @@ use Rattle.disk_model.specs.Histories.{Received}
 use Rattle.disk_model.specs.Histories as history
 use Rattle.hba_driver.specs.HostTurns.{Does}
 use Rattle.hba_driver.proofs.FlushLemmas.{flush_unreset}
-use Rattle.driver_phases.specs.Ends.{no_floors}
+use Rattle.driver_phases.specs.Flushes.{bare_floors}
+use Rattle.driver_phases.proofs.FlushTurns.{since_begins}
+use Rattle.driver_ends.proofs.TurnLemmas.{none_issued}
+use Rattle.disk_model.proofs.AnewLemmas.{begins_anew}
+use Rattle.pm_world.proofs.TouchedLemmas.{touched_served}
 use Rattle.driver_phases.proofs.Beginnings.{flush_begins}
 use Rattle.pm_world.specs.Wired.{IsAtHost}
 use Rattle.pm_world.proofs.FlushLemmas.{flush_orders}
@@ -78,11 +83,11 @@ has_more n [] f other has = absurd has
 has_more n (g ∷ frames) f other (inl is) = inl (is.0, each_more (λ (x : Stamped). is_clear n x ≡ false) frames f is.1 other)
 has_more n (g ∷ frames) f other (inr is) = inr (is.0, has_more n frames f other is.1)
 
--- the bit says whether an order is to be sent
+-- the bit says whether an order is still to be sent
 next_bit : (b pushes unsent : Bool) → b ≡ false → (if b then true else if pushes then false else unsent) ≡ (if pushes then false else unsent)
 next_bit b pushes unsent none = ap (λ (c : Bool). if c then true else if pushes then false else unsent) none
 
--- the world is where a run from a new one leads
+-- the world is one to which a run from a new one leads
 pub now_at : (config : Config) (units : List Unit) → is_config config (length units) ≡ true → (before : List Step) (told : List Answer) (old : Places)
     → Run (new_world config units) before told old → IsNow old
 now_at config units fits before told old made = run_now (new_world config units) before told old (opening_now units config fits) made
@@ -94,14 +99,15 @@ module _ (config : Config) (units : List Unit) (fits : is_config config (length 
   pub right : is_memory_size config.memory ≡ true
   right = sized config (length units) fits
 
-  -- The port is held, and the host serves the device anew; it and the disk are ends from where the disk is plugged in.
+  -- The port is held, and the host serves the device anew. The host and the disk are ends from the
+  -- step that plugs the disk in.
   pub record IsAnew (turns : List HostTurn) (now : Places) : Type 0 where
     pub held : IsHeld n now
     pub host : HostOn n config.memory turns now.host (Plugged ∷ [])
     pub unfaulted : IsUnfaulted n now.host.port
-    pub ends : HasEnds n config.memory no_floors turns now.host (earlier ++ Plugged ∷ []) [] []
+    pub ends : HasEnds n config.memory bare_floors turns now.host (earlier ++ Plugged ∷ []) [] []
 
-  -- an order to clear it is to be sent, it is on its way, or there is none
+  -- an order to clear the port is still to be sent, or it is on its way, or there is none
   pub data Ordered (unsent : Bool) (turns : List HostTurn) (now : Places) : Type 0 where
     Unsent : unsent ≡ true → Nothing (is_clear n) now.downward.frames → IsAnew turns now → Ordered unsent turns now
     Sent : unsent ≡ false → HasClear n now.downward.frames → IsAnew turns now → Ordered unsent turns now
@@ -141,10 +147,10 @@ module _ (config : Config) (units : List Unit) (fits : is_config config (length 
     unfaulted_now anew = step_unfaulted n below old s a new rule sound (untaken_none n a its (untaken anew.held)) anew.unfaulted
 
     -- nothing of the device goes over its link
-    pub ends_now : IsAnew turns old → IsUnflushed n old a → HasEnds n config.memory no_floors now_turns new.host (earlier ++ Plugged ∷ []) [] []
+    pub ends_now : IsAnew turns old → IsUnflushed n old a → HasEnds n config.memory bare_floors now_turns new.host (earlier ++ Plugged ∷ []) [] []
     ends_now anew idle =
         let f : FirstOn drivers_serve n config.memory below right turns old s a new = first_anew anew in
-        stays_beside n config.memory below right plan sectors size no_floors turns old (now_at config units fits before told old made) s a new rule
+        stays_beside n config.memory below right plan sectors size bare_floors turns old (now_at config units fits before told old made) s a new rule
         (earlier ++ Plugged ∷ []) [] [] anew.ends disk its (none_at_host a (untaken anew.held) f.given) idle
       where
         none_at_host : (b : Answer) → is_taken_of n b ≡ false → given_for n old s b new ≡ [] → IsAtHost n old b new []
@@ -157,7 +163,7 @@ module _ (config : Config) (units : List Unit) (fits : is_config config (length 
         none_at_host answer.Pushed untaken given = sym (ap (map (λ (bytes : List ℕ). Received bytes)) given)
         none_at_host b untaken given = refl
 
-    -- it goes on so while the port is not cleared
+    -- that goes on while the port is not cleared
     anew_after : IsAnew turns old → IsUnflushed n old a → is_cleared n old a ≡ false → IsAnew now_turns new
     anew_after anew idle none =
         let f : FirstOn drivers_serve n config.memory below right turns old s a new = first_anew anew in
@@ -168,7 +174,7 @@ module _ (config : Config) (units : List Unit) (fits : is_config config (length 
           ends = ends_now anew idle;
         }
 
-    -- what flushes the device orders that its port be cleared
+    -- a step that flushes the device orders that its port be cleared
     unflushed_now : orders_clear n old a ≡ false → IsUnflushed n old a
     unflushed_now idle = by_answer a idle
       where
@@ -268,16 +274,19 @@ module _ (config : Config) (units : List Unit) (fits : is_config config (length 
     -- ---- it is given
 
     flush_ends : Does old.host (Ticked true) new.host → IsFlushTick n old.host
-        → HasEnds n config.memory no_floors (turns ++ Ticked true ∷ []) new.host (earlier ++ Plugged ∷ []) [] []
+        → HasEnds n config.memory bare_floors (turns ++ Ticked true ∷ []) new.host (earlier ++ Plugged ∷ []) [] []
     flush_ends does flush =
         let on : HostOn n config.memory (turns ++ Ticked true ∷ []) new.host (Plugged ∷ []) =
         flush_serves drivers_serve n config.memory below right turns old.host new.host touched.touches touched.touched does flush in
         record {
           touches = on.touches;
           touched = on.touched;
-          ends = flush_begins n new.host earlier on.commands on.touches below on.serves
+          ends = since_begins n new.host (earlier ++ Plugged ∷ []) [] [] on.touches
+              (none_issued n new.host on.touches below (touched_served config.memory (turns ++ Ticked true ∷ []) new.host on.touches right on.touched)
+              on.serves.steady (λ asked. on.serves.signed asked (begins_anew.plugged []).awaited))
+              (flush_begins n new.host earlier on.commands on.touches below on.serves
               (flush_unreset n old.host true new.host (omega (arith, below)) does flush) (opened_at_flush n old.host true new.host does flush)
-              (flush_unfaulted n (omega (arith, below)) old.host true new.host does sound flush);
+              (flush_unfaulted n (omega (arith, below)) old.host true new.host does sound flush));
         }
 
     flush_now : (b : Answer) → a ≡ b → orders_clear n old b ≡ true → Nothing (is_clear n) old.downward.frames → Ordered now_unsent now_turns new
@@ -296,7 +305,7 @@ module _ (config : Config) (units : List Unit) (fits : is_config config (length 
               subst (λ (ts : List HostTurn). HostOn n config.memory ts new.host (Plugged ∷ [])) (sym turns_are)
               (flush_serves drivers_serve n config.memory below right turns old.host new.host touched.touches touched.touched tick.0 flush);
           unfaulted = flush_unfaulted n (omega (arith, below)) old.host true new.host tick.0 sound flush;
-          ends = subst (λ (ts : List HostTurn). HasEnds n config.memory no_floors ts new.host (earlier ++ Plugged ∷ []) [] []) (sym turns_are) (flush_ends tick.0 flush);
+          ends = subst (λ (ts : List HostTurn). HasEnds n config.memory bare_floors ts new.host (earlier ++ Plugged ∷ []) [] []) (sym turns_are) (flush_ends tick.0 flush);
         })
     flush_now b is flushed none = absurd (false≢true flushed)
 
@@ -311,7 +320,7 @@ module _ (config : Config) (units : List Unit) (fits : is_config config (length 
         by_case idle (Sent is has anew) = sent_on idle is has anew
         by_case idle (Idle is none) = idle_on idle is none
 
-    -- where the port is cleared now, the host serves the device anew
+    -- when the port is cleared, the host serves the device anew
     pub cleared_anew : Ordered unsent turns old → is_cleared n old a ≡ true → IsAnew turns old
     cleared_anew (Unsent is none anew) cleared = anew
     cleared_anew (Sent is has anew) cleared = anew

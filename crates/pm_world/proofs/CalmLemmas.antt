@@ -1,4 +1,5 @@
--- A request that began is not issued again: what was issued for it and is no more stays so.
+-- A request that began is not issued again: what was issued for it and is not issued any more stays
+-- so.
 use Rattle.std.proofs.Common.{◌≡◌, ◌==◌, ℕ, ◌<◌, Bool, true, false, List, [], ◌∷◌, ◌++◌, drop, refl, sym, ap, ◌∙◌, inl, inr, arith}
 use Rattle.std.proofs.Common.{Option, Some, None}
 use Rattle.std.specs.Prelude.{◌⊎◌, if◌then◌else◌}
@@ -79,7 +80,7 @@ device_issues : (n s m : ℕ) (o : Option Event) (touches : Touches) (t : Transf
 device_issues n s m None touches t none h = h
 device_issues n s m (Some e) touches t none h = by_test n s e touches t (m == n) none h
 
--- ## What a FIS is to its device
+-- ## What a FIS means to its device
 
 answer_none : (a : Answered) → IsNone (event_of_answer a)
 answer_none answered.Nobody = tt
@@ -155,7 +156,7 @@ module _ (old : Host) (acted : Bool) (new : Host) (does : Does old (Ticked acted
 
 -- ## Any turn
 
--- nothing of a request that is not issued is issued at the port
+-- nothing is issued at the port for a request that is not issued
 pub unissued_freed : (h : Host) (touches : Touches) (s : ℕ) (e : Entry) → IsServed h.driver (shared_by h) touches → s < 30 → entry_at h.driver.entries s ≡ Some e
     → is_issued e.head ≡ false → (n : ℕ) → IsFreed n s touches
 unissued_freed h touches s e served low here unissued n t is = by_from (served.issues n s t is).from

@@ -1,4 +1,5 @@
--- What a step does to the host, to its two links, to the registers of the multiplier and to what the control port says: one of a few changes.
+-- What a step does to the host, to its two links, to the registers of the multiplier and to what the
+-- control port says. It is one of a few changes.
 use Rattle.std.proofs.Common.{◌≡◌, ◌≢◌, ◌⊎◌, ℕ, ◌==◌, Bool, true, false, List, [], ◌∷◌, ◌++◌, Option, Some, None, Ok, set, refl, sym, ap, subst, ◌∙◌, inl, inr}
 use Rattle.std.specs.Prelude.{if◌then◌else◌, is_none, MatchBool, MatchOption}
 use Rattle.std.proofs.lemmas.Bool.{eqb-false, eqb-true}
@@ -35,7 +36,7 @@ use Rattle.pm_world.proofs.SaidLemmas.{notice_is}
 
 -- ## The registers
 
--- the ports are as they were, or a device came to one or went from one
+-- the ports are as they were, or a device came to one of them or went from one
 abbrev pub IsBank : RegisterMap → RegisterMap → Type 0
 IsBank old new =
     (new.ports ≡ old.ports)
@@ -85,13 +86,13 @@ conn_bank old new frame _ (Some conn) acts = absurd acts
 
 -- ## The steps of some answers
 
--- an answer of no tick, and of no frame that the host put on its link
+-- an answer that is not of a tick, and not of a frame that the host put on its link
 abbrev pub IsPlain : Answer → Type 0
 IsPlain answer.Ticked = ⊥
 IsPlain answer.Pushed = ⊥
 IsPlain a = Prim.Unit {0}
 
--- the driver does something in the step for that
+-- the driver does something in the step that serves for it
 pub tick_step : (old : Places) (s : Step) (new : Places) → Rule old s (Ok answer.Ticked) new → s ≡ step.Tick
 tick_step old (step.Came n) new rule = absurd ((at_device old n answer.Ticked new (CameRule n) rule).rule.1)
 tick_step old (step.Gone n) new rule = absurd ((at_device old n answer.Ticked new (GoneRule n) rule).rule.1)
@@ -293,7 +294,8 @@ module _ (old : Places) (new : Places) where
     put_change at bytes answer.Put acts = host_turn answer.Put (Put at bytes) tt acts.1
     put_change at bytes _ acts = absurd acts
 
-  -- each other step than a tick that does something, and one in which the host puts a frame on its link
+  -- every other step than a tick that does something, and a step in which the host puts a frame on
+  -- its link
   pub plain_change : (s : Step) (a : Answer) → IsPlain a → Rule old s (Ok a) new → Change old s a new
   plain_change (step.Came n) a plain rule = device_change (step.Came n) n a (CameRule n) rule
   plain_change (step.Gone n) a plain rule = device_change (step.Gone n) n a (GoneRule n) rule

@@ -1,4 +1,5 @@
--- A port that told of a new device forwards nothing until bit X of its PSCR[1] is cleared: in each step, and so in each run.
+-- A port that reported a new device forwards nothing until bit X of its PSCR[1] is cleared. This
+-- holds in each step, and so in each run.
 use Rattle.std.proofs.Common.{◌≡◌, ◌≢◌, ℕ, zero, suc, ◌+◌, ◌%◌, ◌<◌, ◌==◌, ◌&&◌, min, max, Bool, true, false, not, if◌then◌else◌, List, [], ◌∷◌, ◌++◌, length, flat_map, take, replicate, Option, Some, None, Ok, get_or, set, refl, sym, ap, subst, ◌∙◌, inl, inr, bit_and, bit_or, arith}
 use Rattle.std.specs.Prelude.{◌||◌, is_none, is_some, nat_lt, MatchOption, MatchBool}
 use Rattle.std.specs.Int.{bit_at}
@@ -47,14 +48,14 @@ use Rattle.pm_world.proofs.Steps.{at_both, at_device}
 abbrev pub HasX : ℕ → Type 0
 HasX error = bit_at error 26 ≡ 1
 
--- where it is set, it is shared
+-- if it is set, it is shared
 x_shared : (error : ℕ) → HasX error → (bit_and error bit_x == 0) ≡ false
 x_shared error is = ne_eqb (bit_and error bit_x) 0 (λ none.
     let both : bit_at (bit_and error bit_x) 26 ≡ min (bit_at error 26) (bit_at bit_x 26) = bit_at_and error bit_x 26 in
     let zero : bit_at (bit_and error bit_x) 26 ≡ bit_at 0 26 = ap (λ (k : ℕ). bit_at k 26) none in
     absurd (omega (arith, both, zero, is)))
 
--- where none is shared, it is not set
+-- if none is shared, it is not set
 not_false : (b : Bool) → not b ≡ false → b ≡ true
 not_false true e = refl
 not_false false e = absurd (cc)
@@ -81,7 +82,8 @@ without_x error value is none =
 
 -- ---- the registers of a port
 
--- where the port is open to a device the host has not cleared what it told, and it shows the device truly
+-- if the port is open to a device, the host has not cleared what it reported, and it shows the device
+-- truly
 abbrev pub Told : PortRegisters → Type 0
 Told p = is_open p ≡ true → p.present ≡ true → HasX p.error
 
@@ -154,14 +156,14 @@ set_this Is [] n q d below is = absurd (omega (arith, below))
 set_this Is (p ∷ bank) zero q d below is = is
 set_this Is (p ∷ bank) (suc n) q d below is = set_this Is bank n q d (omega (arith, below)) is
 
--- port n shows its device truly; and it waits for the host
+-- port n shows its device truly, and it waits for the host
 abbrev pub Shows : ℕ → RegisterMap → Type 0
 Shows n m = ShowsTruly (map.port_at m n)
 
 abbrev pub Waits : ℕ → RegisterMap → Type 0
 Waits n m = Told (map.port_at m n)
 
--- what a write of a port keeps, a write of the map does
+-- what a write of a port keeps, a write of the map keeps
 pub write_keeps : (Is : PortRegisters → Type 0) (m : RegisterMap) (n port register value : ℕ) → (port ≡ n → Is (map.port_at m port) → Is (port_written (map.port_at m port) register value)) → Is (map.port_at m n)
     → Is (map.port_at (after_write m port register value) n)
 write_keeps Is m n port register value keeps is =
@@ -183,7 +185,7 @@ write_room m port register value =
     (either (SameRoom m) (register == 96) (record m { enabled = bit_and value 8 }) m refl refl))
     (length-set m.bank port (port_written (map.port_at m port) register value))) refl
 
--- where two tests hold, and the third does not
+-- if two tests hold, and the third does not
 third_fails : (a b c : Bool) → (a && b && c) ≡ false → a ≡ true → b ≡ true → c ≡ false
 third_fails true true c e first second = e
 third_fails true false c e first second = absurd (cc)
@@ -218,8 +220,8 @@ request_room m (Some EndReset) = refl
 
 -- ---- one step of the multiplier
 
--- What becomes of port n: it shows its device truly where it did, and waits for the host where it did, unless this is the step that
--- clears; and where a connection came it waits.
+-- What becomes of port n. It shows its device truly if it did before. It waits for the host if it did
+-- before, unless this is the step that clears. And if a connection came, it waits.
 pub record PortGoes (n : ℕ) (cleared : Bool) (old new : PmState) : Type 0 where
   pub room : length new.registers.bank ≡ length old.registers.bank
   pub shows : Shows n old.registers → Shows n new.registers
@@ -230,7 +232,7 @@ pub record PortGoes (n : ℕ) (cleared : Bool) (old new : PmState) : Type 0 wher
 abbrev SamePorts : PmState → PmState → Type 0
 SamePorts old new = (n : ℕ) → (port_at new n).present ≡ (port_at old n).present
 
--- where the registers of the ports are as they were
+-- if the registers of the ports are as they were
 plain_goes : (n : ℕ) (cleared : Bool) (old new : PmState) → SamePorts old new → new.registers.bank ≡ old.registers.bank → PortGoes n cleared old new
 plain_goes n cleared old new same bank = record {
   room = ap (λ (l : List PortRegisters). length l) bank;

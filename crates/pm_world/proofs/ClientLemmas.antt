@@ -1,5 +1,5 @@
--- The bytes of a request stay in client memory over a turn in which no read is issued in its slot; so those of a read that began,
--- and of which nothing is issued any more, stay until it is polled.
+-- The bytes of a request stay in client memory over a turn in which no read is issued in its slot. So
+-- the bytes of a read that began, and of which nothing is issued any more, stay until it is polled.
 use Rattle.std.proofs.Common.{◌≡◌, ◌&&◌, ◌||◌, nat_lt, ℕ, ◌+◌, ◌-◌, ◌<◌, ◌≤◌, Bool, true, false, List, [], ◌∷◌, ◌++◌, length, refl, sym, ap, subst, ◌∙◌, inl, inr, arith}
 use Rattle.std.proofs.Common.{Option, Some, None}
 use Rattle.std.specs.Prelude.{◌⊎◌, slice_index}
@@ -123,7 +123,7 @@ module _ (h : Host) (touches : Touches) (sound : IsSoundHost h) (served : IsServ
   event_leaves m (Some (event.Named mask)) within = refl
   event_leaves m (Some event.Emptied) within = refl
 
-  -- and what is put does not have it
+  -- and what is put does not touch it
   module _ (at len : ℕ) (unused : in_use h.driver at len ≡ false) where
     shared : {x y z w : ℕ} → x < y → z < w → (nat_lt x y && nat_lt z w) ≡ true
     shared {x} {y} {z} {w} p q = grind (arith, nat_tests)

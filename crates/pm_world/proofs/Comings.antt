@@ -1,4 +1,4 @@
--- A connection that no answer says has come has sent nothing, and so nothing of it was taken.
+-- A connection of which no answer says that it came has sent nothing, so nothing of it was taken.
 use Rattle.std.proofs.Common.{◌≡◌, ◌≢◌, ℕ, zero, suc, ◌+◌, ◌<◌, ◌≤◌, List, [], ◌∷◌, ◌++◌, Option, Some, None, Bool, true, false, refl, sym, ap, subst, ◌∙◌, append_assoc, inl, inr, map, length, arith, length-append}
 use Rattle.std.specs.Prelude.{◌&&◌, ◌==◌, ◌||◌, ◌⊎◌, if◌then◌else◌, slice_get, slice_set, IsTrue, Ok, option_map}
 use Rattle.std.specs.Option.{option_or}
@@ -35,13 +35,14 @@ pub record IsPluggedAt (devices : List Place) (n c : ℕ) : Type 0 where
   pub plugged : IsTrue place.plugged
   pub conn_is : place.conn ≡ c
 
--- A device is plugged in where it was on the same connection, or where the answer says that the connection came; only a device that was plugged in sent, on its connection; and only a device that is there comes.
+-- A device is plugged in if it was on the same connection, or if the answer says that the connection
+-- came. Only a device that was plugged in sent, on its connection. Only a device that is there comes.
 pub record Comes (old : List Place) (a : Answer) (new : List Place) : Type 0 where
   pub comes : (m c : ℕ) → IsPluggedAt new m c → (says_came m c a ≡ true) ⊎ IsPluggedAt old m c
   pub sends : (m c : ℕ) → (sent_by m c a ≡ []) ⊎ IsPluggedAt old m c
   pub within : (m c : ℕ) → says_came m c a ≡ true → m < length old
 
--- the same of the place at port n, where the step is one of that device
+-- the same for the place at port n, if the step is one of that device
 pub record PlaceComes (n : ℕ) (old : Place) (a : Answer) (new : Place) : Type 0 where
   pub comes : IsTrue new.plugged → (says_came n new.conn a ≡ true) ⊎ (IsTrue old.plugged × (old.conn ≡ new.conn))
   pub sends : (m c : ℕ) → (sent_by m c a ≡ []) ⊎ (IsTrue old.plugged × (n ≡ m) × (old.conn ≡ c))
@@ -73,7 +74,7 @@ module _ (old : List Place) (n : ℕ) (place : Place) (a : Answer) (after : Plac
     within = λ m c says. subst (λ k. k < length old) (h.within m c says) (slice_get_within old n place is);
   }
 
--- an answer that tells of no device that came, and of no frame that one sent
+-- an answer that tells of no device that came, and of no frame that a device sent
 abbrev IsMute : Answer → Type 0
 IsMute (answer.Came port conn) = ⊥
 IsMute (answer.Sent port conn number bytes) = ⊥
@@ -238,7 +239,7 @@ rule_comes old (step.Submit dev request) a new rule = quiet_stay old a new (ap (
 rule_comes old step.Poll a new rule = quiet_stay old a new (ap (λ (w : Places). w.devices) rule.1) (poll_quiet old.host a new.host rule.0)
 rule_comes old (step.Put at bytes) a new rule = quiet_stay old a new (ap (λ (w : Places). w.devices) rule.1) (put_quiet at bytes old.host a new.host rule.0)
 
--- After these answers: what is plugged in came, and what has not come sent nothing.
+-- After these answers, what is plugged in came, and what has not come sent nothing.
 pub record AllCame (answers : List Answer) (devices : List Place) : Type 0 where
   pub came : (m c : ℕ) → IsPluggedAt devices m c → has_come m c answers ≡ true
   pub unsent : (m c : ℕ) → has_come m c answers ≡ false → sent m c answers ≡ []
@@ -297,7 +298,7 @@ opening_keeps config units = record {
   unsent = λ m c none. refl;
 }
 
--- all but the last answer of a run are those of a run, and the last is that of a step after it
+-- all answers of a run but the last are those of a run, and the last is that of a step after it
 record Front (old : Places) (answers : List Answer) (a : Answer) : Type 0 where
   steps : List Step
   mid : Places
@@ -329,7 +330,7 @@ module _ (answers : List Answer) (a : Answer) (all : AreOfARun (answers ++ a ∷
   orderly : IsOrderly opening_world
   orderly = opening_orderly all.config all.units all.fits
 
-  -- the control port is no device's
+  -- the control port is not the port of a device
   comes_at_device : (n c : ℕ) → says_came n c a ≡ true → n ≢ control_port
   comes_at_device n c says e =
       let there : n < length front.mid.devices = (rule_comes front.mid front.last a front.new front.rule).within n c says in
@@ -349,7 +350,7 @@ module _ (answers : List Answer) (a : Answer) (all : AreOfARun (answers ++ a ∷
   nothing_yet : (n c : ℕ) → has_come n c answers ≡ false → says_came n c a ≡ true → (sent n c answers ≡ []) × (taken n c answers ≡ [])
   nothing_yet n c none says = (nothing_sent n c none, nothing_taken n c none (comes_at_device n c says))
 
--- the row of a connection that came or did not, of which so much was sent and taken
+-- the row of a connection that came or did not, of which this much was sent and taken
 module _ (n c : ℕ) where
   abbrev told : Bool → List (List ℕ) → List (List ℕ) → Option ConnCount
   told came out back = if came then Some (record { port = n; conn = c; sent = capped (length out); taken = capped (length back) }) else None
@@ -393,7 +394,7 @@ module _ (n c : ℕ) where
     noted_told (answer.Took port conn number bytes report) empty = told_taken (port == n && conn == c) bytes ∙ rw (or_false came, append-nil out)
     noted_told _ empty = same came
 
--- Rows that told the answers, and were noted with the next one, tell that one too.
+-- Rows that told the answers, and that counted the next one, tell that one too.
 pub tells_more : (old new : List ConnCount) (a : Answer) → ((n c : ℕ) → row_of n c new ≡ noted n c a (row_of n c old)) → (answers : List Answer) → AreOfARun (answers ++ a ∷ []) → Tell old answers → Tell new (answers ++ a ∷ [])
 tells_more old new a rows answers all tell = record {
   row_is = λ n c.

@@ -1,4 +1,5 @@
--- From the flush of a unit on: the host's commands of before are lost at its port; and where that is cleared both ends of the link are linked.
+-- From the flush of a unit on, the host's earlier commands are lost at its port. When the port is
+-- cleared, both ends of the link are linked.
 use Rattle.std.specs.Prelude.{if◌then◌else◌}
 use Rattle.std.proofs.Common.{◌≡◌, ◌≢◌, ◌==◌, ℕ, ◌<◌, Bool, true, false, List, [], ◌∷◌, ◌++◌, append_assoc, refl, sym, ap, subst, ◌∙◌}
 use Rattle.std.proofs.Common.{Ok, arith}
@@ -37,7 +38,8 @@ IsElsewhere n f = (f.stamp.port == n) ≡ false
 abbrev pub is_to : ℕ → Stamped → Bool
 is_to n f = pm_port f == n
 
--- On the host's link come first those FISes that it gave before the flush, none of which clears the port, and then none for the port.
+-- On the host's link the FISes come first that the host gave before the flush, none of which clears
+-- the port. Then comes none for the port.
 pub record IsLine (n : ℕ) (frames : List Stamped) : Type 0 where
   pub stale : List Stamped
   pub fresh : List Stamped
@@ -45,7 +47,7 @@ pub record IsLine (n : ℕ) (frames : List Stamped) : Type 0 where
   pub unclear : Nothing (is_clear n) stale
   pub others : Nothing (is_to n) fresh
 
--- the host flushed the unit at port n, and the port was not cleared since
+-- the host flushed the unit at port n, and the port has not been cleared since
 pub record IsHeld (n : ℕ) (now : Places) : Type 0 where
   pub away : Each (IsElsewhere n) now.upward.frames
   pub told : cleared.Waits n now.multiplier.registers
@@ -69,7 +71,7 @@ line_rest n f frames (g ∷ stale) fresh is unclear others =
     let same : frames ≡ stale ++ fresh = cc is in
     record { stale = stale; fresh = fresh; is = same; unclear = unclear.1; others = others }
 
--- and where that cleared the port
+-- and the line, if that frame cleared the port
 none_rest : (n : ℕ) (f : Stamped) (frames stale fresh : List Stamped) → f ∷ frames ≡ stale ++ fresh → Nothing (is_clear n) stale → Nothing (is_to n) fresh
     → is_clear n f ≡ true → Nothing (is_to n) frames
 none_rest n f frames [] [] is unclear others clears = absurd (cc)

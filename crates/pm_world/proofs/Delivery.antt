@@ -17,7 +17,7 @@ use Rattle.pm_world.specs.declared.step.Answer.{Answer}
 use Rattle.pm_world.specs.declared.step.Answer.TheVariants as answer
 use Rattle.pm_world.proofs.HostFold.{host_is_fold, rule_does, run_does}
 
--- a configuration has a memory of a right size
+-- a configuration has a memory of a permitted size
 pub sized : (config : Config) (units : ℕ) → is_config config units ≡ true → is_memory_size config.memory ≡ true
 sized config units right = search rules
 

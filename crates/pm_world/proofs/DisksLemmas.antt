@@ -8,7 +8,7 @@ use Rattle.host_memory.specs.Memory.{Memory, is_memory_size}
 use Rattle.host_memory.specs.declared.table.Prd.{Prd}
 use Rattle.hba_commands.specs.declared.command.Command as written
 use Rattle.hba_commands.specs.Requests.{request_of, work_of}
-use Rattle.slots.specs.Slots.{has_bit, issue_at, match_some, own_issue, owned_by, slots_of}
+use Rattle.slots.specs.Slots.{has_bit, is_pio, issue_at, match_some, own_issue, owned_by, slots_of}
 use Rattle.slots.specs.Work as moved
 use Rattle.slots.specs.declared.work.Work.{Work}
 use Rattle.hba_fbs.specs.declared.report.TakeReport.{TakeReport}
@@ -64,6 +64,10 @@ use Rattle.disk_model.specs.Anew.{StayWritten}
 use Rattle.disk_model.proofs.FrontLemmas.{before_is_front}
 use Rattle.disk_model.proofs.WrittenLemmas.{writes_stay}
 use Rattle.driver_phases.specs.Ends.{since_floor}
+use Rattle.driver_phases.specs.Flushes.{Floor, flushes_taken, write_floors}
+use Rattle.driver_phases.proofs.FlushEnds.{flushes_are_taken}
+use Rattle.driver_phases.proofs.FlushTurns.{request_pio}
+use Rattle.driver_ends.proofs.FisLemmas.{request_kind}
 
 -- ## The disk's run
 
@@ -186,7 +190,7 @@ part_front part whole p =
     let stay : StayWritten part p.later = writes_stay part p.later in
     record { later = stay.later; same = ap (λ (xs : List Happening). (ledger xs).writes) p.is ∙ stay.same }
 
--- of two fronts of a list the shorter one is a front of the other
+-- of two beginnings of a list, the shorter is a beginning of the other
 front_by : (a b c : List Written) (x y : List Written) → c ≡ a ++ x → c ≡ b ++ y → length a ≤ length b → IsFront a b
 front_by [] b c x y first second short = record { later = b; same = refl }
 front_by (w ∷ a) [] c x y first second short = absurd (omega (arith, short))
@@ -206,7 +210,7 @@ front_since a b whole f g short = front_by a b whole f.later g.later f.same g.sa
 
 module _ (n len : ℕ) (below : n < 15) (right : is_memory_size len ≡ true) (plan : DiskPlan) (sectors : ℕ) (size : IsSize plan sectors) (turns : List HostTurn)
     (now : Places) (i : IsNow now) (disk : List Happening) (run : IsDiskRun plan sectors disk) (down later : List (List ℕ)) (plain : List ℕ)
-    (floors : ℕ → ℕ) (h : HasEnds n len floors turns now.host disk down (plain ∷ later)) (s : Step) (conn number : ℕ) (report : TakeReport) (new : Places)
+    (floors : ℕ → Floor) (h : HasEnds n len floors turns now.host disk down (plain ∷ later)) (s : Step) (conn number : ℕ) (report : TakeReport) (new : Places)
     (rule : Rule now s (Ok (answer.Took n conn number (marked plain n) report)) new) (at_port : port_of (marked plain n) ≡ n) where
   tooks : Tooks now.host (marked plain n) report new.host
   tooks = host_takes now new s n conn number (marked plain n) report rule
@@ -222,6 +226,39 @@ module _ (n len : ℕ) (below : n < 15) (right : is_memory_size len ≡ true) (p
 
   delivers : TookDelivers now.host h.touches (marked plain n) report new.host
   delivers = touched_delivers len turns now.host h.touches right h.touched (marked plain n) report new.host tooks
+
+  -- a FLUSH that is done
+  module _ (slot : ℕ) (e : Entry) (low : slot < 30) (is : entry_at now.host.driver.entries slot ≡ Some e) (calm : is_queued e.head.work ≡ false)
+      (done : has_bit report.done slot ≡ true) where
+    flush_slot : slot < 32
+    flush_slot = omega (arith, low)
+
+    flush_port : n < 16
+    flush_port = omega (arith, below)
+
+    flush_issue : IsIssued slot (own n h.touches)
+    flush_issue =
+        subst (λ (m : ℕ). IsIssued slot (own m h.touches)) at_port
+        (issued_of_done slot (shared_by now.host) (marked plain n) (own (port_of (marked plain n)) h.touches)
+        (sym (delivers.reported.done slot flush_slot) ∙ done))
+
+    flush_request : IsRequestAt now.host.driver n slot flush_issue.transfer e
+    flush_request = request_at now.host.driver n slot flush_issue.transfer e low is (served.issues n slot flush_issue.transfer flush_issue.is)
+
+    flush_built : flush_issue.transfer.work ≡ work_of (request_of (request_fields slot e.head))
+    flush_built =
+        let c = has_command n slot now.host (own n h.touches) flush_issue.transfer is_host flush_issue.is ((served.told n flush_port).issued slot) in
+        ((served.fises n slot flush_issue.transfer c.0 flush_issue.is c.1).of_request e low is).work
+
+    pub flush_of_device : e.head.dev ≡ n
+    flush_of_device = flush_request.of_dev
+
+    pub flush_taken : (floors slot).flushes < flushes_taken disk
+    flush_taken =
+        flushes_are_taken n plan sectors now.host plain report new.host disk down later floors h.touches below
+        (running len right plan sectors size disk run turns now i h.touches h.touched) (plain_frame plain n tooks.framed) at_port tooks h.ends slot
+        flush_issue.transfer low flush_issue.is (ap (λ (w : Work). moved.is_queued w.kind) flush_built ∙ request_kind slot e ∙ calm)
+        (ap (λ (w : Work). is_pio w.kind) flush_built ∙ request_pio slot e) done
 
   module _ (slot : ℕ) (e : Entry) (low : slot < 30) (is : entry_at now.host.driver.entries slot ≡ Some e) (queued : is_queued e.head.work ≡ true)
       (done : has_bit report.done slot ≡ true) where
@@ -249,10 +286,10 @@ module _ (n len : ℕ) (below : n < 15) (right : is_memory_size len ≡ true) (p
     some = ((served.bounded.entries slot e is).size queued).some
 
     honest : moved.is_queued issue.transfer.work.kind ≡ true → IsDoneHonestly sectors
-        (since_floor (floors slot) (command_of slot e)) (filled slot (own n h.touches)) issue.transfer.work.len (ledger disk) (ledger disk)
+        (since_floor (floors slot).writes (command_of slot e)) (filled slot (own n h.touches)) issue.transfer.work.len (ledger disk) (ledger disk)
     honest is_queued =
-        each_end_is_honest n plan sectors now.host plain report new.host disk down later floors h.touches below
-        (running len right plan sectors size disk run turns now i h.touches h.touched) (plain_frame plain n tooks.framed) at_port tooks h.ends slot e
+        each_end_is_honest n plan sectors now.host plain report new.host disk down later (write_floors floors) h.touches below
+        (running len right plan sectors size disk run turns now i h.touches h.touched) (plain_frame plain n tooks.framed) at_port tooks h.ends.ends slot e
         issue.transfer low is queued issue.is is_queued done
 
     stands_at : (xs : List ℕ) (memory : Memory) (i : ℕ) → StandsThere xs issue.transfer memory i → StandsAt xs e.prds memory i
@@ -262,14 +299,14 @@ module _ (n len : ℕ) (below : n < 15) (right : is_memory_size len ≡ true) (p
     pub of_device : e.head.dev ≡ n
     of_device = request.of_dev
 
-    module _ (submitted : List Happening) (later_of : IsPart submitted disk) (floor : floors slot ≡ length (ledger submitted).writes) where
+    module _ (submitted : List Happening) (later_of : IsPart submitted disk) (floor : (floors slot).writes ≡ length (ledger submitted).writes) where
       reads : e.head.work ≡ Read → ReadsSectors sectors slot e submitted disk new.host.memory
       reads read =
           let m : MovesAll issue.transfer e.head true = read_moves slot e.head issue.transfer read some built in
           let way : (command_of slot e).write ≡ false =
           ap (λ (w : asked.Work). (command_of slot (record e { head = record e.head { work = w } })).write) read in
-          let b : IsBrought sectors (since_floor (floors slot) (command_of slot e)) issue.transfer new.host.memory (ledger disk) =
-          brought_there sectors n now.host new.host (marked plain n) report h.touches (since_floor (floors slot) (command_of slot e)) (ledger disk) slot issue.transfer at_port low_slot
+          let b : IsBrought sectors (since_floor (floors slot).writes (command_of slot e)) issue.transfer new.host.memory (ledger disk) =
+          brought_there sectors n now.host new.host (marked plain n) report h.touches (since_floor (floors slot).writes (command_of slot e)) (ledger disk) slot issue.transfer at_port low_slot
           (record { is = issue.is; reads = m.way }) m.queued done delivers ((honest m.queued).reads way) in
           record {
             at = b.at;
@@ -293,7 +330,7 @@ module _ (n len : ℕ) (below : n < 15) (right : is_memory_size len ≡ true) (p
           let m : MovesAll issue.transfer e.head false = write_moves slot e.head issue.transfer write some built in
           let way : (command_of slot e).write ≡ true =
           ap (λ (w : asked.Work). (command_of slot (record e { head = record e.head { work = w } })).write) write in
-          let w : IsOnMedium (since_floor (floors slot) (command_of slot e)) (filled slot (own n h.touches)) issue.transfer.work.len (ledger disk) = (honest m.queued).writes way in
+          let w : IsOnMedium (since_floor (floors slot).writes (command_of slot e)) (filled slot (own n h.touches)) issue.transfer.work.len (ledger disk) = (honest m.queued).writes way in
           record {
             at = w.at;
             written = w.written;

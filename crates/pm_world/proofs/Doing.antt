@@ -1,4 +1,4 @@
--- What a step at a port does where the port is there, and a unit that has no room for a frame.
+-- What a step at a port does if the port is there, and a unit that has no room for a frame.
 use Rattle.std.proofs.Common.{◌≡◌, ℕ, ◌<◌, ◌∷◌, List, length, Some, refl, sym, ap, ◌∙◌, subst}
 use Rattle.std.specs.Prelude.{IsTrue, slice_get, slice_index_or}
 use Rattle.std.proofs.lemmas.Option.{slice_get_read}
@@ -25,7 +25,7 @@ again old frame rest first =
     ap (λ (fs : List Stamped). let q : Queue = record { frames = fs; capacity = rest.capacity } in q) (sym first.0)
     ∙ ap (λ (k : ℕ). let q : Queue = record { frames = old.frames; capacity = k } in q) first.1
 
--- a place whose unit wants memory for the frame, which goes back, is as before
+-- a place whose unit lacks memory for the frame, which goes back, is as before
 pub wants_room : (old : Place) (unit : Unit) (down rest : Queue) (frame : Stamped) → FirstLeaves old.down (Some frame) rest
     → down ≡ record { frames = frame ∷ rest.frames; capacity = rest.capacity } → IsTrue (is_for old frame) → UnitWantsRoom old.unit (Received frame.bytes) → unit ≡ old.unit
     → TakeWants old OutOfMemory × ((let left : Place = record old { unit = unit; down = down } in left) ≡ old)

@@ -47,7 +47,7 @@ heard old s p new rule =
     let acts = (subst (λ (t : Step). Rule old t (Ok (answer.Passed p)) new) e rule).0 in
     record { frame = acts.0.0; link = acts.0.1; goes = acts.0.2 }
 
--- one that the control port took was for it
+-- a frame that the control port took was for it
 pub to_control : (old : PmState) (frame : Stamped) (new : PmState) → FromHostRule old frame (Ok passed.Control) new → (pm_port frame == control_port) ≡ true
 to_control old frame new rule = by_port (pm_port frame == control_port) rule
   where
@@ -59,7 +59,7 @@ to_control old frame new rule = by_port (pm_port frame == control_port) rule
     by_port true acts = refl
     by_port false acts = absurd (by_conn (passes_to old (pm_port frame)) acts)
 
--- one that was passed down was for its port
+-- a frame that was passed down was for its port
 pub to_port : (old : PmState) (frame : Stamped) (m : ℕ) (new : PmState) → FromHostRule old frame (Ok (passed.Down m)) new → pm_port frame ≡ m
 to_port old frame m new rule = by_port (pm_port frame == control_port) rule
   where
@@ -81,7 +81,7 @@ pub record IsFallen (n : ℕ) (f : Stamped) (old : Places) (s : Step) (a : Answe
   pub port : pm_port f ≡ n
   pub fell : fell_to n old s a new ≡ falling conn f ∷ []
 
--- the frames on their way to device n are those that were, but for some at either end
+-- the frames on their way to device n are those that were, except for some at either end
 pub record FallsOn (n : ℕ) (old new : Places) : Type 0 where
   pub front : List Stamped
   pub back : List Stamped

@@ -1,4 +1,4 @@
--- What holds of each element of a list, and tests that none of them passes.
+-- What holds for each element of a list, and tests that no element passes.
 use Rattle.std.proofs.Common.{◌≡◌, ◌⊎◌, Bool, true, false, List, [], ◌∷◌, ◌++◌, refl, sym, ◌∙◌, inl, inr}
 use Rattle.std.specs.Prelude.{◌||◌}
 use Rattle.std.specs.List.{list_any}
@@ -32,7 +32,7 @@ each_last P (x ∷ xs) y h = each_last P xs y h.1
 abbrev pub Nothing : {X : Type 0} → (X → Bool) → List X → Type 0
 Nothing test xs = Each (λ x. test x ≡ false) xs
 
--- one does
+-- one element does
 abbrev pub Anything : {X : Type 0} → (X → Bool) → List X → Type 0
 Anything test [] = ⊥
 Anything test (x ∷ xs) = (test x ≡ true) ⊎ Anything test xs

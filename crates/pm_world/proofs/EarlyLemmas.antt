@@ -38,7 +38,7 @@ one_none : (b : Bool) → b ≡ true → (bytes : List ℕ) → (if b then bytes
 one_none true is bytes e = cc e
 one_none false is bytes e = true≢false (sym is)
 
--- where nothing of a connection is on the host's link, each FIS there is none of it
+-- if nothing of a connection is on the host's link, each FIS there is of another one
 pub none_of_conn : (n c : ℕ) (frames : List Stamped) → stamped n c frames ≡ [] → Each (IsNoneOf n c) frames
 none_of_conn n c [] none = tt
 none_of_conn n c (f ∷ frames) none =

@@ -1,4 +1,5 @@
--- A disk and the host of a world are ends that go on, from the step on that plugs the disk in, as long as it is left alone.
+-- A disk and the host of a world are ends that go on, from the step that plugs the disk in, as long
+-- as the disk is left alone.
 use Rattle.std.proofs.Common.{◌≡◌, ◌≢◌, ℕ, ◌<◌, Bool, true, false, List, [], ◌∷◌, ◌++◌, append_assoc, length, refl, sym, ap, subst, ◌∙◌, inl, inr, ◌==◌, ◌≤◌, None, Option}
 use Rattle.std.proofs.Common.{Some, Ok}
 use Rattle.std.specs.Prelude.{◌⊎◌}
@@ -9,11 +10,11 @@ use Rattle.host_memory.specs.Memory.{is_memory_size}
 use Rattle.disk_model.specs.declared.plan.DiskPlan.{DiskPlan}
 use Rattle.disk_model.specs.declared.unit.Unit.{Unit}
 use Rattle.disk_model.specs.Histories.{Happening, Plugged, Sent}
-use Rattle.disk_model.specs.Ledger.{IsSize, ledger}
+use Rattle.disk_model.specs.Ledger.{IsSize}
 use Rattle.disk_model.specs.Runs.{IsDiskRun}
 use Rattle.disk_ends.proofs.FollowedLemmas.{run_to}
-use Rattle.driver_phases.specs.Ends.{AreEnds, AreFloors, no_floors}
-use Rattle.driver_phases.proofs.EndLemmas.{ends_go_on}
+use Rattle.driver_phases.specs.Flushes.{AreEndsSince, AreFloorsOf, Floor, IsFloor, bare_floors}
+use Rattle.driver_phases.proofs.FlushTurns.{ends_since_go_on, floors_rise_since, floors_stay}
 use Rattle.hba_driver.specs.HostTurns.{Host, HostTurn}
 use Rattle.multiplier.specs.State.{port_at}
 use Rattle.pm_registers.specs.RegisterMap as registers
@@ -46,7 +47,6 @@ use Rattle.pm_world.proofs.EndsSteps.{HasEnds, HasEndsOn, IsNoTurn, IsUnflushed,
 use Rattle.pm_world.proofs.ExactLemmas.{GoesExact, IsOpenFor, cleared_exact, open_at, open_step}
 use Rattle.pm_world.proofs.FlushedLemmas.{unflushed}
 use Rattle.pm_world.proofs.WaitingLemmas.{IsWaiting, all_sent, waits_on}
-use Rattle.driver_phases.proofs.FloorLemmas.{floors_more, floors_rise}
 use Rattle.driver_ends.proofs.TurnLemmas.{none_in_slot, none_issued}
 use Rattle.disk_model.proofs.AnewLemmas.{begins_anew}
 use Rattle.hba_driver.specs.Steady.{IsAskedOf, IsSteady}
@@ -72,7 +72,7 @@ left_parts n xs ys alone =
 -- ## What waits at a port
 
 module _ (n len : ℕ) (below : n < 15) (right : is_memory_size len ≡ true) (plan : DiskPlan) (sectors : ℕ) (size : IsSize plan sectors)
-    (floors : ℕ → ℕ) (turns : List HostTurn) (now : Places) (i : IsNow now) (base : List Happening) where
+    (floors : ℕ → Floor) (turns : List HostTurn) (now : Places) (i : IsNow now) (base : List Happening) where
   abbrev Has : List (List ℕ) → Type 0
   Has sent = HasEnds n len floors turns now.host (base ++ all_sent sent) [] sent
 
@@ -113,8 +113,8 @@ module _ (n len : ℕ) (below : n < 15) (right : is_memory_size len ≡ true) (p
         touches = h.touches;
         touched = h.touched;
         ends =
-            subst (λ (xs : List Happening). AreEnds n now.host xs [] (done ++ bytes ∷ []) floors h.touches) (sym (all_more done bytes))
-            ((ends_go_on n plan sectors).1.sends now.host (base ++ all_sent done) [] done bytes floors h.touches below
+            subst (λ (xs : List Happening). AreEndsSince n now.host xs [] (done ++ bytes ∷ []) floors h.touches) (sym (all_more done bytes))
+            ((ends_since_go_on n plan sectors).1.sends now.host (base ++ all_sent done) [] done bytes floors h.touches below
             (running len right plan sectors size ((base ++ all_sent done) ++ Sent bytes ∷ []) one turns now i h.touches h.touched) h.ends);
       } in
       subst Has (sym whole) (sends_all (done ++ bytes ∷ []) rest all next)
@@ -130,17 +130,17 @@ module _ (config : Config) (units : List Unit) (fits : is_config config (length 
       (comes_risen old s a new (run_rises (new_world config units) before told old (opening_risen config units) made).1 rule).own_port
 
   -- The port is open to the unit, and it and the host are ends.
-  pub record IsServing (floors : ℕ → ℕ) (now : Places) (happened : List Happening) (turns : List HostTurn) : Type 0 where
+  pub record IsServing (floors : ℕ → Floor) (now : Places) (happened : List Happening) (turns : List HostTurn) : Type 0 where
     pub unsent : Bool
     pub opens : IsOpenFor n c unsent now
     pub ends : HasEndsOn n c config.memory floors turns now (earlier ++ happened)
 
   -- nothing of it passed its port yet, or so it is
-  pub data Stage (floors : ℕ → ℕ) (now : Places) (happened : List Happening) (turns : List HostTurn) : Type 0 where
+  pub data Stage (floors : ℕ → Floor) (now : Places) (happened : List Happening) (turns : List HostTurn) : Type 0 where
     Waiting : IsWaiting n c now happened → WaitsFor n c now → Stage floors now happened turns
     Serving : IsServing floors now happened turns → Stage floors now happened turns
 
-  pub serving_step : (floors : ℕ → ℕ) (before : List Step) (told : List Answer) (old : Places) → Run (new_world config units) before told old → (happened : List Happening)
+  pub serving_step : (floors : ℕ → Floor) (before : List Step) (told : List Answer) (old : Places) → Run (new_world config units) before told old → (happened : List Happening)
       (turns : List HostTurn) → IsServing floors old happened turns → (s : Step) (a : Answer) (new : Places) → Rule old s (Ok a) new → injects n s ≡ false
       → unplugs n s ≡ false → IsDiskRun plan sectors (earlier ++ (happened ++ happens n old s a new))
       → IsServing floors new (happened ++ happens n old s a new) (turns ++ turn_of old s a new)
@@ -161,7 +161,7 @@ module _ (config : Config) (units : List Unit) (fits : is_config config (length 
             h.ends.up h.ends.both o.1.heard o.1.is o.1.moves);
       }
 
-  pub serving_run : (floors : ℕ → ℕ) (before : List Step) (told : List Answer) (old : Places) → Run (new_world config units) before told old → (happened : List Happening)
+  pub serving_run : (floors : ℕ → Floor) (before : List Step) (told : List Answer) (old : Places) → Run (new_world config units) before told old → (happened : List Happening)
       (turns : List HostTurn) → IsServing floors old happened turns → (steps : List Step) (answers : List Answer) (new : Places)
       (run : Run old steps answers new) → IsLeftAlone n steps
       → IsDiskRun plan sectors (earlier ++ (happened ++ over (happens n) old steps answers new run))
@@ -198,9 +198,9 @@ module _ (config : Config) (units : List Unit) (fits : is_config config (length 
       by_entry None is = refl
       by_entry (Some e) is = absurd (free e is)
 
-  pub serving_rises : (floors next : ℕ → ℕ) (before : List Step) (told : List Answer) (old : Places) → Run (new_world config units) before told old
+  pub serving_rises : (floors next : ℕ → Floor) (before : List Step) (told : List Answer) (old : Places) → Run (new_world config units) before told old
       → (happened : List Happening) (turns : List HostTurn) → IsDiskRun plan sectors (earlier ++ happened) → (slot : ℕ) → slot < 30
-      → IsFreeSlot slot old.host → ((s : ℕ) → (slot == s) ≡ false → next s ≡ floors s) → next slot ≤ length (ledger (earlier ++ happened)).writes
+      → IsFreeSlot slot old.host → ((s : ℕ) → (slot == s) ≡ false → next s ≡ floors s) → IsFloor (next slot) (earlier ++ happened)
       → IsServing floors old happened turns → IsServing next old happened turns
   serving_rises floors next before told old made happened turns run slot low free others reached h = record {
     unsent = h.unsent;
@@ -213,7 +213,7 @@ module _ (config : Config) (units : List Unit) (fits : is_config config (length 
         touches = h.ends.both.touches;
         touched = h.ends.both.touched;
         ends =
-            floors_rise n plan sectors old.host (earlier ++ happened) h.ends.down h.ends.up floors next h.ends.both.touches below
+            floors_rise_since n plan sectors old.host (earlier ++ happened) h.ends.down h.ends.up floors next h.ends.both.touches below
             (running config.memory right plan sectors size (earlier ++ happened) run turns old (now_at config units fits before told old made)
             h.ends.both.touches h.ends.both.touched) (λ s. may s (slot == s) refl) h.ends.both.ends;
       };
@@ -226,11 +226,11 @@ module _ (config : Config) (units : List Unit) (fits : is_config config (length 
           (touched_served config.memory turns old.host h.ends.both.touches right h.ends.both.touched) t here
 
       may : (s : ℕ) (b : Bool) → (slot == s) ≡ b
-          → (next s ≡ floors s) ⊎ (((t : Transfer) → issued s (own n h.ends.both.touches) ≡ Some t → ⊥) × (next s ≤ length (ledger (earlier ++ happened)).writes))
+          → (next s ≡ floors s) ⊎ (((t : Transfer) → issued s (own n h.ends.both.touches) ≡ Some t → ⊥) × IsFloor (next s) (earlier ++ happened))
       may s false other = inl (others s other)
       may s true at =
           let is : slot ≡ s = eqb-true slot s at in
-          inr (subst (λ (m : ℕ). ((t : Transfer) → issued m (own n h.ends.both.touches) ≡ Some t → ⊥) × (next m ≤ length (ledger (earlier ++ happened)).writes)) is
+          inr (subst (λ (m : ℕ). ((t : Transfer) → issued m (own n h.ends.both.touches) ≡ Some t → ⊥) × IsFloor (next m) (earlier ++ happened)) is
           (unissued, reached))
 
   -- ## From the plugging on
@@ -243,7 +243,7 @@ module _ (config : Config) (units : List Unit) (fits : is_config config (length 
   clears_unflushed old answer.Ticked cleared = absurd (false≢true cleared)
   clears_unflushed old a cleared = tt
 
-  -- and is no turn of the host
+  -- and is not a turn of the host
   clears_quiet : (old : Places) (a : Answer) → is_cleared n old a ≡ true → IsNoTurn a
   clears_quiet old (answer.Took port conn number bytes report) cleared = absurd (false≢true cleared)
   clears_quiet old answer.Pushed cleared = absurd (false≢true cleared)
@@ -263,15 +263,15 @@ module _ (config : Config) (units : List Unit) (fits : is_config config (length 
   anew_unasked on = (on.serves.steady, λ asked. on.serves.signed asked (begins_anew.plugged []).awaited)
 
   -- so that any floors may be taken that it reached
-  cleared_rises : (floors : ℕ → ℕ) (disk : List Happening) (turns : List HostTurn) (now : Places) → IsNow now → (up : List (List ℕ))
-      → IsDiskRun plan sectors disk → Unasked now.host → AreFloors floors disk → HasEnds n config.memory no_floors turns now.host disk [] up
+  cleared_rises : (floors : ℕ → Floor) (disk : List Happening) (turns : List HostTurn) (now : Places) → IsNow now → (up : List (List ℕ))
+      → IsDiskRun plan sectors disk → Unasked now.host → AreFloorsOf floors disk → HasEnds n config.memory bare_floors turns now.host disk [] up
       → HasEnds n config.memory floors turns now.host disk [] up
   unfolding Unasked
   cleared_rises floors disk turns now i up run unasked are h = record {
     touches = h.touches;
     touched = h.touched;
     ends =
-        floors_rise n plan sectors now.host disk [] up no_floors floors h.touches below
+        floors_rise_since n plan sectors now.host disk [] up bare_floors floors h.touches below
         (running config.memory right plan sectors size disk run turns now i h.touches h.touched)
         (λ slot. inr (
           none_issued n now.host h.touches below (touched_served config.memory turns now.host h.touches right h.touched) unasked.0 unasked.1 slot,
@@ -280,12 +280,12 @@ module _ (config : Config) (units : List Unit) (fits : is_config config (length 
   }
 
   -- the port is cleared for the unit
-  begins_serving : (floors : ℕ → ℕ) (before : List Step) (told : List Answer) (old : Places) → (made : Run (new_world config units) before told old)
+  begins_serving : (floors : ℕ → Floor) (before : List Step) (told : List Answer) (old : Places) → (made : Run (new_world config units) before told old)
       → (happened : List Happening) (turns : List HostTurn) → Orders turns old → IsWaiting n c old happened → WaitsFor n c old → (s : Step) (a : Answer)
       (new : Places) → Rule old s (Ok a) new → injects n s ≡ false → unplugs n s ≡ false
       → IsDiskRun plan sectors (earlier ++ (happened ++ happens n old s a new)) → is_cleared n old a ≡ true
       → (port_at old.multiplier n).present ≡ Some c → IsOpenAt n new.multiplier.registers
-      → AreFloors floors (earlier ++ (happened ++ happens n old s a new))
+      → AreFloorsOf floors (earlier ++ (happened ++ happens n old s a new))
       → IsServing floors new (happened ++ happens n old s a new) (turns ++ turn_of old s a new)
   begins_serving floors before told old made happened turns o h waits s a new rule clean stays run cleared here opens are =
       let both = order_step n below o.unsent old o.knows s a new rule in
@@ -302,20 +302,20 @@ module _ (config : Config) (units : List Unit) (fits : is_config config (length 
       let on : IsWaiting n c new (happened ++ happens n old s a new) = waits_on n c below old s a new rule happened h clean stays waits in
       let sent_is : earlier ++ (happened ++ happens n old s a new) ≡ (earlier ++ Plugged ∷ []) ++ all_sent on.rising =
       ap (λ (xs : List Happening). earlier ++ xs) on.is ∙ sym (append_assoc earlier (Plugged ∷ []) (all_sent on.rising)) in
-      let plain : HasEnds n config.memory no_floors (turns ++ turn_of old s a new) new.host (earlier ++ Plugged ∷ []) [] [] =
+      let plain : HasEnds n config.memory bare_floors (turns ++ turn_of old s a new) new.host (earlier ++ Plugged ∷ []) [] [] =
       ends_now config units fits n below plan sectors size earlier first before told old made o.unsent o.knows turns o.touched s a new rule both.0 anew
       (clears_unflushed old a cleared) in
-      let ends : HasEnds n config.memory no_floors (turns ++ turn_of old s a new) new.host ((earlier ++ Plugged ∷ []) ++ all_sent on.rising) [] on.rising =
-      sends_all n config.memory below right plan sectors size no_floors (turns ++ turn_of old s a new) new
+      let ends : HasEnds n config.memory bare_floors (turns ++ turn_of old s a new) new.host ((earlier ++ Plugged ∷ []) ++ all_sent on.rising) [] on.rising =
+      sends_all n config.memory below right plan sectors size bare_floors (turns ++ turn_of old s a new) new
       (now_at config units fits (before ++ s ∷ []) (told ++ a ∷ []) new made_on) (earlier ++ Plugged ∷ []) [] on.rising
       (subst (IsDiskRun plan sectors) sent_is run)
-      (subst (λ (xs : List Happening). HasEnds n config.memory no_floors (turns ++ turn_of old s a new) new.host xs [] []) (sym (append-nil (earlier ++ Plugged ∷ [])))
+      (subst (λ (xs : List Happening). HasEnds n config.memory bare_floors (turns ++ turn_of old s a new) new.host xs [] []) (sym (append-nil (earlier ++ Plugged ∷ [])))
       plain) in
       let raised : HasEnds n config.memory floors (turns ++ turn_of old s a new) new.host ((earlier ++ Plugged ∷ []) ++ all_sent on.rising) [] on.rising =
       cleared_rises floors ((earlier ++ Plugged ∷ []) ++ all_sent on.rising) (turns ++ turn_of old s a new) new
       (now_at config units fits (before ++ s ∷ []) (told ++ a ∷ []) new made_on) on.rising (subst (IsDiskRun plan sectors) sent_is run)
       (subst (λ (x : Host). Unasked x) (sym (same_host old new s a rule (clears_quiet old a cleared))) (anew_unasked anew.host))
-      (subst (AreFloors floors) sent_is are) ends in
+      (subst (AreFloorsOf floors) sent_is are) ends in
       record {
         unsent = ordered.unsent;
         opens = open_at config units fits n c below within (before ++ s ∷ []) (told ++ a ∷ []) new made_on ordered.unsent ordered.knows live on.off.there;
@@ -328,10 +328,10 @@ module _ (config : Config) (units : List Unit) (fits : is_config config (length 
         };
       }
 
-  pub run_opens : (floors : ℕ → ℕ) (before : List Step) (told : List Answer) (old : Places) → Run (new_world config units) before told old → (happened : List Happening)
+  pub run_opens : (floors : ℕ → Floor) (before : List Step) (told : List Answer) (old : Places) → Run (new_world config units) before told old → (happened : List Happening)
       (turns : List HostTurn) → Orders turns old → IsWaiting n c old happened → WaitsFor n c old → (steps : List Step) (answers : List Answer) (new : Places)
       (run : Run old steps answers new) → IsLeftAlone n steps
-      → IsDiskRun plan sectors (earlier ++ (happened ++ over (happens n) old steps answers new run)) → AreFloors floors (earlier ++ happened)
+      → IsDiskRun plan sectors (earlier ++ (happened ++ over (happens n) old steps answers new run)) → AreFloorsOf floors (earlier ++ happened)
       → Stage floors new (happened ++ over (happens n) old steps answers new run) (turns ++ over turn_of old steps answers new run)
   run_opens floors before told old made happened turns o h waits [] [] new run alone disk are =
       subst (λ (w : Places). Stage floors w (happened ++ []) (turns ++ [])) (sym run)
@@ -373,10 +373,10 @@ module _ (config : Config) (units : List Unit) (fits : is_config config (length 
       later : IsDiskRun plan sectors (earlier ++ ((happened ++ happens n old s a run.0) ++ over (happens n) run.0 steps answers new run.2))
       later = subst (λ (xs : List Happening). IsDiskRun plan sectors (earlier ++ xs)) (sym whole) disk
 
-      now_are : AreFloors floors (earlier ++ (happened ++ happens n old s a run.0))
+      now_are : AreFloorsOf floors (earlier ++ (happened ++ happens n old s a run.0))
       now_are =
-          subst (AreFloors floors) (append_assoc earlier happened (happens n old s a run.0))
-          (floors_more floors (earlier ++ happened) (happens n old s a run.0) are)
+          subst (AreFloorsOf floors) (append_assoc earlier happened (happens n old s a run.0))
+          (floors_stay floors (earlier ++ happened) (happens n old s a run.0) are)
 
       one : IsDiskRun plan sectors (earlier ++ (happened ++ happens n old s a run.0))
       one =

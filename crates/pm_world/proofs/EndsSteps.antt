@@ -1,4 +1,5 @@
--- Each step of a world leaves a disk and the host that serves it together or apart, with what is on its way between them.
+-- Each step of a world leaves a disk and the host that serves it together or apart, with what is on
+-- its way between them.
 use Rattle.std.proofs.Common.{◌≡◌, ◌≢◌, ◌==◌, ℕ, ◌<◌, Bool, true, false, List, [], ◌∷◌, ◌++◌, drop, length, map, refl, sym, ap, subst, ◌∙◌, inl, inr}
 use Rattle.std.proofs.Common.{Some, None, Ok, arith}
 use Rattle.std.specs.Prelude.{◌⊎◌, MatchBool, if◌then◌else◌}
@@ -22,8 +23,9 @@ use Rattle.hba_driver.specs.HostTurns.{DoesAll, Host, HostTurn, Polled, Pushed, 
 use Rattle.hba_driver.specs.Steady.{IsFlushTick}
 use Rattle.hba_driver.proofs.AddressLemmas.{turn_addressed}
 use Rattle.hba_driver.proofs.GoingLemmas.{goes_on}
-use Rattle.driver_phases.specs.Ends.{AreEnds, EndsAfter, IsBesideTurn, IsRunning}
-use Rattle.driver_phases.proofs.EndLemmas.{ends_go_on}
+use Rattle.driver_phases.specs.Ends.{IsBesideTurn, IsRunning}
+use Rattle.driver_phases.specs.Flushes.{AreEndsSince, EndsSinceAfter, Floor}
+use Rattle.driver_phases.proofs.FlushTurns.{ends_since_go_on}
 use Rattle.pm_world.specs.Places.{Places, Queue}
 use Rattle.pm_world.specs.Rules.{Rule}
 use Rattle.pm_world.specs.Touched.{AreTouched, goes}
@@ -45,19 +47,19 @@ use Rattle.pm_world.proofs.ExactLemmas.{Comes, ExactMoves, Gives, IsExact, Sends
 -- ## What is kept
 
 -- The host came here over these turns. It and the disk at port n, which did all of this, are together or apart, with these lists on their way.
-pub record HasEnds (n len : ℕ) (floors : ℕ → ℕ) (turns : List HostTurn) (h : Host) (disk : List Happening) (down up : List (List ℕ)) : Type 0 where
+pub record HasEnds (n len : ℕ) (floors : ℕ → Floor) (turns : List HostTurn) (h : Host) (disk : List Happening) (down up : List (List ℕ)) : Type 0 where
   pub touches : Touches
   pub touched : AreTouched len turns h touches
-  pub ends : AreEnds n h disk down up floors touches
+  pub ends : AreEndsSince n h disk down up floors touches
 
 -- and just these are on the wire of the unit, which is there as connection c
-pub record HasEndsOn (n c len : ℕ) (floors : ℕ → ℕ) (turns : List HostTurn) (now : Places) (disk : List Happening) : Type 0 where
+pub record HasEndsOn (n c len : ℕ) (floors : ℕ → Floor) (turns : List HostTurn) (now : Places) (disk : List Happening) : Type 0 where
   pub down : List (List ℕ)
   pub up : List (List ℕ)
   pub exact : IsExact n c now down up
   pub both : HasEnds n len floors turns now.host disk down up
 
--- so it is where the host of a world is, by what touched it since its opening
+-- that holds where the host of a world is, by what touched it since its opening
 pub running : (len : ℕ) → is_memory_size len ≡ true → (plan : DiskPlan) (sectors : ℕ) → IsSize plan sectors → (disk : List Happening)
     → IsDiskRun plan sectors disk → (turns : List HostTurn) (now : Places) → IsNow now → (touches : Touches) → AreTouched len turns now.host touches
     → IsRunning plan sectors disk touches now.host
@@ -75,7 +77,7 @@ running len right plan sectors size disk run turns now i touches touched = recor
 
 -- ## The turn of a step
 
--- a step with such an answer is no turn of the host
+-- a step with such an answer is not a turn of the host
 abbrev pub IsNoTurn : Answer → Type 0
 IsNoTurn (answer.Took port conn number bytes report) = ⊥
 IsNoTurn answer.Pushed = ⊥
@@ -130,13 +132,13 @@ module _ (old new : Places) where
   no_turn s answer.Put quiet = absurd quiet
   no_turn s a quiet = refl
 
--- then the host is as it was
+-- the host is as it was then
 pub same_host : (old new : Places) (s : Step) (a : Answer) → Rule old s (Ok a) new → IsNoTurn a → new.host ≡ old.host
 same_host old new s a rule quiet = subst (λ (ts : List HostTurn). DoesAll old.host ts new.host) (no_turn old new s a quiet) (rule_does old s a new rule)
 
 -- ## A step in which no FIS of the device comes or goes at the host
 
--- it is no turn of the host, or one beside the device
+-- it is not a turn of the host, or it is a turn beside the device
 abbrev IsAside : ℕ → Host → List HostTurn → Type 0
 IsAside n old turns = (turns ≡ []) ⊎ ((t : HostTurn) × ((turns ≡ t ∷ []) × IsBesideTurn n old t))
 
@@ -146,7 +148,7 @@ IsUnflushed n old answer.Ticked = IsFlushTick n old.host → ⊥
 IsUnflushed n old a = Prim.Unit {0}
 
 module _ (n : ℕ) (old : Places) (i : IsNow old) (s : Step) (new : Places) where
-  -- a FIS of another one
+  -- a FIS of another device
   took_aside : (port conn number : ℕ) (bytes : List ℕ) (report : TakeReport) (b : Bool) (heard : List Happening) → heard ≡ [] → (port == n) ≡ b
       → MatchBool b ((plain : List ℕ) × (heard ≡ Sent plain ∷ []) × (bytes ≡ marked plain n)) (heard ≡ []) → port_of bytes ≡ port
       → IsAside n old.host (Took bytes report ∷ [])
@@ -227,7 +229,7 @@ module _ (n : ℕ) (old : Places) (i : IsNow old) (s : Step) (new : Places) wher
 -- ## A step
 
 module _ (n len : ℕ) (below : n < 15) (right : is_memory_size len ≡ true) (plan : DiskPlan) (sectors : ℕ) (size : IsSize plan sectors)
-    (floors : ℕ → ℕ) where
+    (floors : ℕ → Floor) where
   module _ (turns : List HostTurn) (old : Places) (i : IsNow old) (s : Step) (a : Answer) (new : Places) (rule : Rule old s (Ok a) new)
       (disk : List Happening) (down up : List (List ℕ)) (h : HasEnds n len floors turns old.host disk down up) where
     runs : (d : List Happening) → IsDiskRun plan sectors d → IsRunning plan sectors d h.touches old.host
@@ -238,12 +240,12 @@ module _ (n len : ℕ) (below : n < 15) (right : is_memory_size len ≡ true) (p
 
     -- a step that is this turn
     at_turn : (ts : List HostTurn) (t : HostTurn) (downs ups : List (List ℕ)) → ts ≡ t ∷ [] → DoesAll old.host ts new.host
-        → ((run : DoesAll old.host (t ∷ []) new.host) → EndsAfter n old.host t new.host run disk downs ups floors h.touches)
+        → ((run : DoesAll old.host (t ∷ []) new.host) → EndsSinceAfter n old.host t new.host run disk downs ups floors h.touches)
         → HasEnds n len floors (turns ++ ts) new.host disk downs ups
     at_turn ts t downs ups is all after =
         subst (λ (us : List HostTurn). HasEnds n len floors (turns ++ us) new.host disk downs ups) (sym is)
         (let run : DoesAll old.host (t ∷ []) new.host = subst (λ (us : List HostTurn). DoesAll old.host us new.host) is all in
-        let e : EndsAfter n old.host t new.host run disk downs ups floors h.touches = after run in
+        let e : EndsSinceAfter n old.host t new.host run disk downs ups floors h.touches = after run in
         record {
           touches = touches_after h.touches (shared_by old.host) (shared_by new.host) (events_over old.host new.host (t ∷ []) run) e.serves.runs;
           touched = goes turns t old.host new.host h.touches run e.serves h.touched;
@@ -251,7 +253,7 @@ module _ (n len : ℕ) (below : n < 15) (right : is_memory_size len ≡ true) (p
         })
 
     -- and one that is none
-    with_host : (ts : List HostTurn) (d : List Happening) (downs ups : List (List ℕ)) → ts ≡ [] → new.host ≡ old.host → AreEnds n old.host d downs ups floors h.touches
+    with_host : (ts : List HostTurn) (d : List Happening) (downs ups : List (List ℕ)) → ts ≡ [] → new.host ≡ old.host → AreEndsSince n old.host d downs ups floors h.touches
         → HasEnds n len floors (turns ++ ts) new.host d downs ups
     with_host ts d downs ups none same ends =
         subst (λ (us : List HostTurn). HasEnds n len floors (turns ++ us) new.host d downs ups) (sym none)
@@ -268,7 +270,7 @@ module _ (n len : ℕ) (below : n < 15) (right : is_memory_size len ≡ true) (p
             with_host (turn_of old s a new) disk down up none (subst (λ (ts : List HostTurn). DoesAll old.host ts new.host) none does) h.ends
         by_turn (inr one) =
             at_turn (turn_of old s a new) one.0 down up one.1.0 does
-            (λ one_run. (ends_go_on n plan sectors).0.beside old.host one.0 new.host one_run disk down up floors h.touches below (runs disk run) one.1.1 h.ends)
+            (λ one_run. (ends_since_go_on n plan sectors).0.beside old.host one.0 new.host one_run disk down up floors h.touches below (runs disk run) one.1.1 h.ends)
 
     -- the host gives one to it
     gives_one_to : (bytes : List ℕ) → IsDiskRun plan sectors disk → a ≡ answer.Pushed → IsAtHost n old a new (Received bytes ∷ [])
@@ -278,7 +280,7 @@ module _ (n len : ℕ) (below : n < 15) (right : is_memory_size len ≡ true) (p
         let g : GivesTo n old i s new bytes = gives_to n old i s new bytes its (subst (λ (b : Answer). IsAtHost n old b new (Received bytes ∷ [])) told is) in
         subst (λ (b : List ℕ). HasEnds n len floors (turns ++ turn_of old s a new) new.host disk (down ++ b ∷ []) up) (sym g.marks)
         (at_turn (turn_of old s a new) (Pushed (Some g.frame)) (down ++ marked g.frame.bytes 0 ∷ []) up (ap (λ (b : Answer). turn_of old s b new) told ∙ g.turn) does
-        (λ one_run. (ends_go_on n plan sectors).0.gives old.host g.frame new.host one_run disk down up floors h.touches below (runs disk run) g.port h.ends))
+        (λ one_run. (ends_since_go_on n plan sectors).0.gives old.host g.frame new.host one_run disk down up floors h.touches below (runs disk run) g.port h.ends))
 
     -- it takes the first of what goes down
     comes_to : (back : List (List ℕ)) (bytes : List ℕ) → IsDiskRun plan sectors disk → a ≡ answer.DiskTook n false → down ≡ bytes ∷ back
@@ -286,8 +288,8 @@ module _ (n len : ℕ) (below : n < 15) (right : is_memory_size len ≡ true) (p
     comes_to back bytes run told is =
         let quiet : IsNoTurn a = subst IsNoTurn (sym told) tt in
         with_host (turn_of old s a new) (disk ++ Received bytes ∷ []) back up (no_turn old new s a quiet) (same_host old new s a rule quiet)
-        ((ends_go_on n plan sectors).1.comes old.host disk back up bytes floors h.touches below (runs disk run)
-        (subst (λ (xs : List (List ℕ)). AreEnds n old.host disk xs up floors h.touches) is h.ends))
+        ((ends_since_go_on n plan sectors).1.comes old.host disk back up bytes floors h.touches below (runs disk run)
+        (subst (λ (xs : List (List ℕ)). AreEndsSince n old.host disk xs up floors h.touches) is h.ends))
 
     -- it sends one
     sends_one : (c number : ℕ) (bytes : List ℕ) → IsDiskRun plan sectors (disk ++ Sent bytes ∷ []) → a ≡ answer.Sent n c number bytes
@@ -295,9 +297,9 @@ module _ (n len : ℕ) (below : n < 15) (right : is_memory_size len ≡ true) (p
     sends_one c number bytes run told =
         let quiet : IsNoTurn a = subst IsNoTurn (sym told) tt in
         with_host (turn_of old s a new) (disk ++ Sent bytes ∷ []) down (up ++ bytes ∷ []) (no_turn old new s a quiet) (same_host old new s a rule quiet)
-        ((ends_go_on n plan sectors).1.sends old.host disk down up bytes floors h.touches below (runs (disk ++ Sent bytes ∷ []) run) h.ends)
+        ((ends_since_go_on n plan sectors).1.sends old.host disk down up bytes floors h.touches below (runs (disk ++ Sent bytes ∷ []) run) h.ends)
 
-    -- the host takes the next of it
+    -- the host takes its next one
     takes_one : (c number : ℕ) (bytes : List ℕ) (later : List (List ℕ)) (report : TakeReport) → IsDiskRun plan sectors disk → IsOfItsPort a
         → a ≡ answer.Took n c number (marked bytes n) report → up ≡ bytes ∷ later → HasEnds n len floors (turns ++ turn_of old s a new) new.host disk down later
     takes_one c number bytes later report run its told is =
@@ -305,8 +307,8 @@ module _ (n len : ℕ) (below : n < 15) (right : is_memory_size len ≡ true) (p
         let port : IsOfItsPort (answer.Took n c number (marked bytes n) report) = subst IsOfItsPort told its in
         let tooks : Tooks old.host (marked bytes n) report new.host = host_takes old new s n c number (marked bytes n) report own_rule in
         at_turn (turn_of old s a new) (Took (marked bytes n) report) down later (ap (λ (b : Answer). turn_of old s b new) told) does
-        (λ one_run. (ends_go_on n plan sectors).0.takes old.host bytes report new.host one_run disk down later floors h.touches below (runs disk run)
-        (plain_frame bytes n tooks.framed) port.0 (subst (λ (xs : List (List ℕ)). AreEnds n old.host disk down xs floors h.touches) is h.ends))
+        (λ one_run. (ends_since_go_on n plan sectors).0.takes old.host bytes report new.host one_run disk down later floors h.touches below (runs disk run)
+        (plain_frame bytes n tooks.framed) port.0 (subst (λ (xs : List (List ℕ)). AreEndsSince n old.host disk down xs floors h.touches) is h.ends))
 
   -- ---- by what it is on the wire
 

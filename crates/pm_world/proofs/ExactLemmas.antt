@@ -54,7 +54,8 @@ pub record IsExact (n c : ℕ) (now : Places) (down up : List (List ℕ)) : Type
   pub wire : IsOnWire n c now down up
   pub exact : descending_on n c now ≡ down
 
--- What a step with this answer does, as WireMoves tells it; but what comes to the unit is the first of what goes down.
+-- What a step with this answer does, as WireMoves tells it, except that what comes to the unit is the
+-- first of what goes down.
 pub data ExactMoves (n c : ℕ) (a : Answer) (new : Places) (happened heard : List Happening) (down up : List (List ℕ)) : Type 0 where
   -- nothing is done at either end
   Still : happened ≡ [] → heard ≡ [] → IsExact n c new down up → ExactMoves n c a new happened heard down up
@@ -83,7 +84,7 @@ pub exact_of : (n c : ℕ) (now : Places) (down down_now up : List (List ℕ)) �
 exact_of n c now down down_now up w e =
     record { wire = subst (λ (xs : List (List ℕ)). IsOnWire n c now xs up) e (dropped_never_comes n c now down up w); exact = e }
 
--- nothing goes down where nothing may come
+-- nothing goes down if nothing may come
 pub exact_now : (n c : ℕ) (now : Places) (up : List (List ℕ)) → IsOnWire n c now [] up → IsExact n c now [] up
 exact_now n c now up w = record { wire = w; exact = among_none (descending_on n c now) w.below }
   where
@@ -105,7 +106,7 @@ same_first x y xs ys all here there = let e : x ∷ xs ≡ y ∷ ys = sym here �
 
 -- ## What the unit does not take
 
--- where there is a unit it is this
+-- if there is a unit, it is this one
 place_of : (c : ℕ) (o : Option Place) (place : Place) → o ≡ Some place → MatchOption o ⊥ (λ p. (p.plugged ≡ true) × (p.conn ≡ c))
     → (place.plugged ≡ true) × (place.conn ≡ c)
 place_of c None place is there = absurd there
@@ -272,7 +273,7 @@ module _ (n c : ℕ) (below : n < 15) (old : Places) (s : Step) (new : Places) (
       lands : Lands m f old new
       lands = (rule_moves_down old s (answer.DiskTook m true) new firm.orderly rule).1
 
-  -- nothing that is recorded of the port is recorded in the step
+  -- nothing that is recorded about the port is recorded in the step
   presence_exactly : (m : ℕ) → Rule old s (Ok (answer.Presence m)) new → Same
   presence_exactly m rule =
       let none : (m == n) ≡ false = (stays_present n c old s (answer.Presence m) new rule stays firm live.here live.kept).unrecorded in
@@ -286,7 +287,7 @@ module _ (n c : ℕ) (below : n < 15) (old : Places) (s : Step) (new : Places) (
       let own : pm_port h.frame ≡ control_port = eqb-true (pm_port h.frame) control_port (to_control old.multiplier h.frame new.multiplier h.goes) in
       two_same (m.1.falls n) (taken_off h.frame h.link (λ same. device (sym same ∙ own)))
 
-  -- one that is dropped is not for the port
+  -- a frame that is dropped is not for the port
   nobody_exactly : Rule old s (Ok (answer.Passed passed.Dropped)) new → Same
   nobody_exactly rule =
       let m = rule_moves_down old s (answer.Passed passed.Dropped) new firm.orderly rule in
@@ -353,7 +354,7 @@ module _ (n c : ℕ) (below : n < 15) (old : Places) (s : Step) (new : Places) (
       (ap (λ (xs : List Stamped). drop (length old.downward.frames) xs) link ∙ drop_own old.downward.frames (f ∷ []))
       ∙ ap (λ (xs : List (List ℕ)). map (λ bytes. Received bytes) xs) (append-nil (for_port n f))
 
-  -- where nothing is done at either end
+  -- if nothing is done at either end
   still_same : (a : Answer) → MovesExactly a → befalls n old a ≡ [] → IsAtHost n old a new [] → Same
   still_same answer.Pushed m none unheard =
       let nobody : for_port n m.0 ≡ [] = received_none (for_port n m.0) (sym (given_is m.0 m.1 [] unheard)) in
@@ -468,7 +469,8 @@ open_step n c below unsent old new s a down up rule stays clean o x = (
   (exact_step n c below old new s a down up o.firm rule o.there stays clean o.met o.live x).1,
 )
 
--- So it begins in each world to which a run from a new one leads, where the unit is there and its port is open to it.
+-- It begins in each world to which a run from a new one leads, if the unit is there and its port is
+-- open to it.
 pub open_at : (config : Config) (units : List Unit) → is_config config (length units) ≡ true → (n c : ℕ) → n < 15 → n < length units
     → (before : List Step) (told : List Answer) (now : Places) → Run (new_world config units) before told now → (unsent : Bool) → Knows n unsent now
     → IsLive n c now → IsThere n c now → IsOpenFor n c unsent now
@@ -480,7 +482,7 @@ open_at config units fits n c below within before told now made unsent knows liv
   there = there;
 }
 
--- as the port is cleared for the unit, nothing goes down
+-- when the port is cleared for the unit, nothing goes down
 pub cleared_exact : (n c : ℕ) (below : n < 15) (old : Places) (s : Step) (a : Answer) (new : Places) → Rule old s (Ok a) new
     → (rising : List (List ℕ)) → IsShutOff n c old rising → IsCut n c old → injects n s ≡ false → unplugs n s ≡ false
     → is_cleared n old a ≡ true → (up : List (List ℕ))

@@ -42,7 +42,8 @@ pub record Rests (old new : Places) : Type 0 where
   pub falls : (m : ℕ) → falling_to m new ≡ falling_to m old
   pub waits : (m : ℕ) → MayWait m old.multiplier new.multiplier
 
--- what waits at port n for its device is dropped, if it is, since the removal of its connection is recorded
+-- what waits at port n for its device is dropped, if it is, because the removal of its connection is
+-- recorded
 pub record Loses (n : ℕ) (old new : Places) : Type 0 where
   pub link : new.downward.frames ≡ old.downward.frames
   pub here : falling_to n new ++ option_to_list (lost_from (port_at old.multiplier n).down (port_at new.multiplier n).down) ≡ falling_to n old
@@ -50,7 +51,7 @@ pub record Loses (n : ℕ) (old new : Places) : Type 0 where
   pub removed : (frame : Stamped) → lost_from (port_at old.multiplier n).down (port_at new.multiplier n).down ≡ Some frame → is_removed n frame.stamp.conn new ≡ true
   pub waits : (m : ℕ) → MayWait m old.multiplier new.multiplier
 
--- a frame comes on the host's link, last
+-- a frame enters the host's link, as the last one
 pub record Starts (frame : Stamped) (old new : Places) : Type 0 where
   pub link : new.downward.frames ≡ old.downward.frames ++ frame ∷ []
   pub falls : (m : ℕ) → falling_to m new ≡ falling_to m old
@@ -97,7 +98,7 @@ written Is not [] n p is = absurd (not is)
 written Is not (q ∷ ports) zero p is = refl
 written Is not (q ∷ ports) (suc n) p is = written Is not ports n p is
 
--- where a port is written that keeps its frame on the way down, each does
+-- if a port is written that keeps its frame on the way down, each port does
 keep_down : (ports : List PortState) (n : ℕ) (p : PortState) → p.down ≡ (get_or ports n empty_port).down → (m : ℕ) → (get_or (set ports n p) m empty_port).down ≡ (get_or ports m empty_port).down
 keep_down [] n p same m = refl
 keep_down (q ∷ ports) zero p same zero = same
@@ -119,7 +120,8 @@ kept_waits old new keeps m frame e = inl (sym (keeps m) ∙ e)
 same_waits : (old new : PmState) → new ≡ old → (m : ℕ) → MayWait m old new
 same_waits old new e = kept_waits old new (same_down old new e)
 
--- so it is where one port is written over, and what it has then waited there before, or was passed to it
+-- that holds if one port is written over, and what it has then waited there before, or was passed to
+-- it
 written_waits : (old new : PmState) (n : ℕ) (p : PortState) → new.ports ≡ set old.ports n p → ((frame : Stamped) → p.down ≡ Some frame → ((port_at old n).down ≡ Some frame) ⊎ (passes_to old n ≡ Some frame.stamp.conn)) → (m : ℕ) → MayWait m old new
 written_waits old new n p now is m frame e =
     by_ports old.ports n p m (λ at here. subst (λ (k : ℕ). ((port_at old k).down ≡ Some frame) ⊎ (passes_to old k ≡ Some frame.stamp.conn)) (sym at) (is frame here)) (λ e. inl e)
@@ -206,7 +208,7 @@ module _ (old : Places) (n : ℕ) (place after : Place) (is : slice_get old.devi
         | inr other ↦ link_elsewhere m other
       ]
 
-  -- nothing moves where the device's link and the ports keep what they have
+  -- nothing moves if the device's link and the ports keep what they have
   both_rest : (left : PmState) → after.down.frames ≡ place.down.frames → KeepsDown old.multiplier left → Rests old (with_multiplier (with_device old n after) left)
   both_rest left same keeps = record {
     link = refl;
@@ -235,7 +237,7 @@ quiet_rests old (answer.DiskTook n dropped) new quiet rests = absurd quiet
 quiet_rests old (answer.Presence n) new quiet rests = absurd quiet
 quiet_rests old a new quiet rests = rests
 
--- what a step leaves of a device's link, and that its answer tells of none
+-- what a step leaves of a device's link, if its answer tells of no such frame
 abbrev pub KeepsLink : Place → Answer → Place → Type 0
 KeepsLink old a new = IsQuiet a × (new.down.frames ≡ old.down.frames)
 
@@ -391,7 +393,7 @@ module _ (old : Places) (n : ℕ) (place after : Place) (left : PmState) (is : s
 
 -- ---- a step of the multiplier
 
--- where the devices stay and each port keeps its frame on the way down
+-- if the devices stay and each port keeps its frame on the way down
 same_falls : (old new : Places) → new.devices ≡ old.devices → KeepsDown old.multiplier new.multiplier → (m : ℕ) → falling_to m new ≡ falling_to m old
 same_falls old new devices keeps m =
     ap (λ ds. on_down_link (slice_get ds m) ++ option_to_list (port_at new.multiplier m).down) devices
@@ -491,7 +493,7 @@ put_quiet : (at : ℕ) (bytes : List ℕ) (host : Host) (a : Answer) (after : Ho
 put_quiet at bytes host answer.Put after acts = tt
 put_quiet at bytes host _ after acts = absurd acts
 
--- a world that differs from another in its upward link and its host alone
+-- a world that differs from another only in its upward link and its host
 host_rests : (old new : Places) (upward : Queue) (host : Host) → new ≡ record old { upward = upward; host = host } → Rests old new
 host_rests old new upward host e = record {
   link = ap (λ (w : Places). w.downward.frames) e;

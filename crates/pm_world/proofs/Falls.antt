@@ -1,4 +1,5 @@
--- Nothing is lost on the way down in one step, and so in a whole run, but for what a recorded removal drops.
+-- Nothing is lost on the way down in one step, and so in a whole run, except what a recorded removal
+-- drops.
 use Rattle.std.proofs.Common.{◌≡◌, ◌≢◌, ℕ, ◌+◌, ◌<◌, ◌≤◌, ◌==◌, Bool, true, false, cond, if◌then◌else◌, List, [], ◌∷◌, ◌++◌, Option, Some, None, refl, sym, ap, ap₂, subst, ◌∙◌, append_assoc, append-nil, inl, inr, length, drop, take, filter, flat_map, length-append, arith}
 use Rattle.std.specs.Prelude.{Ok, ◌⊎◌, option_to_list}
 use Rattle.std.proofs.lemmas.Bool.{cases_eq, eq-eqb, ne_eqb}
@@ -50,7 +51,7 @@ pub record FallsBy (old : Places) (s : Step) (a : Answer) (new : Places) : Type 
 and_nothing : {x y : List Stamped} → x ≡ y → x ≡ y ++ []
 and_nothing {x} {y} e = e ∙ sym (append-nil y)
 
--- and where nothing is lost
+-- and if nothing is lost
 nor_lost : {x y : List Stamped} → x ≡ y → x ++ [] ≡ y ++ []
 nor_lost e = ap (λ (xs : List Stamped). xs ++ []) e
 
@@ -161,7 +162,7 @@ module _ (old : Places) (s : Step) (new : Places) where
       by_option (Some frame) e =
           inr (record { frame = frame; lost_is = refl; waited = (lost_was was now frame e).0; empty = (lost_was was now frame e).1; removed = l.removed frame e })
 
-  -- each move is what the tellings say of it
+  -- each move is what the tellings say about it
   moves_fall : (a : Answer) → MovesDown old a new → FallsBy old s a new
   moves_fall answer.Pushed m = starts_falls m.0 m.1
   moves_fall (answer.Passed (passed.Down n)) m = goes_falls n m.0 m.1
@@ -193,9 +194,10 @@ module _ (old : Places) (s : Step) (new : Places) where
 
 -- ---- over a run
 
--- lists of what is told to leave, what is there, what is lost and what is told to come, in a first step and then
+-- lists of what is told to leave, what is there, what is lost and what is told to come: in a first
+-- step, and in what follows
 module _ {A : Type 0} (left first there mid now lost came come : List A) (one : left ++ mid ++ lost ≡ there ++ came) (rest : List A) (later : first ++ now ++ rest ≡ mid ++ come) where
-  -- where the first step loses nothing
+  -- if the first step loses nothing
   joined : lost ≡ [] → (left ++ first) ++ now ++ (lost ++ rest) ≡ there ++ (came ++ come)
   joined none =
       ap (λ (xs : List A). (left ++ first) ++ now ++ (xs ++ rest)) none
@@ -206,7 +208,7 @@ module _ {A : Type 0} (left first there mid now lost came come : List A) (one : 
       ∙ ap (λ (xs : List A). xs ++ come) (sym (append-nil (left ++ mid)) ∙ ap (λ (xs : List A). left ++ mid ++ xs) (sym none) ∙ one)
       ∙ append_assoc there came come
 
-  -- where nothing comes after it, and nothing more is lost
+  -- if nothing comes after it, and nothing more is lost
   ended : come ≡ [] → rest ≡ [] → (left ++ first) ++ now ++ (lost ++ rest) ≡ there ++ (came ++ come)
   ended none_come none_lost =
       ap (λ (xs : List A). (left ++ first) ++ now ++ (lost ++ xs)) none_lost
@@ -220,7 +222,8 @@ module _ {A : Type 0} (left first there mid now lost came come : List A) (one : 
           sym (append-nil (first ++ now)) ∙ ap (λ (xs : List A). first ++ now ++ xs) (sym none_lost) ∙ later
           ∙ ap (λ (xs : List A). mid ++ xs) none_come ∙ append-nil mid
 
--- where in each step what is told to leave, and then what is there, is what was there and what is told to come, so it is in a run
+-- if in each step what is told to leave, and then what is there, is what was there and what is told
+-- to come, the same holds in a run
 over_conserves : {A : Type 0} → (leaves comes : Telling A) → (there : Places → List A)
     → ((old : Places) (s : Step) (a : Answer) (new : Places) → IsOrderly old → Rule old s (Ok a) new → leaves old s a new ++ there new ≡ there old ++ comes old s a new)
     → (old : Places) (steps : List Step) (answers : List Answer) (new : Places) (run : Run old steps answers new) → IsOrderly old
@@ -237,7 +240,8 @@ over_conserves leaves comes there each old (s ∷ steps) (a ∷ answers) new run
 over_conserves leaves comes there each old [] (a ∷ answers) new run orderly = absurd run
 over_conserves leaves comes there each old (s ∷ steps) [] new run orderly = absurd run
 
--- where each step tells of one exactly where its answer says so, a run tells of as many as its answers say
+-- if each step tells of one item exactly when its answer says so, a run tells of as many as its
+-- answers say
 over_counts : {A : Type 0} → (tell : Telling A) → (says : Answer → Bool)
     → ((old : Places) (s : Step) (a : Answer) (new : Places) → IsOrderly old → Rule old s (Ok a) new → length (tell old s a new) ≡ once_if (says a))
     → (old : Places) (steps : List Step) (answers : List Answer) (new : Places) (run : Run old steps answers new) → IsOrderly old
@@ -262,7 +266,8 @@ both_empty : {A : Type 0} (xs ys : List A) → xs ++ ys ≡ [] → (xs ≡ []) �
 both_empty [] ys e = (refl, e)
 both_empty (x ∷ xs) ys e = absurd (cc)
 
--- Where a run loses nothing at a port, what the device took and then what is on its way to it is what was passed down.
+-- If a run loses nothing at a port, what the device took and then what is on its way to it is what
+-- was passed down.
 over_ports : (n : ℕ) (old : Places) (steps : List Step) (answers : List Answer) (new : Places) (run : Run old steps answers new) → IsOrderly old → over (lost_at n) old steps answers new run ≡ []
     → over (disk_took n) old steps answers new run ++ falling_to n new ≡ falling_to n old ++ over (fell_to n) old steps answers new run
 over_ports n old [] [] new run orderly none = ap (λ (w : Places). falling_to n w) run ∙ sym (append-nil (falling_to n old))
@@ -282,7 +287,7 @@ over_ports n old (s ∷ steps) (a ∷ answers) new run orderly none =
 over_ports n old [] (a ∷ answers) new run orderly none = absurd run
 over_ports n old (s ∷ steps) [] new run orderly none = absurd run
 
--- ---- of one connection
+-- ---- for one connection
 
 two : (c : ℕ) (xs ys : List Stamped) → of_connection c (xs ++ ys) ≡ of_connection c xs ++ of_connection c ys
 two c xs ys = filter-append (λ (f : Stamped). f.stamp.conn == c) xs ys
@@ -302,7 +307,7 @@ passes_present : (forwards : Bool) (present : Option ℕ) (conn : ℕ) → (if f
 passes_present true present conn e = e
 passes_present false present conn e = absurd (cc)
 
--- and so it is none that is removed
+-- so it is not a connection that is removed
 passes_apart : (pm : PmState) (n conn c : ℕ) → KnowsItsConnections (port_at pm n) → passes_to pm n ≡ Some conn → is_gone (port_at pm n) c ≡ true → conn ≢ c
 passes_apart pm n conn c knows passes so = λ same.
     let there : (port_at pm n).present ≡ Some conn = passes_present _ (port_at pm n).present conn passes in
@@ -331,7 +336,7 @@ abbrev waits_of : ℕ → ℕ → Places → List Stamped
 waits_of n c now = of_connection c (option_to_list (port_at now.multiplier n).down)
 
 module _ (n c : ℕ) (old : Places) (s : Step) (a : Answer) (new : Places) (orderly : IsOrderly old) (fall : FallsBy old s a new) where
-  -- where nothing of a connection waits, none of it is lost
+  -- if nothing of a connection waits, none of it is lost
   none_lost : waits_of n c old ≡ [] → of_connection c (lost_at n old s a new) ≡ []
   none_lost none =
       elim (fall.lost n) [
@@ -351,7 +356,8 @@ module _ (n c : ℕ) (old : Places) (s : Step) (a : Answer) (new : Places) (orde
             | inr passes ↦ of_other c frame (passes_apart old.multiplier n frame.stamp.conn c (orderly.knows n) passes so)
           ]
 
--- of a connection that is removed, and of which nothing waits, nothing is passed down or lost any more
+-- for a connection that is removed, and of which nothing waits, nothing is passed down or lost any
+-- more
 run_over : (n c : ℕ) (old : Places) (steps : List Step) (answers : List Answer) (new : Places) (run : Run old steps answers new) → IsOrderly old → is_removed n c old ≡ true → waits_of n c old ≡ []
     → (of_connection c (over (fell_to n) old steps answers new run) ≡ []) × (of_connection c (over (lost_at n) old steps answers new run) ≡ [])
 run_over n c old [] [] new run orderly so none = (refl, refl)
@@ -366,7 +372,8 @@ run_over n c old (s ∷ steps) (a ∷ answers) new run orderly so none =
 run_over n c old [] (a ∷ answers) new run orderly so none = absurd run
 run_over n c old (s ∷ steps) [] new run orderly so none = absurd run
 
--- Of each connection what the device took, then what is on its way, and then what was lost, is what was passed down.
+-- For each connection, what the device took, then what is on its way, and then what was lost, is what
+-- was passed down.
 over_each : (n c : ℕ) (old : Places) (steps : List Step) (answers : List Answer) (new : Places) (run : Run old steps answers new) → IsOrderly old
     → of_connection c (over (disk_took n) old steps answers new run ++ falling_to n new ++ over (lost_at n) old steps answers new run)
     ≡ of_connection c (falling_to n old ++ over (fell_to n) old steps answers new run)
@@ -405,7 +412,7 @@ over_each n c old (s ∷ steps) (a ∷ answers) new run orderly =
 over_each n c old [] (a ∷ answers) new run orderly = absurd run
 over_each n c old (s ∷ steps) [] new run orderly = absurd run
 
--- of a connection that is not removed nothing is lost
+-- nothing is lost of a connection that is not removed
 over_kept : (n c : ℕ) (old : Places) (steps : List Step) (answers : List Answer) (new : Places) (run : Run old steps answers new) → IsOrderly old → is_gone (port_at new.multiplier n) c ≡ false
     → of_connection c (over (lost_at n) old steps answers new run) ≡ []
 over_kept n c old [] [] new run orderly never = refl

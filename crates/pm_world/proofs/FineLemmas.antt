@@ -1,5 +1,5 @@
--- In a run from a new world the port goes on, and no fault of a device stands of which none was heard: what goes fine with a device goes well with it and the
--- port.
+-- In a run from a new world the port goes on, and no fault stands of a device for which none was
+-- heard. What goes fine with a device goes well with it and with the port.
 use Rattle.std.proofs.Common.{◌≡◌, ℕ, ◌<◌, true, false, List, [], ◌∷◌, ◌++◌, length, refl, sym, ◌∙◌}
 use Rattle.std.proofs.Common.{Ok}
 use Rattle.std.proofs.lemmas.Bool.{eq-eqb, true≢false}

@@ -1,5 +1,5 @@
--- What is true of a port of each world: connections come one after another, each removal before the next coming, and what is on its way to a
--- device is of none that is still to come.
+-- What is true of a port in each world. Connections come one after another, each removal before the
+-- next coming. What is on its way to a device is not of a connection that is still to come.
 use Rattle.std.proofs.Common.{◌≡◌, ◌==◌, ℕ, ◌+◌, ◌<◌, ◌≤◌, Bool, true, false, List, [], ◌∷◌, ◌++◌, length, map, zero, suc, refl, sym, ap, subst, ◌∙◌, inl, inr}
 use Rattle.std.proofs.Common.{Option, Some, None, Ok, arith}
 use Rattle.std.specs.Prelude.{if◌then◌else◌, slice_get, nat_le, nat_lt}
@@ -29,7 +29,7 @@ use Rattle.pm_world.proofs.DownLemmas.{DownChange, Gone, Put, Quiet, down_change
 use Rattle.pm_world.proofs.EachLemmas.{Each, each_map, each_more}
 use Rattle.pm_world.proofs.KeepingLemmas.{IsTrue, opening_true, passes_open, true_after}
 
--- who says that a unit came is the step by which it did
+-- the step that tells that a unit came is the one by which it came
 came_by : (old new : Places) (port conn : ℕ) (s : Step) → Rule old s (Ok (answer.Came port conn)) new → s ≡ step.Came port
 came_by old new port conn (step.Came m) rule =
     let d : AtDevice old m (Ok (answer.Came port conn)) new (CameRule m) = at_device old m (answer.Came port conn) new (CameRule m) rule in
@@ -74,7 +74,7 @@ next_back [] ys k h = h
 next_back (change.Came conn ∷ xs) ys k h = next_back xs ys (one (change.Came conn) k) h.1
 next_back (change.Gone conn ∷ xs) ys k h = next_back xs ys (one (change.Gone conn) k) h
 
--- all connections before the one that is present are gone, and where none is, all that came are
+-- all connections before the one that is present are gone; if none is present, all that came are gone
 pub record IsClosed (k : Known) : Type 0 where
   pub there : (c : ℕ) → k.0 ≡ Some c → (0 < c) × (c ≤ k.2 + 1)
   pub none : k.0 ≡ None → k.1 ≤ k.2
@@ -125,7 +125,7 @@ pub record IsFirm (n : ℕ) (now : Places) : Type 0 where
   pub closed : IsClosed (seen_at n now)
   pub falls : Each (HasCome n now) (falling_to n now)
 
--- and where all that is posted is recorded
+-- and if all that is posted is recorded
 pub whole_closed : (n : ℕ) (now : Places) → IsFirm n now → IsClosed (all (on_presence (slice_get now.devices n)) (seen_at n now))
 whole_closed n now f =
     closed_all (on_presence (slice_get now.devices n)) (seen_at n now) f.led.let_in f.next (λ c e. sym ((f.orderly.knows n).present c e).0) f.closed

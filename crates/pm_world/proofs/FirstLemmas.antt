@@ -1,4 +1,4 @@
--- Up to the first FIS of a disk the host serves it, and gives it nothing.
+-- Up to the first FIS of a disk, the host serves the disk and gives it nothing.
 use Rattle.std.proofs.Common.{◌≡◌, ◌≢◌, eqb, ◌==◌, ◌⊎◌, ℕ, ◌<◌, Bool, true, false, List, [], ◌∷◌, ◌++◌, drop, length, map, refl, sym, ap, subst, ◌∙◌, inl, inr}
 use Rattle.std.proofs.Common.{Ok}
 use Rattle.std.specs.Prelude.{Result}
@@ -42,7 +42,7 @@ abbrev pub is_taken_of : ℕ → Answer → Bool
 is_taken_of n (answer.Took port conn number bytes report) = port == n
 is_taken_of n a = false
 
--- A tick does not stop the port and clears no fault of n; it may flush n.
+-- A tick does not stop the port, and clears no fault of n. It may flush n.
 abbrev pub OpensWell : ℕ → Places → Answer → Type 0
 OpensWell n old answer.Ticked = IsCalmTick n old.host ⊎ IsFlushTick n old.host
 OpensWell n old a = Prim.Unit {0}
@@ -66,7 +66,7 @@ careless : (bytes : List ℕ) (later : List Happening) → IsCareful (Plugged �
 unfolding FitsAll
 careless bytes later careful = nothing_fits (seen bytes) careful.0
 
--- so a host that serves a disk gives it nothing before
+-- so a host that serves a disk gives it nothing before that
 gives_none : (n len : ℕ) (turns : List HostTurn) (now : Places) (xs : List (List ℕ)) → n < 15
     → HostOn n len turns now.host (Plugged ∷ map (λ bytes. Received bytes) xs) → xs ≡ []
 gives_none n len turns now [] below h = refl

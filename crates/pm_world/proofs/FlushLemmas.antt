@@ -1,4 +1,5 @@
--- In the tick that flushes a disk: the orders before are taken, nothing of the disk is on the host's link, and the host begins anew.
+-- In the tick that flushes a disk, the earlier orders are taken, nothing of the disk is on the host's
+-- link, and the host begins anew.
 use Rattle.std.proofs.Common.{◌≡◌, ◌≢◌, ◌==◌, ◌&&◌, ℕ, zero, suc, ◌*◌, ◌^◌, ◌<◌, ◌≤◌, Bool, true, false, not, List, [], ◌∷◌, ◌++◌, length, refl, sym, ap, subst, ◌∙◌, inl, inr}
 use Rattle.std.proofs.Common.{Option, Some, None, Ok, arith}
 use Rattle.std.specs.Int.{bit_at}
@@ -60,7 +61,7 @@ front_true : (b c : Bool) → b ≡ true → (b || c) ≡ true
 front_true true c is = refl
 front_true false c is = absurd (true≢false (sym is))
 
--- the tick flushes the device, as it orders that its port be cleared
+-- the tick flushes the device when it orders that its port be cleared
 pub flush_orders : (n : ℕ) (h : Host) → IsFlushTick n h → list_any (flushes n) (effects (sight_in h) h.driver) ≡ true
 unfolding effects_of order_effects
 flush_orders n h flush = ap (λ a. list_any (flushes n) (effects_due a)) flush ∙ front_true (n == n) _ (eq-eqb n n refl)
@@ -73,7 +74,7 @@ unclear_down n (f ∷ frames) none = (
   unclear_down n frames none.1,
 )
 
--- no order of before is on its way down
+-- no earlier order is on its way down
 orders_taken : (config : Config) (units : List Unit) → is_config config (length units) ≡ true → (first : List Step) (told : List Answer) (mid : Places)
     → Run (new_world config units) first told mid → (n : ℕ) (new : Places) → Rule mid step.Tick (Ok answer.Ticked) new → IsFlushTick n mid.host
     → Nothing (is_clear n) mid.downward.frames
@@ -84,7 +85,7 @@ orders_taken config units fits first told mid made n new rule flush =
 
 -- ## The port
 
--- none of port n is none of any connection of it
+-- a frame that is not of port n is not of any connection of port n
 none_stamped : (n d : ℕ) (frames : List Stamped) → Nothing (is_from n) frames → stamped n d frames ≡ []
 none_stamped n d [] none = refl
 none_stamped n d (f ∷ frames) none =
@@ -106,7 +107,7 @@ x_set error e = elim (cases_eq (bit_at error 26) 0) [
       omega (arith, small, other)
 ]
 
--- a connection after that of the unit is still to come
+-- a connection after the unit's is still to come
 to_come : (n c d : ℕ) (now : Places) → IsThere n c now → c < d → IsAhead n d now
 to_come n c d now there less = by_place (slice_get now.devices n) refl there
   where
@@ -116,7 +117,7 @@ to_come n c d now there less = by_place (slice_get now.devices n) refl there
         let conn : place.conn ≡ c = there.1 in
         record { place = place; is = is; less = omega (arith, conn, less) }
 
--- the port as its unit is flushed
+-- the port when its unit is flushed
 pub held_at_flush : (n : ℕ) → n < 15 → (config : Config) (units : List Unit) → is_config config (length units) ≡ true → (first : List Step) (told : List Answer)
     (mid : Places) → Run (new_world config units) first told mid → (new : Places) → Rule mid step.Tick (Ok answer.Ticked) new → IsFlushTick n mid.host
     → IsAtRest n mid → IsHeld n new
@@ -133,7 +134,7 @@ held_at_flush n below config units fits first told mid made new rule flush rest 
       };
     })
 
--- and where the unit's connection is recorded, nothing of another one is on its way
+-- and if the unit's connection is recorded, nothing of another one is on its way
 pub cut_there : (n c : ℕ) → n < 15 → (config : Config) (units : List Unit) → is_config config (length units) ≡ true → (first : List Step) (told : List Answer)
     (now : Places) → Run (new_world config units) first told now → IsHeld n now → IsThere n c now → (port_at now.multiplier n).present ≡ Some c → IsCut n c now
 cut_there n c below config units fits first told now made held there here = record { held = held; alone = alone }
@@ -181,7 +182,7 @@ rest_now n unsent old s answer.Ticked new order =
     λ flush. let clears = flush_orders n old.host flush in record { away = order.away clears; waits = order.waits clears }
 rest_now n unsent old s a new order = tt
 
--- where the orders are in order the port is at rest at each flush
+-- if the orders are in order, the port is at rest at each flush
 orders_let_rest : (n : ℕ) (unsent : Bool) (old : Places) (steps : List Step) (answers : List Answer) (new : Places) (run : Run old steps answers new)
     → InOrder n unsent old steps answers new run → AtEach (RestsAtFlush n) old steps answers new run
 orders_let_rest n unsent old [] answers new run order = tt
@@ -213,7 +214,7 @@ pub ports_rest : PortsRest
 ports_rest config units fits steps answers new run n below =
     orders_let_rest n false (new_world config units) steps answers new run (orders_in_order config units fits steps answers new run n below)
 
--- so it is as a tick flushes the device that comes after a run from a new world
+-- that holds when a tick after a run from a new world flushes the device
 pub rests_at_flush : (config : Config) (units : List Unit) → is_config config (length units) ≡ true → (n : ℕ) → n < 15 → (first : List Step) (told : List Answer)
     (mid : Places) → Run (new_world config units) first told mid → (new : Places) → Rule mid step.Tick (Ok answer.Ticked) new → IsFlushTick n mid.host → IsAtRest n mid
 rests_at_flush config units fits n below first told mid made new rule =

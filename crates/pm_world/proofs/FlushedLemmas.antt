@@ -1,4 +1,4 @@
--- When a host flushes a device: its port is open to the driver then, and not to the device.
+-- When a host flushes a device, the port of the device is open to the driver, and not to the device.
 use Rattle.std.proofs.Common.{◌≡◌, ℕ, ◌<◌, ◌≤◌, Bool, true, List, length, subst, Ok}
 use Rattle.disk_model.specs.declared.unit.Unit.{Unit}
 use Rattle.hba_driver.specs.HostTurns.{Does, Host, Ticked, sight_in}
@@ -19,7 +19,7 @@ use Rattle.pm_world.proofs.FlushLemmas.{rests_at_flush}
 use Rattle.pm_world.proofs.EndsSteps.{IsUnflushed}
 use Rattle.pm_world.proofs.LiveLemmas.{IsLive, never_flushed}
 
--- the port is open where the driver flushes a device
+-- the port is open when the driver flushes a device
 pub opened_at_flush : (n : ℕ) (old : Host) (acted : Bool) (new : Host) → Does old (Ticked acted) new → IsFlushTick n old → 7 ≤ new.driver.plan.opened
 opened_at_flush n old acted new does flush =
     let runs = subst (Runs old.driver.plan) flush (runs_turn (sight_in old) old.driver.plan (done_ended (sight_in old).issued old.driver.entries)) in

@@ -1,4 +1,5 @@
--- A port that is open to a device passes FISes: communication is established there, over each run from a new world.
+-- A port that is open to a device passes FISes: communication is established there, over each run
+-- from a new world.
 use Rattle.std.proofs.Common.{◌≡◌, ℕ, zero, suc, ◌*◌, ◌^◌, ◌<◌, ◌==◌, ◌&&◌, ◌%◌, Bool, true, false, List, length, replicate, refl, sym, ap}
 use Rattle.std.proofs.Common.{subst, ◌∙◌, inl, inr}
 use Rattle.std.proofs.Common.{get_or, set, bit_and, bit_or, Option, Some, None, Ok, [], ◌∷◌}
@@ -32,11 +33,11 @@ use Rattle.pm_world.proofs.LiveLemmas.{IsLive, IsOpenTo}
 
 -- ## The registers of a port
 
--- where the port is open and a device is there, communication is established (DET 3)
+-- if the port is open and a device is there, communication is established (DET 3)
 abbrev pub Meets : PortRegisters → Type 0
 Meets p = is_open p ≡ true → p.present ≡ true → det p.status ≡ 3
 
--- so it passes FISes where bit X of its PSCR[1] is 0
+-- so it passes FISes if bit X of its PSCR[1] is 0
 pub open_passes : (p : PortRegisters) → IsOpenTo p → Meets p → passes p ≡ true
 open_passes p is meets =
     let none : bit_and p.error bit_x ≡ 0 = and_pow p.error 26 ∙ ap (λ (b : ℕ). b * 2 ^ 26) is.clear in
@@ -86,7 +87,7 @@ written_meets p register value meets =
 
 -- ## The registers of the multiplier
 
--- port n is there; and where it is open to a device, that is met
+-- port n is there, and if it is open to a device, it meets that
 pub record MeetsAt (n : ℕ) (m : RegisterMap) : Type 0 where
   pub ports : n < m.ports
   pub meets : Meets (map.port_at m n)

@@ -1,4 +1,4 @@
--- What leaves a place of a port goes on, but for what a removal drops there.
+-- What leaves a place of a port goes on, except what a removal drops there.
 use Rattle.std.proofs.Common.{◌≡◌, ◌≢◌, ℕ, ◌<◌, ◌≤◌, Bool, true, false, not, List, [], ◌∷◌, ◌++◌, append_assoc, Option, Some, None, refl, sym, ap, ◌∙◌, subst, map, length, get_or, arith, length-append}
 use Rattle.std.specs.Prelude.{is_none, option_to_list, if◌then◌else◌}
 use Rattle.std.proofs.lemmas.List.{append-nil, length-map, map-append}
@@ -37,7 +37,7 @@ option_fits (Some f) = omega arith
 
 -- ---- without what was dropped
 
--- of some frames, and then of more
+-- for some frames, and then for more
 pub without-append : (drops more : List Bool) (frames later : List Stamped) → length drops ≡ length frames → without (drops ++ more) (frames ++ later) ≡ without drops frames ++ without more later
 without-append [] more [] later e = refl
 without-append [] more (f ∷ frames) later e = absurd cc

@@ -1,5 +1,5 @@
 -- Honest disks on each connection, over whole runs of a world.
-use Rattle.std.proofs.Common.{◌≡◌, ◌≢◌, ◌==◌, ℕ, ◌<◌, Bool, true, false, List, [], ◌∷◌, ◌++◌, append_assoc, length, refl, sym, ap, subst, ◌∙◌, ◌+◌, ◌≤◌, length-append, inl, inr, Some}
+use Rattle.std.proofs.Common.{◌≡◌, ◌≢◌, ◌==◌, ℕ, ◌<◌, Bool, true, false, List, [], ◌∷◌, ◌++◌, append_assoc, length, refl, sym, ap, subst, ◌∙◌, ◌+◌, ◌≤◌, inl, inr, Some}
 use Rattle.std.proofs.Common.{Ok, arith}
 use Rattle.std.specs.Prelude.{MatchBool, if◌then◌else◌, slice_get}
 use Rattle.std.proofs.lemmas.Bool.{eq-eqb, eqb-true, true≢false}
@@ -17,7 +17,7 @@ use Rattle.disk_model.specs.Runs.{IsDiskRun}
 use Rattle.disk_model.specs.Units.{plan_of}
 use Rattle.hba_driver.specs.HostTurns.{HostTurn}
 use Rattle.disk_ends.proofs.FollowedLemmas.{run_to}
-use Rattle.pm_world.specs.Disks.{Before, DiskRun, EndedSince, HonestDisks, IsLeftAlone, IsNewDisk, Since, WasSubmitted, disk_history, host_turns}
+use Rattle.pm_world.specs.Disks.{Before, DiskRun, EndedSince, FlushedSince, HonestDisks, IsLeftAlone, IsNewDisk, Since, WasSubmitted, disk_history, host_turns}
 use Rattle.pm_world.specs.Places.{IsOrderly, Places, is_config, new_world}
 use Rattle.pm_world.specs.Rules.{Rule, Run}
 use Rattle.pm_world.specs.Runs.{IsStepOf, over}
@@ -34,11 +34,12 @@ use Rattle.pm_world.specs.declared.step.Step.TheVariants as step
 use Rattle.pm_world.proofs.AnewLemmas.{OrderedNow, now_at, order_run, ordered_after, ordered_on}
 use Rattle.pm_world.proofs.Delivery.{sized}
 use Rattle.pm_world.specs.ReadBack.{IsPart}
-use Rattle.pm_world.proofs.DisksLemmas.{ends_honestly, from_opening, lived_run, may_run, of_device, part_front}
+use Rattle.pm_world.proofs.DisksLemmas.{ends_honestly, flush_of_device, flush_taken, from_opening, lived_run, may_run, of_device}
 use Rattle.pm_world.proofs.EachLemmas.{Each}
 use Rattle.pm_world.proofs.EarlyLemmas.{ComesShut, comes_shut}
 use Rattle.pm_world.proofs.EndsRuns.{IsServing, Serving, Stage, Waiting, its_port, left_parts, run_opens, serving_rises, serving_run}
 use Rattle.pm_world.proofs.EndsSteps.{HasEnds}
+use Rattle.pm_world.proofs.TakenLemmas.{took_since}
 use Rattle.pm_world.proofs.FineLemmas.{further}
 use Rattle.pm_world.proofs.Law.{run_append}
 use Rattle.pm_world.proofs.Moves.{rule_moves}
@@ -49,22 +50,22 @@ use Rattle.pm_world.proofs.WaitingLemmas.{IsWaiting, came_waiting}
 use Rattle.pm_world.proofs.WireLemmas.{wires_go_on}
 use Rattle.std.proofs.lemmas.List.{append-nil}
 use Rattle.slots.specs.Slots.{has_bit}
-use Rattle.disk_model.specs.Fronts.{IsFront}
-use Rattle.disk_model.specs.Ledger.{Written, ledger}
+use Rattle.disk_model.specs.Ledger.{ledger}
 use Rattle.hba_driver.specs.Drivers.{Entry, entry_at, rephased}
 use Rattle.hba_driver.specs.Orders.{is_queued}
 use Rattle.hba_driver.specs.Submits.{new_entry}
 use Rattle.hba_driver.specs.declared.slot.Phase.TheVariants.{Waits}
 use Rattle.hba_driver.specs.declared.request.Request.{Request}
 use Rattle.hba_driver.specs.declared.request.Ticket.{Ticket}
-use Rattle.driver_phases.specs.Ends.{AreFloors, floor_at, no_floors}
+use Rattle.driver_phases.specs.Flushes.{AreFloorsOf, Floor, IsFloor, bare_floor, bare_floors, floor_for, floor_of, flushes_taken}
+use Rattle.driver_phases.proofs.FlushTurns.{floor_stays}
 use Rattle.hba_driver.proofs.AcceptLemmas as accept
 use Rattle.pm_world.proofs.ReportedLemmas.{StoodIn, SubmittedIn, later_of, renamed, step_stood, submitted_over}
 use Rattle.pm_world.proofs.LineLemmas.{IsNow}
 
 -- ## The next FIS
 
--- these bytes come next of connection c of port n, which is that of the answer
+-- these bytes come next on connection c of port n, which is the connection of the answer
 record IsNextOf (n c port conn : ℕ) (bytes : List ℕ) (up : List (List ℕ)) : Type 0 where
   plain : List ℕ
   later : List (List ℕ)
@@ -183,12 +184,12 @@ module _ (config : Config) (units : List Unit) (n sectors : ℕ) (plan : DiskPla
   waiting : IsWaiting n d.conn d.run.0 came
   waiting = subst (IsWaiting n d.conn d.run.0) (sym came_told) (came_waiting n d.conn d.run.0 comes.off)
 
-  abbrev At : (floors : ℕ → ℕ) → Places → List Happening → List HostTurn → Type 0
+  abbrev At : (floors : ℕ → Floor) → Places → List Happening → List HostTurn → Type 0
   At floors w happened ts = Stage config units fits n below plan sectors disk.size before first_run within right d.conn floors w happened ts
 
   -- from the plugging on, over some of its steps
-  opens_over : (floors : ℕ → ℕ) (steps : List Step) (answers : List Answer) (new : Places) (run : Run d.run.0 steps answers new) → IsLeftAlone n steps
-      → IsDiskRun plan sectors (before ++ (came ++ over (happens n) d.run.0 steps answers new run)) → AreFloors floors (before ++ came)
+  opens_over : (floors : ℕ → Floor) (steps : List Step) (answers : List Answer) (new : Places) (run : Run d.run.0 steps answers new) → IsLeftAlone n steps
+      → IsDiskRun plan sectors (before ++ (came ++ over (happens n) d.run.0 steps answers new run)) → AreFloorsOf floors (before ++ came)
       → At floors new (came ++ over (happens n) d.run.0 steps answers new run)
       ((first_turns ++ came_turns) ++ over turn_of d.run.0 steps answers new run)
   opens_over floors steps answers new run alone whole are =
@@ -197,25 +198,22 @@ module _ (config : Config) (units : List Unit) (n sectors : ℕ) (plan : DiskPla
 
   -- ## Where a request was submitted
 
-  -- it was, after this; and with a floor at that the disk and the host go on
+  -- it was submitted, after this history, with floors at which the disk and the host go on
   record HasSubmit (slot : ℕ) (e : Entry) : Type 0 where
     submit_before : List Happening
     submitted : WasSubmitted config units n now d e submit_before
     part : IsPart submit_before (before ++ since)
-    stage : At (floor_at slot (length (ledger submit_before).writes)) now since turns
+    stage : At (floor_for slot (floor_of submit_before)) now since turns
 
-  part_floor : (slot : ℕ) (part whole : List Happening) → IsPart part whole → AreFloors (floor_at slot (length (ledger part).writes)) whole
+  part_floor : (slot : ℕ) (part whole : List Happening) → IsPart part whole → AreFloorsOf (floor_for slot (floor_of part)) whole
   part_floor slot part whole p s = by_slot (slot == s)
     where
-      by_slot : (b : Bool) → (if b then length (ledger part).writes else 0) ≤ length (ledger whole).writes
-      by_slot true =
-          let f : IsFront (ledger part).writes (ledger whole).writes = part_front part whole p in
-          let long : length (ledger whole).writes ≡ length (ledger part).writes + length f.later = ap length f.same ∙ length-append (ledger part).writes f.later in
-          omega (arith, long)
-      by_slot false = omega arith
+      by_slot : (b : Bool) → IsFloor (if b then floor_of part else bare_floor) whole
+      by_slot true = subst (IsFloor (floor_of part)) (sym p.is) (floor_stays (floor_of part) part p.later (record { ended = omega arith; taken = omega arith }))
+      by_slot false = record { ended = omega arith; taken = omega arith }
 
-  none_floor : (happened : List Happening) → AreFloors no_floors happened
-  none_floor happened s = omega arith
+  none_floor : (happened : List Happening) → AreFloorsOf bare_floors happened
+  none_floor happened s = record { ended = omega arith; taken = omega arith }
 
   module _ (slot : ℕ) (low : slot < 30) (e : Entry) (dev_is : e.head.dev ≡ n) (stands : entry_at now.host.driver.entries slot ≡ Some e) where
     its_dev : (dev : ℕ) (request : Request) (ticket : Ticket) (x : Entry) → x.head.dev ≡ n → new_entry ticket.0 dev request ≡ rephased Waits x → dev ≡ n
@@ -253,7 +251,7 @@ module _ (config : Config) (units : List Unit) (n sectors : ℕ) (plan : DiskPla
                 is = ap (λ (xs : List Happening). xs ++ since) (i.happened n) ∙ append_assoc done more since;
               };
               stage =
-                  opens_over (floor_at slot (length (ledger done).writes)) d.steps d.answers now d.run.2 d.left whole_run
+                  opens_over (floor_for slot (floor_of done)) d.steps d.answers now d.run.2 d.left whole_run
                   (part_floor slot done (before ++ came) first_part);
             }
 
@@ -299,8 +297,8 @@ module _ (config : Config) (units : List Unit) (n sectors : ℕ) (plan : DiskPla
         done : List Happening
         done = before ++ (came ++ so_far)
 
-        floors : ℕ → ℕ
-        floors = floor_at slot (length (ledger done).writes)
+        floors : ℕ → Floor
+        floors = floor_for slot (floor_of done)
 
         since_is : (came ++ so_far) ++ more ≡ since
         since_is = append_assoc came so_far more ∙ ap (λ (xs : List Happening). came ++ xs) (sym (i.happened n))
@@ -322,24 +320,24 @@ module _ (config : Config) (units : List Unit) (n sectors : ℕ) (plan : DiskPla
         rest_run : IsDiskRun plan sectors (before ++ ((came ++ so_far) ++ more))
         rest_run = subst (λ (xs : List Happening). IsDiskRun plan sectors (before ++ xs)) (sym since_is) whole_run
 
-        first_stage : At no_floors i.its.at (came ++ so_far) at_turns
+        first_stage : At bare_floors i.its.at (came ++ so_far) at_turns
         first_stage =
-            opens_over no_floors i.its.before i.its.told i.its.at i.its.came alone.0
+            opens_over bare_floors i.its.before i.its.told i.its.at i.its.came alone.0
             (run_to plan sectors (before ++ since) (before ++ (came ++ so_far)) more whole_part.is whole_run) (none_floor (before ++ came))
 
         made : Run (new_world config units) ((d.first ++ step.Came n ∷ []) ++ i.its.before) ((d.told ++ answer.Came n d.conn ∷ []) ++ i.its.told) i.its.at
         made = run_append (new_world config units) d.run.0 i.its.at (d.first ++ step.Came n ∷ []) (d.told ++ answer.Came n d.conn ∷ []) i.its.before i.its.told
             made_came i.its.came
 
-        own_floor : AreFloors floors (before ++ (came ++ so_far))
+        own_floor : AreFloorsOf floors (before ++ (came ++ so_far))
         own_floor = part_floor slot done done (record { later = []; is = sym (append-nil done) })
 
-        goes_on : At no_floors i.its.at (came ++ so_far) at_turns → At floors now ((came ++ so_far) ++ more) (at_turns ++ more_turns)
+        goes_on : At bare_floors i.its.at (came ++ so_far) at_turns → At floors now ((came ++ so_far) ++ more) (at_turns ++ more_turns)
         goes_on (Serving h) =
             Serving (serving_run config units fits n below plan sectors disk.size before first_run within right d.conn floors ((d.first ++ step.Came n ∷ []) ++ i.its.before) ((d.told ++ answer.Came n d.conn ∷ []) ++ i.its.told) i.its.at made
             (came ++ so_far) at_turns
-            (serving_rises config units fits n below plan sectors disk.size before first_run within right d.conn no_floors floors ((d.first ++ step.Came n ∷ []) ++ i.its.before) ((d.told ++ answer.Came n d.conn ∷ []) ++ i.its.told) i.its.at made
-            (came ++ so_far) at_turns (run_to plan sectors (before ++ since) done more whole_part.is whole_run) slot low i.free (λ m other. ap (λ (b : Bool). if b then length (ledger done).writes else 0) other) (own_floor slot) h)
+            (serving_rises config units fits n below plan sectors disk.size before first_run within right d.conn bare_floors floors ((d.first ++ step.Came n ∷ []) ++ i.its.before) ((d.told ++ answer.Came n d.conn ∷ []) ++ i.its.told) i.its.at made
+            (came ++ so_far) at_turns (run_to plan sectors (before ++ since) done more whole_part.is whole_run) slot low i.free (λ m other. ap (λ (b : Bool). if b then floor_of done else bare_floor) other) (own_floor slot) h)
             (step.Submit i.dev i.request ∷ i.its.after) (answer.Submitted i.ticket ∷ i.its.later) now (i.its.next, i.its.rule, i.its.went) alone.1 rest_run)
         goes_on (Waiting still waits) =
             run_opens config units fits n below plan sectors disk.size before first_run within right d.conn floors ((d.first ++ step.Came n ∷ []) ++ i.its.before) ((d.told ++ answer.Came n d.conn ∷ []) ++ i.its.told) i.its.at made
@@ -352,22 +350,22 @@ module _ (config : Config) (units : List Unit) (n sectors : ℕ) (plan : DiskPla
     has_submit : HasSubmit slot e
     has_submit = elim (submitted_over d.run.0 d.steps d.answers now d.run.2 slot e stands) [ inl stood ↦ by_first stood | inr i ↦ by_later i ]
 
-  plain_stage : At no_floors now since turns
-  plain_stage = opens_over no_floors d.steps d.answers now d.run.2 d.left whole_run (none_floor (before ++ came))
+  plain_stage : At bare_floors now since turns
+  plain_stage = opens_over bare_floors d.steps d.answers now d.run.2 d.left whole_run (none_floor (before ++ came))
 
   module _ (s : Step) (port conn number : ℕ) (bytes : List ℕ) (report : TakeReport) (new : Places)
       (rule : Rule now s (Ok (answer.Took port conn number bytes report)) new) (here : (port == n) ≡ true) (same : conn ≡ d.conn) where
-    -- nothing of it is on the host's link before
+    -- nothing of it is on the host's link before that
     never_waiting : IsWaiting n d.conn now since → ⊥
     never_waiting waits =
         let m = rule_moves now s (answer.Took port conn number bytes report) new waits.off.orderly rule in
         (subst (Each (IsNoneOf n d.conn)) m.2.upward waits.off.up).0 (m.1.port_is ∙ eqb-true port n here) (m.1.conn_is ∙ same)
 
-    serving : (floors : ℕ → ℕ) → At floors now since turns → IsServing config units fits n below plan sectors disk.size before first_run within right d.conn floors now since turns
+    serving : (floors : ℕ → Floor) → At floors now since turns → IsServing config units fits n below plan sectors disk.size before first_run within right d.conn floors now since turns
     serving floors (Waiting waits still) = absurd (never_waiting waits)
     serving floors (Serving h) = h
 
-    module _ (floors : ℕ → ℕ) (h : IsServing config units fits n below plan sectors disk.size before first_run within right d.conn floors now since turns) where
+    module _ (floors : ℕ → Floor) (h : IsServing config units fits n below plan sectors disk.size before first_run within right d.conn floors now since turns) where
       next : IsNextOf n d.conn port conn bytes h.ends.up
       next = taken_next n d.conn below now new s port conn number bytes report h.ends.down h.ends.up h.opens.firm.orderly rule here h.ends.exact.wire
 
@@ -391,41 +389,76 @@ module _ (config : Config) (units : List Unit) (n sectors : ℕ) (plan : DiskPla
     dev_of : (slot : ℕ) (e : Entry) → slot < 30 → entry_at now.host.driver.entries slot ≡ Some e → is_queued e.head.work ≡ true
         → has_bit report.done slot ≡ true → e.head.dev ≡ n
     dev_of slot e low is queued done =
-        let h : IsServing config units fits n below plan sectors disk.size before first_run within right d.conn no_floors now since turns = serving no_floors plain_stage in
-        of_device n config.memory below right plan sectors disk.size turns now (is_now no_floors h) (before ++ since) whole_run h.ends.down
-        (next no_floors h).later (next no_floors h).plain no_floors (both no_floors h) s conn number report new (its no_floors h) (at_port no_floors h) slot e
+        let h : IsServing config units fits n below plan sectors disk.size before first_run within right d.conn bare_floors now since turns = serving bare_floors plain_stage in
+        of_device n config.memory below right plan sectors disk.size turns now (is_now bare_floors h) (before ++ since) whole_run h.ends.down
+        (next bare_floors h).later (next bare_floors h).plain bare_floors (both bare_floors h) s conn number report new (its bare_floors h) (at_port bare_floors h) slot e
         low is queued done
+
+    flush_dev_of : (slot : ℕ) (e : Entry) → slot < 30 → entry_at now.host.driver.entries slot ≡ Some e → is_queued e.head.work ≡ false
+        → has_bit report.done slot ≡ true → e.head.dev ≡ n
+    flush_dev_of slot e low is calm done =
+        let h : IsServing config units fits n below plan sectors disk.size before first_run within right d.conn bare_floors now since turns = serving bare_floors plain_stage in
+        flush_of_device n config.memory below right plan sectors disk.size turns now (is_now bare_floors h) (before ++ since) whole_run h.ends.down
+        (next bare_floors h).later (next bare_floors h).plain bare_floors (both bare_floors h) s conn number report new (its bare_floors h) (at_port bare_floors h) slot e
+        low is calm done
+
+    -- a FLUSH that is done was taken since it was submitted
+    flushed : (slot : ℕ) (e : Entry) → slot < 30 → entry_at now.host.driver.entries slot ≡ Some e → is_queued e.head.work ≡ false
+        → has_bit report.done slot ≡ true → FlushedSince config units n now d e
+    flushed slot e low is calm done =
+        let submit : HasSubmit slot e = has_submit slot low e (flush_dev_of slot e low is calm done) is in
+        let h : IsServing config units fits n below plan sectors disk.size before first_run within right d.conn (floor_for slot (floor_of submit.submit_before)) now since turns =
+        serving (floor_for slot (floor_of submit.submit_before)) submit.stage in
+        let own_floor : (floor_for slot (floor_of submit.submit_before) slot).flushes ≡ flushes_taken submit.submit_before =
+        ap (λ (b : Bool). (if b then floor_of submit.submit_before else bare_floor).flushes) (eq-eqb slot slot refl) in
+        let more : (floor_for slot (floor_of submit.submit_before) slot).flushes < flushes_taken (before ++ since) =
+        flush_taken n config.memory below right plan sectors disk.size turns now
+        (is_now (floor_for slot (floor_of submit.submit_before)) h) (before ++ since) whole_run h.ends.down
+        (next (floor_for slot (floor_of submit.submit_before)) h).later (next (floor_for slot (floor_of submit.submit_before)) h).plain
+        (floor_for slot (floor_of submit.submit_before)) (both (floor_for slot (floor_of submit.submit_before)) h) s conn number report new
+        (its (floor_for slot (floor_of submit.submit_before)) h) (at_port (floor_for slot (floor_of submit.submit_before)) h) slot e low is calm done in
+        record {
+          before = submit.submit_before;
+          submitted = submit.submitted;
+          later = submit.part.later;
+          is = submit.part.is;
+          taken = took_since submit.submit_before submit.part.later (before ++ since) submit.part.is
+              (subst (λ (m : ℕ). m < flushes_taken (before ++ since)) own_floor more);
+        }
 
     ended : (slot : ℕ) (e : Entry) → slot < 30 → entry_at now.host.driver.entries slot ≡ Some e → is_queued e.head.work ≡ true
         → has_bit report.done slot ≡ true → EndedSince config units n now d sectors slot e new.host.memory
     ended slot e low is queued done =
         let submit : HasSubmit slot e = has_submit slot low e (dev_of slot e low is queued done) is in
-        let floors : ℕ → ℕ = floor_at slot (length (ledger submit.submit_before).writes) in
-        let h : IsServing config units fits n below plan sectors disk.size before first_run within right d.conn (floor_at slot (length (ledger submit.submit_before).writes)) now since turns =
-        serving (floor_at slot (length (ledger submit.submit_before).writes)) submit.stage in
-        let own_floor : floor_at slot (length (ledger submit.submit_before).writes) slot ≡ length (ledger submit.submit_before).writes =
-        ap (λ (b : Bool). if b then length (ledger submit.submit_before).writes else 0) (eq-eqb slot slot refl) in
+        let floors : ℕ → Floor = floor_for slot (floor_of submit.submit_before) in
+        let h : IsServing config units fits n below plan sectors disk.size before first_run within right d.conn (floor_for slot (floor_of submit.submit_before)) now since turns =
+        serving (floor_for slot (floor_of submit.submit_before)) submit.stage in
+        let own_floor : (floor_for slot (floor_of submit.submit_before) slot).writes ≡ length (ledger submit.submit_before).writes =
+        ap (λ (b : Bool). (if b then floor_of submit.submit_before else bare_floor).writes) (eq-eqb slot slot refl) in
         record {
           before = submit.submit_before;
           submitted = submit.submitted;
-          touches = (both (floor_at slot (length (ledger submit.submit_before).writes)) h).touches;
+          touches = (both (floor_for slot (floor_of submit.submit_before)) h).touches;
           touched =
               subst (λ (ts : List HostTurn). AreTouched config.memory ts now.host
-              (both (floor_at slot (length (ledger submit.submit_before).writes)) h).touches) turns_are
-              (both (floor_at slot (length (ledger submit.submit_before).writes)) h).touched;
+              (both (floor_for slot (floor_of submit.submit_before)) h).touches) turns_are
+              (both (floor_for slot (floor_of submit.submit_before)) h).touched;
           ends =
               ends_honestly n config.memory below right plan sectors disk.size turns now
-              (is_now (floor_at slot (length (ledger submit.submit_before).writes)) h) (before ++ since) whole_run h.ends.down
-              (next (floor_at slot (length (ledger submit.submit_before).writes)) h).later
-              (next (floor_at slot (length (ledger submit.submit_before).writes)) h).plain
-              (floor_at slot (length (ledger submit.submit_before).writes)) (both (floor_at slot (length (ledger submit.submit_before).writes)) h) s conn
-              number report new (its (floor_at slot (length (ledger submit.submit_before).writes)) h)
-              (at_port (floor_at slot (length (ledger submit.submit_before).writes)) h) slot e low is queued done submit.submit_before submit.part own_floor;
+              (is_now (floor_for slot (floor_of submit.submit_before)) h) (before ++ since) whole_run h.ends.down
+              (next (floor_for slot (floor_of submit.submit_before)) h).later
+              (next (floor_for slot (floor_of submit.submit_before)) h).plain
+              (floor_for slot (floor_of submit.submit_before)) (both (floor_for slot (floor_of submit.submit_before)) h) s conn
+              number report new (its (floor_for slot (floor_of submit.submit_before)) h)
+              (at_port (floor_for slot (floor_of submit.submit_before)) h) slot e low is queued done submit.submit_before submit.part own_floor;
         }
 
 pub disks_are_honest : HonestDisks
 disks_are_honest config units n sectors plan fits below disk now d s port conn number bytes report new rule here same =
-    record { done = ended config units n sectors plan fits below disk now d s port conn number bytes report new rule here same }
+    record {
+      done = ended config units n sectors plan fits below disk now d s port conn number bytes report new rule here same;
+      flushed = flushed config units n sectors plan fits below disk now d s port conn number bytes report new rule here same;
+    }
 
 -- the history of such a disk is a run of it
 pub disk_runs : (config : Config) (units : List Unit) (n sectors : ℕ) (plan : DiskPlan) → is_config config (length units) ≡ true → n < 15

@@ -55,7 +55,8 @@ pub record DriversServe : Type 0 where
 pub drivers_serve : DriversServe
 drivers_serve = record { starts = opens_honestly; opens = flush_opens; calm = calm_turns_keep; takes = takes_keep; pushes = pushes_keep }
 
--- it serves disk n honestly, after these turns, with these FISes of the disk since it was plugged in
+-- it serves disk n honestly, after these turns, with these FISes of the disk since the disk was
+-- plugged in
 pub record HostOn (n len : ℕ) (turns : List HostTurn) (h : Host) (given : List Happening) : Type 0 where
   pub commands : ℕ → SlotCommand
   pub touches : Touches
@@ -128,7 +129,7 @@ put_turn old new (step.Submit dev request) = inl refl
 put_turn old new (step.Put at bytes) = inr (record { at = at; bytes = bytes; is = refl })
 put_turn old new _ = inl refl
 
--- what is pushed is what the link has more than before
+-- what is pushed is what the link has now and did not have before
 pub pushed_turn : (old new : Places) (s : Step) → Rule old s (Ok answer.Pushed) new
     → turn_of old s answer.Pushed new ≡ map (λ frame. Pushed (Some frame)) (drop (length old.downward.frames) new.downward.frames)
 pushed_turn old new (step.Came m) rule = absurd (at_device old m answer.Pushed new (CameRule m) rule).rule.1
@@ -159,7 +160,7 @@ module _ (law : DriversServe) (n len : ℕ) (below : n < 15) (right : is_memory_
       subst (λ (us : List HostTurn). HostOn n len (turns ++ us) new.host later) (sym is)
       (goes_on (subst (λ (us : List HostTurn). DoesAll old.host us new.host) is does))
 
-  -- and one that is none
+  -- and a step that is none
   no_turn : (ts : List HostTurn) → ts ≡ [] → DoesAll old.host ts new.host → HostOn n len (turns ++ ts) new.host given
   no_turn ts is does =
       subst (λ (us : List HostTurn). HostOn n len (turns ++ us) new.host given) (sym is)
@@ -174,7 +175,7 @@ module _ (law : DriversServe) (n len : ℕ) (below : n < 15) (right : is_memory_
       at_turn (turn_of old s answer.Ticked new) (Ticked true) (Plugged ∷ []) refl (rule_does old s answer.Ticked new rule)
       (λ run. on_flush law n len below right turns old.host given h new.host run flush)
 
-  -- what it gives is what the device gets of what comes on the host's link
+  -- what it gives is what the device gets from what enters the host's link
   pub record HasPushed : Type 0 where
     pub frame : Stamped
     pub link : new.downward.frames ≡ old.downward.frames ++ frame ∷ []

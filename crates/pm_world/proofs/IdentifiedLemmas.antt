@@ -1,4 +1,5 @@
--- Commands of requests go out only where IDENTIFY data were accepted since the last order to clear their port: over a run of a world.
+-- Commands of requests go out only if IDENTIFY data were accepted since the last order to clear their
+-- port. This holds over a run of a world.
 use Rattle.std.proofs.Common.{◌≡◌, ℕ, ◌<◌, ◌==◌, ◌&&◌, ◌||◌, Bool, true, false, List, [], ◌∷◌, length, drop, map}
 use Rattle.std.proofs.Common.{Some, Ok, refl, sym, ap, subst, ◌∙◌}
 use Rattle.std.specs.Prelude.{if◌then◌else◌, ◌%◌, slice_index}
@@ -39,7 +40,7 @@ use Rattle.pm_world.proofs.EachLemmas.{any_one}
 abbrev pub is_request_to : ℕ → Stamped → Bool
 is_request_to n f = (pm_port f == n) && is_request f.bytes
 
--- IDENTIFY data of port n were accepted since it was ordered last that the port be cleared
+-- IDENTIFY data of port n were accepted since the last order to clear the port
 abbrev pub known_with : Bool → List ℕ → Bool
 known_with known [] = known
 known_with known (c ∷ later) = true
@@ -47,7 +48,7 @@ known_with known (c ∷ later) = true
 abbrev pub known_after : ℕ → Bool → Places → Step → Answer → Places → Bool
 known_after n known old s a new = if orders_clear n old a then false else known_with known (identified_by n old s a new)
 
--- so it is in each step
+-- that holds in each step
 abbrev pub AllIdentified : (n : ℕ) → (known : Bool) → (old : Places) → (steps : List Step) → (answers : List Answer) → (new : Places) → Run old steps answers new → Type 0
 AllIdentified n known old [] answers new run = Prim.Unit {0}
 AllIdentified n known old (s ∷ steps) [] new run = Prim.Unit {0}
@@ -66,7 +67,7 @@ known_if true false c = refl
 known_if false true c = refl
 known_if false false c = refl
 
--- a frame is put on the host's link in the step for that
+-- a frame is put on the host's link in the step that serves for it
 pub push_step : (old : Places) (s : Step) (new : Places) → Rule old s (Ok answer.Pushed) new → s ≡ step.HostPush
 push_step old (step.Came n) new rule = absurd ((at_device old n answer.Pushed new (CameRule n) rule).rule.1)
 push_step old (step.Gone n) new rule = absurd ((at_device old n answer.Pushed new (GoneRule n) rule).rule.1)

@@ -1,4 +1,4 @@
--- A read that is submitted in a run behind the poll of a write brings the bytes of the write.
+-- A read that is submitted in a run after the poll of a write brings the bytes of the write.
 use Rattle.std.proofs.Common.{◌≡◌, ◌-◌, ◌*◌, ◌+◌, ◌<◌, ◌≤◌, ℕ, zero, suc, true, List, [], ◌∷◌, ◌++◌, append_assoc, drop, length, length-append, refl, ap, subst, sym, ◌∙◌, arith, Some}
 use Rattle.std.specs.Prelude.{slice_index}
 use Rattle.std.proofs.Math.Path.{path_j, subst_refl}
@@ -9,6 +9,7 @@ use Rattle.host_memory.specs.Place.{place}
 use Rattle.disk_model.specs.declared.unit.Unit.{Unit}
 use Rattle.disk_model.specs.Histories.{Happening}
 use Rattle.disk_model.specs.Last.{NoneCovers}
+use Rattle.hba_driver.specs.declared.request.Completion.{Completion}
 use Rattle.hba_driver.specs.declared.request.Request.{Request}
 use Rattle.hba_driver.specs.declared.request.Ticket.{Ticket}
 use Rattle.hba_driver.specs.declared.request.Work.TheVariants.{Read, Write}
@@ -183,7 +184,7 @@ over_append tell a b c (s ∷ first) (x ∷ told) second more run next =
 over_append tell a b c [] (x ∷ told) second more run next = absurd run
 over_append tell a b c (s ∷ first) [] second more run next = absurd run
 
--- a run in two parts about a step
+-- a run in two parts around a step
 abbrev parted : (s : Step) (a : Answer) (old new : Places) (ss : List Step) (aa : List Answer) (r : Run old ss aa new) (i : IsStepOf s a old new ss aa r)
     → Run old (i.before ++ s ∷ i.after) (i.told ++ a ∷ i.later) new
 parted s a old new ss aa r i = run_append old i.at new i.before i.told (s ∷ i.after) (a ∷ i.later) i.came (i.next, i.rule, i.went)
@@ -237,7 +238,7 @@ counted_at xs ys t counted =
     ranged 1 (length (flat_map given_by (xs ++ answer.Submitted t ∷ ys))) (flat_map given_by xs) t.0 (flat_map given_by ys)
     (sym (flat_map-append given_by xs (answer.Submitted t ∷ ys)) ∙ counted)
 
--- a list that was taken apart where as many tickets were given is taken apart at one place
+-- a list that was taken apart where equally many tickets were given is taken apart at one place
 same_place : (xs ys us vs : List Answer) (t u : Ticket) → xs ++ answer.Submitted t ∷ ys ≡ us ++ answer.Submitted u ∷ vs
     → length (flat_map given_by xs) ≡ length (flat_map given_by us) → length xs ≡ length us
 same_place [] ys [] vs t u e n = refl
@@ -274,7 +275,7 @@ as_many old new (s ∷ ss) [] run = absurd run
 
 -- ## The law
 
--- what had happened as a request was submitted, by a run that is the first of these
+-- what had happened when a request was submitted, by a run that is the first part of these
 record IsSubmittedAt (config : Config) (units : List Unit) (n : ℕ) (S : List Step) (A : List Answer) (W : List Places) (count : ℕ)
     (before : List Happening) : Type 0 where
   at : Places
@@ -292,7 +293,7 @@ module _ (config : Config) (units : List Unit) (fits : is_config config (length 
   counted : AreCounted (flat_map given_by U)
   counted = (keeps_tickets (new_world config units) T U now took).given config units fits [] [] refl
 
-  -- it is one place in the answers, and so one in the steps
+  -- it is one place in the answers, and so one place in the steps
   at_place : (t : Ticket) (front back : List Answer) → U ≡ front ++ answer.Submitted t ∷ back → t.0 ≡ ticket.0 → length front ≡ length sub.before
   at_place t front back is same =
       given_once front back sub.told sub.later t ticket U is sub.answers_are same counted
@@ -368,6 +369,77 @@ no_longer front back all is =
     let long : length all ≡ length front + length back = ap length is ∙ length-append front back in
     omega (arith, long)
 
+-- ## A write that was polled before another request was submitted
+
+module _ (config : Config) (units : List Unit) (fits : is_config config (length units) ≡ true) (steps : List Step) (answers : List Answer) (now : Places)
+    (run : Run (new_world config units) steps answers now) (written read : Completion)
+    (poll : IsStepOf step.Poll (answer.Polled written) (new_world config units) now steps answers run)
+    (first : IsPolledHonestly config units poll.at poll.before poll.told poll.came written)
+    (second : IsPolledHonestly config units now steps answers run read) (later : length poll.before < length second.reported.submitted.before)
+    (same : second.reported.dev ≡ first.reported.dev)
+    (c : IsLeftSince first.reported.dev first.reported.conn (new_world config units) first.reported.took.at first.reported.took.before
+    first.reported.took.told first.reported.took.came)
+    (d : IsLeftSince second.reported.dev second.reported.conn (new_world config units) second.reported.took.at second.reported.took.before
+    second.reported.took.told second.reported.took.came) where
+  submitted : (happened : List Happening)
+      → WasSubmitted config units second.reported.dev second.reported.took.at
+      (disk_run config units second.reported.dev second.reported.conn second.reported.took.at second.reported.took.before second.reported.took.told
+      second.reported.took.came d) (new_entry read.ticket.0 second.reported.dev second.reported.request) happened
+      → IsSubmittedAt config units second.reported.dev steps answers (over world_before (new_world config units) steps answers now run)
+      (length second.reported.submitted.before) happened
+  submitted happened was =
+      submitted_at config units fits second.reported.dev second.reported.conn second.reported.took.at second.reported.took.before
+      second.reported.took.told second.reported.took.came d steps answers (over world_before (new_world config units) steps answers now run)
+      (of_step step.HostTake (answer.Took second.reported.dev second.reported.conn second.reported.number second.reported.bytes second.reported.report)
+      (new_world config units) now steps answers run second.reported.took) second.reported.dev second.reported.request
+      read.ticket second.reported.submitted (new_entry read.ticket.0 second.reported.dev second.reported.request) happened refl was
+
+  -- the report of the write in the run up to its poll, and so in the whole
+  written_first : IsFirst (new_world config units) first.reported.took.at (c.came.before ++ step.Came first.reported.dev ∷ c.came.after)
+      (c.came.told ++ answer.Came first.reported.dev first.reported.conn ∷ c.came.later)
+      (parted (step.Came first.reported.dev) (answer.Came first.reported.dev first.reported.conn) (new_world config units) first.reported.took.at
+      first.reported.took.before first.reported.took.told first.reported.took.came c.came) steps answers
+      (over world_before (new_world config units) steps answers now run)
+  written_first =
+      parted_first (step.Came first.reported.dev) (answer.Came first.reported.dev first.reported.conn) (new_world config units) first.reported.took.at
+      first.reported.took.before first.reported.took.told first.reported.took.came c.came steps answers
+      (over world_before (new_world config units) steps answers now run)
+      (through (new_world config units) first.reported.took.at poll.at first.reported.took.before poll.before first.reported.took.told poll.told
+      first.reported.took.came poll.came steps answers (over world_before (new_world config units) steps answers now run)
+      (of_step step.HostTake (answer.Took first.reported.dev first.reported.conn first.reported.number first.reported.bytes first.reported.report)
+      (new_world config units) poll.at poll.before poll.told poll.came first.reported.took)
+      (of_step step.Poll (answer.Polled written) (new_world config units) now steps answers run poll))
+
+  fewer : length (c.came.before ++ step.Came first.reported.dev ∷ c.came.after) ≤ length second.reported.submitted.before
+  fewer =
+      let to_report : length first.reported.took.before ≤ length poll.before =
+      no_longer first.reported.took.before (step.HostTake ∷ first.reported.took.after) poll.before first.reported.took.steps_are in
+      let here : length first.reported.took.before ≡ length (c.came.before ++ step.Came first.reported.dev ∷ c.came.after) =
+      ap length c.came.steps_are in
+      omega (arith, to_report, here, later)
+
+  -- what had happened to the disk at the report of the write is a part of what had happened at that submit
+  pub history_part : (happened : List Happening)
+      → WasSubmitted config units second.reported.dev second.reported.took.at
+      (disk_run config units second.reported.dev second.reported.conn second.reported.took.at second.reported.took.before second.reported.took.told
+      second.reported.took.came d) (new_entry read.ticket.0 second.reported.dev second.reported.request) happened
+      → IsPart
+      (disk_history config units first.reported.dev first.reported.took.at
+      (disk_run config units first.reported.dev first.reported.conn first.reported.took.at first.reported.took.before first.reported.took.told
+      first.reported.took.came c)) happened
+  history_part happened was =
+      is_part config units first.reported.dev second.reported.dev (length second.reported.submitted.before) first.reported.took.at
+      (c.came.before ++ step.Came first.reported.dev ∷ c.came.after)
+      (c.came.told ++ answer.Came first.reported.dev first.reported.conn ∷ c.came.later)
+      (parted (step.Came first.reported.dev) (answer.Came first.reported.dev first.reported.conn) (new_world config units) first.reported.took.at
+      first.reported.took.before first.reported.took.told first.reported.took.came c.came) steps answers
+      (over world_before (new_world config units) steps answers now run) happened
+      (disk_history config units first.reported.dev first.reported.took.at
+      (disk_run config units first.reported.dev first.reported.conn first.reported.took.at first.reported.took.before first.reported.took.told
+      first.reported.took.came c)) written_first (submitted happened was) fewer same
+      (told_over config units first.reported.dev first.reported.conn first.reported.took.at first.reported.took.before first.reported.took.told
+      first.reported.took.came c)
+
 pub reads_follow_writes : ReadsFollowWrites
 reads_follow_writes config units fits steps answers now run written read poll first second writes reads queued queued_too later same sectors plan disk
     disk_too c d i j one none =
@@ -376,7 +448,8 @@ reads_follow_writes config units fits steps answers now run written read poll fi
     second.reported.took.came d) read.slot (new_entry read.ticket.0 second.reported.dev second.reported.request) now.host.memory reads
     (second.honest sectors plan disk_too queued_too
     (disk_run config units second.reported.dev second.reported.conn second.reported.took.at second.reported.took.before second.reported.took.told
-    second.reported.took.came d) refl) part one none
+    second.reported.took.came d) refl)
+    (history_part config units fits steps answers now run written read poll first second later same c d r.before r.submitted) one none
   where
     r : EndedSince config units second.reported.dev second.reported.took.at
         (disk_run config units second.reported.dev second.reported.conn second.reported.took.at second.reported.took.before second.reported.took.told
@@ -384,56 +457,6 @@ reads_follow_writes config units fits steps answers now run written read poll fi
     r = second.honest sectors plan disk_too queued_too
         (disk_run config units second.reported.dev second.reported.conn second.reported.took.at second.reported.took.before second.reported.took.told
         second.reported.took.came d) refl
-
-    submitted : IsSubmittedAt config units second.reported.dev steps answers (over world_before (new_world config units) steps answers now run)
-        (length second.reported.submitted.before) r.before
-    submitted =
-        submitted_at config units fits second.reported.dev second.reported.conn second.reported.took.at second.reported.took.before
-        second.reported.took.told second.reported.took.came d steps answers (over world_before (new_world config units) steps answers now run)
-        (of_step step.HostTake (answer.Took second.reported.dev second.reported.conn second.reported.number second.reported.bytes second.reported.report)
-        (new_world config units) now steps answers run second.reported.took) second.reported.dev second.reported.request
-        read.ticket second.reported.submitted (new_entry read.ticket.0 second.reported.dev second.reported.request) r.before refl r.submitted
-
-    -- the report of the write in the run up to its poll, and so in the whole
-    written_first : IsFirst (new_world config units) first.reported.took.at (c.came.before ++ step.Came first.reported.dev ∷ c.came.after)
-        (c.came.told ++ answer.Came first.reported.dev first.reported.conn ∷ c.came.later)
-        (parted (step.Came first.reported.dev) (answer.Came first.reported.dev first.reported.conn) (new_world config units) first.reported.took.at
-        first.reported.took.before first.reported.took.told first.reported.took.came c.came) steps answers
-        (over world_before (new_world config units) steps answers now run)
-    written_first =
-        parted_first (step.Came first.reported.dev) (answer.Came first.reported.dev first.reported.conn) (new_world config units) first.reported.took.at
-        first.reported.took.before first.reported.took.told first.reported.took.came c.came steps answers
-        (over world_before (new_world config units) steps answers now run)
-        (through (new_world config units) first.reported.took.at poll.at first.reported.took.before poll.before first.reported.took.told poll.told
-        first.reported.took.came poll.came steps answers (over world_before (new_world config units) steps answers now run)
-        (of_step step.HostTake (answer.Took first.reported.dev first.reported.conn first.reported.number first.reported.bytes first.reported.report)
-        (new_world config units) poll.at poll.before poll.told poll.came first.reported.took)
-        (of_step step.Poll (answer.Polled written) (new_world config units) now steps answers run poll))
-
-    fewer : length (c.came.before ++ step.Came first.reported.dev ∷ c.came.after) ≤ length second.reported.submitted.before
-    fewer =
-        let to_report : length first.reported.took.before ≤ length poll.before =
-        no_longer first.reported.took.before (step.HostTake ∷ first.reported.took.after) poll.before first.reported.took.steps_are in
-        let here : length first.reported.took.before ≡ length (c.came.before ++ step.Came first.reported.dev ∷ c.came.after) =
-        ap length c.came.steps_are in
-        omega (arith, to_report, here, later)
-
-    part : IsPart
-        (disk_history config units first.reported.dev first.reported.took.at
-        (disk_run config units first.reported.dev first.reported.conn first.reported.took.at first.reported.took.before first.reported.took.told
-        first.reported.took.came c)) r.before
-    part =
-        is_part config units first.reported.dev second.reported.dev (length second.reported.submitted.before) first.reported.took.at
-        (c.came.before ++ step.Came first.reported.dev ∷ c.came.after)
-        (c.came.told ++ answer.Came first.reported.dev first.reported.conn ∷ c.came.later)
-        (parted (step.Came first.reported.dev) (answer.Came first.reported.dev first.reported.conn) (new_world config units) first.reported.took.at
-        first.reported.took.before first.reported.took.told first.reported.took.came c.came) steps answers
-        (over world_before (new_world config units) steps answers now run) r.before
-        (disk_history config units first.reported.dev first.reported.took.at
-        (disk_run config units first.reported.dev first.reported.conn first.reported.took.at first.reported.took.before first.reported.took.told
-        first.reported.took.came c)) written_first submitted fewer same
-        (told_over config units first.reported.dev first.reported.conn first.reported.took.at first.reported.took.before first.reported.took.told
-        first.reported.took.came c)
 
     -- the law of histories, at the port by another name
     brings : (n : ℕ) → n ≡ first.reported.dev → (at : Places) (f : DiskRun config units n at) (slot : ℕ) (e : Entry) (memory : Memory)

@@ -1,4 +1,4 @@
--- A port keeps to one connection between two clears: in each step, and so in each run.
+-- A port keeps to one connection between two clears. This holds in each step, and so in each run.
 use Rattle.std.proofs.Common.{◌≡◌, ◌≢◌, ◌⊎◌, ℕ, ◌<◌, ◌==◌, Bool, true, false, List, [], ◌∷◌, ◌++◌, length, drop, take, flat_map}
 use Rattle.std.proofs.Common.{Option, Some, None, Ok, refl, sym, ap, subst, ◌∙◌, inl, inr, arith}
 use Rattle.std.specs.Prelude.{if◌then◌else◌}
@@ -68,7 +68,7 @@ module _ (n : ℕ) (old : Places) (s : Step) (a : Answer) (new : Places) (rule :
     | inr never ↦ goes.comes d never now is.room below
   ]
 
-  -- and it is so for the connection that was present
+  -- and that holds for the connection that was present
   pub keeps_from : (c : ℕ) → n < 15 → IsTrue n old.multiplier → (port_at old.multiplier n).present ≡ Some c → KeepsTo n c new.multiplier
   keeps_from c below is there d now other =
       goes.comes d (λ was. other (sym (same_Some c d (sym there ∙ was)))) now is.room below

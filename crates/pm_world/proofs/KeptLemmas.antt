@@ -30,7 +30,7 @@ use Rattle.pm_world.proofs.Steps.{AtBoth, AtDevice, at_both, at_device}
 use Rattle.pm_world.specs.Wired.{AreBefore, IsBefore, IsUnremoved}
 use Rattle.pm_world.specs.Wire.{StaysOn}
 
--- where no removal is recorded the connection is not removed
+-- if no removal is recorded, the connection is not removed
 pub unremoved : (n c : ℕ) (now : Places) → IsUnremoved n c now → is_removed n c now ≡ false
 unremoved n c now is =
     let low : (port_at now.multiplier n).gone < c = is.recorded in
@@ -274,7 +274,7 @@ stays_goes : (n c : ℕ) (a : Answer) → StaysOn n c a → GoesBefore n c a
 stays_goes n c (answer.Gone port conn) stays = λ here. absurd (true≢false (sym (eq-eqb port n here) ∙ stays))
 stays_goes n c _ stays = tt
 
--- a step that does not unplug it leaves a connection so
+-- a step that does not unplug a connection leaves it unremoved
 pub stays_unremoved : (n c : ℕ) (old new : Places) (s : Step) (a : Answer) → IsOrderly old → Rule old s (Ok a) new → StaysOn n c a
     → IsUnremoved n c old → IsUnremoved n c new
 stays_unremoved n c old new s a orderly rule stays is = unremoved_after n c old new a is (stays_goes n c a stays) s orderly rule

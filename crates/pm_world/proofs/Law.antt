@@ -47,7 +47,7 @@ not_mine n c f other =
     let b : eqb f.stamp.port n ≡ false = ne_eqb f.stamp.port n (λ e. other (sym e)) in
     rw (stamped-one n c f, b)
 
--- what is on its way where one more frame waits at the end
+-- what is on its way if one more frame waits at the end
 more_waits : (n c : ℕ) (upward waits : List Stamped) (f : Stamped) → on_its_way n c upward (waits ++ f ∷ []) ≡ on_its_way n c upward waits ++ all_marked n (of_conn c (f ∷ []))
 unfolding on_its_way
 more_waits n c upward waits f = rw (of_conn-append c waits (f ∷ []), all_marked-append n (of_conn c waits) (of_conn c (f ∷ [])), append_assoc)
@@ -89,8 +89,8 @@ leaves_conserves old new port conn number bytes report f told m n c =
     let split : stamped n c (f ∷ new.upward.frames) ≡ stamped n c (f ∷ []) ++ stamped n c new.upward.frames = stamped-append n c (f ∷ []) new.upward.frames in
     rw (m.waits n, m.upward, split, stamped-one n c f, told.port_is, told.conn_is, told.bytes_are, append_assoc)
 
--- what a step took and what is then on its way is what was on its way and what the step sent, where its removal is not
--- recorded
+-- if the removal of a connection is not recorded, what a step took and what is then on its way is
+-- what was on its way and what the step sent
 conserves : (old : Places) (a : Answer) (new : Places) → Moves old a new → (n c : ℕ) → n ≢ control_port → is_removed n c new ≡ false → taken_by n c a ++ transit n c new ≡ transit n c old ++ all_marked n (sent_by n c a)
 conserves old (answer.Sent port conn number bytes) new m n c device there = enters_conserves old new port conn number bytes m.0 m.1 m.2 n c
 conserves old (answer.Up port) new m n c device there = goes_up_conserves old new port m n c device ∙ sym (append-nil (transit n c old))
@@ -99,7 +99,7 @@ conserves old _ new m n c device there = stays_conserves old new m n c there ∙
 
 -- ---- a connection that is removed
 
--- a frame that rises is of no connection that is removed
+-- a frame that rises is not of a removed connection
 rises_none : (old new : Places) (port : ℕ) (f : Stamped) → Rises port f old new → (n c : ℕ) → is_removed n c old ≡ true → stamped n c (rising port f ∷ []) ≡ []
 rises_none old new port f m n c gone =
     elim (cases_eq n port) [
@@ -170,7 +170,7 @@ run_stays old (s ∷ steps) (a ∷ answers) new orderly run n c gone =
 run_stays old [] (a ∷ answers) new orderly run n c gone = absurd run
 run_stays old (s ∷ steps) [] new orderly run n c gone = absurd run
 
--- so one that is not recorded was not before
+-- so a removal that is not recorded was not recorded before
 run_never : (old : Places) (steps : List Step) (answers : List Answer) (new : Places) → IsOrderly old → Run old steps answers new → (n c : ℕ) → is_removed n c new ≡ false → is_removed n c old ≡ false
 run_never old steps answers new orderly run n c never =
     elim (cases_Bool (is_removed n c old)) [
@@ -268,7 +268,7 @@ none_more n c zero frames g other none = rw (stamped-append n c frames (g ∷ []
 none_more n c (suc k) [] g other none = none_at_all n c k
 none_more n c (suc k) (f ∷ frames) g other none = none_more n c k frames g other none
 
--- the first of frames of which none is of the connection
+-- the first of frames, if none of them is of the connection
 none_later : (n c : ℕ) (f : Stamped) (frames : List Stamped) → stamped n c (f ∷ frames) ≡ [] → stamped n c frames ≡ []
 none_later n c f frames = by_test (f.stamp.port == n && f.stamp.conn == c)
   where
@@ -280,8 +280,8 @@ none_later n c f frames = by_test (f.stamp.port == n && f.stamp.conn == c)
 abbrev tooks : List Answer → ℕ
 tooks answers = length (filter is_took answers)
 
--- where the frames of the connection that are on the host's link stand, and how many frames are still to be taken before
--- none of them is there
+-- where the frames of the connection stand on the host's link, and how many frames are still to be
+-- taken before none of them is there
 abbrev LeftOver : ℕ → ℕ → List Answer → Places → Type 0
 LeftOver n c answers now = (k : ℕ) × NoneFrom n c k now.upward.frames × (k ≤ tooks answers)
 
@@ -304,7 +304,7 @@ took_over n c (suc k) answers old new f m none most =
     let here : NoneFrom n c k new.upward.frames = subst (NoneFrom n c (suc k)) m.upward none in
     (k, here, omega (arith, most))
 
--- one step, of a connection that is removed
+-- one step, for a connection that is removed
 step_over : (n c : ℕ) (old : Places) (a : Answer) (later : List Answer) (new : Places) → Moves old a new → n ≢ control_port → is_removed n c old ≡ true → LeftOver n c (a ∷ later) old → LeftOver n c later new
 step_over n c old (answer.Sent port conn number bytes) later new m device gone left = same_over n c later old new m.2.upward left
 step_over n c old (answer.Up port) later new m device gone left = up_over n c port later old new m device gone left
@@ -344,7 +344,7 @@ nothing_left : (more rest : List (List ℕ)) → more ++ rest ≡ [] → more �
 nothing_left [] rest e = refl
 nothing_left (x ∷ more) rest e = absurd (cc)
 
--- a connection up to one that is removed is removed
+-- every connection up to a removed one is removed
 earlier_removed : (n c d : ℕ) (now : Places) → is_removed n c now ≡ true → 0 < d → d ≤ c → is_removed n d now ≡ true
 earlier_removed n c d now gone some most =
     let both = up_to_is (port_at now.multiplier n).gone c gone in

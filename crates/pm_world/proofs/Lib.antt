@@ -29,6 +29,7 @@ pub mod PlaceLemmas
 pub mod WireLemmas
 pub mod RunLemmas
 pub mod TookLemmas
+pub mod TakenLemmas
 pub mod GivenLemmas
 pub mod BroughtLemmas
 pub mod TouchedLemmas
@@ -87,3 +88,4 @@ pub mod LiveSteps
 pub mod MeantLemmas
 pub mod MeantRuns
 pub mod InOrderLemmas
+pub mod FlushOrder

@@ -312,7 +312,7 @@ take_line down waits up f old new report stage does g their at risen line notice
     stays_on down waits up old new (Took f.bytes report) stage (turned stage old (Took f.bytes report) new does g their at (λ own. may_come stage down up waits f (sym port ∙ own) line notices))
     (λ next is. taken_line down waits up f old new report stage port next is line notices) notices.1
 
--- what one that goes out leaves
+-- what a frame that goes out leaves
 module _ (down : List Stamped) (waits : Option Stamped) (up : List Stamped) (f : Stamped) (old new : Host) (stage : Stage31) (port : pm_port f ≡ f.stamp.port) (line : OnLine stage down waits up) where
   sent : (next : Stage31) → pm_port f ≡ control_port → Pushes31 stage old f next → OnLine next (down ++ f ∷ []) waits up
   sent next own p = by_way p.follows
@@ -504,7 +504,7 @@ opening_now units config right = record {
   is = record { at = opens31 0 config.memory; line = (tt, refl, tt); notices = tt };
 }
 
--- an order to clear a port is issued where nothing is on its way
+-- an order to clear a port is issued when nothing is on its way
 pub clears_clean : (now : Places) (i : IsNow now) (n : ℕ) (acted : Bool) (new : Host) → Ticks now.host acted new → orders_clear n now.host ≡ true → IsClean now × (n < 15)
 clears_clean now i n acted new does flushed =
     let t : IsTurned i.stage now.host (Ticked acted) new = turned i.stage now.host (Ticked acted) new does i.going i.their i.is.at tt in

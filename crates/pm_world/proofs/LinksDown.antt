@@ -1,5 +1,5 @@
--- In each step what goes down goes over links: through the places of the ports, over the link to each device, and over the
--- link from the host.
+-- In each step what goes down goes over links: through the places of the ports, over the link to each
+-- device, and over the link from the host.
 use Rattle.std.proofs.Common.{◌≡◌, ◌≢◌, ℕ, zero, suc, ◌<◌, ◌≤◌, ◌+◌, ◌==◌, List, [], ◌∷◌, ◌++◌, Option, Some, None, Bool, true, false, if◌then◌else◌, refl, sym, ap, subst, ◌∙◌, inl, inr, length, arith, length-append}
 use Rattle.std.specs.Prelude.{slice_get, slice_set, filter, option_to_list, MatchBool, MatchOption, Ok}
 use Rattle.std.proofs.lemmas.Bool.{cases_eq, eq-eqb, ne_eqb}
@@ -94,12 +94,12 @@ module _ (old : PmState) (frame : Stamped) (new : PmState) where
 
 -- ---- room
 
--- the link to a device has room for so many items, and holds no more
+-- the link to a device has room for this many items, and holds no more
 pub record HasRoomDown (capacity : ℕ) (place : Place) : Type 0 where
   pub down : place.down.capacity ≡ capacity
   pub down_within : length place.down.frames ≤ capacity
 
--- so have all links on the way down
+-- all links on the way down have, too
 pub record HaveRoomDown (capacity : ℕ) (now : Places) : Type 0 where
   pub devices : (n : ℕ) → MatchOption (slice_get now.devices n) (Prim.Unit {0}) (HasRoomDown capacity)
   pub downward : now.downward.capacity ≡ capacity
@@ -173,7 +173,7 @@ pub record GoesDown (capacity : ℕ) (old : Places) (a : Answer) (new : Places) 
   pub host : HostPassesDown capacity old.downward.frames (a ∷ []) new.downward.frames
   pub room : HaveRoomDown capacity new
 
--- the link of a place, where there is one
+-- the link of a place, if there is one
 abbrev link_down : Option Place → Option Queue
 link_down None = None
 link_down (Some place) = Some place.down
@@ -213,7 +213,7 @@ module _ (capacity : ℕ) (old : Places) (a : Answer) (new : Places) (room : Hav
   rests_all : new.downward ≡ old.downward → new.devices ≡ old.devices → ((n : ℕ) → (port_at new.multiplier n).down ≡ (port_at old.multiplier n).down) → GoesDown capacity old a new
   rests_all downward devices ports = rests downward (λ n. ap (λ (l : List Place). link_down (slice_get l n)) devices) ports
 
--- a device's place changes, and not its link
+-- a device's place changes, but its link does not
 link_after : (devices : List Place) (n : ℕ) (place after : Place) (m : ℕ) → slice_get devices n ≡ Some place → after.down ≡ place.down → link_down (slice_get (slice_set devices n after) m) ≡ link_down (slice_get devices m)
 link_after devices n place after m is same =
     elim (cases_eq m n) [
@@ -371,7 +371,7 @@ module _ (capacity : ℕ) (old : Places) (n : ℕ) (place after : Place) (left :
       (record { down = size ∙ has.down; down_within = within })
   down_goes _ acts = absurd acts
 
-  -- a change is recorded, and a removal drops what waits there of a connection that is gone
+  -- a change is recorded, and a removal drops what waits there for a connection that is gone
   presence_goes : (a : Answer) → n < length old.multiplier.ports → PmPresenceRule n place old.multiplier (Ok a) after left → GoesDown capacity old a (with_multiplier (with_device old n after) left)
   presence_goes answer.Idle there acts = rests_at capacity old n answer.Idle place after left room is refl (ap (λ (p : Place). p.down) acts.1) (same_down acts.2)
   presence_goes (answer.Presence port) there acts =
@@ -464,7 +464,7 @@ module _ (capacity : ℕ) (old : Places) (downward : Queue) (left : PmState) (ro
         took_is = refl;
       }
 
-  -- the ports, where it goes to none of them
+  -- the ports, if the frame goes to none of them
   passes_by : (a : Answer) → left.ports ≡ old.multiplier.ports → ((n : ℕ) → IsElsewhere n a) → (n : ℕ) → PortPassesDown capacity n
       (slice_get old.devices n) (held_down n old.multiplier) (a ∷ []) (slice_get old.devices n) left
   passes_by a ports none n =

@@ -1,5 +1,6 @@
--- In each step what goes up goes over links: over the link from each device, through the place of its port, and over the
--- link to the host; and each connection that comes or goes does so over a presence link.
+-- In each step what goes up goes over links: over the link from each device, through the place of its
+-- port, and over the link to the host. Each connection that comes or goes does so over a presence
+-- link.
 use Rattle.std.proofs.Common.{◌≡◌, ◌≢◌, ℕ, ◌<◌, ◌≤◌, ◌+◌, ◌==◌, List, [], ◌∷◌, ◌++◌, Option, Some, None, Bool, true, false, cond, if◌then◌else◌, refl, sym, ap, subst, ◌∙◌, inl, inr, map, length, filter, suc, arith, length-append}
 use Rattle.std.specs.Prelude.{slice_get, slice_set, option_to_list, MatchOption, Ok}
 use Rattle.std.specs.List.{flat_map}
@@ -38,14 +39,14 @@ use Rattle.pm_world.proofs.Steps.{at_both, at_device}
 
 -- ---- room
 
--- the links from a device have room for so many items, and hold no more
+-- the links from a device have room for this many items, and hold no more
 pub record HasRoomUp (capacity : ℕ) (place : Place) : Type 0 where
   pub up : place.up.capacity ≡ capacity
   pub up_within : length place.up.frames ≤ capacity
   pub presence : place.presence.capacity ≡ capacity
   pub presence_within : length place.presence.changes ≤ capacity
 
--- so have all links on the way up
+-- all links on the way up have, too
 pub record HaveRoomUp (capacity : ℕ) (now : Places) : Type 0 where
   pub devices : (n : ℕ) → MatchOption (slice_get now.devices n) (Prim.Unit {0}) (HasRoomUp capacity)
   pub upward : now.upward.capacity ≡ capacity
@@ -183,7 +184,7 @@ module _ (capacity : ℕ) (old : Places) (a : Answer) (new : Places) (room : Hav
   rests_all : new.upward ≡ old.upward → new.devices ≡ old.devices → ((n : ℕ) → (port_at new.multiplier n).up ≡ (port_at old.multiplier n).up) → GoesUp capacity old a new
   rests_all upward devices ports = rests upward (λ n. rw devices (keeps_same (slice_get old.devices n))) ports
 
--- a device's place changes, and not its links
+-- a device's place changes, but its links do not
 keeps_after : (devices : List Place) (n : ℕ) (place after : Place) (m : ℕ) → slice_get devices n ≡ Some place → KeepsUp (Some place) (Some after) → KeepsUp (slice_get devices m) (slice_get (slice_set devices n after) m)
 keeps_after devices n place after m is keeps =
     elim (cases_eq m n) [
@@ -436,7 +437,7 @@ module _ (capacity : ℕ) (old : Places) (n : ℕ) (place after : Place) (left :
           presence_within = rw presence fits.presence_within;
         })
 
-  -- a frame of a connection that is gone is dropped as it is offered
+  -- a frame of a connection that is gone is dropped when it is offered
   module _ (frame : Stamped) (p : ℕ) (port_is : p ≡ n) (first : place.up.frames ≡ frame ∷ after.up.frames)
       (after_is : after ≡ record place { up = record place.up { frames = after.up.frames } }) (left_is : left ≡ old.multiplier) where
     still_held : held n left ≡ held n old.multiplier
@@ -516,7 +517,7 @@ module _ (capacity : ℕ) (old : Places) (left : PmState) (upward : Queue) (n : 
     room = record { devices = room.devices; upward = ap (λ (q : Queue). q.capacity) upward_is ∙ room.upward; upward_within = within };
   }
 
-  -- the other places stay, and the frame is of none of their ports
+  -- the other places stay, and the frame is not of any of their ports
   stays_at : (m : ℕ) → (port_at left m).up ≡ (port_at old.multiplier m).up → (m ≢ control_port → frame.stamp.port ≢ m)
       → PortStep capacity m (slice_get old.devices m) (held m old.multiplier) (answer.Up n) (slice_get old.devices m) left (frame ∷ [])
   stays_at m same other =

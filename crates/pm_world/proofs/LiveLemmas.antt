@@ -1,4 +1,5 @@
--- A port that passed a FIS of its device stays open to it until that is unplugged; and meanwhile the host does not flush the device.
+-- A port that passed a FIS of its device stays open to the device until it is unplugged. Meanwhile
+-- the host does not flush the device.
 use Rattle.std.proofs.Common.{◌≡◌, ◌≢◌, ◌==◌, ℕ, ◌+◌, ◌%◌, ◌<◌, min, Bool, true, false, List, [], ◌∷◌, ◌++◌, length, refl, sym, ap, subst, ◌∙◌, inl, inr, get_or, set, bit_and}
 use Rattle.std.proofs.Common.{Option, Some, None, Ok, arith}
 use Rattle.std.specs.Int.{bit_at}
@@ -292,7 +293,7 @@ stays_present n c old s a new rule stays firm here kept =
       kept = kept_after n c old s a new firm.orderly rule stays kept;
     }
 
--- while it is not unplugged it stays so
+-- while it is not unplugged, it stays live
 pub live_after : (n c : ℕ) (unsent : Bool) (old : Places) (s : Step) (a : Answer) (new : Places) → Rule old s (Ok a) new → unplugs n s ≡ false → IsFirm n old
     → Knows n unsent old → IsLive n c old → IsLive n c new
 live_after n c unsent old s a new rule stays firm knows live =

@@ -1,4 +1,5 @@
--- Where a request that waits or is issued after a step of a world comes from, and what goes out of the host.
+-- Where a request comes from that waits or is issued after a step of a world, and what goes out of
+-- the host.
 use Rattle.std.proofs.Common.{◌≡◌, ℕ, ◌<◌, ◌==◌, Bool, true, false, List, [], ◌∷◌, length, drop, map, Some, Ok, refl, sym, ap, subst, ◌∙◌}
 use Rattle.std.proofs.lemmas.Bool.{and_parts, eqb-true, false≢true}
 use Rattle.std.specs.Prelude.{◌||◌}

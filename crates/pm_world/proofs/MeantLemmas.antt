@@ -1,4 +1,5 @@
--- For whom commands are meant, in each step: what was identified stays so while requests of its device wait or go.
+-- For whom commands are meant, in each step: what was identified stays so while requests of its
+-- device wait or are issued.
 use Rattle.std.proofs.Common.{◌≡◌, ℕ, ◌<◌, ◌==◌, Bool, true, false, List, [], ◌∷◌, ◌++◌}
 use Rattle.std.proofs.Common.{Option, Some, Ok, refl, sym, ap, subst, ◌∙◌, inl, inr}
 use Rattle.std.proofs.lemmas.Bool.{and_from, cases_Bool, eq-eqb, false≢true, true≢false, true_from_ne_false}
@@ -35,7 +36,7 @@ use Rattle.pm_world.proofs.UpLemmas.{Left, Rose, Same, UpChange, up_change}
 abbrev pub IsOf : (n c : ℕ) → Stamped → Type 0
 IsOf n c f = f.stamp.port ≡ n → f.stamp.conn ≡ c
 
--- those of port n are all of one
+-- those of port n are all of one connection
 abbrev pub AreOne : ℕ → List Stamped → Type 0
 AreOne n [] = Prim.Unit {0}
 AreOne n (f ∷ frames) = (f.stamp.port ≡ n → Each (IsOf n f.stamp.conn) frames) × AreOne n frames
@@ -46,7 +47,8 @@ pub record Fell (M : Stamped → Option ℕ → Type 0) (f : Stamped) : Type 0 w
   pub is : f ≡ falling f.stamp.conn sent
   pub meant : M sent (Some f.stamp.conn)
 
--- What is told of requests and of frames, with the last connection on which IDENTIFY data had come as the request was submitted.
+-- What is told of requests and of frames, with the last connection on which IDENTIFY data had come
+-- when the request was submitted.
 pub record Means (n : ℕ) (known : Bool) (last : Option ℕ) (S : Entry → Option ℕ → Type 0) (M : Stamped → Option ℕ → Type 0) (now : Places) : Type 0 where
   pub one : AreOne n now.upward.frames
   pub same : known ≡ true → (c : ℕ) → last ≡ Some c → Each (IsOf n c) now.upward.frames
@@ -90,7 +92,7 @@ module _ (n : ℕ) (below : n < 15) (known unsent : Bool) (last : Option ℕ) (o
   down : DownChange n old s a new
   down = down_change n old s new h.orderly a rule
 
-  -- where it is known after the step
+  -- if it is known after the step
   unordered : known_now ≡ true → known_with known ids ≡ true
   unordered e = elim (cases_Bool (orders_clear n old a)) [
     | inl clears ↦ absurd (true≢false (sym e ∙ known_cleared n below known unsent last old s a new rule h served quiet clears))
@@ -109,7 +111,7 @@ module _ (n : ℕ) (below : n < 15) (known unsent : Bool) (last : Option ℕ) (o
       let was = h.came is in
       keeps_one n was.0 f.stamp.conn old.multiplier h.true_is was.2 p.opens p.there ∙ same_Some was.0 c (sym was.1 ∙ e)
 
-  -- the last connection stays while it is known
+  -- the last connection stays while the device is known
   stays_last : known ≡ true → last_now ≡ last
   stays_last is = by_up up
     where
@@ -186,7 +188,7 @@ module _ (n : ℕ) (below : n < 15) (known unsent : Bool) (last : Option ℕ) (o
   abbrev OnLink : Stamped → Type 0
   OnLink f = is_request_to n f ≡ true → known_now ≡ true → N f last_now
 
-  -- as IDENTIFY data come no command of a request is on the link
+  -- when IDENTIFY data come, no command of a request is on the link
   none_there : known ≡ false → known_now ≡ true → Nothing (is_request_to n) old.downward.frames
   none_there is e = by_up up
     where

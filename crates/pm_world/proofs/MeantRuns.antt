@@ -1,4 +1,4 @@
--- For whom commands are meant that a device takes: over a run of a world, and from a new one.
+-- For whom the commands are meant that a device takes: over a run of a world, and from a new one.
 use Rattle.std.proofs.Common.{◌≡◌, ◌⊎◌, ℕ, ◌<◌, ◌==◌, ◌&&◌, Bool, true, false, List, [], ◌∷◌, ◌++◌, length, take}
 use Rattle.std.proofs.Common.{Option, Some, None, Ok, refl, sym, ap, subst, ◌∙◌, inl, inr}
 use Rattle.std.specs.Prelude.{option_to_list, slice_get}
@@ -46,7 +46,7 @@ use Rattle.pm_world.proofs.UpLemmas.{took_step}
 
 -- ## Submitted in a run
 
--- a request, as it waited, with the last connection on which IDENTIFY data had come then
+-- a request, when it waited, with the last connection on which IDENTIFY data had come by then
 record SubmittedFor (n : ℕ) (last : Option ℕ) (old new : Places) (steps : List Step) (answers : List Answer) (run : Run old steps answers new) (e : Entry)
     (l : Option ℕ) : Type 0 where
   ticket : Ticket

@@ -33,8 +33,9 @@ use Rattle.pm_world.proofs.Steps.{at_device, at_both}
 
 -- ---- what may move
 
--- No frame moves but within its port, where it may get the port in its stamp, or is dropped since the removal of its
--- connection is recorded: what waits there of each other connection is the same.
+-- No frame moves except within its port. There it may get the port in its stamp, or is dropped
+-- because the removal of its connection is recorded. What waits there of each other connection is the
+-- same.
 pub record Stays (old new : Places) : Type 0 where
   pub upward : new.upward.frames ≡ old.upward.frames
   pub waits : (m c : ℕ) → is_removed m c new ≡ false → of_conn c (waiting m new) ≡ of_conn c (waiting m old)
@@ -64,7 +65,7 @@ pub record Leaves (frame : Stamped) (old new : Places) : Type 0 where
   pub upward : old.upward.frames ≡ frame ∷ new.upward.frames
   pub waits : (m : ℕ) → waiting m new ≡ waiting m old
 
--- what goes on the host's link: the first frame of this port, or what the control port says
+-- what enters the host's link: the first frame of this port, or what the control port says
 abbrev pub GoesUp : ℕ → Places → Places → Type 0
 GoesUp port old new = ((frame : Stamped) × Rises port frame old new) ⊎ ((port ≡ control_port) × ((frame : Stamped) × Says frame old new))
 
@@ -99,7 +100,7 @@ KeepsUp old new = (m : ℕ) → (port_at new m).up ≡ (port_at old m).up
 same_up : {old new : PmState} → new ≡ old → KeepsUp old new
 same_up e m = ap (λ (pm : PmState). (port_at pm m).up) e
 
--- so it is where one port is written over, and holds what it held
+-- that holds if one port is written over, and holds what it held
 written_up : (old : PmState) (n : ℕ) (p : PortState) (new : PmState) → p.up ≡ (port_at old n).up → new.ports ≡ (with_port old n p).ports → KeepsUp old new
 written_up old n p new same e m = ap (λ (all : List PortState). (ports.at all m).up) e ∙ ports.kept_part (λ q. q.up) old.ports n p same m
 
@@ -119,7 +120,7 @@ pub whichever : {T P C : Type 0} → {Q : T → Type 0} → (o : Option T) → (
 whichever None f g h = f h
 whichever (Some x) f g h = g x refl h
 
--- a frame of the host, wherever it is passed, moves none of those on their way up
+-- a frame of the host, wherever it is passed, moves none of the frames on their way up
 control_up : (pm : PmState) (frame : Stamped) (p : Passed) (after : PmState) → ToControl pm frame (Ok p) after → KeepsUp pm after
 control_up pm frame passed.Control after rule = same_up rule.2
 control_up pm frame _ after rule = absurd rule
@@ -160,7 +161,7 @@ module _ (old : Places) (n : ℕ) (place after : Place) (is : slice_get old.devi
         | inr other ↦ link_elsewhere m other
       ]
 
-  -- nothing moves where the device's link and what the ports hold stay
+  -- nothing moves if the device's link and what the ports hold stay
   pub both_stay : (left : PmState) → after.up.frames ≡ place.up.frames → KeepsUp old.multiplier left → Stays old (with_multiplier (with_device old n after) left)
   both_stay left same keeps = record {
     upward = refl;
@@ -254,7 +255,8 @@ module _ (old : Places) (n : ℕ) (place after : Place) (left : PmState) (is : s
   abbrev Both : Places
   Both = with_multiplier (with_device old n after) left
 
-  -- a connection that is recorded moves no frame; a removal drops only frames of connections that are gone then
+  -- a connection that is recorded moves no frame; a removal drops only frames of connections that are
+  -- gone by then
   removal_stays : n < length old.multiplier.ports → (conn : ℕ) → after.up.frames ≡ place.up.frames → left ≡ without_device old.multiplier n conn → Stays old Both
   removal_stays lt conn same now = record { upward = refl; waits = λ m c there. elim (cases_eq m n) [ inl e ↦ rw e (here c (subst (λ k. is_removed k c Both ≡ false) e there)) | inr other ↦ elsewhere m other c ] }
     where
@@ -297,7 +299,8 @@ module _ (old : Places) (n : ℕ) (place after : Place) (left : PmState) (is : s
       both_stay old n place after is left (ap (λ (q : Place). q.up.frames) acts.2.2) up
   down_moves _ acts = absurd acts
 
-  -- A frame that goes from the link into the port still waits there, first. No removal is recorded, so that none is dropped.
+  -- A frame that goes from the link into the port still waits there, as the first. No removal is
+  -- recorded, so none is dropped.
   enters_hold : n < length old.multiplier.ports → (frame : Stamped) → place.up.frames ≡ frame ∷ after.up.frames → FromDeviceRule old.multiplier n frame (Ok Held) left → Stays old Both
   enters_hold lt frame first rule = record { upward = refl; waits = λ m c _. elim (cases_eq m n) [ inl e ↦ rw e (here c) | inr other ↦ elsewhere m other c ] }
     where
@@ -334,8 +337,8 @@ module _ (old : Places) (n : ℕ) (place after : Place) (left : PmState) (is : s
           ap (of_conn c) (ap (λ xs. held m left ++ xs) (link_elsewhere old n place after is m other)
           ∙ ap (λ o. option_to_list o ++ on_link (slice_get old.devices m)) (other_up m other))
 
-  -- A frame that is dropped as it is offered is of a connection that is gone. What waits of any other connection is
-  -- the same.
+  -- A frame that is dropped when it is offered is of a connection that is gone. What waits of any
+  -- other connection is the same.
   drops_offered : (frame : Stamped) → place.up.frames ≡ frame ∷ after.up.frames → is_gone (port_at old.multiplier n) frame.stamp.conn ≡ true → left ≡ old.multiplier → Stays old Both
   drops_offered frame first gone now = record { upward = refl; waits = λ m c there. elim (cases_eq m n) [ inl e ↦ rw e (here c (subst (λ k. is_removed k c Both ≡ false) e there)) | inr other ↦ elsewhere m other c ] }
     where

@@ -73,7 +73,7 @@ same_over (t ∷ turns) old new run none slot f outcome ended here =
 
 -- ## A tick
 
--- the request stood there, and had ended so
+-- the request stood there, and had ended in this way
 record HadEnded (old : Places) (slot ticket : ℕ) (outcome : Outcome) : Type 0 where
   entry : Entry
   here : entry_at old.host.driver.entries slot ≡ Some entry

@@ -1,5 +1,5 @@
--- From the submit of a request to its report all that the host takes of its device is of one connection: the device is not flushed in between,
--- so its port is not cleared.
+-- From the submit of a request to its report, all that the host takes of its device is of one
+-- connection: the device is not flushed in between, so its port is not cleared.
 use Rattle.std.proofs.Common.{◌≡◌, ◌⊎◌, ℕ, ◌<◌, ◌==◌, Bool, true, false, List, [], ◌∷◌, ◌++◌, length, refl, sym, ap, subst, ◌∙◌, inl, inr}
 use Rattle.std.proofs.Common.{Option, Some, None, Ok}
 use Rattle.std.specs.Prelude.{if◌then◌else◌, All}
@@ -101,7 +101,7 @@ kept_over old (s ∷ steps) (a ∷ answers) new run slot f here unended = elim (
 abbrev IsOf : (n c : ℕ) → Stamped → Type 0
 IsOf n c f = f.stamp.port ≡ n → f.stamp.conn ≡ c
 
--- those of port n are of one connection
+-- the FISes of port n are of one connection
 abbrev AreOne : ℕ → List Stamped → Type 0
 AreOne n [] = Prim.Unit {0}
 AreOne n (f ∷ frames) = (f.stamp.port ≡ n → Each (IsOf n f.stamp.conn) frames) × AreOne n frames
@@ -126,7 +126,7 @@ module _ (n : ℕ) (below : n < 15) (known unsent : Bool) (last : Option ℕ) (o
           (λ here. each_map (IsRisen n old) (IsOf n f.stamp.conn) old.upward.frames
           (λ g risen its. sym (keeps_one n g.stamp.conn f.stamp.conn old.multiplier h.true_is (risen its).0 (passes here).opens (passes here).there)) h.up))
 
-  -- the port keeps to connection c, and all of it on the host's link is of c
+  -- the port keeps to connection c, and all of port n on the host's link is of c
   of_after : (c : ℕ) → is_cleared n old a ≡ false → KeepsTo n c old.multiplier → Each (IsOf n c) old.upward.frames
       → KeepsTo n c new.multiplier × Each (IsOf n c) new.upward.frames
   of_after c uncleared keeps of = (keeps_after n old s a new rule c below h.true_is uncleared keeps, by_up (up_change n old new below h.orderly s a rule))
@@ -230,7 +230,7 @@ taken_on n c known unsent last old s (answer.Took port conn number bytes report)
     by_test false other = All-nil (λ (k : ℕ). k ≡ c)
 taken_on n c known unsent last old s a new rule h on = All-nil (λ (k : ℕ). k ≡ c)
 
--- so it is up to the end
+-- that holds up to the end
 record EndsOn (n c : ℕ) (old : Places) (steps : List Step) (answers : List Answer) (new : Places) (run : Run old steps answers new) : Type 0 where
   taken : All (λ (k : ℕ). k ≡ c) (over (connection_by n) old steps answers new run)
   of : Each (IsOf n c) new.upward.frames
@@ -258,7 +258,7 @@ of_one n below c old (s ∷ steps) (a ∷ answers) new run r none on =
 of_one n below c old [] (a ∷ answers) new run r none on = absurd run
 of_one n below c old (s ∷ steps) [] new run r none on = absurd run
 
--- from the first FIS that the host takes on it is so
+-- from the first FIS that the host takes on, that holds
 on_first : (n c : ℕ) (old : Places) (steps : List Step) (answers : List Answer) (new : Places) (run : Run old steps answers new) (r : IsReady n old steps answers new run)
     → IsFirst n c old → IsOn n c r.unsent old
 on_first n c old steps answers new run r first =

@@ -20,7 +20,7 @@ on_opening_down capacity [] n = refl
 on_opening_down capacity (u ∷ units) zero = refl
 on_opening_down capacity (u ∷ units) (suc n) = on_opening_down capacity units n
 
--- each port is empty, and so is what stands for one that is not there
+-- each port is empty, and so is what stands in for a port that is not there
 each_empty : (count n : ℕ) → slice_index_or (replicate count empty_port) n empty_port ≡ empty_port
 each_empty zero n = refl
 each_empty (suc count) zero = refl

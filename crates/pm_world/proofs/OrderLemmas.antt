@@ -46,12 +46,13 @@ use Rattle.pm_world.proofs.UpLemmas.{Left, Rose, Same, UpChange, up_change}
 abbrev pub Held : ℕ → Places → Type 0
 Held n now = ports.Waits n now.multiplier.registers
 
--- an answer on its way up that names port n: the port is held, and behind the answer comes no FIS of the port
+-- an answer on its way up that names port n: the port is held, and no FIS of the port comes after the
+-- answer
 abbrev pub Tells : ℕ → Type 0 → List Stamped → Type 0
 Tells n held [] = Prim.Unit {0}
 Tells n held (f ∷ frames) = (is_reply f ≡ true → names n f.bytes ≡ true → held × Nothing (is_from n) frames) × Tells n held frames
 
--- of the frames on their way down only such ones are for the control port
+-- only such frames on their way down are for the control port
 abbrev pub Only : (Stamped → Type 0) → List Stamped → Type 0
 Only P frames = Each (λ f. pm_port f ≡ control_port → P f) frames
 
@@ -172,7 +173,7 @@ module _ (n : ℕ) (below : n < 15) (unsent : Bool) (old : Places) (s : Step) (a
       by_down (Gone f link pushed clears falls idle ids) =
           false_from_ne_true (is_cleared n old a) (λ cleared. true≢false (sym (clears cleared) ∙ (subst (Nothing (is_clear n)) link none).0))
 
-  -- goes on so while it is not cleared
+  -- that goes on while the port is not cleared
   pub held_on : Nothing (is_clear n) old.downward.frames → Held n old → Held n new
   held_on none held = (rule_goes n old s a new rule).waits (none_cleared none) held
 
@@ -204,7 +205,7 @@ module _ (n : ℕ) (below : n < 15) (unsent : Bool) (old : Places) (s : Step) (a
           (false_from_ne_true (is_clear n f) (λ clears. true≢false (sym (once (ap (list_any (is_clear n)) pushed ∙ any_one (is_clear n) f ∙ clears)) ∙ shut.sent))))
       by_down (Gone f link pushed clears falls still ids) = (subst (Nothing (is_clear n)) link shut.clean).1
 
-  -- ---- a step that is no tick, and in which the host puts no frame on its link
+  -- ---- a step that is not a tick, and in which the host puts no frame on its link
 
   module _ (plain : IsPlain a) where
     pub plain_unsent : now ≡ unsent

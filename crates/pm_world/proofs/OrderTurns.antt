@@ -1,4 +1,5 @@
--- Each step keeps what is known of slot 31, of port n and of the answers that name it; so the orders to clear a port are in order over every run.
+-- Each step keeps what is known of slot 31, of port n and of the answers that name it. So the orders
+-- to clear a port are in order over every run.
 use Rattle.std.proofs.Common.{◌≡◌, ◌≢◌, ℕ, ◌*◌, ◌^◌, ◌<◌, ◌≤◌, ◌==◌, ◌&&◌, Bool, true, false, not, bit_and, All, List, [], ◌∷◌, ◌++◌, length, drop, Option, Some, None, Ok, refl, sym, ap, subst, ◌∙◌, inl, inr, arith}
 use Rattle.std.specs.Prelude.{if◌then◌else◌, nat_le, ◌%◌, ◌||◌}
 use Rattle.std.specs.Int.{bit_at}
@@ -62,7 +63,7 @@ record IsAfter (n : ℕ) (stage : Stage31) (old : Host) (t : HostTurn) (new : Ho
   scan : ScansOn n stage old t new
   plan : IsFound new.driver.plan
 
--- a port that is found now was found before, where the turn takes no answer that names it
+-- a port that is found now was found before, if the turn takes no answer that names it
 found_before : (n : ℕ) (stage : Stage31) (old : Host) (t : HostTurn) (new : Host) → ScansOn n stage old t new → (Finds n stage old t → ⊥) → found n new ≡ true → found n old ≡ true
 found_before n stage old t new scan never now = true_from_ne_false (found n old) (λ none. never (scan.begins none now))
 
@@ -122,7 +123,7 @@ module _ (n : ℕ) (below : n < 15) (unsent : Bool) (old : Places) (k : Knows n 
       (subst (λ (o : Option Stamped). OnLine stage down o new.upward.frames) (sym w)
       (subst (λ (x : List Stamped). OnLine stage down waits x) (sym u) line))
 
-  -- GSCR[32] goes on being read where the multiplier and its links are as they were
+  -- GSCR[32] goes on being read if the multiplier and its links are as they were
   scan_same : (new : Places) → new.multiplier ≡ old.multiplier → new.downward.frames ≡ old.downward.frames → new.upward.frames ≡ old.upward.frames → IsScanning n old → IsScanning n new
   scan_same new pm down up scan = record {
     down = subst (Only IsScan) (sym down) scan.down;
@@ -130,7 +131,7 @@ module _ (n : ℕ) (below : n < 15) (unsent : Bool) (old : Places) (k : Knows n 
     up = subst (Tells n (Held n new)) (sym up) (subst (λ (m : PmState). Tells n (Held n (record old { multiplier = m })) old.upward.frames) (sym pm) scan.up);
   }
 
-  -- ---- a step that is no tick, and in which the host puts no frame on its link
+  -- ---- a step that is not a tick, and in which the host puts no frame on its link
 
   module _ (s : Step) (a : Answer) (new : Places) (rule : Rule old s (Ok a) new) (plain : IsPlain a) where
     -- the host is as it was
@@ -218,7 +219,7 @@ module _ (n : ℕ) (below : n < 15) (unsent : Bool) (old : Places) (k : Knows n 
           | inr other ↦ sym (h.is.1 other) ∙ w
         ]
 
-        -- it is the answer, and names port n
+        -- it is the answer, and it names port n
         named : Finds n k.stage old.host (Took f.bytes report) → IsShut n unsent new
         named w =
             let scan : IsScanning n old = k.scanning w.asks w.order in
@@ -398,7 +399,7 @@ module _ (n : ℕ) (below : n < 15) (unsent : Bool) (old : Places) (k : Knows n 
       shut = ticked_shut;
     }
 
-    -- where it orders that port n be cleared, the port was found
+    -- if it orders that port n be cleared, the port was found
     shut_before : orders_clear n old answer.Ticked ≡ true → IsShut n unsent old
     shut_before flushed = k.shut (h.scan.clears flushed).0
 

@@ -46,7 +46,7 @@ port_other pm n p m other = ports.other_port pm.ports n m p other
 
 -- ---- the multiplier
 
--- what the world asks of its multiplier
+-- what the world requires of its multiplier
 pub record IsRoomy (pm : PmState) : Type 0 where
   pub room : length pm.ports ≡ 15
   pub answer : (frame : Stamped) → pm.answer ≡ Some frame → frame.stamp.port ≡ control_port
@@ -80,7 +80,7 @@ same_ports old new e = (ap length e, λ n. ap (λ all. known (ports.at all n)) e
 abbrev pub Grows : PmState → PmState → Type 0
 Grows old new = (n : ℕ) → (port_at old n).gone ≤ (port_at new n).gone
 
--- the multiplier after a step: it is as the world asks, and its ports know what they knew
+-- the multiplier after a step: it is as the world requires, and its ports know what they knew
 abbrev pub Leads : PmState → PmState → Type 0
 Leads old new = IsRoomy new × LikePorts old new
 
@@ -94,7 +94,7 @@ never_less a b e = omega (arith, e)
 grown : (old new : PmState) → Leads old new → Grown old new
 grown old new is = (is.0, λ n. never_less (port_at old n).gone (port_at new n).gone (ap (λ (t : Option ℕ × ℕ × ℕ). t.2) (is.1.1 n)))
 
--- where nothing waits as the answer of the control port, or what waited before
+-- if nothing waits as the answer of the control port, or if what waited before does
 same_answer : (old new : PmState) → LikePorts old new → new.answer ≡ old.answer → IsRoomy old → Leads old new
 same_answer old new like same is = (
   record {
@@ -205,7 +205,7 @@ down_roomy n old pm _ new after rule is = absurd rule
 
 -- ---- a frame of the host
 
--- an answer is stamped as it is to be
+-- an answer has the stamp that it is to have
 stamped_so : (fields : Option D2hFields) (stamp : Stamp) (given : Option Stamped) → IsAnswer fields stamp given → (frame : Stamped) → given ≡ Some frame → frame.stamp ≡ stamp
 stamped_so None stamp None made frame e = absurd (cc)
 stamped_so None stamp (Some g) made frame e = absurd made
@@ -334,7 +334,7 @@ follows old (step.Put at bytes) a new orderly rule = aside old new (with_host ol
 pub orderly_after : (old : Places) (s : Step) (a : Answer) (new : Places) → IsOrderly old → Rule old s (Ok a) new → IsOrderly new
 orderly_after old s a new orderly rule = (follows old s a new orderly rule).orderly
 
--- a removal that is recorded stays so
+-- a removal that is recorded stays recorded
 pub removed_after : (old : Places) (s : Step) (a : Answer) (new : Places) → IsOrderly old → Rule old s (Ok a) new → (n c : ℕ) → is_removed n c old ≡ true → is_removed n c new ≡ true
 removed_after old s a new orderly rule n c gone =
     still_up_to (port_at old.multiplier n).gone (port_at new.multiplier n).gone c ((follows old s a new orderly rule).grows n) gone

@@ -92,7 +92,7 @@ keeps_down m old pm _ new after rule = absurd rule
 
 -- ## Its connection
 
--- where the place has a unit that is plugged in, it is as connection c
+-- if the place has a unit that is plugged in, it is as connection c
 abbrev IsAs : ℕ → Place → Type 0
 IsAs c place = place.plugged ≡ true → place.conn ≡ c
 

@@ -59,7 +59,7 @@ use Rattle.pm_world.proofs.Delivery.{sized}
 use Rattle.pm_world.proofs.DisksLemmas.{IsIssued, IsRequestAt, MovesAll, has_command, issued_of_done, read_moves, request_at}
 use Rattle.pm_world.proofs.HostFold.{does-append, run_does}
 use Rattle.pm_world.proofs.Risen.{AllRisen, opening_risen, run_rises}
-use Rattle.pm_world.specs.Disks.{Before, DiskRun, EndedSince, IsNewDisk, Since, TookHonestly, WasSubmitted, disk_history, host_turns}
+use Rattle.pm_world.specs.Disks.{Before, DiskRun, EndedSince, FlushedSince, IsNewDisk, Since, TookHonestly, WasSubmitted, disk_history, host_turns}
 use Rattle.pm_world.specs.Ended.{EndsHonestly, ReadsSectors, StandsAt, WritesSectors}
 use Rattle.pm_world.specs.Polled.{HonestPolls, IsFilledAt, IsPolledHonestly, IsReportedIn}
 use Rattle.pm_world.specs.Touched.{AreTouched, opens}
@@ -118,7 +118,7 @@ not_given (Ticked acted ∷ turns) c s e same once = not_given turns c s e same 
 not_given (Submitted dev request given ∷ turns) c s e same once = not_given turns c s e same once
 not_given (Put at bytes ∷ turns) c s e same once = not_given turns c s e same once
 
--- ## What a FIS completes is issued no more
+-- ## What a FIS completes is not issued any more
 
 none_now : (b : Bool) (t u : Transfer) → b ≡ true → unless b (Some t) ≡ Some u → ⊥
 none_now true t u is h = cc
@@ -129,7 +129,7 @@ by_issue : (o : Option Transfer) (test : Transfer → Bool) (u : Transfer) → m
 by_issue None test u done h = absurd (false≢true done)
 by_issue (Some t) test u done h = none_now (test t) t u done h
 
--- what completes, where it completes a slot
+-- what completes, if a slot is completed
 completed_gone : (s : ℕ) (e : Event) (past : History) (u : Transfer)
     → match_some (issued s past) false (λ t. completes s e past t.work) ≡ true → issued s (e ∷ past) ≡ Some u → ⊥
 completed_gone s (event.Issued slot t) past u done h = never (issued s past) done
@@ -278,7 +278,7 @@ module _ (config : Config) (units : List Unit) (fits : is_config config (length 
     issued = told.issued ∙ ap (λ (e : Entry). Some (rephased Issued e)) (sym entry_is);
   }
 
-  -- ## Where the request ended honestly at the report, the bytes of a read stay up to the poll
+  -- ## If the request ended honestly at the report, the bytes of a read stay up to the poll
 
   at_report : entry_at told.took.at.host.driver.entries c.slot ≡ Some (rephased Issued (new_entry c.ticket.0 submitted.dev submitted.request))
   at_report = told.issued ∙ ap (λ (e : Entry). Some (rephased Issued e)) (sym entry_is)
@@ -418,7 +418,7 @@ module _ (config : Config) (units : List Unit) (fits : is_config config (length 
             (λ u. match_some (event_taken (shared_by told.took.at.host) told.bytes) false (λ e. completes c.slot e (own (port_of told.bytes) touches) u.work))) is)
             ∙ now
 
-    -- ## Where the request ended honestly
+    -- ## If the request ended honestly
 
     module _ (sectors : ℕ) (before happened : List Happening)
         (ends : EndsHonestly sectors c.slot (rephased Issued (new_entry c.ticket.0 submitted.dev submitted.request)) before happened
@@ -452,9 +452,9 @@ module _ (config : Config) (units : List Unit) (fits : is_config config (length 
           (filled c.slot (own submitted.dev touches)) now.host.memory
       stay_honest = record { reads = read_ends; writes = write_ends }
 
-  -- ## Where its device is a disk
+  -- ## If its device is a disk
 
-  -- an entry that is issued was submitted as the one that waits was
+  -- an entry that is issued was submitted as the entry that waits was
   as_given : (d : DiskRun config units submitted.dev told.took.at) (before : List Happening)
       → WasSubmitted config units submitted.dev told.took.at d (rephased Issued (new_entry c.ticket.0 submitted.dev submitted.request)) before
       → WasSubmitted config units submitted.dev told.took.at d (new_entry c.ticket.0 submitted.dev submitted.request) before
@@ -480,6 +480,17 @@ module _ (config : Config) (units : List Unit) (fits : is_config config (length 
               (disk_history config units submitted.dev told.took.at d) e.ends;
         }
 
+  module _ (sectors : ℕ) (plan : DiskPlan) (disk : IsNewDisk units submitted.dev plan sectors) (calm : is_queued submitted.request.work ≡ false) where
+    flushed_honestly : (d : DiskRun config units submitted.dev told.took.at) → told.conn ≡ d.conn
+        → FlushedSince config units submitted.dev told.took.at d (new_entry c.ticket.0 submitted.dev submitted.request)
+    flushed_honestly d same =
+        let first : TookHonestly config units submitted.dev sectors told.took.at d told.report told.took.next =
+        disks_are_honest config units submitted.dev sectors plan fits below disk told.took.at d step.HostTake submitted.dev told.conn told.number told.bytes
+        told.report told.took.next took.rule (eq-eqb submitted.dev submitted.dev refl) same in
+        let f : FlushedSince config units submitted.dev told.took.at d (rephased Issued (new_entry c.ticket.0 submitted.dev submitted.request)) =
+        first.flushed c.slot (rephased Issued (new_entry c.ticket.0 submitted.dev submitted.request)) low at_report calm told.done in
+        record { before = f.before; submitted = as_given d f.before f.submitted; later = f.later; is = f.is; taken = f.taken }
+
   abbrev turns_up : List HostTurn
   turns_up = over turn_of (new_world config units) told.took.before told.took.told told.took.at told.took.came
 
@@ -502,6 +513,7 @@ module _ (config : Config) (units : List Unit) (fits : is_config config (length 
         (ap (λ (e : Entry). e.head.dev) (sym submitted.is)) kept.none)
         told.s told.port told.conn told.number told.bytes told.report told.took.next port_is told.took.rule;
     honest = ended_honestly;
+    flushed = flushed_honestly;
   }
 
 pub honest_polls : HonestPolls

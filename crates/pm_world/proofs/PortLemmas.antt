@@ -1,5 +1,5 @@
--- What the registers of a port hold in a world: an error that is not 0 has bit X wherever the port is open to a device, since N and X come together and are cleared
--- together.
+-- What the registers of a port hold in a world. An error that is not 0 has bit X whenever the port is
+-- open to a device, because N and X are set together and cleared together.
 use Rattle.std.proofs.Common.{◌≡◌, ◌≢◌, ℕ, zero, suc, ◌<◌, ◌≤◌, ◌==◌, Bool, true, false, List, [], ◌∷◌, Option, Some, None, get_or, set, refl, sym, ap, subst, ◌∙◌, bit_and, bit_or, arith}
 use Rattle.std.specs.Prelude.{if◌then◌else◌, is_some, replicate, unwrap_or, nat_lt}
 use Rattle.std.specs.Int.{bit_at}
@@ -21,7 +21,7 @@ use Rattle.pm_world.proofs.Cleared.{HasX, Told}
 
 -- ## One port
 
--- its error is 0, or N and X; or N alone, and no device is there that could pass anything
+-- its error is 0, or N and X; or N alone, while no device is there that could pass anything
 pub data Fits (p : PortRegisters) : Type 0 where
   Blank : p.error ≡ 0 → Fits p
   Changed : p.error ≡ changes → Fits p
@@ -33,7 +33,7 @@ fits_told p (Blank is) other = absurd (other is)
 fits_told p (Changed is) other = λ opens there. subst HasX (sym is) refl
 fits_told p (Left is none) other = λ opens there. absurd (none opens there)
 
--- where it stays, and a device is there that could pass something only if one was
+-- if the error stays, and a device is there that could pass something only if one was
 fits_same : (p q : PortRegisters) → q.error ≡ p.error → (is_open q ≡ true → q.present ≡ true → (is_open p ≡ true) × (p.present ≡ true)) → Fits p → Fits q
 fits_same p q same was (Blank is) = Blank (same ∙ is)
 fits_same p q same was (Changed is) = Changed (same ∙ is)
@@ -125,7 +125,7 @@ fit_same m new ports bank fit = record {
   fits = λ n. subst (λ (l : List PortRegisters). Fits (get_or l n opening_port)) (sym bank) (fit.fits n);
 }
 
--- a write to PSCR[1] is of N and X, which it clears, and one to PSCR[2] is of 0, which opens the port
+-- a write to PSCR[1] is of N and X, which it clears; a write to PSCR[2] is of 0, which opens the port
 abbrev pub WritesChanges : Option Request → Type 0
 WritesChanges (Some (Write at value)) = (at.register ≡ 1 → value ≡ changes) × (at.register ≡ 2 → value ≡ 0)
 WritesChanges request = Prim.Unit {0}

@@ -71,7 +71,7 @@ first_part P (x ∷ xs) ys all (suc k) d below = first_part P xs ys (λ i e less
 in_sectors : (medium : List ℕ) (lba count i : ℕ) → i < 512 * count → slice_get (sectors_at medium lba count) i ≡ slice_get medium (512 * lba + i)
 in_sectors medium lba count i below = get_take (512 * count) (drop (512 * lba) medium) i below ∙ get_drop (512 * lba) medium i
 
--- a write among others that lie on the medium, of which no later one has the byte
+-- a write among others that lie on the medium, if no later write has the byte
 shown : (sectors at j k : ℕ) (writes : List Written) (w : Written) → slice_get writes at ≡ Some w → LieOn sectors writes → j < length w.bytes
     → k ≡ w.at + j → NoneCovers k (drop (suc at) writes) → slice_get (medium_with sectors writes) k ≡ slice_get w.bytes j
 shown sectors at j k writes w there lie below is none =

@@ -1,4 +1,4 @@
--- What the ports of the multiplier record is what answers tell, in its order.
+-- What the ports of the multiplier record is what answers tell, in the same order.
 use Rattle.std.proofs.Common.{◌≡◌, ◌≢◌, ℕ, zero, suc, ◌+◌, ◌<◌, ◌≤◌, max, Bool, true, false, cond, eqb, List, [], ◌∷◌, ◌++◌, append_assoc, length, take, map, Option, Some, None, refl, sym, ap, ◌∙◌, subst, arith, inl, inr, length-append}
 use Rattle.std.specs.Prelude.{◌==◌, filter, is_none, is_some, nat_le, if◌then◌else◌, slice_get, Ok}
 use Rattle.std.specs.List.{flat_map}
@@ -121,7 +121,7 @@ pub record Records (n : ℕ) (o : Option Place) (k : Known) (a : Answer) (after 
   pub knows : left ≡ all read k
   pub led : IsLed after left
 
--- the last connection that came is none above that of the place, and never falls
+-- the last connection that came is not above that of the place, and never falls
 last_rises : (cs : List Change) (k : Known) → AreLetIn cs k → k.1 ≤ (all cs k).1
 last_rises [] k h = omega arith
 last_rises (change.Came conn ∷ cs) k h =
@@ -591,7 +591,7 @@ run_records old (s ∷ steps) [] new orderly run n led = absurd run
 
 -- ---- since the world was made
 
--- what a port knows to which no device came
+-- what a port knows if no device came to it
 abbrev pub nothing_known : Known
 nothing_known = (None, 0, 0)
 
@@ -629,7 +629,7 @@ gone_recorded config units fits steps answers now run n =
 
 -- ---- what the host has seen
 
--- as many frames were taken as went up, but for those that are on the link
+-- as many frames were taken as went up, except those that are on the link
 step_counts : (old : Places) (a : Answer) (new : Places) → Moves old a new → times is_took (a ∷ []) + length new.upward.frames ≡ length old.upward.frames + times is_up (a ∷ [])
 step_counts old (answer.Sent port conn number bytes) new m = let same : length new.upward.frames ≡ length old.upward.frames = ap length m.2.upward in omega (arith, same)
 step_counts old (answer.Up port) new (inl rose) =
@@ -653,7 +653,7 @@ run_counts old (s ∷ steps) (a ∷ answers) new orderly run =
 run_counts old [] (a ∷ answers) new orderly run = absurd run
 run_counts old (s ∷ steps) [] new orderly run = absurd run
 
--- so what is taken after that is nothing of a connection whose removal was seen
+-- so what is taken after that is not of a connection whose removal was seen
 seen_over : (config : Config) (units : List Unit) → is_config config (length units) ≡ true → (steps : List Step) (answers : List Answer) (now : Places)
     → Run (new_world config units) steps answers now → (n c : ℕ) → n ≢ control_port → (first second later : List Answer) → first ++ (second ++ later) ≡ answers → IsSeen n c first second
     → taken n c later ≡ []

@@ -20,7 +20,7 @@ on_device_same old n e new R same h = by_cases (slice_get old.devices n) refl h
         h.2 ∙ ap (with_device old n) (same place h.0 h.1)
         ∙ ap (λ (ds : List Place). let w : Places = record old { devices = ds } in w) (slice_set-same old.devices n place is)
 
--- a step at a port that is refused where there is no such port, and nowhere else
+-- a step at a port that is refused if there is no such port, and not otherwise
 both_same : (old : Places) (n : ℕ) (e : StepError) (new : Places) (R : Place → PmState → Outcome → Place → PmState → Type 0)
     → ((place after : Place) (left : PmState) → R place old.multiplier (Err e) after left → ⊥) → OnDeviceAndMultiplier old n (Err e) new R → new ≡ old
 both_same old n e new R never h = by_cases (slice_get old.devices n) h

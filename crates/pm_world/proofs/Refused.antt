@@ -1,4 +1,4 @@
--- The first refusal of a step is never want of memory, and it is the one that the step gives.
+-- The first refusal of a step is never lack of memory, and it is the refusal that the step gives.
 use Rattle.std.proofs.Common.{◌≡◌, ℕ, ◌+◌, List, Bool, true, false, Option, Some, None, refl, sym, subst}
 use Rattle.std.specs.Prelude.{slice_get, Ok, Err, MatchOption, unwrap_or, if◌then◌else◌, not, ◌==◌, ◌||◌, nat_lt, length}
 use Rattle.std.specs.Option.{option_map_or}
@@ -17,7 +17,7 @@ use Rattle.pm_world.specs.declared.step.Step.TheVariants as step
 use Rattle.pm_world.specs.declared.step.StepError.{StepError}
 use Rattle.pm_world.specs.declared.step.StepError.TheVariants as error
 
--- a refusal, where there is one, is named: it is not want of memory
+-- a refusal, if there is one, is named: it is not lack of memory
 abbrev pub IsNamed : Option StepError → Type 0
 IsNamed None = Unit {0}
 IsNamed (Some error.OutOfMemory) = ⊥
@@ -34,7 +34,7 @@ refuses_named (Some error.Spent) e named is = subst (λ (v : StepError). Refuses
 refuses_named (Some error.Outside) e named is = subst (λ (v : StepError). Refuses (Some error.Outside) v) (same_Some error.Outside e is) refl
 refuses_named (Some error.InUse) e named is = subst (λ (v : StepError). Refuses (Some error.InUse) v) (same_Some error.InUse e is) refl
 
--- want of memory is the error where no refusal applies
+-- lack of memory is the error if no refusal applies
 pub refuses_or_wants : (first : Option StepError) → IsNamed first → Refuses first (unwrap_or first error.OutOfMemory)
 refuses_or_wants None named = refl
 refuses_or_wants (Some error.OutOfMemory) named = absurd named
@@ -116,7 +116,7 @@ on_device_refuses old n e new R first refuses h = by_cases (slice_get old.device
     by_cases None h = subst (λ (w : Outcome). at error.NoSuchPort w) (sym h.0) refl
     by_cases (Some place) h = refuses place h.0 h.1
 
--- a step at a port that is refused where there is no such port, and nowhere else
+-- a step at a port that is refused if there is no such port, and not otherwise
 both_refuses : (old : Places) (n : ℕ) (e : StepError) (new : Places) (R : Place → PmState → Outcome → Place → PmState → Type 0)
     → ((place after : Place) (left : PmState) → R place old.multiplier (Err e) after left → ⊥) → OnDeviceAndMultiplier old n (Err e) new R → Refuses (port_refusal old n no_refusal) e
 both_refuses old n e new R never h = by_cases (slice_get old.devices n) h
@@ -129,7 +129,7 @@ both_refuses old n e new R never h = by_cases (slice_get old.devices n) h
     by_cases None h = subst (λ (w : Outcome). at error.NoSuchPort w) (sym h.0) refl
     by_cases (Some place) h = absurd (never place h.0 h.1 h.2)
 
--- a step that has no refusal of its own gives none but want of memory
+-- a step that has no refusal of its own gives only lack of memory
 take_wants : (place : Place) (e : StepError) → TakeWants place e → Refuses None e
 take_wants place error.OutOfMemory wants = refl
 take_wants place _ wants = absurd wants
@@ -146,7 +146,7 @@ push_wants : (host : Host) (link : Queue) (e : StepError) (after : Host) (new : 
 push_wants host link error.OutOfMemory after new r = refl
 push_wants host link _ after new r = absurd r
 
--- the error that a step gives is its first refusal, or want of memory where none applies
+-- the error that a step gives is its first refusal, or lack of memory if none applies
 pub rule_refuses : (old : Places) (s : Step) (e : StepError) (new : Places) → Rule old s (Err e) new → Refuses (refusal old s) e
 rule_refuses old (step.Came n) e new rule = on_device_refuses old n e new (CameRule n) came_refusal (λ place after r. r.0) rule
 rule_refuses old (step.Gone n) e new rule = on_device_refuses old n e new (GoneRule n) gone_refusal (λ place after r. r.0) rule

@@ -85,7 +85,7 @@ renamed s t a b old new steps answers run same_step same_answer i = record {
   worlds = i.worlds;
 }
 
--- what takes a FIS is the step of the host
+-- a step that takes a FIS is the step of the host
 pub is_take : (old new : Places) (s : Step) (port conn number : ℕ) (bytes : List ℕ) (report : TakeReport)
     → Rule old s (Ok (answer.Took port conn number bytes report)) new → s ≡ step.HostTake
 is_take old new step.HostTake port conn number bytes report rule = refl

@@ -118,7 +118,7 @@ module _ (fields : H2dFields) (bytes : List ℕ) (built : IsBuilt H2d (h2d_given
 
 -- ## Which of them write PSCR[1] and PSCR[2]
 
--- the one is only written to clear N and X, the other to open the port
+-- PSCR[1] is only written to clear N and X, and PSCR[2] to open the port
 pub order_changes : (o : Order) → WritesChanges (asked o)
 order_changes ResetOn = tt
 order_changes ResetOff = tt
@@ -137,7 +137,7 @@ first_two true true c h = (refl, refl)
 first_two true false c h = absurd (false≢true h)
 first_two false b c h = absurd (false≢true h)
 
--- the order that clears bit X of port n is the one for that
+-- the order that clears bit X of port n is the one that serves for it
 pub clears_order : (n : ℕ) (o : Order) → IsLow o → clears_x n (asked o) ≡ true → o ≡ Clear n
 clears_order n ResetOn within h = absurd (false≢true h)
 clears_order n ResetOff within h = absurd (false≢true h)

@@ -1,5 +1,6 @@
--- What stands on the host's link has the PM Port of its stamp, and so the device of what is taken is the one at that port: what
--- rises from a port is marked with it, and what the control port says has PM Port Fh.
+-- What stands on the host's link has the PM Port of its stamp, so the device of what is taken is the
+-- one at that port. What rises from a port is marked with the port, and what the control port says
+-- has PM Port Fh.
 use Rattle.std.proofs.Common.{◌≡◌, ℕ, suc, ◌+◌, ◌*◌, ◌/◌, ◌<◌, ◌≤◌, ◌==◌, Bool, true, false, List, [], ◌∷◌, ◌++◌, length, All, Option, Some, None, Result, Ok, Err, refl, sym, ap, ◌∙◌, subst, arith}
 use Rattle.std.specs.Prelude.{slice_index, is_none, if◌then◌else◌, MatchOption, MatchBool}
 use Rattle.std.proofs.lemmas.List.{length-set}
@@ -273,7 +274,7 @@ put_tells : (at : ℕ) (bytes : List ℕ) (old : Host) (a : Answer) (new : Host)
 put_tells at bytes old (answer.Took port conn number given report) new acts = absurd acts
 put_tells at bytes old _ new acts = tt
 
--- what an answer tells is of its port, and the multiplier is as it is to be
+-- what an answer tells is of its port, and the multiplier is as it should be
 record Tells (a : Answer) (pm : PmState) : Type 0 where
   tells : IsOfItsPort a
   rising : IsRising pm

@@ -17,7 +17,7 @@ use Rattle.std.proofs.lemmas.Option.{slice_get_past, slice_get-get_or}
 use Rattle.pm_world.specs.Counting.{is_of, row_of, Precedes, AreSorted, first_row, sent_more, taken_more, IsRowAt, IsGapFor}
 use Rattle.pm_world.specs.declared.counts.ConnCount.{ConnCount}
 
--- an element that stands in the right order to those before the place and from it on
+-- an element that stands in order with those before the place, and with those from the place on
 module _ {X : Type 0} (R : X → X → Type 0) (xs : List X) (at : ℕ) (y : X) (within : at ≤ length xs) where
   moved_up : (k : ℕ) (d : X) → at < k → get_or (insert xs at y) k d ≡ get_or xs (k - 1) d
   moved_up k d above = subst (λ q. get_or (insert xs at y) q d ≡ get_or xs (k - 1) d) {x = k - 1 + 1} (omega arith) (get_or-insert_above xs at y d (k - 1) (omega arith) within)
@@ -39,7 +39,7 @@ module _ {X : Type 0} (R : X → X → Type 0) (xs : List X) (at : ℕ) (y : X) 
         ]
       ]
 
--- rows of which one precedes the other are not of the same connection
+-- if one row precedes the other, they are not of the same connection
 before_is_other : (row later : ConnCount) → Precedes row later → is_of later.port later.conn row ≡ false
 before_is_other row later (inl lower) = rw (ne_eqb row.port later.port (λ e. omega arith))
 before_is_other row later (inr same) = rw (eq-eqb row.port later.port same.0, ne_eqb row.conn later.conn (λ e. omega (arith, same.1)))
@@ -70,7 +70,7 @@ sent_keeps = record { port = λ row. refl; conn = λ row. refl }
 pub taken_keeps : KeepsKey taken_more
 taken_keeps = record { port = λ row. refl; conn = λ row. refl }
 
--- where the connection has a row
+-- if the connection has a row
 module _ (rows : List ConnCount) (sorted : AreSorted rows) (port conn at : ℕ) (is_at : IsRowAt rows port conn at) where
   key_at : (n c : ℕ) (d : ConnCount) → is_of n c (get_or rows at d) ≡ (port == n && conn == c)
   key_at n c d = rw ((is_at.has_key d).0, (is_at.has_key d).1)
@@ -131,7 +131,7 @@ module _ (rows : List ConnCount) (sorted : AreSorted rows) (port conn at : ℕ) 
           | inr other ↦ rw other (find_past (is_of n c) rows at row row (key_at n c row ∙ other) (key_of n c ∙ other))
         ]
 
--- where the connection has no row
+-- if the connection has no row
 module _ (rows : List ConnCount) (port conn at : ℕ) (gap : IsGapFor rows port conn at) where
   pub no_row : row_of port conn rows ≡ None
   no_row =

@@ -29,7 +29,7 @@ use Rattle.pm_world.proofs.WireLemmas.{away_after, none_on, rests_below, wires_g
 abbrev pub IsPlugged : ℕ → Option Place → Type 0
 IsPlugged c o = MatchOption o ⊥ (λ place. (place.plugged ≡ true) × (place.conn ≡ c))
 
--- where there is a unit it is this
+-- if there is a unit, it is this one
 pub record IsPlace (c : ℕ) (o : Option Place) (place : Place) : Type 0 where
   pub plugged : place.plugged ≡ true
   pub conn : place.conn ≡ c
@@ -114,7 +114,7 @@ module _ (n c : ℕ) (old : Places) (a : Answer) (new : Places) (there : IsThere
 
 -- ## What an answer tells of the unit
 
--- a step that sends is one of the unit, where nothing is injected
+-- a step that sends is a step of the unit, if nothing is injected
 record IsSending (n c : ℕ) (old : Places) (s : Step) (port conn number : ℕ) (bytes : List ℕ) (new : Places) : Type 0 where
   conn_is : conn ≡ c
   happened : happens n old s (answer.Sent port conn number bytes) new ≡ Sent bytes ∷ []
@@ -159,7 +159,7 @@ module _ (n c : ℕ) (old new : Places) (port conn number : ℕ) (bytes : List �
   sending step.Poll clean rule = absurd rule.0
   sending (step.Put at bytes) clean rule = absurd rule.0
 
--- another port's
+-- a FIS of another port
 pub sent_elsewhere : (n : ℕ) (old : Places) (s : Step) (port conn number : ℕ) (bytes : List ℕ) (new : Places) → eqb port n ≡ false
     → happens n old s (answer.Sent port conn number bytes) new ≡ []
 sent_elsewhere n old (step.DiskSend m) port conn number bytes new other = if_none (port == n) (Sent bytes ∷ []) other
@@ -248,7 +248,7 @@ gone_tells n old _ port conn new = refl
 
 -- ## One step
 
--- what is told of the unit is what its step is to it, and it stays on its connection
+-- what is told of the unit is what its step means to it, and it stays on its connection
 pub record TellsOf (n c : ℕ) (old : Places) (s : Step) (a : Answer) (new : Places) : Type 0 where
   pub same : befalls n old a ≡ happens n old s a new
   pub stays : StaysOn n c a
@@ -288,7 +288,7 @@ tells_of n c old s a new there stays clean rule = record { same = quiet_tells s;
     quiet_tells (step.DiskSend m) = refl
     quiet_tells _ = refl
 
--- so goes its wire
+-- so its wire goes on
 pub unit_wires_go_on : UnitWiresGoOn
 unit_wires_go_on n c old new s a down up device orderly rule there stays clean w =
     let t : TellsOf n c old s a new = tells_of n c old s a new there stays clean rule in

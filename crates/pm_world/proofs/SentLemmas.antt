@@ -1,4 +1,5 @@
--- What a unit sends is of its connection; so nothing is on its way of a connection that is still to come.
+-- What a unit sends is of its connection. So nothing is on its way of a connection that is still to
+-- come.
 use Rattle.std.proofs.Common.{◌≡◌, ◌≢◌, ◌==◌, ◌&&◌, ℕ, ◌<◌, ◌≤◌, Bool, true, false, List, [], ◌∷◌, ◌++◌, length, refl, sym, ap, subst, ◌∙◌, inl, inr}
 use Rattle.std.proofs.Common.{Option, Some, None, Ok, arith}
 use Rattle.std.specs.Prelude.{if◌then◌else◌, slice_get}

@@ -1,4 +1,5 @@
--- From the plugging of a unit on, while nothing of its connection passes its port: what it sends waits there, and it takes nothing.
+-- From the plugging of a unit on, while nothing of its connection passes its port: what the unit
+-- sends waits there, and the unit takes nothing.
 use Rattle.std.proofs.Common.{◌≡◌, ◌≢◌, ◌==◌, ◌&&◌, ℕ, ◌<◌, Bool, true, false, List, [], ◌∷◌, ◌++◌, map, refl, sym, ap, subst, ◌∙◌, inl, inr}
 use Rattle.std.proofs.Common.{Option, Some, None, Ok, arith}
 use Rattle.std.specs.Prelude.{slice_get, take, MatchOption, if◌then◌else◌}
@@ -40,7 +41,7 @@ use Rattle.pm_world.proofs.WireLemmas.{and_both, and_false, if_false, if_true, o
 
 -- ## What is kept
 
--- a FIS on the link to the host is none of connection c of port n
+-- a FIS on the link to the host is not of connection c of port n
 abbrev pub IsNoneOf : (n c : ℕ) → Stamped → Type 0
 IsNoneOf n c f = f.stamp.port ≡ n → f.stamp.conn ≢ c
 
@@ -48,7 +49,8 @@ IsNoneOf n c f = f.stamp.port ≡ n → f.stamp.conn ≢ c
 abbrev pub IsForOther : ℕ → Stamped → Type 0
 IsForOther c f = f.stamp.conn ≢ c
 
--- The unit is there as connection c, and nothing of that passed its port; this is what it sent, and it is still on its way there.
+-- The unit is there as connection c, and nothing of that connection passed its port. This is what it
+-- sent, and it is still on its way there.
 pub record IsShutOff (n c : ℕ) (now : Places) (rising : List (List ℕ)) : Type 0 where
   pub orderly : IsOrderly now
   pub risen : AllRisen now.multiplier now.upward.frames
@@ -59,12 +61,12 @@ pub record IsShutOff (n c : ℕ) (now : Places) (rising : List (List ℕ)) : Typ
   pub kept : IsUnremoved n c now
   pub above : transit n c now ≡ all_marked n rising
 
--- What happens to it in a step: nothing, or it sends a FIS, which waits at its port behind the others.
+-- What happens to it in a step: nothing, or it sends a FIS, which waits at its port after the others.
 pub data WaitsOn (n c : ℕ) (new : Places) (happened : List Happening) (rising : List (List ℕ)) : Type 0 where
   Silent : happened ≡ [] → IsShutOff n c new rising → WaitsOn n c new happened rising
   Adds : (bytes : List ℕ) → happened ≡ Sent bytes ∷ [] → IsShutOff n c new (rising ++ bytes ∷ []) → WaitsOn n c new happened rising
 
--- where the connection is recorded, the port waits for the host
+-- if the connection is recorded, the port waits for the host
 abbrev pub WaitsFor : (n c : ℕ) → Places → Type 0
 WaitsFor n c now = (port_at now.multiplier n).present ≡ Some c → cleared.Waits n now.multiplier.registers
 

@@ -1,4 +1,5 @@
--- No stale command: what is known of a port, of its connections and of what is on its way to it, in each step and so over a run.
+-- No stale command: what is known of a port, of its connections and of what is on its way to it, in
+-- each step and so over a run.
 use Rattle.std.proofs.Common.{◌≡◌, ◌⊎◌, ℕ, ◌<◌, ◌≤◌, ◌==◌, ◌&&◌, Bool, true, false, not, List, [], ◌∷◌, ◌++◌, length, take}
 use Rattle.std.proofs.Common.{Option, Some, None, Ok, refl, sym, ap, subst, ◌∙◌, inl, inr, arith}
 use Rattle.std.specs.Prelude.{if◌then◌else◌, option_to_list, slice_get}
@@ -44,7 +45,8 @@ use Rattle.pm_world.proofs.UpLemmas.{Left, Rose, Same, UpChange, took_step, up_c
 
 -- ## What is known
 
--- what the host keeps to in a step, and that commands of requests go out only where IDENTIFY data were accepted
+-- what the host keeps to in a step, and that commands of requests go out only if IDENTIFY data were
+-- accepted
 pub record IsServed (n : ℕ) (known unsent : Bool) (old : Places) (s : Step) (a : Answer) (new : Places) : Type 0 where
   pub order : IsInOrder n unsent old s a new
   pub identified : list_any (is_request_to n) (pushed_by old s a new) ≡ true → known ≡ true
@@ -57,7 +59,8 @@ last_at n now = (port_at now.multiplier n).last
 abbrev pub seen_at : ℕ → Places → Option ℕ × ℕ × ℕ
 seen_at n now = world_orderly.known (port_at now.multiplier n)
 
--- a FIS on the host's link, if it is of port n: the port keeps to its connection, and that came
+-- a FIS on the host's link, if it is of port n: the port keeps to the connection of the FIS, and that
+-- connection came
 abbrev pub IsRisen : ℕ → Places → Stamped → Type 0
 IsRisen n now f = f.stamp.port ≡ n → KeepsTo n f.stamp.conn now.multiplier × (f.stamp.conn ≤ last_at n now)
 
@@ -76,7 +79,7 @@ pub record IsFor (n : ℕ) (last : Option ℕ) (now : Places) (f : Stamped) : Ty
 abbrev pub Falls : ℕ → Option ℕ → Places → Stamped → Type 0
 Falls n last now f = is_request f.bytes ≡ true → IsFor n last now f
 
--- behind a FIS that clears port n comes no other one, and no command of a request to it
+-- after a FIS that clears port n comes no other such FIS, and no command of a request to the port
 abbrev pub IsBehind : ℕ → Stamped → Type 0
 IsBehind n f = (is_clear n f ≡ false) × (is_request_to n f ≡ false)
 
@@ -107,7 +110,7 @@ pub record Holds (n : ℕ) (known unsent : Bool) (last : Option ℕ) (now : Plac
 
 -- ## Requests
 
--- the mark of a FIS does not say whether it is the command of a request
+-- the mark of a FIS does not affect whether it is the command of a request
 pub same_request : (bytes : List ℕ) → is_request (marked bytes 0) ≡ is_request bytes
 same_request [] = refl
 same_request (x ∷ []) = refl
@@ -169,7 +172,7 @@ module _ (n : ℕ) (below : n < 15) (known unsent : Bool) (last : Option ℕ) (o
   mono : last_at n old ≤ last_at n new
   mono = records_last n (slice_get old.devices n) (seen_at n old) a (slice_get new.devices n) (seen_at n new) (rule_records old s a new h.orderly rule n h.led)
 
-  -- where the tick orders nothing
+  -- if the tick orders nothing
   pub known_is : orders_clear n old a ≡ false → known_now ≡ known_with known ids
   known_is e = ap (λ (b : Bool). if b then false else known_with known ids) e
 
@@ -179,14 +182,14 @@ module _ (n : ℕ) (below : n < 15) (known unsent : Bool) (last : Option ℕ) (o
   unsent_same : orders_clear n old a ≡ false → pushed_by old s a new ≡ [] → unsent_now ≡ unsent
   unsent_same e none = unsent_is e ∙ ap (λ (l : List Stamped). if list_any (is_clear n) l then false else unsent) none
 
-  -- and where it does
+  -- and if it does
   pub known_cleared : orders_clear n old a ≡ true → known_now ≡ false
   known_cleared e = ap (λ (b : Bool). if b then false else known_with known ids) e
 
   unsent_cleared : orders_clear n old a ≡ true → unsent_now ≡ true
   unsent_cleared e = ap (λ (b : Bool). if b then true else if list_any (is_clear n) (pushed_by old s a new) then false else unsent) e
 
-  -- the port is cleared by the FIS that was on its way
+  -- the FIS that was on its way clears the port
   pub cleared_coming : is_cleared n old a ≡ true → IsComing n unsent old
   cleared_coming e = by_down down
     where
@@ -195,7 +198,7 @@ module _ (n : ℕ) (below : n < 15) (known unsent : Bool) (last : Option ℕ) (o
       by_down (Put f link one uncleared falls idle _) = absurd (true≢false (sym e ∙ uncleared))
       by_down (Gone f link none clears falls idle _) = inr (subst (Anything (is_clear n)) (sym link) (inl (clears e)))
 
-  -- what the port keeps to it goes on keeping to, unless it is cleared
+  -- what the port keeps to it goes on keeping to, unless the port is cleared
   keep : (c : ℕ) → (is_cleared n old a ≡ true → ⊥) → KeepsTo n c old.multiplier → KeepsTo n c new.multiplier
   keep c not keeps = keeps_after n old s a new rule c below h.true_is (false_from_ne_true (is_cleared n old a) not) keeps
 
@@ -512,7 +515,7 @@ module _ (n : ℕ) (below : n < 15) (known unsent : Bool) (last : Option ℕ) (o
 -- ## The command that a device takes
 
 module _ (n : ℕ) (known unsent : Bool) (last : Option ℕ) (old : Places) (s : Step) (new : Places) (h : Holds n known unsent last old) where
-  -- it stands first on the link of the device, which is plugged in as its connection
+  -- it stands first on the link of the device, which is plugged in as the connection of the command
   taken_on : (place : Place) (frame : Stamped) (rest : List Stamped) → slice_get old.devices n ≡ Some place → place.down.frames ≡ frame ∷ rest → frame.stamp.conn ≡ place.conn → is_request frame.bytes ≡ true
       → last ≡ Some (connection (slice_get old.devices n))
   taken_on place frame rest is link conn asks =

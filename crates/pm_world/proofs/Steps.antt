@@ -7,7 +7,7 @@ use Rattle.pm_world.specs.Rules.{Outcome, AtPort, OnDevice, OnDeviceAndMultiplie
 use Rattle.pm_world.specs.declared.step.Answer.{Answer}
 use Rattle.pm_world.specs.declared.step.StepError.TheVariants as error
 
--- where a step at a port gives an answer, the port is there
+-- if a step at a port gives an answer, the port is there
 pub there : (old : Places) (n : ℕ) (a : Answer) (new : Places) (R : Place → Type 0) → AtPort old n (Ok a) new R → (place : Place) × (slice_get old.devices n ≡ Some place) × R place
 there old n a new R h = by_cases (slice_get old.devices n) h
   where

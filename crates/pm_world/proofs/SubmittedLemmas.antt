@@ -1,4 +1,4 @@
--- What went out of a write is what stood in client memory as it was submitted.
+-- What went out for a write is what stood in client memory when the write was submitted.
 use Rattle.std.proofs.Common.{◌≡◌, ◌==◌, ℕ, ◌+◌, ◌*◌, ◌-◌, ◌<◌, ◌≤◌, Bool, true, false, not, List, [], ◌∷◌, ◌++◌, length, refl, sym, ap, subst, ◌∙◌, inl, inr, arith}
 use Rattle.std.proofs.Common.{Option, Some, None}
 use Rattle.std.specs.Prelude.{◌⊎◌, nat_lt, slice_get, slice_index}

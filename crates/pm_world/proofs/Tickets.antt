@@ -1,4 +1,5 @@
--- Over every run tickets are kept: what its answers tell of them is what the host's turns do.
+-- Over every run tickets are kept: what the answers of a run tell of them is what the host's turns
+-- do.
 use Rattle.std.proofs.Common.{◌≡◌, ℕ, List, [], ◌∷◌, ◌++◌, true, length, map, drop, Some, refl, sym, ap, subst, ◌∙◌, append_assoc}
 use Rattle.std.specs.Prelude.{Ok}
 use Rattle.std.specs.List.{flat_map, range_with_len}
@@ -63,7 +64,7 @@ put_gives : (old : Places) (s : Step) (new : Places) → given_in (turn_of old s
 put_gives old (step.Put at bytes) new = refl
 put_gives old _ new = refl
 
--- only a request is answered by a ticket
+-- only a request is answered with a ticket
 submitted_gives : (old : Places) (s : Step) (ticket : Ticket) (new : Places) → Rule old s (Ok (answer.Submitted ticket)) new → given_in (turn_of old s (answer.Submitted ticket) new) ≡ ticket.0 ∷ []
 submitted_gives old (step.Submit dev request) ticket new rule = refl
 submitted_gives old (step.Came n) ticket new rule = absurd (at_device old n (answer.Submitted ticket) new (CameRule n) rule).rule.1

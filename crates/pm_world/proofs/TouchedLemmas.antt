@@ -1,4 +1,5 @@
--- What was touched at a host that came from its opening over turns: it is sound and serves, and what it delivers at a frame.
+-- What was touched at a host that came from its opening over turns: the host is sound and serves, and
+-- what it delivers at a frame.
 use Rattle.std.proofs.Common.{rules, ◌≡◌, ℕ, ◌+◌, ◌-◌, ◌<◌, ◌≤◌, List, [], ◌∷◌, ◌++◌, append_assoc, refl, sym, subst, length, arith}
 use Rattle.std.specs.Prelude.{true, slice_index}
 use Rattle.std.proofs.lemmas.List.{append-nil, get_or-replicate, length-replicate}

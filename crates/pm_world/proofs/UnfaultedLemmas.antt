@@ -16,7 +16,7 @@ use Rattle.pm_world.specs.declared.step.Answer.TheVariants as answer
 use Rattle.pm_world.proofs.HostFold.{rule_does}
 use Rattle.driver_phases.proofs.Unfaulted.{AreUnfaulted, IsUnfaulted, turns_unfaulted}
 
--- where the host takes a FIS of the device, no fault was heard
+-- if the host takes a FIS of the device, no fault was heard
 abbrev pub IsHeardUnfaulted : ℕ → Answer → Type 0
 IsHeardUnfaulted n (answer.Took port conn number bytes report) = port_of bytes ≡ n → report.fault ≡ None
 IsHeardUnfaulted n a = Prim.Unit {0}

@@ -50,7 +50,7 @@ lives-append a b c first second one two = record {
 
 -- ---- one step
 
--- a step of device n is nothing to the other units, and its unit lives on through it
+-- a step of device n means nothing to the other units, and its unit lives on through it
 record PlaceLives (n : ℕ) (old : Places) (s : Step) (place : Place) (a : Answer) (after : Place) (new : Places) : Type 0 where
   elsewhere : (m : ℕ) → m ≢ n → happens m old s a new ≡ []
   here : LivesOn place.unit (happens n old s a new) after.unit

@@ -1,4 +1,4 @@
--- What a step does to the host's link, and of which steps an answer is.
+-- What a step does to the host's link, and which step an answer belongs to.
 use Rattle.std.proofs.Common.{◌≡◌, ℕ, ◌<◌, ◌==◌, ◌&&◌, ◌⊎◌, Bool, true, false, List, [], ◌∷◌, ◌++◌, Ok, refl, sym, ap, subst, ◌∙◌, inl, inr}
 use Rattle.std.specs.Prelude.{if◌then◌else◌}
 use Rattle.std.proofs.lemmas.Bool.{eqb-true}
@@ -21,7 +21,7 @@ use Rattle.pm_world.proofs.KeepingLemmas.{IsPassed, given_passed}
 
 -- ## The steps of some answers
 
--- a frame goes up in the step that is for that
+-- a frame goes up in the step that serves for it
 pub up_step : (old : Places) (s : Step) (port : ℕ) (new : Places) → Rule old s (Ok (answer.Up port)) new → s ≡ step.PmUp
 up_step old (step.Came n) port new rule = absurd ((at_device old n (answer.Up port) new (CameRule n) rule).rule.1)
 up_step old (step.Gone n) port new rule = absurd ((at_device old n (answer.Up port) new (GoneRule n) rule).rule.1)
@@ -40,7 +40,7 @@ up_step old (step.Submit dev request) port new rule = absurd (rule.0)
 up_step old step.Poll port new rule = absurd (rule.0)
 up_step old (step.Put at bytes) port new rule = absurd (rule.0)
 
--- and one goes down in the step for that
+-- and a frame goes down in the step that serves for it
 pub passed_step : (old : Places) (s : Step) (p : Passed) (new : Places) → Rule old s (Ok (answer.Passed p)) new → s ≡ step.PmFromHost
 passed_step old (step.Came n) p new rule = absurd ((at_device old n (answer.Passed p) new (CameRule n) rule).rule.1)
 passed_step old (step.Gone n) p new rule = absurd ((at_device old n (answer.Passed p) new (GoneRule n) rule).rule.1)
@@ -88,7 +88,8 @@ took_step old (step.Put at bytes) port d new rule = absurd (rule.0)
 pub record Identifies (n : ℕ) (f : Stamped) (ids : List ℕ) : Type 0 where
   pub is : (ids ≡ []) ⊎ ((ids ≡ f.stamp.conn ∷ []) × (f.stamp.port ≡ n))
 
--- nothing moves on it; a frame comes on it, which passed its port if it is of port n; or the first is taken
+-- nothing moves on the link; or a frame enters it, which passed its port if it is of port n; or the
+-- first frame is taken
 pub data UpChange (n : ℕ) (old : Places) (s : Step) (a : Answer) (new : Places) : Type 0 where
   Same : new.upward.frames ≡ old.upward.frames → identified_by n old s a new ≡ [] → UpChange n old s a new
   Rose : (f : Stamped) → new.upward.frames ≡ old.upward.frames ++ f ∷ [] → identified_by n old s a new ≡ []

@@ -14,7 +14,8 @@ use Rattle.pm_world.proofs.ShutLemmas.{Adds, IsShutOff, Silent, WaitsFor, WaitsO
 abbrev pub all_sent : List (List ℕ) → List Happening
 all_sent xs = map (λ (bytes : List ℕ). Sent bytes) xs
 
--- The unit is there as connection c; since it was plugged in it sent what is on its way at its end of the port, and that is all.
+-- The unit is there as connection c. Since it was plugged in it sent what is on its way at its end of
+-- the port, and nothing else.
 pub record IsWaiting (n c : ℕ) (now : Places) (happened : List Happening) : Type 0 where
   pub rising : List (List ℕ)
   pub off : IsShutOff n c now rising

@@ -74,7 +74,7 @@ among_behind : (front xs ys : List (List ℕ)) → AreAmong xs ys → AreAmong x
 among_behind [] xs ys a = a
 among_behind (f ∷ front) xs ys a = among_weaker xs f (front ++ ys) (among_behind front xs ys a)
 
--- where the first of them stands; the others stand behind it
+-- where the first of them stands; the others stand after it
 record Splits (x : List ℕ) (xs ys : List (List ℕ)) : Type 0 where
   before : List (List ℕ)
   after : List (List ℕ)
@@ -185,7 +185,7 @@ rests_on n c old new r =
     ap (λ (xs : List Stamped). falls_on c xs ++ flat_map (for_port n) new.downward.frames) (r.falls n)
     ∙ ap (λ (xs : List Stamped). falls_on c (falling_to n old) ++ flat_map (for_port n) xs) r.link
 
--- of nothing that descends nothing is on a connection
+-- if nothing descends, nothing is on a connection
 no_falls : (c : ℕ) (xs : List Stamped) → map (λ g. g.bytes) xs ≡ [] → falls_on c xs ≡ []
 no_falls c [] e = refl
 no_falls c (x ∷ xs) e = cc e
@@ -233,7 +233,7 @@ module _ (n c : ℕ) (old new : Places) (s : Step) (down up : List (List ℕ)) (
   there_after : (a : Answer) → Rule old s (Ok a) new → StaysOn n c a → is_removed n c new ≡ false
   there_after a rule stays = unremoved n c new (kept_after a rule stays)
 
-  -- what is on its way afterwards is all that is to show
+  -- what is on its way afterwards is all that is to be shown
   on_now : (a : Answer) (down_now up_now : List (List ℕ)) → Rule old s (Ok a) new → StaysOn n c a → transit n c new ≡ all_marked n up_now
       → AreAmong (descending_on n c new) down_now → IsOnWire n c new down_now up_now
   on_now a down_now up_now rule stays above below = record {
@@ -365,7 +365,7 @@ module _ (n c : ℕ) (old new : Places) (s : Step) (down up : List (List ℕ)) (
       fewer a rule stays untaken unsent
       (subst (λ (xs : List (List ℕ)). AreAmong (xs ++ flat_map (for_port n) new.downward.frames) down) (sym falls) less)
 
-  -- one comes to wait at its port, for the connection that is present there
+  -- one frame comes to wait at its port, for the connection that is present there
   goes_here : (f : Stamped) → pm_port f ≡ n → Rule old s (Ok (answer.Passed (passed.Down n))) new → Goes n f old new → IsOnWire n c new down up
   goes_here f port rule goes = by_conn (goes.conn == c) refl
     where

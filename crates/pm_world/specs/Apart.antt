@@ -1,6 +1,7 @@
--- What is issued is apart, in every world that a run from a new one leads to: requests of which one
--- reads share no byte, what is issued at the port is the driver's, and what clients put spares it (AHCI
--- 1.3.1, 4.2.3.3, Physical Region Descriptor Table, and 5.5, how commands are issued).
+-- What is issued is apart, in every world that a run from a new one leads to. A request that reads
+-- shares no byte with another one. What is issued at the port is the driver's. What clients put
+-- spares it (AHCI 1.3.1, 4.2.3.3, Physical Region Descriptor Table, and 5.5, how commands are
+-- issued).
 --
 -- Cited: the turns of the host in a run (specs/Turns.antt) and the runs that lead to a world
 -- (specs/Runs.antt); HasCome and IssuesAreApart of `hba_driver` (specs/Delivered.antt), with what is
@@ -21,7 +22,7 @@ pub record IsApart (memory : ℕ) (turns : List HostTurn) (host : Host) : Type 0
   pub apart : (c : HasCome 0 memory turns host)
       → IssuesAreApart host (touches_of 0 memory turns host c)
 
--- so it is in a world, whichever run from a new one leads to it
+-- that holds in a world, whichever run from a new one leads to it
 abbrev pub IsKeptApart : Places → Type 0
 IsKeptApart now = AfterEveryRun now (λ config units before told made.
     IsApart config.memory (over turn_of _ before told now made) now.host)

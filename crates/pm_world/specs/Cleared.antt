@@ -1,6 +1,7 @@
--- What passes the port of a new device: nothing, up or down, until the host has cleared what the port told
--- of its coming (Serial ATA 3.x, 16.3, port multiplier: presence of a device on a port; 16.4.2: PSCR[1], bit
--- X, a device was exchanged). A FIS that the host sent before it did so is for the device before.
+-- What passes the port of a new device: nothing, up or down, until the host has cleared what the port
+-- reported of its coming (Serial ATA 3.x, 16.3, port multiplier: presence of a device on a port;
+-- 16.4.2: PSCR[1], bit X, a device was exchanged). A FIS that the host sent before that is for the
+-- device before.
 use Rattle.std.specs.Prelude.{ℕ, ◌≡◌, ◌≢◌, ◌==◌, ◌&&◌, Bool, false, List, [], ◌∷◌, ◌++◌, take, Option, Some}
 use Rattle.std.specs.List.{list_any}
 use Rattle.fis_view.specs.Frames.{Stamped}
@@ -36,7 +37,7 @@ abbrev pub is_up_from : ℕ → Step → Answer → Bool
 is_up_from n step.PmUp (answer.Up port) = port == n
 is_up_from n s a = false
 
--- up to the first of these steps in which it did, none passes a FIS through port n, down or up
+-- up to the first of these steps that cleared it, none passes a FIS through port n, down or up
 abbrev pub PassesNone : (n : ℕ) → (old : Places) → (steps : List Step) → (answers : List Answer)
     → (new : Places) → Run old steps answers new → Type 0
 PassesNone n old [] answers new run = Prim.Unit {0}
@@ -45,7 +46,7 @@ PassesNone n old (s ∷ steps) (a ∷ answers) new run =
     (fell_to n old s a run.0 ≡ []) × (is_up_from n s a ≡ false)
     × (is_cleared n old a ≡ false → PassesNone n run.0 steps answers new run.2)
 
--- so it is from each of these steps on in which a port recorded that a connection came
+-- that holds from each of these steps on in which a port recorded that a connection came
 abbrev pub EachWaits : (old : Places) → (steps : List Step) → (answers : List Answer)
     → (new : Places) → Run old steps answers new → Type 0
 EachWaits old [] answers new run = Prim.Unit {0}
@@ -55,9 +56,9 @@ EachWaits old (s ∷ steps) (a ∷ answers) new run =
     → (port_at run.0.multiplier n).present ≡ Some c → PassesNone n run.0 steps answers new run.2)
     × EachWaits run.0 steps answers new run.2
 
--- Over all steps since the world was made, whichever run from a new world leads to these: nothing passes the
--- port of a new device before the host cleared what it told. Since FISes go down in their order, the
--- device gets none that the host put on its link before the FIS that clears.
+-- Holds over all steps since the world was made, whichever run from a new world leads to these.
+-- Nothing passes the port of a new device before the host cleared what the port reported. FISes go
+-- down in order, so the device gets none that the host put on its link before the FIS that clears.
 abbrev pub NewDevicesWait : Places → List Step → List Answer → Places → Type 0
 NewDevicesWait old steps answers new = AfterEveryRun old (λ config units before told made.
     (whole : Run (new_world config units) (before ++ steps) (told ++ answers) new)

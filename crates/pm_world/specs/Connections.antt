@@ -1,9 +1,9 @@
--- The connections of a port come one after another: each is removed before the next is present, and
--- nothing is on its way of one that is still to come (Serial ATA 3.x, 16.3, port multiplier: presence
--- of a device on a port).
+-- The connections of a port come one after another. Each is removed before the next is present, and
+-- nothing is on its way of a connection that is still to come (Serial ATA 3.x, 16.3, port multiplier:
+-- presence of a device on a port).
 --
--- Cited: runs and places of a world (specs/Rules.antt, Places.antt), what is on its way of
--- a connection, and when its removal is recorded (specs/Traffic.antt).
+-- Cited: runs and places of a world (specs/Rules.antt, Places.antt), what is on its way of a
+-- connection, and when its removal is recorded (specs/Traffic.antt).
 use Rattle.std.specs.Prelude.{ℕ, ◌≡◌, ◌<◌, ◌⊎◌, true, false, List, [], length, Some, slice_get}
 use Rattle.disk_model.specs.declared.unit.Unit.{Unit}
 use Rattle.multiplier.specs.State.{port_at}
@@ -20,12 +20,13 @@ pub record IsAhead (n d : ℕ) (now : Places) : Type 0 where
   pub is : slice_get now.devices n ≡ Some place
   pub less : place.conn < d
 
--- no unit was plugged in as this connection up to now: there is no such, or it is still to come
+-- no unit was plugged in as this connection up to now: there is no such connection, or it is still to
+-- come
 abbrev pub IsUnused : (n d : ℕ) → Places → Type 0
 IsUnused n d now = (d ≡ 0) ⊎ IsAhead n d now
 
--- Over every run from a new world: each connection before the one that is present is removed, and
--- nothing is on its way up of one that was not used.
+-- Holds over every run from a new world. Each connection before the one that is present is removed.
+-- Nothing is on its way up of a connection that was not used.
 pub record ConnectionsFollow : Type 0 where
   pub removed : (config : Config) (units : List Unit) → is_config config (length units) ≡ true
       → (steps : List Step) (answers : List Answer) (now : Places)

@@ -1,5 +1,5 @@
--- How many FISes were sent and taken on each connection, and in which order they are told. No
--- standard speaks of these counts.
+-- How many FISes were sent and taken on each connection, and in which order the counts are listed. No
+-- standard defines these counts.
 use Rattle.std.specs.Prelude.{ℕ, ◌+◌, ◌≡◌, ◌<◌, ◌≤◌, ◌==◌, ◌&&◌, min, Bool, false, true, if◌then◌else◌}
 use Rattle.std.specs.Prelude.{List, [], ◌∷◌, ◌++◌, length, find, HoldsAt, Option, Some, None}
 use Rattle.std.specs.Prelude.{AllPairs, ◌⊎◌}
@@ -30,7 +30,7 @@ is_of n c row = row.port == n && row.conn == c
 abbrev pub row_of : ℕ → ℕ → List ConnCount → Option ConnCount
 row_of n c rows = find (is_of n c) rows
 
--- the first row stands before the second: lower ports first, and of one port earlier connections
+-- the first row stands before the second: lower ports first, and earlier connections of one port
 -- first
 abbrev pub Precedes : ConnCount → ConnCount → Type 0
 Precedes row later = (row.port < later.port) ⊎ ((row.port ≡ later.port) × (row.conn < later.conn))
@@ -47,7 +47,8 @@ pub record IsRowAt (rows : List ConnCount) (port conn i : ℕ) : Type 0 where
 abbrev pub first_row : ℕ → ℕ → ConnCount
 first_row n c = record { port = n; conn = c; sent = 0; taken = 0 }
 
--- such a row would go at place i: those before it precede it, and it precedes those from place i on
+-- such a row would go at place i: the rows before place i precede it, and it precedes those from
+-- place i on
 pub record IsGapFor (rows : List ConnCount) (port conn i : ℕ) : Type 0 where
   pub in_range : i ≤ length rows
   pub before : AllWithin (λ row. Precedes row (first_row port conn)) rows 0 i
@@ -61,7 +62,8 @@ abbrev pub taken_more : ConnCount → ConnCount
 taken_more row =
     record { port = row.port; conn = row.conn; sent = row.sent; taken = capped (row.taken + 1) }
 
--- the row of connection c of port n after an answer: what has no row is not counted
+-- the row of connection c of port n after an answer: nothing is counted for a connection without a
+-- row
 abbrev pub noted : ℕ → ℕ → Answer → Option ConnCount → Option ConnCount
 noted n c (answer.Came port conn) row =
     if port == n && conn == c then option_or row (Some (first_row n c)) else row
@@ -71,14 +73,14 @@ noted n c (answer.Took port conn number bytes report) row =
     if port == n && conn == c then option_map taken_more row else row
 noted n c _ row = row
 
--- the connection has a row, a first one where it had none; every other row is as it was
+-- the connection has a row, a first one if it had none; every other row is as it was
 abbrev pub HasRowFor : List ConnCount → (port conn : ℕ) → List ConnCount → Type 0
 HasRowFor old port conn new =
     (n c : ℕ) → row_of n c new
     ≡ (if port == n && conn == c then option_or (row_of n c old) (Some (first_row n c))
     else row_of n c old)
 
--- the connection's row is changed so, where it has one; every other row is as it was
+-- the connection's row is changed in this way, if it has one; every other row is as it was
 abbrev pub ChangesRow : (ConnCount → ConnCount) → List ConnCount → (port conn : ℕ) → List ConnCount
     → Type 0
 ChangesRow change old port conn new =
@@ -89,7 +91,7 @@ ChangesRow change old port conn new =
 abbrev pub CountsAnswer : List ConnCount → Answer → List ConnCount → Type 0
 CountsAnswer old answer new = (n c : ℕ) → row_of n c new ≡ noted n c answer (row_of n c old)
 
--- the answer adds a row, so that memory may be wanted
+-- the answer adds a row, so memory may run out
 abbrev pub AddsRow : List ConnCount → Answer → Type 0
 AddsRow rows (answer.Came port conn) = row_of port conn rows ≡ None
 AddsRow rows _ = ⊥
@@ -102,8 +104,8 @@ says_came n c _ = false
 abbrev pub has_come : ℕ → ℕ → List Answer → Bool
 has_come n c answers = list_any (says_came n c) answers
 
--- The rows tell what the answers say: a row for each connection that came and for no other, with
--- the numbers of FISes that were sent and taken on it.
+-- The rows tell what the answers say. There is a row for each connection that came and for no other,
+-- with the numbers of FISes that were sent and taken on it.
 pub record Tell (rows : List ConnCount) (answers : List Answer) : Type 0 where
   pub row_is : (n c : ℕ) → row_of n c rows ≡
       (if has_come n c answers
@@ -124,7 +126,7 @@ pub record AreOfARun (answers : List Answer) : Type 0 where
   pub now : Places
   pub run : Run (new_world config units) steps answers now
 
--- rows that told what the answers of a run say tell it with one more answer
+-- rows that told what the answers of a run say still do with one more answer
 abbrev pub GoesOnTelling : List ConnCount → Answer → List ConnCount → Type 0
 GoesOnTelling old answer new =
     (answers : List Answer) → AreOfARun (answers ++ answer ∷ []) → Tell old answers

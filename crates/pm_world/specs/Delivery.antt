@@ -1,6 +1,6 @@
--- What a world delivers: which FIS completes what, where the bytes of a read stand, and what every byte
--- of client memory is, over every run since the world was made (AHCI 1.3.1, 4.2.3.3, Physical Region
--- Descriptor Table, and 5.3, data transfer; Serial ATA 3.x, 10.5, FIS types).
+-- What a world delivers, over every run since the world was made: which FIS completes what, where the
+-- bytes of a read stand, and what every byte of client memory is (AHCI 1.3.1, 4.2.3.3, Physical
+-- Region Descriptor Table, and 5.3, data transfer; Serial ATA 3.x, 10.5, FIS types).
 --
 -- Cited: the turns of the host in a run (specs/Turns.antt) and the runs that lead to a world
 -- (specs/Runs.antt); HasCome, HostDelivers and TookDelivers of `hba_driver` (specs/Delivered.antt), by
@@ -26,7 +26,7 @@ Tells host past (answer.Took port conn number bytes report) after =
     TookDelivers host past bytes report after
 Tells host past a after = Prim.Unit {0}
 
--- so it does at a host that came here over these turns
+-- that is what it delivers at a host that came here over these turns
 pub record AnswerDelivers (memory : ℕ) (turns : List HostTurn) (host : Host) (a : Answer)
     (after : Host) : Type 0 where
   pub come : HasCome 0 memory turns host
@@ -45,7 +45,7 @@ EachDelivers old (s ∷ steps) (a ∷ answers) new run =
     AnswerDelivers config.memory (over turn_of _ before told old made) old.host a run.0.host)
     × EachDelivers run.0 steps answers new run.2
 
--- a host came here over these turns, and all that a host delivers this one does
+-- a host came here over these turns, and this one does all that a host delivers
 pub record HasDelivered (memory : ℕ) (turns : List HostTurn) (host : Host) : Type 0 where
   pub come : HasCome 0 memory turns host
   pub delivers : (c : HasCome 0 memory turns host) → HostDelivers 0 memory turns host c

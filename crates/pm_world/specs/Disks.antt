@@ -1,14 +1,15 @@
 -- Honest disks, over whole runs of a world: what a read that is done brought, and what a write that
--- is done left on the medium, since the disk was plugged in, for the first time or again (ACS-3, READ
--- FPDMA QUEUED and WRITE FPDMA QUEUED; Serial ATA 3.x, 13.6, native command queuing, and 16.3, port
--- multiplier: presence of a device on a port; AHCI 1.3.1, 5.3, 6.2.2, error recovery, and chapter 9).
+-- is done left on the medium. This holds since the disk was plugged in, for the first time or again
+-- (ACS-3, READ FPDMA QUEUED and WRITE FPDMA QUEUED; Serial ATA 3.x, 13.6, native command queuing, and
+-- 16.3, port multiplier: presence of a device on a port; AHCI 1.3.1, 5.3, 6.2.2, error recovery, and
+-- chapter 9).
 --
--- Of errors that the disk reports, and of faults that the host finds in what it sends, nothing is
--- asked; nor of the driver, of the port and of the other devices.
+-- Nothing is asked of the errors that the disk reports, or of the faults that the host finds in what
+-- it sends. Nothing is asked of the driver, of the port or of the other devices either.
 --
--- Cited: runs and what is told over them (specs/Rules.antt, Runs.antt), the history of
--- a unit (`happens`, specs/Units.antt) and the turns of the host (specs/Turns.antt);
--- touches (specs/Touched.antt), and requests that ended honestly (specs/Ended.antt).
+-- Cited: runs and what is told over them (specs/Rules.antt, Runs.antt); the history of a unit
+-- (`happens`, specs/Units.antt); the turns of the host (specs/Turns.antt); touches
+-- (specs/Touched.antt); and requests that ended honestly (specs/Ended.antt).
 use Rattle.std.specs.Prelude.{ℕ, ◌≡◌, ◌<◌, ◌==◌, ◌++◌, true, false, List, [], ◌∷◌, length}
 use Rattle.std.specs.Prelude.{slice_get, Some, Ok}
 use Rattle.std.specs.List.{list_any}
@@ -41,13 +42,13 @@ use Rattle.pm_world.specs.declared.step.Step.{Step}
 use Rattle.pm_world.specs.declared.step.Step.TheVariants as step
 use Rattle.pm_world.specs.declared.step.Answer.{Answer}
 use Rattle.pm_world.specs.declared.step.Answer.TheVariants as answer
-use Rattle.pm_world.specs.Ended.{EndsHonestly}
+use Rattle.pm_world.specs.Ended.{EndsHonestly, TookFlush}
 use Rattle.pm_world.specs.Touched.{AreTouched}
 use Rattle.hba_driver.specs.Submits.{new_entry}
 
 -- ---- the disk and its run
 
--- the unit at port n of a new world is a new disk of this plan, with so many sectors
+-- the unit at port n of a new world is a new disk of this plan, with this many sectors
 pub record IsNewDisk (units : List Unit) (n : ℕ) (plan : DiskPlan) (sectors : ℕ) : Type 0 where
   pub disk : DiskValue
   pub there : slice_get units n ≡ Some (Disk disk)
@@ -61,8 +62,8 @@ pub record IsLeftAlone (n : ℕ) (steps : List Step) : Type 0 where
   pub clean : list_any (injects n) steps ≡ false
   pub stays : list_any (unplugs n) steps ≡ false
 
--- A world came from a new one by any run; then the disk at port n was plugged in, as connection
--- conn, and was left alone from there on.
+-- A world came from a new one by any run. Then the disk at port n was plugged in, as connection conn,
+-- and was left alone from there on.
 pub record DiskRun (config : Config) (units : List Unit) (n : ℕ) (now : Places) : Type 0 where
   pub first : List Step
   pub told : List Answer
@@ -101,9 +102,9 @@ module _ (config : Config) (units : List Unit) (n : ℕ) (now : Places)
         → WasSubmitted e (over (happens n) (new_world config units) d.first d.told d.out d.made
         ++ over (happens n) d.out i.before i.told i.at i.came)
 
-  -- The request of the entry in slot s was submitted in this run, and ended honestly since then, by
-  -- all that happened to the disk since the world was made, and by what was touched at the host
-  -- since its opening.
+  -- The request of the entry in slot s was submitted in this run, and has ended honestly since then.
+  -- That is judged by all that happened to the disk since the world was made, and by what was touched
+  -- at the host since its opening.
   pub record EndedSince (sectors s : ℕ) (e : Entry) (memory : Memory) : Type 0 where
     pub before : List Happening
     pub submitted : WasSubmitted e before
@@ -111,17 +112,29 @@ module _ (config : Config) (units : List Unit) (n : ℕ) (now : Places)
     pub touched : AreTouched config.memory host_turns now.host touches
     pub ends : EndsHonestly sectors s e before disk_history (filled s (own n touches)) memory
 
+  -- The request of the entry was submitted in this run, and the disk took a FLUSH since then.
+  pub record FlushedSince (e : Entry) : Type 0 where
+    pub before : List Happening
+    pub submitted : WasSubmitted e before
+    pub later : List Happening
+    pub is : disk_history ≡ before ++ later
+    pub taken : TookFlush later
+
 -- ---- the law
 
 -- Each queued request that the report says is done ended honestly, since it was submitted in this
--- run.
+-- run; and if it says that a FLUSH is done, the disk took one since it was submitted.
 pub record TookHonestly (config : Config) (units : List Unit) (n sectors : ℕ) (now : Places)
     (d : DiskRun config units n now) (report : TakeReport) (new : Places) : Type 0 where
   pub done : (s : ℕ) (e : Entry) → s < 30 → entry_at now.host.driver.entries s ≡ Some e
       → is_queued e.head.work ≡ true → has_bit report.done s ≡ true
       → EndedSince config units n now d sectors s e new.host.memory
+  pub flushed : (s : ℕ) (e : Entry) → s < 30 → entry_at now.host.driver.entries s ≡ Some e
+      → is_queued e.head.work ≡ false → has_bit report.done s ≡ true
+      → FlushedSince config units n now d e
 
--- At each FIS of this connection that the host takes, whatever the disk and the other devices do.
+-- Holds at each FIS of this connection that the host takes, whatever the disk and the other devices
+-- do.
 abbrev pub HonestDisks : Type 0
 HonestDisks =
     (config : Config) (units : List Unit) (n sectors : ℕ) (plan : DiskPlan)

@@ -27,7 +27,7 @@ abbrev pub passed_by : Telling Stamped
 passed_by old s (answer.Passed p) new = take 1 old.downward.frames
 passed_by old s _ new = []
 
--- the same FIS, where it fell to the device at port n: with PM Port 0 and the port's connection
+-- the same FIS, if it fell to the device at port n: with PM Port 0 and the port's connection
 abbrev pub fell_to : ℕ → Telling Stamped
 fell_to n old s (answer.Passed (passed.Down m)) new =
     if m == n then flat_map (falls (passes_to old.multiplier n)) (take 1 old.downward.frames) else []
@@ -44,7 +44,7 @@ disk_took n old s (answer.DiskTook p dropped) new =
     if p == n then take 1 (on_down_link (slice_get old.devices n)) else []
 disk_took n old s _ new = []
 
--- what waited at port n for its device and was dropped, since the removal of its connection was
+-- what waited at port n for its device and was dropped, because the removal of its connection was
 -- recorded
 abbrev pub lost_at : ℕ → Telling Stamped
 lost_at n old s (answer.Presence p) new =
@@ -85,8 +85,8 @@ falling_to n places =
 abbrev pub of_connection : ℕ → List Stamped → List Stamped
 of_connection c frames = filter (λ f. f.stamp.conn == c) frames
 
--- Nothing is made or put out of order on the way down, and nothing is dropped but what recorded
--- removals dropped. What stood at the beginning counts as pushed and passed before it.
+-- Nothing is made or put out of order on the way down, and nothing is dropped except by recorded
+-- removals. What stood at the beginning counts as pushed and passed before it.
 pub record NothingLostDown (old : Places) (steps : List Step) (answers : List Answer)
     (new : Places) (run : Run old steps answers new) : Type 0 where
   -- what the multiplier took off the host's link, and then what is on it, is what the host put on
@@ -95,17 +95,17 @@ pub record NothingLostDown (old : Places) (steps : List Step) (answers : List An
       ≡ old.downward.frames ++ over pushed_by old steps answers new run
   pub pushed : length (over pushed_by old steps answers new run) ≡ times is_pushed answers
   pub passed : length (over passed_by old steps answers new run) ≡ times is_passed answers
-  -- what the device at port n took, and then what is on its way to it, is what was passed down to
-  -- the port, where no removal dropped any of it: one FIS for each answer that says so
+  -- what the device at port n took, and then what is on its way to it, is what was passed down to the
+  -- port, if no removal dropped any of it: one FIS for each answer that says so
   pub ports : (n : ℕ) → over (lost_at n) old steps answers new run ≡ []
       → over (disk_took n) old steps answers new run ++ falling_to n new
       ≡ falling_to n old ++ over (fell_to n) old steps answers new run
-  -- of each connection what removals dropped is missing, and nothing else
+  -- for each connection, what removals dropped is missing, and nothing else
   pub each : (n c : ℕ)
       → of_connection c (over (disk_took n) old steps answers new run ++ falling_to n new
       ++ over (lost_at n) old steps answers new run)
       ≡ of_connection c (falling_to n old ++ over (fell_to n) old steps answers new run)
-  -- of a connection that is not removed nothing is dropped
+  -- nothing is dropped of a connection that is not removed
   pub kept : (n c : ℕ) → is_gone (port_at new.multiplier n) c ≡ false
       → of_connection c (over (lost_at n) old steps answers new run) ≡ []
   pub fell : (n : ℕ) → length (over (fell_to n) old steps answers new run)

@@ -1,16 +1,18 @@
--- What a request that is done is to a disk: a read brought the sectors of the medium as they were
--- when the disk started it, and a write is on the medium (ACS-3, READ FPDMA QUEUED and WRITE FPDMA
--- QUEUED; AHCI 1.3.1, 4.2.3.3, Physical Region Descriptor Table). The ledger of FISes is that of
--- `disk_model` (specs/Ledger.antt), entries are those of `hba_driver` (specs/Drivers.antt).
-use Rattle.std.specs.Prelude.{ℕ, ◌≡◌, ◌-◌, ◌*◌, ◌<◌, ◌≤◌, List, length, slice_get}
+-- What a request that is done means to a disk. A read brought the sectors of the medium as they were
+-- when the disk started it. A write is on the medium (ACS-3, READ FPDMA QUEUED and WRITE FPDMA
+-- QUEUED; AHCI 1.3.1, 4.2.3.3, Physical Region Descriptor Table). The ledger of FISes comes from
+-- `disk_model` (specs/Ledger.antt), entries from `hba_driver` (specs/Drivers.antt).
+use Rattle.std.specs.Prelude.{ℕ, ◌≡◌, ◌-◌, ◌*◌, ◌<◌, ◌≤◌, ◌++◌, List, ◌∷◌, length, slice_get}
 use Rattle.std.specs.Prelude.{slice_index, Option, Some}
 use Rattle.host_memory.specs.Memory.{Memory, client_start}
 use Rattle.host_memory.specs.Place.{LiesInClient, place}
 use Rattle.host_memory.specs.declared.table.Prd.{Prd}
 use Rattle.disk_model.specs.declared.request.Command.{Command}
+use Rattle.disk_model.specs.declared.request.Request.TheVariants.{Flush}
+use Rattle.disk_model.specs.Anew.{IsRequest}
 use Rattle.disk_model.specs.Chunks.{sectors_at}
 use Rattle.disk_model.specs.Fronts.{IsFront}
-use Rattle.disk_model.specs.Histories.{Happening}
+use Rattle.disk_model.specs.Histories.{Happening, Received}
 use Rattle.disk_model.specs.Ledger.{ReadOut, Written, ledger, medium_with}
 use Rattle.hba_driver.specs.declared.request.Work.TheVariants.{Read, Write}
 use Rattle.hba_driver.specs.declared.slot.Head.{Head}
@@ -27,9 +29,10 @@ pub record IsCommandOf (s : ℕ) (head : Head) (c : Command) : Type 0 where
   pub lba : c.lba ≡ head.lba
   pub count : c.count ≡ head.sectors
 
--- A read that the disk ended: its bytes stand in client memory, each at its place, and are its
--- sectors of the medium, as the writes that had ended when the disk started it left them. Those are
--- the first ones of all that ended by now, with all that had ended when the request was submitted.
+-- A read that the disk ended. Its bytes stand in client memory, each at its place, and are its
+-- sectors of the medium, as the writes that had ended when the disk started it left them. Those
+-- writes are the first of all that ended by now, and include all that had ended when the request was
+-- submitted.
 pub record ReadsSectors (sectors s : ℕ) (e : Entry) (submitted happened : List Happening)
     (memory : Memory) : Type 0 where
   pub at : ℕ
@@ -42,8 +45,8 @@ pub record ReadsSectors (sectors s : ℕ) (e : Entry) (submitted happened : List
       → StandsAt (sectors_at (medium_with sectors read.before) e.head.lba e.head.sectors) e.prds
       memory i
 
--- A write that the disk entered on its medium: in its sectors, with just the bytes of its transfer
--- that went over, behind all writes that had ended when the request was submitted.
+-- A write that the disk entered on its medium: in its sectors, with exactly the bytes of its transfer
+-- that went over, after all writes that had ended when the request was submitted.
 pub record WritesSectors (s : ℕ) (e : Entry) (submitted happened : List Happening)
     (filled : ℕ → Option ℕ) : Type 0 where
   pub at : ℕ
@@ -55,9 +58,19 @@ pub record WritesSectors (s : ℕ) (e : Entry) (submitted happened : List Happen
   pub long : length written.bytes ≡ 512 * e.head.sectors
   pub bytes : (i : ℕ) → i < 512 * e.head.sectors → filled i ≡ slice_get written.bytes i
 
--- the request of an entry ended honestly, by what had happened to the disk when it was submitted,
--- and by now
+-- the request of an entry ended honestly, by what had happened to the disk when it was submitted, and
+-- by now
 pub record EndsHonestly (sectors s : ℕ) (e : Entry) (submitted happened : List Happening)
     (filled : ℕ → Option ℕ) (memory : Memory) : Type 0 where
   pub reads : e.head.work ≡ Read → ReadsSectors sectors s e submitted happened memory
   pub writes : e.head.work ≡ Write → WritesSectors s e submitted happened filled
+
+-- ---- a FLUSH
+
+-- among all this the disk took a FLUSH CACHE EXT
+pub record TookFlush (happened : List Happening) : Type 0 where
+  pub front : List Happening
+  pub bytes : List ℕ
+  pub back : List Happening
+  pub took : happened ≡ front ++ Received bytes ∷ back
+  pub asks : IsRequest bytes Flush

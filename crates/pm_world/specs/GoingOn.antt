@@ -1,6 +1,6 @@
--- The host port of a world goes on: each FIS that the control port of its multiplier sends is a Register
--- Device to Host or a Set Device Bits FIS, and so nothing stops the port (AHCI 1.3.1, 6.1, error types;
--- Serial ATA 3.x, 16.2, control port). What stops a host port is cited of `hba_driver`
+-- The host port of a world goes on. Each FIS that the control port of its multiplier sends is a
+-- Register Device to Host FIS or a Set Device Bits FIS, so nothing stops the port (AHCI 1.3.1, 6.1,
+-- error types; Serial ATA 3.x, 16.2, control port). What stops a host port is cited from `hba_driver`
 -- (specs/Going.antt).
 use Rattle.std.specs.Prelude.{ℕ, ◌≡◌, true, List, length, Ok}
 use Rattle.disk_model.specs.declared.unit.Unit.{Unit}
@@ -13,14 +13,14 @@ use Rattle.pm_world.specs.declared.step.Step.{Step}
 use Rattle.pm_world.specs.declared.step.Answer.{Answer}
 use Rattle.pm_world.specs.declared.step.Answer.TheVariants as answer
 
--- No fault of the host port stands, nothing that comes or goes next makes one, and no tick stops it. What
--- comes next of the control port is such a FIS.
+-- No fault of the host port stands, nothing that comes or goes next makes one, and no tick stops it.
+-- What comes next from the control port is such a FIS.
 pub record PortGoesOn (now : Places) : Type 0 where
   pub goes : GoesOn now.host
   pub control : (s : Step) (port conn number : ℕ) (bytes : List ℕ) (report : TakeReport) (new : Places)
       → Rule now s (Ok (answer.Took port conn number bytes report)) new → IsOfControl bytes
 
--- so it is in each world to which a run from a new one leads
+-- that holds in each world to which a run from a new one leads
 abbrev pub PortsGoOn : Type 0
 PortsGoOn =
     (config : Config) (units : List Unit) → is_config config (length units) ≡ true

@@ -6,7 +6,7 @@ use Rattle.pm_world.specs.Places.{Place, Places, Queue}
 use Rattle.pm_world.specs.declared.hop.Hop.{Hop}
 use Rattle.pm_world.specs.declared.hop.Hop.TheVariants.{HostToPm, PmToHost, DeviceToPm, PmToDevice}
 
--- the frames on their way from a device, oldest first; none where there is no such port
+-- the frames on their way from a device, oldest first; none if there is no such port
 abbrev pub frames_from : Option Place → List Stamped
 frames_from None = []
 frames_from (Some place) = place.up.frames

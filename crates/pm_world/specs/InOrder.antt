@@ -1,5 +1,6 @@
--- Read after write, within one run: a write is polled as Done, then a read is submitted, and it is polled as
--- Done (ACS-3, READ FPDMA QUEUED and WRITE FPDMA QUEUED). Which came first is said by the places of the steps.
+-- Read after write, within one run: a write is polled as Done, then a read is submitted, and it is
+-- polled as Done (ACS-3, READ FPDMA QUEUED and WRITE FPDMA QUEUED). The places of the steps say which
+-- came first.
 --
 -- Cited: requests that were polled (specs/Polled.antt), the run of a disk (specs/Disks.antt), which bytes a
 -- read and a write both have (specs/ReadBack.antt), and bytes in client memory (specs/Submitted.antt).
@@ -48,11 +49,11 @@ disk_run config units n conn now steps answers run since = record {
   left = since.left;
 }
 
--- In one run a write is polled as Done, and later a read is submitted to the same device, which is polled as
--- Done at its end. The device is a disk, which was left alone from its plugging as the connection of each
--- report up to that report. Then of each byte that both have, and that no write has which ended after that one
--- and before the read began, client memory has at the read's place what it had at the write's place as the
--- write was submitted.
+-- In one run a write is polled as Done. Later a read is submitted to the same device, and is polled
+-- as Done at the end of the run. The device is a disk that was left alone from its plugging as the
+-- connection of each report up to that report. Take each byte that both have and that no write has
+-- which ended after that write and before the read began. Client memory has at the read's place what
+-- it had at the write's place when the write was submitted.
 abbrev pub ReadsFollowWrites : Type 0
 ReadsFollowWrites =
     (config : Config) (units : List Unit) → is_config config (length units) ≡ true
@@ -78,9 +79,12 @@ ReadsFollowWrites =
     → NoneCovers (512 * second.reported.request.lba + i)
     (drop (suc ((first.honest sectors plan disk queued
     (disk_run config units first.reported.dev first.reported.conn first.reported.took.at
-    first.reported.took.before first.reported.took.told first.reported.took.came c) refl).ends.writes writes).at)
+    first.reported.took.before first.reported.took.told first.reported.took.came c)
+    refl).ends.writes writes).at)
     ((second.honest sectors plan disk_too queued_too
     (disk_run config units second.reported.dev second.reported.conn second.reported.took.at
-    second.reported.took.before second.reported.took.told second.reported.took.came d) refl).ends.reads reads).read.before)
-    → StandsThere (slice_index now.host.memory.client (place second.reported.request.prds.items i - client_start))
+    second.reported.took.before second.reported.took.told second.reported.took.came d)
+    refl).ends.reads reads).read.before)
+    → StandsThere (slice_index now.host.memory.client
+    (place second.reported.request.prds.items i - client_start))
     first.reported.request.prds.items first.reported.submitted.at.host.memory j

@@ -1,11 +1,11 @@
--- Isolation of the devices, on runs of the world: over steps in which nothing happens to the host port
--- as a whole, what belongs to a device is the fold of its own events alone, whatever the others send,
--- fail or lose (AHCI 1.3.1, chapter 9, FIS-based Switching).
+-- Isolation of the devices, on runs of the world. Over steps in which nothing happens to the host
+-- port as a whole, what belongs to a device is the fold of its own events alone, whatever the others
+-- send, fail or lose (AHCI 1.3.1, chapter 9, FIS-based Switching).
 --
 -- Cited: the turns of the host in a run (specs/Turns.antt) and the runs that lead to a world
--- (specs/Runs.antt); the events of turns, AreEvents and TurnsTell of `hba_driver` (specs/Events.antt);
--- what belongs to a device, its own events, their fold and the events of the port as a whole, of
--- `hba_laws` (specs/Parts.antt, Isolation.antt).
+-- (specs/Runs.antt); the events of turns, AreEvents and TurnsTell of `hba_driver`
+-- (specs/Events.antt); and from `hba_laws` (specs/Parts.antt, Isolation.antt) what belongs to a
+-- device, its own events, their fold and the events of the port as a whole.
 use Rattle.std.specs.Prelude.{ℕ, ◌≡◌, ◌<◌, List}
 use Rattle.hba_driver.specs.Events.{AreEvents, TurnsTell, events_over, shared_by}
 use Rattle.hba_driver.specs.HostTurns.{DoesAll, Host, HostTurn}
@@ -27,8 +27,8 @@ AreFoldsOfOwn old turns new does e =
     (own_over n (shared_by old) (shared_by new) (events_over old new turns does) e.runs)
 
 -- The turns are events of port and memory, in which the frames that are taken and given are those of
--- the turns; and where each of them is one of devices, what belongs to each device is the fold of its
--- own.
+-- the turns. If each of these events is one of devices, what belongs to each device is the fold of
+-- its own.
 pub record AreIsolated (old : Host) (turns : List HostTurn) (new : Host) (does : DoesAll old turns new)
     : Type 0 where
   pub events : AreEvents old new turns does
@@ -37,7 +37,7 @@ pub record AreIsolated (old : Host) (turns : List HostTurn) (new : Host) (does :
       → AreOfDevices (shared_by old) (shared_by new) (events_over old new turns does) e.runs
       → AreFoldsOfOwn old turns new does e
 
--- So it is over these steps, from each world that a run from a new one leads to.
+-- That holds over these steps, from each world that a run from a new one leads to.
 pub record Isolates (old : Places) (steps : List Step) (answers : List Answer) (new : Places)
     (run : Run old steps answers new) : Type 0 where
   pub isolated : AfterEveryRun old (λ config units before told made.

@@ -1,6 +1,7 @@
--- A port of the multiplier keeps to one connection: between two FISes of the host that clear its bit
--- X all that passes it, up and down, is of one (Serial ATA 3.x, 16.3, port multiplier: frame
--- transmission, presence of a device on a port; 16.4.2: PSCR[1], bit X, a device was exchanged).
+-- A port of the multiplier keeps to one connection. Between two FISes of the host that clear its bit
+-- X, all that passes it, up and down, is of one connection (Serial ATA 3.x, 16.3, port multiplier:
+-- frame transmission, presence of a device on a port; 16.4.2: PSCR[1], bit X, a device was
+-- exchanged).
 use Rattle.std.specs.Prelude.{ℕ, ◌≡◌, ◌<◌, ◌==◌, if◌then◌else◌, false}
 use Rattle.std.specs.Prelude.{true, List, [], ◌∷◌, ◌++◌, length}
 use Rattle.std.specs.Prelude.{drop}
@@ -17,13 +18,13 @@ use Rattle.pm_world.specs.declared.step.Step.TheVariants as step
 use Rattle.pm_world.specs.declared.step.Answer.{Answer}
 use Rattle.pm_world.specs.declared.step.Answer.TheVariants as answer
 
--- the FIS of port n that went up: what the host's link has more than before
+-- the FIS of port n that went up: what the host's link has now and did not have before
 abbrev pub rose_from : ℕ → Telling Stamped
 rose_from n old step.PmUp (answer.Up port) new =
     if port == n then drop (length old.upward.frames) new.upward.frames else []
 rose_from n old s a new = []
 
--- what passed port n, down or up, each FIS with the connection for which it did
+-- what passed port n, down or up, each FIS with the connection for which it passed
 abbrev pub passed_at : ℕ → Telling Stamped
 passed_at n old s a new = fell_to n old s a new ++ rose_from n old s a new
 
@@ -32,7 +33,7 @@ abbrev pub AreOf : ℕ → List Stamped → Type 0
 AreOf c [] = Prim.Unit {0}
 AreOf c (f ∷ frames) = (f.stamp.conn ≡ c) × AreOf c frames
 
--- up to the first of these steps in which the host clears port n, all that passes it is of
+-- up to the first of these steps in which the host clears port n, all that passes the port is of
 -- connection c
 abbrev pub PassesOnly : (n c : ℕ) → (old : Places) → (steps : List Step) → (answers : List Answer)
     → (new : Places) → Run old steps answers new → Type 0
@@ -42,7 +43,7 @@ PassesOnly n c old (s ∷ steps) (a ∷ answers) new run =
     AreOf c (passed_at n old s a run.0)
     × (is_cleared n old a ≡ false → PassesOnly n c run.0 steps answers new run.2)
 
--- so it is from each of these FISes on, where they are those that a step passed
+-- that holds from each of these FISes on, if they are those that a step passed
 abbrev pub Keep : (n : ℕ) → List Stamped → (old : Places) → (steps : List Step)
     → (answers : List Answer) → (new : Places) → Run old steps answers new → Type 0
 Keep n [] old steps answers new run = Prim.Unit {0}

@@ -1,8 +1,8 @@
--- The laws of a run: nothing is lost, upward or downward, but by a recorded removal, what was taken is a
--- prefix of what was sent, the host and each unit are what their own turns make of them, and each link is a
--- link (Serial ATA 3.x, 16.3, port multiplier: frame transmission, PM Port; AHCI 1.3.1, chapter 5); and what
--- is delivered to the host's clients (specs/Delivery.antt, Apart.antt, Tickets.antt, Isolation.antt,
--- Truth.antt).
+-- The laws of a run. Nothing is lost, upward or downward, except by a recorded removal. What was
+-- taken is a prefix of what was sent. The host and each unit are what their own turns make of them,
+-- and each link is a link (Serial ATA 3.x, 16.3, port multiplier: frame transmission, PM Port; AHCI
+-- 1.3.1, chapter 5). What is delivered to the host's clients stands in specs/Delivery.antt,
+-- Apart.antt, Tickets.antt, Isolation.antt and Truth.antt.
 use Rattle.std.specs.Prelude.{ℕ, ◌≡◌, ◌≢◌, List, ◌++◌}
 use Rattle.multiplier.specs.Arbiter.{control_port}
 use Rattle.pm_world.specs.Apart.{KeepsApart}
@@ -25,8 +25,9 @@ use Rattle.pm_world.specs.Units.{UnitsLiveOn, UnitsLivedOn}
 
 -- ---- what was taken
 
--- Over all answers since the world was made, whichever run from a new world leads to these steps:
--- what the host took of a connection is a prefix of what was sent on it, each marked with its port.
+-- Holds over all answers since the world was made, whichever run from a new world leads to these
+-- steps: what the host took of a connection is a prefix of what was sent on it, each FIS marked with
+-- its port.
 abbrev pub TakenIsPrefix : Places → List Answer → Type 0
 TakenIsPrefix old answers = AfterEveryRun old (λ config units before told made.
     (n c : ℕ) → n ≢ control_port → IsPrefixOf (taken n c (told ++ answers))
@@ -34,7 +35,7 @@ TakenIsPrefix old answers = AfterEveryRun old (λ config units before told made.
 
 -- ---- on the way
 
--- so it is from each world on the way to new, with the answers from there on
+-- that holds from each world on the way to new, with the answers from there on
 abbrev pub FromEachWorld : Places → List Step → List Answer → Places
     → (Places → List Answer → Type 0) → Type 0
 FromEachWorld old steps answers new Holds =
@@ -65,7 +66,7 @@ pub record ObeysLaws (old : Places) (steps : List Step) (answers : List Answer)
   pub isolates : Isolates old steps answers new run
   pub truth : TellsTruth old steps answers new run
 
--- They hold of each run of these steps with these answers.
+-- They hold for each run of these steps with these answers.
 abbrev pub AreLawful : (old : Places) → (steps : List Step) → (answers : List Answer)
     → (new : Places) → Type 0
 AreLawful old steps answers new =

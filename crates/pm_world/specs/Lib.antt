@@ -35,3 +35,4 @@ pub mod Submitted
 pub mod Laws
 pub mod Meant
 pub mod InOrder
+pub mod Flushing

@@ -1,6 +1,6 @@
--- The orders of a host to the control port of its multiplier, and its answers, while they are on their way
--- (Serial ATA 3.x, 16.2: READ PORT MULTIPLIER and WRITE PORT MULTIPLIER, software reset of the control port).
--- They are told by the stage of slot 31 (`hba_driver`, specs/Slot31.antt).
+-- The orders of a host to the control port of its multiplier, and the answers to them, while they are
+-- on their way (Serial ATA 3.x, 16.2: READ PORT MULTIPLIER and WRITE PORT MULTIPLIER, software reset
+-- of the control port). The stage of slot 31 tells them (`hba_driver`, specs/Slot31.antt).
 use Rattle.std.specs.Prelude.{ℕ, ◌≡◌, ◌≢◌, ◌<◌, ◌⊎◌, ◌==◌, ◌&&◌, Bool, true, false, List, [], ◌∷◌, length}
 use Rattle.std.specs.Prelude.{Option}
 use Rattle.std.specs.Prelude.{Some, None, Ok, Result}
@@ -38,12 +38,13 @@ IsReset f = request_in f.bytes ≡ Some Reset
 abbrev pub IsEnd : Stamped → Type 0
 IsEnd f = request_in f.bytes ≡ Some EndReset
 
--- each that is for the control port begins a reset
+-- each frame that is for the control port begins a reset
 abbrev pub AreResets : List Stamped → Type 0
 AreResets [] = Prim.Unit {0}
 AreResets (f ∷ frames) = (pm_port f ≡ control_port → IsReset f) × AreResets frames
 
--- of those for the control port the last is such a one, and those before it are of another kind
+-- of the frames for the control port the last is of the second kind, and those before it are of the
+-- first
 abbrev pub EndsIn : (before last : Stamped → Type 0) → List Stamped → Type 0
 EndsIn before last [] = ⊥
 EndsIn before last (f ∷ frames) =
@@ -65,14 +66,14 @@ abbrev pub NoneUp : List Stamped → Type 0
 NoneUp [] = Prim.Unit {0}
 NoneUp (f ∷ frames) = (is_reply f ≡ false) × NoneUp frames
 
--- just one is, and it is such a one
+-- exactly one frame is an answer, and it is of this kind
 abbrev pub OneUp : (Stamped → Type 0) → List Stamped → Type 0
 OneUp reply [] = ⊥
 OneUp reply (f ∷ frames) =
     ((is_reply f ≡ false) × OneUp reply frames)
     ⊎ ((is_reply f ≡ true) × reply f × NoneUp frames)
 
--- what else comes of the control port is a notification
+-- what else comes from the control port is a notification
 abbrev pub AreNotices : List Stamped → Type 0
 AreNotices [] = Prim.Unit {0}
 AreNotices (f ∷ frames) =
@@ -80,7 +81,7 @@ AreNotices (f ∷ frames) =
 
 -- ---- by stage
 
--- the answer waits at the control port, or goes up, or there is none
+-- the answer waits at the control port, or goes up, or does not exist
 abbrev pub HasCome : (Stamped → Type 0) → Option Stamped → List Stamped → Type 0
 HasCome reply waits up =
     ((frame : Stamped) × (waits ≡ Some frame) × reply frame × NoneUp up)
@@ -118,8 +119,8 @@ abbrev pub IsClean : Places → Type 0
 IsClean now =
     NoneDown now.downward.frames × (now.multiplier.answer ≡ None) × NoneUp now.upward.frames
 
--- Slot 31 is at a stage, and what that tells is on its way. A tick orders that a port be cleared only
--- where nothing is.
+-- Slot 31 is at a stage, and what that stage tells is on its way. A tick orders that a port be
+-- cleared only when nothing is on its way.
 pub record HasLine (now : Places) : Type 0 where
   pub stage : Stage31
   pub is : IsLine stage now

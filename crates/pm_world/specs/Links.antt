@@ -1,7 +1,7 @@
--- What goes over the links of a world: from each device to its port, from each port on to the host's link,
--- and off that link; and the same way down (Serial ATA 3.x, 16.3, port multiplier: frame transmission,
--- presence of a device on a port). A link of a world and a link between two threads are links by one
--- definition, IsLink of ruled_links.
+-- What goes over the links of a world: from each device to its port, from each port on to the host's
+-- link, and off that link; and the same way down (Serial ATA 3.x, 16.3, port multiplier: frame
+-- transmission, presence of a device on a port). One definition serves for a link of a world and for
+-- a link between two threads: IsLink of ruled_links.
 use Rattle.std.specs.Prelude.{ℕ, ◌≡◌, ◌≢◌, ◌≤◌, option_to_list, ◌==◌, if◌then◌else◌, Bool, false, true, not}
 use Rattle.std.specs.Prelude.{All, List, [], ◌∷◌, ◌++◌}
 use Rattle.std.specs.Prelude.{length, map, filter, Option, Some, None, slice_get, MatchOption}
@@ -22,7 +22,7 @@ use Rattle.pm_world.specs.declared.step.Answer.TheVariants as answer
 
 -- ---- what an answer tells
 
--- the frame of which an answer with these parts tells
+-- the frame that an answer with these parts tells of
 abbrev pub told_frame : (port conn number : ℕ) → List ℕ → Stamped
 told_frame port conn number bytes = record {
   bytes = bytes;
@@ -86,12 +86,12 @@ on_presence (Some place) = place.presence.changes
 abbrev pub from_port : ℕ → List Stamped → List Stamped
 from_port n frames = filter (λ f. f.stamp.port == n) frames
 
--- The frames, of which these answers say for each whether it was dropped, without those that were.
+-- The frames without those that were dropped. These answers say for each frame whether it was.
 abbrev pub without : List Bool → List Stamped → List Stamped
 without drops frames = map (λ p. p.0) (filter (λ p. not p.1) (zip frames drops))
 
--- What left a place went on, but for what was lost there; each part is in its order, and what was
--- lost is of connections that are removed.
+-- What left a place went on, except what was lost there. Each part is in its order, and what was lost
+-- is of connections that are removed.
 pub record GoesOnBut (pm : PmState) (n : ℕ) (left on lost : List Stamped) : Type 0 where
   pub drops : List Bool
   pub each : length drops ≡ length left
@@ -99,13 +99,13 @@ pub record GoesOnBut (pm : PmState) (n : ℕ) (left on lost : List Stamped) : Ty
   pub lost_is : lost ≡ without (map not drops) left
   pub removed : All (λ f. is_gone (port_at pm n) f.stamp.conn ≡ true) lost
 
--- What went over the links at port n of a multiplier that is now as given, each with room for so many
--- items, while what its port held became what it holds. What a link held before, and then what
+-- What went over the links at port n of a multiplier that is now as given, each with room for this
+-- many items, while what its port held became what it holds. What a link held before, and then what
 -- entered it, is what left it, and then what it holds.
 pub record PortPasses (capacity n : ℕ) (was : Option Place) (held_was : List Stamped)
     (answers : List Answer) (now : Option Place) (pm : PmState) : Type 0 where
-  -- what left the device's link, what left the place of the port on the way up, and of that what went
-  -- on and what a removal dropped
+  -- what left the device's link, what left the place of the port on the way up, and which part of
+  -- that went on and which a removal dropped
   pub passed : List Stamped
   pub left : List Stamped
   pub risen : List Stamped
@@ -115,7 +115,7 @@ pub record PortPasses (capacity n : ℕ) (was : Option Place) (held_was : List S
   pub link : IsLink capacity (on_link was ++ flat_map (entered_by n) answers) passed (on_link now)
   pub passed_is : length passed ≡ times (is_offered n) answers
   -- that place is a link with room for one frame, and what left the device's link entered it, with
-  -- the port in its stamp, but for what was dropped as it was offered
+  -- the port in its stamp, except what was dropped when it was offered
   pub hold : IsLink 1
       (held_was ++ map (stamped n) (without (flat_map (dropped_by n) answers) passed)) left (held n pm)
   pub goes_on : GoesOnBut pm n left risen lost
@@ -136,8 +136,8 @@ pub record HostPasses (capacity : ℕ) (was : List Stamped) (answers : List Answ
 abbrev pub held_down : ℕ → PmState → List Stamped
 held_down n pm = option_to_list (port_at pm n).down
 
--- What went through the downward place of port n, which is a link with room for one frame, and then,
--- but for what a removal dropped there, over the link to its device.
+-- What went through the downward place of port n, which is a link with room for one frame, and then
+-- over the link to its device, except what a removal dropped in that place.
 pub record PortPassesDown (capacity n : ℕ) (was : Option Place) (held_was : List Stamped)
     (answers : List Answer) (now : Option Place) (pm : PmState) : Type 0 where
   pub fell : List Stamped
@@ -169,7 +169,7 @@ pub record LinksPass (capacity : ℕ) (old : Places) (answers : List Answer)
       (slice_get new.devices n) new.multiplier
   pub host : HostPasses capacity old.upward.frames answers new.upward.frames
   -- what entered the link to the host from port n is what went on from the place of that port, marked
-  -- with it, in the same order
+  -- with the port, in the same order
   pub rises : (n : ℕ) → n ≢ control_port
       → from_port n host.rose ≡ map (rising n) (ports n).risen
   pub ports_down : (n : ℕ) → PortPassesDown capacity n
@@ -179,7 +179,7 @@ pub record LinksPass (capacity : ℕ) (old : Places) (answers : List Answer)
 
 -- ---- the law
 
--- the links of a device have room for so many items, and hold no more
+-- the links of a device have room for this many items, and hold no more
 pub record HasRoom (capacity : ℕ) (place : Place) : Type 0 where
   pub up : place.up.capacity ≡ capacity
   pub up_within : length place.up.frames ≤ capacity
@@ -188,7 +188,7 @@ pub record HasRoom (capacity : ℕ) (place : Place) : Type 0 where
   pub presence : place.presence.capacity ≡ capacity
   pub presence_within : length place.presence.changes ≤ capacity
 
--- so have all links of a world
+-- all links of a world have, too
 pub record HaveRoom (capacity : ℕ) (now : Places) : Type 0 where
   pub devices :
       (n : ℕ) → MatchOption (slice_get now.devices n) (Prim.Unit {0}) (HasRoom capacity)
@@ -202,6 +202,7 @@ pub record KeepsLinks (old : Places) (answers : List Answer) (new : Places) : Ty
   -- from any world whose links have room for one number of items
   pub goes_on : (capacity : ℕ) → HaveRoom capacity old
       → LinksPass capacity old answers new × HaveRoom capacity new
-  -- so from each world that a run from a new one leads to, with the capacity of its configuration
+  -- that holds from each world that a run from a new one leads to, with the capacity of its
+  -- configuration
   pub reached : AfterEveryRun old (λ config units before told made.
       LinksPass config.capacity old answers new)

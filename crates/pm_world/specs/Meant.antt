@@ -1,14 +1,14 @@
--- For whom a command is meant that a device takes: it is the command of a request, and the last IDENTIFY
--- data that the host accepted for the port before that request was submitted were sent on the connection
--- on which the command is taken; and on the same connection come the FISes that the host takes of that
--- port as long as the request waits or is issued (Serial ATA 3.x, 16.3, port multiplier: presence of a
--- device on a port, frame transmission; ACS-3, IDENTIFY DEVICE; AHCI 1.3.1, 5.3). So no command that was
--- meant for a device that is removed reaches its successor, however long its request waited and however
--- long the command was on its way, and no other device answers it.
+-- For whom a command is meant that a device takes. It is the command of a request. The last IDENTIFY
+-- data that the host accepted for the port before that request was submitted were sent on the
+-- connection on which the command is taken. On the same connection come the FISes that the host takes
+-- of that port as long as the request waits or is issued (Serial ATA 3.x, 16.3, port multiplier:
+-- presence of a device on a port, frame transmission; ACS-3, IDENTIFY DEVICE; AHCI 1.3.1, 5.3). So no
+-- command that was meant for a removed device reaches its successor, however long its request waited
+-- and however long the command was on its way. And no other device answers it.
 --
--- Cited: what is told of a step, and steps of a run (specs/Runs.antt); what goes down (specs/Downward.antt);
--- IDENTIFY data that are accepted (specs/Stale.antt). That a frame which goes out is the command of a
--- request is IsCommandOf of `hba_driver` (specs/Queued.antt).
+-- Cited: what is told of a step, and steps of a run (specs/Runs.antt); what goes down
+-- (specs/Downward.antt); IDENTIFY data that are accepted (specs/Stale.antt). IsCommandOf of
+-- `hba_driver` (specs/Queued.antt) says that a frame which goes out is the command of a request.
 use Rattle.std.specs.Prelude.{ℕ, ◌≡◌, ◌<◌, true, false, List, [], ◌∷◌, length, take, None, Some, Ok}
 use Rattle.std.specs.Prelude.{slice_get}
 use Rattle.fis_view.specs.Frames.{Stamped}
@@ -34,10 +34,10 @@ use Rattle.pm_world.specs.declared.step.Step.TheVariants as step
 use Rattle.pm_world.specs.declared.step.Answer.{Answer}
 use Rattle.pm_world.specs.declared.step.Answer.TheVariants as answer
 
--- In this run a request of device n was submitted under a ticket, and later its command was put on the
--- host's link, while it was issued in its slot. The frame is that one, as it fell to this connection. On
--- the same connection the last IDENTIFY data were sent that the host had accepted for the port when the
--- request was submitted.
+-- In this run a request of device n was submitted under a ticket. Later its command was put on the
+-- host's link, while the request was issued in its slot. The frame is that command, as it fell to
+-- this connection. On the same connection the last IDENTIFY data were sent that the host had accepted
+-- for the port when the request was submitted.
 pub record IsMeant (n conn : ℕ) (frame : Stamped) (old now : Places) (steps : List Step)
     (answers : List Answer) (run : Run old steps answers now) : Type 0 where
   pub slot : ℕ
@@ -53,8 +53,8 @@ pub record IsMeant (n conn : ℕ) (frame : Stamped) (old now : Places) (steps : 
   pub identified : latest None (over (identified_by n) old submitted.before submitted.told submitted.at
       submitted.came) ≡ Some conn
 
--- After every run from a new world, where the device at port n takes the command of a request, it is
--- meant for the connection on which the device takes it.
+-- Holds after every run from a new world: if the device at port n takes the command of a request, the
+-- command is meant for the connection on which the device takes it.
 abbrev pub CommandsAreMeant : Type 0
 CommandsAreMeant =
     (config : Config) (units : List Unit) → is_config config (length units) ≡ true
@@ -65,8 +65,8 @@ CommandsAreMeant =
     → is_request frame.bytes ≡ true
     → IsMeant n (connection (slice_get now.devices n)) frame (new_world config units) now steps answers run
 
--- In this run the request of an entry of device n was submitted, and the last IDENTIFY data that the host
--- had accepted for the port then were sent on this connection.
+-- In this run the request of an entry of device n was submitted. The last IDENTIFY data that the host
+-- had accepted for the port by then were sent on this connection.
 pub record WasSubmittedFor (n conn : ℕ) (e : Entry) (old now : Places) (steps : List Step)
     (answers : List Answer) (run : Run old steps answers now) : Type 0 where
   pub ticket : Ticket
@@ -76,8 +76,8 @@ pub record WasSubmittedFor (n conn : ℕ) (e : Entry) (old now : Places) (steps 
   pub identified : latest None (over (identified_by n) old submitted.before submitted.told submitted.at
       submitted.came) ≡ Some conn
 
--- After every run from a new world, where the host takes a FIS of port n while a request of it waits or is
--- issued, that request was submitted for the connection on which the FIS was sent.
+-- Holds after every run from a new world: if the host takes a FIS of port n while a request of that
+-- port waits or is issued, that request was submitted for the connection on which the FIS was sent.
 abbrev pub AnswersAreMeant : Type 0
 AnswersAreMeant =
     (config : Config) (units : List Unit) → is_config config (length units) ≡ true

@@ -1,9 +1,9 @@
--- What is on the medium of a disk, in every world: the bytes of whole writes that ended. So a write that
--- ended otherwise than done is on the medium whole or not at all (ACS-3, WRITE FPDMA QUEUED).
+-- What is on the medium of a disk, in every world: the bytes of whole writes that ended. So a write
+-- that ended otherwise than done is on the medium whole or not at all (ACS-3, WRITE FPDMA QUEUED).
 --
--- Cited: runs of a world and what is told over them (specs/Rules.antt, Runs.antt), a new disk
--- (specs/Disks.antt) and the history of a unit (specs/Units.antt); the writes that ended, each with its
--- place and its bytes, and a medium with them are of `disk_model` (specs/Ledger.antt).
+-- Cited: runs of a world and what is told over them (specs/Rules.antt, Runs.antt); a new disk
+-- (specs/Disks.antt); the history of a unit (specs/Units.antt). The writes that ended, each with its
+-- place and its bytes, and a medium with them, come from `disk_model` (specs/Ledger.antt).
 use Rattle.std.specs.Prelude.{ℕ, ◌≡◌, ◌++◌, true, List, length, slice_get, IsSomeAnd}
 use Rattle.disk_model.specs.declared.plan.DiskPlan.{DiskPlan}
 use Rattle.disk_model.specs.declared.unit.Unit.{Unit}
@@ -25,13 +25,13 @@ abbrev pub HasMedium : (sectors : ℕ) → List Written → Unit → Type 0
 HasMedium sectors writes (Disk disk) = disk.now.medium ≡ medium_with sectors writes
 HasMedium sectors writes (Scripted reading) = ⊥
 
--- so it is with the unit at port n of a world, by all writes that ended in its history
+-- that holds for the unit at port n of a world, by all writes that ended in its history
 abbrev pub ShowsWrites : (n sectors : ℕ) → List Happening → Places → Type 0
 ShowsWrites n sectors history now =
     IsSomeAnd (slice_get now.devices n) (λ place. HasMedium sectors (ledger history).writes place.unit)
 
--- From one world of a run to a later one the medium of a disk changes by whole writes alone, which end
--- in between, whatever comes of the requests, of the disk and of the other devices.
+-- From one world of a run to a later one, only whole writes change the medium of a disk. They end in
+-- between, whatever comes of the requests, of the disk and of the other devices.
 pub record ChangesByWrites (n sectors : ℕ) (before later : List Happening) (was now : Places) : Type 0 where
   pub first : ShowsWrites n sectors before was
   pub last : ShowsWrites n sectors (before ++ later) now

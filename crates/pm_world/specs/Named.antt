@@ -1,8 +1,8 @@
 -- Which requests are polled as failed by their device: those that the device's error log named, in a
 -- tick of the run (ACS-3, NCQ Command Error log).
 --
--- Cited: runs of a world and their steps (specs/Rules.antt, Runs.antt); a request that the log names, as
--- a tick finds it, is of `hba_driver` (specs/Faults.antt).
+-- Cited: runs of a world and their steps (specs/Rules.antt, Runs.antt). A request that the log names,
+-- as a tick finds it, comes from `hba_driver` (specs/Faults.antt).
 use Rattle.std.specs.Prelude.{ℕ, ◌≡◌, false, true, List, length, Some, Ok}
 use Rattle.disk_model.specs.declared.unit.Unit.{Unit}
 use Rattle.hba_driver.specs.declared.request.Outcome.TheVariants.{DeviceError}
@@ -19,8 +19,9 @@ use Rattle.pm_world.specs.declared.step.Step.TheVariants as step
 use Rattle.pm_world.specs.declared.step.Answer.{Answer}
 use Rattle.pm_world.specs.declared.step.Answer.TheVariants as answer
 
--- In this run there is a tick at which the request of the ticket stands in the slot and has not ended,
--- and the error log of its device is read, is whole, and names it with this Status and this Error.
+-- This run has a tick at which the request of the ticket stands in the slot and has not ended. At
+-- that tick the error log of its device is read, is whole, and names the request with this Status and
+-- this Error.
 pub record IsNamedIn (ticket slot status error : ℕ) (old now : Places) (steps : List Step)
     (answers : List Answer) (run : Run old steps answers now) : Type 0 where
   pub s : Step
@@ -31,7 +32,7 @@ pub record IsNamedIn (ticket slot status error : ℕ) (old now : Places) (steps 
   pub unended : has_ended entry.head ≡ false
   pub named : IsNamedBy (sight_in ticked.at.host) ticked.at.host.driver slot entry status error
 
--- So it is with each poll that answers DeviceError, after every run from a new world.
+-- That holds for each poll that answers DeviceError, after every run from a new world.
 abbrev pub PolledErrorsAreNamed : Type 0
 PolledErrorsAreNamed =
     (config : Config) (units : List Unit) → is_config config (length units) ≡ true

@@ -26,13 +26,13 @@ IsFull link = link.capacity ≡ length link.frames
 abbrev pub pushed : Queue → Stamped → Queue
 pushed link frame = record { frames = link.frames ++ frame ∷ []; capacity = link.capacity }
 
--- the first frame is taken off a link, if there is one
+-- the first frame is taken off a link, if it has one
 abbrev pub FirstLeaves : Queue → Option Stamped → Queue → Type 0
 FirstLeaves old None new = (old.frames ≡ []) × (new ≡ old)
 FirstLeaves old (Some frame) new = (old.frames ≡ frame ∷ new.frames) × (new.capacity ≡ old.capacity)
 
--- a presence link: the connections that came or went, where that is not recorded yet, oldest first,
--- and how many such changes it can hold
+-- a presence link: the connections that came or went and are not recorded yet, oldest first, and how
+-- many such changes it can hold
 pub record Changes : Type 0 where
   pub changes : List Change
   pub capacity : ℕ
@@ -44,7 +44,7 @@ abbrev pub posted : Changes → Change → Changes
 posted link change =
     record { changes = link.changes ++ change ∷ []; capacity = link.capacity }
 
--- the first change is read off a presence link, if there is one
+-- the first change is read off a presence link, if it has one
 abbrev pub FirstIsRead : Changes → Option Change → Changes → Type 0
 FirstIsRead old None new = (old.changes ≡ []) × (new ≡ old)
 FirstIsRead old (Some change) new =
@@ -62,7 +62,7 @@ pub record Place : Type 0 where
   pub presence : Changes
 
 -- a world: the place at each fan-out port, the port multiplier, the links between it and the host,
--- and the host: its port, its driver and its memory
+-- and the host with its port, its driver and its memory
 pub record Places : Type 0 where
   pub devices : List Place
   pub multiplier : PmState
@@ -70,14 +70,14 @@ pub record Places : Type 0 where
   pub downward : Queue
   pub host : Host
 
--- what a port knows of connections: the one that is present is the last that came, and is above
--- those that are gone; and none that is gone is above the last
+-- what a port knows of connections: the connection that is present is the last that came, and is
+-- above those that are gone; and no connection that is gone is above the last
 pub record KnowsItsConnections (port : PortState) : Type 0 where
   pub present : (conn : ℕ) → port.present ≡ Some conn → (conn ≡ port.last) × (port.gone < conn)
   pub last : port.gone ≤ port.last
 
--- What is true of every world: it has at most fifteen devices, its multiplier has a place for each
--- fan-out port, what waits there as the answer of the control port is stamped so, and of each port
+-- What is true of every world. It has at most fifteen devices. Its multiplier has a place for each
+-- fan-out port. What waits there as the answer of the control port is stamped as such. At each port,
 -- the connection that is present is above those that are gone, and none of these is above the last.
 pub record IsOrderly (now : Places) : Type 0 where
   pub most : length now.devices ≤ 15
@@ -144,7 +144,7 @@ opening capacity unit = record {
   presence = record { changes = []; capacity = capacity };
 }
 
--- the host of a new world: a port that was not started, a driver that did nothing, and memory of so
+-- the host of a new world: a port that was not started, a driver that did nothing, and memory of this
 -- many bytes, all 0
 abbrev pub opening_host : ℕ → Host
 opening_host memory =
@@ -160,8 +160,8 @@ new_world config units = record {
   host = opening_host config.memory;
 }
 
--- Whether a world may be so large, with so many units: 1 to 15 ports and a unit for each, links of
--- 1 to 64 frames, and an even number of bytes of memory from 2 MiB to 16 MiB.
+-- Whether a world may have this size, with this many units: 1 to 15 ports and a unit for each, links
+-- of 1 to 64 frames, and an even number of bytes of memory from 2 MiB to 16 MiB.
 abbrev pub is_config : Config → ℕ → Bool
 is_config config units =
     nat_le 1 config.ports && nat_le config.ports 15 && nat_le 1 config.capacity

@@ -1,13 +1,13 @@
--- What a poll tells of an honest disk: a read that is polled as Done has the sectors of the medium
--- in client memory, and a write that is polled as Done is on the medium (ACS-3, READ FPDMA QUEUED
--- and WRITE FPDMA QUEUED; Serial ATA 3.x, 13.6, native command queuing; AHCI 1.3.1, 4.2.3.3, Physical
--- Region Descriptor Table, and 5.3, data transfer).
+-- What a poll tells of an honest disk. A read that is polled as Done has the sectors of the medium in
+-- client memory. A write that is polled as Done is on the medium (ACS-3, READ FPDMA QUEUED and WRITE
+-- FPDMA QUEUED; Serial ATA 3.x, 13.6, native command queuing; AHCI 1.3.1, 4.2.3.3, Physical Region
+-- Descriptor Table, and 5.3, data transfer).
 --
--- Cited: runs of a world and what is told over them (specs/Rules.antt, Runs.antt); a
--- disk, its run, and requests that ended honestly (specs/Disks.antt). That the slot of a request is
--- completed by its device is DoneIsTrue of `hba_driver` (specs/Done.antt).
+-- Cited: runs of a world and what is told over them (specs/Rules.antt, Runs.antt); a disk, its run,
+-- and requests that ended honestly (specs/Disks.antt). DoneIsTrue of `hba_driver` (specs/Done.antt)
+-- says that the slot of a request is completed by its device.
 use Rattle.std.specs.Prelude.{ℕ, ◌≡◌, ◌-◌, ◌*◌, ◌<◌, ◌==◌, true, List, [], ◌∷◌, length}
-use Rattle.std.specs.Prelude.{if◌then◌else◌, slice_index, All, Some, Ok}
+use Rattle.std.specs.Prelude.{if◌then◌else◌, slice_index, All, Some, Ok, false}
 use Rattle.host_memory.specs.Memory.{Memory, client_start}
 use Rattle.host_memory.specs.Place.{LiesInClient, place}
 use Rattle.host_memory.specs.declared.table.Prd.{Prd}
@@ -37,13 +37,12 @@ use Rattle.pm_world.specs.declared.step.Step.{Step}
 use Rattle.pm_world.specs.declared.step.Step.TheVariants as step
 use Rattle.pm_world.specs.declared.step.Answer.{Answer}
 use Rattle.pm_world.specs.declared.step.Answer.TheVariants as answer
-use Rattle.pm_world.specs.Disks.{DiskRun, EndedSince, IsNewDisk}
+use Rattle.pm_world.specs.Disks.{DiskRun, EndedSince, FlushedSince, IsNewDisk}
 
 -- ---- where it was reported
 
--- In this run a request was submitted under the ticket, and later a FIS of its device was taken
--- whose report says that the command of the slot is done. The request stood there then, and was
--- issued.
+-- In this run a request was submitted under the ticket. Later a FIS of its device was taken whose
+-- report says that the command of the slot is done. The request stood there then, and was issued.
 pub record IsReportedIn (ticket : Ticket) (slot : ℕ) (old now : Places) (steps : List Step)
     (answers : List Answer) (run : Run old steps answers now) : Type 0 where
   pub dev : ℕ
@@ -77,11 +76,11 @@ pub record IsFilledAt (dev slot i : ℕ) (prds : List Prd) (touches : Touches) (
 -- ---- the law
 
 -- A request that is polled as Done was reported, and each byte of a read was filled by Data of its
--- device and stands. Where it is queued, its device is a disk, and the disk was left alone from the
--- step that plugged it in as the connection of that FIS up to the report, it ended honestly since it
--- was submitted in that run, whatever errors the disk reported and whatever faults the host found.
--- What the disk does after the report, up to the poll, does not matter, and what other devices do
--- never does.
+-- device and stands. Let the request be queued, let its device be a disk, and let the disk be left
+-- alone from the step that plugged it in as the connection of that FIS up to the report. Then the
+-- request ended honestly since it was submitted in that run, whatever errors the disk reported and
+-- whatever faults the host found. What the disk does after the report, up to the poll, does not
+-- matter, and what other devices do never does.
 pub record IsPolledHonestly (config : Config) (units : List Unit) (now : Places) (steps : List Step)
     (answers : List Answer) (run : Run (new_world config units) steps answers now)
     (completion : Completion) : Type 0 where
@@ -94,18 +93,24 @@ pub record IsPolledHonestly (config : Config) (units : List Unit) (now : Places)
       reported.took.came) reported.took.at.host touches
   pub placed : reported.request.work ≡ Read → (i : ℕ) → i < 512 * reported.request.sectors
       → IsFilledAt reported.dev completion.slot i reported.request.prds.items touches now.host.memory
-  -- all that the host took of its device from its submit up to the report is of one connection, that of
-  -- the report: so are the Data that filled those bytes
+  -- all that the host took of its device from its submit up to the report is of one connection, that
+  -- of the report; so the Data that filled those bytes are, too
   pub of_one : All (λ c. c ≡ reported.conn) (over (connection_by reported.dev) reported.submitted.next
       reported.submitted.after reported.submitted.later reported.took.at reported.submitted.went)
-  -- of a disk
+  -- for a disk
   pub honest : (sectors : ℕ) (plan : DiskPlan) → IsNewDisk units reported.dev plan sectors
       → is_queued reported.request.work ≡ true
       → (d : DiskRun config units reported.dev reported.took.at) → reported.conn ≡ d.conn
       → EndedSince config units reported.dev reported.took.at d sectors completion.slot
       (new_entry completion.ticket.0 reported.dev reported.request) now.host.memory
+  -- and where it is a FLUSH, the disk took one since it was submitted
+  pub flushed : (sectors : ℕ) (plan : DiskPlan) → IsNewDisk units reported.dev plan sectors
+      → is_queued reported.request.work ≡ false
+      → (d : DiskRun config units reported.dev reported.took.at) → reported.conn ≡ d.conn
+      → FlushedSince config units reported.dev reported.took.at d
+      (new_entry completion.ticket.0 reported.dev reported.request)
 
--- So it is with each poll that answers Done, after every run from a new world.
+-- That holds for each poll that answers Done, after every run from a new world.
 abbrev pub HonestPolls : Type 0
 HonestPolls =
     (config : Config) (units : List Unit) → is_config config (length units) ≡ true

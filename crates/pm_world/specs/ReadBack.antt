@@ -1,9 +1,9 @@
--- What a write is to later requests and to the medium (ACS-3, READ FPDMA QUEUED and WRITE FPDMA QUEUED): a
--- read that was submitted once the write had ended brings the bytes of the write, and they stay on the
--- medium, until a later write has them.
+-- What a write means to later requests and to the medium (ACS-3, READ FPDMA QUEUED and WRITE FPDMA
+-- QUEUED). A read that was submitted once the write had ended brings the bytes of the write. They
+-- stay on the medium until a later write has them.
 --
--- Cited: requests that ended honestly since they were submitted (specs/Disks.antt, Ended.antt); which writes
--- have a byte of a medium is of `disk_model` (specs/Last.antt).
+-- Cited: requests that ended honestly since they were submitted (specs/Disks.antt, Ended.antt). Which
+-- writes have a byte of a medium comes from `disk_model` (specs/Last.antt).
 use Rattle.std.specs.Prelude.{ℕ, ◌≡◌, ◌+◌, ◌-◌, ◌*◌, ◌<◌, ◌++◌, suc, true, drop, List, length, slice_get}
 use Rattle.std.specs.Prelude.{slice_index}
 use Rattle.std.specs.Prelude.{IsSomeAnd, Option, Some}
@@ -41,9 +41,9 @@ pub record IsOneByte (read write : Entry) (i j : ℕ) : Type 0 where
   pub of_write : j < 512 * write.head.sectors
   pub same : 512 * read.head.lba + i ≡ 512 * write.head.lba + j
 
--- A read that was submitted after all by which a write had ended: of each byte that both have, and that no
--- write has which ended after that one and before the read began, client memory has at the read's place what
--- went over for the write.
+-- A read was submitted after all by which a write had ended. Take each byte that both have and that
+-- no write has which ended after that write and before the read began. Client memory has at the
+-- read's place what went over for the write.
 abbrev pub ReadsBringWrites : Type 0
 ReadsBringWrites =
     (config : Config) (units : List Unit) (n sectors : ℕ) (plan : DiskPlan)
@@ -59,8 +59,8 @@ ReadsBringWrites =
     (drop (suc (w.ends.writes writes).at) (r.ends.reads reads).read.before)
     → filled s (own n w.touches) j ≡ Some (slice_index l.client (place read.prds i - client_start))
 
--- A write that ended stays on the medium, whatever happens to the disk from there on: each byte of it is
--- there, but for those of later writes.
+-- A write that ended stays on the medium, whatever happens to the disk from there on: each byte of it
+-- is there, except those that later writes have.
 abbrev pub WritesStayThere : Type 0
 WritesStayThere =
     (config : Config) (units : List Unit) (n sectors : ℕ) (plan : DiskPlan)
@@ -79,8 +79,8 @@ abbrev pub Shows : (i : ℕ) → (byte : Option ℕ) → Unit → Type 0
 Shows i byte (Disk disk) = slice_get disk.now.medium i ≡ byte
 Shows i byte (Scripted reading) = ⊥
 
--- So it is in each world to which steps lead from there: the disk at that port has the bytes of the write on
--- its medium, but for those of later writes.
+-- That holds in each world to which steps lead from there: the disk at that port has the bytes of the
+-- write on its medium, except those that later writes have.
 abbrev pub DisksHaveWrites : Type 0
 DisksHaveWrites =
     (config : Config) (units : List Unit) (n sectors : ℕ) (plan : DiskPlan)

@@ -1,6 +1,6 @@
 -- Which removals are recorded, and when the host has seen one, told by answers alone (Serial ATA 3.x,
--- 16.3, port multiplier: presence of a device on a port). Of each port the multiplier records the
--- changes in the order in which they came, and the host takes frames in the order in which they went up.
+-- 16.3, port multiplier: presence of a device on a port). The multiplier records the changes of each
+-- port in the order in which they came, and the host takes frames in the order in which they went up.
 use Rattle.std.specs.Prelude.{ℕ, ◌≡◌, ◌≢◌, ◌<◌, ◌≤◌, max, Bool, true, false, List, [], ◌∷◌, ◌++◌}
 use Rattle.std.specs.Prelude.{take}
 use Rattle.std.specs.List.{flat_map}
@@ -16,14 +16,14 @@ use Rattle.pm_world.specs.declared.link.Change.TheVariants as change
 use Rattle.pm_world.specs.declared.step.Answer.{Answer}
 use Rattle.pm_world.specs.declared.step.Answer.TheVariants as answer
 
--- the highest connection that went, 0 for none
+-- the highest connection that went, 0 if none did
 abbrev pub highest_gone : List Change → ℕ
 highest_gone [] = 0
 highest_gone (change.Came conn ∷ changes) = highest_gone changes
 highest_gone (change.Gone conn ∷ changes) = max conn (highest_gone changes)
 
--- Where these answers are all since the world was made: the changes at port n that are recorded. The
--- j-th answer that says that one was recorded is of the j-th that came.
+-- The changes at port n that are recorded, if these answers are all since the world was made. The
+-- j-th answer that says that a change was recorded is about the j-th change that came.
 abbrev pub recorded_at : ℕ → List Answer → List Change
 recorded_at n answers = take (times (is_recorded n) answers) (flat_map (changed_by n) answers)
 
@@ -32,14 +32,15 @@ abbrev pub is_up : Answer → Bool
 is_up (answer.Up port) = true
 is_up _ = false
 
--- Connection c of port n, or a later one, is recorded as removed in the first of these answers, and in
--- those up to the second the host took a frame that went up after that: it took more than had gone up.
+-- Connection c of port n, or a later one, is recorded as removed in the first of these answers. By
+-- the end of the second the host took a frame that went up after them: it took more frames than had
+-- gone up in the first.
 pub record IsSeen (n c : ℕ) (first second : List Answer) : Type 0 where
   pub some : 0 < c
   pub recorded : c ≤ highest_gone (recorded_at n first)
   pub taken : times is_up first < times is_took (first ++ second)
 
--- What answers tell of removals, over all of them since the world was made, whichever run from a new
+-- What answers tell of removals, over all answers since the world was made, whichever run from a new
 -- world leads to these steps.
 pub record TellsRemovals (old : Places) (answers : List Answer) (new : Places) : Type 0 where
   -- each port knows the highest removal that was recorded, and no other

@@ -1,4 +1,4 @@
--- The port of a device that the host flushes is at rest: no FIS of it is on the host's link, and it
+-- The port of a device that the host flushes is at rest. No FIS of it is on the host's link, and it
 -- passes none until the host clears it (Serial ATA 3.x, 16.3, port multiplier: presence of a device
 -- on a port; 16.4.2: PSCR[1], bit X, a device was exchanged).
 --
@@ -24,14 +24,14 @@ pub record IsAtRest (n : ℕ) (now : Places) : Type 0 where
   pub away : list_any (is_from n) now.upward.frames ≡ false
   pub waits : Waits n now
 
--- ---- what the host finds as it flushes a disk
+-- ---- what the host finds when it flushes a disk
 
--- where this step flushes device n, the port is at rest
+-- if this step flushes device n, the port is at rest
 abbrev pub RestsAtFlush : ℕ → Places → Answer → Type 0
 RestsAtFlush n old answer.Ticked = IsFlushTick n old.host → IsAtRest n old
 RestsAtFlush n old a = Prim.Unit {0}
 
--- so it is in each step of every run from a new world
+-- that holds in each step of every run from a new world
 abbrev pub PortsRest : Type 0
 PortsRest =
     (config : Config) (units : List Unit) → is_config config (length units) ≡ true

@@ -1,9 +1,9 @@
--- The rules of the steps: when a step is refused, and what it does where it is not (Serial ATA 3.x,
--- 16.3, port multiplier: frame transmission, presence; AHCI 1.3.1, chapter 5, command list).
+-- The rules of the steps: when a step is refused, and what it does otherwise (Serial ATA 3.x, 16.3,
+-- port multiplier: frame transmission, presence; AHCI 1.3.1, chapter 5, command list).
 --
--- Of each step the refusals are tested first, in their order; then it is Idle where it reads from
--- an empty link or from a unit that is not plugged in; then Blocked where the place it writes to is
--- full; and only then may it want memory, or find that its source has nothing.
+-- The refusals of a step are tested first, in their order. Then the step is Idle if it reads from an
+-- empty link or from a unit that is not plugged in. Then it is Blocked if the place it writes to is
+-- full. Only then may it run out of memory, or find that its source has nothing.
 use Rattle.std.specs.Prelude.{ℕ, ◌+◌, ◌≡◌, ◌≢◌, ◌<◌, ◌==◌, ◌&&◌, length, not, Bool, true, false}
 use Rattle.std.specs.Prelude.{IsTrue, if◌then◌else◌, List, [], ◌∷◌, Option, Some, None}
 use Rattle.std.specs.Prelude.{is_none, MatchOption, MatchBool, Result, Ok, Err, IsSomeAnd, slice_get}
@@ -49,7 +49,7 @@ Outcome = Result Answer StepError
 abbrev pub largest : ℕ
 largest = 4294967295
 
--- a step is refused by the first refusal that applies, or for want of memory where none does
+-- a step is refused by the first refusal that applies, or for lack of memory if none does
 abbrev pub Refuses : Option StepError → StepError → Type 0
 Refuses first error.OutOfMemory = first ≡ None
 Refuses first e = first ≡ Some e
@@ -74,7 +74,7 @@ CameActs port old (answer.Came p conn) new =
     × (¬ AreFull old.presence)
 CameActs port old _ new = ⊥
 
--- a step that takes no memory never wants any
+-- a step that takes no memory never runs out of it
 abbrev pub TakesNone : StepError → Type 0
 TakesNone error.OutOfMemory = ⊥
 TakesNone _ = Unit {0}
@@ -120,7 +120,7 @@ DiskSendActs port old (answer.Sent p conn number bytes) new =
     × (new ≡ after_sending port old bytes new.unit)
 DiskSendActs port old _ new = ⊥
 
--- where want of memory may be answered
+-- when the step may run out of memory
 abbrev pub SendWants : Place → StepError → Type 0
 SendWants place error.OutOfMemory = CanSend place
 SendWants place _ = Unit {0}
@@ -150,8 +150,8 @@ InjectRule port given old (Ok a) new =
 InjectRule port given old (Err e) new =
     Refuses (inject_refusal given old) e × SendWants old e × (new ≡ old)
 
--- A device takes the first FIS of its link. It is for the device where the device is plugged in
--- under the connection to which the FIS was passed down; any other is dropped.
+-- A device takes the first FIS of its link. The FIS is for the device if the device is plugged in
+-- under the connection to which the FIS was passed down. Any other FIS is dropped.
 abbrev pub is_for : Place → Stamped → Bool
 is_for place frame = place.plugged && frame.stamp.conn == place.conn
 
@@ -168,7 +168,7 @@ DiskTakeActs port old (answer.DiskTook p dropped) new =
     })
 DiskTakeActs port old _ new = ⊥
 
--- a unit may want memory for a FIS that is for it
+-- a unit may run out of memory for a FIS that is for it
 abbrev pub TakeWants : Place → StepError → Type 0
 TakeWants place error.OutOfMemory = (frame : Stamped) × (rest : List Stamped)
     × (place.down.frames ≡ frame ∷ rest) × IsTrue (is_for place frame)
@@ -179,7 +179,7 @@ abbrev pub DiskTakeRule : ℕ → Place → Outcome → Place → Type 0
 DiskTakeRule port old (Ok a) new = DiskTakeActs port old a new
 DiskTakeRule port old (Err e) new = TakeWants old e × (new ≡ old)
 
--- the multiplier after a change was read off port n's presence link; one that the port refuses
+-- the multiplier after a change was read off port n's presence link; a change that the port refuses
 -- changes nothing
 abbrev pub recorded : PmState → ℕ → Change → PmState
 recorded pm n (change.Came conn) =
@@ -203,8 +203,8 @@ abbrev pub offered : Bool → Offered
 offered true = Dropped
 offered false = Held
 
--- The first frame of a device's link goes into the empty upward place of its port, or is dropped
--- since the removal of its connection was recorded.
+-- The first frame of a device's link goes into the empty upward place of its port. It is dropped if
+-- the removal of its connection was recorded.
 abbrev pub PmFromDeviceRule : ℕ → Place → PmState → Outcome → Place → PmState → Type 0
 PmFromDeviceRule n old pm (Ok answer.Idle) new after =
     (old.up.frames ≡ []) × (new ≡ old) × (after ≡ pm)
@@ -228,9 +228,9 @@ PmDownRule n old pm (Ok (answer.Down p)) new after =
     × (new ≡ record old { down = pushed old.down frame }))
 PmDownRule n old pm _ new after = ⊥
 
--- The multiplier takes the first frame of the host's link: to its control port, which answers it, or
--- into the downward place of a port that forwards, or drops it where its port is absent or does not
--- forward.
+-- The multiplier takes the first frame of the host's link. The frame goes to its control port, which
+-- answers it, or into the downward place of a port that forwards. It is dropped if its port is absent
+-- or does not forward.
 abbrev pub PmFromHostRule : Queue → PmState → Outcome → Queue → PmState → Type 0
 PmFromHostRule old pm (Ok answer.Idle) new after =
     (old.frames ≡ []) × (new ≡ old) × (after ≡ pm)
@@ -248,8 +248,8 @@ PmFromHostRule old pm (Err error.OutOfMemory) new after =
     × (new ≡ old) × (after ≡ pm)
 PmFromHostRule old pm _ new after = ⊥
 
--- The frame of the place that is served next goes on the link to the host. Memory is wanted for a
--- notification alone.
+-- The frame of the place that is served next goes on the link to the host. Only a notification needs
+-- memory.
 abbrev pub PmUpRule : PmState → Queue → Outcome → PmState → Queue → Type 0
 PmUpRule pm upward (Ok answer.Idle) after new =
     (¬ IsFull upward) × (next_place pm ≡ None) × (after ≡ pm) × (new ≡ upward)
@@ -272,8 +272,8 @@ HostTakeRule old host (Ok (answer.Took port conn number bytes report)) new after
     × Tooks host bytes report after
 HostTakeRule old host _ new after = ⊥
 
--- The host port is asked for its next frame. Where it gives none, nothing may go, or a table was
--- found spoilt, and the port is stopped since.
+-- The host port is asked for its next frame. If it gives none, nothing may go, or a table was found
+-- spoilt and the port is stopped since.
 abbrev pub HostPushes : Host → Result (Option Stamped) AllocError → Host → Type 0
 HostPushes old (Ok frame) new =
     Pushes old frame new × ((frame ≡ None) × (new ≡ old) → MayRest old.port)
@@ -408,9 +408,9 @@ Run old [] (a ∷ answers) new = ⊥
 Run old (s ∷ steps) [] new = ⊥
 
 -- The run of these steps stops at step i with an error. The steps before it made answers, and the
--- world is the one that they leave. The error is the first refusal of step i there, or want of
--- memory where none applies. After the first step it is one that step i itself gives; before the
--- first step the room for the answers may be what wants memory.
+-- world is the one that they leave. The error is the first refusal of step i there, or lack of memory
+-- if none applies. After the first step it is an error that step i itself gives. Before the first
+-- step, memory may also run out for the room for the answers.
 pub record Stops (old : Places) (steps : List Step) (i : ℕ) (e : StepError) (answers : List Answer)
     (new : Places) : Type 0 where
   pub run : Run old (take i steps) answers new

@@ -19,7 +19,7 @@ over tell old (s ∷ steps) [] new run = []
 over tell old (s ∷ steps) (a ∷ answers) new run =
     tell old s a run.0 ++ over tell run.0 steps answers new run.2
 
--- it holds at each step of a run, of the world before it and its answer
+-- it holds at each step of a run, for the world before the step and its answer
 abbrev pub AtEach : (Places → Answer → Type 0) → (old : Places) → (steps : List Step)
     → (answers : List Answer) → (new : Places) → Run old steps answers new → Type 0
 AtEach Holds old [] answers new run = Prim.Unit {0}
@@ -51,8 +51,8 @@ AfterEveryRun now Holds =
 abbrev pub world_before : Telling Places
 world_before old s a new = old ∷ []
 
--- The step is one of a run: what the run does before it, the step itself with its answer, and what
--- the run does after it.
+-- The step is one of a run. The parts are what the run does before it, the step itself with its
+-- answer, and what the run does after it.
 pub record IsStepOf (s : Step) (a : Answer) (old new : Places) (steps : List Step)
     (answers : List Answer) (run : Run old steps answers new) : Type 0 where
   pub before : List Step

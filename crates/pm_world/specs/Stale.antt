@@ -1,7 +1,7 @@
 -- No stale command: a device takes the command of a request only on the connection on which the last
--- IDENTIFY data that the host accepted for its port were sent (Serial ATA 3.x, 16.3, port
--- multiplier: presence of a device on a port; ACS-3, IDENTIFY DEVICE). So no request is for another
--- device than the one that was identified.
+-- IDENTIFY data that the host accepted for its port were sent (Serial ATA 3.x, 16.3, port multiplier:
+-- presence of a device on a port; ACS-3, IDENTIFY DEVICE). So no request reaches another device than
+-- the one that was identified.
 use Rattle.std.specs.Prelude.{ℕ, ◌≡◌, ◌<◌, ◌==◌, ◌&&◌, if◌then◌else◌, Bool, false, true, List, []}
 use Rattle.std.specs.Prelude.{◌∷◌, length, take, Option, Some, None, slice_get}
 use Rattle.std.specs.List.{list_any}
@@ -30,7 +30,7 @@ use Rattle.pm_world.specs.declared.step.Answer.TheVariants as answer
 -- ---- IDENTIFY data
 
 -- the connection on which IDENTIFY data of port n were sent that the host accepted in this step: a
--- FIS of which it wrote bytes for an IDENTIFY DEVICE
+-- FIS from which it wrote bytes for an IDENTIFY DEVICE
 abbrev pub identified_by : ℕ → Telling ℕ
 identified_by n old s (answer.Took port conn number bytes report) new =
     if port == n && is_identity old.host.port report.wrote then conn ∷ [] else []
@@ -65,7 +65,8 @@ AreOn last [] = Prim.Unit {0}
 AreOn last (c ∷ later) = (last ≡ Some c) × AreOn last later
 
 -- In each of these steps the device at port n takes commands of requests only on the connection on
--- which the last IDENTIFY data before it were sent; those before these steps were sent on this one.
+-- which the last IDENTIFY data before that step were sent. The IDENTIFY data before these steps were
+-- sent on the given connection.
 abbrev pub NoneStale : (n : ℕ) → (last : Option ℕ) → (old : Places) → (steps : List Step)
     → (answers : List Answer) → (new : Places) → Run old steps answers new → Type 0
 NoneStale n last old [] answers new run = Prim.Unit {0}
@@ -105,8 +106,8 @@ Waits n now =
     → shares (map.port_at now.multiplier.registers n).error bit_x ≡ true
 
 -- What is asked of the host in one step. When it orders that port n be cleared, the order before was
--- sent and taken, no FIS of n is on its way up, and the port passes none until it is cleared; and
--- one FIS goes out for each order.
+-- sent and taken, no FIS of n is on its way up, and the port passes none until it is cleared. One FIS
+-- goes out for each order.
 pub record IsInOrder (n : ℕ) (unsent : Bool) (old : Places) (s : Step) (a : Answer) (new : Places)
     : Type 0 where
   pub sent : orders_clear n old a ≡ true → unsent ≡ false
@@ -115,7 +116,7 @@ pub record IsInOrder (n : ℕ) (unsent : Bool) (old : Places) (s : Step) (a : An
   pub waits : orders_clear n old a ≡ true → Waits n old
   pub once : list_any (is_clear n) (pushed_by old s a new) ≡ true → unsent ≡ true
 
--- so it is in each step
+-- that holds in each step
 abbrev pub InOrder : (n : ℕ) → (unsent : Bool) → (old : Places) → (steps : List Step)
     → (answers : List Answer) → (new : Places) → Run old steps answers new → Type 0
 InOrder n unsent old [] answers new run = Prim.Unit {0}
@@ -124,7 +125,7 @@ InOrder n unsent old (s ∷ steps) (a ∷ answers) new run =
     IsInOrder n unsent old s a run.0
     × InOrder n (unsent_after n unsent old s a run.0) run.0 steps answers new run.2
 
--- where the host keeps to that, over a run from a new world, no command is stale
+-- if the host keeps to that, over a run from a new world, no command is stale
 abbrev pub OrderedIsNotStale : Type 0
 OrderedIsNotStale =
     (config : Config) (units : List Unit) → is_config config (length units) ≡ true

@@ -1,5 +1,5 @@
--- The bytes of a write are those with which it was submitted: what the host sent of it, and so what a
--- disk has of it on its medium (AHCI 1.3.1, 4.2.3.3, Physical Region Descriptor Table, and 5.3, data
+-- The bytes of a write are those with which it was submitted. The host sent these for it, so a disk
+-- has these on its medium (AHCI 1.3.1, 4.2.3.3, Physical Region Descriptor Table, and 5.3, data
 -- transfer; Serial ATA 3.x, 10.5, Data FIS; ACS-3, WRITE FPDMA QUEUED).
 --
 -- Cited: where a request was submitted and reported, and requests that were polled (specs/Polled.antt);
@@ -39,9 +39,9 @@ pub record StandsThere (byte : ℕ) (prds : List Prd) (memory : Memory) (i : ℕ
 
 -- ---- what the host sent
 
--- Of devices nothing is asked. Where a write was submitted in a run from a new world and reported to be
--- done, each byte of it that went to its device is the one that stood in client memory at its place as
--- it was submitted: whatever devices send, and whatever is put and submitted in between.
+-- Nothing is asked of devices. A write was submitted in a run from a new world and reported as done.
+-- Then each byte of it that went to its device is the byte that stood in client memory at its place
+-- when the write was submitted, whatever devices send, and whatever is put and submitted in between.
 abbrev pub SentAsSubmitted : Type 0
 SentAsSubmitted =
     (config : Config) (units : List Unit) → is_config config (length units) ≡ true
@@ -56,8 +56,8 @@ SentAsSubmitted =
 
 -- ---- what is on the medium
 
--- A write that is polled as Done is on the medium of its disk with the bytes that stood in client memory
--- at its places as it was submitted.
+-- A write that is polled as Done is on the medium of its disk with the bytes that stood in client
+-- memory at its places when it was submitted.
 abbrev pub WrittenAsSubmitted : Type 0
 WrittenAsSubmitted =
     (config : Config) (units : List Unit) → is_config config (length units) ≡ true
@@ -75,9 +75,9 @@ WrittenAsSubmitted =
 
 -- ---- read after write
 
--- A read that was submitted after all by which a write had ended that is polled as Done: of each byte that
--- both have, and that no write has which ended after that one and before the read began, client memory has
--- at the read's place what it had at the write's place as the write was submitted.
+-- A read was submitted after all by which a write had ended, and is polled as Done. Take each byte
+-- that both have and that no write has which ended after that write and before the read began. Client
+-- memory has at the read's place what it had at the write's place when the write was submitted.
 abbrev pub ReadsBringSubmitted : Type 0
 ReadsBringSubmitted =
     (config : Config) (units : List Unit) → is_config config (length units) ≡ true

@@ -1,5 +1,6 @@
--- What becomes of tickets: each is given once, issued at most once and polled at most once, and its
--- request stands until it is polled, over every run since the world was made. Tickets are our own.
+-- What becomes of tickets, over every run since the world was made. Each ticket is given once, issued
+-- at most once and polled at most once, and its request stands until it is polled. Tickets are our
+-- own: no standard has them.
 --
 -- Cited: the turns of the host in a run (specs/Turns.antt) and the runs that lead to a world
 -- (specs/Runs.antt); TurnsKeep of `hba_driver` (specs/Laws.antt), over the host's turns.

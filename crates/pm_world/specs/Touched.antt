@@ -1,6 +1,6 @@
 -- A host that came from its opening over turns, and what was touched in them, turn by turn: the
 -- events of its port and memory, of which each device has its own (AHCI 1.3.1, chapters 5 and 9).
--- What a turn's events are, and that they serve, is cited of `hba_driver` (specs/Events.antt,
+-- What a turn's events are, and that they serve, is cited from `hba_driver` (specs/Events.antt,
 -- Served.antt).
 use Rattle.std.specs.Prelude.{ℕ, List, [], ◌∷◌, ◌++◌}
 use Rattle.hba_laws.specs.Client.{Touches}
@@ -9,7 +9,7 @@ use Rattle.hba_driver.specs.Events.{events_over, opening_host, shared_by}
 use Rattle.hba_driver.specs.HostTurns.{DoesAll, Host, HostTurn}
 use Rattle.hba_driver.specs.Served.{RunServes}
 
--- the host beside a memory of so many bytes came here over these turns, with these touches
+-- the host beside a memory of this many bytes came here over these turns, with these touches
 pub data AreTouched (len : ℕ) : List HostTurn → Host → Touches → Type 0 where
   opens : AreTouched len [] (opening_host 0 len) []
   goes : (turns : List HostTurn) (turn : HostTurn) (old new : Host) (touches : Touches)

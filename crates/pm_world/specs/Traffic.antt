@@ -1,4 +1,4 @@
--- What was sent, what was taken, and what stands between (Serial ATA 3.x, 16.3, port multiplier: frame
+-- What was sent, what was taken, and what is in between (Serial ATA 3.x, 16.3, port multiplier: frame
 -- transmission, PM Port).
 use Rattle.std.specs.Prelude.{ℕ, ◌≡◌, ◌≢◌, ◌<◌, ◌≤◌, ◌==◌, ◌&&◌, if◌then◌else◌, Bool, false, true, List, []}
 use Rattle.std.specs.Prelude.{◌∷◌, ◌++◌, length}
@@ -40,7 +40,7 @@ abbrev pub stamped : ℕ → ℕ → List Stamped → List (List ℕ)
 stamped n c frames =
     map (λ f. f.bytes) (filter (λ f. f.stamp.port == n && f.stamp.conn == c) frames)
 
--- the bytes of the frames of this connection, where all frames are of one port
+-- the bytes of the frames of this connection, if all frames are of one port
 abbrev pub of_conn : ℕ → List Stamped → List (List ℕ)
 of_conn c frames = map (λ f. f.bytes) (filter (λ f. f.stamp.conn == c) frames)
 
@@ -57,8 +57,8 @@ on_link (Some place) = place.up.frames
 abbrev pub waiting : ℕ → Places → List Stamped
 waiting n places = held n places.multiplier ++ on_link (slice_get places.devices n)
 
--- what is on its way from connection c of port n to the host, oldest first: on the host's link, and
--- then at the port, marked
+-- what is on its way from connection c of port n to the host, oldest first: first on the host's link,
+-- and then at the port, marked
 abbrev pub transit : ℕ → ℕ → Places → List (List ℕ)
 transit n c places = stamped n c places.upward.frames ++ all_marked n (of_conn c (waiting n places))
 
@@ -74,8 +74,8 @@ is_removed n c places = is_gone (port_at places.multiplier n) c
 abbrev pub on_host_link : ℕ → ℕ → Places → List (List ℕ)
 on_host_link n c places = stamped n c places.upward.frames
 
--- Nothing is made or put out of order on the way from old to new, and nothing is dropped but what a
--- recorded removal drops. What stood at the beginning counts as sent before it. What the control
+-- Nothing is made or put out of order on the way from old to new, and nothing is dropped except what
+-- a recorded removal drops. What stood at the beginning counts as sent before it. What the control
 -- port, Fh, says is sent by no device.
 pub record NothingLost (old : Places) (answers : List Answer) (new : Places) : Type 0 where
   -- what the host took of a connection, and then what is on its way, is what was sent on it, as long
@@ -87,11 +87,11 @@ pub record NothingLost (old : Places) (answers : List Answer) (new : Places) : T
       → taken n c answers ++ on_host_link n c new ≡ on_host_link n c old
   -- and a removal stays recorded
   pub stays : (n c : ℕ) → is_removed n c old ≡ true → is_removed n c new ≡ true
-  -- always what the host took, and then what is on its link, is a prefix of what was sent
+  -- what the host took, and then what is on its link, is always a prefix of what was sent
   pub arrives : (n c : ℕ) → n ≢ control_port
       → IsPrefixOf (taken n c answers ++ on_host_link n c new)
       (transit n c old ++ all_marked n (sent n c answers))
-  -- so what the host took is one
+  -- so what the host took is a prefix, too
   pub prefix : (n c : ℕ) → n ≢ control_port
       → IsPrefixOf (taken n c answers) (transit n c old ++ all_marked n (sent n c answers))
 
@@ -100,14 +100,14 @@ abbrev pub is_took : Answer → Bool
 is_took (answer.Took port conn number bytes report) = true
 is_took _ = false
 
--- In these answers the host took a frame that was put on its link since old: it took more frames
--- than stood there.
+-- In these answers the host took a frame that was put on its link since old: it took more frames than
+-- stood there at old.
 abbrev pub TookALater : Places → List Answer → Type 0
 TookALater old answers = length old.upward.frames < length (filter is_took answers)
 
--- After the host saw the removal of a connection it takes nothing of it, nor of an earlier one of
--- that port. It sees it at the latest by the first FIS of the control port that is put up after the
--- removal was recorded; any frame that is put up then does.
+-- After the host saw the removal of a connection, it takes nothing of it, nor of an earlier
+-- connection of that port. The host sees the removal by the first frame, of any port, that went up
+-- after the removal was recorded.
 pub record NothingAfterRemoval (old : Places) (answers : List Answer) : Type 0 where
   pub none : (n c : ℕ) → n ≢ control_port → is_removed n c old ≡ true
       → (first later : List Answer) → first ++ later ≡ answers → TookALater old first

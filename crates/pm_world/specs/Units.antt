@@ -1,5 +1,5 @@
--- What a unit went through in a run, and that it lives on from it (Serial ATA 3.x, 16.3, port multiplier;
--- what a device may do is cited of `disk_model`, specs/Histories.antt and Units.antt).
+-- What a unit went through in a run, and that it lives on from it (Serial ATA 3.x, 16.3, port
+-- multiplier). What a device may do is cited from `disk_model` (specs/Histories.antt and Units.antt).
 use Rattle.std.specs.Prelude.{ℕ, ◌≡◌, ◌==◌, if◌then◌else◌, false, List, [], ◌∷◌, ◌++◌, Some, None}
 use Rattle.std.specs.Prelude.{map, take, slice_get, IsSomeAnd, MatchOption}
 use Rattle.disk_model.specs.Histories.{Happening, Received, Sent, Plugged, Plan}
@@ -14,8 +14,8 @@ use Rattle.pm_world.specs.declared.step.Step.TheVariants as step
 use Rattle.pm_world.specs.declared.step.Answer.{Answer}
 use Rattle.pm_world.specs.declared.step.Answer.TheVariants as answer
 
--- What a step with this answer is to the unit at port n: it was plugged in, it took a FIS that was
--- for it, or it sent one. What is injected is not the unit's.
+-- What a step with this answer means to the unit at port n: it was plugged in, it took a FIS that was
+-- for it, or it sent one. What is injected is not sent by the unit.
 abbrev pub happens : ℕ → Telling Happening
 happens n old (step.Came m) (answer.Came port conn) new = if port == n then Plugged ∷ [] else []
 happens n old (step.DiskTake m) (answer.DiskTook port false) new =
@@ -34,8 +34,8 @@ MaySendAll plan history (Received bytes ∷ later) =
     MaySendAll plan (history ++ Received bytes ∷ []) later
 MaySendAll plan history (Plugged ∷ later) = MaySendAll plan (history ++ Plugged ∷ []) later
 
--- The unit lived on through these events: its plan is the same, it stands for each history that it
--- stood for with them at the end, and what it sent in them it might send.
+-- The unit lived on through these events. Its plan is the same. It stands at the end for each history
+-- that it stood for, with these events added. What it sent in them it was allowed to send.
 pub record LivesOn (old : Unit) (events : List Happening) (new : Unit) : Type 0 where
   pub plan : plan_of new ≡ plan_of old
   pub stands_for : (history : List Happening) → StandsFor old history
@@ -43,8 +43,7 @@ pub record LivesOn (old : Unit) (events : List Happening) (new : Unit) : Type 0 
   pub sends : (history : List Happening) → StandsFor old history
       → MaySendAll (plan_of old) history events
 
--- the unit at a port lives on through its own history, and there is a unit at a port afterwards
--- where there was one
+-- the unit at a port lives on through its own history, and a port that had a unit has one afterwards
 abbrev pub UnitsLiveOn : (old : Places) → (steps : List Step) → (answers : List Answer)
     → (new : Places) → Run old steps answers new → Type 0
 UnitsLiveOn old steps answers new run =
@@ -52,8 +51,8 @@ UnitsLiveOn old steps answers new run =
     (λ was. IsSomeAnd (slice_get new.devices n)
     (λ now. LivesOn was.unit (over (happens n) old steps answers new run) now.unit))
 
--- whichever run from a new world leads to these steps, each unit of that world lived on through all
--- its own history
+-- whichever run from a new world leads to these steps, each unit of that world lived on through its
+-- whole history
 abbrev pub UnitsLivedOn : (old : Places) → (steps : List Step) → (answers : List Answer)
     → (new : Places) → Run old steps answers new → Type 0
 UnitsLivedOn old steps answers new run = AfterEveryRun old (λ config units before told made.

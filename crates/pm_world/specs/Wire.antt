@@ -1,10 +1,10 @@
--- What each step of a world does on the wire of one device: what the host gives goes down to it,
--- what it sends goes up to the host, each in its order, over the multiplier and its links (Serial
--- ATA 3.x, 16.3, port multiplier: frame transmission, PM Port). Of what the device sends nothing is
--- asked: so it is with errors too, and with whatever goes wrong at the host.
+-- What each step of a world does on the wire of one device. What the host gives goes down to it, and
+-- what it sends goes up to the host, each in its order, over the multiplier and its links (Serial ATA
+-- 3.x, 16.3, port multiplier: frame transmission, PM Port). Nothing is asked of what the device
+-- sends: the same holds with errors, and with whatever goes wrong at the host.
 --
 -- Cited: what is on its way, what happens at the ends, and removals (specs/Wired.antt and
--- Traffic.antt); what a step is to a unit (specs/Units.antt).
+-- Traffic.antt); what a step means to a unit (specs/Units.antt).
 use Rattle.std.specs.Prelude.{ℕ, ◌≡◌, ◌≢◌, ◌==◌, true, false, List, [], ◌∷◌, ◌++◌, Ok}
 use Rattle.fis_view.specs.Frames.{marked}
 use Rattle.hba_fbs.specs.declared.report.TakeReport.{TakeReport}
@@ -24,11 +24,11 @@ use Rattle.pm_world.specs.Wired.{descending, descending_on, injects, unplugs}
 
 -- ---- the wire
 
--- The unit at port n was plugged in as connection c, and was not unplugged since. The first list is
--- what the host gave and what may still come to the unit, the second what comes to the host, each
--- oldest first.
+-- The unit at port n was plugged in as connection c, and has not been unplugged since. The first list
+-- is what the host gave and what may still come to the unit. The second is what comes to the host.
+-- Each is oldest first.
 pub record IsOnWire (n c : ℕ) (now : Places) (down up : List (List ℕ)) : Type 0 where
-  -- just this is on its way up
+  -- exactly this is on its way up
   pub above : transit n c now ≡ all_marked n up
   -- and nothing of another connection
   pub alone : (d : ℕ) → d ≢ c → IsAway n d now
@@ -39,8 +39,7 @@ pub record IsOnWire (n c : ℕ) (now : Places) (down up : List (List ℕ)) : Typ
 
 -- ---- a step
 
--- The unit at port n is neither unplugged nor plugged in anew, and what it sends is on connection
--- c.
+-- The unit at port n is neither unplugged nor plugged in anew, and what it sends is on connection c.
 abbrev pub StaysOn : (n c : ℕ) → Answer → Type 0
 StaysOn n c (answer.Came port conn) = (port == n) ≡ false
 StaysOn n c (answer.Gone port conn) = (port == n) ≡ false
@@ -48,7 +47,7 @@ StaysOn n c (answer.Sent port conn number bytes) = (port == n) ≡ true → conn
 StaysOn n c a = Unit {0}
 
 -- What a step with this answer does, by what happened to the unit in it, what the host's end heard
--- and gave, and both lists of before; and what it leaves on the wire.
+-- and gave, and both lists before it; and what it leaves on the wire.
 pub data WireMoves (n c : ℕ) (a : Answer) (new : Places) (happened heard : List Happening)
     (down up : List (List ℕ)) : Type 0 where
   -- nothing is done at either end
@@ -57,8 +56,8 @@ pub data WireMoves (n c : ℕ) (a : Answer) (new : Places) (happened heard : Lis
   -- the host gives a FIS to the unit
   Gives : (bytes : List ℕ) → a ≡ answer.Pushed → happened ≡ [] → heard ≡ Received bytes ∷ []
       → IsOnWire n c new (down ++ bytes ∷ []) up → WireMoves n c a new happened heard down up
-  -- The unit takes one. Those in front of it were dropped: with them or without, the rest is what
-  -- may still come.
+  -- The unit takes one. The FISes in front of it were dropped. With them or without them, the rest is
+  -- what may still come.
   Comes : (front back : List (List ℕ)) (bytes : List ℕ) → a ≡ answer.DiskTook n false
       → happened ≡ Received bytes ∷ [] → heard ≡ [] → down ≡ front ++ bytes ∷ back
       → IsOnWire n c new (front ++ back) up → IsOnWire n c new back up
@@ -82,19 +81,19 @@ pub record GoesOnWire (n c : ℕ) (old : Places) (a : Answer) (new : Places)
 
 -- ---- the laws
 
--- Each world to which a run from a new one leads is orderly, as the laws below ask.
+-- Each world to which a run from a new one leads is orderly, as the laws below require.
 abbrev pub ReachedAreOrderly : Type 0
 ReachedAreOrderly = (now : Places) → IsReached now → IsOrderly now
 
--- So it is with each step, by its answer.
+-- That holds for each step, by its answer.
 abbrev pub WiresGoOn : Type 0
 WiresGoOn =
     (n c : ℕ) (old new : Places) (s : Step) (a : Answer) (down up : List (List ℕ))
     → n ≢ control_port → IsOrderly old → Rule old s (Ok a) new → StaysOn n c a
     → IsOnWire n c old down up → GoesOnWire n c old a new (befalls n old a) down up
 
--- And with each step of a unit that is plugged in, that does not unplug it and injects nothing
--- there, by what it is to the unit.
+-- It holds for each step of a unit that is plugged in, if the step does not unplug it and injects
+-- nothing there, by what the step means to the unit.
 abbrev pub UnitWiresGoOn : Type 0
 UnitWiresGoOn =
     (n c : ℕ) (old new : Places) (s : Step) (a : Answer) (down up : List (List ℕ))
@@ -102,8 +101,8 @@ UnitWiresGoOn =
     → unplugs n s ≡ false → injects n s ≡ false → IsOnWire n c old down up
     → IsThere n c new × GoesOnWire n c old a new (happens n old s a new) down up
 
--- It begins where a unit is plugged in while nothing of its port is on its way, in each world to
--- which a run from a new one leads.
+-- It begins when a unit is plugged in while nothing of its port is on its way, in each world to which
+-- a run from a new one leads.
 abbrev pub PluggedIsOnWire : Type 0
 PluggedIsOnWire =
     (n c : ℕ) (old new : Places) → n ≢ control_port → IsOrderly old

@@ -22,7 +22,7 @@ use Rattle.pm_world.specs.declared.step.Answer.TheVariants as answer
 
 -- ---- what is on its way
 
--- some of a list, in their order
+-- some of a list, in the same order
 abbrev pub AreAmong : List (List ℕ) → List (List ℕ) → Type 0
 AreAmong [] ys = Unit {0}
 AreAmong (x ∷ xs) [] = ⊥
@@ -38,7 +38,8 @@ abbrev pub descending : ℕ → Places → List (List ℕ)
 descending n now =
     map (λ f. f.bytes) (falling_to n now) ++ flat_map (for_port n) now.downward.frames
 
--- what of it the device may take on connection c: not what fell for another one, which it drops
+-- what the device may take of it on connection c: not what fell for another connection, which the
+-- device drops
 abbrev pub descending_on : (n c : ℕ) → Places → List (List ℕ)
 descending_on n c now =
     map (λ f. f.bytes) (of_connection c (falling_to n now))
@@ -56,8 +57,8 @@ befalls n old (answer.DiskTook port false) =
 befalls n old (answer.Sent port conn number bytes) = if port == n then Sent bytes ∷ [] else []
 befalls n old a = []
 
--- what it tells of the host's end: a FIS that came has the port as its mark, one that was given is
--- as the device gets it
+-- what it tells of the host's end: a FIS that came has the port as its mark, and a FIS that was given
+-- is as the device gets it
 abbrev pub IsAtHost : ℕ → Places → Answer → Places → List Happening → Type 0
 IsAtHost n old (answer.Took port conn number bytes report) new heard =
     MatchBool (port == n)
@@ -83,15 +84,15 @@ pub record IsUnremoved (n c : ℕ) (now : Places) : Type 0 where
   pub recorded : (port_at now.multiplier n).gone < c
   pub posted : AreBefore c (on_presence (slice_get now.devices n))
 
--- nothing of a connection is on its way to the host; at the port may wait what a removal that is
--- recorded will drop
+-- nothing of a connection is on its way to the host; what waits at the port may be what a recorded
+-- removal will drop
 abbrev pub IsAway : (n c : ℕ) → Places → Type 0
 IsAway n c now =
     (on_host_link n c now ≡ []) × (is_removed n c now ≡ false → transit n c now ≡ [])
 
 -- ---- the unit
 
--- where a unit is plugged in at port n, it is as connection c
+-- if a unit is plugged in at port n, it is as connection c
 abbrev pub IsOnly : (n c : ℕ) → Places → Type 0
 IsOnly n c now = MatchOption (slice_get now.devices n) (Unit {0})
     (λ place. place.plugged ≡ true → place.conn ≡ c)

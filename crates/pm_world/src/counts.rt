@@ -17,7 +17,7 @@ pub struct ConnCount {
     pub taken: u64,
 }
 
-/// Counts what answers tell, in a row for each connection that came, sorted by port and connection.
+/// Counts what answers tell: one row for each connection that came, sorted by port and connection.
 #[derive(Drop)]
 pub struct Counts {
     rows: Vec<ConnCount>,
@@ -36,7 +36,7 @@ impl Model for Counts {
 }
 
 impl Counts {
-    /// Counts with no row, whose rows will be kept in memory of this allocator.
+    /// Counts without a row. The rows will be kept in memory of this allocator.
     pub fn new(alloc: Global) -> Self
         ensures no_rows { result ≡ [] }
         ensures tell { Tell result [] }
@@ -100,7 +100,7 @@ impl Counts {
         Ok(self.rows.insert(at, row)?)
     }
 
-    /// Counts one more FIS as sent on the connection, where it has a row.
+    /// Counts one more FIS as sent on the connection, if it has a row.
     fn sent(&mut self, port: u8, conn: u32)
         ensures { ChangesRow sent_more self.old port conn self.new }
     {
@@ -113,7 +113,7 @@ impl Counts {
         }
     }
 
-    /// Counts one more FIS as taken on the connection, where it has a row.
+    /// Counts one more FIS as taken on the connection, if it has a row.
     fn took(&mut self, port: u8, conn: u32)
         ensures { ChangesRow taken_more self.old port conn self.new }
     {

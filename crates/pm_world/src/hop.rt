@@ -1,4 +1,4 @@
-//! The links of a world, by the two that each joins.
+//! The links of a world, by the two ends that each joins.
 
 /// A link of a world.
 #[derive(Clone, Copy, Debug, PartialEq, Eq)]

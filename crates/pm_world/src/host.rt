@@ -31,7 +31,7 @@ impl Model for Host {
 }
 
 impl Host {
-    /// A port that was not started, a driver that did nothing, and so many bytes of memory, all 0.
+    /// A port that was not started, a driver that did nothing, and this many bytes of memory, all 0.
     pub fn new(alloc: Global, memory: u32) -> Result<Self, AllocError>
         requires { is_memory_size memory ≡ true }
         ensures { IfOk result (λ host. host ≡ opening_host memory) }
@@ -108,7 +108,7 @@ impl Host {
         }
     }
 
-    /// Why bytes are not put.
+    /// Why bytes are not put, if they are not.
     pub fn put_refusal(&self, at: u32, bytes: &[u8]) -> Option<StepError>
         ensures { result ≡ put_refusal self.now at (length bytes.now) }
     {

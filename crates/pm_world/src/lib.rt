@@ -1,9 +1,9 @@
 //! A world of devices, a port multiplier and a host, in which one step is one action of one actor.
 //!
-//! `World::run` takes any list of steps, in any order, and its contract says that nothing is lost,
-//! made up or put out of order on the way, upward or downward: what the host took from each device
-//! on each connection is a prefix of what that device sent on it, marked with its port; and what a
-//! device took is a prefix of what the host's frames passed down to it.
+//! `World::run` takes any list of steps, in any order. Its contract says that nothing is lost, made
+//! up or reordered on the way, upward or downward. What the host took from each device on each
+//! connection is a prefix of what that device sent on it, marked with its port. What a device took is
+//! a prefix of what the host's frames passed down to it.
 #![tactic(auto)]
 
 mod counts;

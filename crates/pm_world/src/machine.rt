@@ -26,7 +26,7 @@ use multiplier::Multiplier;
 use std::alloc::{AllocError, Global};
 use std::marker::Model;
 
-/// Devices, a port multiplier and a host, and what each step makes of them. A world is one that
+/// Devices, a port multiplier and a host, and what each step makes of them. A world is a machine that
 /// began new.
 #[derive(Drop)]
 pub struct Machine {
@@ -120,8 +120,8 @@ impl Machine {
         }
     }
 
-    /// Steps in order, until one is refused. Their answers go behind those that the vector has; where a
-    /// step is refused, those of the steps before it.
+    /// Takes steps in order, until one is refused. Their answers are appended to the vector. Where a
+    /// step is refused, the answers of the steps before it are.
     pub fn run_into(
         &mut self,
         alloc: Global,
@@ -154,7 +154,7 @@ impl Machine {
         Ok(())
     }
 
-    /// The first refusal that applies to the step, want of memory apart.
+    /// The first refusal that applies to the step, out of memory apart.
     fn refusal(&self, step: &Step) -> Option<StepError>
         ensures { result ≡ refusal self.now step.now }
     {
@@ -183,7 +183,7 @@ impl Machine {
         }
     }
 
-    /// The refusal of a step at port `n` that has none where there is such a port.
+    /// The refusal of a step at port `n`, where such a port would not refuse it.
     fn no_port(&self, n: u8) -> Option<StepError>
         ensures { result ≡ port_refusal self.now n no_refusal }
     {
@@ -412,7 +412,7 @@ impl Machine {
     }
 }
 
-/// Whether a world may be so large, with so many units.
+/// Whether a world may have this size, with this many units.
 fn is_config(config: Config, units: usize) -> bool
     ensures { result ≡ is_config config units }
 {

@@ -1,4 +1,4 @@
-//! What goes on between the multiplier and the links beside it.
+//! What passes between the multiplier and the links beside it.
 
 ghost use Rattle.std.specs.Prelude.{◌≡◌, ◌<◌, Ok};
 ghost use Rattle.pm_world.specs.Rules.{PmDownRule, PmFromDeviceRule, PmFromHostRule, PmPresenceRule, PmUpRule};
@@ -11,8 +11,8 @@ use multiplier::{Multiplier, PmRefusal};
 use pm_ports::Offered;
 use std::alloc::Global;
 
-/// Has port `n` record the first change on its presence link, a connection that came or one that went. One that the
-/// port refuses changes nothing.
+/// Port `n` records the first change on its presence link: a connection that came, or one that went.
+/// A change that the port refuses changes nothing.
 pub fn record(n: u8, seat: &mut Seat, pm: &mut Multiplier) -> Answer
     requires { n < pm.old.registers.ports }
     ensures rule { PmPresenceRule n seat.old pm.old (Ok result) seat.new pm.new }
@@ -31,7 +31,8 @@ pub fn record(n: u8, seat: &mut Seat, pm: &mut Multiplier) -> Answer
     }
 }
 
-/// Moves the first frame of a device's link into the hold of port `n`, or drops it where its connection is gone.
+/// Moves the first frame of a device's link into the hold of port `n`, or drops it if its connection
+/// is gone.
 pub fn pass_up(n: u8, seat: &mut Seat, pm: &mut Multiplier) -> Answer
     requires { n < pm.old.registers.ports }
     ensures rule { PmFromDeviceRule n seat.old pm.old (Ok result) seat.new pm.new }
@@ -73,7 +74,7 @@ pub fn pass_down(n: u8, seat: &mut Seat, pm: &mut Multiplier) -> Answer
     }
 }
 
-/// Has the multiplier take the first frame of the host's link. One that it gives back stays there.
+/// The multiplier takes the first frame of the host's link. A frame that it gives back stays there.
 pub fn hear(alloc: Global, link: &mut Link, pm: &mut Multiplier) -> Result<Answer, StepError>
     ensures rule { PmFromHostRule link.old pm.old result link.new pm.new }
     ensures ports { KeepsPorts pm.old pm.new }

@@ -12,7 +12,7 @@ use std::alloc::{AllocError, Global};
 use std::marker::Model;
 
 /// The place of a device: the unit, its connection, its links to the multiplier and from it, and the
-/// presence link, on which connections that came or went wait to be recorded.
+/// presence link. On the presence link, connections that came or went wait to be recorded.
 #[derive(Drop)]
 pub struct Seat {
     unit: Unit,
@@ -137,7 +137,7 @@ impl Seat {
         })
     }
 
-    /// Unplugs the unit. Frames that are on its links stay there.
+    /// Unplugs the unit. Frames on its links stay there.
     pub fn gone(&mut self, port: u8) -> Result<Answer, StepError>
         ensures { GoneRule port self.old result self.new }
     {
@@ -209,7 +209,8 @@ impl Seat {
         })
     }
 
-    /// Lets the unit take the first frame of its link, where the frame is for it; any other is dropped.
+    /// Lets the unit take the first frame of its link, if the frame is for it. Any other frame is
+    /// dropped.
     pub fn disk_take(&mut self, alloc: Global, port: u8) -> Result<Answer, StepError>
         ensures { DiskTakeRule port self.old result self.new }
     {
@@ -274,7 +275,8 @@ impl Seat {
     }
 }
 
-/// Copies a frame's bytes where room was made for them, and gives the room back that they do not need.
+/// Copies a frame's bytes into the room that was made for them, and gives back the room that they do
+/// not need.
 fn copy_into(room: &mut Vec<u8>, bytes: &[u8])
     requires empty { room.old.items ≡ [] }
     requires room { length bytes.now ≤ vec_capacity room.old }

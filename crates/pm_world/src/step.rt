@@ -39,15 +39,16 @@ pub enum Step {
     Inject(u8, Bytes),
     /// The device at this port takes the first FIS of its link.
     DiskTake(u8),
-    /// The multiplier's port records the first connection on its device's presence link, which came or went.
+    /// The multiplier's port records the first change on its device's presence link: a connection
+    /// that came or went.
     PmPresence(u8),
-    /// The multiplier's port takes the first frame of its device's link into its hold, or drops it where its
-    /// connection is gone.
+    /// The multiplier's port takes the first frame of its device's link into its hold, or drops it if
+    /// its connection is gone.
     PmFromDevice(u8),
     /// The multiplier takes the first frame of the host's link.
     PmFromHost,
-    /// The multiplier puts the next frame for the host on the link to it: one that a port holds, a
-    /// notification, or an answer of the control port.
+    /// The multiplier puts the next frame for the host on the link to it: a frame that a port holds,
+    /// a notification, or an answer of the control port.
     PmUp,
     /// The multiplier puts the frame that waits at this port on the link to its device.
     PmDown(u8),
@@ -88,7 +89,7 @@ pub enum Answer {
     },
     DiskTook {
         port: u8,
-        /// Whether the frame was not for the device that is there, which did not see it.
+        /// Whether the frame was not for the device that is there. The device did not see it then.
         dropped: bool,
     },
     /// The port that recorded that a connection came or went.
@@ -146,7 +147,7 @@ pub enum StepError {
     /// Not all bytes lie in the client area.
     #[error("outside the client area")]
     Outside = 7,
-    /// A byte is of the driver's buffer or of a request that is not polled.
+    /// A byte belongs to the driver's buffer, or to a request that is not polled.
     #[error("memory is in use")]
     InUse = 8,
 }

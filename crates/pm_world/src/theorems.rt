@@ -6,7 +6,7 @@ mod control;
 mod ends;
 mod orders;
 
-pub use bytes::{reads_follow_writes, writes_are_as_submitted};
+pub use bytes::{flushes_follow_writes, reads_follow_writes, writes_are_as_submitted};
 pub use connections::{connections_follow, ports_rest_at_a_flush};
 pub use control::{one_order_at_a_time, ports_go_on};
 pub use ends::{

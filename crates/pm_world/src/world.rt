@@ -52,8 +52,8 @@ impl World {
         Ok(World { machine })
     }
 
-    /// Every world came from a new one by a run of steps. So the laws that speak of each such run
-    /// say something of a world that a function is lent, too. It does nothing when it runs.
+    /// Every world came from a new one by a run of steps. So the laws about each such run hold for a
+    /// world that is lent to a function, too. The function does nothing when it runs.
     pub fn keeps_rules(&self)
         ensures { IsReached self.now }
     {
@@ -70,7 +70,7 @@ impl World {
         self.machine.step(alloc, step)
     }
 
-    /// Steps in order, until one is refused.
+    /// Takes steps in order, until one is refused.
     pub fn run(&mut self, alloc: Global, steps: &[Step]) -> Result<Vec<Answer>, (usize, StepError)>
         ensures run { IfOk result (λ answers. Run self.old steps.now answers.items self.new) }
         ensures laws { IfOk result (λ all. AreLawful self.old steps.now all.items self.new) }
@@ -83,8 +83,9 @@ impl World {
         Ok(answers)
     }
 
-    /// Steps in order, until one is refused. Their answers go behind those that the vector has; where a
-    /// step is refused, those of the steps before it. So the caller can go on from that step.
+    /// Takes steps in order, until one is refused. Their answers are appended to the vector. Where a
+    /// step is refused, the answers of the steps before it are, so the caller can go on from that
+    /// step.
     pub fn run_into(
         &mut self,
         alloc: Global,

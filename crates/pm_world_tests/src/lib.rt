@@ -1,4 +1,4 @@
-//! The tests of `pm_world`. They stand in a crate of their own, since a crate with tests is proved twice.
+//! The tests of `pm_world`. They have a crate of their own, because a crate with tests is proved twice.
 #![tactic(auto)]
 
 #[cfg(test)]

@@ -18,6 +18,3 @@ mod seat;
 pub use item::Item;
 pub use link::{Link, LinkError, MAX_CAPACITY};
 pub use seat::{Full, Rx, Tx, meet};
-
-#[cfg(test)]
-mod tests;

@@ -2,7 +2,7 @@
 use Rattle.std.specs.Prelude.{ℕ}
 
 pub record PostState : Type 0 where
-  -- how many turns in a row there may be in which nothing moves
+  -- the most turns in a row in which nothing moves
   pub turns : ℕ
-  -- in how many turns in a row nothing moved
+  -- for how many turns in a row nothing has moved
   pub still : ℕ

@@ -5,27 +5,28 @@ ghost use Rattle.std.specs.Prelude.{◌≡◌, ◌+◌, ◌<◌, ◌≤◌, true
 use crate::signals::{Signals, Who};
 use std::marker::Model;
 use std::sync::Wait;
-use std::thread;
 
-/// In so many turns in a row a worker may move nothing before it sleeps.
+/// A worker may move nothing in this many turns in a row before it sleeps.
 const WAKEFUL_TURNS: u64 = 256;
 
-/// A sleep that nothing ended counts for so many turns. So many of a worker that is awake last about as long.
+/// A sleep that nothing ended counts as this many turns. A worker that is awake needs about as long
+/// for them.
 const TURNS_OF_A_NAP: u64 = 16_384;
 
-/// The place of one worker in a run. It counts the turns in a row in which nothing moved, neither at this place nor at any
-/// other of the run: once they are as many as there may be, the turns are spent.
+/// The place of one worker in a run. It counts the turns in a row in which nothing moved, neither at
+/// this place nor at any other of the run. Once they are as many as there may be, the turns are
+/// spent.
 #[derive(Drop)]
 pub struct Post<'a> {
     signals: &'a Signals,
     who: Who,
-    /// How many turns in a row there may be in which nothing moves.
+    /// The most turns in a row in which nothing moves.
     turns: u64,
-    /// In how many turns in a row nothing moved.
+    /// For how many turns in a row nothing has moved.
     still: u64,
-    /// In how many turns in a row this worker moved nothing, since it was woken last.
+    /// For how many turns in a row this worker has moved nothing, since it was last woken.
     idle: u64,
-    /// How often something had moved in the run, when that was looked at last.
+    /// How often something had moved in the run, when that was last looked at.
     moves: u64,
     /// How often this worker was rung for, before its turn began.
     rings: u64,
@@ -39,7 +40,8 @@ impl<'a> Model for Post<'a> {
     ghost view = { λ p. record { turns = p.turns; still = p.still } };
 }
 
-/// That the turns of a worker are spent: in so many in a row nothing moved. Only a [`Post`] makes one.
+/// The turns of a worker are spent: nothing has moved for at least as many turns in a row as it may
+/// have. Only a [`Post`] makes one.
 #[derive(Clone, Copy, Debug, PartialEq, Eq)]
 pub struct Spent {
     turns: u64,
@@ -60,7 +62,8 @@ impl Model for Spent {
 }
 
 impl<'a> Post<'a> {
-    /// The place of this worker, at which so many turns in a row may pass in which nothing moves. None has.
+    /// The place of this worker, with the most turns in a row in which nothing moves. No turn has
+    /// passed.
     pub fn new(signals: &'a Signals, who: Who, turns: u64) -> Post<'a>
         ensures turns { result.turns ≡ turns }
         ensures still { result.still ≡ 0 }
@@ -76,7 +79,8 @@ impl<'a> Post<'a> {
         }
     }
 
-    /// Whether the worker has one more turn: the run has not been ended. What it is rung for from now on keeps it awake.
+    /// Whether the worker has one more turn: the run has not been ended. From now on, a ring keeps
+    /// the worker awake.
     pub fn begins(&mut self) -> bool
         ensures { self.new ≡ self.old }
     {
@@ -98,8 +102,8 @@ impl<'a> Post<'a> {
         })
     }
 
-    /// Ends a turn in which the worker moved something, or did not. After some of the second kind it sleeps, until it is
-    /// rung for or some milliseconds are over.
+    /// Ends a turn in which the worker moved something, or did not. After some turns of the second
+    /// kind it sleeps, until it is rung for or some milliseconds are over.
     pub fn turned<R: Wait>(&mut self, rt: &R, moved: bool)
         ensures turns { self.new.turns ≡ self.old.turns }
         ensures moved { moved ≡ true → self.new.still ≡ 0 }
@@ -121,14 +125,14 @@ impl<'a> Post<'a> {
         self.moves = moves;
     }
 
-    /// Gives way to others, and says for how many turns that counts.
+    /// Lets the worker look again at once, and after some turns sleep. Says as how many turns that counts.
+    /// It never yields: on a full machine, a thread that yields waits for all others each time.
     fn rest<R: Wait>(&mut self, rt: &R) -> u64
         ensures same { self.new ≡ self.old }
         ensures few { result ≤ 16384 }
     {
         if self.idle < WAKEFUL_TURNS {
             self.idle += 1;
-            thread::yield_now();
             return 1;
         }
         if self.signals.sleep(rt, self.who, self.rings) {

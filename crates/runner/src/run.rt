@@ -13,7 +13,7 @@ use std::sync::Wait;
 use std::thread;
 use std::thread::{Promise, Threads};
 
-/// What a worker that has so many turns promises of its end.
+/// What a worker that has this many turns promises about its end.
 #[derive(Drop)]
 struct EndOf<W: Worker>(Snapshot<W>, u64);
 
@@ -21,8 +21,8 @@ impl<W: Worker> Promise<W::End> for EndOf<W> {
     ghost kept_by = { λ p end. W.ended p.0.value p.1 end };
 }
 
-/// Runs many workers of one kind, each in a thread of its own. End i is an end of worker i. Where memory is refused, or a
-/// thread cannot be made, the run is over and all that began have ended.
+/// Runs many workers of one kind, each in a thread of its own. End i is an end of worker i. If memory
+/// is refused, or a thread cannot be made, the run is over and all that began have ended.
 fn run_many<W: Worker, R: Threads + Wait + Sync>(
     rt: &R,
     alloc: Global,
@@ -41,7 +41,8 @@ fn run_many<W: Worker, R: Threads + Wait + Sync>(
         rt,
         move |scope| -> Result<(Vec<W::End>, W::End), AllocError>
             requires { IsSync R.row × IsSend W.row × IsSend W.End.row }
-            ensures many { IfOk result (λ ends. AllZip (λ w end. W.ended w turns end) workers.items ends.0.items) }
+            ensures many { IfOk result (λ ends.
+                AllZip (λ w end. W.ended w turns end) workers.items ends.0.items) }
             ensures last { IfOk result (λ ends. W.ended last turns ends.1) }
         {
             let promise = EndOf(Snapshot::of(&last), turns);
@@ -62,8 +63,9 @@ fn run_many<W: Worker, R: Threads + Wait + Sync>(
     Ok(ends)
 }
 
-/// Runs many workers of one kind and two others, all side by side. In so many turns in a row of one worker nothing may move.
-/// End i of many is an end of worker i. Where memory is refused, or a thread cannot be made, all that began have ended.
+/// Runs many workers of one kind and two others, all side by side. `turns` is the most turns in a
+/// row of one worker in which nothing moves. End i of many is an end of worker i. If memory is
+/// refused, or a thread cannot be made, all that began have ended.
 pub fn run_three<D: Worker, P: Worker, H: Worker, R: Threads + Wait + Sync>(
     rt: &R,
     alloc: Global,
@@ -82,7 +84,8 @@ pub fn run_three<D: Worker, P: Worker, H: Worker, R: Threads + Wait + Sync>(
         thread::scope_env(),
         rt,
         move |scope| -> Result<(Vec<D::End>, P::End, H::End), AllocError>
-            ensures many { IfOk result (λ ends. AllZip (λ w end. D.ended w turns end) many.items ends.0.items) }
+            ensures many { IfOk result (λ ends.
+                AllZip (λ w end. D.ended w turns end) many.items ends.0.items) }
             ensures one { IfOk result (λ ends. P.ended one turns ends.1) }
             ensures other { IfOk result (λ ends. H.ended other turns ends.2) }
         {

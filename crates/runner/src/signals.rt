@@ -5,7 +5,7 @@ use std::sync::Wait;
 use std::sync::atomic::{AtomicBool, AtomicU64, Ordering};
 use std::time::Duration;
 
-/// For how long a worker sleeps at most, in milliseconds.
+/// How long a worker sleeps at most, in milliseconds.
 const NAP: u64 = 4;
 
 /// A worker of a run.
@@ -55,7 +55,7 @@ impl Bell {
     }
 }
 
-/// What the workers of one run share. It only says when to look, so nothing is claimed of it.
+/// What the workers of one run share. It only says when to look, so nothing is claimed about it.
 #[derive(Drop)]
 pub struct Signals {
     is_over: AtomicBool,
@@ -66,7 +66,7 @@ pub struct Signals {
 }
 
 impl Signals {
-    /// Those of so many workers of one kind and of two others.
+    /// The signals of this many workers of one kind and of two others.
     pub fn new(alloc: Global, many: usize) -> Result<Signals, AllocError> {
         let mut bells = Vec::new(alloc);
         for _ in 0..many {
@@ -90,7 +90,7 @@ impl Signals {
         }
     }
 
-    /// Wakes a worker, or keeps it awake for one turn more.
+    /// Wakes a worker, or keeps it awake for one more turn.
     pub(crate) fn ring(&self, who: Who) {
         if let Some(bell) = self.bell(who) {
             bell.ring();
@@ -102,8 +102,8 @@ impl Signals {
         self.bell(who).map_or(0, |bell| bell.rings())
     }
 
-    /// Lets a worker sleep until it is rung for, unless it was since these rings were counted, or for some milliseconds.
-    /// Says whether it was rung for.
+    /// Lets a worker sleep until it is rung for, or for some milliseconds. It does not sleep if it
+    /// was rung for since these rings were counted. Says whether it was rung for.
     pub(crate) fn sleep<R: Wait>(&self, rt: &R, who: Who, rings: u64) -> bool {
         if let Some(bell) = self.bell(who) {
             bell.sleep(rt, rings);

@@ -14,12 +14,13 @@ pub enum Fault {
     GateShut,
 }
 
-/// What works in a thread of its own, turn by turn, and what is known of its end then. It ends at the latest once its turns
-/// are spent or the run is over, as its [`Post`] tells, and then it ends the run.
+/// What works in a thread of its own, turn by turn, and what is known of its end. It ends at the
+/// latest once its turns are spent or the run is over, as its [`Post`] tells, and then it ends the
+/// run.
 pub trait Worker: Send + Drop {
     type End: Send + Drop;
 
-    /// What is so of a worker, of how many turns in a row it may have in which nothing moves, and of its end.
+    /// What holds for a worker, for the most turns in a row in which nothing moves, and for its end.
     ghost ended: { Self → ℕ → Self.End → Type 0 };
 
     fn work<R: Wait>(self, rt: &R, post: Post<'_>) -> Self::End

@@ -131,7 +131,7 @@ pub came_total : (n : ℕ) (ss : List Stretch) → AreApart 0 n ss → came_of (
 came_total n ss h =
     came_dwords (over_of n ss) n ∙ ap (λ (x : ℕ). 4 * x) (count_same (λ j. get_or (over_of n ss) j false) (in_one ss) n (λ j lt. get-over n ss j false lt) ∙ dwords_count 0 n ss h)
 
--- all do where as many do as there are
+-- all pass if as many pass as there are
 all_count : (p : ℕ → Bool) (xs : List ℕ) → list_all p xs ≡ nat_eq (count_by p xs) (length xs)
 all_count p [] = refl
 all_count p (x ∷ xs) =
@@ -161,7 +161,7 @@ whole_count over len = all_count (is_over over) (range_with_len 0 len) ∙ ap (�
 abbrev pub starts : ℕ → Stretch → Bool
 starts k s = nat_eq k s.start
 
--- dword k is in one of them, and the dword before is in none
+-- dword k is in one of them, and the dword before it is in none
 abbrev pub first_in : List Stretch → ℕ → Bool
 first_in ss k = in_one ss k && not (nat_lt 0 k && in_one ss (k - 1))
 
@@ -226,7 +226,7 @@ first_over n ss j lt =
     ap (λ (x : Bool). x && not (before (over_of n ss) j)) (get-over n ss j false lt)
     ∙ ap (λ (x : Bool). in_one ss j && not (nat_lt 0 j && x)) (get-over n ss (j - 1) false (omega arith))
 
--- there are as many stretches as the list has
+-- there are as many stretches as the list has entries
 pub stretch_count : (n : ℕ) (ss : List Stretch) → AreApart 0 n ss → stretches_of (over_of n ss) (4 * n) ≡ length ss
 stretch_count n ss h =
     let over : List Bool = over_of n ss in

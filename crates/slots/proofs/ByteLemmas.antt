@@ -26,18 +26,18 @@ range_more a (suc n) =
     let e : a + 1 + n ≡ a + suc n = omega arith in
     ap (λ (l : List ℕ). a ∷ l) (range_more (a + 1) n ∙ ap (λ (m : ℕ). range_with_len (a + 1) n ++ m ∷ []) e)
 
--- no byte is asked for
+-- none of 0 bytes was transferred
 pub any_of_none : (over : List Bool) (offset : ℕ) → any_over over offset 0 ≡ false
 unfolding any_over
 any_of_none over offset = refl
 
--- a byte that went over
+-- a byte that was transferred
 pub any_at : (over : List Bool) (offset count k : ℕ) → k < count → is_over over (offset + k) ≡ true → any_over over offset count ≡ true
 unfolding any_over
 any_at over offset count k below h =
     list_any_at (is_over over) (range_with_len offset count) k 0 (rw (length-range_with_len offset count) below) (ap (is_over over) (get_or-range_with_len offset count k 0 below) ∙ h)
 
--- a dword that went over has one of these bytes
+-- a transferred dword has one of these bytes
 pub any_found : (over : List Bool) (offset count d : ℕ) → 0 < count → offset / 4 ≤ d → d < (offset + count - 1) / 4 + 1 → get_or over d false ≡ true → any_over over offset count ≡ true
 any_found over offset count d some from to set =
     elim (cases_lt (4 * d) offset) [
@@ -45,7 +45,7 @@ any_found over offset count d some from to set =
       | inr there ↦ any_at over offset count (4 * d - offset) (omega arith) (let e : (offset + (4 * d - offset)) / 4 ≡ d = omega arith in ap (λ i. get_or over i false) e ∙ set)
     ]
 
--- none of their dwords went over
+-- none of their dwords was transferred
 pub any_none : (over : List Bool) (offset count : ℕ) → 0 < count → ((d : ℕ) → offset / 4 ≤ d → d < (offset + count - 1) / 4 + 1 → get_or over d false ≡ false) → any_over over offset count ≡ false
 unfolding any_over
 any_none over offset count some none =
@@ -57,7 +57,7 @@ any_none over offset count some none =
     let is : offset + k ≡ at.1 = sym (get_or-range_with_len offset count k at.1 below) ∙ at.3 in
     false≢true (sym (none ((offset + k) / 4) (omega arith) (omega arith)) ∙ ap (is_over over) is ∙ at.4))
 
--- a dword that did not go over
+-- a dword that was not transferred
 pub not_whole : (over : List Bool) (k : ℕ) → k < length over → get_or over k false ≡ false → is_whole over (4 * length over) ≡ false
 unfolding is_whole
 not_whole over k lt h =
@@ -65,7 +65,7 @@ not_whole over k lt h =
     list_all_at (is_over over) (range_with_len 0 n) (4 * k) 0 (rw (length-range_with_len 0 n) (omega arith))
     (ap (is_over over) (get_or-range_with_len 0 n (4 * k) 0 (omega arith)) ∙ (let e : (0 + 4 * k) / 4 ≡ k = omega arith in ap (λ i. get_or over i false) e) ∙ h)
 
--- every dword did
+-- every dword was transferred
 pub all_whole : (over : List Bool) → ((k : ℕ) → k < length over → get_or over k false ≡ true) → is_whole over (4 * length over) ≡ true
 unfolding is_whole
 all_whole over h =
@@ -121,7 +121,7 @@ came_more over k b is =
     ∙ ap (λ (c : Bool). count_by p (range_with_len 0 n) + cond b 1 0 + cond b 1 0 + cond b 1 0 + cond c 1 0) i3
     ∙ four_times (count_by p (range_with_len 0 n)) b
 
--- the dword before went over
+-- the dword before was transferred
 abbrev pub before : List Bool → ℕ → Bool
 before over k = nat_lt 0 k && get_or over (k - 1) false
 
@@ -172,7 +172,7 @@ stretches_more over k =
     ∙ ap (λ (c : Bool). count_by p (range_with_len 0 n) + cond one 1 0 + 0 + 0 + cond c 1 0) i3
     ∙ omega arith
 
--- the flags from from to k are set, and the others as they were
+-- the flags from from to k are set, and the others are as they were
 pub record Marked (old new : List Bool) (from k : ℕ) : Type 0 where
   pub long : length new ≡ length old
   pub set : (j : ℕ) → from ≤ j → j < k → get_or new j false ≡ true

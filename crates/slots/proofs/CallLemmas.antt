@@ -1,4 +1,4 @@
--- What is true of every table stays true in the calls.
+-- What holds for every table still holds after a call.
 use Rattle.std.proofs.Common.{◌≡◌, ℕ, ◌/◌, ◌<◌, Bool, true, false, not, ◌&&◌, ◌||◌, List, get_or, length, refl, sym, ◌∙◌, ap, subst, arith, inl, inr, Option, Some, None}
 use Rattle.std.specs.Prelude.{MatchOption, IfSome, is_none}
 use Rattle.std.specs.Option.{is_some, option_map}
@@ -19,7 +19,7 @@ use Rattle.slots.proofs.StretchLemmas.{few_first}
 use Rattle.slots.proofs.MaskLemmas.{none_below}
 use Rattle.slots.proofs.TableLemmas.{Keeps, context_some, Owns, own_at, owned_own, owned_same, owns_where, table_changed, table_with_issue, with_issue}
 
--- what is issued in a slot, where a test holds of it as the device's
+-- what is issued in a slot, if it is the device's and a test holds for it
 pub record Found (test : Issue → Bool) (dev s : ℕ) (t : Slots) : Type 0 where
   pub issue : Issue
   pub at : issue_at t s ≡ Some issue
@@ -76,7 +76,7 @@ never_waits d dev work h =
     let own : dev ≡ d = owns_where is_waiting d (Some (new_issue dev work)) h in
     false≢true (ap (holds is_waiting) (sym (owned_own d (new_issue dev work) own)) ∙ h)
 
--- some work is issued in a free slot
+-- work is issued in a free slot
 pub table_issued : (s dev : ℕ) (work : Work) (t : Slots) (o : Option Issue) → IsTable t → s < 32 → dev < 16 → IsWork work → issue_at t s ≡ None → o ≡ Some (new_issue dev work) → IsTable (with_issue t s o)
 table_issued s dev work t o is below low fits free e =
     let i : IsIssue (new_issue dev work) = record {

@@ -1,4 +1,4 @@
--- Slots that become free.
+-- Slots that are freed.
 use Rattle.std.proofs.Common.{◌≡◌, ◌≢◌, ℕ, ◌<◌, Bool, true, false, nat_eq, cond, List, get_or, set, length, map, refl, sym, ◌∙◌, ap, subst, arith, inl, inr, Option, Some, None, get_or-set_same, get_or-set_other, length-set}
 use Rattle.std.specs.Prelude.{MatchOption}
 use Rattle.std.proofs.lemmas.Bool.{cases_eq, cases_lt, cases_Bool, ne_eqb, eq-eqb, eqb-true, cond-true, cond-false, false≢true}
@@ -10,7 +10,7 @@ use Rattle.slots.specs.Table.{IsIssue, IsContextOf, IsContext, IsTable, waits_fo
 use Rattle.slots.proofs.MaskLemmas.{length-unless, get-unless}
 use Rattle.slots.proofs.TableLemmas.{Owns, owned_none}
 
--- the table in which these slots are free, and the device's context ended where its slot is one of them
+-- the table with these slots free; the device's context ends if its slot is one of them
 abbrev pub freed_table : ℕ → (ℕ → Bool) → Slots → Slots
 freed_table dev f t = record { issues = issues_unless f t.issues; contexts = set t.contexts dev (context_unless f (context_of t dev)) }
 
@@ -24,7 +24,7 @@ no_issue = None
 abbrev pub no_context : Option Context
 no_context = None
 
--- ---- the device's own part
+-- ---- the device's part
 
 owned_unless : (dev : ℕ) (b : Bool) (o : Option Issue) → owned_by dev (cond b None o) ≡ cond b None (owned_by dev o)
 owned_unless dev true o = refl
@@ -63,7 +63,7 @@ own_freed dev f g t is below same =
     ap (λ (x : List (Option Issue)). record { issues = x; context = get_or (set t.contexts dev (context_unless f (context_of t dev))) dev None }) e1
     ∙ ap (λ (x : Option Context). record { issues = issues_unless g (map (owned_by dev) t.issues); context = x }) e2
 
--- ---- the others' parts
+-- ---- the parts of the others
 
 unless_other : (dev other : ℕ) (b : Bool) (o : Option Issue) → (b ≡ true → Owns dev o) → other ≢ dev → owned_by other (cond b None o) ≡ owned_by other o
 unless_other dev other true o own ne = sym (owned_none dev other o (own refl) ne)
@@ -85,7 +85,7 @@ others_freed dev f t own other ne =
     let e2 : context_of (freed_table dev f t) other ≡ context_of t other = get_or-set_other t.contexts dev other (context_unless f (context_of t dev)) None ne in
     ap (λ (x : List (Option Issue)). record { issues = x; context = context_of (freed_table dev f t) other }) e ∙ ap (λ (x : Option Context). record { issues = map o t.issues; context = x }) e2
 
--- ---- what is true of every table stays true
+-- ---- what holds for every table still holds
 
 issue_unless_kept : (b : Bool) (o : Option Issue) → MatchOption o (Unit {0}) IsIssue → MatchOption (cond b None o) (Unit {0}) IsIssue
 issue_unless_kept true o h = tt

@@ -168,7 +168,7 @@ pub any_issued : (o : Option Issue) → is_some (option_map issued_of o) ≡ hol
 any_issued None = refl
 any_issued (Some issue) = refl
 
--- ---- slots that become free
+-- ---- slots that are freed
 
 pub length-unless : (test : ℕ → Bool) (issues : List (Option Issue)) → length (issues_unless test issues) ≡ length issues
 unfolding issues_unless
@@ -178,7 +178,7 @@ pub get-unless : (test : ℕ → Bool) (issues : List (Option Issue)) (s : ℕ) 
 unfolding issues_unless
 get-unless test issues s d h = get_or-map-range_with_len (λ slot. cond (test slot) None (get_or issues slot None)) 0 (length issues) s s d h (omega arith)
 
--- the slots below i are freed where the test says so, and the others are as they were
+-- the slots below i are freed if the test says so, and the others are as they were
 pub record FreedBelow (test : ℕ → Bool) (old new : List (Option Issue)) (i : ℕ) : Type 0 where
   pub long : length new ≡ length old
   pub below : (s : ℕ) → s < i → get_or new s None ≡ cond (test s) None (get_or old s None)

@@ -1,4 +1,4 @@
--- A stretch more, joined with those that it meets or touches.
+-- One more stretch, joined with those that it meets or touches.
 use Rattle.std.proofs.Common.{◌≡◌, ℕ, ◌+◌, ◌*◌, ◌/◌, ◌%◌, ◌<◌, ◌≤◌, Bool, true, false, ◌||◌, nat_lt, cond, List, [], ◌∷◌, ◌++◌, length, refl, sym, ◌∙◌, ap, subst, arith, inl, inr, Option, Some, None}
 use Rattle.std.proofs.lemmas.Bool.{cases_Bool, cases_lt, or_from, or_left, or_right, lt-ltb, le-ltb, false≢true, false_from_ne_true}
 use Rattle.std.proofs.lemmas.List.{append-nil, append_assoc, get_or_past, length-append}
@@ -86,7 +86,7 @@ merged_apart low n g (s ∷ ss) h from some to = elim (cases_lt s.end g.start) [
   ]
 ]
 
--- ---- they are the bytes that go over too
+-- ---- they are the transferred bytes with the new ones
 
 pub merged_over : (n offset count : ℕ) (g : Stretch) (ss : List Stretch) → offset % 4 ≡ 0 → count % 4 ≡ 0 → offset + count ≤ 4 * n → g.start ≡ offset / 4 → g.end ≡ offset / 4 + count / 4
     → over_of n (merged_with g ss) ≡ with_bytes (over_of n ss) offset count
@@ -107,7 +107,7 @@ merged_over n offset count g ss o4 c4 within from to =
       ];
     })
 
--- so there are as many of them as of those bytes
+-- so there are as many of them as of these bytes
 pub merged_count : (n offset count : ℕ) (g : Stretch) (ss : List Stretch) → AreApart 0 n ss → offset % 4 ≡ 0 → count % 4 ≡ 0 → offset + count ≤ 4 * n → g.start ≡ offset / 4 → g.end ≡ offset / 4 + count / 4 → 0 < count
     → length (merged_with g ss) ≡ stretches_of (with_bytes (over_of n ss) offset count) (4 * n)
 merged_count n offset count g ss h o4 c4 within from to some =
@@ -123,7 +123,7 @@ merged_seen n offset count g ss over is h o4 c4 within from to some =
 
 -- ---- the loop
 
--- what comes of the stretches that are left, where one waits or not
+-- what becomes of the stretches that are left, with one that waits or none
 abbrev pub left_of : Option Stretch → List Stretch → List Stretch
 left_of None ss = ss
 left_of (Some g) ss = merged_with g ss

@@ -1,4 +1,4 @@
--- The next bytes of a device's context go over.
+-- The next bytes of a device's context are transferred.
 use Rattle.std.proofs.Common.{◌≡◌, ℕ, ◌+◌, ◌*◌, ◌%◌, ◌<◌, ◌≤◌, Bool, true, List, get_or, set, length, refl, sym, ◌∙◌, ap, subst, arith, inl, inr, Option, Some, None, get_or-set_same, get_or-set_other}
 use Rattle.std.specs.Prelude.{MatchOption}
 use Rattle.std.specs.Option.{option_map}
@@ -34,7 +34,7 @@ owns_context dev c t is e =
     let f = in_context dev c t is e in
     subst (λ (o : Option Issue). Owns dev o) (sym f.at) f.is.of_dev
 
--- the device's context is the only one of its slots
+-- the device's context is the only one for its slot
 only_context : (dev other s : ℕ) (c : Context) (t : Slots) (i : Issue) → IsTable t → dev < 16 → issue_at t s ≡ Some i → i.dev ≡ dev → context_of (with_context t dev None) other ≡ Some c → c.slot ≡ s → ⊥
 only_context dev other s c t i is below at owner e same = elim (cases_eq other dev) [
   | inl one ↦
@@ -45,7 +45,7 @@ only_context dev other s c t i is below at owner e same = elim (cases_eq other d
       apart (sym (context_in t other s c i (context_some t other c is before) same at).of_dev ∙ owner)
 ]
 
--- the issue after bytes of its context went over
+-- the issue after bytes of its context were transferred
 moved_issue : (dev n : ℕ) (c : Context) (i : Issue) → IsIssue i → IsContextOf dev c i → n ≤ c.left → n % 4 ≡ 0 → IsIssue (moved_over c.next n i)
 moved_issue dev n c i r g within dwords = record {
   dev_below = r.dev_below;
@@ -76,7 +76,7 @@ moved_context dev n c i r g within dwords =
       activates = λ h. absurd (false≢true h);
     }
 
--- they are 64 stretches at most then
+-- they are at most 64 stretches then
 pub few_moved : (dev n : ℕ) (c : Context) (t : Slots) (i : Issue) (d : Option Issue) → IsTable t → context_of t dev ≡ Some c → n ≤ c.left → n % 4 ≡ 0 → get_or t.issues c.slot d ≡ Some i
     → stretches_of (with_bytes i.over c.next n) i.work.len ≤ 64
 few_moved dev n c t i d is e within dwords at =

@@ -1,4 +1,4 @@
--- Sets of a device's slots that become free.
+-- Sets of a device's slots that are freed.
 use Rattle.std.proofs.Common.{◌≡◌, ℕ, ◌<◌, Bool, true, false, ◌&&◌, cond, List, get_or, length, map, refl, sym, ◌∙◌, ap, arith, replicate, Option, Some, None}
 use Rattle.std.specs.Prelude.{MatchOption}
 use Rattle.std.proofs.lemmas.Bool.{and_parts, cond-true, false≢true}
@@ -15,7 +15,7 @@ use Rattle.slots.proofs.FreeLemmas.{AreOwn, no_issue}
 pub mask_is : (test : ℕ → Bool) (mask : ℕ) → mask ≡ mask_below test 32 → (s : ℕ) → s < 32 → has_bit mask s ≡ test s
 mask_is test mask is s lt = ap (λ (m : ℕ). has_bit m s) is ∙ has_bit_mask test s lt
 
--- slots of which a test holds as the device's are its own
+-- slots with an issue of the device for which a test holds are the device's own
 own_where : (test : Issue → Bool) (dev : ℕ) (t : Slots) (s : ℕ) → s < length t.issues → holds test (own_issue (slots_of dev t) s) ≡ true → Owns dev (issue_at t s)
 own_where test dev t s lt h = owns_where test dev (issue_at t s) (ap (holds test) (sym (own_at dev t s lt)) ∙ h)
 

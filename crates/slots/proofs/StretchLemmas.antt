@@ -1,4 +1,5 @@
--- Bytes that go over where none did: they begin one stretch at most, and what is left of them did not go over.
+-- Bytes that are transferred where none were. They begin at most one stretch, and what is left of them was
+-- not transferred.
 use Rattle.std.proofs.Common.{◌≡◌, ◌≢◌, ℕ, zero, suc, ◌+◌, ◌-◌, ◌*◌, ◌%◌, ◌<◌, ◌≤◌, Bool, true, false, not, ◌&&◌, ◌||◌, nat_eq, nat_lt, nat_le, cond, List, length, refl, sym, ◌∙◌, ap, arith, inl, inr, count_by, subst, Option, Some, None}
 use Rattle.std.specs.Prelude.{IsSome, is_some}
 use Rattle.std.specs.Option.{ForSome}
@@ -63,14 +64,14 @@ within_is o n b h = elim (cases_lt b o) [
   ]
 ]
 
--- a byte outside is over as it was
+-- a byte outside is as it was
 over_outside : (over : List Bool) (o n b : ℕ) → o % 4 ≡ 0 → n % 4 ≡ 0 → b < 4 * length over → is_over (with_bytes over o n) b ≡ true → (is_within o n b ≡ true → ⊥) → is_over over b ≡ true
 over_outside over o n b o4 n4 lt h out = elim (or_cases (is_over over b) (is_within o n b) (sym (over_with_bytes over o n b o4 n4 lt) ∙ h)) [
   | inl was ↦ was
   | inr within ↦ absurd (out within)
 ]
 
--- a byte inside is
+-- a byte inside is transferred
 over_inside : (over : List Bool) (o n b : ℕ) → o % 4 ≡ 0 → n % 4 ≡ 0 → b < 4 * length over → o ≤ b → b < o + n → is_over (with_bytes over o n) b ≡ true
 over_inside over o n b o4 n4 lt low high = over_with_bytes over o n b o4 n4 lt ∙ or_right (is_over over b) (is_within o n b) (within_yes o n b low high)
 
@@ -125,7 +126,7 @@ full_ends : (s : ℕ) (e : Bool) → 64 ≤ s → (nat_le 64 s && not e) ≡ fal
 full_ends s true full h = refl
 full_ends s false full h = absurd (false≢true (sym h ∙ ap (λ (x : Bool). x && true) (le-leb 64 s full)))
 
--- where there is room for them, 64 stretches at most are 64 at most then
+-- if there is room for them, at most 64 stretches stay at most 64
 pub few_then : (over : List Bool) (o n len : ℕ) → o % 4 ≡ 0 → n % 4 ≡ 0 → len ≤ 4 * length over → stretches_of over len ≤ 64 → (nat_le 64 (stretches_of over len) && not (ends_at over o)) ≡ false
     → stretches_of (with_bytes over o n) len ≤ 64
 unfolding stretches_of
@@ -149,7 +150,7 @@ count_nothing : (n : ℕ) → count_by (λ (b : ℕ). false) (range_with_len 0 n
 count_nothing zero = refl
 count_nothing (suc n) = count_more (λ b. false) n ∙ omega (arith, count_nothing n)
 
--- of no byte that went over there is no stretch
+-- where no byte was transferred there is no stretch
 pub few_first : (len : ℕ) → stretches_of (none_over len) len ≤ 64
 unfolding stretches_of
 few_first len =
@@ -176,14 +177,14 @@ none_from over o n free = false_from_ne_true (list_any (is_over over) (range_wit
     let is : o + k ≡ at.1 = sym (get_or-range_with_len o n k at.1 below) ∙ at.3 in
     free k below (ap (is_over over) is ∙ at.4))
 
--- the first n of these bytes went over, and the others did not
+-- the first n of these bytes were transferred, and the others were not
 pub fresh_then : (over : List Bool) (o n left : ℕ) → o % 4 ≡ 0 → n % 4 ≡ 0 → n ≤ left → o + left ≤ 4 * length over → any_over over o left ≡ false → any_over (with_bytes over o n) (o + n) (left - n) ≡ false
 fresh_then over o n left o4 n4 within inside fresh = none_from (with_bytes over o n) (o + n) (left - n) (λ k lt h.
     let e : o + n + k ≡ o + (n + k) = omega arith in
     let was : is_over over (o + n + k) ≡ true = over_outside over o n (o + n + k) o4 n4 (omega arith) h (λ in_it. let at = within_is o n (o + n + k) in_it in omega (arith, at.1)) in
     false≢true (sym (none_at over o left (n + k) fresh (omega arith)) ∙ ap (is_over over) (sym e) ∙ was))
 
--- none of no bytes goes over
+-- 0 bytes add none
 pub with_none : (over : List Bool) (o : ℕ) → o % 4 ≡ 0 → with_bytes over o 0 ≡ over
 with_none over o o4 = sym (marked_with_bytes over over o 0 o4 refl (record { long = refl; set = λ j low high. absurd (omega arith); kept = λ j apart. refl }))
 
@@ -202,7 +203,7 @@ and_no : (x : Bool) → (x && false) ≡ false
 and_no true = refl
 and_no false = refl
 
--- what is left of them has room as they had
+-- what is left of them has room, as they had
 pub room_then : (over : List Bool) (o n left len : ℕ) → o % 4 ≡ 0 → n % 4 ≡ 0 → n ≤ left → o + left ≤ 4 * length over → any_over over o left ≡ false → (0 < left → (nat_le 64 (stretches_of over len) && not (ends_at over o)) ≡ false)
     → 0 < left - n → (nat_le 64 (stretches_of (with_bytes over o n) len) && not (ends_at (with_bytes over o n) (o + n))) ≡ false
 room_then over o n left len o4 n4 within inside fresh room some = elim (cases_lt 0 n) [
@@ -214,7 +215,7 @@ room_then over o n left len o4 n4 within inside fresh room some = elim (cases_lt
       ap (λ (x : List Bool). nat_le 64 (stretches_of x len) && not (ends_at x (o + n))) same ∙ ap (λ (x : ℕ). nat_le 64 (stretches_of over len) && not (ends_at over x)) at ∙ room (omega arith)
 ]
 
--- the flags of an issue have 64 stretches at most where the issue has
+-- the flags of an issue have at most 64 stretches if the issue has
 pub few_flags : (issued : Option Issued) (over : List Bool) (o n : ℕ) (now : Option Issue) → issue_in issued over ≡ now → IsSome now → HasRoom issued over
     → ForSome now (λ issue. stretches_of (with_bytes issue.over o n) issue.work.len ≤ 64) → stretches_of (with_bytes over o n) (4 * length over) ≤ 64
 few_flags None over o n now is some room few = absurd (false≢true (ap is_some is ∙ some))

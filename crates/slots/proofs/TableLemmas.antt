@@ -1,4 +1,4 @@
--- Changes of a table: what of it is one device's, what is the others', and what stays true.
+-- Changes of a table: a device's part, the parts of the others, and what stays true.
 use Rattle.std.proofs.Common.{◌≡◌, ◌≢◌, ℕ, ◌<◌, Bool, true, false, nat_eq, cond, List, get_or, set, length, map, refl, sym, ◌∙◌, ap, subst, arith, inl, inr, Option, Some, None, get_or-set_same, get_or-set_other, length-set}
 use Rattle.std.specs.Prelude.{MatchOption}
 use Rattle.std.specs.Option.{is_some, option_map}
@@ -38,7 +38,7 @@ some_by : (test : Issue → Bool) (o : Option Issue) → holds test o ≡ true �
 some_by test None h = absurd (false≢true h)
 some_by test (Some issue) h = refl
 
--- a test holds of it as the device's
+-- a test holds for it as the device's
 pub owns_where : (test : Issue → Bool) (dev : ℕ) (o : Option Issue) → holds test (owned_by dev o) ≡ true → Owns dev o
 owns_where test dev o h = owns_from dev o (some_by test (owned_by dev o) h)
 
@@ -50,7 +50,7 @@ pub owned_same : (dev : ℕ) (o : Option Issue) → Owns dev o → owned_by dev 
 owned_same dev None h = refl
 owned_same dev (Some issue) h = owned_own dev issue h
 
--- the own issue is the one of the slot
+-- the device's issue is the one in the slot
 pub own_at : (dev : ℕ) (t : Slots) (s : ℕ) → s < length t.issues → own_issue (slots_of dev t) s ≡ owned_by dev (issue_at t s)
 own_at dev t s lt = get_or-map (owned_by dev) t.issues s None None lt
 
@@ -105,7 +105,7 @@ others_changed dev s t f keeps o d lt is owns =
     let now : o ≡ option_map f (issue_at t s) = is ∙ ap (option_map f) (get_or_default t.issues s d None lt) in
     others_with_issue dev s t o (λ other ne. ap (owned_by other) now ∙ owned_none dev other (option_map f (issue_at t s)) (owns_change dev f keeps (issue_at t s) owns) ne ∙ sym (owned_none dev other (issue_at t s) owns ne))
 
--- ---- what is true of every table stays true
+-- ---- what holds for every table still holds
 
 issue_kept : (t : Slots) (s r : ℕ) (o : Option Issue) → IsTable t → MatchOption o (Unit {0}) IsIssue → MatchOption (issue_at (with_issue t s o) r) (Unit {0}) IsIssue
 issue_kept t s r o is h = elim (cases_eq r s) [
@@ -172,7 +172,7 @@ table_with_context t dev m is below h =
       one_waits = is.one_waits;
     }
 
--- an issue is changed: what of it the table needs
+-- what the table needs of a changed issue
 pub record Keeps (f : Issue → Issue) (issue : Issue) : Type 0 where
   pub owner : (f issue).dev ≡ issue.dev
   pub rules : IsIssue issue → IsIssue (f issue)

@@ -1,5 +1,5 @@
 -- Commands: when they go out, what an answer of their device does, and when they are done (AHCI 1.3.1, 5.5
--- and 5.6, how commands are issued and done, 3.3.13 PxSACT, 3.3.14 PxCI; Serial ATA 3.x, 10.5, Register
+-- and 5.6, how commands are issued and completed, 3.3.13 PxSACT, 3.3.14 PxCI; Serial ATA 3.x, 10.5, Register
 -- Device to Host and Set Device Bits FISes; ACS-3, NCQ).
 use Rattle.std.specs.Prelude.{◌≡◌, ◌<◌, ℕ, Bool, true, false, not, ◌&&◌, ◌||◌, ◌==◌, if◌then◌else◌, Option}
 use Rattle.std.specs.Prelude.{Some, None, is_none, slice_set, MatchOption}
@@ -13,24 +13,24 @@ use Rattle.slots.specs.Slots.{match_some, holds, is_control, is_pio, is_done_iss
 use Rattle.slots.specs.Slots.{is_short_issue, is_whole_issue, waiting, sent_pio, freed, has_bit, mask_of}
 use Rattle.slots.specs.Slots.{lowest, new_issue}
 
--- this slot alone
+-- the set of this slot alone
 abbrev pub is_slot : ℕ → ℕ → Bool
 is_slot slot k = k == slot
 
 -- ---- a command is issued
 
--- the device's own part after some work was issued in a free slot
+-- the device's part after work is issued in a free slot
 abbrev pub after_issue : DeviceSlots → ℕ → ℕ → Work → DeviceSlots
 after_issue own slot dev work = with_own_issue own slot (Some (new_issue dev work))
 
--- the table after that: nothing else changes
+-- the table afterwards: nothing else changes
 abbrev pub table_after_issue : Slots → ℕ → ℕ → Work → Slots
 table_after_issue t slot dev work = record t { issues = slice_set t.issues slot (Some (new_issue dev work)) }
 
 -- ---- a command goes out
 
--- Something is issued in the slot that was not sent. Where it is not a Control, no slot of its device waits
--- for its answer.
+-- A command is issued in the slot and was not sent. If it is not a Control, no slot of its device waits for
+-- an answer.
 abbrev pub MayBeSent : Slots → ℕ → Type 0
 MayBeSent t slot = MatchOption (issue_at t slot) ⊥ (λ issue.
     (issue.sent ≡ false) × (is_control issue.work.kind ≡ false → waiting (slots_of issue.dev t) ≡ None))
@@ -38,18 +38,18 @@ MayBeSent t slot = MatchOption (issue_at t slot) ⊥ (λ issue.
 abbrev pub sent_issue : Issue → Issue
 sent_issue issue = record issue { sent = true }
 
--- the own part with the issue of a slot sent
+-- the device's part with the command of a slot sent
 abbrev pub with_sent : DeviceSlots → ℕ → DeviceSlots
 with_sent own slot = with_own_issue own slot (option_map sent_issue (own_issue own slot))
 
--- a Control has no answer of its own, so its slot becomes free
+-- a Control has no answer of its own, so its slot is freed
 abbrev pub after_sent : DeviceSlots → ℕ → DeviceSlots
 after_sent own slot =
     if holds (λ issue. is_control issue.work.kind) (own_issue own slot) then freed (is_slot slot) own
     else with_sent own slot
 
--- the slot may go out next: its command was not sent, its device is not faulty, and it is a Control, or the
--- device is ready and no slot of it waits
+-- The slot may go out next. Its command was not sent, and its device is not faulty. It is a Control, or the
+-- device is ready and none of its slots waits.
 abbrev pub may_go : ℕ → ℕ → Slots → Issue → Bool
 may_go ready faulty t issue =
     not issue.sent && not (has_bit faulty issue.dev)
@@ -64,19 +64,19 @@ next_slot ready faulty t = lowest (λ slot. holds (may_go ready faulty t) (issue
 abbrev pub answered_issue : Issue → Issue
 answered_issue issue = record issue { answered = true }
 
--- the own part with the issue of a slot answered
+-- the device's part with the command of a slot answered
 abbrev pub with_answered : DeviceSlots → ℕ → DeviceSlots
 with_answered own slot = with_own_issue own slot (option_map answered_issue (own_issue own slot))
 
--- what its answer is for a slot with this issue: a queued command goes on, any other is done, but for a PIO
--- data-in of which bytes are missing
+-- What an answer is for, in a slot with this issue. A queued command goes on. Any other is done, except a PIO
+-- data-in with bytes missing.
 abbrev pub answer_for : ℕ → Issue → Answered
 answer_for slot issue =
     if is_queued_issue issue then Queued slot
     else if is_pio issue.work.kind && not (is_whole_issue issue) then Short slot
     else Done slot
 
--- an answer for a slot names one of the 32
+-- an answer for a slot names one of the 32 slots
 abbrev pub IsSlotAnswer : Answered → Type 0
 IsSlotAnswer Nobody = Unit {0}
 IsSlotAnswer (Queued slot) = slot < 32
@@ -90,12 +90,13 @@ StaysWithout (Queued slot) old new = Unit {0}
 StaysWithout (Done slot) old new = Unit {0}
 StaysWithout (Short slot) old new = new ≡ old
 
--- the answer is for the slot that waits
+-- what an answer of the device is for: the slot that waits
 abbrev pub answer_of : DeviceSlots → Answered
 answer_of own =
     match_some (waiting own) Nobody (λ slot. match_some (own_issue own slot) Nobody (answer_for slot))
 
--- the device's own part after an answer: a command that goes on is answered, one that is done becomes free
+-- the device's part after an answer: a command that goes on is answered, the slot of one that is done is
+-- freed
 abbrev pub answered_as : Answered → DeviceSlots → DeviceSlots
 answered_as Nobody own = own
 answered_as (Queued slot) own = with_answered own slot
@@ -107,27 +108,27 @@ after_answer own = answered_as (answer_of own) own
 
 -- ---- the device says that commands are done
 
--- the slot is named, and is a queued one of which all bytes went over, or not all
+-- the slot is named and queued; all its bytes were transferred, or some are missing
 abbrev pub is_done : ℕ → DeviceSlots → ℕ → Bool
 is_done mask own slot = has_bit mask slot && holds is_done_issue (own_issue own slot)
 
 abbrev pub is_short : ℕ → DeviceSlots → ℕ → Bool
 is_short mask own slot = has_bit mask slot && holds is_short_issue (own_issue own slot)
 
--- the named slots of which all bytes went over, and those of which not all
+-- the named queued slots: those with all bytes transferred, and those with bytes missing
 abbrev pub completed : ℕ → DeviceSlots → Completed
 completed mask own = record { done = mask_of (is_done mask own); short = mask_of (is_short mask own) }
 
--- those of which all bytes went over become free
+-- those with all bytes transferred are freed
 abbrev pub after_complete : ℕ → DeviceSlots → DeviceSlots
 after_complete mask own = freed (is_done mask own) own
 
--- the slot of the PIO data-in that was sent, where all its bytes went over
+-- the slot of the PIO data-in that was sent, if all its bytes were transferred
 abbrev pub whole_pio : DeviceSlots → Option ℕ
 whole_pio own = match_some (sent_pio own) None (λ slot. if holds is_whole_issue (own_issue own slot)
     then Some slot else None)
 
--- it becomes free
+-- that slot is freed
 abbrev pub after_pio_done : DeviceSlots → DeviceSlots
 after_pio_done own = match_some (whole_pio own) own (λ slot. freed (is_slot slot) own)
 
@@ -136,7 +137,7 @@ after_pio_done own = match_some (whole_pio own) own (λ slot. freed (is_slot slo
 abbrev pub is_any : Issue → Bool
 is_any issue = true
 
--- the slots in which something is issued of which the test holds
+-- the slots with an issue for which the test holds
 abbrev pub slots_where : (Issue → Bool) → Slots → ℕ
 slots_where test t = mask_of (λ slot. holds test (issue_at t slot))
 
@@ -144,6 +145,6 @@ slots_where test t = mask_of (λ slot. holds test (issue_at t slot))
 abbrev pub own_slots : DeviceSlots → ℕ
 own_slots own = mask_of (λ slot. holds is_any (own_issue own slot))
 
--- the device has not answered it, or it was not sent
+-- the command was not sent, or the device has not answered it
 abbrev pub is_unanswered : Issue → Bool
 is_unanswered issue = not issue.answered

@@ -1,4 +1,4 @@
--- Data of a transfer (Serial ATA 3.x, 10.5: Data and DMA Activate FISes): what may come or go, and what it
+-- Data of a transfer (Serial ATA 3.x, 10.5, Data and DMA Activate FISes): what may come or go, and what it
 -- leaves.
 use Rattle.std.specs.Prelude.{◌≡◌, ◌≤◌, ℕ, ◌+◌, ◌-◌, min, Bool, true, false, not, ◌&&◌, nat_lt, if◌then◌else◌}
 use Rattle.std.specs.Prelude.{slice_set, Option, Some, None, Result, Ok, Err, is_ok}
@@ -10,33 +10,33 @@ use Rattle.slots.specs.declared.work.Kind.TheVariants.{QueuedWrite}
 use Rattle.slots.specs.Bytes.{with_bytes}
 use Rattle.slots.specs.Slots.{Issue, DeviceSlots, own_issue, match_some}
 
--- the issue, of which count bytes from byte offset on went over too
+-- the issue with count more bytes transferred, from byte offset on
 abbrev pub moved_over : ℕ → ℕ → Issue → Issue
 moved_over offset count issue = record issue { over = with_bytes issue.over offset count }
 
--- the context behind its next count bytes, no longer activated
+-- the context after its next count bytes, no longer activated
 abbrev pub moved_on : ℕ → Context → Context
 moved_on count c = record c { next = c.next + count; left = c.left - count; activated = false }
 
--- the next count bytes of the device's context go over
+-- the next count bytes of the device's context are transferred
 abbrev pub gone_over : ℕ → Context → DeviceSlots → DeviceSlots
 gone_over count c own = record {
   issues = slice_set own.issues c.slot (option_map (moved_over c.next count) (own_issue own c.slot));
   context = Some (moved_on count c);
 }
 
--- where count bytes of data that arrive belong: their slot, and the number of the first
+-- where count bytes that arrive belong: their slot, and the offset of the first
 abbrev pub arrive_answer : Option Context → ℕ → Result (ℕ × ℕ) ArriveError
 arrive_answer None count = Err Stray
 arrive_answer (Some c) count =
     if not c.to_host then Err Stray else if nat_lt c.left count then Err Overflow else Ok (c.slot, c.next)
 
--- the device's own part after data arrived, or was refused
+-- the device's part after data arrived or was refused
 abbrev pub after_arrive : DeviceSlots → ℕ → DeviceSlots
 after_arrive own count = match_some own.context own (λ c. if is_ok (arrive_answer own.context count)
     then gone_over count c own else own)
 
--- there is a context towards the device with bytes left, and it is not activated yet
+-- there is a context towards the device with bytes left that is not activated yet
 abbrev pub may_activate : Option Context → Bool
 may_activate None = false
 may_activate (Some c) = not c.to_host && nat_lt 0 c.left && not c.activated
@@ -44,12 +44,12 @@ may_activate (Some c) = not c.to_host && nat_lt 0 c.left && not c.activated
 abbrev pub activated : Context → Context
 activated c = record c { activated = true }
 
--- the device's own part after it asked for data
+-- the device's part after the device asked for data
 abbrev pub after_activate : DeviceSlots → DeviceSlots
 after_activate own =
     if may_activate own.context then record own { context = option_map activated own.context } else own
 
--- the most bytes of a Data FIS: 2,048 dwords
+-- the most bytes in a Data FIS: 2,048 dwords
 abbrev pub max_payload : ℕ
 max_payload = 8192
 
@@ -57,18 +57,18 @@ max_payload = 8192
 abbrev pub payload_len : Context → ℕ
 payload_len c = min c.left max_payload
 
--- the slot, offset and length of the data that goes to the device next, where its context is activated
+-- the slot, offset and length of the data that goes to the device next, if its context is activated
 abbrev pub payload : Option Context → Option (ℕ × ℕ × ℕ)
 payload None = None
 payload (Some c) = if c.activated then Some (c.slot, c.next, payload_len c) else None
 
--- a queued write of the device, which has these bytes
+-- a queued write of the device that has these bytes
 pub record IsWriteOf (dev offset len : ℕ) (issue : Issue) : Type 0 where
   pub of_dev : issue.dev ≡ dev
   pub write : issue.work.kind ≡ QueuedWrite
   pub inside : offset + len ≤ issue.work.len
 
--- the device's own part after that data went
+-- the device's part after that data was sent
 abbrev pub after_payload : DeviceSlots → DeviceSlots
 after_payload own = match_some own.context own (λ c. gone_over (payload_len c) c own)
 

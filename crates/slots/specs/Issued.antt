@@ -1,4 +1,5 @@
--- A command slot (AHCI 1.3.1, 4.2.2) as it is stored: the head of its issue, and the flags of its bytes.
+-- A command slot (AHCI 1.3.1, 4.2.2) as it is stored: its issue without the bytes, and the flags of the
+-- bytes.
 use Rattle.std.specs.Prelude.{◌≡◌, ◌/◌, Bool, List, length, Option, Some, None, MatchOption}
 use Rattle.slots.specs.declared.slot.Issued.{Issued}
 use Rattle.slots.specs.Slots.{Issue}
@@ -18,7 +19,7 @@ abbrev pub issue_in : Option Issued → List Bool → Option Issue
 issue_in None over = None
 issue_in (Some issued) over = Some (with_flags issued over)
 
--- the issue but for its flags
+-- the issue without its flags
 abbrev pub issued_of : Issue → Issued
 issued_of issue = record { dev = issue.dev; work = issue.work; sent = issue.sent; answered = issue.answered }
 

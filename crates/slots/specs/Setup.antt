@@ -1,5 +1,5 @@
--- Setups (Serial ATA 3.x, 10.5: DMA Setup and PIO Setup FISes; first-party DMA as native command queueing has
--- it, ACS-3): which are accepted, and what they leave.
+-- Setups (Serial ATA 3.x, 10.5, DMA Setup and PIO Setup FISes; first-party DMA as in native command queueing,
+-- ACS-3): which are accepted, and what they leave.
 use Rattle.std.specs.Prelude.{ℕ, ◌+◌, ◌%◌, Bool, false, not, ◌&&◌, ◌||◌, ◌==◌, nat_lt, nat_le, if◌then◌else◌}
 use Rattle.std.specs.Prelude.{Option, Some, None, is_some}
 use Rattle.std.specs.Bool.{beq}
@@ -11,12 +11,12 @@ use Rattle.slots.specs.Work.{is_read}
 use Rattle.slots.specs.Bytes.{any_over, ends_at, stretches_of, came_of}
 use Rattle.slots.specs.Slots.{Issue, DeviceSlots, own_issue, match_some, is_queued_issue, sent_pio}
 
--- the bytes that went over are 64 stretches, none of which ends where byte offset begins
+-- the transferred bytes are 64 stretches, and none of them ends just before byte offset
 abbrev pub is_full_at : Issue → ℕ → Bool
 is_full_at issue offset =
     nat_le 64 (stretches_of issue.over issue.work.len) && not (ends_at issue.over offset)
 
--- why count bytes of an issue, from byte offset on, are not set up: the first of these that applies
+-- why a setup of count bytes of an issue, from byte offset on, is refused: the first of these that applies
 abbrev pub transfer_fault : Issue → ℕ → ℕ → Bool → Option SetupError
 transfer_fault issue offset count to_host =
     if not (beq (is_read issue.work.kind) to_host) then Some WrongWay
@@ -26,42 +26,42 @@ transfer_fault issue offset count to_host =
     else if count == 0 || not (offset % 4 == 0) || not (count % 4 == 0) then Some BadCount
     else None
 
--- a queued issue that the device answered
+-- a queued command that the device answered
 abbrev pub is_outstanding : Issue → Bool
 is_outstanding issue = is_queued_issue issue && issue.answered
 
--- why a DMA Setup is refused that names a slot with this issue of the device, or with none
+-- why a DMA Setup is refused, for a slot in which the device has this issue, or none
 abbrev pub setup_fault : Option Issue → ℕ → ℕ → Bool → Option SetupError
 setup_fault None offset count to_host = Some NotOutstanding
 setup_fault (Some issue) offset count to_host =
     if is_outstanding issue then transfer_fault issue offset count to_host else Some NotOutstanding
 
--- how many bytes of an issue went over
+-- how many bytes of an issue were transferred
 abbrev pub came : Issue → ℕ
 came issue = came_of issue.over issue.work.len
 
--- why a PIO Setup is refused, where the device has this PIO data-in sent, or none: it goes on where the bytes
--- that came end
+-- why a PIO Setup is refused, if this is the device's PIO data-in that was sent, or if there is none; the new
+-- bytes follow those that came
 abbrev pub pio_fault : Option Issue → ℕ → Bool → Option SetupError
 pio_fault None count to_host = Some NotOutstanding
 pio_fault (Some issue) count to_host = transfer_fault issue (came issue) count to_host
 
--- the context of a PIO Setup that is accepted
+-- the context of an accepted PIO Setup
 abbrev pub new_context : ℕ → ℕ → ℕ → Bool → Context
 new_context slot offset count to_host =
     record { slot = slot; next = offset; left = count; to_host = to_host; activated = false }
 
--- The context of a DMA Setup that is accepted. With auto-activate (Serial ATA 3.x, 10.5, DMA Setup FIS, bit A)
--- the first Data towards the device may go at once.
+-- The context of an accepted DMA Setup. With auto-activate (Serial ATA 3.x, 10.5, DMA Setup FIS, bit A) the
+-- first Data to the device may go at once.
 abbrev pub dma_context : ℕ → ℕ → ℕ → (to_host auto : Bool) → Context
 dma_context slot offset count to_host auto =
     record { slot = slot; next = offset; left = count; to_host = to_host; activated = auto && not to_host }
 
--- a setup that is accepted replaces the device's context
+-- an accepted setup replaces the device's context
 abbrev pub with_own_context : DeviceSlots → Context → DeviceSlots
 with_own_context own c = record own { context = Some c }
 
--- the device's own part after a DMA Setup
+-- the device's part after a DMA Setup
 abbrev pub after_setup : DeviceSlots → ℕ → ℕ → ℕ → (to_host auto : Bool) → DeviceSlots
 after_setup own tag offset count to_host auto =
     if is_some (setup_fault (own_issue own tag) offset count to_host) then own
@@ -71,7 +71,7 @@ after_setup own tag offset count to_host auto =
 abbrev pub pio_issue : DeviceSlots → Option Issue
 pio_issue own = match_some (sent_pio own) None (own_issue own)
 
--- the device's own part after a PIO Setup
+-- the device's part after a PIO Setup
 abbrev pub after_setup_pio : DeviceSlots → ℕ → Bool → DeviceSlots
 after_setup_pio own count to_host =
     if is_some (pio_fault (pio_issue own) count to_host) then own

@@ -1,6 +1,6 @@
--- The command slots of a port (AHCI 1.3.1, 4.2.2, Command List Structure) and the transfer contexts of its
--- devices, one for each as FIS-based switching wants it (9.3), and what of them is one device's. Slots have
--- the numbers 0 to 31, devices 0 to 15.
+-- The command slots of a port (AHCI 1.3.1, 4.2.2, Command List Structure), a transfer context for each of its
+-- devices, as FIS-based switching needs it (9.3), and the part of them that belongs to one device. Slots are
+-- numbered 0 to 31, devices 0 to 15.
 use Rattle.std.specs.Prelude.{◌≡◌, ◌≢◌, ◌<◌, ℕ, ◌^◌, Bool, true, false, not, ◌&&◌, ◌==◌, if◌then◌else◌, List}
 use Rattle.std.specs.Prelude.{length, map, replicate, slice_index_or, slice_set, sum_by, Option, Some, None}
 use Rattle.std.specs.List.{range_with_len, position}
@@ -12,8 +12,8 @@ use Rattle.slots.specs.declared.table.Context.{Context}
 use Rattle.slots.specs.Work.{is_queued}
 use Rattle.slots.specs.Bytes.{is_whole, none_over}
 
--- What was issued in a slot: for which device, what it asks for, whether its command was sent and whether the
--- device answered it, and which of its bytes went over.
+-- What is issued in a slot: for which device, what it asks for, whether its command was sent, whether the
+-- device answered it, and which of its bytes were transferred.
 pub record Issue : Type 0 where
   pub dev : ℕ
   pub work : Work
@@ -21,7 +21,7 @@ pub record Issue : Type 0 where
   pub answered : Bool
   pub over : List Bool
 
--- each slot's issue, and each device's last setup with what is left of it
+-- the issue of each slot, and each device's last setup with what is left of it
 pub record Slots : Type 0 where
   pub issues : List (Option Issue)
   pub contexts : List (Option Context)
@@ -38,14 +38,14 @@ context_of t dev = slice_index_or t.contexts dev None
 abbrev pub no_slots : Slots
 no_slots = record { issues = replicate 32 None; contexts = replicate 16 None }
 
--- ---- what is one device's
+-- ---- what belongs to one device
 
--- what is issued, where it is the device's
+-- the issue, if it is the device's
 abbrev pub owned_by : ℕ → Option Issue → Option Issue
 owned_by dev None = None
 owned_by dev (Some issue) = if issue.dev == dev then Some issue else None
 
--- a device's own part: its issues, each in its slot, and its context
+-- a device's part: its issues, each in its slot, and its context
 pub record DeviceSlots : Type 0 where
   pub issues : List (Option Issue)
   pub context : Option Context
@@ -53,7 +53,7 @@ pub record DeviceSlots : Type 0 where
 abbrev pub slots_of : ℕ → Slots → DeviceSlots
 slots_of dev t = record { issues = map (owned_by dev) t.issues; context = context_of t dev }
 
--- the own part of these issues, with no context
+-- the device's part of these issues, with no context
 abbrev pub own_of : ℕ → List (Option Issue) → DeviceSlots
 own_of dev issues = record { issues = map (owned_by dev) issues; context = None }
 
@@ -61,15 +61,15 @@ own_of dev issues = record { issues = map (owned_by dev) issues; context = None 
 abbrev pub own_issue : DeviceSlots → ℕ → Option Issue
 own_issue own slot = slice_index_or own.issues slot None
 
--- the own part of a device that has no slot
+-- the part of a device that has no slot
 abbrev pub no_own_slots : DeviceSlots
 no_own_slots = record { issues = replicate 32 None; context = None }
 
--- the own part of every other device stays
+-- the parts of all other devices stay
 abbrev pub LeavesOthers : ℕ → Slots → Slots → Type 0
 LeavesOthers dev old new = (other : ℕ) → other ≢ dev → slots_of other new ≡ slots_of other old
 
--- no slot that is free becomes filled
+-- no free slot is filled
 abbrev pub KeepsFree : Slots → Slots → Type 0
 KeepsFree old new = (slot : ℕ) → issue_at old slot ≡ None → issue_at new slot ≡ None
 
@@ -91,7 +91,7 @@ mask_below test n = sum_by (λ k. if test k then 2 ^ k else 0) (range_with_len 0
 abbrev pub mask_of : (ℕ → Bool) → ℕ
 mask_of test = mask_below test 32
 
--- the slot is one of the mask's
+-- the slot is in the mask
 abbrev pub has_bit : ℕ → ℕ → Bool
 has_bit mask k = bit_at mask k == 1
 
@@ -102,7 +102,7 @@ abbrev pub match_some : {A B : Type 0} → Option A → B → (A → B) → B
 match_some None b f = b
 match_some (Some a) b f = f a
 
--- something is issued, and the test holds of it
+-- something is issued, and the test holds for it
 abbrev pub holds : (Issue → Bool) → Option Issue → Bool
 holds test None = false
 holds test (Some issue) = test issue
@@ -124,7 +124,7 @@ is_control Control = true
 abbrev pub is_queued_issue : Issue → Bool
 is_queued_issue issue = is_queued issue.work.kind
 
--- its command was sent, and the device has not answered it
+-- its command was sent and is not answered
 abbrev pub is_waiting : Issue → Bool
 is_waiting issue = issue.sent && not issue.answered
 
@@ -132,22 +132,22 @@ is_waiting issue = issue.sent && not issue.answered
 abbrev pub is_sent_pio : Issue → Bool
 is_sent_pio issue = issue.sent && is_pio issue.work.kind
 
--- each of its bytes went over
+-- all its bytes were transferred
 abbrev pub is_whole_issue : Issue → Bool
 is_whole_issue issue = is_whole issue.over issue.work.len
 
--- it is queued, and each of its bytes went over, or not each
+-- a queued command: all its bytes were transferred, or some are missing
 abbrev pub is_done_issue : Issue → Bool
 is_done_issue issue = is_queued_issue issue && is_whole_issue issue
 
 abbrev pub is_short_issue : Issue → Bool
 is_short_issue issue = is_queued_issue issue && not (is_whole_issue issue)
 
--- one of the 32 slots, of whose issue the test holds
+-- one of the 32 slots, with an issue of the device for which the test holds
 abbrev pub IsSlotWhere : (Issue → Bool) → DeviceSlots → ℕ → Type 0
 IsSlotWhere test own slot = (slot < 32) × (holds test (own_issue own slot) ≡ true)
 
--- the device's slot that is sent and not answered
+-- the device's slot whose command was sent and is not answered
 abbrev pub waiting : DeviceSlots → Option ℕ
 waiting own = lowest (λ slot. holds is_waiting (own_issue own slot))
 
@@ -157,27 +157,27 @@ sent_pio own = lowest (λ slot. holds is_sent_pio (own_issue own slot))
 
 -- ---- changes
 
--- an issue of which nothing was sent and nothing went over
+-- a new issue: its command was not sent, and no byte was transferred
 abbrev pub new_issue : ℕ → Work → Issue
 new_issue dev work =
     record { dev = dev; work = work; sent = false; answered = false; over = none_over work.len }
 
--- the own part with this in a slot
+-- the device's part with this in a slot
 abbrev pub with_own_issue : DeviceSlots → ℕ → Option Issue → DeviceSlots
 with_own_issue own slot issue = record own { issues = slice_set own.issues slot issue }
 
--- the context, unless the test holds of its slot
+-- the context, unless the test holds for its slot
 abbrev pub context_unless : (ℕ → Bool) → Option Context → Option Context
 context_unless is_free None = None
 context_unless is_free (Some c) = if is_free c.slot then None else Some c
 
--- the issues, but for the slots of which the test holds
+-- the issues, without those in slots for which the test holds
 unfoldable pub issues_unless : (ℕ → Bool) → List (Option Issue) → List (Option Issue)
 issues_unless is_free issues =
     map (λ slot. if is_free slot then None else slice_index_or issues slot None)
     (range_with_len 0 (length issues))
 
--- these slots become free, and the context ends where its slot is one of them
+-- these slots are freed, and the context ends if its slot is one of them
 abbrev pub freed : (ℕ → Bool) → DeviceSlots → DeviceSlots
 freed is_free own =
     record { issues = issues_unless is_free own.issues; context = context_unless is_free own.context }

@@ -1,5 +1,4 @@
--- What is true of every table of the command slots (AHCI 1.3.1, 4.2.2) and of the contexts of the devices
--- (9.3).
+-- What holds for every table of command slots (AHCI 1.3.1, 4.2.2) and of device contexts (9.3).
 use Rattle.std.specs.Prelude.{◌≡◌, ℕ, ◌+◌, ◌/◌, ◌%◌, ◌<◌, ◌≤◌, Bool, true, false, ◌||◌, length, MatchOption}
 use Rattle.slots.specs.declared.table.Context.{Context}
 use Rattle.slots.specs.Work.{IsWork, is_read}
@@ -8,8 +7,9 @@ use Rattle.slots.specs.Setup.{is_full_at, is_outstanding}
 use Rattle.slots.specs.Slots.{Issue, Slots, issue_at, context_of, owned_by, holds, is_control}
 use Rattle.slots.specs.Slots.{is_queued_issue, is_sent_pio, is_waiting}
 
--- What is issued: for one of 16 devices, with a flag for each dword, and answered only where it is queued and
--- was sent. The bytes that went over are 64 stretches at most. No Control is still there once it was sent.
+-- What is issued in a slot: for one of 16 devices, with a flag for each dword. Only a queued command that was
+-- sent is answered. The transferred bytes are at most 64 stretches. A Control that was sent is no longer
+-- there.
 pub record IsIssue (issue : Issue) : Type 0 where
   pub dev_below : issue.dev < 16
   pub work : IsWork issue.work
@@ -18,9 +18,9 @@ pub record IsIssue (issue : Issue) : Type 0 where
   pub few : stretches_of issue.over issue.work.len ≤ 64
   pub controls : issue.sent ≡ true → is_control issue.work.kind ≡ false
 
--- A context of a device within an issue: whole dwords inside it, none of which went over yet, towards the
--- host where it is a read. While bytes are left they have room among the stretches. It is activated only
--- towards the device, with bytes left.
+-- A context of a device within an issue. It has whole dwords of the issue, none of which was transferred yet,
+-- and goes to the host if the issue is a read. While bytes are left there is room for them among the
+-- stretches. It is activated only if it goes to the device and has bytes left.
 pub record IsContextOf (dev : ℕ) (c : Context) (issue : Issue) : Type 0 where
   pub of_dev : issue.dev ≡ dev
   pub fits : c.next + c.left ≤ issue.work.len
@@ -36,7 +36,7 @@ pub record IsContextOf (dev : ℕ) (c : Context) (issue : Issue) : Type 0 where
 abbrev pub IsContext : ℕ → Slots → Context → Type 0
 IsContext dev t c = (c.slot < 32) × MatchOption (issue_at t c.slot) ⊥ (IsContextOf dev c)
 
--- the slot is one of the device that is sent and not answered
+-- the slot is the device's; its command was sent and is not answered
 abbrev pub waits_for : ℕ → Slots → ℕ → Bool
 waits_for dev t slot = holds is_waiting (owned_by dev (issue_at t slot))
 
@@ -45,5 +45,5 @@ pub record IsTable (t : Slots) : Type 0 where
   pub devices : length t.contexts ≡ 16
   pub issues : (slot : ℕ) → MatchOption (issue_at t slot) (Unit {0}) IsIssue
   pub contexts : (dev : ℕ) → MatchOption (context_of t dev) (Unit {0}) (IsContext dev t)
-  -- a device has one slot at most that waits
+  -- at most one slot of a device waits
   pub one_waits : (dev r s : ℕ) → waits_for dev t r ≡ true → waits_for dev t s ≡ true → r ≡ s

@@ -5,7 +5,7 @@ use Rattle.slots.specs.declared.work.Work.{Work}
 use Rattle.slots.specs.declared.work.Kind.{Kind}
 use Rattle.slots.specs.declared.work.Kind.TheVariants.{QueuedRead, QueuedWrite, PioIn, NoData, Control}
 
--- a command that is queued by its tag
+-- a queued command (NCQ)
 abbrev pub is_queued : Kind → Bool
 is_queued QueuedRead = true
 is_queued QueuedWrite = true
@@ -13,7 +13,7 @@ is_queued PioIn = false
 is_queued NoData = false
 is_queued Control = false
 
--- its data comes to the host
+-- its data goes to the host
 abbrev pub is_read : Kind → Bool
 is_read QueuedRead = true
 is_read QueuedWrite = false
@@ -21,7 +21,7 @@ is_read PioIn = true
 is_read NoData = false
 is_read Control = false
 
--- data is moved by these kinds and by no others
+-- these kinds move data, and no others do
 abbrev pub HasDataExactly : Kind → ℕ → Type 0
 HasDataExactly QueuedRead len = 0 < len
 HasDataExactly QueuedWrite len = 0 < len
@@ -29,6 +29,6 @@ HasDataExactly PioIn len = 0 < len
 HasDataExactly NoData len = len ≡ 0
 HasDataExactly Control len = len ≡ 0
 
--- what a command may ask for: whole dwords, 128 KiB at most, and bytes just where its kind moves some
+-- what a command can ask for: whole dwords, at most 128 KiB, and some bytes exactly if its kind moves data
 abbrev pub IsWork : Work → Type 0
-IsWork work = (work.len % 4 ≡ 0) × (work.len ≤ 131072) × HasDataExactly work.kind work.len
+IsWork work = (work.len % 4 ≡ 0) × (work.len ≤ 0x20000) × HasDataExactly work.kind work.len

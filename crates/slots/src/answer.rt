@@ -1,31 +1,32 @@
-//! What the calls of a table answer.
+//! What the calls of a slot table answer.
 
 use thiserror::Error;
 
-/// Something is issued in the slot already.
+/// A command is already issued in the slot.
 #[derive(Clone, Copy, Debug, PartialEq, Eq, Error)]
 #[error("slot is in use")]
 pub struct Busy;
 
-/// There is no transfer to be activated: no context towards the device with bytes left, or it is activated already.
+/// No transfer can be activated: there is no context towards the device with bytes left, or it is activated
+/// already.
 #[derive(Clone, Copy, Debug, PartialEq, Eq, Error)]
 #[error("no transfer to be activated")]
 pub struct Stray;
 
-/// What the answer of a device was for.
+/// What a device's answer was for.
 #[derive(Clone, Copy, Debug, PartialEq, Eq)]
 pub enum Answered {
     /// No slot of the device waits for an answer.
     Nobody,
-    /// A queued command in this slot, which goes on.
+    /// The queued command in this slot. It goes on.
     Queued(u8),
-    /// The command in this slot, which is done: the slot is free.
+    /// The command in this slot. It is done, and the slot is free.
     Done(u8),
-    /// PIO data-in in this slot, of which bytes are missing. Nothing changed.
+    /// The PIO data-in in this slot, with bytes missing. Nothing changed.
     Short(u8),
 }
 
-/// Why a setup is refused, in the order in which it is tested.
+/// Why a setup is refused. The tests are made in this order.
 #[derive(Clone, Copy, Debug, PartialEq, Eq, Error)]
 pub enum SetupError {
     /// The device has no such slot outstanding.
@@ -34,21 +35,21 @@ pub enum SetupError {
     /// The command moves data the other way.
     #[error("wrong direction")]
     WrongWay = 2,
-    /// Some of the bytes lie behind the command's last one.
+    /// Some of the bytes lie behind the command's last byte.
     #[error("more bytes than the command has")]
     Overflow = 3,
-    /// One of the bytes went over already.
+    /// One of the bytes was transferred before.
     #[error("a byte is set up twice")]
     Twice = 4,
-    /// The bytes that went over are 64 stretches, none of which ends where these begin.
+    /// The transferred bytes are 64 stretches, and none of them ends where these bytes begin.
     #[error("too many stretches")]
     Fragments = 5,
-    /// No bytes at all, or an offset or a count that is no multiple of 4.
+    /// There are no bytes, or the offset or the count is not a multiple of 4.
     #[error("bad offset or count")]
     BadCount = 6,
 }
 
-/// Why data is refused, in the order in which it is tested.
+/// Why data is refused. The tests are made in this order.
 #[derive(Clone, Copy, Debug, PartialEq, Eq, Error)]
 pub enum ArriveError {
     /// The device has no context towards the host.
@@ -59,11 +60,11 @@ pub enum ArriveError {
     Overflow = 2,
 }
 
-/// The queued slots that a device said are done, as masks.
+/// The queued slots that a device named as done, as masks.
 #[derive(Clone, Copy, Debug, PartialEq, Eq)]
 pub struct Completed {
-    /// Those of which all bytes went over. They are free now.
+    /// Those with all bytes transferred. They are free now.
     pub done: u32,
-    /// Those of which bytes are missing. They stay.
+    /// Those with bytes missing. They stay.
     pub short: u32,
 }

@@ -2,8 +2,9 @@
 
 ghost use Rattle.slots.specs.Laws.{BytesGoOver, LowestIsFirst, MasksAreSets};
 
-/// Laws of the words of the contracts, which do nothing when they run: bytes that go over are added to the set of those that
-/// did, the mask of a set of slots has the bits of the set, and the lowest slot of a set is one of it with none below.
+/// Laws about the words of the contracts; the call runs no code. Transferred bytes are added to the set of
+/// those transferred before. The mask of a set of slots has the bits of the set. The lowest slot of a set is
+/// in the set, and none below it is.
 pub fn words_mean_sets()
     ensures bytes { BytesGoOver }
     ensures masks { MasksAreSets }

@@ -1,7 +1,9 @@
-//! The command slots of a host port: what was issued in each, which of its bytes went over, and each device's last setup.
+//! The command slots of a host port: what is issued in each, which of its bytes were transferred, and each
+//! device's last setup.
 //!
-//! [`SlotTable`] is one value. Slots have the numbers 0 to 31 (AHCI 1.3.1, the command list), devices those of the ports of
-//! a multiplier, 0 to 15. No call takes memory, and each call on a device leaves what is another's as it was.
+//! [`SlotTable`] is one value. Slots are numbered 0 to 31 (AHCI 1.3.1, the command list), devices 0 to 15,
+//! like the ports of a multiplier. No call takes memory. A call on one device leaves what belongs to another
+//! as it was.
 #![tactic(auto)]
 
 mod answer;

@@ -1,4 +1,4 @@
-//! Which bytes of a transfer went over.
+//! Which bytes of a command were transferred.
 
 ghost use Rattle.std.specs.Prelude.{◌≡◌, ◌+◌, ◌*◌, ◌%◌, ◌≤◌, ◌<◌, false, length, slice_index_or};
 ghost use Rattle.std.specs.List.{list_any};
@@ -8,15 +8,15 @@ ghost use Rattle.slots.specs.Stretches.{AreApart, dwords_of, in_one, joined as j
 use arrayvec::ArrayVec;
 use std::marker::Model;
 
-/// Dwords that follow one another: those from `start` on, below `end`.
+/// Consecutive dwords: those from `start` on, below `end`.
 #[derive(Clone, Copy, Default)]
 pub(crate) struct Stretch {
     start: u32,
     end: u32,
 }
 
-/// Which dwords of a transfer of up to 128 KiB went over: stretches in order, with a gap between
-/// each two.
+/// Which dwords were transferred, of a transfer of up to 128 KiB: stretches in order, each with a gap to the
+/// next.
 #[derive(Drop)]
 pub(crate) struct Moved {
     stretches: ArrayVec<Stretch, 64>,
@@ -35,7 +35,7 @@ impl Model for Moved {
 }
 
 impl Moved {
-    /// Nothing of a transfer of `len` bytes.
+    /// None of a transfer of `len` bytes.
     pub(crate) fn new(len: u32) -> Self
         requires { len ≤ 131072 }
         ensures { result ≡ none_over len }
@@ -60,14 +60,14 @@ impl Moved {
         self.dwords
     }
 
-    /// Whether all of its bytes went over.
+    /// Whether all its bytes were transferred.
     pub(crate) fn is_whole(&self) -> bool
         ensures { result ≡ is_whole_of self.now (4 * length self.now) }
     {
         self.came() == 4 * self.dwords()
     }
 
-    /// How many of its bytes did.
+    /// How many of its bytes were transferred.
     pub(crate) fn came(&self) -> u32
         ensures { result ≡ came_of self.now (4 * length self.now) }
     {
@@ -81,7 +81,7 @@ impl Moved {
         self.stretches.len() as u32
     }
 
-    /// Whether a stretch ends before the byte `offset`.
+    /// Whether a stretch ends just before byte `offset`.
     pub(crate) fn ends_at(&self, offset: u32) -> bool
         requires { offset ≤ 4 * length self.now }
         ensures { result ≡ ends_at_of self.now offset }
@@ -93,7 +93,7 @@ impl Moved {
             && !(dword < self.dwords() && self.get(dword))
     }
 
-    /// Whether one of these bytes went over.
+    /// Whether one of these bytes was transferred.
     pub(crate) fn any_over(&self, offset: u32, count: u32) -> bool
         requires { offset + count ≤ 4 * length self.now }
         ensures { result ≡ any_over_of self.now offset count }
@@ -106,7 +106,7 @@ impl Moved {
         have_between(self.stretches.as_slice(), start, end)
     }
 
-    /// These bytes go over.
+    /// Adds these bytes to those that were transferred.
     pub(crate) fn add(&mut self, offset: u32, count: u32)
         requires within { offset + count ≤ 4 * length self.old }
         requires offset { offset % 4 ≡ 0 }
@@ -123,7 +123,7 @@ impl Moved {
     }
 }
 
-// Whether the dword is one of these stretches.
+// Whether the dword is in one of these stretches.
 fn has_dword(stretches: &[Stretch], k: u32) -> bool
     ensures { result ≡ in_one stretches.now k }
 {
@@ -132,7 +132,7 @@ fn has_dword(stretches: &[Stretch], k: u32) -> bool
         .any(|stretch| stretch.start <= k && k < stretch.end)
 }
 
-// Whether one of the dwords from `start` on, below `end`, is.
+// Whether one of the dwords from `start` on, below `end`, is in one of them.
 fn have_between(stretches: &[Stretch], start: usize, end: usize) -> bool
     ensures { result ≡ list_any (meets start end) stretches.now }
 {
@@ -161,7 +161,7 @@ fn join(left: Stretch, right: Stretch) -> Stretch
     }
 }
 
-// These stretches, with one more that is joined with those that it meets or touches.
+// These stretches with one more, which is joined with those that it meets or touches.
 fn merge(stretches: &[Stretch], more: Stretch) -> ArrayVec<Stretch, 64>
     requires { length (merged_with more stretches.now) ≤ 64 }
     ensures { result.items ≡ merged_with more stretches.now }

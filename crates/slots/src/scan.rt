@@ -6,7 +6,7 @@ ghost use Rattle.slots.specs.Slots.{IsSlotWhere, has_bit as has_bit_of, holds, i
 
 use crate::slot::Slot;
 
-/// Whether a mask has the bit of a slot or of a device.
+/// Whether a mask has the bit of this slot or device.
 pub(crate) fn has_bit(mask: u32, k: u8) -> bool
     requires { k < 32 }
     ensures { result ≡ has_bit_of mask k }
@@ -14,7 +14,7 @@ pub(crate) fn has_bit(mask: u32, k: u8) -> bool
     mask >> k & 1 == 1
 }
 
-/// The lowest slot of the device that is sent and not answered.
+/// The lowest slot of the device whose command was sent and is not answered.
 pub(crate) fn waiting_slot(slots: &[Slot; 32], dev: u8) -> Option<u8>
     ensures value { result ≡ waiting (own_of dev slots.now) }
     ensures there { IfSome result (IsSlotWhere is_waiting (own_of dev slots.now)) }
@@ -40,7 +40,7 @@ pub(crate) fn pio_slot(slots: &[Slot; 32], dev: u8) -> Option<u8>
     None
 }
 
-/// The queued slots of the device that are named and all of whose bytes went over.
+/// The named queued slots of the device with all bytes transferred.
 pub(crate) fn done_slots(slots: &[Slot; 32], dev: u8, mask: u32) -> u32
     ensures { result ≡ mask_of (is_done_in mask (own_of dev slots.now)) }
 {
@@ -53,7 +53,7 @@ pub(crate) fn done_slots(slots: &[Slot; 32], dev: u8, mask: u32) -> u32
     found
 }
 
-/// The queued slots of the device that are named and of which bytes are missing.
+/// The named queued slots of the device with bytes missing.
 pub(crate) fn short_slots(slots: &[Slot; 32], dev: u8, mask: u32) -> u32
     ensures { result ≡ mask_of (is_short_in mask (own_of dev slots.now)) }
 {
@@ -79,7 +79,7 @@ pub(crate) fn device_slots(slots: &[Slot; 32], dev: u8) -> u32
     found
 }
 
-/// The slots in which something is issued.
+/// The slots in which a command is issued.
 pub(crate) fn issued_slots(slots: &[Slot; 32]) -> u32
     ensures { result ≡ mask_of (λ slot. holds is_any (slice_index_or slots.now slot None)) }
 {
@@ -92,7 +92,7 @@ pub(crate) fn issued_slots(slots: &[Slot; 32]) -> u32
     found
 }
 
-/// The slots in which something is issued that is not answered.
+/// The slots with an issued command that is not answered.
 pub(crate) fn unanswered_slots(slots: &[Slot; 32]) -> u32
     ensures { result ≡ mask_of (λ slot. holds is_unanswered (slice_index_or slots.now slot None)) }
 {
@@ -105,7 +105,7 @@ pub(crate) fn unanswered_slots(slots: &[Slot; 32]) -> u32
     found
 }
 
-/// The slots in which a queued command is issued.
+/// The slots with an issued queued command.
 pub(crate) fn queued_slots(slots: &[Slot; 32]) -> u32
     ensures { result
         ≡ mask_of (λ slot. holds is_queued_issue (slice_index_or slots.now slot None)) }
@@ -119,7 +119,7 @@ pub(crate) fn queued_slots(slots: &[Slot; 32]) -> u32
     found
 }
 
-/// These slots become free.
+/// Frees these slots.
 pub(crate) fn free_slots(slots: &mut [Slot; 32], mask: u32)
     ensures { slots.new ≡ issues_unless (has_bit_of mask) slots.old }
 {

@@ -15,7 +15,7 @@ use crate::moved::Moved;
 use crate::work::Work;
 use std::marker::Model;
 
-/// The head of what was issued in a slot.
+/// What is issued in a slot, without its bytes.
 #[derive(Clone, Copy)]
 pub(crate) struct Issued {
     pub(crate) dev: u8,
@@ -24,7 +24,7 @@ pub(crate) struct Issued {
     pub(crate) answered: bool,
 }
 
-/// What was issued in a slot, and which of its bytes went over.
+/// What is issued in a slot, and which of its bytes were transferred.
 #[derive(Drop)]
 pub(crate) struct Slot {
     issued: Option<Issued>,
@@ -55,7 +55,7 @@ impl Default for Slot {
 }
 
 impl Slot {
-    /// With nothing issued.
+    /// A free slot.
     pub(crate) fn new() -> Self
         ensures { result ≡ None }
     {
@@ -71,7 +71,7 @@ impl Slot {
         self.issued
     }
 
-    /// What is issued, where it is the device's.
+    /// What is issued, if it is the device's.
     pub(crate) fn issued_by(&self, dev: u8) -> Option<Issued>
         ensures { result ≡ option_map issued_of (owned_by dev self.now) }
     {
@@ -121,7 +121,7 @@ impl Slot {
         }
     }
 
-    /// These bytes go over.
+    /// Adds these bytes to those that were transferred.
     #[tactic(auto, using(crate::proofs::ByteLemmas::length_with_bytes))]
     pub(crate) fn add(&mut self, offset: u32, count: u32)
         requires within { ForSome self.old (λ issue. offset + count ≤ issue.work.len) }
@@ -135,7 +135,7 @@ impl Slot {
         self.moved.add(offset, count);
     }
 
-    /// Whether it is one of the device that is sent and not answered.
+    /// Whether a command of the device was sent and is not answered.
     pub(crate) fn is_waiting(&self, dev: u8) -> bool
         ensures { result ≡ holds is_waiting_issue (owned_by dev self.now) }
     {
@@ -145,7 +145,7 @@ impl Slot {
         }
     }
 
-    /// Whether it is PIO data-in of the device that was sent.
+    /// Whether a PIO data-in of the device was sent.
     pub(crate) fn is_sent_pio(&self, dev: u8) -> bool
         ensures { result ≡ holds is_sent_pio_issue (owned_by dev self.now) }
     {
@@ -155,7 +155,7 @@ impl Slot {
         }
     }
 
-    /// Whether it is a queued command of the device.
+    /// Whether a queued command of the device is issued.
     fn is_queued_of(&self, dev: u8) -> bool
         ensures { result ≡ holds is_queued_issue (owned_by dev self.now) }
     {
@@ -165,7 +165,7 @@ impl Slot {
         }
     }
 
-    /// Whether it is a queued command.
+    /// Whether a queued command is issued.
     pub(crate) fn is_queued(&self) -> bool
         ensures { result ≡ holds is_queued_issue self.now }
     {
@@ -175,7 +175,7 @@ impl Slot {
         }
     }
 
-    /// Whether something is issued that is not answered.
+    /// Whether a command is issued and not answered.
     pub(crate) fn is_unanswered(&self) -> bool
         ensures { result ≡ holds is_unanswered_issue self.now }
     {
@@ -185,28 +185,28 @@ impl Slot {
         }
     }
 
-    /// Whether something is issued all of whose bytes went over.
+    /// Whether a command is issued and all its bytes were transferred.
     pub(crate) fn is_whole(&self) -> bool
         ensures { result ≡ holds is_whole_issue self.now }
     {
         self.issued.is_some() && self.moved.is_whole()
     }
 
-    /// Whether it is a queued command of the device all of whose bytes went over.
+    /// Whether a queued command of the device is issued, with all bytes transferred.
     pub(crate) fn is_done(&self, dev: u8) -> bool
         ensures { result ≡ holds is_done_issue (owned_by dev self.now) }
     {
         self.is_queued_of(dev) && self.is_whole()
     }
 
-    /// Whether it is a queued command of the device of which bytes are missing.
+    /// Whether a queued command of the device is issued, with bytes missing.
     pub(crate) fn is_short(&self, dev: u8) -> bool
         ensures { result ≡ holds is_short_issue (owned_by dev self.now) }
     {
         self.is_queued_of(dev) && !self.is_whole()
     }
 
-    /// What an answer of its device is for, where it waits for one. It is in slot `slot`.
+    /// What an answer of its device is for, if this slot, number `slot`, waits for one.
     pub(crate) fn answer_for(&self, slot: u8) -> Answered
         requires { slot < 32 }
         ensures value { result ≡ match_some self.now Answered.Nobody (answer_for_issue slot) }
@@ -220,7 +220,7 @@ impl Slot {
         }
     }
 
-    /// How many bytes went over.
+    /// How many bytes were transferred.
     pub(crate) fn came(&self) -> u32
         ensures { result ≡ match_some self.now 0 came_in }
     {
@@ -259,7 +259,7 @@ impl Slot {
     }
 }
 
-// Why bytes of what is issued are not set up.
+// Why a setup of these bytes is refused.
 fn transfer_fault(
     issued: Issued,
     moved: &Moved,

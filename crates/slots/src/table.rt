@@ -20,15 +20,15 @@ use crate::slot::{Issued, Slot};
 use crate::work::Work;
 use std::marker::Model;
 
-/// The most bytes of a Data FIS.
+/// The most bytes in a Data FIS.
 const MAX_PAYLOAD: u32 = 8192;
 
 /// What is left of a device's last setup.
 #[derive(Clone, Copy, Debug, PartialEq, Eq)]
 pub struct Context {
-    /// The slot whose bytes go over.
+    /// The slot whose bytes are transferred.
     pub slot: u8,
-    /// The number of the next byte.
+    /// The offset of the next byte.
     pub next: u32,
     /// How many bytes are left.
     pub left: u32,
@@ -51,7 +51,7 @@ impl Context {
         }
     }
 
-    // The next data may go to the device.
+    // The context when the next Data may go to the device.
     fn activated(self) -> Context
         ensures { result ≡ activated_context self }
     {
@@ -75,7 +75,7 @@ impl Context {
     }
 }
 
-/// What was issued in each slot, which of its bytes went over, and each device's last setup.
+/// What is issued in each slot, which of its bytes were transferred, and each device's last setup.
 #[derive(Drop)]
 pub struct SlotTable {
     slots: [Slot; 32],
@@ -94,7 +94,7 @@ impl Model for SlotTable {
 }
 
 impl SlotTable {
-    /// With nothing issued.
+    /// A table with all slots free.
     pub fn new() -> Self
         ensures { result ≡ no_slots }
     {
@@ -104,14 +104,14 @@ impl SlotTable {
         }
     }
 
-    /// What is true of every table. It does nothing when it runs.
+    /// The rules that hold for every table. The call has no effect.
     pub fn keeps_rules(&self)
         ensures { IsTable self.now }
     {
         let _ = &self.slots;
     }
 
-    /// Issues some work of a device in a free slot.
+    /// Issues some work for a device in a free slot.
     pub fn issue(&mut self, slot: u8, dev: u8, work: Work) -> Result<(), Busy>
         requires slot { slot < 32 }
         requires dev { dev < 16 }
@@ -130,8 +130,8 @@ impl SlotTable {
         Ok(())
     }
 
-    /// The command of a slot is sent. A Control has no answer, so its slot becomes free at once; any other waits for the
-    /// answer of its device.
+    /// The command of a slot is sent. A Control has no answer, so its slot is freed at once. Any other
+    /// command waits for its device's answer.
     pub fn sent(&mut self, slot: u8)
         requires slot { slot < 32 }
         requires alone { MayBeSent self.old slot }
@@ -151,7 +151,7 @@ impl SlotTable {
         }
     }
 
-    /// The command of a slot of a device is sent, and waits for its answer.
+    /// The command of a slot of a device is sent and waits for its answer.
     fn send(&mut self, dev: u8, slot: u8)
         requires slot { slot < 32 }
         requires issue { MatchOption (issue_at self.old slot) ⊥
@@ -164,7 +164,7 @@ impl SlotTable {
         self.slots[slot as usize].mark_sent();
     }
 
-    /// A slot of a device becomes free.
+    /// Frees a slot of a device.
     fn free(&mut self, dev: u8, slot: u8)
         requires slot { slot < 32 }
         requires dev { dev < 16 }
@@ -177,7 +177,7 @@ impl SlotTable {
         self.contexts[dev as usize] = context_without(self.contexts[dev as usize], slot);
     }
 
-    /// A slot of a device that waits is answered.
+    /// The slot of a device that waits is answered.
     fn answer(&mut self, dev: u8, slot: u8)
         requires slot { slot < 32 }
         requires dev { dev < 16 }
@@ -190,7 +190,8 @@ impl SlotTable {
         self.slots[slot as usize].mark_answered();
     }
 
-    /// A device answers the command that waits, by a Register Device to Host FIS with neither BSY nor ERR.
+    /// A device answers the command that waits, with a Register Device to Host FIS that has neither BSY nor
+    /// ERR.
     pub fn answered(&mut self, dev: u8) -> Answered
         requires { dev < 16 }
         ensures answer { result ≡ answer_of (slots_of dev self.old) }
@@ -223,9 +224,9 @@ impl SlotTable {
         self.contexts[dev as usize] = Some(context);
     }
 
-    /// A DMA Setup FIS of a device for one of its queued slots: `count` bytes from byte `offset` on. Where it is accepted it
-    /// replaces the device's last setup, and holds until its slot becomes free. With `auto` the first data towards the
-    /// device needs no DMA Activate.
+    /// A DMA Setup FIS of a device for one of its queued slots: `count` bytes from byte `offset` on. If it is
+    /// accepted, it replaces the device's last setup and holds until its slot is freed. With `auto`, the
+    /// first Data to the device needs no DMA Activate.
     pub fn setup(
         &mut self,
         dev: u8,
@@ -279,7 +280,7 @@ impl SlotTable {
         Ok(())
     }
 
-    /// The next bytes of a device's context go over.
+    /// The next bytes of a device's context are transferred.
     fn go_over(&mut self, dev: u8, context: Context, count: u32)
         requires dev { dev < 16 }
         requires context { context_of self.old dev ≡ Some context }
@@ -299,7 +300,7 @@ impl SlotTable {
         });
     }
 
-    /// `count` bytes of data of a device arrive: the slot to which they belong, and the number of the first of them.
+    /// `count` bytes of data arrive from a device. Answers their slot and the offset of the first.
     pub fn arrive(&mut self, dev: u8, count: u32) -> Result<(u8, u32), ArriveError>
         requires dev { dev < 16 }
         requires dwords { count % 4 ≡ 0 }
@@ -322,7 +323,7 @@ impl SlotTable {
         Ok((context.slot, context.next))
     }
 
-    /// A DMA Activate FIS of a device: it is ready for the next data of its transfer.
+    /// A DMA Activate FIS of a device: the device is ready for the next Data of its transfer.
     pub fn activate(&mut self, dev: u8) -> Result<(), Stray>
         requires { dev < 16 }
         ensures answer { is_ok result ≡ may_activate (context_of self.old dev) }
@@ -344,8 +345,8 @@ impl SlotTable {
         Ok(())
     }
 
-    /// The data that goes to a device next, where it is ready for it: its slot, the number of its first byte, and how many
-    /// bytes it has, at most 8,192.
+    /// The data that goes to a device next, if the device is ready for it: its slot, the offset of its first
+    /// byte, and its length, at most 8,192 bytes.
     pub fn next_payload(&self, dev: u8) -> Option<(u8, u32, u32)>
         requires { dev < 16 }
         ensures value { result ≡ payload (context_of self.now dev) }
@@ -364,7 +365,7 @@ impl SlotTable {
             .then_some((context.slot, context.next, context.payload_len()))
     }
 
-    /// The data of [`next_payload`](Self::next_payload) went to the device.
+    /// The data of [`next_payload`](Self::next_payload) was sent to the device.
     pub fn payload_gone(&mut self, dev: u8)
         requires dev { dev < 16 }
         requires some { IsSome (payload (context_of self.old dev)) }
@@ -377,7 +378,7 @@ impl SlotTable {
         }
     }
 
-    /// A device says by a Set Device Bits FIS that these of its queued slots are done. Slots that are no queued ones of it
+    /// A device names queued slots as done, with a Set Device Bits FIS. Slots that are not its queued ones
     /// are ignored.
     pub fn complete(&mut self, dev: u8, mask: u32) -> Completed
         requires { dev < 16 }
@@ -393,8 +394,8 @@ impl SlotTable {
         Completed { done, short }
     }
 
-    /// A block of PIO data ended as the last one does. Where all bytes of the device's PIO data-in came its slot, which is
-    /// the answer, becomes free.
+    /// A block of PIO data ended as the last one does. If all bytes of the device's PIO data-in came, its
+    /// slot is freed and is the answer.
     pub fn pio_done(&mut self, dev: u8) -> Option<u8>
         requires { dev < 16 }
         ensures answer { result ≡ whole_pio (slots_of dev self.old) }
@@ -412,7 +413,7 @@ impl SlotTable {
         Some(slot)
     }
 
-    /// Frees each slot of a device, and answers their mask.
+    /// Frees all slots of a device and answers their mask.
     pub fn flush(&mut self, dev: u8) -> u32
         requires { dev < 16 }
         ensures answer { result ≡ own_slots (slots_of dev self.old) }
@@ -426,7 +427,7 @@ impl SlotTable {
         flushed
     }
 
-    /// Frees each slot, and answers the mask of those in which something was issued.
+    /// Frees all slots and answers the mask of those in which a command was issued.
     pub fn flush_all(&mut self) -> u32
         ensures answer { result ≡ slots_where is_any self.old }
         ensures after { self.new ≡ no_slots }
@@ -437,21 +438,22 @@ impl SlotTable {
         flushed
     }
 
-    /// The mask of the slots in which something is issued that is not answered, as PxCI shows it (AHCI 1.3.1, 3.3.14).
+    /// The mask of the slots with an issued command that is not answered, as PxCI shows it (AHCI 1.3.1,
+    /// 3.3.14).
     pub fn ci(&self) -> u32
         ensures { result ≡ slots_where is_unanswered self.now }
     {
         unanswered_slots(&self.slots)
     }
 
-    /// The mask of the slots in which a queued command is issued, as PxSACT shows it (AHCI 1.3.1, 3.3.13).
+    /// The mask of the slots with an issued queued command, as PxSACT shows it (AHCI 1.3.1, 3.3.13).
     pub fn queued(&self) -> u32
         ensures { result ≡ slots_where is_queued_issue self.now }
     {
         queued_slots(&self.slots)
     }
 
-    /// The device of the command that is issued in a slot.
+    /// The device of the command in a slot.
     pub fn owner(&self, slot: u8) -> Option<u8>
         requires { slot < 32 }
         ensures { result ≡ option_map (λ issue. issue.dev) (issue_at self.now slot) }
@@ -460,7 +462,7 @@ impl SlotTable {
         Some(issued.dev)
     }
 
-    /// What the command that is issued in a slot asks for.
+    /// What the command in a slot asks for.
     pub fn work(&self, slot: u8) -> Option<Work>
         requires { slot < 32 }
         ensures { result ≡ option_map (λ issue. issue.work) (issue_at self.now slot) }
@@ -477,7 +479,7 @@ impl SlotTable {
         self.contexts[dev as usize]
     }
 
-    /// The slot for which data of a device may arrive.
+    /// The slot for which Data of a device may arrive.
     pub fn receiving(&self, dev: u8) -> Option<u8>
         requires { dev < 16 }
         ensures value { result ≡ receiving_slot (context_of self.now dev) }
@@ -510,8 +512,9 @@ impl SlotTable {
         }
     }
 
-    /// The lowest slot whose command may go out: it was not sent, its device is not in `faulty`, and it is a Control, or
-    /// the device is in `ready` and no slot of it waits for an answer. Both are masks of devices.
+    /// The lowest slot whose command may go out. The command was not sent, and its device is not in `faulty`.
+    /// It is a Control, or its device is in `ready` and none of the device's slots waits for an answer. Both
+    /// arguments are masks of devices.
     pub fn next_command(&self, ready: u16, faulty: u16) -> Option<u8>
         ensures value { result ≡ next_slot ready faulty self.now }
         ensures may_be_sent { IfSome result (λ slot. (slot < 32) × MayBeSent self.now slot) }

@@ -7,8 +7,8 @@ ghost use Rattle.slots.specs.Slots.{is_control as is_control_kind, is_pio as is_
 /// What a command does with data.
 #[derive(Clone, Copy, Debug, PartialEq, Eq)]
 pub enum Kind {
-    /// READ FPDMA QUEUED: data comes to the host by DMA, and a Set Device Bits FIS ends it (Serial ATA, native command
-    /// queueing).
+    /// READ FPDMA QUEUED: data comes to the host by DMA, and a Set Device Bits FIS ends it (Serial ATA,
+    /// native command queueing).
     QueuedRead,
     /// WRITE FPDMA QUEUED: data goes to the device by DMA, and a Set Device Bits FIS ends it.
     QueuedWrite,
@@ -16,7 +16,7 @@ pub enum Kind {
     PioIn,
     /// A command without data, ended by a Register Device to Host FIS.
     NoData,
-    /// A frame with C 0, which only writes the device's control register and has no answer of its own.
+    /// A frame with C 0. It only writes the device's control register and has no answer of its own.
     Control,
 }
 
@@ -25,7 +25,8 @@ pub enum Kind {
 pub struct Work {
     /// What it does with data.
     pub kind: Kind,
-    /// How many bytes it moves: a multiple of 4 up to 131,072, and 0 exactly for NoData and Control.
+    /// How many bytes it moves: a multiple of 4, at most 131,072. It is 0 for NoData and Control, and for no
+    /// other kind.
     pub len: u32,
 }
 
@@ -40,7 +41,7 @@ impl Kind {
         }
     }
 
-    /// Whether its data comes to the host.
+    /// Whether its data goes to the host.
     pub fn is_read(self) -> bool
         ensures { result ≡ is_read_kind self }
     {

@@ -9,7 +9,7 @@ use slots::{
 };
 use std::test::Fail;
 
-// Issues some work, and answers whether the slot was free.
+// Issues some work, and returns whether the slot was free.
 fn issue(table: &mut SlotTable, slot: u8, dev: u8, work: Work) -> bool
     requires slot { slot < 32 }
     requires dev { dev < 16 }
@@ -18,7 +18,7 @@ fn issue(table: &mut SlotTable, slot: u8, dev: u8, work: Work) -> bool
     table.issue(slot, dev, work).is_ok()
 }
 
-// A queued read of so many sectors.
+// A queued read of this many sectors.
 fn issue_read(table: &mut SlotTable, slot: u8, dev: u8, sectors: u32) -> bool
     requires slot { slot < 32 }
     requires dev { dev < 16 }
@@ -37,7 +37,7 @@ fn issue_read(table: &mut SlotTable, slot: u8, dev: u8, sectors: u32) -> bool
     )
 }
 
-// Sends the next command for one of the devices in ready, and answers its slot.
+// Sends the next command for one of the devices in ready, and returns its slot.
 fn send(table: &mut SlotTable, ready: u16) -> Option<u8> {
     let slot = table.next_command(ready, 0)?;
     table.sent(slot);

@@ -32,7 +32,7 @@ alone_ok high low byte is = decode_pairs-ok_pair 0 high low byte [] is
 alone_err : (high low : ℕ) (e : FromHexError) → pair_value high low 0 ≡ Err e → decode_sized (high ∷ low ∷ []) 1 ≡ Err e
 alone_err high low e is = decode_pairs-err_pair 0 high low e [] is
 
--- what the kit's call says of two digits
+-- what the kit's call says about two digits
 abbrev pub Reads : ℕ → ℕ → Result (Unit {0}) FromHexError → List ℕ → Type 0
 Reads high low r out = MatchResult (decode_sized (high ∷ low ∷ []) 1) (λ bytes. (r ≡ Ok tt) × (out ≡ bytes)) (λ e. r ≡ Err e)
 
@@ -79,7 +79,7 @@ next_pair all rest mid left bytes high low byte spells first second value =
     spells ∙ ap (prepend bytes) (ap (decode_pairs k) are ∙ decode_pairs-ok_pair k high low byte left (value k))
     ∙ prepend-cons_byte bytes byte (decode_pairs (k + 2) left) ∙ ap (λ (n : ℕ). prepend (bytes ++ byte ∷ []) (decode_pairs n left)) long
 
--- what is no byte
+-- what is not a byte
 err_before : (front : List ℕ) (r : Result (List ℕ) FromHexError) → IsErr r → IsErr (prepend front r)
 err_before front (Ok xs) err = absurd (cc)
 err_before front (Err e) err = refl

@@ -13,13 +13,13 @@ names_up_to last (Submit dev _) = nat_le dev last
 names_up_to last (Put _ _) = true
 names_up_to last (See _) = true
 
--- whether a line puts a byte outside the client area of a memory of so many bytes
+-- whether a line puts a byte outside the client area of a memory of this many bytes
 abbrev pub puts_outside : ℕ → Entry → Bool
 puts_outside memory (entry.Common (Put at bytes)) = not (lies_in memory at (length bytes))
 puts_outside memory _ = false
 
--- whether a run of so many ports and bytes of memory can have what a line asks: the port is there, and what
--- is put lies in client memory
+-- whether a run of this many ports and bytes of memory can have what a line asks: the port is there,
+-- and what is put lies in client memory
 abbrev pub is_fitting_entry : ℕ → ℕ → Entry → Bool
 is_fitting_entry ports memory (entry.Common (Submit dev _)) = nat_lt dev ports
 is_fitting_entry ports memory (entry.Common (Put at bytes)) = lies_in memory at (length bytes)

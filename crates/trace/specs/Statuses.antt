@@ -15,7 +15,7 @@ status_of OutOfMemory = 3
 status_of ReadOrWrite = 4
 status_of (Unexpected _) = 6
 
--- the exit status of a run in threads that nothing failed
+-- the exit status of a run in threads in which nothing failed
 abbrev pub status_of_ending : Ending → ℕ
 status_of_ending Done = 0
 status_of_ending TurnsSpent = 5

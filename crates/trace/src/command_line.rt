@@ -15,7 +15,7 @@ use std::fmt;
 pub enum Mode {
     /// Say what the program does.
     Help,
-    /// This, in one thread, which waits for no other.
+    /// Do this, in one thread, which waits for no other.
     Alone(Task),
     /// Run the scenario of the input in threads.
     Threads(Turns),
@@ -26,7 +26,7 @@ pub enum Mode {
 pub enum Task {
     /// Print each frame of the input in words.
     Decode,
-    /// Play the scenario of the input, one step at a time, and write so much of what moves.
+    /// Play the scenario of the input, one step at a time, and write this much of what moves.
     Run(Watch),
 }
 
@@ -94,8 +94,8 @@ pub struct Turns {
     pub ghost has_count: { (1 ≤ count) × (count ≤ 16777216) },
 }
 
-/// What the words after the program's name ask for, and from where the input comes: a file, or standard input where none is
-/// named.
+/// What the words after the program's name ask for, and where the input comes from: a file, or
+/// standard input if no file is named.
 #[derive(Debug, Drop)]
 pub struct Call<'a> {
     pub mode: Mode,
@@ -105,15 +105,15 @@ pub struct Call<'a> {
 /// Why the words are refused.
 #[derive(Debug, Drop)]
 pub enum Misuse {
-    /// One is not known, is missing, or stands where it may not.
+    /// A word is not known, is missing, or stands where it may not.
     Words(Error),
     /// `--`, which ends the options of other programs.
     Dashes,
-    /// What `--turns` gives is no number of turns.
+    /// What `--turns` gives is not a number of turns.
     Turns,
-    /// What `--only` gives is nothing that steps are chosen by.
+    /// What `--only` gives is nothing by which steps are chosen.
     Only,
-    /// What `--from` gives is no number.
+    /// What `--from` gives is not a number.
     From,
     /// The allocator refused memory.
     OutOfMemory,
@@ -150,7 +150,7 @@ impl From<AllocError> for Misuse {
 }
 
 impl Turns {
-    /// The turns of a run of which the command line says none.
+    /// The turns of a run for which the command line gives none.
     const MOST: Turns = Turns { count: MAX_TURNS };
 
     /// The turns that the words after `threads` ask for.
@@ -214,7 +214,7 @@ fn command<'a>(alloc: Global) -> Result<Command<'a>, Error> {
     Ok(command)
 }
 
-/// The words of a mode that each mode has: its file, and `--help`.
+/// The words that each mode has: its file, and `--help`.
 fn mode_words<'a>(alloc: Global, name: &'a str) -> Result<Command<'a>, Error> {
     let file = Arg::new(alloc, "file").action(ArgAction::Set);
     let command = Command::new(alloc, name)

@@ -15,16 +15,16 @@ use std::fmt;
 use std::io::{Eprint, Write};
 use thiserror::Error;
 
-/// Why a line is no frame that can be told in words.
+/// Why a line is not a frame that can be put in words.
 #[derive(Clone, Copy, Debug, PartialEq, Eq, Error)]
 pub enum DecodeError {
-    /// An odd number of digits, or a character that is no digit.
+    /// An odd number of digits, or a character that is not a digit.
     #[error("bad hex")]
     BadHex,
-    /// No frame has so many bytes.
+    /// No frame has this many bytes.
     #[error("bad length")]
     BadLength,
-    /// No FIS of this type has so many bytes.
+    /// No FIS of this type has this many bytes.
     #[error("wrong length")]
     WrongLength,
 }
@@ -42,8 +42,8 @@ impl From<FisFault> for DecodeError {
     }
 }
 
-/// Writes a line for each line of the input that is neither empty nor a comment. Standard error is told of each line that is
-/// no frame, by its number, and why.
+/// Writes a line for each line of the input that is neither empty nor a comment. Standard error gets
+/// the number of each line that is no frame, and why it is none.
 pub fn decode<E: Eprint, W: Write>(
     errors: &E,
     alloc: Global,
@@ -58,14 +58,14 @@ pub fn decode<E: Eprint, W: Write>(
             continue;
         }
         if let Some(error) = decode_line(alloc, text, out)? {
-            // Where standard error is closed, the answer on standard output is as ever.
+            // If standard error is closed, the answer on standard output is the same.
             let _unheard = errors.eprintln(LineNote { line, text, error });
         }
     }
     Ok(())
 }
 
-/// Writes what one line means, and gives the reason where it is no frame.
+/// Writes what one line means, and gives the reason if it is no frame.
 fn decode_line<W: Write>(
     alloc: Global,
     text: &[u8],

@@ -15,7 +15,7 @@ pub enum Failure {
     Line {
         line: usize,
         refusal: Refusal,
-        /// The word for which it is refused, counted from 1; 0 is the line as a whole.
+        /// The word for which it is refused, counted from 1; 0 means the line as a whole.
         word: usize,
         /// What should stand there.
         wanted: Wanted,
@@ -25,13 +25,13 @@ pub enum Failure {
     Unexpected {
         line: usize,
     },
-    /// The words of the command line are none that the program knows.
+    /// The program does not know the words of the command line.
     #[error("command line refused")]
     CommandLine,
     /// The allocator refused memory.
     #[error("out of memory")]
     OutOfMemory,
-    /// Standard input could not be read, or standard output not be written.
+    /// Standard input could not be read, or standard output could not be written.
     #[error("a read or a write failed")]
     ReadOrWrite,
 }
@@ -42,16 +42,16 @@ pub enum Refusal {
     /// The line is too long, or holds a byte past the limit of the input.
     #[error("size")]
     Size,
-    /// The line's first word, or the name of a step, is none that is known.
+    /// The line's first word, or the name of a step, is not known.
     #[error("command")]
     Command,
-    /// The line speaks of the world's making, and comes too late.
+    /// The line is about the making of the world, and comes too late.
     #[error("order")]
     Order,
     /// A word is missing, is one too many, or cannot be read.
     #[error("number")]
     Number,
-    /// An odd number of digits, or a character that is no digit.
+    /// An odd number of digits, or a character that is not a digit.
     #[error("hex")]
     Hex,
     /// A number is outside its limits.
@@ -62,7 +62,7 @@ pub enum Refusal {
 impl Failure {
     ghost use Rattle.trace.specs.Statuses.{status_of};
 
-    /// The exit status of a run that ends so.
+    /// The exit status of a run that ends in this way.
     pub fn status(self) -> u8
         ensures { result ≡ status_of self }
     {

@@ -1,6 +1,6 @@
-//! What the program says of itself.
+//! What the program says about itself.
 
-/// The modes, their words and the exit statuses, in a screen.
+/// The modes, their words and the exit statuses, on one screen.
 pub const HELP: &str = "\
 pm_trace: disks, a Serial ATA port multiplier and an AHCI host port, in text
 

@@ -1,4 +1,4 @@
-//! Bytes as hexadecimal text, with blanks between the digits allowed where it is read.
+//! Bytes as hexadecimal text. Where it is read, blanks are allowed between the digits.
 
 ghost use Rattle.std.specs.Prelude.{◌≡◌, ◌↔◌, ◌<◌, ◌∷◌, [], ℕ, length, IfOk, IsErr, IsOk, IsTrue, MatchOption};
 ghost use Rattle.hex.specs.Hex.{decode_of, pair_value};
@@ -12,7 +12,7 @@ use thiserror::Error;
 /// Why a text does not become bytes.
 #[derive(Clone, Copy, Debug, PartialEq, Eq, Error)]
 pub enum HexError {
-    /// An odd number of digits, or a character that is no digit.
+    /// An odd number of digits, or a character that is not a digit.
     #[error("bad hex")]
     BadHex,
     /// The allocator refused memory for the bytes.
@@ -30,8 +30,8 @@ impl From<AllocError> for HexError {
     }
 }
 
-/// The bytes that the digits spell, two digits a byte, in either case. Blanks count for nothing. Digits that spell none are
-/// refused for that, also where there is no memory.
+/// The bytes that the digits spell, two digits a byte, in either case. Blanks count for nothing.
+/// Digits that spell no bytes are refused for that, even if there is no memory.
 pub fn bytes_of(alloc: Global, text: &[u8]) -> Result<Vec<u8>, HexError>
     ensures value { IfOk result (λ bytes. decode_of (without_blanks text.now) ≡ Ok bytes.items) }
     ensures bad_hex { (result ≡ Err HexError.BadHex) ↔ IsErr (decode_of (without_blanks text.now)) }
@@ -42,8 +42,9 @@ pub fn bytes_of(alloc: Global, text: &[u8]) -> Result<Vec<u8>, HexError>
     }
 }
 
-/// The word for which digits are no bytes, where the words of this text count from this number on, and what was
-/// wanted: the first word that has another character, else the last, as a digit is missing.
+/// The word because of which digits are no bytes, and what was wanted. The words of this text count
+/// from this number on. It is the first word that has another character, or the last word, if a digit
+/// is missing.
 pub fn hex_fault(text: &[u8], first: usize) -> (usize, Wanted) {
     let mut word = first;
     let mut last = first;
@@ -60,8 +61,8 @@ pub fn hex_fault(text: &[u8], first: usize) -> (usize, Wanted) {
     (last, Wanted::EvenDigits)
 }
 
-// The bytes that the digits spell. Each is decoded into its place, in room for just as many, for which memory is asked
-// before the digits are looked at.
+// The bytes that the digits spell. Each is decoded into its place, in room for exactly as many.
+// Memory for it is asked for before the digits are looked at.
 fn decoded(alloc: Global, text: &[u8]) -> Result<Vec<u8>, HexError>
     ensures value { IfOk result (λ bytes. decode_of (without_blanks text.now) ≡ Ok bytes.items) }
     ensures bad_hex { result ≡ Err HexError.BadHex → IsErr (decode_of (without_blanks text.now)) }
@@ -98,12 +99,12 @@ fn spells_bytes(text: &[u8]) -> bool
     true
 }
 
-// How many of these bytes are no blanks.
+// How many of these bytes are not blanks.
 fn digits_in(text: &[u8]) -> usize {
     text.iter().filter(|byte| !is_blank(**byte)).count()
 }
 
-// The first byte that is no blank, and what stands behind it.
+// The first byte that is not a blank, and what comes after it.
 fn next_digit(text: &[u8]) -> Option<(u8, &[u8])>
     ensures { MatchOption result (without_blanks text.now ≡ []) (λ next.
         (without_blanks text.now ≡ next.0 ∷ without_blanks next.1.now)

@@ -11,12 +11,12 @@ use std::io::Read;
 /// The most bytes of an input.
 pub const LONGEST_INPUT: usize = 16 * 1024 * 1024;
 
-/// The most bytes of a line, its line feed not counted.
+/// The most bytes of a line, without its line feed.
 pub const LONGEST_LINE: usize = 20_000;
 
 /// Reads to the end, or to the first byte past the limit: what follows that byte changes no answer.
-/// Too much input, or too long a line, is `size` at the first line that is too long or holds a byte
-/// past the limit.
+/// If there is too much input, or a line is too long, that is `size` at the first line that is too
+/// long or holds a byte past the limit.
 pub fn read_input<R: Read + Drop>(alloc: Global, reader: R) -> Result<Vec<u8>, Failure> {
     let mut input = Vec::new(alloc);
     reader
@@ -66,7 +66,7 @@ pub fn without_return(line: &[u8]) -> &[u8] {
     }
 }
 
-/// The line of this number, counted from 1; an empty one where there are not so many.
+/// The line of this number, counted from 1; an empty one if there are not that many.
 pub fn line_of(input: &[u8], number: usize) -> &[u8] {
     let line = input
         .split(|byte| *byte == b'\n')

@@ -1,8 +1,9 @@
 //! What a list of frames or a scenario means, line by line, from a reader to a writer.
 //!
-//! [`serve`] does what the words of a command line ask for: `decode` prints each frame in words, `run` plays a scenario
-//! on a world of devices, a port multiplier and a host, and `threads` has each of these work in a thread of its own. Its
-//! result is the exit status, which says how a run ended; [`refuse`] gives that of a run that cannot begin.
+//! [`serve`] does what the words of a command line ask for. `decode` prints each frame in words,
+//! `run` plays a scenario on a world of devices, a port multiplier and a host, and `threads` runs
+//! each of these in a thread of its own. Its result is the exit status, which says how a run ended.
+//! [`refuse`] gives the exit status of a run that cannot begin.
 #![tactic(auto)]
 
 mod command_line;

@@ -1,4 +1,4 @@
-//! What standard error says of a run that ends before its work is done.
+//! What standard error says about a run that ends before its work is done.
 
 use crate::failure::Failure;
 use crate::input::{is_blank, line_of};
@@ -13,7 +13,7 @@ pub struct Note<'a> {
 }
 
 impl<'a> Note<'a> {
-    /// The note on a failure, where this was the input.
+    /// The note about a failure, if this was the input.
     pub fn of(failure: Failure, input: &'a [u8]) -> Note<'a> {
         Note { failure, input }
     }
@@ -41,7 +41,7 @@ impl fmt::Display for Note<'_> {
 #[derive(Clone, Copy, Debug)]
 pub struct WordOf<'a> {
     pub text: &'a [u8],
-    /// Counted from 1; 0 is the line as a whole.
+    /// Counted from 1; 0 means the line as a whole.
     pub word: usize,
     pub wanted: Wanted,
 }
@@ -67,7 +67,7 @@ impl fmt::Display for WordOf<'_> {
     }
 }
 
-/// The word of this number, counted from 1, if the line has so many.
+/// The word of this number, counted from 1, if the line has that many.
 fn word_of(text: &[u8], word: usize) -> Option<&[u8]> {
     text.split(|byte| is_blank(*byte))
         .filter(|part| !part.is_empty())
@@ -77,7 +77,7 @@ fn word_of(text: &[u8], word: usize) -> Option<&[u8]> {
 /// The most bytes of a word that are shown.
 const MOST_SHOWN: usize = 100;
 
-/// A word as text. What is no printing character of ASCII is shown by its two hexadecimal digits.
+/// A word as text. What is not a printing character of ASCII is shown by its two hexadecimal digits.
 #[derive(Debug, Drop)]
 pub struct Shown<'a>(pub &'a [u8]);
 

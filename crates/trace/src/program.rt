@@ -20,10 +20,10 @@ use std::thread::Threads;
 use std::{fmt, fs};
 
 /// Does what the words after the program's name ask for, and gives the exit status: 0 done, 1 the
-/// input is refused, 2 the command line is refused, 3 memory was refused, 4 a read or a write failed, 5
-/// the turns of the threads are spent, 6 something else was printed than a line expects. The whole input is
-/// read before anything is written. A run that ends with 3 or 4 has written the beginning of what it would
-/// have written. Standard error says for what the input or the command line is refused.
+/// input is refused, 2 the command line is refused, 3 memory was refused, 4 a read or a write failed,
+/// 5 the turns of the threads are spent, 6 something else was printed than a line expects. The whole
+/// input is read before anything is written. A run that ends with 3 or 4 has written the beginning of
+/// what it would have written. Standard error says why the input or the command line is refused.
 pub fn serve<H: Threads + Wait + Sync + Files + Eprint, S: AsStr, R: Read + Drop, W: Write + Drop>(
     rt: &H,
     alloc: Global,
@@ -44,7 +44,8 @@ pub fn serve<H: Threads + Wait + Sync + Files + Eprint, S: AsStr, R: Read + Drop
     }
 }
 
-/// Reads the whole input: this file, or else standard input. Standard error is told why it is not taken.
+/// Reads the whole input: this file, or otherwise standard input. Standard error says why it is not
+/// taken.
 fn read_from<H: Files + Eprint, R: Read + Drop>(
     rt: &H,
     alloc: Global,
@@ -65,7 +66,7 @@ fn read_file<H: Files>(rt: &H, alloc: Global, path: &str) -> Result<Vec<u8>, Fai
     read_input(alloc, fs::open(rt, path)?)
 }
 
-/// Tells standard error why the input is not taken.
+/// Says on standard error why the input is not taken.
 fn tell_of_input<E: Eprint>(errors: &E, failure: Failure, file: Option<&str>) {
     match (failure, file) {
         (Failure::ReadOrWrite, Some(path)) => {
@@ -102,12 +103,12 @@ fn show_help<W: Write + Drop>(alloc: Global, writer: W) -> u8
     close(out, written)
 }
 
-/// Tells standard error. Where it is closed, nobody hears it, and all else is as ever.
+/// Writes to standard error. If that is closed, nobody hears it, and all else is the same.
 fn tell<E: Eprint, D: Display + Drop>(errors: &E, said: D) {
     let _unheard = errors.eprintln(said);
 }
 
-/// Tells standard error why a run ends, where it was not told yet.
+/// Says on standard error why a run ends, if that was not said yet.
 fn tell_of<E: Eprint>(errors: &E, failure: Failure, input: &[u8]) {
     match failure {
         Failure::Unexpected { .. } => {}
@@ -189,8 +190,8 @@ fn play<E: Eprint, W: Write>(
     }
 }
 
-/// Runs the scenario of the input in threads, until nothing moved in so many turns, and gives the exit
-/// status.
+/// Runs the scenario of the input in threads, until nothing moved in this many turns, and gives the
+/// exit status.
 fn work_in_threads<H: Threads + Wait + Sync + Files + Eprint, R: Read + Drop, W: Write + Drop>(
     rt: &H,
     alloc: Global,
@@ -220,8 +221,8 @@ fn work_in_threads<H: Threads + Wait + Sync + Files + Eprint, R: Read + Drop, W:
     }
 }
 
-/// Writes the words of the failure, if there is one that has any, and what is still in the buffer, and
-/// gives the exit status. Nothing more is written once a write has failed.
+/// Writes the words of the failure, if there is one that has any, and what is still in the buffer,
+/// and gives the exit status. Nothing more is written once a write has failed.
 fn close<W: Write + Drop>(mut out: BufWriter<W>, done: Result<(), Failure>) -> u8
     ensures done { result ≡ 0 → done ≡ Ok tt }
     ensures failed { IfErr done (λ failure. (result ≡ status_of failure) ⊎ (result ≡ 4)) }
@@ -232,7 +233,8 @@ fn close<W: Write + Drop>(mut out: BufWriter<W>, done: Result<(), Failure>) -> u
         Err(Failure::ReadOrWrite) => Ok(()),
         Err(failure) => writeln!(out, "{failure}").and_then(|()| out.flush()),
     };
-    // Dropped as a whole, the buffer would try once more to write what could not be written.
+    // If the buffer were dropped as a whole, it would try once more to write what could not be
+    // written.
     let (_writer, _unwritten) = out.into_parts();
     match (done, written) {
         (Ok(()), Ok(())) => 0,

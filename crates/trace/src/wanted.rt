@@ -1,4 +1,4 @@
-//! What a line should have had where it is refused, in words.
+//! What a line should have had when it is refused, in words.
 
 use std::fmt;
 use thiserror::Error;
@@ -59,7 +59,7 @@ impl Keyword {
 /// What a line should have had at the word for which it is refused.
 #[derive(Clone, Copy, Debug, PartialEq, Eq)]
 pub enum Wanted {
-    /// No word more.
+    /// No more words.
     Nothing,
     /// A line and an input that are not too long.
     Size,
@@ -71,9 +71,9 @@ pub enum Wanted {
     StepName,
     /// That `ports` come before all other lines.
     PortsFirst,
-    /// That a line of the world's making come before all others.
+    /// That a line about the making of the world come before all others.
     Earlier,
-    /// A port of whose device no other line has spoken.
+    /// A port about whose device no other line has spoken.
     FreePort,
     /// This word.
     Keyword(Keyword),
@@ -127,7 +127,7 @@ fn write_number<W: fmt::Write>(
 }
 
 impl Wanted {
-    /// What is wanted, where it has no word and no number of its own.
+    /// What is wanted, if it has no word and no number of its own.
     fn sentence(self) -> &'static str {
         match self {
             Wanted::Nothing | Wanted::Keyword(_) | Wanted::Number(..) => "wanted no word more",

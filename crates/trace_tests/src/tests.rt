@@ -1,4 +1,4 @@
-//! What the program writes, and how it ends, where no case of a file can show it.
+//! What the program writes, and how it ends, if no case of a file can show it.
 
 mod failing;
 mod limits;

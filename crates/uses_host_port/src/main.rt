@@ -1,6 +1,7 @@
-//! A host port without anything behind it: the program plays the device. A queued read of one sector is written into slot
-//! 0 for the device at PM Port 3 and issued; the FISes by which the device serves it are taken, and the sector stands in
-//! client memory. Each FIS is printed as its bytes, each take as what the port reports of it.
+//! A host port with nothing behind it: the program plays the device. A queued read of one sector is
+//! written into slot 0 for the device at PM Port 3 and issued. The FISes by which the device serves
+//! it are taken, and the sector stands in client memory. Each FIS is printed as its bytes, and each
+//! take as what the port reports.
 #![tactic(auto)]
 
 use fis_view::{D2hFields, DmaSetupFields, Frame, H2dFields, SetBitsFields, Stamp};
@@ -10,7 +11,7 @@ use host_memory::{HostMemory, Prd};
 use std::alloc::{AllocError, Global};
 use std::io;
 
-/// The port of the device, which it writes into each of its FISes.
+/// The port of the device. The device writes it into each of its FISes.
 const DEVICE: u8 = 3;
 
 /// PxCLB, PxFB, PxFBS, PxCMD, PxSACT and PxCI.
@@ -26,7 +27,8 @@ const ACTIVE: u32 = 0x34;
 
 const ISSUE: u32 = 0x38;
 
-/// The first FIS of the device's first connection. A host port looks at no number of a stamp: that is for links.
+/// The stamp of the first FIS of the device's first connection. A host port looks at no number of a
+/// stamp: numbers are for links.
 fn stamp() -> Stamp {
     Stamp {
         port: DEVICE,
@@ -56,8 +58,8 @@ fn write_read(memory: &mut HostMemory) {
     write_command(memory, 0x8000, 0, 0xA000, &fields, &prds);
 }
 
-/// A port that runs with FIS-based switching, whose command list stands at 8000h and its received area at 1000h, and whose
-/// next commands are for the device.
+/// A port that runs with FIS-based switching. Its command list stands at 8000h and its received area
+/// at 1000h, and its next commands are for the device.
 fn started(memory: &HostMemory) -> HostPort {
     let mut port = HostPort::new();
     let _ = port.write(COMMAND_LIST, 0x8000, memory);
@@ -67,7 +69,8 @@ fn started(memory: &HostMemory) -> HostPort {
     port
 }
 
-/// What the device sends: the command is queued, the first 512 bytes of tag 0 follow, they are these, tag 0 is done.
+/// What the device sends: the command is queued, the first 512 bytes of tag 0 follow, here they are,
+/// and tag 0 is done.
 fn served(alloc: Global) -> Result<[Frame; 4], AllocError> {
     let queued = D2hFields {
         pm_port: DEVICE,

@@ -1,5 +1,6 @@
-//! A disk behind a port multiplier, without a host port: the program plays the host. It opens port 0 by register writes to
-//! the control port, lets the new device in, and asks the disk for a sector. Each FIS that goes up is printed as its bytes.
+//! A disk behind a port multiplier, without a host port: the program plays the host. It opens port 0
+//! by register writes to the control port, lets the new device in, and asks the disk for a sector.
+//! Each FIS that goes up is printed as its bytes.
 #![tactic(auto)]
 
 ghost use Rattle.std.specs.Prelude.{◌≡◌, ◌<◌};
@@ -24,7 +25,7 @@ fn of_host() -> Stamp {
     }
 }
 
-/// A write of a register of port 0, whose value has one byte that is not 0: the highest or the lowest.
+/// A write of a register of port 0. Its value has one byte that is not 0: the highest or the lowest.
 fn register_write(register: u16, lowest: u8, highest: u8) -> H2dFields {
     H2dFields {
         pm_port: CONTROL_PORT,
@@ -54,7 +55,8 @@ fn read() -> H2dFields {
     }
 }
 
-/// Gives the multiplier a frame of the host. Where the place that it needs is taken, it is lost here.
+/// Gives the multiplier a frame of the host. If the place that it needs is taken, the frame is lost
+/// here.
 fn give(alloc: Global, pm: &mut Multiplier, fields: &H2dFields) -> Result<(), AllocError>
     ensures { pm.new.registers.ports ≡ pm.old.registers.ports }
 {
@@ -63,7 +65,7 @@ fn give(alloc: Global, pm: &mut Multiplier, fields: &H2dFields) -> Result<(), Al
     Ok(())
 }
 
-/// Lets all that waits for the disk down to it.
+/// Passes all that waits for the disk down to it.
 fn serve(alloc: Global, pm: &mut Multiplier, disk: &mut Disk) -> Result<(), AllocError>
     requires { 0 < pm.old.registers.ports }
     ensures { pm.new.registers.ports ≡ pm.old.registers.ports }
@@ -74,7 +76,8 @@ fn serve(alloc: Global, pm: &mut Multiplier, disk: &mut Disk) -> Result<(), Allo
     }
 }
 
-/// Lets the disk send its next FIS, which is the given one of its first connection, into the hold of port 0.
+/// Lets the disk send its next FIS, which is the given one of its first connection, into the hold of
+/// port 0.
 fn send(
     alloc: Global,
     pm: &mut Multiplier,
@@ -120,7 +123,7 @@ fn plug(alloc: Global, pm: &mut Multiplier, disk: &mut Disk) -> Result<(), Alloc
     Ok(())
 }
 
-/// The host opens port 0: SControl 0, and then X of SError is cleared, before which nothing passes.
+/// The host opens port 0: SControl 0, and then it clears X of SError, before which nothing passes.
 fn open(rt: &HostRuntime, pm: &mut Multiplier) -> io::Result<()>
     ensures { pm.new.registers.ports ≡ pm.old.registers.ports }
 {
@@ -130,7 +133,7 @@ fn open(rt: &HostRuntime, pm: &mut Multiplier) -> io::Result<()>
     show(rt, pm)
 }
 
-/// The disk tells its signature, is asked for a sector, and sends it.
+/// The disk sends its signature, is asked for a sector, and sends it.
 fn exchange(rt: &HostRuntime, pm: &mut Multiplier, disk: &mut Disk) -> io::Result<()>
     requires { 0 < pm.old.registers.ports }
     ensures { pm.new.registers.ports ≡ pm.old.registers.ports }

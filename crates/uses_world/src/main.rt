@@ -1,5 +1,6 @@
-//! A world of one disk: it is plugged in, the driver finds it, a request reads a sector and is polled. A round has one step of
-//! each actor; rounds are run until one moves nothing. Each FIS that the host takes is printed, with the slots that it ends.
+//! A world of one disk. It is plugged in, the driver finds it, and a request reads a sector and is
+//! polled. A round has one step of each actor. Rounds are run until one moves nothing. Each FIS that
+//! the host takes is printed, with the slots that it ends.
 #![tactic(auto)]
 
 use disk_model::{Disk, DiskPlan, Unit};
@@ -57,7 +58,7 @@ fn read(alloc: Global) -> Result<Step, AllocError> {
     Ok(Step::Submit(0, request))
 }
 
-/// Prints what the answer tells of the host. Answers whether something moved.
+/// Prints what the answer tells of the host. Returns whether something moved.
 fn show(rt: &HostRuntime, answer: &Answer) -> io::Result<bool> {
     match answer {
         Answer::Idle | Answer::Blocked => return Ok(false),
@@ -80,7 +81,7 @@ fn show(rt: &HostRuntime, answer: &Answer) -> io::Result<bool> {
     Ok(true)
 }
 
-/// Runs the steps, and prints what they told. Answers whether something moved.
+/// Runs the steps, and prints what they told. Returns whether something moved.
 fn play(rt: &HostRuntime, world: &mut World, steps: &[Step]) -> io::Result<bool> {
     let mut is_moved = false;
     match world.run(rt.alloc(), steps) {
@@ -94,7 +95,7 @@ fn play(rt: &HostRuntime, world: &mut World, steps: &[Step]) -> io::Result<bool>
     Ok(is_moved)
 }
 
-/// Rounds until one moves nothing, at most a thousand.
+/// Runs rounds until one moves nothing, at most a thousand.
 fn settle(rt: &HostRuntime, world: &mut World) -> io::Result<()> {
     for _ in 0..1000 {
         if !play(rt, world, &ROUND)? {

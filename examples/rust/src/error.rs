@@ -31,6 +31,10 @@ pub enum Error {
     NoRegister,
     /// 4,294,967,295 devices came to this port. It takes no other.
     Spent,
+    /// No disk has this size, this chunk or so many bad sectors.
+    BadDisk,
+    /// The disk has no such sector.
+    NoSector,
     /// A status that these bindings do not know, or that they rule out: a fault of theirs.
     Unexpected(c_int),
 }
@@ -39,7 +43,7 @@ pub enum Error {
 pub(crate) const NOTHING: c_int = 10;
 
 impl Error {
-    const NUMBERED: [(c_int, Error); 11] = [
+    const NUMBERED: [(c_int, Error); 13] = [
         (4, Error::NoMemory),
         (5, Error::BadPorts),
         (6, Error::NoPort),
@@ -51,6 +55,8 @@ impl Error {
         (14, Error::NotThere),
         (15, Error::NoRegister),
         (16, Error::Spent),
+        (17, Error::BadDisk),
+        (18, Error::NoSector),
     ];
 
     /// `Ok` for `GEF_OK`, and the error of any other status.

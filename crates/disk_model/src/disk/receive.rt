@@ -1,4 +1,4 @@
-//! What a disk makes of what it receives.
+//! What a disk does with what it receives.
 
 ghost use Rattle.std.specs.Prelude.{◌≡◌, ◌<◌, ◌++◌, ◌∷◌, [], None, OnErr, OnOk};
 ghost use Rattle.disk_model.specs.Disks.{cleared, data_taken, flushed, identified, is_held as is_held_by, logged, owes, owes_alone, owes_page, queues, received, refused, with_now};
@@ -38,7 +38,7 @@ impl Disk {
         Ok(())
     }
 
-    /// Drops all but the mark of a reset that has begun, and owes this answer alone.
+    /// Drops everything except the mark of a reset that has begun, and owes only this answer.
     fn owe_alone(&mut self, answer: Answer, fault: Option<Fault>)
         ensures { self.new ≡ with_now self.old (owes_alone self.old.now answer fault) }
     {
@@ -142,8 +142,8 @@ impl Disk {
         Ok(())
     }
 
-    /// Hears what a Register FIS asks for. In a software reset each command is dropped, in the error
-    /// mode each but the log.
+    /// Hears what a Register FIS asks for. In a software reset each command is dropped. In the error mode
+    /// each is dropped except the read of the log.
     pub(super) fn receive(&mut self, request: Request) -> Result<(), AllocError>
         requires { Asks request }
         ensures ok { OnOk result (

@@ -52,7 +52,7 @@ fn reading_frame(
     }
 }
 
-/// The FIS that a write sends next to ask for a chunk.
+/// The FIS with which a write asks for a chunk next.
 fn asking_frame(
     alloc: Global,
     plan: &DiskPlan,
@@ -87,8 +87,7 @@ fn asking_frame(
     }
 }
 
-/// A write of which so many chunks are left, once so many FISes went that ask for the first of
-/// them.
+/// A write with `left` chunks left, after `gone` FISes that ask for the first of them were sent.
 fn asked(command: Command, left: u32, gone: u8) -> Waiting
     ensures { result ≡ record { command = command; left = left; gone = gone } }
 {
@@ -105,7 +104,7 @@ fn zeros(alloc: Global, len: u32) -> Result<Vec<u8>, AllocError>
     vec![in alloc; 0; len as usize]
 }
 
-/// The read after its next FIS, which is not its last.
+/// The read after its next FIS, if that is not its last.
 fn moved_on(reading: Reading) -> Reading
     requires some { 0 < reading.left }
     requires more { reading.set_up ≡ true → 1 < reading.left }
@@ -132,7 +131,7 @@ fn moved_on(reading: Reading) -> Reading
 }
 
 impl Disk {
-    /// The command that is started next.
+    /// The command that starts next.
     fn pick(&self) -> Option<Command>
         ensures { result ≡ picked self.now.plan.order self.now.now.queued }
     {
@@ -142,7 +141,7 @@ impl Disk {
         }
     }
 
-    /// Gives the oldest answer, else what comes next.
+    /// Gives the oldest answer, or else what comes next.
     pub(super) fn give_answer(
         &mut self,
         alloc: Global,
@@ -155,7 +154,7 @@ impl Disk {
     {
         match self.answers.front() {
             Some(answer) => {
-                let frame = answer.frame(alloc, self.sectors, self.plan.auto, stamp)?;
+                let frame = answer.frame(alloc, self.sectors, &self.plan, stamp)?;
                 self.answers.pop_front();
                 Ok(Some(frame))
             }
@@ -163,7 +162,7 @@ impl Disk {
         }
     }
 
-    /// Gives the next FIS of a started read, where no answer waits.
+    /// Gives the next FIS of a started read, if no answer waits.
     fn give_transfer(&mut self, alloc: Global, stamp: Stamp) -> Result<Option<Frame>, AllocError>
         requires { self.old.now.owed ≡ [] }
         ensures gives { IfOk result (λ out. Gives self.old out self.new) }
@@ -194,7 +193,7 @@ impl Disk {
         }
     }
 
-    /// Asks for the next chunk of a started write, where no read runs.
+    /// Asks for the next chunk of a started write, if no read runs.
     fn give_waiting(&mut self, alloc: Global, stamp: Stamp) -> Result<Option<Frame>, AllocError>
         requires owed { self.old.now.owed ≡ [] }
         requires started { self.old.now.started ≡ None }
@@ -214,7 +213,7 @@ impl Disk {
         Ok(Some(frame))
     }
 
-    /// Starts a queued command, where nothing waits and no transfer runs, and gives its first FIS.
+    /// Starts a queued command, if nothing waits and no transfer runs, and gives its first FIS.
     fn give_start(&mut self, alloc: Global, stamp: Stamp) -> Result<Option<Frame>, AllocError>
         requires owed { self.old.now.owed ≡ [] }
         requires started { self.old.now.started ≡ None }

@@ -1,7 +1,11 @@
 //! Signature and reads.
 
 use super::scripted::STAMP;
-use disk_model::{Device, Disk, DiskError, DiskPlan, Unit};
+use super::steps::Step::{
+    Commands, IsSilent, Plugs, Reads, ReadsLog, Resets, Sends, SendsSectors, Takes, Writes,
+};
+use super::steps::{Step, assert_disk};
+use disk_model::{Device, Disk, DiskError, DiskPlan};
 use fis_view::{Frame, H2dFields, h2d};
 use std::alloc::{AllocError, Global};
 use std::process::Abort;
@@ -41,14 +45,14 @@ pub fn reset(srst: bool) -> H2dFields {
     }
 }
 
-/// Gives a command to a device. Where memory is refused it is given again, and answers as if
-/// nothing had been.
+/// Gives a command to a device. If memory is refused, it is given again, and answers as if nothing
+/// had happened.
 pub fn give(alloc: Global, unit: &mut impl Device, fields: &H2dFields) -> Result<(), AllocError> {
     let frame = h2d(alloc, fields, STAMP)?;
     give_frame(alloc, unit, &frame)
 }
 
-/// The same of a frame.
+/// The same for a frame.
 pub fn give_frame(alloc: Global, unit: &mut impl Device, frame: &Frame) -> Result<(), AllocError> {
     if unit.on_frame(alloc, frame).is_err() {
         unit.on_frame(alloc, frame)?;
@@ -56,7 +60,7 @@ pub fn give_frame(alloc: Global, unit: &mut impl Device, frame: &Frame) -> Resul
     Ok(())
 }
 
-/// What the device sends next, and again where memory is refused.
+/// What the device sends next, asked for again if memory is refused.
 pub fn next(alloc: Global, unit: &mut impl Device) -> Result<Option<Frame>, AllocError> {
     match unit.next_out(alloc, STAMP) {
         Ok(out) => Ok(out),
@@ -64,7 +68,7 @@ pub fn next(alloc: Global, unit: &mut impl Device) -> Result<Option<Frame>, Allo
     }
 }
 
-/// The device sends just these bytes next, which are given in hexadecimal.
+/// The device sends exactly these bytes next, which are given in hexadecimal.
 pub fn sends(
     rt: &impl Abort,
     alloc: Global,
@@ -78,97 +82,80 @@ pub fn sends(
     Ok(())
 }
 
-/// The device sends Data that carries these sectors of a new disk.
-pub fn sends_sectors(
-    rt: &impl Abort,
-    alloc: Global,
-    unit: &mut impl Device,
-    first: u16,
-    sectors: u8,
-) -> Result<(), Fail> {
-    let frame = next(alloc, unit)?.ok_or("silent")?;
-    let bytes = frame.bytes();
-    assert_eq!(rt; bytes.len(), 4 + 512 * sectors as usize);
-    assert_eq!(rt; &bytes[..4], &[0x46u8, 0, 0, 0][..]);
-    for (at, byte) in bytes[4..].iter().enumerate() {
-        assert_eq!(rt;
-            *byte as usize,
-            (first as usize + at / 512 + at % 512) % 256
-        );
-    }
-    Ok(())
-}
-
-pub fn is_silent(rt: &impl Abort, alloc: Global, unit: &mut impl Device) -> Result<(), Fail> {
-    assert!(rt; next(alloc, unit)?.is_none());
-    Ok(())
-}
-
 /// The answer to a command that was queued.
 pub const ACCEPTED: &str = "3400500000000000000000000000000000000000";
 
 /// The signature of an ATA device.
 pub const SIGNATURE: &str = "3400500101000000000000000100000000000000";
 
+static SIGNS: [Step; 11] = [
+    IsSilent,
+    Plugs,
+    Sends(SIGNATURE),
+    IsSilent,
+    Reads(0, 0, 1),
+    Resets(true),
+    IsSilent,
+    Resets(false),
+    Sends(SIGNATURE),
+    Resets(false),
+    IsSilent,
+];
+
 #[test]
 fn signature_when_plugged_and_after_a_reset(rt: HostRuntime) -> Result<(), Fail> {
-    let alloc = rt.alloc();
-    let mut unit = Unit::Disk(Disk::new(alloc, 16, DiskPlan::plain())?);
-    is_silent(&rt, alloc, &mut unit)?;
-    unit.plugged(alloc)?;
-    sends(&rt, alloc, &mut unit, SIGNATURE)?;
-    is_silent(&rt, alloc, &mut unit)?;
-    give(alloc, &mut unit, &read(0, 0, 1))?;
-    give(alloc, &mut unit, &reset(true))?;
-    is_silent(&rt, alloc, &mut unit)?;
-    give(alloc, &mut unit, &reset(false))?;
-    sends(&rt, alloc, &mut unit, SIGNATURE)?;
-    give(alloc, &mut unit, &reset(false))?;
-    is_silent(&rt, alloc, &mut unit)
+    assert_disk(&rt, rt.alloc(), 16, DiskPlan::plain(), &SIGNS)
 }
 
-/// As long as SRST is set no command has an answer, the log neither; then the signature goes alone, and commands are heard.
+/// As long as SRST is set, no command has an answer, not even the read of the log. Then the signature
+/// goes alone, and commands are heard.
+static IN_RESET: [Step; 22] = [
+    Resets(true),
+    Reads(1, 8, 1),
+    IsSilent,
+    Writes(2, 4, 1),
+    IsSilent,
+    Commands(0xEC),
+    IsSilent,
+    Commands(0xEA),
+    IsSilent,
+    ReadsLog,
+    IsSilent,
+    Takes("2780250000000040000000000100000000000000"),
+    IsSilent,
+    Resets(true),
+    IsSilent,
+    Reads(1, 8, 1),
+    IsSilent,
+    Resets(false),
+    Sends(SIGNATURE),
+    IsSilent,
+    Reads(1, 8, 1),
+    Sends(ACCEPTED),
+];
+
 #[test]
 fn takes_no_command_in_reset(rt: HostRuntime) -> Result<(), Fail> {
-    let alloc = rt.alloc();
-    let mut disk = Disk::new(alloc, 16, DiskPlan::plain())?;
-    let commands = [
-        read(1, 8, 1),
-        write(2, 4, 1),
-        command(0xEC, 0, 0, 0),
-        command(0xEA, 0, 0, 0),
-        command(0x2F, 0, 0x10, 1),
-        command(0x25, 0, 0, 1),
-        reset(true),
-        read(1, 8, 1),
-    ];
-    give(alloc, &mut disk, &reset(true))?;
-    for fields in &commands {
-        give(alloc, &mut disk, fields)?;
-        is_silent(&rt, alloc, &mut disk)?;
-    }
-    give(alloc, &mut disk, &reset(false))?;
-    sends(&rt, alloc, &mut disk, SIGNATURE)?;
-    is_silent(&rt, alloc, &mut disk)?;
-    give(alloc, &mut disk, &read(1, 8, 1))?;
-    sends(&rt, alloc, &mut disk, ACCEPTED)
+    assert_disk(&rt, rt.alloc(), 16, DiskPlan::plain(), &IN_RESET)
 }
 
-/// To be plugged in ends a reset; SRST that is cleared later still has its signature.
+/// Plugging in ends a reset. SRST that is cleared later still has its signature.
+static PLUGGED_IN_RESET: [Step; 7] = [
+    Resets(true),
+    Plugs,
+    Sends(SIGNATURE),
+    Reads(1, 8, 1),
+    Sends(ACCEPTED),
+    Resets(false),
+    Sends(SIGNATURE),
+];
+
 #[test]
 fn plugging_ends_a_reset(rt: HostRuntime) -> Result<(), Fail> {
-    let alloc = rt.alloc();
-    let mut disk = Disk::new(alloc, 16, DiskPlan::plain())?;
-    give(alloc, &mut disk, &reset(true))?;
-    disk.plugged(alloc)?;
-    sends(&rt, alloc, &mut disk, SIGNATURE)?;
-    give(alloc, &mut disk, &read(1, 8, 1))?;
-    sends(&rt, alloc, &mut disk, ACCEPTED)?;
-    give(alloc, &mut disk, &reset(false))?;
-    sends(&rt, alloc, &mut disk, SIGNATURE)
+    assert_disk(&rt, rt.alloc(), 16, DiskPlan::plain(), &PLUGGED_IN_RESET)
 }
 
-/// A disk has a sector at least, and 65,536 at most.
+/// A disk has at least one sector, and at most 65,536.
 #[test]
 fn sizes_that_no_disk_has(rt: HostRuntime) {
     for sectors in [0, 65_537, u32::MAX] {
@@ -177,38 +164,37 @@ fn sizes_that_no_disk_has(rt: HostRuntime) {
     }
 }
 
+static ONE_SECTOR: [Step; 6] = [
+    Takes("2780600100010040000000002800000000000000"),
+    Sends(ACCEPTED),
+    Sends("41200000050000000000000000000000000000000002000000000000"),
+    SendsSectors(0x100, 1),
+    Sends("a140500020000000"),
+    IsSilent,
+];
+
 #[test]
 fn read_of_one_sector(rt: HostRuntime) -> Result<(), Fail> {
-    let alloc = rt.alloc();
-    let mut disk = Disk::new(alloc, 0x200, DiskPlan::plain())?;
-    let bytes = hex::decode(alloc, "2780600100010040000000002800000000000000")?;
-    let frame = Frame::from_bytes(alloc, &bytes, STAMP)?;
-    give_frame(alloc, &mut disk, &frame)?;
-    sends(&rt, alloc, &mut disk, ACCEPTED)?;
-    let setup = "41200000050000000000000000000000000000000002000000000000";
-    sends(&rt, alloc, &mut disk, setup)?;
-    sends_sectors(&rt, alloc, &mut disk, 0x100, 1)?;
-    sends(&rt, alloc, &mut disk, "a140500020000000")?;
-    is_silent(&rt, alloc, &mut disk)
+    assert_disk(&rt, rt.alloc(), 0x200, DiskPlan::plain(), &ONE_SECTOR)
 }
+
+static LAST_FIRST: [Step; 8] = [
+    Reads(3, 4, 2),
+    Sends(ACCEPTED),
+    Sends("41200000030000000000000000000000000200000002000000000000"),
+    SendsSectors(5, 1),
+    Sends("41200000030000000000000000000000000000000002000000000000"),
+    SendsSectors(4, 1),
+    Sends("a140500008000000"),
+    IsSilent,
+];
 
 #[test]
 fn read_with_its_last_sector_first(rt: HostRuntime) -> Result<(), Fail> {
-    let alloc = rt.alloc();
     let plan = DiskPlan {
         chunk: 512,
         last_first: true,
         ..DiskPlan::plain()
     };
-    let mut disk = Disk::new(alloc, 16, plan)?;
-    give(alloc, &mut disk, &read(3, 4, 2))?;
-    sends(&rt, alloc, &mut disk, ACCEPTED)?;
-    let second = "41200000030000000000000000000000000200000002000000000000";
-    sends(&rt, alloc, &mut disk, second)?;
-    sends_sectors(&rt, alloc, &mut disk, 5, 1)?;
-    let first = "41200000030000000000000000000000000000000002000000000000";
-    sends(&rt, alloc, &mut disk, first)?;
-    sends_sectors(&rt, alloc, &mut disk, 4, 1)?;
-    sends(&rt, alloc, &mut disk, "a140500008000000")?;
-    is_silent(&rt, alloc, &mut disk)
+    assert_disk(&rt, rt.alloc(), 16, plan, &LAST_FIRST)
 }

@@ -1,4 +1,4 @@
-//! Where there is memory no call is refused.
+//! If there is memory, no call is refused.
 
 use super::disk::{command, read, reset, write};
 use super::scripted::STAMP;

@@ -1,7 +1,7 @@
 //! Pages beside those of Linux 6.1.
 
 use super::disk::{command, give, next, sends};
-use disk_model::{Disk, DiskPlan, Fault, Page};
+use disk_model::{Disk, DiskPlan, Fault, Page, Profile};
 use std::alloc::Global;
 use std::process::Abort;
 use std::test::Fail;
@@ -44,7 +44,11 @@ const LOGS: [(&str, &str, u8, u8, u64); 4] = [
 fn logs_of_errors(rt: HostRuntime) -> Result<(), Fail> {
     let alloc = rt.alloc();
     for (head, last, tag, error, lba) in LOGS {
-        let page = Page::ErrorLog(Some(Fault::Failed(tag, error, lba))).bytes(alloc, 16, false)?;
+        let page = Page::ErrorLog(Some(Fault::Failed(tag, error, lba))).bytes(
+            alloc,
+            16,
+            &DiskPlan::plain(),
+        )?;
         assert_eq!(rt; page.len(), 512);
         let front = hex::encode(alloc, &page[..14])?;
         assert_eq!(rt; front.as_str(), head);
@@ -57,12 +61,12 @@ fn logs_of_errors(rt: HostRuntime) -> Result<(), Fail> {
     Ok(())
 }
 
-/// The log that `ata_eh_read_log_10h` takes as one of no queued command.
+/// The log that `ata_eh_read_log_10h` takes as one that names no queued command.
 #[test]
 fn log_of_no_error(rt: HostRuntime) -> Result<(), Fail> {
     let alloc = rt.alloc();
     for fault in [None, Some(Fault::Mixed)] {
-        let page = Page::ErrorLog(fault).bytes(alloc, 16, false)?;
+        let page = Page::ErrorLog(fault).bytes(alloc, 16, &DiskPlan::plain())?;
         assert_eq!(rt; page.len(), 512);
         assert_eq!(rt; page[0], 0x80);
         for byte in &page[1..511] {
@@ -108,7 +112,8 @@ fn identify_words_of_other_disks(rt: HostRuntime) {
     }
 }
 
-/// The words of a disk with auto-activate or without, of which 78 and 79 are these, and what is read in them.
+/// The words of a disk with auto-activate or without, whose words 78 and 79 are these, and what is
+/// read in them.
 fn identifies(rt: &impl Abort, alloc: Global, auto: bool, w78: u16) -> Result<(), Fail> {
     let plan = DiskPlan {
         auto,
@@ -148,4 +153,57 @@ fn identify(rt: HostRuntime) -> Result<(), Fail> {
     let alloc = rt.alloc();
     identifies(&rt, alloc, false, 2)?;
     identifies(&rt, alloc, true, 6)
+}
+
+/// Words of the stock profile: their numbers, and what a disk with 43,981 sectors and the serial
+/// number 12AB34CDh has in them.
+const STOCK: [(u8, u16); 27] = [
+    (0, 0x0040),
+    (10, 0x4745),
+    (11, 0x4653),
+    (12, 0x554E),
+    (13, 0x4B2D),
+    (14, 0x3030),
+    (15, 0x3030),
+    (16, 0x3132),
+    (17, 0x4142),
+    (18, 0x3334),
+    (19, 0x4344),
+    (23, 0x312E),
+    (24, 0x3020),
+    (27, 0x4745),
+    (31, 0x4449),
+    (49, 0x0F00),
+    (53, 6),
+    (60, 0xABCD),
+    (61, 0),
+    (75, 0x001F),
+    (76, 0x010E),
+    (80, 0x01F0),
+    (83, 0x4000),
+    (88, 0x407F),
+    (100, 0xABCD),
+    (217, 1),
+    (222, 0x107F),
+];
+
+#[test]
+fn stock_words(rt: HostRuntime) -> Result<(), Fail> {
+    let alloc = rt.alloc();
+    let plan = DiskPlan {
+        profile: Profile::Stock(0x12AB_34CD),
+        ..DiskPlan::plain()
+    };
+    let page = Page::Identity.bytes(alloc, 0xABCD, &plan)?;
+    assert_eq!(rt; page.len(), 512);
+    for (n, wanted) in STOCK {
+        assert_eq!(rt; word(&page, n), wanted);
+    }
+    assert_eq!(rt; page[510], 0xA5);
+    let mut sum: u8 = 0;
+    for byte in &page {
+        sum = sum.wrapping_add(*byte);
+    }
+    assert_eq!(rt; sum, 0);
+    Ok(())
 }

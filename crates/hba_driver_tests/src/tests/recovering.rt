@@ -89,7 +89,7 @@ fn unknown_tag_aborts_all(rt: HostRuntime) -> Result<(), Fail> {
     assert_steps(&rt, rt.alloc(), Driver::new(), 1, &steps)
 }
 
-/// The task file that a device shows where it refuses a command.
+/// The task file that a device shows when it refuses a command.
 const ABORTED: Outcome = Outcome::DeviceError {
     status: 0x51,
     error: 4,
@@ -135,7 +135,7 @@ static STOPS: [Step; 17] = [
     Ticks(true),
 ];
 
-/// After that all devices come back.
+/// After that, all devices come back.
 static COMES_BACK: [Step; 18] = [
     Shows(0x10, 0),
     Shows(0x18, 0x0042_C011),
@@ -162,7 +162,7 @@ fn port_comes_back(rt: HostRuntime) -> Result<(), Fail> {
     assert_steps(&rt, rt.alloc(), Driver::new(), 4, &[&STOPS, &COMES_BACK])
 }
 
-/// The multiplier answers with an error: its bring-up begins anew, and the device goes on.
+/// The multiplier answers with an error. Its bring-up begins anew, and the device goes on.
 static BEGINS_ANEW: [Step; 8] = [
     PlugsDisks(1),
     Hears(&[

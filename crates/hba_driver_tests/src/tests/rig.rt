@@ -30,7 +30,7 @@ pub(super) struct Rig {
     pub(super) port: HostPort,
     pub(super) memory: HostMemory,
     multiplier: Multiplier,
-    /// By port; None where a test makes the frames, or where there is no unit.
+    /// By port; None if a test makes the frames, or if there is no unit.
     disks: Vec<Option<Disk>>,
     /// The first bytes of each frame that the port gave.
     pub(super) sent: Vec<[u8; 20]>,
@@ -46,7 +46,7 @@ pub(super) fn beginning(bytes: &[u8]) -> [u8; 20] {
     first
 }
 
-/// Whether the last frame begins so.
+/// Whether the last frame begins with these bytes.
 fn last_begins(frames: &[[u8; 20]], first: &[u8]) -> bool {
     match frames.last() {
         Some(fis) => fis.starts_with(first),
@@ -124,7 +124,7 @@ fn disk_of(alloc: Global, unit: Unit) -> Result<Option<Disk>, Fail> {
     Ok(Some(disk))
 }
 
-/// A page of 512 bytes as Data, of which these are set.
+/// A page of 512 bytes as Data, with these bytes set.
 pub(super) fn page(set: &[(usize, u8)]) -> [u8; 516] {
     let mut page = [0; 516];
     page[0] = 0x46;
@@ -157,7 +157,7 @@ pub(super) fn request(
 }
 
 impl Rig {
-    /// With so many ports, and no unit.
+    /// A rig with this many ports, and no unit.
     pub(super) fn new(alloc: Global, driver: Driver, ports: u8) -> Result<Rig, MemoryError>
         requires some { 1 ≤ ports }
         requires at_most { ports ≤ 15 }
@@ -173,7 +173,7 @@ impl Rig {
         })
     }
 
-    /// Each of so many ports, from port 0 on, gets a disk, and all is done that follows.
+    /// Each of this many ports, from port 0 on, gets a disk, and all is done that follows.
     pub(super) fn plug_disks(&mut self, alloc: Global, disks: u8) -> Result<bool, Fail> {
         for n in 0..disks {
             if !self.plug(alloc, n, Unit::Disk)? {
@@ -240,7 +240,7 @@ impl Rig {
         }
     }
 
-    /// Each does what it can, once, but for the device of this port. Says whether something was done.
+    /// Each does what it can, once, except the device of this port. Says whether something was done.
     fn round(&mut self, alloc: Global, still: Option<u8>) -> Result<bool, Fail> {
         let mut moved = self.tick();
         moved |= self.push(alloc)?;
@@ -253,7 +253,7 @@ impl Rig {
         Ok(moved)
     }
 
-    /// Rounds until nothing is done. Says whether that came within 4,000.
+    /// Runs rounds until nothing is done. Says whether that came within 4,000.
     pub(super) fn settle(&mut self, alloc: Global) -> Result<bool, Fail> {
         for _ in 0..4000 {
             if !self.round(alloc, None)? {
@@ -263,8 +263,8 @@ impl Rig {
         Ok(false)
     }
 
-    /// Rounds without the device of a port, until the port takes a frame that begins so. Says whether that came within
-    /// 1,000.
+    /// Runs rounds without the device of a port, until the port takes a frame that begins with these
+    /// bytes. Says whether that came within 1,000.
     pub(super) fn until_taken(
         &mut self,
         alloc: Global,
@@ -301,7 +301,7 @@ impl Rig {
         }
     }
 
-    /// Whether the next poll gives this request, which ended so.
+    /// Whether the next poll gives this request, which ended in this way.
     pub(super) fn polls(&mut self, ticket: u32, slot: u8, outcome: Outcome) -> bool {
         let completion = Completion {
             ticket: Ticket(ticket),
@@ -351,14 +351,15 @@ impl Rig {
         start <= client.len() && client[start..].starts_with(&bytes)
     }
 
-    /// Whether these frames were sent since this was asked last.
+    /// Whether these frames were sent since this was last asked.
     pub(super) fn has_sent(&mut self, frames: &[[u8; 20]]) -> bool {
         let are = self.sent.as_slice() == frames;
         self.sent.clear();
         are
     }
 
-    /// How many commands were sent since then with these bytes: of PM Port and C, of Command, and of Device Control.
+    /// How many commands were sent since then with these bytes: the byte of PM Port and C, Command,
+    /// and Device Control.
     pub(super) fn count_sent(&self, bytes: [u8; 3]) -> u32 {
         let mut count = 0_u32;
         for fis in self.sent.iter() {

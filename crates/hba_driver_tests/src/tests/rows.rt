@@ -1,6 +1,6 @@
-//! Commands of queued reads and writes as functions of Linux 6.1 make them: `ata_build_rw_tf`, `ahci_qc_prep`,
-//! `ahci_fill_sg`, `ahci_fill_cmd_slot` and `ahci_qc_issue`. Those of them that our driver may issue: in the slots 0 to 29,
-//! of 256 sectors at most.
+//! Commands of queued reads and writes as functions of Linux 6.1 make them: `ata_build_rw_tf`,
+//! `ahci_qc_prep`, `ahci_fill_sg`, `ahci_fill_cmd_slot` and `ahci_qc_issue`. Here are those that our
+//! driver may issue: in the slots 0 to 29, with at most 256 sectors.
 
 /// One command.
 pub(super) struct Row {
@@ -13,7 +13,7 @@ pub(super) struct Row {
     pub(super) header: u32,
     /// The bytes of the PRD table, in hexadecimal.
     pub(super) table: &'static str,
-    /// PxFBS as it is issued, but for ADO.
+    /// PxFBS at the issue, without ADO.
     pub(super) switching: u32,
     /// What is written to PxSACT.
     pub(super) armed: u32,

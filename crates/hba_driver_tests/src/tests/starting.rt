@@ -70,7 +70,7 @@ const SENT: [[u8; 20]; 10] = [
     ],
 ];
 
-/// What it takes meanwhile.
+/// What it takes in the meantime.
 const TAKEN: [[u8; 20]; 12] = [
     // the multiplier's signature, its one port, two writes done
     [
@@ -146,7 +146,8 @@ const FLUSHED: [[u8; 20]; 2] = [
     ],
 ];
 
-/// A read into two places and a write, outstanding at once; sector 8 as the disk opens stands in both places.
+/// A read into two places and a write, outstanding at once. Sector 8, as the disk opens, stands in
+/// both places.
 static MOVES: [Step; 13] = [
     Puts(0x10_2000, &[0xAB, 0xCD]),
     Submits(
@@ -209,7 +210,8 @@ const ZERO: &[u8] = &[
     0x34, 0x4F, 0x50, 0, 0, 0, 0, 0, 0, 0, 0, 0, 0, 0, 0, 0, 0, 0, 0, 0,
 ];
 
-/// A write of device 0 is done, another is issued, one of device 1 and one of device 0 wait; then a notification comes.
+/// A write of device 0 is done, another is issued, and one of device 1 and one of device 0 wait. Then
+/// a notification comes.
 static QUEUE: [Step; 10] = [
     PlugsDisks(2),
     Writes(0, 1, 0x10_2000, Ok(1)),
@@ -238,7 +240,7 @@ static SCAN: [Step; 11] = [
     Hears(ZERO),
 ];
 
-/// The requests of device 0 that had not ended end so, and the other device goes on.
+/// The requests of device 0 that had not ended end as removed, and the other device goes on.
 static END: [Step; 8] = [
     Gives([0x81, 0x61, 1]),
     Issues([0xF101, 4, 4, 0]),
@@ -264,7 +266,7 @@ const ANOTHER: &[u8] = &[
     0x34, 0x4F, 0x50, 1, 1, 0, 0, 0, 0, 0, 0, 0, 1, 0, 0, 0, 0, 0, 0, 0,
 ];
 
-/// It refuses a command, though it was given none.
+/// It refuses a command, although it was given none.
 const REFUSED: &[u8] = &[
     0x34, 0x4F, 0x51, 4, 0, 0, 0, 0, 0, 0, 0, 0, 0, 0, 0, 0, 0, 0, 0, 0,
 ];
@@ -272,8 +274,8 @@ const REFUSED: &[u8] = &[
 /// A FIS of device 0 that no device sends.
 const WRONG: &[u8] = &[0x27, 0, 0, 0];
 
-/// Multiplier and device 0 are reset at one time. The device's signature comes last, so PxSIG shows that one; the
-/// multiplier's stands in its own row.
+/// The multiplier and device 0 are reset at the same time. The device's signature comes last, so
+/// PxSIG shows that one. The multiplier's signature stands in its own row.
 static BOTH: [Step; 13] = [
     PlugsDisks(1),
     Hears(REFUSED),

@@ -1,6 +1,6 @@
 //! Tests as lists of steps: what is done with a host port, its driver and the devices, and what is seen then.
 //!
-//! A test that is a list has one assertion, and so is proved by little.
+//! A test that is a list has one assertion, so it is proved with little work.
 
 ghost use Rattle.std.specs.Prelude.{◌≤◌};
 
@@ -20,33 +20,34 @@ pub(super) enum Step {
     Sets(u32, u32),
     /// A port, above those that have a unit, gets one.
     Plugs(u8, Unit),
-    /// Each of so many ports, from port 0 on, gets a disk, and all is done that follows.
+    /// Each of this many ports, from port 0 on, gets a disk, and all is done that follows.
     PlugsDisks(u8),
     /// A device sends a frame, which its port holds, and all is done that follows.
     Comes(u8, &'static [u8]),
-    /// The same of a page of 512 bytes, of which these are set.
+    /// The same for a page of 512 bytes, with these bytes set.
     ComesPage(u8, &'static [(usize, u8)]),
     /// The host port takes a frame.
     Hears(&'static [u8]),
     /// All is done that follows.
     Settles,
-    /// The same until the host port takes a frame that begins so; this device stands still.
+    /// The same until the host port takes a frame that begins with these bytes. This device stands
+    /// still.
     Until(Option<u8>, &'static [u8]),
     /// Bytes are written to the client area.
     Puts(u32, &'static [u8]),
     /// A read of a sector of a device, to an address, gives this.
     Reads(u8, u64, u32, Given),
-    /// The same of a write, from an address.
+    /// The same for a write, from an address.
     Writes(u8, u64, u32, Given),
-    /// The same of a Flush.
+    /// The same for a Flush.
     Flushes(u8, Given),
-    /// The same of any work, with a first sector, how many, and entries.
+    /// The same for any work, with a first sector, how many, and entries.
     Submits(u8, Work, u64, u16, Entries, Given),
     /// The driver ticks: whether something was done.
     Ticks(bool),
-    /// The driver does something, and the next frame has 20 bytes, of which these are the second to the fourth.
+    /// The driver does something, and the next frame has 20 bytes. These are its second to fourth.
     Gives([u8; 3]),
-    /// The next poll gives the request of this ticket and slot, which ended so.
+    /// The next poll gives the request of this ticket and slot, which ended in this way.
     Polls(u32, u8, Outcome),
     /// No request has ended.
     PollsNone,
@@ -72,7 +73,7 @@ pub(super) enum Step {
     Commands(u8, u8, u32),
     /// These bytes stand at an address of the client area.
     Holds(u32, [u8; 4]),
-    /// Whether so many bytes from an address on are in use.
+    /// Whether this many bytes from an address on are in use.
     IsUsed(u32, u32, bool),
 }
 
@@ -175,7 +176,7 @@ fn first_failing(alloc: Global, rig: &mut Rig, steps: &[Step]) -> Result<Option<
     Ok(None)
 }
 
-/// Of lists of steps that are done one after the other: which fails first, and in which step.
+/// For lists of steps that are done one after the other: which list fails first, and in which step.
 fn first_wrong(
     alloc: Global,
     rig: &mut Rig,
@@ -189,7 +190,8 @@ fn first_wrong(
     Ok(None)
 }
 
-/// All steps are as they say: those of each list, one after the other, behind a multiplier with so many ports.
+/// All steps are as they say: those of each list, one after the other, behind a multiplier with this
+/// many ports.
 pub(super) fn assert_steps(
     rt: &impl Abort,
     alloc: Global,

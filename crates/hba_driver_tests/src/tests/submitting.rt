@@ -19,7 +19,7 @@ static TEXTS: [(u8, SubmitError, &str); 9] = [
     (9, SubmitError::TicketsSpent, "no more tickets"),
 ];
 
-/// The first number that its refusal does not have, or not with its text.
+/// The first number whose refusal does not have it, or not with its text.
 fn first_other_text(alloc: Global) -> Result<Option<u8>, AllocError> {
     for row in TEXTS.iter() {
         let (number, refusal, text) = *row;
@@ -40,8 +40,8 @@ fn refusals_have_numbers_and_texts(rt: HostRuntime) -> Result<(), AllocError> {
 /// A sector.
 const OK: Entries = &[(0x10_3000, 512)];
 
-/// Flushes that have sectors or entries, which no line of a scenario can give, beside a read that is outstanding. Each
-/// refusal comes before the next.
+/// Flushes that have sectors or entries, which no line of a scenario can give, beside a read that is
+/// outstanding. Each refusal comes before the next.
 static FLUSHES: [Step; 6] = [
     PlugsDisks(2),
     Reads(0, 0, 0x10_1000, Ok(1)),

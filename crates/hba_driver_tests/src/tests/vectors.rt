@@ -1,5 +1,5 @@
-//! Commands with outside values, from submit to the end. No row of Linux moves whole sectors, so the last entry is cut to
-//! them; the table's address is the driver's own.
+//! Commands with values from outside, from submit to the end. No row of Linux moves whole sectors, so
+//! the last entry is cut to whole sectors. The table's address is the driver's own.
 
 use super::rig::{Rig, request};
 use super::rows::{ROWS, Row};
@@ -41,7 +41,7 @@ fn fills(alloc: Global, rig: &mut Rig, row: &Row) -> Result<bool, AllocError> {
     submits(alloc, rig, row)
 }
 
-/// The header stands as Linux writes it, but for the table's address.
+/// The header stands as Linux writes it, except for the table's address.
 fn has_header(memory: &HostMemory, row: &Row, table: u32) -> bool {
     let mut header = [0; 16];
     header[..4].copy_from_slice(&row.header.to_le_bytes());
@@ -50,8 +50,8 @@ fn has_header(memory: &HostMemory, row: &Row, table: u32) -> bool {
     memory.structure()[at..].starts_with(&header)
 }
 
-/// Header and table stand as Linux writes them, but for the table's address, and the last dword of the table, which counts
-/// the bytes of the last entry.
+/// Header and table stand as Linux writes them, except for the table's address, and the last dword of
+/// the table, which counts the bytes of the last entry.
 fn stands(alloc: Global, memory: &HostMemory, row: &Row) -> Result<bool, AllocError> {
     let table = 0x2000 + 0x1000 * u32::from(row.slot % 30);
     let from = table as usize + 0x80;
@@ -75,7 +75,7 @@ fn issues(rig: &mut Rig, row: &Row) -> bool {
     rig.tick() && rig.issues() == [row.switching, armed, armed, 0] && !rig.tick()
 }
 
-/// The requests in so many slots are done, the lowest first.
+/// The requests in this many slots are done, the lowest first.
 fn all_done(rig: &mut Rig, slots: u8) -> bool {
     for slot in 0..slots {
         match rig.driver.poll() {
@@ -92,7 +92,7 @@ fn goes(alloc: Global, rig: &mut Rig, row: &Row) -> Result<bool, Fail> {
     Ok(is_issued && rig.settle(alloc)? && all_done(rig, row.slot.saturating_add(1)))
 }
 
-/// The number of the first row that does not go so, with a disk at each port.
+/// The number of the first row that does not go as it should, with a disk at each port.
 fn first_wrong_row(alloc: Global) -> Result<Option<usize>, Fail> {
     let mut rig = Rig::new(alloc, Driver::new(), 15)?;
     let is_up = rig.plug_disks(alloc, 15)?;

@@ -36,7 +36,7 @@ fn next_len(rig: &mut Rig) -> Result<Option<usize>, Fail> {
     }
 }
 
-/// The first Data goes at once, and each later one where a DMA Activate asks for it.
+/// The first Data goes at once, and each later Data when a DMA Activate asks for it.
 #[test]
 fn first_data_goes_at_once(rt: HostRuntime) -> Result<(), Fail> {
     let mut rig = Rig::new(rt.alloc())?;
@@ -59,7 +59,7 @@ fn activate_before_first_data_is_stray(rt: HostRuntime) -> Result<(), Fail> {
     Ok(())
 }
 
-/// A flush of the device ends what its DMA Setup asked for, and that of another device does not.
+/// A flush of the device ends what its DMA Setup asked for. A flush of another device does not.
 #[test]
 fn flush_ends_auto_activate(rt: HostRuntime) -> Result<(), Fail> {
     let mut rig = Rig::new(rt.alloc())?;

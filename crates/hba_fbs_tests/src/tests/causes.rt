@@ -38,7 +38,7 @@ fn faults(
     Ok(())
 }
 
-/// After these FISes of device 2 this one makes it faulty.
+/// After these FISes of device 2, this one makes it faulty.
 fn fails(
     rt: &impl Abort,
     rig: &mut Rig,
@@ -52,7 +52,8 @@ fn fails(
     faults(rt, rig, fis, cause, interrupts)
 }
 
-/// Set Device Bits with ERR and of a read whose bytes are missing, Data that nothing asked for, and Data without bytes.
+/// Set Device Bits with ERR, Set Device Bits for a read whose bytes are missing, Data that nothing
+/// asked for, and Data without bytes.
 #[test]
 fn faults_have_causes(rt: HostRuntime) -> Result<(), Fail> {
     let mut rig = Rig::new(rt.alloc())?;
@@ -75,7 +76,8 @@ fn faults_have_causes(rt: HostRuntime) -> Result<(), Fail> {
     fails(&rt, &mut rig, &[], &[0x46, 2, 0, 0], bad, 0x0800_0000)
 }
 
-/// DMA Setups for the read, at first and where a sector of it came, and Data that is longer than its setup.
+/// DMA Setups for the read, at first and after a sector of it came, and Data that is longer than its
+/// setup.
 #[test]
 fn setups_that_are_faults(rt: HostRuntime) -> Result<(), Fail> {
     let mut rig = Rig::new(rt.alloc())?;
@@ -103,7 +105,7 @@ fn setups_that_are_faults(rt: HostRuntime) -> Result<(), Fail> {
     Ok(())
 }
 
-/// Device 2 brings 64 runs of four bytes of its read, with a gap behind each.
+/// Device 2 brings 64 runs of four bytes of its read, with a gap after each.
 fn brings_64_runs(rt: &impl Abort, rig: &mut Rig) -> Result<(), Fail> {
     begins(rt, rig)?;
     for run in 0..64_u16 {
@@ -113,7 +115,7 @@ fn brings_64_runs(rt: &impl Abort, rig: &mut Rig) -> Result<(), Fail> {
     Ok(())
 }
 
-/// A run that joins none of the 64 is one too many; one that fills a gap is not.
+/// A run that joins none of the 64 is one too many. A run that fills a gap is not.
 #[test]
 fn too_many_runs_are_a_fault(rt: HostRuntime) -> Result<(), Fail> {
     let mut rig = Rig::new(rt.alloc())?;
@@ -159,8 +161,8 @@ fn stops(rt: &impl Abort, rig: &mut Rig, fis: &[u8], cause: PortCause) -> Result
     Ok(())
 }
 
-/// FISes that the control port may not send, and a PRD whose address became odd after an accepted setup. What comes
-/// later is ignored and changes no cause; ST that falls ends it.
+/// FISes that the control port may not send, and a PRD whose address became odd after an accepted
+/// setup. What comes later is ignored and changes no cause. ST ends it when it falls.
 #[test]
 fn each_cause_of_the_port(rt: HostRuntime) -> Result<(), Fail> {
     let mut rig = Rig::new(rt.alloc())?;
@@ -183,8 +185,8 @@ fn each_cause_of_the_port(rt: HostRuntime) -> Result<(), Fail> {
     Ok(())
 }
 
-/// Device 4 and device 2 are faulty. The causes stand whatever both send, until PxFBS.DEC clears the one that DWE
-/// names, which is device 4, and device 2 is flushed.
+/// Device 4 and device 2 are faulty. The causes stand whatever both send, until PxFBS.DEC clears the
+/// device that DWE names, which is device 4, and device 2 is flushed.
 #[test]
 fn causes_stand_until_they_are_cleared(rt: HostRuntime) -> Result<(), Fail> {
     let mut rig = Rig::new(rt.alloc())?;
@@ -202,8 +204,9 @@ fn causes_stand_until_they_are_cleared(rt: HostRuntime) -> Result<(), Fail> {
     Ok(())
 }
 
-/// What the rules make of a FIS that has this first byte, so many bytes, and ones in all others but for the PM Port,
-/// where its device has an answered read and no setup: what is told of it, and the bits of PxIS that it sets.
+/// What the rules make of a FIS that has this first byte, this many bytes, and ones in all others
+/// except the PM Port, when its device has an answered read and no setup: what is told of it, and the
+/// bits of PxIS that it sets.
 fn ruled(dev: u8, first: u8, len: usize) -> (TakeReport, u32) {
     let of_device = dev != 15;
     match (first, len) {

@@ -21,8 +21,8 @@ fn place(dev: u8) -> u32 {
     0x10_1000 + 0x1000 * u32::from(dev)
 }
 
-/// A port on which devices 0, 2 and 4 read two sectors each, in the slots of their own numbers, and sent a setup for all of
-/// it. PxFBS.DEV is 4.
+/// A port on which devices 0, 2 and 4 read two sectors each, in the slots of their own numbers, and
+/// sent a setup for all of it. PxFBS.DEV is 4.
 fn three_reading(rt: &impl Abort, rig: &mut Rig) -> Result<(), Fail> {
     for dev in [0, 2, 4] {
         reads(rt, rig, dev, dev, place(dev))?;
@@ -31,7 +31,8 @@ fn three_reading(rt: &impl Abort, rig: &mut Rig) -> Result<(), Fail> {
     Ok(())
 }
 
-/// Device 5 and then device 1 are faulty: each DEC clears the one that is shown, and a third does nothing.
+/// Device 5 and then device 1 are faulty. Each DEC clears the device that is shown, and a third does
+/// nothing.
 #[test]
 fn clears_in_order(rt: HostRuntime) -> Result<(), Fail> {
     let mut rig = Rig::started(rt.alloc())?;
@@ -59,8 +60,8 @@ fn clears_in_order(rt: HostRuntime) -> Result<(), Fail> {
     Ok(())
 }
 
-/// Device 2 tells of an error and is cleared, with another DEV. Its slots are free, and ERR and Error are still told. Its
-/// old Data is stray then, and no byte of it goes to client memory.
+/// Device 2 tells of an error and is cleared, with another DEV. Its slots are free, and ERR and Error
+/// are still told. Its old Data is stray then, and no byte of it goes to client memory.
 #[test]
 fn old_data_is_stray(rt: HostRuntime) -> Result<(), Fail> {
     let mut rig = Rig::started(rt.alloc())?;
@@ -93,7 +94,8 @@ fn old_data_is_stray(rt: HostRuntime) -> Result<(), Fail> {
     Ok(())
 }
 
-/// Three devices are at work, and device 2 errs. It is cleared while the others go on, whose reads are done as ever.
+/// Three devices are at work, and device 2 errs. It is cleared while the others go on. Their reads
+/// are done as before.
 #[test]
 fn others_go_on(rt: HostRuntime) -> Result<(), Fail> {
     let mut rig = Rig::started(rt.alloc())?;
@@ -129,8 +131,8 @@ fn others_go_on(rt: HostRuntime) -> Result<(), Fail> {
     Ok(())
 }
 
-/// A command of device 2 that went out to it is no longer waited for once it is cleared; a write that is refused clears
-/// nothing.
+/// A command of device 2 that went out to it is no longer waited for once the device is cleared. A
+/// write that is refused clears nothing.
 #[test]
 fn clears_what_went_out(rt: HostRuntime) -> Result<(), Fail> {
     let mut rig = Rig::started(rt.alloc())?;
@@ -158,7 +160,7 @@ fn clears_what_went_out(rt: HostRuntime) -> Result<(), Fail> {
     Ok(())
 }
 
-/// While the port is stopped no device is shown, and DEC does nothing.
+/// While the port is stopped, no device is shown, and DEC does nothing.
 #[test]
 fn clears_where_shown(rt: HostRuntime) -> Result<(), Fail> {
     let mut rig = Rig::started(rt.alloc())?;

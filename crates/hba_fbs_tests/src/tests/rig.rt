@@ -1,7 +1,7 @@
 //! A host port with its memory, and the frames of devices.
 //!
-//! Clauses see a `Rig` as a number and its functions have no contract, so whatever is proved of a host port, a test is proved
-//! by little.
+//! Clauses see a `Rig` as a number, and its functions have no contract. So a test is proved with
+//! little work, whatever is proved of a host port.
 
 ghost use Rattle.std.specs.Prelude.{◌↔◌, All, IsTrue, ℕ};
 ghost use Rattle.host_memory.specs.Writing.{CanBeWritten};
@@ -62,7 +62,7 @@ fn write_slot(
     write_command(memory, 0, slot, table, fields, prds);
 }
 
-/// So many bytes, from this address of the client area on, are this one.
+/// This many bytes, from this address of the client area on, are this one.
 fn are(client: &[u8], at: usize, count: usize, byte: u8) -> bool {
     at <= client.len()
         && count <= client.len() - at
@@ -106,7 +106,7 @@ impl Rig {
         self.port.write(offset, value, &self.memory)
     }
 
-    /// What a register shows, none where there is no register.
+    /// What a register shows; None if there is no register.
     pub(super) fn read(&self, offset: u32) -> Option<u32> {
         self.port.read(offset).ok()
     }
@@ -177,7 +177,7 @@ impl Rig {
         }
     }
 
-    /// What is seen of each device but this one, from 0 up.
+    /// What is seen of each device except this one, from 0 up.
     pub(super) fn seen_but(&mut self, rt: &impl Abort, dev: u8) -> Result<Vec<Seen>, AllocError> {
         let mut seen = Vec::new(self.alloc);
         for other in 0..16_u8 {
@@ -224,7 +224,7 @@ impl Rig {
         write_slot(rt, &mut self.memory, slot, table, fields, prds);
     }
 
-    /// Has a command issued for its device.
+    /// Issues a command for its device.
     pub(super) fn issue(&mut self, rt: &impl Abort, slot: u8, fields: &H2dFields, prds: &[Prd]) {
         assert!(rt; slot < 32);
         let table = 0x2000 + 0x1000 * u32::from(slot);
@@ -262,7 +262,7 @@ impl Rig {
         self.memory.client().get(at).copied()
     }
 
-    /// So many bytes, from this address of the client area on, are this one.
+    /// This many bytes, from this address of the client area on, are this one.
     pub(super) fn are(&self, at: usize, count: usize, byte: u8) -> bool {
         are(self.memory.client(), at, count, byte)
     }

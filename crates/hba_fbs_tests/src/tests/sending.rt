@@ -69,7 +69,8 @@ fn busy() -> [u8; 20] {
     fis
 }
 
-/// A device has one command out that it has not answered; another's goes meanwhile, the lowest slot first.
+/// A device has one command out that it has not answered. Another device's command goes in the
+/// meantime, the lowest slot first.
 #[test]
 fn commands_wait_for_their_device(rt: HostRuntime) -> Result<(), Fail> {
     let mut rig = Rig::started(rt.alloc())?;
@@ -139,7 +140,7 @@ fn control_resets(rt: HostRuntime) -> Result<(), Fail> {
     Ok(())
 }
 
-/// A table that no longer has the slot's bytes stops the port, on the way out as on the way in.
+/// A table that no longer has the slot's bytes stops the port, on the way out and on the way in.
 #[test]
 fn spoilt_table_stops_the_port(rt: HostRuntime) -> Result<(), Fail> {
     let mut rig = Rig::started(rt.alloc())?;
@@ -162,8 +163,8 @@ fn spoilt_table_stops_the_port(rt: HostRuntime) -> Result<(), Fail> {
     Ok(())
 }
 
-/// Run with the third, fourth .. allocation refused in turn (the first two are the memory's): a frame for which memory was
-/// refused goes out at the next call, with its number, once.
+/// This runs with the third, fourth, and so on, allocation refused in turn (the first two are the
+/// memory's). A frame for which memory was refused goes out at the next call, with its number, once.
 #[test]
 fn refused_frames_go_out_later(rt: HostRuntime) -> Result<(), Fail> {
     let mut rig = Rig::started(rt.alloc())?;

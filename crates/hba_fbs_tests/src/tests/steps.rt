@@ -1,6 +1,6 @@
 //! Tests as lists of steps: what is done with a host port, and what it answers then.
 //!
-//! A test that is a list has one assertion, and so is proved by little.
+//! A test that is a list has one assertion, so it is proved with little work.
 
 use super::rig::Rig;
 use super::sending::command;
@@ -39,7 +39,7 @@ pub(super) enum Sent {
 pub(super) enum Step {
     /// A value is written to an offset, and taken.
     Writes(u32, u32),
-    /// A value is written to an offset, and refused so.
+    /// A value is written to an offset, and refused with this error.
     Refuses(u32, u32, WriteError),
     /// The register at an offset shows this.
     Shows(u32, u32),
@@ -49,7 +49,7 @@ pub(super) enum Step {
     Tells(Sent, TakeReport),
     /// A sector of Data of a device, all of whose bytes are this one, is taken and goes to these bytes of a slot.
     Carries(u8, u8, Wrote),
-    /// So many bytes, from this address of the client area on, are this one.
+    /// This many bytes, from this address of the client area on, are this one.
     Holds(usize, usize, u8),
     /// The byte at this address of the structure area is this one.
     Posts(usize, u8),
@@ -67,15 +67,16 @@ pub(super) enum Step {
     Resets(u8),
     /// The byte at this address of the structure area becomes this one.
     Spoils(usize, u8),
-    /// A device is flushed, of which these slots become free.
+    /// A device is flushed, and these of its slots become free.
     Flushes(u8, u32),
     /// Whether a device is in software reset.
     IsResetting(u8, bool),
-    /// The next frame begins with these three bytes, and its stamp is of its device and has this number.
+    /// The next frame begins with these three bytes, and its stamp is of its device and has this
+    /// number.
     Gives(u32, [u8; 3]),
-    /// The same of all bytes of a command.
+    /// The same for all bytes of a command.
     GivesCommand(u32, [u8; 20]),
-    /// The next frame is a sector of Data of device 2, of which these are the first and the last byte.
+    /// The next frame is a sector of Data of device 2. These are its first and its last byte.
     GivesSector(u8, u8),
     /// No frame goes out.
     GivesNone,
@@ -158,7 +159,8 @@ fn is_frame(frame: &Frame, number: u32, begin: &[u8]) -> bool {
     frame.bytes().starts_with(begin) && frame.stamp() == stamp
 }
 
-/// The next frame, asked for once more where memory was refused: it goes out then, with its number, once.
+/// The next frame, asked for once more if memory was refused: it goes out then, with its number,
+/// once.
 fn at_last(rig: &mut Rig) -> Result<Option<Frame>, AllocError> {
     match rig.next_out() {
         Err(_) => rig.next_out(),
@@ -200,7 +202,7 @@ fn take_once(rig: &mut Rig, sent: Sent) -> Result<TakeReport, FrameError> {
     }
 }
 
-/// A FIS is taken, once more where memory was refused.
+/// A FIS is taken, once more if memory was refused.
 fn takes(rig: &mut Rig, sent: Sent) -> Result<TakeReport, FrameError> {
     match take_once(rig, sent) {
         Err(_) => take_once(rig, sent),

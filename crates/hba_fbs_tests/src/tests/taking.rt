@@ -132,7 +132,7 @@ fn read_is_done_once(rt: HostRuntime) -> Result<(), Fail> {
     Ok(())
 }
 
-/// Two reads of two sectors whose Data FISes cross; another comes with its second sector first.
+/// Two reads of two sectors whose Data FISes cross. Another read comes with its second sector first.
 #[test]
 fn reads_cross(rt: HostRuntime) -> Result<(), Fail> {
     let mut rig = Rig::started(rt.alloc())?;
@@ -173,8 +173,8 @@ fn reads_cross(rt: HostRuntime) -> Result<(), Fail> {
     Ok(())
 }
 
-/// A Set Device Bits FIS that names all tags is done with the two whole reads of its device, and with nothing else: no free
-/// slot, and no read of another device.
+/// A Set Device Bits FIS that names all tags completes the two whole reads of its device, and nothing
+/// else: no free slot, and no read of another device.
 #[test]
 fn all_tags_are_named(rt: HostRuntime) -> Result<(), Fail> {
     let mut rig = Rig::started(rt.alloc())?;
@@ -214,7 +214,7 @@ pub(super) fn unknown(dev: u8) -> [u8; 64] {
     fis
 }
 
-/// Device 5 and then device 1 send a Data FIS without bytes; a third goes on. The control port
+/// Device 5 and then device 1 send a Data FIS without bytes. A third device goes on. The control port
 /// stops the port.
 #[test]
 fn faults_are_reported(rt: HostRuntime) -> Result<(), Fail> {
@@ -285,8 +285,8 @@ fn signature_ends_reset(rt: HostRuntime) -> Result<(), Fail> {
     Ok(())
 }
 
-/// Sends the identify data of device 1, for slot 3, in blocks with these ends: the report of the
-/// last Data.
+/// Sends the identify data of device 1, for slot 3, in blocks with these ends. Returns the report of
+/// the last Data.
 fn identify(rt: &impl Abort, rig: &mut Rig, blocks: &[(u8, u16)]) -> Result<TakeReport, Fail> {
     issue(rt, rig, 1, 3, 0xEC, &[prd(0x10_1000, 512)])?;
     let bytes = data(1, 0x77);
@@ -301,8 +301,8 @@ fn identify(rt: &impl Abort, rig: &mut Rig, blocks: &[(u8, u16)]) -> Result<Take
     Ok(last)
 }
 
-/// PIO data-in of 512 bytes in one block and in two, and with ERR in E_Status: the fault, and what is done then, PxIS and
-/// PxTFD.
+/// PIO data-in of 512 bytes in one block and in two, and with ERR in E_Status: the fault, and what is
+/// done then, PxIS and PxTFD.
 #[test]
 fn blocks_end(rt: HostRuntime) -> Result<(), Fail> {
     let rows: [(&[(u8, u16)], Option<DeviceCause>, (u32, u32, u32)); 4] = [

@@ -1,5 +1,6 @@
-//! Frames and registers that an emulator and a driver made, as data: QEMU 10 (hw/ide/ahci.c) the FISes of a device and what
-//! they do to PxTFD and PxIS, Linux 6.1 (drivers/ata) what is written to PxFBS, PxSACT and PxCI, and the signatures.
+//! Frames and registers that an emulator and a driver made, as data. QEMU 10 (hw/ide/ahci.c) made the
+//! FISes of a device and what they do to PxTFD and PxIS. Linux 6.1 (drivers/ata) made what is written
+//! to PxFBS, PxSACT and PxCI, and the signatures.
 
 use super::rig::Rig;
 use super::taking::{answer, prd, reset};
@@ -394,8 +395,9 @@ static ISSUES: [(u8, u8, bool, u32, u32); 20] = [
     (19, 10, true, 0xFA01, 0x0008_0000),
 ];
 
-/// Where the profile differs: the emulator sets TFES in place of the bit that I asks for, the port both, as the standard
-/// has it; and it sets the bit of a PIO Setup as it takes it, the port at the end of the block.
+/// Where the profile differs. The emulator sets TFES in place of the bit that I asks for; the port
+/// sets both, as the standard has it. The emulator sets the bit of a PIO Setup when it takes it; the
+/// port sets it at the end of the block.
 fn bits_of(emulated: u32, asks: u32) -> u32 {
     if emulated == TFES {
         TFES | asks
@@ -468,8 +470,8 @@ fn signature(value: u32) -> [u8; 20] {
     fis
 }
 
-/// PxSIG after a software reset, and whether the port takes the FIS as a signature. The driver looks at LBA 15:8 and 23:16
-/// alone; the port wants 01h in Count and LBA 7:0 besides.
+/// PxSIG after a software reset, and whether the port takes the FIS as a signature. The driver looks
+/// only at LBA 15:8 and 23:16. The port also requires 01h in Count and LBA 7:0.
 #[test]
 fn signatures_are_told(rt: HostRuntime) -> Result<(), Fail> {
     let mut rig = Rig::new(rt.alloc())?;

@@ -16,7 +16,7 @@ const FROM: u32 = 0x10_2000;
 
 const BACK: u32 = 0x10_4000;
 
-/// Device 0 writes a sector and then reads it back, each other device reads one.
+/// Device 0 writes a sector and then reads it back. Each other device reads one.
 fn reading(alloc: Global, count: u8) -> Result<Setup, Fail> {
     let mut given = setup(alloc, count)?;
     given.puts.push((FROM, vec![in alloc; 0x5A; 512]?))?;
@@ -96,7 +96,8 @@ fn on_links<R: Threads + Wait + Sync, G: Gate + Sync>(
     Ok(ran(rt, alloc, &mut links, reading(alloc, count)?, gate))
 }
 
-/// Whether each port has one connection with so many FISes, all taken: 11 of port 0, 7 of each other.
+/// Whether each port has one connection with this many FISes, all taken: 11 of port 0, 7 of each
+/// other.
 fn is_counted(summary: &Summary, count: u8) -> bool {
     summary.counts.len() == usize::from(count)
         && summary.counts.iter().enumerate().all(|(n, row)| {
@@ -117,7 +118,7 @@ fn bytes_come_back(rt: HostRuntime) -> Result<(), Fail> {
     Ok(())
 }
 
-/// Two disks, of which the second is pulled out after three of its FISes.
+/// Two disks. The second is pulled out after three of its FISes.
 fn pulled(alloc: Global) -> Result<Setup, Fail> {
     let mut given = reading(alloc, 2)?;
     given.pulls.push((1, 3))?;

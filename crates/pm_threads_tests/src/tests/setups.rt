@@ -52,7 +52,7 @@ fn disks(alloc: Global, count: u8) -> Result<Vec<Unit>, Fail> {
     Ok(units)
 }
 
-/// So many disks and no request.
+/// This many disks and no request.
 pub fn setup(alloc: Global, count: u8) -> Result<Setup, Fail> {
     Ok(Setup {
         units: disks(alloc, count)?,

@@ -11,9 +11,9 @@ pub fn ports_keep_to_one()
     ensures { PortsKeep }
 {}
 
-/// Where the host sends one FIS for each order to clear a port, and commands of requests only where
-/// IDENTIFY data were accepted since, a device takes each such command on the connection on which
-/// the last IDENTIFY data accepted for its port were sent.
+/// The host sends one FIS for each order to clear a port, and commands of requests only if IDENTIFY
+/// data were accepted since. Then a device takes each such command on the connection on which the
+/// last IDENTIFY data accepted for its port were sent.
 pub fn ordered_is_not_stale()
     ensures { OrderedIsNotStale }
 {}
@@ -24,12 +24,12 @@ pub fn none_is_stale()
     ensures { NoneIsStale }
 {}
 
-/// After every run from a new world, where a device takes the command of a request, that request was
-/// submitted for its port in the run, and the command was put on the host's link while it was issued.
-/// The device takes it on the connection on which the last IDENTIFY data were sent that the host had
-/// accepted for the port before the request was submitted. So a command that was meant for a device
-/// that is removed never reaches its successor. And on that connection come all FISes that the host
-/// takes of the port while the request waits or is issued: no other device answers it.
+/// Holds after every run from a new world, where a device takes the command of a request. That
+/// request was submitted for its port in the run, and the command was put on the host's link while
+/// the request was issued. The device takes it on the connection on which the last IDENTIFY data were
+/// sent that the host had accepted for the port before the request was submitted. So a command that
+/// was meant for a removed device never reaches its successor. And all FISes that the host takes of
+/// the port while the request waits or is issued come on that connection: no other device answers it.
 pub fn commands_are_meant()
     ensures commands { CommandsAreMeant }
     ensures answers { AnswersAreMeant }

@@ -30,7 +30,7 @@ fn drops(alloc: Global, pm: &mut Multiplier) -> Result<bool, FrameError> {
     Ok(matches!(passed, Ok(Passed::Dropped)) && pm.dropped() == 1)
 }
 
-/// Port 3 is there and has no device, and is not there.
+/// Port 3 is there and has no device, and then it is not there.
 #[test]
 fn closed_ports_drop(rt: HostRuntime) -> Result<(), Fail> {
     let alloc = rt.alloc();
@@ -74,7 +74,7 @@ const TAKES: &[(Act, Told)] = &[
     (Act::DiskTake(0), Told::Idle),
 ];
 
-/// Where it is there no more, the frame is dropped.
+/// If the disk is no longer there, the frame is dropped.
 const DROPS: &[(Act, Told)] = &[
     (Act::DiskTake(0), Told::DiskTook(0, true)),
     (Act::DiskTake(0), Told::Idle),

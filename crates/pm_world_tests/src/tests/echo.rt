@@ -1,5 +1,6 @@
-//! A host and a multiplier that do by a world's answers what its own did. Since a host is what its own turns make of it,
-//! a test sees so each frame on its way down, which no answer tells.
+//! A host and a multiplier that follow a world's answers and do what its own did. A host is what its
+//! own turns make of it, so a test sees in this way each frame on its way down, which no answer
+//! tells.
 
 ghost use Rattle.std.specs.Prelude.{IsTrue, ◌<◌};
 
@@ -31,7 +32,7 @@ impl Model for Host {
 }
 
 impl Host {
-    /// As it opens, with the memory of the worlds of these tests.
+    /// The host as it opens, with the memory of the worlds of these tests.
     fn new(alloc: Global) -> Result<Host, MemoryError> {
         Ok(Host {
             port: HostPort::new(),
@@ -52,7 +53,7 @@ impl Host {
         self.port.next_out(alloc, &self.memory)
     }
 
-    /// Does what the client asked of the host in this step. Answers whether it could.
+    /// Does what the client asked of the host in this step. Returns whether it could.
     fn serve(&mut self, step: &Step) -> bool {
         match step {
             Step::Submit(dev, request) => {
@@ -109,7 +110,7 @@ fn three() -> Result<Multiplier, Fail> {
     Ok(pm)
 }
 
-/// Has the host take these bytes. Answers whether there was memory.
+/// The host takes these bytes. Returns whether there was memory.
 fn take(alloc: Global, host: &mut Host, bytes: &[u8]) -> bool {
     let stamp = Stamp {
         port: 0,
@@ -135,15 +136,15 @@ fn next_down(pm: &mut Multiplier, n: u8) -> Option<Bytes> {
     Some(frame.into_bytes())
 }
 
-/// Notification and answer go nowhere.
+/// The notification and the answer go nowhere.
 fn hear_no_answer(alloc: Global, pm: &mut Multiplier) {
     for _ in 0..2 {
         let _ = pm.next_up(alloc);
     }
 }
 
-/// The bytes of what goes down to a device, none where the frame goes to the control port; nothing where it is dropped or
-/// given back.
+/// The bytes of what goes down to a device; no bytes if the frame goes to the control port; nothing
+/// if it is dropped or given back.
 fn pass(alloc: Global, pm: &mut Multiplier, frame: Frame) -> Option<Option<Bytes>> {
     match pm.from_host(alloc, frame) {
         Ok(Passed::Down(n)) => Some(next_down(pm, n)),
@@ -156,7 +157,7 @@ fn pass(alloc: Global, pm: &mut Multiplier, frame: Frame) -> Option<Option<Bytes
 }
 
 impl Echo {
-    /// Of a world of three ports.
+    /// An echo of a world of three ports.
     fn new(alloc: Global) -> Result<Echo, Fail> {
         Ok(Echo {
             host: Host::new(alloc)?,
@@ -172,7 +173,7 @@ impl Echo {
         Ok(Box::new(alloc, echo)?)
     }
 
-    /// Does what the world's host did in this step. Answers whether it could.
+    /// Does what the world's host did in this step. Returns whether it could.
     pub(super) fn follow(&mut self, alloc: Global, step: &Step, answer: &Answer) -> bool {
         match answer {
             Answer::Ticked => self.host.tick(),

@@ -1,4 +1,4 @@
-//! Devices that go or are exchanged are found, whenever that is.
+//! Devices that go or are exchanged are found, whenever that happens.
 
 use super::rig::{Act, Told};
 use super::steps::Seen::{
@@ -56,8 +56,8 @@ const GOES: &[(Act, Told)] = &[
     (Act::PmPresence(1), Told::Presence(1)),
 ];
 
-/// A second device goes at any moment of the scan that the first one caused, so also between the read of GSCR[32] and
-/// the write of PSCR[1]: both are found.
+/// A second device goes at any moment of the scan that the first one caused, so also between the read
+/// of GSCR[32] and the write of PSCR[1]. Both are found.
 #[test]
 fn no_removal_is_lost_in_a_scan(rt: HostRuntime) -> Result<(), Fail> {
     for moments in 0..MOMENTS {
@@ -100,7 +100,7 @@ fn a_short_visit_in_a_scan_is_found(rt: HostRuntime) -> Result<(), Fail> {
     Ok(())
 }
 
-/// It comes again at any moment of the scan, and is ready in the end.
+/// The device comes again at any moment of the scan, and is ready in the end.
 #[test]
 fn a_new_device_in_a_scan_is_found(rt: HostRuntime) -> Result<(), Fail> {
     for moments in 0..MOMENTS {

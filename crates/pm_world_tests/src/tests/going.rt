@@ -7,7 +7,7 @@ use hba_driver::{Completion, Outcome, Ticket, Work};
 use pm_world::StepError;
 use std::test::Fail;
 
-/// The request of slot 0 ended since its device was removed.
+/// The request of slot 0 ended because its device was removed.
 const REMOVED: Told = Told::Polled(Completion {
     ticket: Ticket(1),
     slot: 0,
@@ -59,7 +59,8 @@ pub(super) fn waits_to_be_seen(rig: &mut Rig) -> bool {
     !is_exchanged(rig)
 }
 
-/// Device 1 takes a queued read, and sends its answer, DMA Setup and Data, of which the first two leave its link.
+/// Device 1 takes a queued read, and sends its answer, DMA Setup and Data. The first two leave its
+/// link.
 const SERVES: &[(Act, Told)] = &[
     (Act::DiskTake(1), Told::DiskTook(1, false)),
     (Act::DiskSend(1), Told::Sent(1, 1, 3)),
@@ -71,7 +72,8 @@ const SERVES: &[(Act, Told)] = &[
     (Act::DiskSend(1), Told::Sent(1, 1, 5)),
 ];
 
-/// It goes. The frame that its port holds is dropped as that is recorded, and the one on its link as it is offered.
+/// It goes. The frame that its port holds is dropped when that is recorded, and the frame on its link
+/// when it is offered.
 const GOES: &[(Act, Told)] = &[
     (Act::Gone(1), Told::Gone(1, 1)),
     (Act::Gone(1), Told::Stopped(StepError::NotThere)),
@@ -95,7 +97,8 @@ const COMES: &[(Act, Told)] = &[
     (Act::PmUp, Told::Blocked),
 ];
 
-/// A device goes in a read, and its request ends as removed; it comes again under the next connection.
+/// A device goes during a read, and its request ends as removed. It comes again under the next
+/// connection.
 #[test]
 fn a_device_goes_and_comes_again(rt: HostRuntime) -> Result<(), Fail> {
     let steps = [

@@ -1,6 +1,7 @@
-//! Refused memory. Under `rt try --test --fail-alloc N` an allocation of these tests is refused: a refused step that is given
-//! again answers as if nothing had been, and a run that a refusal stops leaves the world of the steps before it.
-//! `bench/refused-steps` refuses each allocation of such steps in turn.
+//! Refused memory. Under `rt try --test --fail-alloc N` one allocation of these tests is refused. A
+//! refused step that is given again answers as if nothing had happened. A run that a refusal stops
+//! leaves the world of the steps before it. `bench/refused-steps` refuses each allocation of such
+//! steps in turn.
 
 use super::reading::FIRST_DONE;
 use super::rig::{Act, Rig, Told, add_all, telling};
@@ -10,7 +11,7 @@ use pm_world::{Answer, Step, StepError};
 use std::alloc::{AllocError, Global};
 use std::test::Fail;
 
-/// Where the sector goes that is read.
+/// Where the sector that is read goes.
 const PLACE: u32 = 0x10_3000;
 
 /// The steps of all actors of a world of one port.
@@ -27,7 +28,7 @@ const ROUND: [Act; 10] = [
     Act::HostTake,
 ];
 
-/// So many rounds.
+/// This many rounds.
 fn rounds(alloc: Global, steps: &mut Vec<Step>, count: u8) -> Result<(), AllocError> {
     for _ in 0..count {
         add_all(alloc, steps, &ROUND)?;
@@ -76,7 +77,8 @@ fn runs_on(rig: &mut Rig, (steps, all, i): (&[Step], &[Told], usize)) -> bool {
     }
 }
 
-/// A step that memory is refused to stops the run, and from this step on the run goes on as if nothing had been.
+/// A step that is refused memory stops the run. From this step on, the run goes on as if nothing had
+/// happened.
 fn runs(rig: &mut Rig, steps: &[Step], all: &[Told]) -> bool {
     match rig.runs(steps) {
         Ok(answers) => tell(&answers, all),
@@ -85,7 +87,7 @@ fn runs(rig: &mut Rig, steps: &[Step], all: &[Told]) -> bool {
     }
 }
 
-/// The steps from number i on, whose answers go behind those of the steps before.
+/// The steps from number i on. Their answers are appended to those of the steps before.
 fn goes_on(rig: &mut Rig, steps: &[Step], i: usize, answers: &mut Vec<Answer>) -> bool {
     match steps.get(i..) {
         Some(rest) => answers.len() == i && rig.runs_into(rest, answers).is_ok(),
@@ -93,8 +95,8 @@ fn goes_on(rig: &mut Rig, steps: &[Step], i: usize, answers: &mut Vec<Answer>) -
     }
 }
 
-/// Where memory is refused to a step, the answers of those before it are there, and those of the rest, given again, go
-/// behind them: together they tell what all steps tell.
+/// If memory is refused to a step, the answers of the steps before it are there. The rest is given
+/// again, and its answers are appended: together they tell what all steps tell.
 fn runs_into(rig: &mut Rig, steps: &[Step], all: &[Told], answers: &mut Vec<Answer>) -> bool {
     let ended = match rig.runs_into(steps, answers) {
         Ok(()) => true,
@@ -110,7 +112,7 @@ fn ends_well(all: &[Told]) -> bool {
     sent.count() == 7 && all.last() == Some(&FIRST_DONE)
 }
 
-/// Steps in a world of one disk tell as a run of them in another.
+/// Steps in a world of one disk tell the same as a run of them in another.
 #[test]
 fn refused_memory_changes_nothing(rt: HostRuntime) -> Result<(), Fail> {
     let alloc = rt.alloc();

@@ -1,4 +1,4 @@
-//! Steps that no line of a scenario can give: of no bytes.
+//! Steps that no line of a scenario can give: steps with no bytes.
 
 use super::rig::{Act, Told};
 use super::steps::Seen::Rows;
@@ -6,7 +6,7 @@ use super::steps::plays;
 use pm_world::StepError;
 use std::test::Fail;
 
-/// No bytes are no frame, and are put where their address is of the client area or its end.
+/// No bytes are no frame. They are put if their address is in the client area or at its end.
 const OF_NO_BYTES: &[(Act, Told)] = &[
     (Act::Came(0), Told::Came(0, 1)),
     (Act::Inject(0, 0), Told::Stopped(StepError::BadBytes)),

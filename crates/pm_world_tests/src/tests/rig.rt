@@ -1,7 +1,7 @@
 //! Worlds of disks, what is done to them and what they tell.
 //!
-//! Clauses see a `Rig` as a number and no function of the tests has a contract, so whatever is proved of a world, a test is
-//! proved by little.
+//! Clauses see a `Rig` as a number, and no function of the tests has a contract. So a test is proved
+//! with little work, whatever is proved of a world.
 
 use super::echo::Echo;
 use disk_model::{Disk, DiskPlan, Unit};
@@ -22,7 +22,7 @@ pub(super) enum Act {
     Came(u8),
     Gone(u8),
     DiskSend(u8),
-    /// So many zeros are sent as the device at this port.
+    /// This many zeros are sent as the device at this port.
     Inject(u8, usize),
     DiskTake(u8),
     PmPresence(u8),
@@ -33,14 +33,14 @@ pub(super) enum Act {
     HostTake,
     HostPush,
     Tick,
-    /// One sector, or a Flush: the device, the sector and the address.
+    /// A request for one sector, or a Flush: the device, the sector and the address.
     Submit(u8, Work, u64, u32),
     Poll,
-    /// So many bytes of this value are put from this address on.
+    /// This many bytes of this value are put from this address on.
     Put(u32, u8, usize),
 }
 
-/// What an answer tells, but for bytes: ports, connections and numbers of frames.
+/// What an answer tells, without bytes: ports, connections and numbers of frames.
 #[derive(Clone, Copy, PartialEq)]
 pub(super) enum Told {
     Idle,
@@ -113,7 +113,7 @@ fn bytes_of(answer: Answer) -> Option<Bytes> {
     }
 }
 
-/// A request for so many sectors, into or from these entries.
+/// A request for this many sectors, into or from these entries.
 fn submit(
     alloc: Global,
     (dev, work, lba, sectors): (u8, Work, u64, u16),
@@ -147,7 +147,7 @@ fn submit_one(
     submit(alloc, (dev, work, lba, 1), &[(address, 512)])
 }
 
-/// So many bytes of one value.
+/// This many bytes of one value.
 fn bytes(alloc: Global, value: u8, count: usize) -> Result<Bytes, AllocError> {
     Ok(Bytes::from_vec(vec![in alloc; value; count]?))
 }
@@ -200,7 +200,7 @@ fn disk(alloc: Global, plan: DiskPlan) -> Result<Unit, AllocError> {
     }
 }
 
-/// So many disks of 16 sectors.
+/// This many disks of 16 sectors.
 pub(super) fn disks(alloc: Global, count: u8) -> Result<Vec<Unit>, AllocError> {
     let mut units = Vec::new(alloc);
     for _ in 0..count {
@@ -209,12 +209,12 @@ pub(super) fn disks(alloc: Global, count: u8) -> Result<Vec<Unit>, AllocError> {
     Ok(units)
 }
 
-/// A world of so many disks.
+/// A world of this many disks.
 pub(super) fn world_of(alloc: Global, config: Config, count: u8) -> Result<World, WorldError> {
     World::new(alloc, config, disks(alloc, count)?)
 }
 
-/// So many ports, with links of this capacity.
+/// This many ports, with links of this capacity.
 fn config(ports: u8, capacity: usize) -> Config {
     Config {
         ports,
@@ -223,7 +223,7 @@ fn config(ports: u8, capacity: usize) -> Config {
     }
 }
 
-/// A world of so many disks, with links of this capacity.
+/// A world of this many disks, with links of this capacity.
 fn world(alloc: Global, ports: u8, capacity: usize) -> Result<World, WorldError> {
     world_of(alloc, config(ports, capacity), ports)
 }
@@ -232,7 +232,8 @@ fn give_once(world: &mut World, alloc: Global, step: &Step) -> Result<Answer, St
     world.step(alloc, step)
 }
 
-/// A step of a world. Where memory is refused it is given again, and answers as if nothing had been.
+/// A step of a world. If memory is refused, it is given again, and answers as if nothing had
+/// happened.
 fn give(world: &mut World, alloc: Global, step: &Step) -> Result<Answer, StepError> {
     match give_once(world, alloc, step) {
         Err(StepError::OutOfMemory) => give_once(world, alloc, step),
@@ -249,7 +250,7 @@ fn run(
     world.run(alloc, steps)
 }
 
-/// A run of a world, whose answers go behind these.
+/// A run of a world. Its answers are appended to these.
 fn run_into(
     world: &mut World,
     alloc: Global,
@@ -292,7 +293,7 @@ pub(super) struct Rig {
     counts: Counts,
     /// What the last answer told of bytes.
     bytes: Option<Bytes>,
-    /// What follows the answers, where a test wants to see frames on their way down.
+    /// What follows the answers, if a test is to see frames on their way down.
     echo: Option<Box<Echo>>,
 }
 
@@ -305,13 +306,13 @@ impl Model for Rig {
 }
 
 impl Rig {
-    /// Of so many disks, none of which is plugged in.
+    /// A rig of this many disks, none of which is plugged in.
     pub(super) fn new(alloc: Global, ports: u8, capacity: usize) -> Result<Rig, WorldError> {
         let world = world(alloc, ports, capacity)?;
         Ok(Rig::of(alloc, world, ports, None))
     }
 
-    /// Of three disks, none of which is plugged in, with an echo that follows.
+    /// A rig of three disks, none of which is plugged in, with an echo that follows.
     pub(super) fn shown(alloc: Global, echo: Box<Echo>) -> Result<Rig, WorldError> {
         let world = world(alloc, 3, 1)?;
         Ok(Rig::of(alloc, world, 3, Some(echo)))
@@ -328,7 +329,7 @@ impl Rig {
         }
     }
 
-    /// Whether all disks come, and all steps are done that can be.
+    /// Whether all disks come, and all steps are done that can be done.
     pub(super) fn come(&mut self) -> bool {
         let mut came = true;
         for n in 0..self.ports {
@@ -374,7 +375,7 @@ impl Rig {
         run(&mut self.world, self.alloc, steps)
     }
 
-    /// Gives the world a run of steps, whose answers go behind these.
+    /// Gives the world a run of steps. The answers are appended to these.
     pub(super) fn runs_into(
         &mut self,
         steps: &[Step],
@@ -383,7 +384,7 @@ impl Rig {
         run_into(&mut self.world, self.alloc, steps, answers)
     }
 
-    /// Counts the answer and keeps its bytes. An echo that can not follow is let go.
+    /// Counts the answer and keeps its bytes. An echo that cannot follow is let go.
     fn notes(&mut self, step: &Step, answer: Answer) -> Told {
         let told = telling(&answer);
         if self.counts.note(&answer).is_err() {
@@ -425,7 +426,7 @@ impl Rig {
         moved | self.moves(&[Act::PmUp, Act::HostTake])
     }
 
-    /// Rounds until nothing moves, which is to come within 4,000.
+    /// Runs rounds until nothing moves, which must come within 4,000.
     pub(super) fn settle(&mut self) -> bool {
         for _ in 0..4000 {
             if !self.round() {
@@ -488,7 +489,8 @@ impl Rig {
         self.world.unit(n).is_some()
     }
 
-    /// Whether the bytes from this address on are this sector of a disk, as it opens: each is one more than the one before.
+    /// Whether the bytes from this address on are this sector of a disk, as it opens: each byte is
+    /// one more than the one before.
     pub(super) fn holds_sector(&self, at: u32, lba: u8) -> bool {
         let mut holds = true;
         for i in 0..512_u32 {

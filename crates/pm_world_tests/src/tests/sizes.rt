@@ -26,7 +26,8 @@ const ROWS: [(u8, u8, usize, u32, bool); 16] = [
     (1, 1, 1, 0, false),
 ];
 
-/// Whether there is a world of a row where its numbers fit, and else a refusal. Want of memory tells neither.
+/// Whether there is a world of a row if its numbers fit, and a refusal otherwise. Lack of memory
+/// tells neither.
 fn is_row(alloc: Global, row: (u8, u8, usize, u32, bool)) -> Result<bool, WorldError> {
     let (ports, units, capacity, memory, fits) = row;
     let config = Config {

@@ -1,6 +1,6 @@
 //! Tests as lists of steps: what is done with a world, and what it tells and shows then.
 //!
-//! A test that is a list has one assertion, which stands here, and so is proved by little.
+//! A test that is a list has one assertion, which stands here, so it is proved with little work.
 
 use super::going::{asks, waits_to_be_seen};
 use super::rig::{Act, Rig, Told};
@@ -12,7 +12,7 @@ use std::test::Fail;
 /// A step of a test.
 #[derive(Clone, Copy)]
 pub(super) enum Seen {
-    /// All disks come, and all steps are done that can be.
+    /// All disks come, and all steps are done that can be done.
     Comes,
     /// This is done, and tells this.
     Does(Act, Told),
@@ -20,23 +20,24 @@ pub(super) enum Seen {
     Tries(Act),
     /// These are done, and each tells what stands beside it.
     Rows(&'static [(Act, Told)]),
-    /// All steps are done that can be.
+    /// All steps are done that can be done.
     Settles,
-    /// So many steps are done of those between the multiplier and the host.
+    /// This many steps are done between the multiplier and the host.
     Cycles(usize),
     /// The bytes of the write are put at their place.
     PutsWritten,
     /// The host sends this FIS, and device 2 takes it with PM Port 0.
     Falls(&'static [u8]),
-    /// So it is of the Data of the write.
+    /// The same for the Data of the write.
     DataFalls,
-    /// Device 2 sends the FIS with this number, with PM Port 0, and the host takes it, as this, with PM Port 2.
+    /// Device 2 sends the FIS with this number, with PM Port 0, and the host takes it, as this, with
+    /// PM Port 2.
     Rises(u32, &'static [u8]),
     /// The command of a read of one sector of device 1 goes down to it.
     Asks,
     /// Nothing of port 1 goes up until the host has cleared the bit that tells of an exchange.
     WaitsToBeSeen,
-    /// So many FISes of a connection were sent, and so many of them taken.
+    /// This many FISes of a connection were sent, and this many of them taken.
     Counts(u8, u32, (u64, u64)),
     /// A register of the multiplier (port 15) or of one of its ports shows this.
     Register(u8, u16, u32),
@@ -44,7 +45,7 @@ pub(super) enum Seen {
     Host(u32, u32),
     /// The last answer told these bytes.
     Eight([u8; 8]),
-    /// The multiplier dropped so many frames on their way down.
+    /// The multiplier dropped this many frames on their way down.
     Dropped(u32),
     /// The sector of device 2 is what was written.
     IsWritten,
@@ -121,13 +122,13 @@ fn first_failing(rig: &mut Rig, steps: &[Seen]) -> Option<usize> {
     None
 }
 
-/// Of a world each step is as it says.
+/// Each step of a world is as it says.
 pub(super) fn passes(rt: &impl Abort, rig: &mut Rig, steps: &[Seen]) {
     let failing = first_failing(rig, steps);
     assert_eq!(rt; failing, None, "the number of a step");
 }
 
-/// So it is of a new world of so many disks, with links of one frame.
+/// The same for a new world of this many disks, with links of one frame.
 pub(super) fn plays(rt: &impl Abort, alloc: Global, ports: u8, steps: &[Seen]) -> Result<(), Fail> {
     let mut rig = Rig::new(alloc, ports, 1)?;
     passes(rt, &mut rig, steps);

@@ -29,7 +29,7 @@ const ENDED: &[u8] = &[0xA1, 0x42, 0x50, 0, 1, 0, 0, 0];
 /// Where the bytes of the write stand.
 const PLACE: u32 = 0x10_2000;
 
-/// The bytes that are written: each is other than the ones beside it.
+/// The bytes that are written: each differs from the bytes beside it.
 pub(super) fn written() -> [u8; 512] {
     let mut sector = [0; 512];
     for (i, byte) in sector.iter_mut().enumerate() {
@@ -47,7 +47,7 @@ pub(super) fn data() -> [u8; 516] {
     fis
 }
 
-/// Whether the bytes are the FIS, but with PM Port 0.
+/// Whether the bytes are the FIS, except with PM Port 0.
 fn is_unmarked(bytes: &[u8], fis: &[u8]) -> bool {
     let mut same = bytes.len() == fis.len();
     for (i, (byte, wanted)) in bytes.iter().zip(fis.iter()).enumerate() {

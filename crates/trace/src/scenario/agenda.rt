@@ -1,4 +1,4 @@
-//! What a scenario says of a run in threads before it begins.
+//! What a scenario says about a run in threads before it begins.
 
 ghost use Rattle.std.specs.Prelude.{◌≡◌, ◌*◌, length, nat_lt, true, IfOk};
 ghost use Rattle.std.specs.List.{list_all};
@@ -16,7 +16,7 @@ use pm_threads::{Planned, Setup};
 use std::alloc::{AllocError, Global};
 use std::mem;
 
-/// All lines of a scenario for threads. A line that is refused ends the reading: none has acted.
+/// All lines of a scenario for threads. A line that is refused ends the reading: no line has acted.
 pub fn read_agenda(alloc: Global, input: &[u8]) -> Result<Agenda, Failure> {
     let mut reading = Reading::new(alloc);
     let mut number = 0usize;
@@ -34,7 +34,7 @@ pub fn read_agenda(alloc: Global, input: &[u8]) -> Result<Agenda, Failure> {
 #[derive(Drop)]
 struct Reading {
     opening: Opening,
-    /// What lines asked, once one was no setting.
+    /// What lines asked, once one was not a setting.
     agenda: Option<Agenda>,
 }
 
@@ -95,7 +95,7 @@ pub struct Agenda {
 }
 
 impl Agenda {
-    /// An agenda without an entry, in a world of which this was said.
+    /// An agenda without an entry, in a world about which this was said.
     fn new(alloc: Global, opening: Opening) -> Agenda
         ensures { result.opening ≡ opening }
     {
@@ -142,7 +142,7 @@ impl Agenda {
         Ok(())
     }
 
-    /// One more request, behind a barrier if one came since the last request.
+    /// One more request, after a barrier if one came since the last request.
     fn plan_request(&mut self, dev: u8, request: Request) -> Result<(), AllocError>
         requires { nat_lt dev self.old.opening.sizes.ports ≡ true }
     {

@@ -1,4 +1,4 @@
-//! What a step that moved something tells of itself.
+//! What a step that moved something tells about itself.
 
 use crate::scenario::fis_short::{FisShort, named_slots};
 use crate::scenario::text::write_outcome;
@@ -51,7 +51,7 @@ impl Act {
         }
     }
 
-    /// The way of the FIS that it moves, if it moves one.
+    /// The direction of the FIS that it moves, if it moves one.
     pub fn way(self) -> Option<&'static str> {
         match self {
             Act::DiskSends(_) | Act::PmTakesUp(_) | Act::PmSendsUp(_) | Act::HostTakes(_) => Some(
@@ -64,7 +64,7 @@ impl Act {
         }
     }
 
-    /// Those between which it goes, from the one that had it to the one that has it.
+    /// The two ends between which it goes: the one that had it, and the one that has it.
     pub fn ends(self) -> (&'static str, &'static str) {
         match self {
             Act::Came(_) | Act::Gone(_) | Act::Records(_) => ("disk", "pm"),
@@ -80,7 +80,7 @@ impl Act {
 /// What came of a step.
 #[derive(Clone, Copy, Debug, PartialEq, Eq)]
 pub enum Upshot {
-    /// What the act says.
+    /// Nothing more than what the act says.
     Plain,
     /// The host port did this with a FIS.
     Report(TakeReport),
@@ -88,7 +88,7 @@ pub enum Upshot {
     Dropped(&'static str),
     /// The control port heard it.
     Control,
-    /// A connection came or went, and so many frames were dropped for that.
+    /// A connection came or went, and this many frames were dropped because of that.
     Connection {
         conn: u32,
         is_gone: bool,
@@ -106,7 +106,7 @@ pub enum Upshot {
 }
 
 impl Upshot {
-    /// The cause of the fault that it made, by its name.
+    /// The name of the cause of the fault that it made.
     pub fn fault(self) -> Option<&'static str> {
         let Upshot::Report(report) = self else {
             return None;
@@ -153,7 +153,7 @@ fn port_fault(cause: PortCause) -> &'static str {
     }
 }
 
-/// The connection of a FIS, and its number there. A FIS of the host has a number alone.
+/// The connection of a FIS, and its number there. A FIS of the host has only a number.
 #[derive(Clone, Copy, Debug, PartialEq, Eq)]
 pub struct Mark {
     pub conn: Option<u32>,
@@ -172,14 +172,14 @@ impl fmt::Display for Mark {
 /// A step that moved something.
 #[derive(Debug, Drop)]
 pub struct Event<'a> {
-    /// Its number among those that did, from 1.
+    /// Its number among the steps that moved something, from 1.
     pub number: u64,
     pub act: Act,
     /// The port that it concerns, 15 for the control port.
     pub port: Option<u8>,
     /// The connection and the number of the FIS that moved.
     pub mark: Option<Mark>,
-    /// That FIS; None where its bytes are no FIS of a known length.
+    /// That FIS; None if its bytes are no FIS of a known length.
     pub fis: Option<Fis<'a>>,
     /// The slots that it names, or that the driver issued.
     pub slots: u32,
@@ -195,9 +195,13 @@ pub struct Change {
     pub after: Registers,
 }
 
-/// What the registers of the host port show that the driver writes.
+/// What the registers of the host port that the driver writes show.
 #[derive(Clone, Copy, Debug, PartialEq, Eq)]
 pub struct Registers {
+    pub clb: u32,
+    pub clbu: u32,
+    pub fb: u32,
+    pub fbu: u32,
     pub interrupts: u32,
     pub cmd: u32,
     pub serr: u32,
@@ -215,10 +219,14 @@ impl Change {
         after & !before
     }
 
-    /// The registers that changed, but for those that a slot is issued by: name, before, after.
-    pub fn others(self) -> [(&'static str, u32, u32); 5] {
+    /// The registers that changed, except those that issue a slot: name, before, after.
+    pub fn others(self) -> [(&'static str, u32, u32); 9] {
         let Change { before, after } = self;
         [
+            ("clb", before.clb, after.clb),
+            ("clbu", before.clbu, after.clbu),
+            ("fb", before.fb, after.fb),
+            ("fbu", before.fbu, after.fbu),
             ("is", before.interrupts, after.interrupts),
             ("cmd", before.cmd, after.cmd),
             ("serr", before.serr, after.serr),
@@ -229,7 +237,7 @@ impl Change {
 }
 
 impl Event<'static> {
-    /// An act without a FIS, whose number is not given yet.
+    /// An act without a FIS, with no number yet.
     pub fn plain(act: Act, port: Option<u8>, upshot: Upshot) -> Event<'static> {
         Event {
             number: 0,
@@ -329,7 +337,9 @@ fn write_change<W: fmt::Write>(event: &Event<'_>, f: &mut fmt::Formatter<W>) -> 
         }
     }
     if change.before == change.after {
-        f.write_str(" takes note, no register changes")?;
+        f.write_str(
+            ": no register changed (it wrote what stood there, read an answer, or ended requests)",
+        )?;
     }
     Ok(())
 }

@@ -4,7 +4,7 @@ use crate::scenario::tickets::bit_of;
 use fis_view::{Fis, RegD2H, RegH2D};
 use std::fmt;
 
-/// A FIS in a few words: its kind, and the fields that tell what it does. Its port is not said.
+/// A FIS in a few words: its kind, and the fields that tell what it does. Its port is left out.
 #[derive(Debug, Drop)]
 pub struct FisShort<'a, 'b>(pub &'b Fis<'a>);
 
@@ -108,7 +108,7 @@ fn command_name(command: u8) -> &'static str {
     }
 }
 
-/// Writes an answer, with the value of a register where it has one.
+/// Writes an answer, with the value of a register if it has one.
 fn write_d2h<W: fmt::Write>(fis: &RegD2H<'_>, f: &mut fmt::Formatter<W>) -> fmt::Result {
     write!(
         f,

@@ -2,10 +2,11 @@
 
 use crate::input::without_return;
 
-/// The lines of a scenario, one after the other. A block of them comes again as often as its `repeat` says.
+/// The lines of a scenario, one after the other. A block of them is repeated as often as its `repeat`
+/// says.
 #[derive(Drop)]
 pub struct Lines<'a> {
-    /// What follows the last line; None where it was the last of all.
+    /// What follows the last line; None if it was the last of all.
     rest: Option<&'a [u8]>,
     /// The number of the last line, counted from 1.
     number: usize,
@@ -20,7 +21,7 @@ struct Block<'a> {
     rest: Option<&'a [u8]>,
     /// The number of that line.
     number: usize,
-    /// How often the block comes again.
+    /// How often the block is still repeated.
     left: u64,
 }
 
@@ -48,13 +49,13 @@ impl<'a> Lines<'a> {
         self.block.is_some()
     }
 
-    /// Whether a line follows of which the first word is `end`.
+    /// Whether a line follows whose first word is `end`.
     pub fn has_end(&self) -> bool {
         let rest = self.rest.unwrap_or(&[]);
         rest.split(|byte| *byte == b'\n').any(is_end)
     }
 
-    /// The last line begins a block, which comes so often in all.
+    /// The last line begins a block, which is played this many times in all.
     pub fn begin_block(&mut self, times: u64) {
         self.block = Some(Block {
             rest: self.rest,
@@ -63,7 +64,7 @@ impl<'a> Lines<'a> {
         });
     }
 
-    /// The last line ends its block, which comes again or is done.
+    /// The last line ends its block, which is repeated or done.
     pub fn end_block(&mut self) {
         match self.block {
             Some(block) if block.left > 0 => {

@@ -1,4 +1,4 @@
-//! What a scenario says of its world before the world is built.
+//! What a scenario says about its world before the world is built.
 
 ghost use Rattle.std.specs.Prelude.{◌≡◌, ◌*◌, ◌≤◌, IfOk, length, true};
 ghost use Rattle.disk_model.specs.Runs.{is_size};
@@ -27,14 +27,14 @@ pub struct Sizes {
 }
 
 impl Sizes {
-    /// The sizes of a world of which the scenario says none.
+    /// The sizes of a world if the scenario gives none.
     pub const PLAIN: Sizes = Sizes {
         ports: 1,
         capacity: 4,
         memory: 2,
     };
 
-    /// The same as the world has them, memory in bytes.
+    /// The same in the world's terms, with memory in bytes.
     pub fn config(self) -> Config
         ensures accepted { is_config result self.ports ≡ true }
         ensures sizes { result
@@ -55,7 +55,7 @@ impl Sizes {
         u32::from(self.memory) * 1_048_576
     }
 
-    /// Whether so many bytes from this address on lie in client memory.
+    /// Whether this many bytes from this address on lie in client memory.
     pub fn has_client(self, at: u32, count: usize) -> bool
         ensures { result ≡ lies_in (1048576 * self.memory) at count }
     {
@@ -75,7 +75,7 @@ pub struct Shape {
 }
 
 impl Shape {
-    /// A disk of which the scenario says nothing.
+    /// A disk about which the scenario says nothing.
     pub fn plain() -> Shape {
         Shape {
             sectors: 16,
@@ -94,7 +94,7 @@ impl Shape {
     }
 }
 
-/// What lines have said of the device at a port.
+/// What lines have said about the device at a port.
 #[derive(Drop)]
 enum Said {
     /// Nothing: it is a plain disk.
@@ -120,13 +120,13 @@ impl Said {
 #[derive(Drop)]
 pub struct Opening {
     sizes: Sizes,
-    /// What was said of each port's device. Of ports past the last of them nothing was.
+    /// What was said about each port's device. Nothing was said about ports past the last of them.
     devices: Vec<Said>,
     is_begun: bool,
 }
 
 impl Opening {
-    /// A world of which nothing was said.
+    /// A world about which nothing was said.
     pub fn new(alloc: Global) -> Opening {
         Opening {
             sizes: Sizes::PLAIN,
@@ -175,7 +175,7 @@ impl Opening {
         Ok(())
     }
 
-    /// What was said of the device at this port.
+    /// What was said about the device at this port.
     fn device(&mut self, port: u8) -> Result<&mut Said, AllocError> {
         let port = usize::from(port);
         if self.devices.len() <= port {

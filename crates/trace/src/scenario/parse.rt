@@ -8,7 +8,7 @@ use crate::scenario::opening::{Opening, Shape, Sizes};
 use crate::scenario::words::Words;
 use crate::wanted::{Keyword, Quantity, Wanted};
 use arrayvec::ArrayVec;
-use disk_model::{DiskPlan, Order};
+use disk_model::{DiskPlan, Order, Profile};
 use fis_view::Bytes;
 use hba_driver::{Request, Work};
 use hba_fbs::Register;
@@ -21,13 +21,13 @@ const LARGEST: u64 = 0xFFFF_FFFF;
 /// The most rounds of one line.
 const MOST_ROUNDS: u64 = 1_000_000;
 
-/// The last port that a line can name where nobody asks whether the world has it.
+/// The last port that a line can name when nobody asks whether the world has it.
 const LAST_NAME: u8 = 255;
 
-/// What a line says of the world before it is built.
+/// What a line says about the world before it is built.
 #[derive(Drop)]
 pub enum Setting {
-    /// The world is to be so large.
+    /// The world is to have these sizes.
     Ports(Sizes),
     /// The device at this port is to be this disk.
     Disk(u8, Shape),
@@ -51,7 +51,7 @@ pub enum Common {
 pub enum View {
     /// What each connection sent and what was taken of it.
     Counts,
-    /// So many bytes of client memory, from this address on.
+    /// This many bytes of client memory, from this address on.
     Memory(u32, u32),
 }
 
@@ -60,7 +60,7 @@ pub enum View {
 pub enum Action {
     /// One step of one actor.
     Step(Step),
-    /// To have all actors step, round by round, at most so many rounds.
+    /// To have all actors step, round by round, at most this many rounds.
     Settle(u64),
     /// To see which devices are faulty, and what stopped the port.
     Faults,
@@ -84,7 +84,7 @@ pub enum Entry {
 }
 
 impl Setting {
-    /// Reads a line of this name, word by word; None where the name is of no setting.
+    /// Reads a line of this name, word by word; None if the name is not that of a setting.
     pub fn read(
         alloc: Global,
         name: &[u8],
@@ -231,8 +231,18 @@ fn disk(words: &mut Words<'_>, opening: &Opening) -> Result<Setting, Failure> {
         last_first: words.takes(b"lastfirst"),
         bad: bad_sectors(words)?,
         auto: words.takes(b"auto"),
+        profile: profile(words, port),
     };
     Ok(Setting::Disk(port, Shape { sectors, plan }))
+}
+
+/// What the disk of this port says of itself: `stock` comes next, or it says little.
+fn profile(words: &mut Words<'_>, port: u8) -> Profile {
+    if words.takes(b"stock") {
+        Profile::Stock(port as u32)
+    } else {
+        Profile::Bare
+    }
 }
 
 /// The words `order ..`, if they come next.
@@ -276,7 +286,7 @@ fn bad_sectors(words: &mut Words<'_>) -> Result<ArrayVec<u32, 16>, Failure> {
     Ok(sectors)
 }
 
-/// Sees that the world has this port.
+/// Checks that the world has this port.
 fn has_port(words: &Words<'_>, opening: &Opening, port: u8) -> Result<(), Failure> {
     let last = opening.sizes().ports - 1;
     if port > last {
@@ -302,7 +312,8 @@ fn inject(alloc: Global, words: &mut Words<'_>) -> Result<Step, Failure> {
     Ok(Step::Inject(port, words.bytes(alloc)?))
 }
 
-/// The words after `read` or `write`: a device, its first sector, how many, and where their bytes lie.
+/// The words after `read` or `write`: a device, its first sector, how many, and where their bytes
+/// lie.
 fn transfer(alloc: Global, work: Work, words: &mut Words<'_>, last: u8) -> Result<Common, Failure>
     ensures { IfOk result (λ common. names_up_to last common ≡ true) }
 {
@@ -333,7 +344,7 @@ fn flush(alloc: Global, words: &mut Words<'_>, last: u8) -> Result<Common, Failu
     Ok(Common::Submit(device, request))
 }
 
-/// The words after `show`: an address and how many bytes, which all lie in client memory.
+/// The words after `show`: an address and how many bytes, all of which lie in client memory.
 fn memory(words: &mut Words<'_>, sizes: Sizes) -> Result<View, Failure> {
     let at = words.address()?;
     let count = words.number(Quantity::Length, 0, LARGEST)? as u32;

@@ -8,13 +8,14 @@ use std::fmt;
 use std::fmt::Display;
 use std::io::Write;
 
-/// Prints line by line. While a line of the scenario waits for what is printed next, each is compared.
+/// Prints line by line. While a line of the scenario waits for what is printed next, each printed
+/// line is compared.
 #[derive(Drop)]
 pub struct Printer<'a> {
-    /// What lines expect, in their order; those before the first that waits are met.
+    /// What lines expect, in order; those before the first that waits are met.
     expected: Vec<Expected<'a>>,
     met: usize,
-    /// What was printed where something else was expected.
+    /// What was printed when something else was expected.
     found: Option<String>,
     /// Whether each line is an object of JSON.
     is_json: bool,
@@ -23,7 +24,7 @@ pub struct Printer<'a> {
 /// What a line of the scenario expects to be printed next.
 #[derive(Clone, Copy, Debug)]
 pub struct Expected<'a> {
-    /// The line that says so, counted from 1.
+    /// The line that expects it, counted from 1.
     pub line: usize,
     pub text: &'a [u8],
 }
@@ -53,7 +54,7 @@ impl<'a> Printer<'a> {
         self.expected.get(self.met).copied()
     }
 
-    /// Prints a line, which is what was expected, if anything was.
+    /// Prints a line. It must be what was expected, if anything was.
     pub fn print<D: Display, W: Write>(
         &mut self,
         alloc: Global,
@@ -85,7 +86,7 @@ impl<'a> Printer<'a> {
         Ok(())
     }
 
-    /// Sees that nothing is expected still.
+    /// Checks that nothing is expected any more.
     pub fn end(&self) -> Result<(), Failure> {
         match self.next() {
             None => Ok(()),
@@ -95,7 +96,7 @@ impl<'a> Printer<'a> {
         }
     }
 
-    /// What was expected and what was printed in its place, where these differ.
+    /// What was expected and what was printed in its place, if these differ.
     pub fn mismatch(&self) -> Option<Mismatch<'_>> {
         let expected = self.next()?;
         Some(Mismatch {
@@ -105,7 +106,7 @@ impl<'a> Printer<'a> {
     }
 }
 
-/// What was expected, and what was printed: None where nothing more was.
+/// What was expected, and what was printed: None if nothing more was.
 #[derive(Debug, Drop)]
 pub struct Mismatch<'a> {
     expected: Expected<'a>,
@@ -123,7 +124,7 @@ impl fmt::Display for Mismatch<'_> {
     }
 }
 
-/// A text without the blanks before and behind it.
+/// A text without the blanks before and after it.
 fn trimmed(text: &[u8]) -> &[u8] {
     let start = text.iter().position(|byte| !is_blank(*byte));
     let end = text.iter().rposition(|byte| !is_blank(*byte));

@@ -16,9 +16,9 @@ use std::alloc::Global;
 use std::io::{Eprint, Write};
 use std::mem;
 
-/// Plays the scenario line by line and writes what each line prints. A refused line ends it; the lines
-/// before have acted and printed. So does a line that prints something else than was expected; standard error is told of
-/// both.
+/// Plays the scenario line by line and writes what each line prints. A refused line ends it; the
+/// lines before it have acted and printed. A line that prints something else than was expected ends
+/// it, too; standard error gets both.
 pub fn play<E: Eprint, W: Write>(
     errors: &E,
     alloc: Global,
@@ -30,7 +30,7 @@ pub fn play<E: Eprint, W: Write>(
     let mut scenario = Scenario::new(alloc, watch);
     let played = scenario.play_lines(alloc, Lines::of(input), &mut printer, out);
     if let (Err(Failure::Unexpected { .. }), Some(mismatch)) = (played, printer.mismatch()) {
-        // Where standard error is closed, the exit status still tells.
+        // If standard error is closed, the exit status still tells.
         let _unheard = errors.eprintln(mismatch);
     }
     played
@@ -102,8 +102,10 @@ impl Scenario {
         }
     }
 
-    /// Builds the world at the first line that is no setting, also where that line is refused, and does what it asks.
-    // A function clears all its locals when it is called, and a world is large: no other line is to pay for that.
+    /// Builds the world at the first line that is not a setting, even if that line is refused, and
+    /// does what it asks.
+    // A function clears all its locals when it is called, and a world is large: no other line should
+    // pay for that.
     #[inline(never)]
     fn begin<W: Write>(
         &mut self,
@@ -120,7 +122,7 @@ impl Scenario {
         Ok(())
     }
 
-    /// What was said of the world, which is said once.
+    /// What was said about the world, which is said once.
     fn close_opening(&mut self, alloc: Global) -> Opening {
         mem::replace(&mut self.opening, Opening::new(alloc))
     }
@@ -140,7 +142,7 @@ impl Scenario {
     }
 }
 
-/// The most times that a block comes.
+/// The most times that a block is played.
 const MOST_TIMES: u64 = 1_000_000;
 
 /// Does what a line `repeat` says.
@@ -224,7 +226,7 @@ impl Scene {
         printer.print(alloc, &reply, out)
     }
 
-    /// Does one step, and gives what is printed of it.
+    /// Does one step, and gives what is printed about it.
     fn step<W: Write>(
         &mut self,
         alloc: Global,
@@ -237,7 +239,7 @@ impl Scene {
         }
     }
 
-    /// Does rounds, at most so many, up to the first in which no step did anything.
+    /// Runs rounds, at most this many, up to the first in which no step did anything.
     fn settle<W: Write>(
         &mut self,
         alloc: Global,
@@ -252,8 +254,8 @@ impl Scene {
         Ok(Reply::Unsettled)
     }
 
-    /// Does the steps of a round: those of each device and its port, upwards, and then those of the
-    /// multiplier and the host. Says whether one of them did something.
+    /// Does the steps of a round: those of each device and its port, in ascending order, and then
+    /// those of the multiplier and the host. Says whether one of them did something.
     fn round<W: Write>(&mut self, alloc: Global, out: &mut W) -> Result<bool, Failure> {
         let mut is_moved = false;
         for n in 0..self.sizes.ports {
@@ -282,7 +284,8 @@ impl Scene {
         Ok(!matches!(answer, Ok(Answer::Idle | Answer::Blocked)))
     }
 
-    /// Does one step and counts its answer, and writes what it did where the run is traced. Want of memory ends the scenario.
+    /// Does one step and counts its answer, and writes what it did if the run is traced. If memory is
+    /// refused, the scenario ends.
     fn act<W: Write>(
         &mut self,
         alloc: Global,
@@ -296,7 +299,8 @@ impl Scene {
     }
 
     /// Does one step, counts its answer, and writes what it did.
-    // A function clears all its locals when it is called: a step that is not traced is not to pay for what is seen of it.
+    // A function clears all its locals when it is called: a step that is not traced should not pay
+    // for what is seen of it.
     #[inline(never)]
     fn act_in_sight<W: Write>(
         &mut self,

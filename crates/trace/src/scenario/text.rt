@@ -28,15 +28,16 @@ pub enum Reply {
     },
     Sent(FrameText),
     Took(FrameText),
-    /// A step moved or dropped a frame or recorded a connection or a removal, or the driver did something.
+    /// A step moved or dropped a frame or recorded that a connection came or went, or the driver did
+    /// something.
     Moved,
     /// A step found nothing to move.
     Nothing,
     /// A step found the next place full.
     Blocked,
-    /// A round came in which no step did anything.
+    /// In one round no step did anything.
     Settled,
-    /// All rounds went by, and none of them was such a round.
+    /// All rounds went by, and none was such a round.
     Unsettled,
     Refused(StepError),
     /// A request was taken under this ticket.
@@ -82,7 +83,7 @@ pub struct FrameText {
 }
 
 impl Reply {
-    /// What is printed of an answer.
+    /// What is printed about an answer.
     pub fn of(alloc: Global, answer: &Answer) -> Result<Reply, AllocError> {
         let reply = match answer {
             Answer::Idle => Reply::Nothing,
@@ -135,7 +136,7 @@ impl Reply {
         Reply::Register { register, value }
     }
 
-    /// So many bytes of client memory, from this address on, as far as they lie in it.
+    /// This many bytes of client memory, from this address on, as far as they lie in it.
     fn shown(alloc: Global, memory: &HostMemory, at: u32, count: u32) -> Result<Reply, AllocError> {
         let start = at.saturating_sub(CLIENT_START) as usize;
         let rest = memory.client().get(start..).unwrap_or(&[]);
@@ -145,8 +146,8 @@ impl Reply {
     }
 }
 
-/// Prints the causes that a host port keeps: a line for each faulty device, upwards, and then one for what stopped the
-/// port. It prints nothing where nothing went wrong.
+/// Prints the causes that a host port keeps: a line for each faulty device, in ascending order, and
+/// then one for what stopped the port. It prints nothing if nothing went wrong.
 pub fn print_faults<W: Write>(
     alloc: Global,
     port: &HostPort,

@@ -19,7 +19,7 @@ use std::io::Write;
 use std::sync::Wait;
 use std::thread::Threads;
 
-/// How a run in threads went where nothing failed.
+/// How a run in threads went if nothing failed.
 #[derive(Clone, Copy, Debug, PartialEq, Eq)]
 pub enum Ending {
     /// All requests have ended.
@@ -29,7 +29,7 @@ pub enum Ending {
 }
 
 impl Ending {
-    /// The exit status of a run that ends so.
+    /// The exit status of a run that ends in this way.
     pub fn status(self) -> u8
         ensures { result ≡ status_of_ending self }
     {
@@ -52,8 +52,8 @@ impl Gate for Open {
     }
 }
 
-/// Reads the whole scenario, runs it in threads, and writes what became of each request and what lines ask to
-/// see. Where the turns are spent, that alone is written.
+/// Reads the whole scenario, runs it in threads, and writes what became of each request and what
+/// lines ask to see. If the turns are spent, only that is written.
 pub fn play_threads<R: Threads + Wait + Sync, W: Write>(
     rt: &R,
     alloc: Global,
@@ -76,7 +76,7 @@ pub fn play_threads<R: Threads + Wait + Sync, W: Write>(
     }
 }
 
-/// What comes of a run; None where its turns are spent.
+/// What comes of a run; None if its turns are spent.
 fn summary_of<R: Threads + Wait + Sync>(
     rt: &R,
     alloc: Global,

@@ -30,7 +30,7 @@ struct Held {
     asked: Asked,
 }
 
-/// The requests that are not polled, by their slots.
+/// The requests that are not polled yet, by their slots.
 #[derive(Clone, Copy, Debug, PartialEq, Eq)]
 pub struct Tickets {
     by_slot: [Option<Held>; 32],
@@ -113,7 +113,8 @@ impl fmt::Display for SlotList<'_> {
     }
 }
 
-/// The slots of a mask with commas between them, in brackets; or their tickets, where they have some.
+/// The slots of a mask with commas between them, in brackets; or the tickets of those slots that have
+/// one.
 #[derive(Debug, Drop)]
 pub struct SlotArray<'a> {
     pub mask: u32,

@@ -1,4 +1,4 @@
-//! Tells of each step of a run that moved something.
+//! Tells about each step of a run that moved something.
 
 use crate::command_line::Watch;
 use crate::decode::fis_of;
@@ -57,6 +57,10 @@ impl Sight {
 /// What the registers of a host port show.
 fn registers_of(port: &HostPort) -> Registers {
     Registers {
+        clb: shown(port, Register::Clb),
+        clbu: shown(port, Register::Clbu),
+        fb: shown(port, Register::Fb),
+        fbu: shown(port, Register::Fbu),
         interrupts: shown(port, Register::Is),
         cmd: shown(port, Register::Cmd),
         serr: shown(port, Register::Serr),
@@ -71,7 +75,7 @@ fn shown(port: &HostPort, register: Register) -> u32 {
     port.read(register.offset()).unwrap_or(0)
 }
 
-/// Tells of steps, as far as they are asked for.
+/// Tells about steps, as far as they are asked for.
 #[derive(Drop)]
 pub struct Tracer {
     watch: Watch,
@@ -98,7 +102,7 @@ impl Tracer {
         self.watch.is_on
     }
 
-    /// Tells of a step that gave this answer, of which this was seen before.
+    /// Tells about a step that gave this answer. The sight is what was seen before it.
     pub fn note<W: Write>(
         &mut self,
         world: &World,
@@ -143,7 +147,7 @@ impl Tracer {
             && (!is_faults || event.upshot.is_trouble())
     }
 
-    /// What a step did; None where it moved nothing.
+    /// What a step did; None if it moved nothing.
     fn event<'a>(
         &mut self,
         world: &'a World,
@@ -169,8 +173,8 @@ impl Tracer {
         })
     }
 
-    /// A port of the multiplier recorded what came or went. The changes of a port take turns: its connections count from 1,
-    /// and each comes and then goes.
+    /// A port of the multiplier recorded what came or went. The changes of a port alternate: its
+    /// connections count from 1, and each comes and then goes.
     fn presence(&mut self, world: &World, port: u8, sight: &Sight) -> Event<'static> {
         let count = match self.recorded.get_mut(usize::from(port)) {
             Some(recorded) => mem::replace(recorded, recorded.saturating_add(1)),
@@ -311,7 +315,7 @@ fn move_of<'a>(world: &'a World, sight: &'a Sight, answer: &'a Answer) -> Event<
     }
 }
 
-/// A FIS moved of which the answer has the bytes.
+/// A FIS moved, and the answer has its bytes.
 fn shown_move(answer: &Answer) -> Event<'_> {
     match answer {
         Answer::Sent {
@@ -378,7 +382,8 @@ fn up<'a>(act: Act, port: u8, upshot: Upshot, frame: Option<&'a Frame>) -> Event
     }
 }
 
-/// A frame of the host on its way down to this port. On the link to a device its own PM Port field is 0.
+/// A frame of the host on its way down to this port. On the link to a device its own PM Port field is
+/// 0.
 fn down<'a>(act: Act, port: Option<u8>, upshot: Upshot, frame: Option<&'a Frame>) -> Event<'a> {
     let told = Event::plain(act, port, upshot);
     match frame {

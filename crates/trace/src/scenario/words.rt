@@ -10,11 +10,11 @@ use fis_view::Bytes;
 use host_memory::Prd;
 use std::alloc::Global;
 
-/// The words of a line that are not read yet. Blanks stand between words.
+/// The words of a line that are not read yet. Blanks separate words.
 #[derive(Drop)]
 pub struct Words<'a> {
     line: usize,
-    /// The number of the word that was asked for last, counted from 1.
+    /// The number of the word that was last asked for, counted from 1.
     asked: usize,
     rest: &'a [u8],
 }
@@ -29,12 +29,12 @@ impl<'a> Words<'a> {
         }
     }
 
-    /// The line as refused for the word that was asked for last, where this was wanted.
+    /// The refusal of the line for the word that was last asked for, if this was wanted.
     pub fn refused(&self, refusal: Refusal, wanted: Wanted) -> Failure {
         self.refused_at(self.asked, refusal, wanted)
     }
 
-    /// The line as refused for the word of this number, where this was wanted.
+    /// The refusal of the line for the word of this number, if this was wanted.
     pub fn refused_at(&self, word: usize, refusal: Refusal, wanted: Wanted) -> Failure {
         Failure::Line {
             line: self.line,
@@ -55,8 +55,8 @@ impl<'a> Words<'a> {
         Some(word)
     }
 
-    /// The next word as a number within these limits. A word that is missing, or that has anything but
-    /// digits, is `number`; one outside the limits is `range`.
+    /// The next word as a number within these limits. A word that is missing, or that has anything
+    /// except digits, is `number`. A number outside the limits is `range`.
     pub fn number(&mut self, what: Quantity, least: u64, most: u64) -> Result<u64, Failure>
         ensures within { IfOk result (λ n. (least ≤ n) × (n ≤ most)) }
     {
@@ -92,7 +92,7 @@ impl<'a> Words<'a> {
         }
     }
 
-    /// All words that are left as such pairs, one at least.
+    /// All words that are left as such pairs, at least one.
     pub fn prds(&mut self, alloc: Global) -> Result<Vec<Prd>, Failure> {
         let mut prds = Vec::new(alloc);
         for _ in 0..=self.rest.len() {
@@ -165,7 +165,7 @@ impl<'a> Words<'a> {
         Ok(text)
     }
 
-    /// Sees that no word is left.
+    /// Checks that no word is left.
     pub fn end(&mut self) -> Result<(), Failure> {
         match self.next_word() {
             None => Ok(()),
@@ -185,8 +185,8 @@ fn prd_of(word: &[u8]) -> Result<Prd, Refusal> {
     Ok(Prd { address, bytes })
 }
 
-/// What a word spells in this base, 10 or 16. One that has anything but digits, or nothing, is `number`;
-/// one outside these limits is `range`.
+/// What a word spells in this base, 10 or 16. A word that has anything except digits, or nothing, is
+/// `number`. A number outside these limits is `range`.
 pub fn value_within(word: &[u8], base: u8, least: u64, most: u64) -> Result<u64, Refusal>
     ensures within { IfOk result (λ n. (least ≤ n) × (n ≤ most)) }
 {

@@ -1,4 +1,4 @@
-//! The longest input, which no file of a case is to have.
+//! The longest input, which is too long for the file of a case.
 
 use std::alloc::{AllocError, Global};
 use std::io::Eprint;
@@ -9,7 +9,7 @@ use std::test::Fail;
 use std::thread::Threads;
 use trace::{LONGEST_INPUT, serve};
 
-/// Sees that `decode` of this input writes this and ends so.
+/// Checks that `decode` of this input writes this and ends in this way.
 fn assert_decodes<R: Abort + AllocGlobal + Threads + Wait + Sync + Files + Eprint>(
     rt: &R,
     input: &[u8],

@@ -15,6 +15,6 @@ returns-in_ok-frame-in-Some-clause-gives c =
     let was = sym is in
     let f = c.in_ok-frame-in-Some in
     let owed = ap (λ (x : DiskValue). x.now.owed) was ∙ front in
-    let shows = subst (λ (x : DiskValue). Shows (answer_sent x.sectors x.plan.auto a) f.frame.bytes) is f.ensures.shows in
+    let shows = subst (λ (x : DiskValue). Shows (answer_sent x.sectors x.plan a) f.frame.bytes) is f.ensures.shows in
     let left = same_moment _ _ (ap (λ (x : DiskValue). x.now.medium) is) (ap (λ (x : DiskValue). x.now.queued) is) (ap (λ (x : DiskValue). x.now.fault) is) (ap (λ (x : DiskValue). x.now.resetting) is) c.pop_front.ensures.rest (ap (λ (x : DiskValue). x.now.started) is) (ap (λ (x : DiskValue). x.now.writing) is) in
     (takes_answer v.plan v.sectors v.now _ a (drop 1 d.answers.items) f.frame.bytes owed shows left, ap (λ (x : DiskValue). x.plan) is, ap (λ (x : DiskValue). x.sectors) is)

@@ -41,7 +41,7 @@ use Rattle.std_heap.proofs.GlobalAllocator.TheImpl.Met.{passed}
 use Rattle.std_heap.specs.contracts.Global as heap
 use Rattle.std_heap.specs.contracts.GlobalAllocator.TheImpl.{ghosts, dict}
 use Rattle.gefsunk.proofs.HeldSteps.{State, Held, word, some_of, boxed_out, held_out}
-use Rattle.gefsunk.proofs.pm.Pm.TheLaws as state_laws
+use Rattle.gefsunk.proofs.kept.Kept.TheLaws as state_laws
 use Rattle.gefsunk.specs.Handles.{owned}
 use Rattle.gefsunk.specs.contracts.handle.Held.into_box as f
 use Rattle.gefsunk.proofs.handle.Held.into_box.Statement.{statement}

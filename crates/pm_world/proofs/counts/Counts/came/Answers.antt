@@ -14,7 +14,7 @@ invariant_of-self-2 c = rw c.in_ok-insert.ensures.items (sorted_insert c.self.in
 pub returns-clause-rows : goal.returns-clause-rows
 returns-clause-rows c = rw (c.in_ok-insert.ensures.items, c.self.view_is) (rows_insert c.args.self.now c.args.port c.args.conn c.in-Err.at c.in-Err.ensures.absent)
 
--- and memory was wanted for it
+-- and memory ran out for it
 on_err : {T E P : Type 0} (r : Result T E) → P → OnErr r P
 on_err (Ok x) h = tt
 on_err (Err e) h = h

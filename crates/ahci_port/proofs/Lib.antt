@@ -1,0 +1,4 @@
+pub mod GatherLemmas
+pub mod OpeningLemmas
+pub mod SendLemmas
+pub mod StayLemmas

@@ -1,0 +1,18 @@
+use Rattle.std.proofs.Common.{subst, List}
+use Rattle.guest_bytes.specs.declared.moves.Move.{Move}
+use Rattle.ahci_port.specs.Sending.{AreFetched}
+use Rattle.ahci_port.proofs.GatherLemmas.{all_fetched, one_more}
+use Rattle.ahci_port.proofs.sending.gather.Goals as goal
+
+pub loop-step-preserved : goal.loop-step-preserved
+loop-step-preserved g c = one_more _ _ _ _ _ _ _ _ c.in-Some.ensures.steps c.loop-step.invariant c.in_ok-fetch.ensures.ok
+
+pub returns-clause-ok : goal.returns-clause-ok
+returns-clause-ok g c = record {
+  before = c.args.payload.now;
+  long = c.loop-step.invariant.long;
+  moves = c.moves-step-items.result;
+  delivers = c.moves-step-items.ensures.delivers;
+  fetched = subst (λ (l : List Move). AreFetched (g.G.Guest.may_read c.args.guest.now) l c.args.payload.now c.loop-step.payload) c.into_iter-step-iterator.ensures.into_iter_gives
+      (all_fetched _ _ _ _ _ c.in-None.ensures.steps.0 c.loop-step.invariant);
+}

@@ -1,0 +1,11 @@
+pub mod Own
+pub mod States
+pub mod Opening
+pub mod Reading
+pub mod Causes
+pub mod Writing
+pub mod Issuing
+pub mod Accesses
+pub mod Taking
+pub mod Sending
+pub mod Laws

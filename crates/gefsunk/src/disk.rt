@@ -1,0 +1,139 @@
+//! A disk as the library for C keeps it.
+
+ghost use Rattle.std.specs.Prelude.{◌≡◌, ◌≤◌, ◌<◌, IfErr, IfOk, length, take};
+ghost use Rattle.gefsunk.specs.Disks.{DiskFromHost, DiskPlug, DiskRefused, DiskToHost, IsDiskOf, IsPlanOf, SectorRule, has_flag};
+
+use crate::pm::{copied, refused, stamp};
+use crate::status::Status;
+use arrayvec::ArrayVec;
+use disk_model::{Device, Disk, DiskError, DiskPlan, Order, Profile};
+use fis_view::Frame;
+use std::alloc::Global;
+
+/// The newest queued command goes first.
+const NEWEST: u32 = 1;
+/// The chunks of a command go downwards.
+const LAST_FIRST: u32 = 2;
+/// The DMA Setup of a write lets its data come at once.
+const AUTO: u32 = 4;
+/// The IDENTIFY DEVICE data are those that stock drivers read.
+const STOCK: u32 = 8;
+
+/// Whether a flag is set.
+fn has_flag(flags: u32, flag: u32) -> bool
+    requires { 0 < flag }
+    ensures { result ≡ has_flag flags flag }
+{
+    flags / flag % 2 == 1
+}
+
+/// The plan that chunk, flags, serial number and bad sectors make.
+fn plan(chunk: u16, flags: u32, serial: u32, bad: ArrayVec<u32, 16>) -> DiskPlan
+    ensures { IsPlanOf chunk flags serial bad.items result }
+{
+    DiskPlan {
+        order: if has_flag(flags, NEWEST) {
+            Order::Newest
+        } else {
+            Order::Oldest
+        },
+        chunk,
+        last_first: has_flag(flags, LAST_FIRST),
+        bad,
+        auto: has_flag(flags, AUTO),
+        profile: if has_flag(flags, STOCK) {
+            Profile::Stock(serial)
+        } else {
+            Profile::Bare
+        },
+    }
+}
+
+/// A disk with this many sectors, its plan made of the other arguments.
+pub fn new_disk(
+    alloc: Global,
+    sectors: u32,
+    chunk: u16,
+    flags: u32,
+    serial: u32,
+    bad: &[u32],
+) -> Result<Disk, Status>
+    ensures made { IfOk result (λ disk. IsDiskOf sectors chunk flags serial bad.now disk) }
+    ensures refused { IfErr result (λ e. DiskRefused sectors chunk flags bad.now e) }
+{
+    if flags >= 16 {
+        return Err(Status::BadDisk);
+    }
+    let mut bads = ArrayVec::new();
+    if bads.try_extend_from_slice(bad).is_err() {
+        return Err(Status::BadDisk);
+    }
+    match Disk::new(alloc, sectors, plan(chunk, flags, serial, bads)) {
+        Ok(disk) => Ok(disk),
+        Err(DiskError::BadSize) => Err(Status::BadDisk),
+        Err(DiskError::OutOfMemory) => Err(Status::NoMemory),
+    }
+}
+
+/// The disk is plugged in.
+pub fn plug(disk: &mut Disk, alloc: Global) -> Status
+    ensures { DiskPlug disk.old result disk.new }
+{
+    match disk.plugged(alloc) {
+        Ok(()) => Status::Done,
+        Err(_) => Status::NoMemory,
+    }
+}
+
+/// The disk takes a FIS of the host.
+pub fn from_host(disk: &mut Disk, alloc: Global, fis: &[u8]) -> Status
+    ensures { DiskFromHost disk.old fis.now result disk.new }
+{
+    let frame = match Frame::from_bytes(alloc, fis, stamp(0, 0)) {
+        Ok(frame) => frame,
+        Err(error) => return refused(error),
+    };
+    match disk.on_frame(alloc, &frame) {
+        Ok(()) => Status::Done,
+        Err(_) => Status::NoMemory,
+    }
+}
+
+/// Writes the next FIS of the disk into the room, and its length.
+pub fn to_host(disk: &mut Disk, alloc: Global, room: &mut [u8], len: &mut usize) -> Status
+    ensures { DiskToHost disk.old (length room.old) result (take len.new room.new) disk.new }
+{
+    if room.len() < Frame::LONGEST {
+        return Status::TooShort;
+    }
+    match disk.next_out(alloc, stamp(0, 0)) {
+        Ok(Some(frame)) => {
+            *len = copied(&frame, room);
+            Status::Done
+        }
+        Ok(None) => Status::Nothing,
+        Err(_) => Status::NoMemory,
+    }
+}
+
+/// Copies bytes to the front of the room.
+fn put(bytes: &[u8], room: &mut [u8])
+    requires fits { length bytes.now ≤ length room.old }
+    ensures { take (length bytes.now) room.new ≡ bytes.now }
+{
+    room[..bytes.len()].copy_from_slice(bytes);
+}
+
+/// Writes the 512 bytes of a sector on the medium into the room.
+pub fn sector(disk: &Disk, lba: u32, room: &mut [u8]) -> Status
+    ensures { SectorRule disk.now lba (length room.old) result (take 512 room.new) }
+{
+    let Some(bytes) = disk.sector(lba) else {
+        return Status::NoSector;
+    };
+    if room.len() < 512 {
+        return Status::TooShort;
+    }
+    put(bytes, room);
+    Status::Done
+}

@@ -1,0 +1,14 @@
+//! What a handle can have behind it.
+
+use crate::pm::Pm;
+use disk_model::Disk;
+
+/// What stands behind a handle. One kind of handle keeps all, so that a handle of one kind that is given to
+/// a call for another is found out.
+#[derive(Drop)]
+pub enum Kept {
+    /// A port multiplier.
+    Pm(Pm),
+    /// A disk.
+    Disk(Disk),
+}

@@ -1,0 +1,47 @@
+-- A guest's command as it was read: AHCI 1.3.1, sections 4.2.2 (header) and 4.2.3 (command table), and of its
+-- FIS Serial ATA 3.x, 10.5.5. What lies in a guest's memory may change at any time, so it is known only by
+-- what a read may give (may_read).
+use Rattle.std.specs.Prelude.{◌≡◌, ℕ, ◌+◌, ◌==◌, ◌≤◌, true, List, length}
+use Rattle.fis_view.specs.Table.{H2d, PmPort, C, Command, Features, Lba, Device, Count, Icc, Control, field}
+use Rattle.fis_view.specs.declared.build.H2dFields.{H2dFields}
+use Rattle.guest_bytes.specs.Entries.{AreRead, GoesAsFar}
+use Rattle.guest_bytes.specs.Guest.{total_of}
+use Rattle.hba_commands.specs.Requests.{request_of, work_of}
+use Rattle.guest_commands.specs.Headers.{IsHeaderAt, is_proper}
+use Rattle.guest_commands.specs.declared.command.GuestCommand.{GuestCommand}
+
+-- the fields of a command FIS
+abbrev pub fields_in : List ℕ → H2dFields
+fields_in cfis = record {
+  pm_port = field H2d PmPort cfis;
+  c = field H2d C cfis == 1;
+  command = field H2d Command cfis;
+  features = field H2d Features cfis;
+  lba = field H2d Lba cfis;
+  device = field H2d Device cfis;
+  count = field H2d Count cfis;
+  icc = field H2d Icc cfis;
+  control = field H2d Control cfis;
+}
+
+-- 20 bytes that may be read there
+abbrev pub IsFisAt : (ℕ → List ℕ → Type 0) → ℕ → List ℕ → Type 0
+IsFisAt may_read at cfis = (length cfis ≡ 20) × may_read at cfis
+
+-- the most bytes that a command moves here: 256 sectors
+abbrev pub lane_len : ℕ
+lane_len = 131072
+
+-- The command whose header lies at an address: header, FIS and entries are what reads at their places may have
+-- given. The entries go as far as the command's bytes, and have all of them.
+pub record IsCommandAt (may_read : ℕ → List ℕ → Type 0) (at : ℕ) (command : GuestCommand) : Type 0 where
+  pub header : IsHeaderAt may_read at command.header
+  pub proper : is_proper command.header ≡ true
+  pub fis : IsFisAt may_read command.header.table command.cfis
+  pub fields : command.fields ≡ fields_in command.cfis
+  pub port : command.fields.pm_port ≡ command.header.pm_port
+  pub len : command.len ≡ (work_of (request_of command.fields)).len
+  pub few : command.len ≤ lane_len
+  pub entries : AreRead may_read (command.header.table + 128) command.table
+  pub as_far : GoesAsFar command.header.entries command.len command.table
+  pub enough : command.len ≤ total_of command.table

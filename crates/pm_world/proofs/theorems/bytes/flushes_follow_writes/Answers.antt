@@ -1,0 +1,5 @@
+use Rattle.pm_world.proofs.FlushOrder.{flushes_follow_writes}
+use Rattle.pm_world.proofs.theorems.bytes.flushes_follow_writes.Goals as goal
+
+pub returns : goal.returns
+returns c = flushes_follow_writes
