@@ -10,6 +10,7 @@ pub mod ServeLemmas
 pub mod StandLemmas
 pub mod DoneLemmas
 pub mod FaultLemmas
+pub mod ModeLemmas
 pub mod DrivenLemmas
 pub mod EventLemmas
 pub mod SoundLemmas
