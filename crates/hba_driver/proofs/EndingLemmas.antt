@@ -149,7 +149,7 @@ aside_moves dev file d n s t below other (inr (inr o)) =
     inr (inr (record { slot = o.slot; of_dev = o.of_dev; goes = stays ∙ o.goes; table = o.table }))
 
 -- the value has EN and DEC
-has_en : (dev : ℕ) → has_bit (256 * dev + 3) en ≡ true
+pub has_en : (dev : ℕ) → has_bit (256 * dev + 3) en ≡ true
 has_en dev = ap (λ (k : ℕ). k == 1) (bit_at_lowest (256 * dev + 3) ∙ odd dev)
   where
     odd : (d : ℕ) → (256 * d + 3) % 2 ≡ 1

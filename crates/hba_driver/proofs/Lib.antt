@@ -7,6 +7,7 @@ pub mod LifeLemmas
 pub mod RequestLemmas
 pub mod HistoryLemmas
 pub mod ServeLemmas
+pub mod RowMode
 pub mod StandLemmas
 pub mod DoneLemmas
 pub mod FaultLemmas
