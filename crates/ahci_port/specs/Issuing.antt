@@ -33,7 +33,7 @@ pub record Puts (slot : ℕ) (fields : H2dFields) (len : ℕ) (old new : Memory)
 pub record Issues (may_read : ℕ → List ℕ → Type 0) (slot : ℕ) (old new : ControllerState) : Type 0 where
   pub command : GuestCommand
   pub read : IsCommandAt may_read (old.own.list + 32 * slot) command
-  pub put : Puts slot command.fields command.len old.memory new.memory
+  pub put : Puts slot command.head.fields command.head.len old.memory new.memory
   pub port : Accepts old.port new.memory Ci (2 ^ slot) new.port
   pub rest : new ≡ record old {
     port = new.port;
@@ -64,7 +64,7 @@ pub record CannotBeGiven (may_read : ℕ → List ℕ → Type 0) (slot : ℕ) (
     (old : ControllerState) (memory : Memory) : Type 0 where
   pub command : GuestCommand
   pub read : IsCommandAt may_read (old.own.list + 32 * slot) command
-  pub put : Puts slot command.fields command.len old.memory memory
+  pub put : Puts slot command.head.fields command.head.len old.memory memory
   pub refused : is_some (refusal_of Ci old.port memory (2 ^ slot)) ≡ true
   pub bad : error ≡ refusal.Bad
 

@@ -62,17 +62,10 @@ pub record IsHeadAt (may_read : ℕ → List ℕ → Type 0) (at : ℕ) (head : 
   pub few : head.len ≤ lane_len
   pub room : head.header.table + 128 < 2 ^ 64
 
--- The command whose header lies at an address: header, FIS and entries are what reads at their places may have
--- given. The entries go as far as the command's bytes, and have all of them.
+-- The command whose header lies at an address: its entries, too, are what reads at their places may have given.
+-- They go as far as the command's bytes, and have all of them.
 pub record IsCommandAt (may_read : ℕ → List ℕ → Type 0) (at : ℕ) (command : GuestCommand) : Type 0 where
-  pub header : IsHeaderAt may_read at command.header
-  pub proper : is_proper command.header ≡ true
-  pub fis : IsFisAt may_read command.header.table command.cfis
-  pub kind : is_command command.cfis ≡ true
-  pub fields : command.fields ≡ fields_in command.cfis
-  pub port : command.fields.pm_port ≡ command.header.pm_port
-  pub len : command.len ≡ len_of command.fields
-  pub few : command.len ≤ lane_len
-  pub entries : AreRead may_read (command.header.table + 128) command.table
-  pub as_far : GoesAsFar command.header.entries command.len command.table
-  pub enough : command.len ≤ total_of command.table
+  pub head : IsHeadAt may_read at command.head
+  pub entries : AreRead may_read (command.head.header.table + 128) command.table
+  pub as_far : GoesAsFar command.head.header.entries command.head.len command.table
+  pub enough : command.head.len ≤ total_of command.table

@@ -40,30 +40,26 @@ impl From<NotThere> for CommandError {
     }
 }
 
-/// A guest's command: its header, its FIS and its table, as they were read.
-#[derive(Debug, Drop)]
-pub struct GuestCommand {
-    /// Its header.
+/// A command's header and its FIS, as they were read.
+#[derive(Clone, Copy, Debug)]
+pub struct CommandHead {
+    /// The header.
     pub header: GuestHeader,
-    /// Its FIS.
+    /// The FIS.
     pub cfis: [u8; 20],
     /// What the FIS says.
     pub fields: H2dFields,
-    /// How many bytes it moves.
+    /// How many bytes the command moves.
     pub len: u32,
-    /// Where they lie in the guest's memory.
-    pub table: GuestTable,
 }
 
-// A command's header and its FIS, as they were read.
-#[derive(Clone, Copy, Debug)]
-struct CommandHead {
-    header: GuestHeader,
-    cfis: [u8; 20],
-    // What the FIS says.
-    fields: H2dFields,
-    // How many bytes the command moves.
-    len: u32,
+/// A guest's command, as it was read.
+#[derive(Debug, Drop)]
+pub struct GuestCommand {
+    /// Its header and its FIS.
+    pub head: CommandHead,
+    /// Where its bytes lie in the guest's memory.
+    pub table: GuestTable,
 }
 
 // Reads the command FIS that lies at an address.
@@ -136,12 +132,6 @@ impl GuestCommand {
         let head = read_head(guest, at)?;
         let header = head.header;
         let table = read_table(alloc, guest, header.table + 0x80, header.entries, head.len)?;
-        Ok(GuestCommand {
-            header,
-            cfis: head.cfis,
-            fields: head.fields,
-            len: head.len,
-            table,
-        })
+        Ok(GuestCommand { head, table })
     }
 }
