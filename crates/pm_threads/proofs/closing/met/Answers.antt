@@ -1,4 +1,7 @@
 use Rattle.std.proofs.Common.{rules}
+use Rattle.std.specs.Prelude.{map}
+use Rattle.disk_model.specs.declared.unit.Unit.{Unit}
+use Rattle.disk_thread.specs.declared.worker.DiskEnd.{DiskEnd}
 use Rattle.std.specs.List.{AllZip}
 use Rattle.ruled_links.specs.Lists.{IsPrefixOf}
 use Rattle.pm_thread.specs.Passing.{Passes}
@@ -6,45 +9,38 @@ use Rattle.pm_threads.specs.Seats.{Handed}
 use Rattle.pm_threads.specs.Summaries.{AreCounted}
 use Rattle.pm_threads.proofs.Counts.{none_above}
 use Rattle.pm_threads.proofs.Ends.{all_arrive, link_prefix}
-use Rattle.pm_threads.proofs.closing.close.Goals as goal
+use Rattle.pm_threads.proofs.closing.met.Goals as goal
 
 pub returns-clause-arrives : goal.returns-clause-arrives
 returns-clause-arrives g c =
-    let handed : AllZip Handed c.args.finished.disks c.args.finished.pm.ports = search rules in
-    let passes : Passes c.args.finished.pm = search rules in
-    let met : IsPrefixOf c.args.finished.host.frames.taken c.args.finished.pm.host.sent = search (rules, link_prefix) in
-    all_arrive c.args.finished.disks c.args.finished.pm.ports c.args.finished.pm.host.sent c.args.finished.host.frames.taken handed passes.begun met
+    let handed : AllZip Handed (map (λ (e : DiskEnd Unit). e.station) c.args.disks.items) c.args.pm.ports = search rules in
+    let passes : Passes c.args.pm = search rules in
+    let met : IsPrefixOf c.args.host.frames.taken c.args.pm.host.sent = search (rules, link_prefix) in
+    all_arrive (map (λ (e : DiskEnd Unit). e.station) c.args.disks.items) c.args.pm.ports c.args.pm.host.sent c.args.host.frames.taken handed passes.begun met
 
 pub returns-in_err-counts-clause-arrives : goal.returns-in_err-counts-clause-arrives
 returns-in_err-counts-clause-arrives g c =
-    let handed : AllZip Handed c.args.finished.disks c.args.finished.pm.ports = search rules in
-    let passes : Passes c.args.finished.pm = search rules in
-    let met : IsPrefixOf c.args.finished.host.frames.taken c.args.finished.pm.host.sent = search (rules, link_prefix) in
-    all_arrive c.args.finished.disks c.args.finished.pm.ports c.args.finished.pm.host.sent c.args.finished.host.frames.taken handed passes.begun met
-
-pub returns-in_err-results-clause-arrives : goal.returns-in_err-results-clause-arrives
-returns-in_err-results-clause-arrives g c =
-    let handed : AllZip Handed c.args.finished.disks c.args.finished.pm.ports = search rules in
-    let passes : Passes c.args.finished.pm = search rules in
-    let met : IsPrefixOf c.args.finished.host.frames.taken c.args.finished.pm.host.sent = search (rules, link_prefix) in
-    all_arrive c.args.finished.disks c.args.finished.pm.ports c.args.finished.pm.host.sent c.args.finished.host.frames.taken handed passes.begun met
+    let handed : AllZip Handed (map (λ (e : DiskEnd Unit). e.station) c.args.disks.items) c.args.pm.ports = search rules in
+    let passes : Passes c.args.pm = search rules in
+    let met : IsPrefixOf c.args.host.frames.taken c.args.pm.host.sent = search (rules, link_prefix) in
+    all_arrive (map (λ (e : DiskEnd Unit). e.station) c.args.disks.items) c.args.pm.ports c.args.pm.host.sent c.args.host.frames.taken handed passes.begun met
 
 pub returns-in_err-units-clause-arrives : goal.returns-in_err-units-clause-arrives
 returns-in_err-units-clause-arrives g c =
-    let handed : AllZip Handed c.args.finished.disks c.args.finished.pm.ports = search rules in
-    let passes : Passes c.args.finished.pm = search rules in
-    let met : IsPrefixOf c.args.finished.host.frames.taken c.args.finished.pm.host.sent = search (rules, link_prefix) in
-    all_arrive c.args.finished.disks c.args.finished.pm.ports c.args.finished.pm.host.sent c.args.finished.host.frames.taken handed passes.begun met
+    let handed : AllZip Handed (map (λ (e : DiskEnd Unit). e.station) c.args.disks.items) c.args.pm.ports = search rules in
+    let passes : Passes c.args.pm = search rules in
+    let met : IsPrefixOf c.args.host.frames.taken c.args.pm.host.sent = search (rules, link_prefix) in
+    all_arrive (map (λ (e : DiskEnd Unit). e.station) c.args.disks.items) c.args.pm.ports c.args.pm.host.sent c.args.host.frames.taken handed passes.begun met
 
 pub returns-clause-fewer : goal.returns-clause-fewer
 returns-clause-fewer g c =
-    let handed : AllZip Handed c.args.finished.disks c.args.finished.pm.ports = search rules in
-    let passes : Passes c.args.finished.pm = search rules in
-    let met : IsPrefixOf c.args.finished.host.frames.taken c.args.finished.pm.host.sent = search (rules, link_prefix) in
-    let counted : AreCounted c.in_ok-counts.field-0.items c.args.finished.disks c.args.finished.host.frames.taken = search rules in
-    none_above c.args.finished.disks c.args.finished.host.frames.taken c.in_ok-counts.field-0.items c.into_parts-disks.ensures.one.few counted
-    (all_arrive c.args.finished.disks c.args.finished.pm.ports c.args.finished.pm.host.sent c.args.finished.host.frames.taken handed passes.begun met)
+    let handed : AllZip Handed (map (λ (e : DiskEnd Unit). e.station) c.args.disks.items) c.args.pm.ports = search rules in
+    let passes : Passes c.args.pm = search rules in
+    let met : IsPrefixOf c.args.host.frames.taken c.args.pm.host.sent = search (rules, link_prefix) in
+    let counted : AreCounted c.in_ok-counts.field-0.items (map (λ (e : DiskEnd Unit). e.station) c.args.disks.items) c.args.host.frames.taken = search rules in
+    none_above (map (λ (e : DiskEnd Unit). e.station) c.args.disks.items) c.args.host.frames.taken c.in_ok-counts.field-0.items c.requires.few counted
+    (all_arrive (map (λ (e : DiskEnd Unit). e.station) c.args.disks.items) c.args.pm.ports c.args.pm.host.sent c.args.host.frames.taken handed passes.begun met)
 
 pub returns-clause-made : goal.returns-clause-made
 returns-clause-made g c start run =
-    record { turns = run.turns; host = c.args.finished.host.host; does = run.does; taken = run.taken; memory_is = search rules }
+    record { turns = run.turns; host = c.args.host.host; does = run.does; taken = run.taken; memory_is = search rules }
