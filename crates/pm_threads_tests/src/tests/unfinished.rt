@@ -12,7 +12,7 @@ use std::alloc::Global;
 use std::sync::Wait;
 use std::test::Fail;
 
-/// A disk at port 0, and a device at port 1 that is none, so that the read of it is never taken.
+/// A disk at port 0, and at port 1 a script that sends nothing, so a read of device 1 is never taken.
 fn stuck(alloc: Global) -> Result<Setup, Fail> {
     let mut given = reading(alloc, 2)?;
     given.units[1] = Unit::Scripted(Scripted::new(Vec::new(alloc)));
@@ -28,7 +28,7 @@ fn left_by(failure: RunFailure<'_>, error: RunError) -> Result<Unfinished<'_>, F
     Ok(failure.left.ok_or("nothing is left")?)
 }
 
-/// The same, with all seats together.
+/// The summary of what is left of a run that ended by this error.
 fn partial_by<R: Wait>(
     rt: &R,
     alloc: Global,
@@ -55,7 +55,8 @@ fn open_requests_are_told(rt: HostRuntime) -> Result<(), Fail> {
         return Err("it finished".into());
     };
     let partial = partial_by(&rt, alloc, failure, RunError::TurnsSpent)?;
-    // In the order of the plan: the write of device 0, the read of device 1, the read of device 0 that waits.
+    // In the order of the plan: the write of device 0, the read of device 1, and behind a barrier the read of
+    // device 0.
     let done = State::Ended(Ended::Polled(Outcome::Done));
     let want = [done, State::Waits, State::Waits];
     assert_eq!(rt; partial.states.as_slice(), want.as_slice());
