@@ -8,7 +8,7 @@ use Rattle.slots.specs.Slots.{has_bit}
 use Rattle.hba_commands.specs.declared.command.Command as issued_command
 use Rattle.hba_fbs.specs.declared.register.Register.{Register}
 use Rattle.hba_fbs.specs.declared.register.Register.TheVariants.{Clb, Clbu, Fb, Fbu, Is, Ie, Cmd, Tfd, Sig, Serr, Sact, Ci, Sntf, Fbs}
-use Rattle.hba_fbs.specs.Issuing.{asked}
+use Rattle.hba_fbs.specs.Issuing.{aimed, asked}
 use Rattle.disk_model.specs.Ledger.{Ledger}
 use Rattle.hba_laws.specs.Client.{Touches, own}
 use Rattle.hba_laws.specs.Delivering.{touched, touches_after}
@@ -121,7 +121,7 @@ module _ (n slot : ℕ) (k : Ledger) (c : SlotCommand) (tag : c.command.tag ≡ 
       let there : issued s (own n (touched old (Wrote Ci (2 ^ slot)) ++ past)) ≡ Some t = subst (λ (x : HostEvent). issued s (own n (touched old x ++ past)) ≡ Some t) i.is here in
       elim (cases_eq s slot) [
         | inl same ↦ inl (same, subst (λ (k : ℕ). with_command commands slot c k ≡ c) (sym same) (command_same commands slot c))
-        | inr other ↦ elim (issued_cases old.port.registers.chosen n old.memory (asked old.port.registers old.memory (2 ^ slot)) past s t there) [
+        | inr other ↦ elim (issued_cases (aimed old.port.registers old.memory.structure (2 ^ slot)) n old.memory (asked old.port.registers old.memory (2 ^ slot)) past s t there) [
           | inl new ↦ none_some new.1.0 (sym (asked_none (has_bit (2 ^ slot) s) _ (bit_other slot s other)) ∙ new.1.1)
           | inr was ↦ inr (was, command_other commands slot s c other)
         ]

@@ -11,13 +11,14 @@ use Rattle.fis_view.specs.declared.view.Fis.TheVariants as view
 use Rattle.fis_view.specs.declared.view.Fis.{Fis}
 use Rattle.fis_view.specs.declared.view.FisFault.{FisFault}
 use Rattle.host_memory.specs.Memory.{Memory}
+use Rattle.rx_area.specs.declared.area.Posted.{Posted}
 use Rattle.slots.specs.Commands.{answer_for}
 use Rattle.slots.specs.Slots.{DeviceSlots, Issue, match_some, own_issue, waiting}
 use Rattle.slots.specs.declared.answer.Answered.TheVariants.{Nobody}
 use Rattle.hba_fbs.specs.declared.hearing.Happening.TheVariants as happening
 use Rattle.hba_fbs.specs.Hearing.{answer_fault, heard_d2h, heard_fis, heard_register, quietly}
 use Rattle.hba_fbs.specs.Status.{after_reset}
-use Rattle.hba_fbs.specs.Taking.{Hears, admitted, device_cause, heard, heard_now, heard_report, ignores, is_ignored, place_of, port_of}
+use Rattle.hba_fbs.specs.Taking.{Hears, admitted, device_cause, heard, heard_now, heard_report, ignores, is_ignored, place_in, port_of, row_for}
 use Rattle.hba_fbs.specs.Tables.{is_sound}
 use Rattle.hba_fbs.specs.Views.{DeviceView, Port, view_of}
 use Rattle.hba_fbs.specs.declared.report.TakeReport.{TakeReport}
@@ -32,6 +33,7 @@ use Rattle.hba_driver.specs.Drivers.{Driver, device_at}
 use Rattle.hba_driver.specs.Events.{IsSoundHost}
 use Rattle.hba_driver.specs.HostTurns.{Does, Host, Took}
 use Rattle.hba_driver.specs.Steady.{detects}
+use Rattle.hba_driver.proofs.RowMode.{heard_as}
 use Rattle.driver_ends.specs.Unasked.{FaultsSetAside, OwesSignature}
 use Rattle.driver_ends.proofs.UnaskedLemmas.{none_at, signs_only}
 
@@ -61,9 +63,9 @@ signed_fine dev v sound k r none owes right mine =
 -- ---- a fault
 
 -- what a report says of a frame that is not ignored
-pub report_fault : (dev : ℕ) (port : Port) (memory : Memory) (fis : Option Fis) → (heard_report dev (place_of fis) (heard_now port memory dev fis)).fault ≡ device_cause (heard_now port memory dev fis).fault
+pub report_fault : (dev : ℕ) (at : Posted) (port : Port) (memory : Memory) (fis : Option Fis) → (heard_report dev at (heard_now port memory dev fis)).fault ≡ device_cause (heard_now port memory dev fis).fault
 unfolding heard_report
-report_fault dev port memory fis = refl
+report_fault dev at port memory fis = refl
 
 not_ignored : (old : Host) (frame : List ℕ) (report : TakeReport) (new : Host) (b : Bool) → ignores (port_of frame) old.port frame ≡ b → Does old (Took frame report) new → is_some report.fault ≡ true → b ≡ false
 not_ignored old frame report new false is does faulty = refl
@@ -72,7 +74,8 @@ not_ignored old frame report new true is does faulty = absurd (false≢true (sym
 runs : (old : Host) (frame : List ℕ) (b : Bool) → old.port.registers.started ≡ b → ignores (port_of frame) old.port frame ≡ false → b ≡ true
 runs old frame true is heard_is = refl
 runs old frame false is heard_is =
-    absurd (true≢false (sym (ap (λ (s : Bool). is_ignored (s && is_none old.port.errors.port) (view_of (port_of frame) old.port) (seen frame)) is) ∙ heard_is))
+    absurd (true≢false (sym (ap (λ (s : Bool). is_ignored (s && is_none old.port.errors.port) (view_of (port_of frame) old.port) (seen frame)) is)
+    ∙ heard_as (port_of frame) old.port frame heard_is))
 
 open_or : (k : ℕ) → (k ≤ 6) ⊎ (7 ≤ k)
 open_or k = elim (cases_Bool (nat_lt k 7)) [
@@ -92,7 +95,9 @@ faults_set_aside n base old plain report new given commands touches below framed
     not_ignored old (marked plain n) report new (ignores (port_of (marked plain n)) old.port (marked plain n)) refl does faulty in
     let hears : Hears (port_of (marked plain n)) old.port old.memory (marked plain n) report new.port new.memory = does.heard heard_is in
     let told : report.fault ≡ device_cause (heard_now old.port old.memory (port_of (marked plain n)) (admitted (port_of (marked plain n)) (seen (marked plain n)))).fault =
-    ap (λ (r : TakeReport). r.fault) hears.reports ∙ report_fault (port_of (marked plain n)) old.port old.memory (admitted (port_of (marked plain n)) (seen (marked plain n))) in
+    ap (λ (r : TakeReport). r.fault) hears.reports ∙ report_fault (port_of (marked plain n))
+    (place_in (row_for old.port (port_of (marked plain n))) (admitted (port_of (marked plain n)) (seen (marked plain n)))) old.port old.memory
+    (admitted (port_of (marked plain n)) (seen (marked plain n))) in
     let shown : (view_of n new.port).fault ≡ report.fault = subst (λ (m : ℕ). (view_of m new.port).fault ≡ report.fault) port (ap (λ (v : DeviceView). v.fault) hears.own ∙ sym told) in
     let running : old.port.registers.started ≡ true = runs old (marked plain n) old.port.registers.started refl heard_is in (
       record {

@@ -7,7 +7,7 @@ use Rattle.hba_commands.specs.declared.command.Command as issued_command
 use Rattle.hba_fbs.specs.declared.register.Register.{Register}
 use Rattle.hba_fbs.specs.declared.register.Register.TheVariants.{Ci, Clb, Clbu, Cmd, Fb, Fbs, Fbu, Ie, Is, Sact, Serr, Sig, Sntf, Tfd}
 use Rattle.hba_fbs.specs.declared.registers.Registers.{Registers}
-use Rattle.hba_fbs.specs.Issuing.{asked, view_issued}
+use Rattle.hba_fbs.specs.Issuing.{aimed, asked, view_issued}
 use Rattle.hba_fbs.specs.Views.{DeviceView, view_of}
 use Rattle.hba_fbs.specs.Writing.{view_after}
 use Rattle.disk_model.specs.Histories.{Happening}
@@ -64,7 +64,7 @@ written_state : (n value : ℕ) (k : Ledger) (old mid : event.Host) (commands ne
     → (view_of n mid.port).state.resetting ≡ (view_of n old.port).state.resetting
 unfolding view_after
 written_state n value k old mid commands next Ci small does is =
-    ap (λ (v : DeviceView). v.state.resetting) (does.1.views n small) ∙ issued_state old.port.registers old.memory value (view_of n old.port) (n == old.port.registers.chosen)
+    ap (λ (v : DeviceView). v.state.resetting) (does.1.views n small) ∙ issued_state old.port.registers old.memory value (view_of n old.port) (n == aimed old.port.registers old.memory.structure value)
 written_state n value k old mid commands next Clb small does is = absurd is
 written_state n value k old mid commands next Clbu small does is = absurd is
 written_state n value k old mid commands next Fb small does is = absurd is

@@ -45,6 +45,7 @@ use Rattle.hba_driver.proofs.ApartTakes.{takes_lead}
 use Rattle.hba_driver.proofs.ApartTicks.{cleared_faulty, ticks_lead}
 use Rattle.hba_driver.proofs.ApartViews.{clearing_own_view, clearing_view}
 use Rattle.hba_driver.proofs.EndingLemmas.{MayClear, MayEnd, may_end}
+use Rattle.hba_driver.proofs.RowMode.{skipped_as}
 use Rattle.hba_driver.proofs.SteadyLemmas.{set_other}
 use Rattle.hba_driver.proofs.SteadyTurns.{calm_or_flush}
 use Rattle.hba_driver.proofs.TendedTurns.{turn_tended}
@@ -135,7 +136,8 @@ module _ (n : ℕ) (old new : Host) where
   faulty_view (Took frame report) none does at next is = elim (cases_eq (port_of frame) n) [
     | inl own ↦
         let skip : ignores (port_of frame) old.port frame ≡ true =
-        ap (λ (k : ℕ). ignores k old.port frame) own ∙ faulty_ignored (is_running old.port) (is_some (view_of n old.port).fault) _ at.fault in
+        ap (λ (k : ℕ). ignores k old.port frame) own
+        ∙ skipped_as n old.port frame (faulty_ignored (is_running old.port) (is_some (view_of n old.port).fault) _ at.fault) in
         (ap (view_of n) (does.ignored skip).port, is.0 own)
     | inr other ↦ (by_skip other (ignores (port_of frame) old.port frame) refl, is.1 other)
   ]

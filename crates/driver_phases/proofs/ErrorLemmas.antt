@@ -11,7 +11,7 @@ use Rattle.fis_view.specs.declared.view.Fis.{Fis}
 use Rattle.fis_view.specs.declared.view.Fis.TheVariants as view
 use Rattle.fis_view.specs.declared.view.FisFault.{FisFault}
 use Rattle.port_errors.specs.declared.cause.DeviceCause.{DeviceCause}
-use Rattle.port_errors.specs.declared.cause.PortCause.{PortCause}
+use Rattle.port_errors.specs.declared.cause.Stop.{Stop}
 use Rattle.slots.specs.Slots.{has_bit}
 use Rattle.hba_fbs.specs.Posting.{is_signature, signs}
 use Rattle.hba_fbs.specs.Taking.{heard_report, ignores, is_ignored, port_of}
@@ -51,6 +51,7 @@ use Rattle.hba_driver.specs.Events.{shared_by}
 use Rattle.hba_driver.specs.HostTurns.{Does, Host, Took}
 use Rattle.hba_driver.specs.Steady.{detects}
 use Rattle.hba_driver.specs.Tended.{IsAtStage, IsReleasing}
+use Rattle.hba_driver.proofs.ModeLemmas.{ignores_as}
 use Rattle.driver_ends.specs.Together.{IsServedOn}
 use Rattle.driver_ends.specs.Unasked.{IsUnasked, OwesSignature}
 use Rattle.driver_ends.proofs.UnaskedLemmas.{IsItsSignature, signs_only}
@@ -217,16 +218,17 @@ next_signs plan sectors base disk given down up bytes size run w careful same ow
 
 -- ---- what the port ignores
 
-ignored_by : (v : DeviceView) (fis : Result Fis FisFault) (starts : Bool) (stands : Option PortCause) → starts ≡ true → stands ≡ None → v.fault ≡ None
+ignored_by : (v : DeviceView) (fis : Result Fis FisFault) (starts : Bool) (stands : Option Stop) → starts ≡ true → stands ≡ None → v.fault ≡ None
     → is_ignored (starts && is_none stands) v fis ≡ (v.state.resetting && not (signs fis))
 ignored_by v fis starts stands on none well =
     ap (λ (b : Bool). is_ignored (b && is_none stands) v fis) on
-    ∙ ap (λ (c : Option PortCause). is_ignored (true && is_none c) v fis) none
+    ∙ ap (λ (c : Option Stop). is_ignored (true && is_none c) v fis) none
     ∙ ap (λ (c : Option DeviceCause). is_some c || (v.state.resetting && not (signs fis))) well
 
--- the port runs, and the device has no fault
+-- the port runs with FIS-based switching, and the device has no fault
 pub record IsHearing (n : ℕ) (h : Host) : Type 0 where
   pub starts : h.port.registers.started ≡ true
+  pub switches : h.port.registers.switching ≡ true
   pub goes : h.port.errors.port ≡ None
   pub well : (view_of n h.port).fault ≡ None
 
@@ -236,6 +238,7 @@ module _ (n : ℕ) (h : Host) (bytes : List ℕ) (below : n < 15) (framed : IsFr
   ignores_is =
       let alike : IsAskedAlike bytes (marked bytes n) = marks_ask_nothing bytes n framed (omega (arith, below)) in
       ap (λ (m : ℕ). ignores m h.port (marked bytes n)) from
+      ∙ ignores_as n h.port (marked bytes n) hearing.switches
       ∙ ignored_by (view_of n h.port) (seen (marked bytes n)) h.port.registers.started h.port.errors.port hearing.starts hearing.goes hearing.well
       ∙ ap (λ (b : Bool). (view_of n h.port).state.resetting && not b) alike.signature
 
@@ -316,7 +319,13 @@ sought_is_unasked plan sectors base disk given down up bytes n h commands touche
 
 pub together_hears : (n : ℕ) (plan : DiskPlan) (sectors : ℕ) (disk : List Happening) (down up : List (List ℕ)) (floors : ℕ → ℕ) (touches : Touches) (h : Host)
     → IsRunning plan sectors disk touches h → IsTogether n h disk down up floors touches → IsHearing n h
-together_hears n plan sectors disk down up floors touches h runs t = record { starts = runs.starts t.opened; goes = runs.on.going.faultless; well = t.well }
+together_hears n plan sectors disk down up floors touches h runs t =
+    record {
+      starts = runs.starts t.opened;
+      switches = t.served.sound.registers.switches (omega (arith, t.opened));
+      goes = runs.on.going.faultless;
+      well = t.well;
+    }
 
 -- until its signature comes, the device is in its software reset
 pub is_resetting : (n : ℕ) (base : List Happening) (h : Host) (given : List Happening) (commands : ℕ → SlotCommand) (touches : Touches)

@@ -31,6 +31,7 @@ use Rattle.hba_driver.specs.Events.{shared_by}
 use Rattle.hba_driver.specs.HostTurns.{Does, Host, Took}
 use Rattle.hba_driver.specs.Slot30.{is_faulty}
 use Rattle.hba_driver.proofs.ApartPushes.{is_alone}
+use Rattle.hba_driver.proofs.RowMode.{skipped_as}
 use Rattle.hba_driver.proofs.TurnLemmas.{sound_shared}
 use Rattle.driver_phases.specs.Ends.{Apart, AreEnds, IsOnTime, IsRunning, IsSetAside, IsTogether, Together}
 use Rattle.driver_phases.specs.Flushes.{AreEndsSince, Floor, FlushesAreTaken, flushes_among, flushes_taken, write_floors}
@@ -127,7 +128,7 @@ module _ (n : ℕ) (plan : DiskPlan) (sectors : ℕ) (h : Host) (bytes : List �
   apart_none a = elim (cases_Bool (is_faulty a.stage)) [
     | inl faulty ↦
         not_ignored (ap (λ (k : ℕ). ignores k h.port (marked bytes n)) port
-        ∙ faulty_ignored (is_running h.port) (is_some (view_of n h.port).fault) _ (a.at.fault ∙ faulty))
+        ∙ skipped_as n h.port (marked bytes n) (faulty_ignored (is_running h.port) (is_some (view_of n h.port).fault) _ (a.at.fault ∙ faulty)))
     | inr well ↦
         let thirty : s ≡ 30 = ((is_alone n).transfers touches h a.stage below runs.on.served a.at well s t here).0 in
         omega (arith, low, thirty)

@@ -25,7 +25,7 @@ use Rattle.hba_fbs.specs.Registers.{falls}
 use Rattle.hba_fbs.specs.Sending.{Gives, Outgoing, outgoing}
 use Rattle.hba_fbs.specs.Sending as out
 use Rattle.hba_fbs.specs.Taking.{admitted, heard_now, ignores, port_of}
-use Rattle.hba_fbs.specs.Issuing.{asked}
+use Rattle.hba_fbs.specs.Issuing.{aimed, asked}
 use Rattle.hba_fbs.specs.Writing.{cleared_by}
 use Rattle.disk_model.specs.declared.request.Request.TheVariants.{Flush}
 use Rattle.disk_model.specs.Anew.{IsRequest}
@@ -158,7 +158,7 @@ issues_quiet n dev memory commands (suc m) = by_command (commands m) (issues_qui
 write_quiet : (n : ℕ) (old : event.Host) (register : Register) (value : ℕ) → NoneSends n (touched_by_write register old value)
 unfolding NoneSends
 write_quiet n old Cmd value = falls_quiet n (falls old.port.registers value)
-write_quiet n old Ci value = issues_quiet n old.port.registers.chosen old.memory (asked old.port.registers old.memory value) 32
+write_quiet n old Ci value = issues_quiet n (aimed old.port.registers old.memory.structure value) old.memory (asked old.port.registers old.memory value) 32
 write_quiet n old Fbs value = clear_quiet n (cleared_by old.port.errors value)
 write_quiet n old Clb value = tt
 write_quiet n old Clbu value = tt

@@ -10,15 +10,16 @@ use Rattle.fis_view.specs.Seen.{seen}
 use Rattle.fis_view.specs.declared.view.Fis.{Fis}
 use Rattle.host_memory.specs.Memory.{Memory}
 use Rattle.port_errors.specs.Errors.{Errors, cause_of, named_by, shown as errors_shown}
-use Rattle.port_errors.specs.declared.cause.PortCause.{PortCause}
+use Rattle.port_errors.specs.declared.cause.Stop.{Stop}
+use Rattle.rx_area.specs.declared.area.Posted.{Posted}
 use Rattle.hba_fbs.specs.declared.hearing.Heard.{Heard}
 use Rattle.hba_fbs.specs.declared.register.Register.{Register}
 use Rattle.hba_fbs.specs.declared.register.Register.TheVariants.{Ci, Cmd, Fbs}
 use Rattle.hba_fbs.specs.declared.report.TakeReport.{TakeReport}
-use Rattle.hba_fbs.specs.Issuing.{view_issued}
+use Rattle.hba_fbs.specs.Issuing.{aimed, view_issued}
 use Rattle.hba_fbs.specs.Registers.{falls}
 use Rattle.hba_fbs.specs.Sending.{Data, Gives, Nothing, Order, Outgoing, Unreadable, outgoing}
-use Rattle.hba_fbs.specs.Taking.{Hears, Ignores, admitted, device_cause, heard_now, heard_report, ignores, place_of, port_cause, port_of}
+use Rattle.hba_fbs.specs.Taking.{Hears, Ignores, admitted, device_cause, heard_now, heard_report, ignores, place_in, port_cause, port_of, row_for, stops_with}
 use Rattle.hba_fbs.specs.Views.{DeviceView, Port, stopped_view, view_of}
 use Rattle.hba_fbs.specs.Writing.{cleared_by, is_device, view_after}
 use Rattle.hba_laws.specs.Hosts as event
@@ -36,6 +37,7 @@ use Rattle.hba_driver.specs.Ticks.{effects_due}
 use Rattle.hba_driver.proofs.DrivenLemmas.{tick_is}
 use Rattle.hba_driver.proofs.EndingLemmas.{MayClear, MayEnd, may_end}
 use Rattle.hba_driver.proofs.PageLemmas.{poll_plan}
+use Rattle.hba_driver.proofs.RowMode.{spares_as}
 use Rattle.hba_driver.proofs.SteadyTurns.{calm_or_flush}
 use Rattle.hba_driver.proofs.TurnLemmas.{each_run_tells, turns_are_events}
 
@@ -54,10 +56,10 @@ same_errors n old new same is = ap (λ (e : Errors). cause_of e n) same ∙ is
 
 -- ---- a FIS is taken
 
-none_told : (dev : ℕ) (fis : Option Fis) (h : Heard) (report : TakeReport) → report ≡ heard_report dev (place_of fis) h → report.fault ≡ None
+none_told : (dev : ℕ) (at : Posted) (h : Heard) (report : TakeReport) → report ≡ heard_report dev at h → report.fault ≡ None
     → device_cause h.fault ≡ None
 unfolding heard_report
-none_told dev fis h report is none = sym (ap (λ (r : TakeReport). r.fault) is) ∙ none
+none_told dev at h report is none = sym (ap (λ (r : TakeReport). r.fault) is) ∙ none
 
 took_unfaulted : (n : ℕ) (old : event.Host) (frame : List ℕ) (report : TakeReport) (new : event.Host) → TakesFrame old frame report new
     → (port_of frame ≡ n → report.fault ≡ None) → IsUnfaulted n old.port → IsUnfaulted n new.port
@@ -70,7 +72,7 @@ took_unfaulted n old frame report new tooks well is = elim (cases_Bool (ignores 
     heard hears (inl own) =
         subst (λ (k : ℕ). IsUnfaulted k new.port) (sym own)
         (ap (λ (v : DeviceView). v.fault) (tooks.heard hears).own
-        ∙ none_told (port_of frame) (admitted (port_of frame) (seen frame))
+        ∙ none_told (port_of frame) (place_in (row_for old.port (port_of frame)) (admitted (port_of frame) (seen frame)))
         (heard_now old.port old.memory (port_of frame) (admitted (port_of frame) (seen frame))) report (tooks.heard hears).reports (well (sym own)))
     heard hears (inr other) = same_view n old.port new.port ((tooks.heard hears).others n other) is
 
@@ -100,7 +102,7 @@ written_unfaulted : (n : ℕ) (register : Register) (old : Port) (memory : Memor
 unfolding view_after
 written_unfaulted n Cmd old memory value is = stopped_unfaulted (falls old.registers value) (view_of n old) is
 written_unfaulted n Ci old memory value is =
-    issued_unfaulted (n == old.registers.chosen) (view_of n old) (view_issued old.registers memory value (view_of n old)) refl is
+    issued_unfaulted (n == aimed old.registers memory.structure value) (view_of n old) (view_issued old.registers memory value (view_of n old)) refl is
 written_unfaulted n Fbs old memory value is = stopped_unfaulted (is_device n (cleared_by old.errors value)) (view_of n old) is
 written_unfaulted n register old memory value is = is
 
@@ -194,7 +196,7 @@ flush_unfaulted n below old acted new does sound flush =
 
 -- ---- no tick clears a fault
 
-reported : (o : Option ℕ) (p : Option PortCause) (dev : ℕ) → named_by (errors_shown o p) ≡ Some dev → o ≡ Some dev
+reported : (o : Option ℕ) (p : Option Stop) (dev : ℕ) → named_by (errors_shown o p) ≡ Some dev → o ≡ Some dev
 reported None None dev is = absurd (cc)
 reported None (Some c) dev is = absurd (cc)
 reported (Some x) None dev is = is
@@ -244,8 +246,9 @@ not_stopped h bytes report new tooks heard goes = elim (cases_Bool (ignores (por
   | inr hears ↦
       heard_says (port_of bytes) h.port h.memory bytes report new.port new.memory (tooks.heard hears)
       ∙ none_of (port_cause (heard_now h.port h.memory (port_of bytes) (admitted (port_of bytes) (seen bytes))).fault)
+      (spares_as h.port.registers.switching (heard_now h.port h.memory (port_of bytes) (admitted (port_of bytes) (seen bytes))).fault
       (and_second (ignores (port_of bytes) h.port bytes)
-      (is_some (port_cause (heard_now h.port h.memory (port_of bytes) (admitted (port_of bytes) (seen bytes))).fault)) hears goes)
+      (stops_with h.port.registers.switching (heard_now h.port h.memory (port_of bytes) (admitted (port_of bytes) (seen bytes))).fault) hears goes))
 ]
 
 -- ---- the port stays open

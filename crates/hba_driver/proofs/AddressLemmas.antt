@@ -1,6 +1,6 @@
 -- Each frame that goes out has the PM Port of its device.
 use Rattle.std.proofs.Common.{◌≡◌, ◌≢◌, ℕ, ◌<◌, Bool, true, false, ◌&&◌, List, [], ◌∷◌, length, refl, sym, ◌∙◌, ap, subst, inl, inr, arith, Option, Some, None}
-use Rattle.std.specs.Prelude.{◌==◌, ◌%◌, if◌then◌else◌, not, is_some, replicate, slice_index, cond}
+use Rattle.std.specs.Prelude.{◌==◌, ◌%◌, if◌then◌else◌, is_some, replicate, slice_index, cond}
 use Rattle.std.specs.Option.{option_or}
 use Rattle.std.proofs.lemmas.Bool.{and_parts, cases_Bool, cases_eq, cases_lt, eqb-true, false≢true, lt-ltb, true≢false}
 use Rattle.std.proofs.lemmas.List.{get_or-replicate, get_or_past, length-replicate}
@@ -15,21 +15,20 @@ use Rattle.hba_commands.specs.Commands.{cfis_at, command_at, command_in, command
 use Rattle.hba_commands.specs.Headers.{header_at}
 use Rattle.hba_commands.specs.Requests.{kind_of, request_at, request_in, work_of}
 use Rattle.slots.specs.Data.{payload}
-use Rattle.slots.specs.Slots.{DeviceSlots, Issue, context_of, has_bit, issue_at, lowest, match_some, no_own_slots, own_issue, slots_of}
+use Rattle.slots.specs.Slots.{DeviceSlots, Issue, context_of, has_bit, issue_at, match_some, no_own_slots, own_issue, slots_of}
 use Rattle.slots.specs.Table.{IsIssue}
-use Rattle.slots.proofs.MaskLemmas.{none_below}
 use Rattle.slots.proofs.TableLemmas.{Owns}
 use Rattle.hba_fbs.specs.declared.error.WriteError.TheVariants as refusal
 use Rattle.hba_fbs.specs.declared.register.Register.{Register}
 use Rattle.hba_fbs.specs.declared.register.Register.TheVariants.{Clb, Clbu, Fb, Fbu, Is, Ie, Cmd, Tfd, Sig, Serr, Sact, Ci, Sntf, Fbs}
 use Rattle.hba_fbs.specs.declared.report.TakeReport.{TakeReport}
-use Rattle.hba_fbs.specs.Issuing.{any_slot, asked, commands_with, is_bad, is_busy, is_foreign, issue_with, view_issued}
+use Rattle.hba_fbs.specs.Issuing.{aimed, asked, commands_with, issue_with, view_issued}
 use Rattle.hba_fbs.specs.Offsets.{register_at}
-use Rattle.hba_fbs.specs.Registers.{falls, own_refusal}
+use Rattle.hba_fbs.specs.Registers.{falls}
 use Rattle.hba_fbs.specs.Sending.{Data, Gives, Nothing, Order, Outgoing, Unreadable, outgoing}
 use Rattle.hba_fbs.specs.Taking.{ignores, port_of}
 use Rattle.hba_fbs.specs.Views.{DeviceView, Port, last_command, stopped_view, view_of}
-use Rattle.hba_fbs.specs.Writing.{Accepts, cleared_by, commands_after, is_device, refusal_of, slots_refusal, view_after}
+use Rattle.hba_fbs.specs.Writing.{Accepts, cleared_by, commands_after, is_device, refusal_of, view_after}
 use Rattle.hba_laws.proofs.IssueLemmas.{asked_free}
 use Rattle.hba_laws.proofs.OutgoingLemmas.{data_is, order_filled, order_is}
 use Rattle.hba_laws.proofs.SlotLemmas.{KeepsOwn, keeps_fed, keeps_moved, keeps_sent}
@@ -43,7 +42,7 @@ use Rattle.hba_driver.specs.Events.{IsSoundHost, opening_host}
 use Rattle.hba_driver.specs.HostTurns.{Does, DoesAll, Host, HostTurn, Took, Pushed, Ticked, Submitted, Polled, Put, sight_in}
 use Rattle.hba_driver.specs.Ticks.{effects}
 use Rattle.hba_driver.proofs.DrivenLemmas.{tried_at}
-use Rattle.hba_driver.proofs.IssuingLemmas.{not_some, own_when, started_when}
+use Rattle.hba_driver.proofs.IssuingLemmas.{aimed_is}
 use Rattle.hba_driver.proofs.SoundLemmas.{hosts_stay_sound, sound_turn}
 use Rattle.hba_driver.proofs.StopLemmas.{either}
 
@@ -156,32 +155,17 @@ last_asked a old s c is = elim (cases_lt s (length old)) [
 no_bit : (s : ℕ) → has_bit 0 s ≡ false
 no_bit s = ap (λ (k : ℕ). k == 1) (bit_at-zero s)
 
-second_false : (a b : Bool) → a ≡ true → (a && b) ≡ false → b ≡ false
-second_false true b h e = e
-second_false false b h e = absurd (false≢true h)
-
-not_false : (b : Bool) → not b ≡ false → b ≡ true
-not_false true e = refl
-not_false false e = absurd (true≢false e)
-
--- a header in a slot to issue names the device of PxFBS.DEV
-own_header : (port : Port) (memory : Memory) (value s : ℕ) → refusal_of Ci port memory value ≡ None → s < 32 → has_bit value s ≡ true → (header_at memory.structure port.registers.clb s).pmp ≡ port.registers.chosen
-unfolding own_refusal slots_refusal
+-- a header in a slot to issue names the device at which the write is aimed
+own_header : (port : Port) (memory : Memory) (value s : ℕ) → refusal_of Ci port memory value ≡ None → s < 32 → has_bit value s ≡ true → (header_at memory.structure port.registers.clb s).pmp ≡ aimed port.registers memory.structure value
 own_header port memory value s h below bit =
     let more : (value == 0) ≡ false = elim (cases_Bool (value == 0)) [
       | inl is ↦ absurd (true≢false (sym bit ∙ ap (λ (n : ℕ). has_bit n s) (eqb-true value 0 is) ∙ no_bit s))
       | inr m ↦ m
     ] in
-    let run : port.registers.started ≡ true = started_when port.registers.started (value == 0) (slots_refusal Ci port memory value) more h in
-    let none : any_slot value (is_foreign port.registers memory.structure) ≡ false =
-    own_when port.registers.started (not (value == 0)) (any_slot value (is_busy port.slots)) (any_slot value (is_foreign port.registers memory.structure)) refusal.SlotBusy refusal.WrongDevice
-    (if any_slot value (is_bad port.registers memory) then Some refusal.BadTable else None) run h in
-    let calm : (has_bit value s && is_foreign port.registers memory.structure s) ≡ false =
-    none_below (λ k. has_bit value k && is_foreign port.registers memory.structure k) 32 (not_some (lowest (λ k. has_bit value k && is_foreign port.registers memory.structure k)) none) s below in
-    eqb-true (header_at memory.structure port.registers.clb s).pmp port.registers.chosen (not_false _ (second_false (has_bit value s) _ bit calm))
+    aimed_is port memory value s more h below bit
 
--- a command that is asked for has the PM Port of the device in PxFBS.DEV
-asked_their : (port : Port) (memory : Memory) (value s : ℕ) (c : Command) → refusal_of Ci port memory value ≡ None → s < 32 → asked port.registers memory value s ≡ Some c → slice_index c.cfis 1 % 16 ≡ port.registers.chosen
+-- a command that is asked for has the PM Port of that device
+asked_their : (port : Port) (memory : Memory) (value s : ℕ) (c : Command) → refusal_of Ci port memory value ≡ None → s < 32 → asked port.registers memory value s ≡ Some c → slice_index c.cfis 1 % 16 ≡ aimed port.registers memory.structure value
 asked_their port memory value s c h below is =
     let found = then_some (has_bit value s) (command_at memory port.registers.clb s (has_bit port.registers.armed s)) c is in
     sym (addressed_at memory port.registers.clb s (has_bit port.registers.armed s) c found.1) ∙ own_header port memory value s h below found.0
@@ -204,30 +188,31 @@ ci_their old new memory value free accepts ruled next are n s c low busy last = 
     then_last : option_or (asked old.registers memory value s) (last_command old.commands s) ≡ Some c
     then_last = last_asked (asked old.registers memory value) old.commands s c (ap (λ l. last_command l s) (sym accepts.commands) ∙ last)
 
-    view_is : view_of n new ≡ (if n == old.registers.chosen then view_issued old.registers memory value (view_of n old) else view_of n old)
+    view_is : view_of n new ≡ (if n == aimed old.registers memory.structure value then view_issued old.registers memory value (view_of n old) else view_of n old)
     view_is = accepts.views n low
 
-    other_busy : (n == old.registers.chosen) ≡ false → is_some (own_issue (slots_of n old.slots) s) ≡ true
+    other_busy : (n == aimed old.registers memory.structure value) ≡ false → is_some (own_issue (slots_of n old.slots) s) ≡ true
     other_busy off = ap (λ (v : DeviceView). is_some (own_issue v.slots s)) (sym (view_is ∙ ap (λ (b : Bool). if b then view_issued old.registers memory value (view_of n old) else view_of n old) off)) ∙ busy
 
-    own_busy : (n == old.registers.chosen) ≡ true → asked old.registers memory value s ≡ None → is_some (own_issue (slots_of n old.slots) s) ≡ true
+    own_busy : (n == aimed old.registers memory.structure value) ≡ true → asked old.registers memory value s ≡ None → is_some (own_issue (slots_of n old.slots) s) ≡ true
     own_busy on none =
+        let dev : ℕ = aimed old.registers memory.structure value in
         sym (ap (λ (v : DeviceView). is_some (own_issue v.slots s)) (view_is ∙ ap (λ (b : Bool). if b then view_issued old.registers memory value (view_of n old) else view_of n old) on)
-        ∙ ap (λ (f : ℕ → Option Issue). is_some (f s)) (own_issued old.registers.chosen (asked old.registers memory value) (slots_of n old.slots) 32 (is_own n old.slots ruled.table).long)
-        ∙ ap (λ (b : Bool). is_some (cond b (issue_with old.registers.chosen (asked old.registers memory value s) (own_issue (slots_of n old.slots) s)) (own_issue (slots_of n old.slots) s))) (lt-ltb s 32 below)
-        ∙ ap (λ (o : Option Command). is_some (issue_with old.registers.chosen o (own_issue (slots_of n old.slots) s))) none) ∙ busy
+        ∙ ap (λ (f : ℕ → Option Issue). is_some (f s)) (own_issued dev (asked old.registers memory value) (slots_of n old.slots) 32 (is_own n old.slots ruled.table).long)
+        ∙ ap (λ (b : Bool). is_some (cond b (issue_with dev (asked old.registers memory value s) (own_issue (slots_of n old.slots) s)) (own_issue (slots_of n old.slots) s))) (lt-ltb s 32 below)
+        ∙ ap (λ (o : Option Command). is_some (issue_with dev o (own_issue (slots_of n old.slots) s))) none) ∙ busy
 
     by_asked : (o : Option Command) → asked old.registers memory value s ≡ o → slice_index c.cfis 1 % 16 ≡ n
     by_asked (Some d) is =
         let same : d ≡ c = some_inj d c (ap (λ (o : Option Command). option_or o (last_command old.commands s)) (sym is) ∙ then_last) in
-        let to : slice_index c.cfis 1 % 16 ≡ old.registers.chosen = ap (λ (x : Command). slice_index x.cfis 1 % 16) (sym same) ∙ asked_their old memory value s d free below is in
-        elim (cases_Bool (n == old.registers.chosen)) [
-          | inl on ↦ to ∙ sym (eqb-true n old.registers.chosen on)
+        let to : slice_index c.cfis 1 % 16 ≡ aimed old.registers memory.structure value = ap (λ (x : Command). slice_index x.cfis 1 % 16) (sym same) ∙ asked_their old memory value s d free below is in
+        elim (cases_Bool (n == aimed old.registers memory.structure value)) [
+          | inl on ↦ to ∙ sym (eqb-true n (aimed old.registers memory.structure value) on)
           | inr off ↦ absurd (free_own n s old (asked_free old memory value s free below (ap is_some is)) (other_busy off))
         ]
     by_asked None is =
         let before : last_command old.commands s ≡ Some c = ap (λ (o : Option Command). option_or o (last_command old.commands s)) (sym is) ∙ then_last in
-        elim (cases_Bool (n == old.registers.chosen)) [
+        elim (cases_Bool (n == aimed old.registers memory.structure value)) [
           | inl on ↦ are n s c low (own_busy on is) before
           | inr off ↦ are n s c low (other_busy off) before
         ]

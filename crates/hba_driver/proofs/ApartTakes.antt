@@ -42,6 +42,7 @@ use Rattle.hba_driver.specs.Orders.{control}
 use Rattle.hba_driver.specs.Served.{IsServed}
 use Rattle.hba_driver.specs.Slot30.{Asks, Cleared, Clears, Faulty, IsAt30, IsSlot30, LogSent, MayCome30, Off, On, Sets, Stage30, TakesLead30, TakesOn30, Turns30, is_faulty, is_resetting}
 use Rattle.hba_driver.proofs.ApartPushes.{IsDriven30, alone_issue, control_kind, driven_at, kept30}
+use Rattle.hba_driver.proofs.RowMode.{skipped_as}
 use Rattle.hba_driver.proofs.StopLemmas.{either}
 
 -- ---- a device to which nothing went out and for which nothing queued is issued
@@ -209,11 +210,13 @@ module _ (n : ℕ) (past : Touches) (old : Host) (frame : List ℕ) (report : Ta
   -- it is ignored
   fault_skips : port_of frame ≡ n → is_some (view_of n old.port).fault ≡ true → ignores (port_of frame) old.port frame ≡ true
   fault_skips own failed =
-      ap (λ (k : ℕ). ignores k old.port frame) own ∙ faulty_ignored (is_running old.port) (is_some (view_of n old.port).fault) ((view_of n old.port).state.resetting && not (signs (seen frame))) failed
+      ap (λ (k : ℕ). ignores k old.port frame) own
+      ∙ skipped_as n old.port frame (faulty_ignored (is_running old.port) (is_some (view_of n old.port).fault) ((view_of n old.port).state.resetting && not (signs (seen frame))) failed)
 
   reset_skips : port_of frame ≡ n → (view_of n old.port).state.resetting ≡ true → signs (seen frame) ≡ false → ignores (port_of frame) old.port frame ≡ true
   reset_skips own reset none =
-      ap (λ (k : ℕ). ignores k old.port frame) own ∙ reset_ignored (is_running old.port) (is_some (view_of n old.port).fault) (view_of n old.port).state.resetting (signs (seen frame)) reset none
+      ap (λ (k : ℕ). ignores k old.port frame) own
+      ∙ skipped_as n old.port frame (reset_ignored (is_running old.port) (is_some (view_of n old.port).fault) (view_of n old.port).state.resetting (signs (seen frame)) reset none)
 
   same_stage : (s : Stage30) → stage ≡ s → (s ≡ s → TakesOn30 s s) → IsAt30 n stage new → Took30
   same_stage s is on now = record { next = stage; now = now; is = subst (λ (x : Stage30). TakesOn30 x x) (sym is) (on refl) }
@@ -303,7 +306,8 @@ begins n old frame report new sound does well failed = record {
       | inl less ↦
           let off : is_running old.port ≡ false = not_started old.port.registers.started (is_none old.port.errors.port) (sound.registers.stopped (omega (arith, less))) in
           let skip : ignores (port_of frame) old.port frame ≡ true =
-          closed_ignored (is_running old.port) (is_some (view_of (port_of frame) old.port).fault) ((view_of (port_of frame) old.port).state.resetting && not (signs (seen frame))) off in
+          skipped_as (port_of frame) old.port frame
+          (closed_ignored (is_running old.port) (is_some (view_of (port_of frame) old.port).fault) ((view_of (port_of frame) old.port).state.resetting && not (signs (seen frame))) off) in
           absurd (false≢true (sym well ∙ ap (λ (p : Port). is_some (view_of n p).fault) (sym (does.ignored skip).port) ∙ failed))
     ]
 

@@ -6,7 +6,7 @@ use Rattle.std.proofs.lemmas.Bool.{cases_Bool, cases_eq, false≢true, le-ltb, l
 use Rattle.std.proofs.lemmas.List.{get_or-replicate}
 use Rattle.std.proofs.lemmas.List.FromFn.{get_or-map-range_with_len}
 use Rattle.port_errors.specs.Errors.{cleared_device, named_by, shown as errors_shown}
-use Rattle.port_errors.specs.declared.cause.PortCause.{PortCause}
+use Rattle.port_errors.specs.declared.cause.Stop.{Stop}
 use Rattle.slots.specs.Slots.{Issue, has_bit, issue_at, match_some, own_issue}
 use Rattle.hba_fbs.specs.Views.{DeviceView, Port, last_command, stopped_view, view_of}
 use Rattle.hba_laws.specs.Client.{Touches}
@@ -36,7 +36,7 @@ use Rattle.hba_driver.specs.Ticks.{acted, after_tick, cleared_plan, done_ended, 
 use Rattle.hba_driver.specs.Turns.{control_news, control_seen, control_turn, early_due, fault_due, is_in_reset, is_there, plain_turn, restart_due, turn_of}
 use Rattle.hba_driver.proofs.ActLemmas.{here_act}
 use Rattle.hba_driver.proofs.ApartActs.{Begins30, Rests30, act_plans, not_issued}
-use Rattle.hba_driver.proofs.ApartFiles.{clearing_chosen, file_error}
+use Rattle.hba_driver.proofs.ApartFiles.{clearing_shown, file_error}
 use Rattle.hba_driver.proofs.ApartPlans.{IsFound, Shows, fields_turn, turn_plan}
 use Rattle.hba_driver.proofs.ApartPushes.{IsDriven30, kept30}
 use Rattle.hba_driver.proofs.ApartViews.{Issues30, clearing_own_view, clearing_view, issuing_view, order_view, sending_view, step30}
@@ -80,7 +80,7 @@ ticked_withdrawn n old acted new does h s x there of_dev =
 
 -- ---- what is due
 
-reported : (o : Option ℕ) (cause : Option PortCause) (dev : ℕ) → named_by (errors_shown o cause) ≡ Some dev → o ≡ Some dev
+reported : (o : Option ℕ) (cause : Option Stop) (dev : ℕ) → named_by (errors_shown o cause) ≡ Some dev → o ≡ Some dev
 reported None cause dev is = let bad : None ≡ Some dev = is in cc
 reported (Some x) None dev is = is
 reported (Some x) (Some c) dev is = cc
@@ -411,7 +411,7 @@ module _ (n : ℕ) (past : Touches) (h : Host) (low : n < 15) (on : IsOn30 past 
                 ready = l.0;
                 shown = l.1;
                 failed = file_error n new.port (view_of n h.port).state
-                    (clearing_chosen n h.port new.port h.memory new.memory (omega (arith, low)) (may_clear c).switches (subst (λ (k : ℕ). ActsAll (clearing k) h.port h.memory new.port new.memory) same (clears_effects c)))
+                    (clearing_shown n h.port new.port h.memory new.memory (omega (arith, low)) (may_clear c).switches (subst (λ (k : ℕ). ActsAll (clearing k) h.port h.memory new.port new.memory) same (clears_effects c)))
                     (ap (λ (w : DeviceView). w.state) (own_view c same)) l.2;
               }
           | inr other ↦ absurd (false≢true (sym well ∙ ap (λ (w : DeviceView). is_some w.fault) (other_view c other) ∙ at.fault ∙ failed))

@@ -19,11 +19,12 @@ use Rattle.slots.specs.Slots.{Issue, issue_at, match_some, new_issue, own_issue,
 use Rattle.hba_fbs.specs.declared.register.Register.{Register}
 use Rattle.hba_fbs.specs.declared.register.Register.TheVariants.{Is, Sact, Ci, Fbs}
 use Rattle.hba_fbs.specs.declared.registers.Registers.{Registers}
-use Rattle.hba_fbs.specs.Issuing.{asked, commands_with}
+use Rattle.hba_fbs.specs.Issuing.{aimed, asked, commands_with}
 use Rattle.hba_fbs.specs.Offsets.{register_at}
 use Rattle.hba_fbs.specs.Registers.{written}
 use Rattle.hba_fbs.specs.Views.{DeviceView, Port, last_command, stopped_view, view_of}
 use Rattle.hba_fbs.specs.Writing.{Accepts, commands_after, errors_after, refusal_of, view_after, view_cleared}
+use Rattle.hba_fbs.proofs.AimLemmas.{aimed_chosen}
 use Rattle.hba_laws.proofs.StandLemmas.{some_inj}
 use Rattle.hba_laws.proofs.ViewLemmas.{own_in}
 use Rattle.hba_driver.specs.declared.effect.Effect.TheVariants as effect
@@ -50,27 +51,33 @@ write_view n g offset value old new before after low at same acts = elim (tried_
   | inr refused ↦ ap (view_of n) refused.stays
 ]
 
-sact_chosen : (value : ℕ) (old new : Port) (before after : Memory) → Acts (effect.Writes px_sact value) old before new after → new.registers.chosen ≡ old.registers.chosen
+-- the port switches between devices, and PxFBS.DEV names this one
+abbrev Chooses : ℕ → Port → Type 0
+Chooses dev port = (port.registers.switching ≡ true) × (port.registers.chosen ≡ dev)
+
+sact_chosen : (value dev : ℕ) (old new : Port) (before after : Memory) → Acts (effect.Writes px_sact value) old before new after → Chooses dev old → Chooses dev new
 unfolding written register_at
-sact_chosen value old new before after acts = elim (tried_at Sact px_sact value old before new refl acts.0) [
-  | inl taken ↦ ap (λ (r : Registers). r.chosen) taken.accepts.registers
-  | inr refused ↦ ap (λ (p : Port). p.registers.chosen) refused.stays
+sact_chosen value dev old new before after acts is = elim (tried_at Sact px_sact value old before new refl acts.0) [
+  | inl taken ↦ (ap (λ (r : Registers). r.switching) taken.accepts.registers ∙ is.0, ap (λ (r : Registers). r.chosen) taken.accepts.registers ∙ is.1)
+  | inr refused ↦ (ap (λ (p : Port). p.registers.switching) refused.stays ∙ is.0, ap (λ (p : Port). p.registers.chosen) refused.stays ∙ is.1)
 ]
 
-ci_view : (n slot dev : ℕ) (old new : Port) (before after : Memory) → n < 16 → dev ≢ n → old.registers.chosen ≡ dev → Acts (effect.Writes px_ci (2 ^ slot)) old before new after → view_of n new ≡ view_of n old
+ci_view : (n slot dev : ℕ) (old new : Port) (before after : Memory) → n < 16 → dev ≢ n → Chooses dev old → Acts (effect.Writes px_ci (2 ^ slot)) old before new after → view_of n new ≡ view_of n old
 unfolding view_after register_at
-ci_view n slot dev old new before after low other chosen acts =
-    write_view n Ci px_ci (2 ^ slot) old new before after low refl (ap (λ (b : Bool). if b then Rattle.hba_fbs.specs.Issuing.view_issued old.registers before (2 ^ slot) (view_of n old) else view_of n old) (ne_eqb n old.registers.chosen (λ same. other (sym (same ∙ chosen))))) acts
+ci_view n slot dev old new before after low other is acts =
+    let to : aimed old.registers before.structure (2 ^ slot) ≡ dev = aimed_chosen old.registers before.structure (2 ^ slot) is.0 ∙ is.1 in
+    write_view n Ci px_ci (2 ^ slot) old new before after low refl
+    (ap (λ (b : Bool). if b then Rattle.hba_fbs.specs.Issuing.view_issued old.registers before (2 ^ slot) (view_of n old) else view_of n old) (ne_eqb n (aimed old.registers before.structure (2 ^ slot)) (λ same. other (sym (same ∙ to))))) acts
 
 -- commands of another device
 pub issuing_view : (n slot dev : ℕ) (queued : Bool) (old new : Port) (before after : Memory) → n < 16 → dev < 16 → dev ≢ n → IsUp old.registers → ActsAll (issuing slot dev queued) old before new after → view_of n new ≡ view_of n old
 unfolding ActsAll view_after register_at
 issuing_view n slot dev false old new before after low below other up acts =
     let f = fbs_step dev old acts.0 before acts.1 below up acts.2 in
-    ap (view_of n) acts.4.4.0 ∙ ci_view n slot dev acts.0 acts.4.0 acts.1 acts.4.1 low other f.1 acts.4.2 ∙ f.0.views n low
+    ap (view_of n) acts.4.4.0 ∙ ci_view n slot dev acts.0 acts.4.0 acts.1 acts.4.1 low other (f.0.up.switches, f.1) acts.4.2 ∙ f.0.views n low
 issuing_view n slot dev true old new before after low below other up acts =
     let f = fbs_step dev old acts.0 before acts.1 below up acts.2 in
-    let chosen : acts.4.0.registers.chosen ≡ dev = sact_chosen (2 ^ slot) acts.0 acts.4.0 acts.1 acts.4.1 acts.4.2 ∙ f.1 in
+    let chosen : Chooses dev acts.4.0 = sact_chosen (2 ^ slot) dev acts.0 acts.4.0 acts.1 acts.4.1 acts.4.2 (f.0.up.switches, f.1) in
     ap (view_of n) acts.4.4.4.0 ∙ ci_view n slot dev acts.4.0 acts.4.4.0 acts.4.1 acts.4.4.1 low other chosen acts.4.4.2
     ∙ write_view n Sact px_sact (2 ^ slot) acts.0 acts.4.0 acts.1 acts.4.1 low refl refl acts.4.2 ∙ f.0.views n low
 
@@ -154,8 +161,9 @@ ci30 n prds fields old new before after low ready was ruled acts built =
     let accepts : Accepts old before Ci (2 ^ 30) new = taken Ci px_ci (2 ^ 30) old new before refl free acts.0 in
     let whole : Command = command_placed 30 prds fields before in
     let asks_is : asked old.registers before (2 ^ 30) 30 ≡ Some whole = asks 30 n prds fields old before ready in
+    let to : aimed old.registers before.structure (2 ^ 30) ≡ n = aimed_chosen old.registers before.structure (2 ^ 30) ready.up.switches ∙ ready.chosen in
     let view : view_of n new ≡ Rattle.hba_fbs.specs.Issuing.view_issued old.registers before (2 ^ 30) (view_of n old) =
-    accepts.views n low ∙ ap (λ (b : Bool). if b then Rattle.hba_fbs.specs.Issuing.view_issued old.registers before (2 ^ 30) (view_of n old) else view_of n old) (eq-eqb n old.registers.chosen (sym ready.chosen)) in
+    accepts.views n low ∙ ap (λ (b : Bool). if b then Rattle.hba_fbs.specs.Issuing.view_issued old.registers before (2 ^ 30) (view_of n old) else view_of n old) (eq-eqb n (aimed old.registers before.structure (2 ^ 30)) (sym to)) in
     let issued : own_issue (slots_of n new.slots) 30 ≡ Some (new_issue n (work_of (request_of fields))) = (ci_step 30 n prds fields old before ready new after was.table acts).issued in
     let busy : issue_at new.slots 30 ≡ Some (new_issue n (work_of (request_of fields))) = (own_in n 30 new.slots (new_issue n (work_of (request_of fields))) issued).1 in
     record {

@@ -12,6 +12,7 @@ use Rattle.fis_view.specs.declared.view.Fis.{Fis}
 use Rattle.host_memory.specs.Memory.{Memory}
 use Rattle.hba_commands.specs.declared.command.Command.{Command}
 use Rattle.hba_commands.specs.Commands.{command_at}
+use Rattle.rx_area.specs.declared.area.Posted.{Posted}
 use Rattle.slots.specs.Slots.{has_bit, match_some, slots_of}
 use Rattle.slots.specs.Table.{IsTable}
 use Rattle.hba_fbs.specs.declared.error.WriteError.TheVariants as refusal
@@ -25,7 +26,7 @@ use Rattle.hba_fbs.specs.Offsets.{register_at}
 use Rattle.hba_fbs.specs.Sending.{Outgoing, outgoing}
 use Rattle.hba_fbs.specs.Sending as out
 use Rattle.hba_fbs.specs.Tables.{is_sound}
-use Rattle.hba_fbs.specs.Taking.{admitted, heard, heard_now, heard_report, heard_view, ignores, place_of, port_of, wrote_by}
+use Rattle.hba_fbs.specs.Taking.{admitted, heard, heard_now, heard_report, heard_view, ignores, place_in, port_of, row_for, wrote_by}
 use Rattle.hba_fbs.specs.Views.{DeviceView, Port, last_command, view_of}
 use Rattle.hba_fbs.specs.Writing.{commands_after, refusal_of, write_refusal}
 use Rattle.hba_laws.proofs.OutgoingLemmas.{data_is_own}
@@ -72,9 +73,9 @@ stays_admitted : (dev : ℕ) (view : DeviceView) (sound : Bool) (o : Option Fis)
 stays_admitted dev view sound None none short = short
 stays_admitted dev view sound (Some fis) none short = stays_heard view.slots view.state sound fis none short
 
-told_wrote : (dev : ℕ) (fis : Option Fis) (h : Heard) → (heard_report dev (place_of fis) h).wrote ≡ wrote_by h.happening
+told_wrote : (dev : ℕ) (at : Posted) (h : Heard) → (heard_report dev at h).wrote ≡ wrote_by h.happening
 unfolding heard_report
-told_wrote dev fis h = refl
+told_wrote dev at h = refl
 
 pub awaited_took : (n : ℕ) (old new : Host) (frame : List ℕ) (report : TakeReport) → Tooks old frame report new → identifies n old (Took frame report) ≡ false → IsAwaited n old.port → IsAwaited n new.port
 awaited_took n old new frame report does none h = by_ignored (ignores (port_of frame) old.port frame) refl
@@ -95,7 +96,7 @@ awaited_took n old new frame report does none h = by_ignored (ignores (port_of f
               let view : DeviceView = view_of (port_of frame) old.port in
               let sound : Bool = is_sound old.memory old.port.commands view.slots in
               let brought : is_identity old.port report.wrote ≡ false = last_false (port_of frame == n) (is_identity old.port report.wrote) none (eq-eqb (port_of frame) n (sym same)) in
-              let wrote : report.wrote ≡ wrote_by (heard_now old.port old.memory (port_of frame) fis).happening = ap (λ (r : TakeReport). r.wrote) takes.reports ∙ told_wrote (port_of frame) fis (heard_now old.port old.memory (port_of frame) fis) in
+              let wrote : report.wrote ≡ wrote_by (heard_now old.port old.memory (port_of frame) fis).happening = ap (λ (r : TakeReport). r.wrote) takes.reports ∙ told_wrote (port_of frame) (place_in (row_for old.port (port_of frame)) fis) (heard_now old.port old.memory (port_of frame) fis) in
               let away : is_here (wrote_by (heard_now old.port old.memory (port_of frame) fis).happening) ≡ false =
               here_identity old.port (wrote_by (heard_now old.port old.memory (port_of frame) fis).happening) h.command (ap (is_identity old.port) (sym wrote) ∙ brought) in
               let short : IsShort view.slots = subst (λ (k : ℕ). IsShort (view_of k old.port).slots) same h.own in

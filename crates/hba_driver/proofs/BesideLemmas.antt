@@ -12,6 +12,7 @@ use Rattle.hba_fbs.specs.Bits.{dec, st}
 use Rattle.hba_fbs.specs.declared.error.WriteError.{WriteError}
 use Rattle.hba_fbs.specs.declared.register.Register.{Register}
 use Rattle.hba_fbs.specs.declared.register.Register.TheVariants.{Clb, Clbu, Fb, Fbu, Is, Ie, Cmd, Tfd, Sig, Serr, Sact, Ci, Sntf, Fbs}
+use Rattle.hba_fbs.specs.Issuing.{aimed}
 use Rattle.hba_fbs.specs.Offsets.{register_at}
 use Rattle.hba_fbs.specs.Registers.{own_refusal, running_if, written}
 use Rattle.hba_fbs.specs.Views.{Port}
@@ -107,9 +108,9 @@ chosen_armed : (value dev : ℕ) (h mid : event.Host) → event.Does h (event.Wr
 unfolding written
 chosen_armed value dev h mid does is = ap (λ r. r.chosen) does.1.registers ∙ is
 
--- the write of PxCI issues for the chosen device
+-- the write of PxCI issues for one device
 issues_or : (n slot dev : ℕ) (h mid : event.Host) → slot < 32 → h.port.registers.chosen ≡ dev → event.Does h (event.Wrote Ci (2 ^ slot)) mid → IsBeside n h (event.Wrote Ci (2 ^ slot)) ⊎ Issues n slot h (event.Wrote Ci (2 ^ slot))
-issues_or n slot dev h mid below is does = elim (cases_eq h.port.registers.chosen n) [
+issues_or n slot dev h mid below is does = elim (cases_eq (aimed h.port.registers h.memory.structure (2 ^ slot)) n) [
   | inl same ↦ inr (record { is = refl; below = below; for_dev = same; command = asks_here h.port h.memory slot below does.0 })
   | inr other ↦ inl (λ e. other (sym e))
 ]

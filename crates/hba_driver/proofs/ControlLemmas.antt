@@ -47,6 +47,7 @@ use Rattle.hba_driver.proofs.EndingLemmas.{clear_taken, is_accepted, only_cleare
 use Rattle.hba_driver.proofs.EventLemmas.{Good, beside, beside_same, good_effect, sized_effect, sound_beside}
 use Rattle.hba_driver.proofs.GoingLemmas.{IsCalm, act_calm}
 use Rattle.hba_driver.proofs.IssuingLemmas.{bit_same}
+use Rattle.hba_driver.proofs.ModeLemmas.{written_chosen}
 use Rattle.hba_driver.proofs.OpenLemmas.{IsUp, taken}
 use Rattle.hba_driver.proofs.UpLemmas.{Placed, Ready, ci_step, ci_taken, command_is, command_placed, fbs_step, free_by, same_free, sntf_step, IsIssuedAt}
 
@@ -155,9 +156,10 @@ clear_other dev value old before other is = by_dec (has_bit value dec)
     by_dec false = refl
 
 -- commands for another device
-issue_other : (value : ℕ) (old : Port) (before : Memory) (dev : ℕ) → old.registers.chosen ≡ dev → dev ≢ 15 → written_to 15 (beside old before) Ci value ≡ []
-issue_other value old before dev is other =
-    ap (λ (b : Bool). if b then Issued (asked old.registers before value) ∷ [] else []) (ne_eqb 15 old.registers.chosen (λ same. other (sym (same ∙ is))))
+issue_other : (value : ℕ) (old : Port) (before : Memory) (dev : ℕ) → old.registers.switching ≡ true → old.registers.chosen ≡ dev → dev ≢ 15 → written_to 15 (beside old before) Ci value ≡ []
+issue_other value old before dev on is other =
+    written_chosen 15 (beside old before) value on
+    ∙ ap (λ (b : Bool). if b then Issued (asked old.registers before value) ∷ [] else []) (ne_eqb 15 old.registers.chosen (λ same. other (sym (same ∙ is))))
 
 -- ---- what else a tick does
 
@@ -237,11 +239,12 @@ sntf_at : register_at px_sntf ≡ Some Sntf
 unfolding register_at
 sntf_at = refl
 
-sact_chosen : (value : ℕ) (old new : Port) (before after : Memory) → Acts (effect.Writes px_sact value) old before new after → new.registers.chosen ≡ old.registers.chosen
+sact_aim : (value : ℕ) (old new : Port) (before after : Memory) → Acts (effect.Writes px_sact value) old before new after
+    → (new.registers.chosen ≡ old.registers.chosen) × (new.registers.switching ≡ old.registers.switching)
 unfolding written
-sact_chosen value old new before after acts = elim (tried_at Sact px_sact value old before new sact_at acts.0) [
-  | inl taken ↦ ap (λ (r : Registers). r.chosen) taken.accepts.registers
-  | inr refused ↦ ap (λ (p : Port). p.registers.chosen) refused.stays
+sact_aim value old new before after acts = elim (tried_at Sact px_sact value old before new sact_at acts.0) [
+  | inl taken ↦ (ap (λ (r : Registers). r.chosen) taken.accepts.registers, ap (λ (r : Registers). r.switching) taken.accepts.registers)
+  | inr refused ↦ (ap (λ (p : Port). p.registers.chosen) refused.stays, ap (λ (p : Port). p.registers.switching) refused.stays)
 ]
 
 is_errors : (value : ℕ) (old new : Port) (before after : Memory) → Acts (effect.Writes px_is value) old before new after → new.errors ≡ old.errors
@@ -267,7 +270,7 @@ issuing_leaves slot dev false old new before after low up r acts =
     let f = fbs_step dev old acts.0 before acts.1 (omega (arith, low)) up acts.2 in
     let first : Leaves15 old before acts.0 acts.1 = write_leaves Fbs px_fbs (256 * dev + 1) old acts.0 before acts.1 fbs_at refl r acts.2 acts.3 (no_clear dev old before) in
     let second : Leaves15 acts.0 acts.1 acts.4.0 acts.4.1 =
-    write_leaves Ci px_ci (2 ^ slot) acts.0 acts.4.0 acts.1 acts.4.1 ci_at refl first.runs acts.4.2 acts.4.3 (issue_other (2 ^ slot) acts.0 acts.1 dev f.1 other) in
+    write_leaves Ci px_ci (2 ^ slot) acts.0 acts.4.0 acts.1 acts.4.1 ci_at refl first.runs acts.4.2 acts.4.3 (issue_other (2 ^ slot) acts.0 acts.1 dev f.0.up.switches f.1 other) in
     leaves_then old acts.0 new before acts.1 after first
     (leaves_then acts.0 acts.4.0 new acts.1 acts.4.1 after second (nothing_leaves acts.4.0 new acts.4.1 after acts.4.4.0 acts.4.4.1 second.runs))
 issuing_leaves slot dev true old new before after low up r acts =
@@ -275,9 +278,10 @@ issuing_leaves slot dev true old new before after low up r acts =
     let f = fbs_step dev old acts.0 before acts.1 (omega (arith, low)) up acts.2 in
     let first : Leaves15 old before acts.0 acts.1 = write_leaves Fbs px_fbs (256 * dev + 1) old acts.0 before acts.1 fbs_at refl r acts.2 acts.3 (no_clear dev old before) in
     let second : Leaves15 acts.0 acts.1 acts.4.0 acts.4.1 = write_leaves Sact px_sact (2 ^ slot) acts.0 acts.4.0 acts.1 acts.4.1 sact_at refl first.runs acts.4.2 acts.4.3 refl in
+    let aim = sact_aim (2 ^ slot) acts.0 acts.4.0 acts.1 acts.4.1 acts.4.2 in
     let third : Leaves15 acts.4.0 acts.4.1 acts.4.4.0 acts.4.4.1 =
     write_leaves Ci px_ci (2 ^ slot) acts.4.0 acts.4.4.0 acts.4.1 acts.4.4.1 ci_at refl second.runs acts.4.4.2 acts.4.4.3
-    (issue_other (2 ^ slot) acts.4.0 acts.4.1 dev (sact_chosen (2 ^ slot) acts.0 acts.4.0 acts.1 acts.4.1 acts.4.2 ∙ f.1) other) in
+    (issue_other (2 ^ slot) acts.4.0 acts.4.1 dev (aim.1 ∙ f.0.up.switches) (aim.0 ∙ f.1) other) in
     leaves_then old acts.0 new before acts.1 after first
     (leaves_then acts.0 acts.4.0 new acts.1 acts.4.1 after second
     (leaves_then acts.4.0 acts.4.4.0 new acts.4.1 acts.4.4.1 after third (nothing_leaves acts.4.4.0 new acts.4.4.1 after acts.4.4.4.0 acts.4.4.4.1 third.runs)))
@@ -408,7 +412,7 @@ ci31 fields old new before after ready none r acts table ruled built =
     ∙ ap (λ (c : ℕ). command_at before c 31 (has_bit old.registers.armed 31)) ready.up.list
     ∙ command_is 31 15 [] fields (has_bit old.registers.armed 31) before ready.below ready.placed in
     let events : own_events 15 (beside old before) (event.Wrote Ci (2 ^ 31)) ≡ Issued commands ∷ [] =
-    if_true (15 == old.registers.chosen) (Issued commands ∷ []) [] (eq-eqb 15 old.registers.chosen (sym ready.chosen)) in
+    written_chosen 15 (beside old before) (2 ^ 31) ready.up.switches ∙ if_true (15 == old.registers.chosen) (Issued commands ∷ []) [] (eq-eqb 15 old.registers.chosen (sym ready.chosen)) in
     let part : control_part new after ≡ part_after 15 (control_part old before) (Issued commands) =
     part_event old new before after (event.Wrote Ci (2 ^ 31)) r next (free, accepts, acts.1) refl
     ∙ ap (λ (es : List OwnEvent). part_after_all 15 (control_part old before) (es ++ [])) events in

@@ -7,7 +7,7 @@ use Rattle.std.proofs.lemmas.Bool.{false≢true, lt-ltb, ne_eqb}
 use Rattle.std.proofs.lemmas.List.{length-map, length-set}
 use Rattle.std.proofs.lemmas.Nat.Bits.{bit_at-suc, bit_at_lowest}
 use Rattle.host_memory.specs.Memory.{IsHostMemory, Memory}
-use Rattle.port_errors.specs.declared.cause.PortCause.{PortCause}
+use Rattle.port_errors.specs.declared.cause.Stop.{Stop}
 use Rattle.port_errors.specs.Errors.{Errors, cleared_device, named_by, shown as errors_shown}
 use Rattle.slots.specs.Slots.{has_bit}
 use Rattle.hba_fbs.specs.Bits.{bit, dec, en}
@@ -149,7 +149,7 @@ aside_moves dev file d n s t below other (inr (inr o)) =
     inr (inr (record { slot = o.slot; of_dev = o.of_dev; goes = stays ∙ o.goes; table = o.table }))
 
 -- the value has EN and DEC
-has_en : (dev : ℕ) → has_bit (256 * dev + 3) en ≡ true
+pub has_en : (dev : ℕ) → has_bit (256 * dev + 3) en ≡ true
 has_en dev = ap (λ (k : ℕ). k == 1) (bit_at_lowest (256 * dev + 3) ∙ odd dev)
   where
     odd : (d : ℕ) → (256 * d + 3) % 2 ≡ 1
@@ -250,7 +250,7 @@ quiet_by on c dev h =
     let is : n ≡ bit en on + 256 * c + 61440 = omega arith in
     shows_none n dev (second_bit n 0 (ap (λ (m : ℕ). m / 2 / 2 % 2) is ∙ none_at (bit en on) c (bit_most on))) h
 
-faulty_by : (on : Bool) (c : ℕ) (o : Option ℕ) (p : Option PortCause) (dev : ℕ) → c < 16 → ((x : ℕ) → o ≡ Some x → x < 16)
+faulty_by : (on : Bool) (c : ℕ) (o : Option ℕ) (p : Option Stop) (dev : ℕ) → c < 16 → ((x : ℕ) → o ≡ Some x → x < 16)
     → faulty_in (bit en on + 256 * c + 61440 + fbs_errors (errors_shown o p)) ≡ Some dev → (named_by (errors_shown o p) ≡ Some dev) × (dev < 16)
 faulty_by on c (Some x) None dev low below h =
     let n : ℕ = bit en on + 256 * c + 61440 + (4 + 65536 * x) in
@@ -273,7 +273,7 @@ unfolding sight_of shown register_at value_of
 faulty_reported port memory x ruled none is =
     let low : ℕ = bit en port.registers.switching + 256 * port.registers.chosen + 61440 in
     let n : ℕ = low + (4 + 65536 * x) in
-    ap (λ (p : Option PortCause). faulty_in (low + fbs_errors (errors_shown port.errors.reported p))) none
+    ap (λ (p : Option Stop). faulty_in (low + fbs_errors (errors_shown port.errors.reported p))) none
     ∙ ap (λ (o : Option ℕ). faulty_in (low + fbs_errors (errors_shown o None))) is
     ∙ ap (λ (b : Bool). if b then Some (n / 65536 % 16) else None) (second_bit n 1 (sde_at (bit en port.registers.switching) port.registers.chosen x (bit_most port.registers.switching)))
     ∙ ap (λ (k : ℕ). Some k)

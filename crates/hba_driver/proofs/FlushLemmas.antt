@@ -6,7 +6,7 @@ use Rattle.host_memory.specs.Memory.{Memory}
 use Rattle.hba_fbs.specs.declared.register.Register.{Register}
 use Rattle.hba_fbs.specs.declared.register.Register.TheVariants.{Clb, Clbu, Fb, Fbu, Is, Ie, Cmd, Tfd, Sig, Serr, Sact, Ci, Sntf, Fbs}
 use Rattle.hba_fbs.specs.declared.error.WriteError.{WriteError}
-use Rattle.hba_fbs.specs.Issuing.{view_issued}
+use Rattle.hba_fbs.specs.Issuing.{aimed, view_issued}
 use Rattle.hba_fbs.specs.Offsets.{register_at}
 use Rattle.hba_fbs.specs.Registers.{falls}
 use Rattle.hba_fbs.specs.Views.{DeviceView, Port, stopped_view, view_of}
@@ -30,7 +30,7 @@ Off v = v.state.resetting ≡ false
 written_off : (n value : ℕ) (old : Port) (memory : Memory) (register : Register) → Off (view_of n old) → Off (view_after register old memory value n)
 unfolding view_after
 written_off n value old memory Cmd off = either Off (falls old.registers value) (stopped_view (view_of n old)) (view_of n old) refl off
-written_off n value old memory Ci off = either Off (n == old.registers.chosen) (view_issued old.registers memory value (view_of n old)) (view_of n old) off off
+written_off n value old memory Ci off = either Off (n == aimed old.registers memory.structure value) (view_issued old.registers memory value (view_of n old)) (view_of n old) off off
 written_off n value old memory Fbs off = either Off (is_device n (cleared_by old.errors value)) (stopped_view (view_of n old)) (view_of n old) refl off
 written_off n value old memory Clb off = off
 written_off n value old memory Clbu off = off

@@ -29,7 +29,7 @@ use Rattle.hba_fbs.specs.Posting.{posted}
 use Rattle.hba_fbs.specs.Reading.{value_of}
 use Rattle.hba_fbs.specs.Registers.{falls, written}
 use Rattle.hba_fbs.specs.Sending.{Data, Gives, Nothing, Order, Outgoing, Unreadable, outgoing}
-use Rattle.hba_fbs.specs.Taking.{admitted, errors_with, fault_interrupts, heard_now, ignores, port_cause, port_of, posted_of, settled}
+use Rattle.hba_fbs.specs.Taking.{admitted, fault_interrupts, heard_now, ignores, port_cause, port_of, posted_of, settled, stops_with}
 use Rattle.hba_fbs.specs.Views.{Port, view_of}
 use Rattle.hba_fbs.specs.Writing.{errors_after, refusal_of}
 use Rattle.hba_laws.specs.Delivering.{HaveTables, touches_after}
@@ -55,6 +55,7 @@ use Rattle.hba_driver.proofs.AcceptLemmas.{IsOnWay, way_opens, way_turn}
 use Rattle.hba_driver.proofs.DrivenLemmas.{tried_at}
 use Rattle.hba_driver.proofs.DueLemmas.{Due, goes_turn}
 use Rattle.hba_driver.proofs.LifeLemmas.{due_seen}
+use Rattle.hba_driver.proofs.RowMode.{faultless_as, spares_as, started_mode}
 use Rattle.hba_driver.proofs.ServedLemmas.{turns_serve}
 use Rattle.hba_driver.proofs.StopLemmas.{either}
 use Rattle.hba_driver.specs.Going.{AreOfControl, GoesOn, IsOfControl, NothingStops, PortsGoOn, leaves_port}
@@ -113,11 +114,6 @@ settled_none : (r : Registers) (h : Heard) → is_some (port_cause h.fault) ≡ 
 unfolding settled
 settled_none r h spares is = or_none _ _ (or_none _ _ is (bit_low 1 h.pss refl)) (fault_none h.fault spares)
 
-errors_calm : (errors : Errors) (dev : ℕ) (f : Option Fault) → is_some (port_cause f) ≡ false → errors.port ≡ None → (errors_with errors dev f).port ≡ None
-errors_calm errors dev None spares h = h
-errors_calm errors dev (Some (fault.Device c)) spares h = h
-errors_calm errors dev (Some (fault.Port c)) spares h = absurd (true≢false spares)
-
 heard_spares : (ignored spares : Bool) → (not ignored && spares) ≡ false → ignored ≡ false → spares ≡ false
 heard_spares false spares h is = h
 heard_spares true spares h is = absurd (true≢false is)
@@ -129,9 +125,11 @@ took_calm old new frame report h stops of is = elim (cases_Bool (ignores (port_o
       let dev : ℕ = port_of frame in
       let fis : Option Fis = admitted dev (seen_in frame) in
       let now : Heard = heard_now old.port old.memory dev fis in
-      let spares : is_some (port_cause now.fault) ≡ false = heard_spares (ignores dev old.port frame) (is_some (port_cause now.fault)) (stops.takes frame of) heard in
+      let on : Bool = old.port.registers.switching in
+      let runs : stops_with on now.fault ≡ false = heard_spares (ignores dev old.port frame) (stops_with on now.fault) (stops.takes frame of) heard in
+      let spares : is_some (port_cause now.fault) ≡ false = spares_as on now.fault runs in
       record {
-        faultless = ap (λ (e : Errors). e.port) (h.heard heard).errors ∙ errors_calm old.port.errors dev now.fault spares is.faultless;
+        faultless = ap (λ (e : Errors). e.port) (h.heard heard).errors ∙ faultless_as on old.port.errors dev now.fault runs is.faultless;
         quiet = ap (λ (r : Registers). bit_at r.interrupts 29) (h.heard heard).registers
             ∙ settled_none (posted_of old.port.registers dev (view_of dev old.port).state.resetting fis) now spares (posted_none old.port.registers dev _ fis is.quiet);
       }
@@ -247,7 +245,7 @@ pub record IsGoing (h : Host) : Type 0 where
 pub stops_none : (h : Host) → IsGoing h → NothingStops (shared_by h)
 stops_none h g =
     nothing_stops (shared_by h) (record { port = g.way.sound.ruled.rules; slots = g.way.sound.ruled.table; errors = g.way.sound.ruled.faults; memory = g.way.sound.memory })
-    (can_read h g.way g.tables g.page)
+    (started_mode h.driver.plan.opened h.driver.plan.restarted h.port.registers g.way.sound.registers) (can_read h g.way g.tables g.page)
 
 -- the FIS of a turn that takes one
 abbrev pub IsOfControlIn : HostTurn → Type 0

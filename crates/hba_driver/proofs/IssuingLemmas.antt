@@ -27,11 +27,11 @@ use Rattle.slots.proofs.MaskLemmas.{none_below}
 use Rattle.hba_fbs.specs.declared.error.WriteError.{WriteError}
 use Rattle.hba_fbs.specs.declared.error.WriteError.TheVariants as refusal
 use Rattle.hba_fbs.specs.declared.register.Register.TheVariants.{Ci}
-use Rattle.hba_fbs.specs.Issuing.{any_slot, asked, commands_with, is_bad, is_busy, is_foreign}
+use Rattle.hba_fbs.specs.Issuing.{aimed, any_beside, any_slot, asked, commands_with, is_bad, is_busy, named_in, names_other}
 use Rattle.hba_fbs.specs.Registers.{own_refusal}
 use Rattle.hba_fbs.specs.Tables.{is_readable, prds_of}
 use Rattle.hba_fbs.specs.Views.{Port, last_command}
-use Rattle.hba_fbs.specs.Writing.{commands_after, refusal_of, slots_refusal}
+use Rattle.hba_fbs.specs.Writing.{apart_refusal, commands_after, is_apart, refusal_of, slots_refusal}
 use Rattle.hba_laws.specs.Agreement.{AreHistoriesOf, work_of_issue, work_of_transfer}
 use Rattle.hba_laws.specs.Client.{IsKept, Touches, own}
 use Rattle.hba_laws.specs.Delivering.{issued_below, issued_in, touched}
@@ -171,14 +171,14 @@ asked_is port memory slot s command h = elim (cases_eq s slot) [
 
 -- ---- whom the command is for
 
-pub own_when : (started test busy foreign : Bool) (e f : WriteError) (o : Option WriteError) → started ≡ true
-    → option_or (if not started && test then Some refusal.Stopped else None) (if started then (if busy then Some e else if foreign then Some f else o) else None) ≡ None → foreign ≡ false
+own_when : (started test busy apart : Bool) (e f : WriteError) (o : Option WriteError) → started ≡ true
+    → option_or (if not started && test then Some refusal.Stopped else None) (if started then (if busy then Some e else if apart then Some f else o) else None) ≡ None → apart ≡ false
 own_when true test true foreign e f o run h = cc
 own_when true test false true e f o run h = cc
 own_when true test false false e f o run h = refl
-own_when false test busy foreign e f o run h = absurd (false≢true run)
+own_when false test busy apart e f o run h = absurd (false≢true run)
 
-pub started_when : (started is_zero : Bool) (o : Option WriteError) → is_zero ≡ false → option_or (if not started && not is_zero then Some refusal.Stopped else None) o ≡ None → started ≡ true
+started_when : (started is_zero : Bool) (o : Option WriteError) → is_zero ≡ false → option_or (if not started && not is_zero then Some refusal.Stopped else None) o ≡ None → started ≡ true
 started_when true is_zero o some h = refl
 started_when false true o some h = absurd (true≢false some)
 started_when false false o some h = cc
@@ -189,12 +189,12 @@ not_zero slot = elim (cases_Bool (2 ^ slot == 0)) [
   | inr more ↦ more
 ]
 
-foreign_none : (port : Port) (memory : Memory) (slot : ℕ) → refusal_of Ci port memory (2 ^ slot) ≡ None → any_slot (2 ^ slot) (is_foreign port.registers memory.structure) ≡ false
+apart_none : (port : Port) (memory : Memory) (value : ℕ) → (value == 0) ≡ false → refusal_of Ci port memory value ≡ None → is_apart port memory value ≡ false
 unfolding own_refusal slots_refusal
-foreign_none port memory slot h =
-    let run : port.registers.started ≡ true = started_when port.registers.started (2 ^ slot == 0) (slots_refusal Ci port memory (2 ^ slot)) (not_zero slot) h in
-    own_when port.registers.started (not (2 ^ slot == 0)) (any_slot (2 ^ slot) (is_busy port.slots)) (any_slot (2 ^ slot) (is_foreign port.registers memory.structure)) refusal.SlotBusy refusal.WrongDevice
-    (if any_slot (2 ^ slot) (is_bad port.registers memory) then Some refusal.BadTable else None) run h
+apart_none port memory value more h =
+    let run : port.registers.started ≡ true = started_when port.registers.started (value == 0) (slots_refusal Ci port memory value) more h in
+    own_when port.registers.started (not (value == 0)) (any_slot value (is_busy port.slots)) (is_apart port memory value) refusal.SlotBusy (apart_refusal port.registers)
+    (if any_slot value (is_bad port.registers memory) then Some refusal.BadTable else None) run h
 
 pub not_some : (o : Option ℕ) → is_some o ≡ false → o ≡ None
 not_some None h = refl
@@ -206,17 +206,17 @@ not_not true false h k = absurd (true≢false k)
 not_not false b h k = absurd (false≢true h)
 
 -- nothing is issued in the slot
-busy_when : (started test busy foreign : Bool) (e f : WriteError) (o : Option WriteError) → started ≡ true
-    → option_or (if not started && test then Some refusal.Stopped else None) (if started then (if busy then Some e else if foreign then Some f else o) else None) ≡ None → busy ≡ false
-busy_when true test true foreign e f o run h = cc
-busy_when true test false foreign e f o run h = refl
-busy_when false test busy foreign e f o run h = absurd (false≢true run)
+busy_when : (started test busy apart : Bool) (e f : WriteError) (o : Option WriteError) → started ≡ true
+    → option_or (if not started && test then Some refusal.Stopped else None) (if started then (if busy then Some e else if apart then Some f else o) else None) ≡ None → busy ≡ false
+busy_when true test true apart e f o run h = cc
+busy_when true test false apart e f o run h = refl
+busy_when false test busy apart e f o run h = absurd (false≢true run)
 
 busy_none : (port : Port) (memory : Memory) (slot : ℕ) → refusal_of Ci port memory (2 ^ slot) ≡ None → any_slot (2 ^ slot) (is_busy port.slots) ≡ false
 unfolding own_refusal slots_refusal
 busy_none port memory slot h =
     let run : port.registers.started ≡ true = started_when port.registers.started (2 ^ slot == 0) (slots_refusal Ci port memory (2 ^ slot)) (not_zero slot) h in
-    busy_when port.registers.started (not (2 ^ slot == 0)) (any_slot (2 ^ slot) (is_busy port.slots)) (any_slot (2 ^ slot) (is_foreign port.registers memory.structure)) refusal.SlotBusy refusal.WrongDevice
+    busy_when port.registers.started (not (2 ^ slot == 0)) (any_slot (2 ^ slot) (is_busy port.slots)) (is_apart port memory (2 ^ slot)) refusal.SlotBusy (apart_refusal port.registers)
     (if any_slot (2 ^ slot) (is_bad port.registers memory) then Some refusal.BadTable else None) run h
 
 not_there : (a b : Bool) → a ≡ true → (a && b) ≡ false → b ≡ false
@@ -230,20 +230,20 @@ idle port memory slot below h =
     not_there (has_bit (2 ^ slot) slot) (is_busy port.slots slot) (bit_same slot) calm
 
 -- the command in the slot can be read
-bad_when : (started test busy foreign bad : Bool) (e f g : WriteError) → started ≡ true
-    → option_or (if not started && test then Some refusal.Stopped else None) (if started then (if busy then Some e else if foreign then Some f else if bad then Some g else None) else None) ≡ None → bad ≡ false
-bad_when true test true foreign bad e f g run h = cc
+bad_when : (started test busy apart bad : Bool) (e f g : WriteError) → started ≡ true
+    → option_or (if not started && test then Some refusal.Stopped else None) (if started then (if busy then Some e else if apart then Some f else if bad then Some g else None) else None) ≡ None → bad ≡ false
+bad_when true test true apart bad e f g run h = cc
 bad_when true test false true bad e f g run h = cc
 bad_when true test false false true e f g run h = cc
 bad_when true test false false false e f g run h = refl
-bad_when false test busy foreign bad e f g run h = absurd (false≢true run)
+bad_when false test busy apart bad e f g run h = absurd (false≢true run)
 
 bad_none : (port : Port) (memory : Memory) (slot : ℕ) → refusal_of Ci port memory (2 ^ slot) ≡ None → any_slot (2 ^ slot) (is_bad port.registers memory) ≡ false
 unfolding own_refusal slots_refusal
 bad_none port memory slot h =
     let run : port.registers.started ≡ true = started_when port.registers.started (2 ^ slot == 0) (slots_refusal Ci port memory (2 ^ slot)) (not_zero slot) h in
-    bad_when port.registers.started (not (2 ^ slot == 0)) (any_slot (2 ^ slot) (is_busy port.slots)) (any_slot (2 ^ slot) (is_foreign port.registers memory.structure))
-    (any_slot (2 ^ slot) (is_bad port.registers memory)) refusal.SlotBusy refusal.WrongDevice refusal.BadTable run h
+    bad_when port.registers.started (not (2 ^ slot == 0)) (any_slot (2 ^ slot) (is_busy port.slots)) (is_apart port memory (2 ^ slot)) (any_slot (2 ^ slot) (is_bad port.registers memory))
+    refusal.SlotBusy (apart_refusal port.registers) refusal.BadTable run h
 
 some_not : {A : Type 0} (o : Option A) → is_none o ≡ false → is_some o ≡ true
 some_not None h = absurd (true≢false h)
@@ -271,12 +271,16 @@ low_bits : (port : ℕ) → cut (places H2d PmPort) port ≡ port % 16
 unfolding cut places
 low_bits port = omega arith
 
--- the header names the device of PxFBS.DEV
-chosen_is : (port : Port) (memory : Memory) (slot : ℕ) → slot < 32 → refusal_of Ci port memory (2 ^ slot) ≡ None → (header_at memory.structure port.registers.clb slot).pmp ≡ port.registers.chosen
-chosen_is port memory slot below h =
-    let calm : (has_bit (2 ^ slot) slot && is_foreign port.registers memory.structure slot) ≡ false =
-    none_below (λ k. has_bit (2 ^ slot) k && is_foreign port.registers memory.structure k) 32 (not_some (lowest (λ k. has_bit (2 ^ slot) k && is_foreign port.registers memory.structure k)) (foreign_none port memory slot h)) slot below in
-    equal_of (header_at memory.structure port.registers.clb slot).pmp port.registers.chosen (not_not (has_bit (2 ^ slot) slot) _ (bit_same slot) calm)
+-- the header of a slot to issue names the device at which the write is aimed
+pub aimed_is : (port : Port) (memory : Memory) (value s : ℕ) → (value == 0) ≡ false → refusal_of Ci port memory value ≡ None → s < 32 → has_bit value s ≡ true
+    → named_in port.registers memory.structure s ≡ aimed port.registers memory.structure value
+aimed_is port memory value s more h below bit =
+    let dev : ℕ = aimed port.registers memory.structure value in
+    let other : ℕ → Bool = names_other port.registers memory.structure dev in
+    let none : any_slot value other ≡ false =
+    (or_parts (not port.registers.switching && not (value == 0) && any_beside port.slots dev) (any_slot value other) (apart_none port memory value more h)).1 in
+    let calm : (has_bit value s && other s) ≡ false = none_below (λ k. has_bit value k && other k) 32 (not_some (lowest (λ k. has_bit value k && other k)) none) s below in
+    equal_of (named_in port.registers memory.structure s) dev (not_not (has_bit value s) _ bit calm)
 
 -- ---- what is issued after it
 
@@ -365,15 +369,15 @@ module _ (d : Driver) (a b : event.Host) (past : Touches) (slot dev : ℕ) (prds
             (subst (λ (k : ℕ). command_at a.memory k slot (has_bit a.port.registers.armed slot) ≡ Some command) list is.command_is),
       )
 
-  for_dev : a.port.registers.chosen ≡ dev
+  for_dev : aimed a.port.registers a.memory.structure (2 ^ slot) ≡ dev
   for_dev =
-      sym (chosen_is a.port a.memory slot below does.0)
+      sym (aimed_is a.port a.memory (2 ^ slot) slot (not_zero slot) does.0 below (bit_same slot))
       ∙ pmp_is a.memory.structure a.port.registers.clb slot (table_of slot) (length prds) dev fields list stands.header stands.to_dev
 
-  fresh : (n s : ℕ) (t : Transfer) → a.port.registers.chosen ≡ n → New a.memory (asked a.port.registers a.memory (2 ^ slot)) s t → IsIssueOf d n s t
-  fresh n s t chosen new =
+  fresh : (n s : ℕ) (t : Transfer) → aimed a.port.registers a.memory.structure (2 ^ slot) ≡ n → New a.memory (asked a.port.registers a.memory (2 ^ slot)) s t → IsIssueOf d n s t
+  fresh n s t aims new =
       let it = found s new.0 new.1 in
-      let is_dev : dev ≡ n = sym for_dev ∙ chosen in
+      let is_dev : dev ≡ n = sym for_dev ∙ aims in
       let table : t.table ≡ prds = sym (ap (λ (x : Transfer). x.table) new.2) ∙ it.1.entries in
       let work : t.work ≡ new.0.work = sym (ap (λ (x : Transfer). x.work) new.2) in
       let from : From d dev slot t = may.from t table (work ∙ it.1.work) in
@@ -385,7 +389,7 @@ module _ (d : Driver) (a b : event.Host) (past : Touches) (slot dev : ℕ) (prds
       }
 
   issues_then : (n s : ℕ) (t : Transfer) → issued s (own n (touched a (event.Wrote Ci (2 ^ slot)) ++ past)) ≡ Some t → IsIssueOf d n s t
-  issues_then n s t at = elim (issued_cases a.port.registers.chosen n a.memory (asked a.port.registers a.memory (2 ^ slot)) past s t at) [
+  issues_then n s t at = elim (issued_cases (aimed a.port.registers a.memory.structure (2 ^ slot)) n a.memory (asked a.port.registers a.memory (2 ^ slot)) past s t at) [
     | inl new ↦ fresh n s t new.0 new.1
     | inr old ↦ served.issues n s t old
   ]
@@ -398,13 +402,13 @@ module _ (d : Driver) (a b : event.Host) (past : Touches) (slot dev : ℕ) (prds
       false≢true (sym (idle a.port a.memory slot below does.0) ∙ busy)
 
   -- the command in the slot is that of its fields
-  fis_fresh : (n s : ℕ) (t : Transfer) (command : Command) → a.port.registers.chosen ≡ n → asked a.port.registers a.memory (2 ^ slot) s ≡ Some command → transfer_of a.memory command ≡ t → IsFisOf d n s t command
-  fis_fresh n s t command chosen new is =
+  fis_fresh : (n s : ℕ) (t : Transfer) (command : Command) → aimed a.port.registers a.memory.structure (2 ^ slot) ≡ n → asked a.port.registers a.memory (2 ^ slot) s ≡ Some command → transfer_of a.memory command ≡ t → IsFisOf d n s t command
+  fis_fresh n s t command aims new is =
       let it = found s command new in
       let work : t.work ≡ work_of (request_of fields) = sym (ap (λ (x : Transfer). x.work) is) ∙ it.1.work in
       let built : IsBuiltOf fields t command = record { cfis = it.1.cfis; work = work } in
       record {
-        to_dev = it.1.cfis.fields PmPort ∙ low_bits fields.pm_port ∙ stands.to_dev ∙ sym for_dev ∙ chosen;
+        to_dev = it.1.cfis.fields PmPort ∙ low_bits fields.pm_port ∙ stands.to_dev ∙ sym for_dev ∙ aims;
         of_request = λ e low here.
             let same : request_fields slot e.head ≡ fields = may.are.of_request e (subst (λ (k : ℕ). k < 30) it.0 low) (subst (λ (k : ℕ). entry_at d.entries k ≡ Some e) it.0 here) in
             subst (λ (k : ℕ). IsBuiltOf (request_fields k e.head) t command) (sym it.0) (subst (λ (f : H2dFields). IsBuiltOf f t command) (sym same) built);
@@ -420,7 +424,7 @@ module _ (d : Driver) (a b : event.Host) (past : Touches) (slot dev : ℕ) (prds
       command_then (asked a.port.registers a.memory (2 ^ slot)) s a.port.commands command later
 
   fises_then : (n s : ℕ) (t : Transfer) (command : Command) → issued s (own n (touched a (event.Wrote Ci (2 ^ slot)) ++ past)) ≡ Some t → last_command b.port.commands s ≡ Some command → IsFisOf d n s t command
-  fises_then n s t command at is = elim (issued_cases a.port.registers.chosen n a.memory (asked a.port.registers a.memory (2 ^ slot)) past s t at) [
+  fises_then n s t command at is = elim (issued_cases (aimed a.port.registers a.memory.structure (2 ^ slot)) n a.memory (asked a.port.registers a.memory (2 ^ slot)) past s t at) [
     | inl new ↦
         let same : new.1.0 ≡ command = some_inj new.1.0 command (sym (ap (λ o. option_or o (last_command a.port.commands s)) new.1.1) ∙ later_of s command is) in
         subst (λ (c : Command). IsFisOf d n s t c) same (fis_fresh n s t new.1.0 new.0 new.1.1 new.1.2)

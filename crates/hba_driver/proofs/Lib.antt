@@ -7,9 +7,11 @@ pub mod LifeLemmas
 pub mod RequestLemmas
 pub mod HistoryLemmas
 pub mod ServeLemmas
+pub mod RowMode
 pub mod StandLemmas
 pub mod DoneLemmas
 pub mod FaultLemmas
+pub mod ModeLemmas
 pub mod DrivenLemmas
 pub mod EventLemmas
 pub mod SoundLemmas

@@ -167,27 +167,25 @@ area_inside r h k = inside r.fbu (r.fb + 4096) h (ap (λ (x : ℕ). nat_lt 10485
 list_inside : (r : Registers) → r.clbu ≡ 0 → r.clb ≡ 0 → is_list_outside r ≡ false
 list_inside r h k = inside r.clbu (r.clb + 1024) h (ap (λ (x : ℕ). nat_lt 1048576 (x + 1024)) k)
 
-abbrev cmd_test : (starts wants receives area started list switching : Bool) → Option WriteError
-cmd_test starts wants receives area started list switching =
+abbrev cmd_test : (starts wants receives area started list : Bool) → Option WriteError
+cmd_test starts wants receives area started list =
     if receives && not wants && starts then Some refusal.Running
     else if wants && not receives && area then Some refusal.BadTable
     else if starts && not started && (not wants || list) then Some refusal.BadTable
-    else if starts && not started && not switching then Some refusal.NoSwitching
     else None
 
-fre_test : (receives area started list switching : Bool) → receives ≡ false → area ≡ false → cmd_test false true receives area started list switching ≡ None
-fre_test true area started list switching h k = absurd (true≢false h)
-fre_test false true started list switching h k = absurd (true≢false k)
-fre_test false false started list switching h k = refl
+fre_test : (receives area started list : Bool) → receives ≡ false → area ≡ false → cmd_test false true receives area started list ≡ None
+fre_test true area started list h k = absurd (true≢false h)
+fre_test false true started list h k = absurd (true≢false k)
+fre_test false false started list h k = refl
 
-st_test : (receives area started list switching : Bool) → receives ≡ true → list ≡ false → switching ≡ true → cmd_test true true receives area started list switching ≡ None
-st_test false area started list switching h k l = absurd (false≢true h)
-st_test true area started true switching h k l = absurd (true≢false k)
-st_test true area started false false h k l = absurd (false≢true l)
-st_test true area true false true h k l = refl
-st_test true area false false true h k l = refl
+st_test : (receives area started list : Bool) → receives ≡ true → list ≡ false → cmd_test true true receives area started list ≡ None
+st_test false area started list h k = absurd (false≢true h)
+st_test true area started true h k = absurd (true≢false k)
+st_test true area true false h k = refl
+st_test true area false false h k = refl
 
-cmd_is : (r : Registers) (starts wants : Bool) → cmd_refusal r starts wants ≡ cmd_test starts wants r.receives (is_area_outside r) r.started (is_list_outside r) r.switching
+cmd_is : (r : Registers) (starts wants : Bool) → cmd_refusal r starts wants ≡ cmd_test starts wants r.receives (is_area_outside r) r.started (is_list_outside r)
 unfolding cmd_refusal
 cmd_is r starts wants = refl
 
@@ -270,7 +268,7 @@ opens_taken (suc (suc (suc (suc zero)))) m less old new before after acts d =
 opens_taken (suc (suc (suc (suc (suc zero))))) m less old new before after acts d =
     let r : Registers = old.registers in
     let free : cmd_refusal r false true ≡ None =
-    cmd_is r false true ∙ fre_test r.receives (is_area_outside r) r.started (is_list_outside r) r.switching (d.closed (omega arith)) (area_inside r (d.area_high (omega arith)) (d.area (omega arith))) in
+    cmd_is r false true ∙ fre_test r.receives (is_area_outside r) r.started (is_list_outside r) (d.closed (omega arith)) (area_inside r (d.area_high (omega arith)) (d.area (omega arith))) in
     step Cmd 24 16 6 m old new before refl (or_none (cmd_refusal r false true) free) acts.0
     (record {
       commands = d.commands;
@@ -286,7 +284,7 @@ opens_taken (suc (suc (suc (suc (suc zero))))) m less old new before after acts 
 opens_taken (suc (suc (suc (suc (suc (suc zero)))))) m less old new before after acts d =
     let r : Registers = old.registers in
     let free : cmd_refusal r true true ≡ None =
-    cmd_is r true true ∙ st_test r.receives (is_area_outside r) r.started (is_list_outside r) r.switching (d.receives (omega arith)) (list_inside r (d.list_high (omega arith)) d.commands) (d.switches (omega arith)) in
+    cmd_is r true true ∙ st_test r.receives (is_area_outside r) r.started (is_list_outside r) (d.receives (omega arith)) (list_inside r (d.list_high (omega arith)) d.commands) in
     step Cmd 24 131089 7 m old new before refl (or_none (cmd_refusal r true true) free) acts.0
     (record {
       commands = d.commands;
@@ -321,7 +319,7 @@ restart_taken (suc zero) n less least old new before after acts d =
     let r : Registers = old.registers in
     let free : cmd_refusal r true true ≡ None =
     cmd_is r true true
-    ∙ st_test r.receives (is_area_outside r) r.started (is_list_outside r) r.switching (d.receives (omega (arith, least))) (list_inside r (d.list_high (omega (arith, least))) d.commands) (d.switches (omega (arith, least))) in
+    ∙ st_test r.receives (is_area_outside r) r.started (is_list_outside r) (d.receives (omega (arith, least))) (list_inside r (d.list_high (omega (arith, least))) d.commands) in
     step Cmd 24 131089 n 2 old new before refl (or_none (cmd_refusal r true true) free) acts.0
     (record {
       commands = d.commands;

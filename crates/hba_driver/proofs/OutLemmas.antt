@@ -22,7 +22,7 @@ use Rattle.hba_fbs.specs.declared.register.Register.TheVariants.{Clb, Clbu, Fb, 
 use Rattle.hba_fbs.specs.declared.registers.Registers.{Registers}
 use Rattle.hba_fbs.specs.declared.report.TakeReport.{TakeReport}
 use Rattle.hba_fbs.specs.declared.status.Block.{Block}
-use Rattle.hba_fbs.specs.Issuing.{asked, issue_with, view_issued}
+use Rattle.hba_fbs.specs.Issuing.{aimed, asked, issue_with, view_issued}
 use Rattle.hba_fbs.specs.Offsets.{register_at}
 use Rattle.hba_fbs.specs.Registers.{falls}
 use Rattle.hba_fbs.specs.Sending.{Outgoing, gathered, outgoing}
@@ -257,14 +257,14 @@ issued_kept : (old : Port) (memory : Memory) (value dev s : ℕ) (i : Issue) →
     → own_issue (view_issued old.registers memory value (view_of dev old)).slots s ≡ Some i
 issued_kept old memory value dev s i free table here =
     let commands : ℕ → Option Command = asked old.registers memory value in
-    let chosen : ℕ = old.registers.chosen in
+    let target : ℕ = aimed old.registers memory.structure value in
     let own_slots = is_own dev old.slots table in
     let below : s < 32 = own_below dev s (slots_of dev old.slots) i own_slots here in
     let was : Option Issue = own_issue (slots_of dev old.slots) s in
-    ap (λ (f : ℕ → Option Issue). f s) (own_issued chosen commands (slots_of dev old.slots) 32 own_slots.long)
-    ∙ ap (λ (b : Bool). cond b (issue_with chosen (commands s) was) was) (lt-ltb s 32 below) ∙ by_command (commands s) refl
+    ap (λ (f : ℕ → Option Issue). f s) (own_issued target commands (slots_of dev old.slots) 32 own_slots.long)
+    ∙ ap (λ (b : Bool). cond b (issue_with target (commands s) was) was) (lt-ltb s 32 below) ∙ by_command (commands s) refl
   where
-    by_command : (o : Option Command) → asked old.registers memory value s ≡ o → issue_with old.registers.chosen o (own_issue (slots_of dev old.slots) s) ≡ Some i
+    by_command : (o : Option Command) → asked old.registers memory value s ≡ o → issue_with (aimed old.registers memory.structure value) o (own_issue (slots_of dev old.slots) s) ≡ Some i
     by_command None is = here
     by_command (Some command) is =
         let low : s < 32 = own_below dev s (slots_of dev old.slots) i (is_own dev old.slots table) here in
@@ -278,11 +278,11 @@ unfolding view_after
 kept_accept Cmd old new memory value dev s i below free accepts calm table here =
     ap (λ (v : DeviceView). own_issue v.slots s) (accepts.views dev below ∙ ap (λ (b : Bool). if b then stopped_view (view_of dev old) else view_of dev old) calm) ∙ here
 kept_accept Ci old new memory value dev s i below free accepts calm table here =
-    ap (λ (v : DeviceView). own_issue v.slots s) (accepts.views dev below) ∙ by_chosen (dev == old.registers.chosen)
+    ap (λ (v : DeviceView). own_issue v.slots s) (accepts.views dev below) ∙ by_target (dev == aimed old.registers memory.structure value)
   where
-    by_chosen : (b : Bool) → own_issue (if b then view_issued old.registers memory value (view_of dev old) else view_of dev old).slots s ≡ Some i
-    by_chosen true = issued_kept old memory value dev s i free table here
-    by_chosen false = here
+    by_target : (b : Bool) → own_issue (if b then view_issued old.registers memory value (view_of dev old) else view_of dev old).slots s ≡ Some i
+    by_target true = issued_kept old memory value dev s i free table here
+    by_target false = here
 kept_accept Clb old new memory value dev s i below free accepts calm table here = ap (λ (v : DeviceView). own_issue v.slots s) (accepts.views dev below) ∙ here
 kept_accept Clbu old new memory value dev s i below free accepts calm table here = ap (λ (v : DeviceView). own_issue v.slots s) (accepts.views dev below) ∙ here
 kept_accept Fb old new memory value dev s i below free accepts calm table here = ap (λ (v : DeviceView). own_issue v.slots s) (accepts.views dev below) ∙ here

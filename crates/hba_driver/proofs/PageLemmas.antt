@@ -11,7 +11,7 @@ use Rattle.host_memory.specs.Memory.{IsHostMemory, Memory}
 use Rattle.host_memory.specs.Reading.{read_fault}
 use Rattle.host_memory.proofs.AgreeLemmas.{says_the_same}
 use Rattle.hba_fbs.specs.declared.report.TakeReport.{TakeReport}
-use Rattle.hba_fbs.specs.Taking.{admitted, ignores, port_of}
+use Rattle.hba_fbs.specs.Taking.{admitted, ignores, port_of, row_for}
 use Rattle.hba_fbs.specs.Views.{Port}
 use Rattle.slots.specs.Slots.{has_bit, match_some}
 use Rattle.host_memory.specs.declared.table.PrdError.{PrdError}
@@ -280,7 +280,7 @@ took_page old new frame report h s n = elim (cases_Bool (ignores (port_of frame)
   | inl skip ↦ same_page old.memory.structure new.memory.structure (ap (λ (m : Memory). m.structure) (h.ignored skip).memory) s.memory.structure_len
   | inr heard ↦ record {
     long = n.memory.structure_len;
-    agree = posted_beside page_at 16 old.port.registers.fb (port_of frame) (admitted (port_of frame) (seen_in frame)) old.memory.structure new.memory.structure
+    agree = posted_beside page_at 16 old.port.registers.fb (row_for old.port (port_of frame)) (admitted (port_of frame) (seen_in frame)) old.memory.structure new.memory.structure
         ((sound_host old s).area (runs old.port frame heard)) (inr (omega arith)) (h.heard heard).structure;
   }
 ]

@@ -39,6 +39,8 @@ use Rattle.hba_driver.specs.Submits.{next_slot}
 use Rattle.hba_driver.specs.Ticks.{due, effects, effects_due}
 use Rattle.hba_driver.proofs.EffectLemmas.{all_at}
 use Rattle.hba_driver.proofs.HistoryLemmas.{free_below}
+use Rattle.hba_driver.proofs.ModeLemmas.{posts_own}
+use Rattle.hba_driver.proofs.RowMode.{started_mode}
 use Rattle.hba_driver.proofs.SoundLemmas.{sound_host, sound_turn}
 use Rattle.hba_driver.proofs.StandLemmas.{Same, both, few_prds, lt_of, runs, same_beside, same_memory, same_written}
 use Rattle.hba_driver.proofs.SubmitLemmas.{is_taken}
@@ -279,7 +281,10 @@ pub row_turn : (n : ℕ) (old : Host) (t : HostTurn) (new : Host) → n < 16 →
 row_turn n old (Took frame report) new low h s which = elim (cases_Bool (ignores (port_of frame) old.port frame)) [
   | inl skip ↦ same_memory (place n) 20 old.memory new.memory (ap (λ (m : Memory). m.structure) (h.ignored skip).memory)
   | inr heard ↦
-      posted_of n (port_of frame) old.port.registers.fb frame old.memory.structure new.memory.structure low ((sound_host old s).area (runs old.port frame heard)) s.memory.structure_len which (h.heard heard).structure
+      let starts : old.port.registers.started ≡ true = runs old.port frame heard in
+      let on : old.port.registers.switching ≡ true = started_mode old.driver.plan.opened old.driver.plan.restarted old.port.registers s.registers starts in
+      posted_of n (port_of frame) old.port.registers.fb frame old.memory.structure new.memory.structure low ((sound_host old s).area starts) s.memory.structure_len which
+      (posts_own old.port old.port.registers.fb (port_of frame) (admitted (port_of frame) (seen frame)) old.memory.structure new.memory.structure on (h.heard heard).structure)
 ]
 row_turn n old (Pushed frame) new low h s which = same_memory (place n) 20 old.memory new.memory (ap (λ (m : Memory). m.structure) h.memory)
 row_turn n old (Ticked a) new low h s which =

@@ -1,6 +1,6 @@
 -- The scans of the ports of a multiplier over turns of the host.
 use Rattle.std.proofs.Common.{◌≡◌, ◌≢◌, ℕ, ◌<◌, ◌≤◌, ◌⊎◌, ◌&&◌, ◌||◌, Bool, true, false, List, [], ◌∷◌, ◌++◌, length, take, drop, refl, sym, ◌∙◌, ap, subst, inl, inr, arith, Option, Some, None, Ok}
-use Rattle.std.specs.Prelude.{◌==◌, if◌then◌else◌, not, is_none}
+use Rattle.std.specs.Prelude.{◌==◌, if◌then◌else◌, not, is_none, unwrap_or}
 use Rattle.std.proofs.lemmas.Bool.{and_from, and_left, and_parts, and_right, cases_Bool, cases_eq, cases_lt, false≢true, ne_eqb, not_from_false, or_from, or_left, or_parts, or_right, true≢false}
 use Rattle.fis_view.specs.Frames.{Stamped}
 use Rattle.fis_view.specs.Seen.{seen}
@@ -38,6 +38,7 @@ use Rattle.hba_driver.proofs.ControlLemmas.{part_event}
 use Rattle.hba_driver.proofs.DoneLemmas.{free_slot as slot_free}
 use Rattle.hba_driver.proofs.DrivenLemmas.{tick_is}
 use Rattle.hba_driver.proofs.GoingLemmas.{IsGoing, going_opens, going_turn, stops_none}
+use Rattle.hba_driver.proofs.ModeLemmas.{own_row_is}
 use Rattle.hba_driver.proofs.PageLemmas.{poll_plan}
 use Rattle.hba_driver.proofs.RowLemmas.{d2h_row, d2h_same, own_row, row_long, row_turn, set_long, set_window, sized, window_same}
 use Rattle.hba_driver.proofs.ScansLemmas.{Anew, Issues, Keeps, Moves, Orders31, Reads, Sees, cleared_none, moved_clears, moved_found, moved_left, moves, scan_is, seen_asked}
@@ -100,14 +101,22 @@ asked_open stage h at asked = elim (cases_lt h.driver.plan.opened 7) [
 area_is : (h : Host) → IsGoing h → 7 ≤ h.driver.plan.opened → h.port.registers.fb ≡ 4096
 area_is h g least = g.way.sound.registers.area (omega (arith, least))
 
+-- the control port's row
+abbrev row15 : Host → List ℕ
+row15 h = rx.row_of (area_at h.memory.structure 4096) 15
+
+row_here : (h : Host) → IsGoing h → 7 ≤ h.driver.plan.opened → (control_of h).row ≡ Some (row15 h)
+row_here h g least =
+    own_row_is h.port.registers.switching h.port.registers.fb h.memory.structure 15 (g.way.sound.registers.switches (omega (arith, least)))
+    ∙ ap (λ (fb : ℕ). Some (rx.row_of (area_at h.memory.structure fb) 15)) (area_is h g least)
+
+row_long15 : (h : Host) → IsGoing h → length (row15 h) ≡ 256
+row_long15 h g = row_long 15 h.memory.structure (omega arith) g.way.sound.memory.structure_len
+
 told_is : (h : Host) → IsGoing h → 7 ≤ h.driver.plan.opened → told_in (control_of h) ≡ answer_in (seen (last_d2h h.memory.structure 15))
 told_is h g least =
-    ap (λ (fb : ℕ). answer_in (seen (take 20 (drop 64 (rx.row_of (area_at h.memory.structure fb) 15))))) (area_is h g least)
+    ap (λ (row : Option (List ℕ)). answer_in (seen (take 20 (drop 64 (unwrap_or row []))))) (row_here h g least)
     ∙ ap (λ (f : List ℕ). answer_in (seen f)) (d2h_row 15 h.memory.structure (omega arith) g.way.sound.memory.structure_len)
-
-row_is : (h : Host) → IsGoing h → 7 ≤ h.driver.plan.opened → length (control_of h).row ≡ 256
-row_is h g least =
-    ap (λ (fb : ℕ). length (rx.row_of (area_at h.memory.structure fb) 15)) (area_is h g least) ∙ row_long 15 h.memory.structure (omega arith) g.way.sound.memory.structure_len
 
 -- a turn that leaves port and plan, and writes no Register FIS of the control port
 beside_same : (n : ℕ) (stage : Stage31) (old : Host) (turn : HostTurn) (new : Host) → IsGoing old → IsGoing new → IsAt31 stage old → new.port ≡ old.port → new.driver.plan ≡ old.driver.plan
@@ -150,12 +159,16 @@ module _ (old : Host) (g : IsGoing old) (new : Host) (m : IsGoing new) (frame : 
       took_own old g new m frame report does of least own ∙ heard_part (control_of old) frame (view.SetBits frame) is.viewed refl hears
       ∙ ap (λ (y : DeviceView). record (with_view (control_of old) y) { row = row_with (control_of old).row (Some (view.SetBits frame)) }) (notice_view (control_of old).view frame is)
 
-  bits_row : 7 ≤ old.driver.plan.opened → IsNotice31 frame → take 20 (drop 64 (rx.row_after (control_of old).row (view.SetBits frame))) ≡ take 20 (drop 64 (control_of old).row)
+  bits_row : 7 ≤ old.driver.plan.opened → IsNotice31 frame
+      → take 20 (drop 64 (unwrap_or (row_with (control_of old).row (Some (view.SetBits frame))) [])) ≡ take 20 (drop 64 (unwrap_or (control_of old).row []))
   bits_row least is =
-      let row : List ℕ = (control_of old).row in
-      let whole : length row ≡ 256 = row_is old g least in
+      let row : List ℕ = row15 old in
+      let here : (control_of old).row ≡ Some row = row_here old g least in
+      let whole : length row ≡ 256 = row_long15 old g in
       let few : length frame ≡ 8 = sized frame (view.SetBits frame) is.viewed in
-      window_same 64 row (rx.row_after row (view.SetBits frame)) (set_long row frame 88 (omega (arith, whole, few))) (own_row row (view.SetBits frame) whole few tt)
+      ap (λ (r : Option (List ℕ)). take 20 (drop 64 (unwrap_or (row_with r (Some (view.SetBits frame))) []))) here
+      ∙ window_same 64 row (rx.row_after row (view.SetBits frame)) (set_long row frame 88 (omega (arith, whole, few))) (own_row row (view.SetBits frame) whole few tt)
+      ∙ ap (λ (r : Option (List ℕ)). take 20 (drop 64 (unwrap_or r []))) (sym here)
 
   notice_same : port_of frame ≡ 15 → IsNotice31 frame → (n : ℕ) → found n new ≡ found n old
   notice_same own is n = elim (cases_lt old.driver.plan.opened 7) [
@@ -173,11 +186,12 @@ module _ (old : Host) (g : IsGoing old) (new : Host) (m : IsGoing new) (frame : 
   ]
 
   -- the row has an answer
-  answer_row : 7 ≤ old.driver.plan.opened → seen frame ≡ Ok (view.RegD2H frame) → take 20 (drop 64 (rx.row_after (control_of old).row (view.RegD2H frame))) ≡ frame
+  answer_row : 7 ≤ old.driver.plan.opened → seen frame ≡ Ok (view.RegD2H frame) → take 20 (drop 64 (unwrap_or (row_with (control_of old).row (Some (view.RegD2H frame))) [])) ≡ frame
   answer_row least viewed =
-      let whole : length (control_of old).row ≡ 256 = row_is old g least in
+      let whole : length (row15 old) ≡ 256 = row_long15 old g in
       let many : length frame ≡ 20 = sized frame (view.RegD2H frame) viewed in
-      set_window (control_of old).row frame 64 many (omega (arith, whole, many))
+      ap (λ (r : Option (List ℕ)). take 20 (drop 64 (unwrap_or (row_with r (Some (view.RegD2H frame))) []))) (row_here old g least)
+      ∙ set_window (row15 old) frame 64 many (omega (arith, whole, many))
 
   told_answer : stage ≡ Asks → port_of frame ≡ 15 → seen frame ≡ Ok (view.RegD2H frame) → (n : ℕ) → Named n new.driver.plan (control_of new) → has_bit (answer_in (seen frame)) n ≡ true
   told_answer asks own viewed n now =

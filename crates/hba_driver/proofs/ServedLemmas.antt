@@ -17,7 +17,7 @@ use Rattle.hba_fbs.specs.declared.report.TakeReport.{TakeReport}
 use Rattle.hba_fbs.specs.Sending.{Outgoing, gathered, outgoing}
 use Rattle.hba_fbs.specs.Sending as out
 use Rattle.hba_fbs.specs.Tables.{prds_of}
-use Rattle.hba_fbs.specs.Taking.{admitted, ignores, port_of}
+use Rattle.hba_fbs.specs.Taking.{admitted, ignores, port_of, row_for}
 use Rattle.hba_fbs.specs.Views.{Port, last_command}
 use Rattle.hba_laws.specs.Client.{AreApart, By, IsKept, Puts, Touches, own}
 use Rattle.hba_laws.specs.Delivering.{SparesTables, event_taken, is_control_issue, touched, touched_by_out}
@@ -167,7 +167,7 @@ took_table : (old new : Host) (frame : List ℕ) (report : TakeReport) → Does 
 took_table old new frame report h sound s = elim (cases_Bool (ignores (port_of frame) old.port frame)) [
   | inl skip ↦ same_memory (table_of s) 4096 old.memory new.memory (ap (λ (m : Memory). m.structure) (h.ignored skip).memory)
   | inr heard ↦
-      posted_beside (table_of s) 4096 old.port.registers.fb (port_of frame) (admitted (port_of frame) (seen_in frame)) old.memory.structure new.memory.structure
+      posted_beside (table_of s) 4096 old.port.registers.fb (row_for old.port (port_of frame)) (admitted (port_of frame) (seen_in frame)) old.memory.structure new.memory.structure
       ((sound_host old sound).area (runs old.port frame heard)) (inr (omega arith)) (h.heard heard).structure
 ]
 

@@ -13,7 +13,7 @@ use Rattle.fis_view.specs.declared.build.H2dFields.{H2dFields}
 use Rattle.hba_fbs.specs.declared.error.WriteError.{WriteError}
 use Rattle.hba_fbs.specs.declared.register.Register.{Register}
 use Rattle.hba_fbs.specs.declared.register.Register.TheVariants.{Clb, Clbu, Fb, Fbu, Is, Ie, Cmd, Tfd, Sig, Serr, Sact, Ci, Sntf, Fbs}
-use Rattle.hba_fbs.specs.Issuing.{asked}
+use Rattle.hba_fbs.specs.Issuing.{aimed, asked}
 use Rattle.hba_fbs.specs.Offsets.{register_at}
 use Rattle.hba_fbs.specs.Registers.{falls}
 use Rattle.hba_fbs.specs.Tables.{prds_of}
@@ -166,7 +166,7 @@ kept_clear (Some dev) past k = k
 
 kept_write : (register : Register) (host : event.Host) (value : ℕ) (past : Touches) → IsKept past → IsKept (touched_by_write register host value ++ past)
 kept_write Cmd host value past k = kept_falls (falls host.port.registers value) past k
-kept_write Ci host value past k = kept_below host.port.registers.chosen host.memory (asked host.port.registers host.memory value) past 32 k
+kept_write Ci host value past k = kept_below (aimed host.port.registers host.memory.structure value) host.memory (asked host.port.registers host.memory value) past 32 k
 kept_write Clb host value past k = k
 kept_write Clbu host value past k = k
 kept_write Fb host value past k = k

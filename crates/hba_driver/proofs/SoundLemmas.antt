@@ -12,7 +12,7 @@ use Rattle.slots.specs.Slots.{match_some}
 use Rattle.hba_fbs.specs.declared.registers.Registers.{Registers}
 use Rattle.hba_fbs.specs.declared.report.TakeReport.{TakeReport}
 use Rattle.hba_fbs.specs.Sending.{outgoing}
-use Rattle.hba_fbs.specs.Taking.{PostsOf, admitted, ignores, port_of}
+use Rattle.hba_fbs.specs.Taking.{PostsIn, admitted, ignores, port_of, row_for}
 use Rattle.hba_fbs.specs.Views.{Port}
 use Rattle.hba_laws.specs.Hosts as event
 use Rattle.hba_laws.proofs.KeptLemmas.{client_lens}
@@ -39,9 +39,10 @@ use Rattle.hba_driver.proofs.SubmitLemmas.{is_taken}
 
 -- ---- what a frame leaves of memory
 
-posted_len : (fb dev : ℕ) (fis : Option Fis) (s t : List ℕ) → fb ≡ 4096 → length s ≡ 1048576 → PostsOf fb dev fis s t → length t ≡ length s
-posted_len fb dev None s t at long h = ap (λ (x : List ℕ). length x) h
-posted_len fb dev (Some fis) s t at long h =
+posted_len : (fb : ℕ) (row : Option ℕ) (fis : Option Fis) (s t : List ℕ) → fb ≡ 4096 → length s ≡ 1048576 → PostsIn fb row fis s t → length t ≡ length s
+posted_len fb None fis s t at long h = ap (λ (x : List ℕ). length x) h
+posted_len fb (Some dev) None s t at long h = ap (λ (x : List ℕ). length x) h
+posted_len fb (Some dev) (Some fis) s t at long h =
     let behind : length (drop (fb + 4096) t) ≡ length (drop (fb + 4096) s) = ap (λ (x : List ℕ). length x) h.behind in
     omega (arith, behind, length-drop (fb + 4096) t, length-drop (fb + 4096) s, at, long)
 
@@ -56,7 +57,7 @@ took_structure : (old new : Host) (frame : List ℕ) (report : TakeReport) → D
 took_structure old new frame report h s = elim (cases_Bool (ignores (port_of frame) old.port frame)) [
   | inl skip ↦ ap (λ (m : Memory). length m.structure) (h.ignored skip).memory
   | inr heard ↦
-      posted_len old.port.registers.fb (port_of frame) (admitted (port_of frame) (seen frame)) old.memory.structure new.memory.structure
+      posted_len old.port.registers.fb (row_for old.port (port_of frame)) (admitted (port_of frame) (seen frame)) old.memory.structure new.memory.structure
       (started_area old.driver.plan.opened old.driver.plan.restarted old.port.registers s.registers (runs old.port frame heard)) s.memory.structure_len (h.heard heard).structure
 ]
 

@@ -21,7 +21,7 @@ use Rattle.hba_commands.specs.Requests.{request_of}
 use Rattle.hba_commands.specs.Writing.{IsWritten, command_table, header_bytes, header_for}
 use Rattle.hba_commands.proofs.PutLemmas.{length-header_bytes}
 use Rattle.hba_fbs.specs.Posting.{Posts}
-use Rattle.hba_fbs.specs.Taking.{PostsOf, admitted, ignores, is_running, port_of}
+use Rattle.hba_fbs.specs.Taking.{PostsIn, admitted, ignores, is_running, port_of, row_for}
 use Rattle.hba_fbs.specs.Views.{Port}
 use Rattle.hba_driver.specs.declared.effect.Effect.{Effect}
 use Rattle.hba_driver.specs.declared.effect.Effect.TheVariants as effect
@@ -41,6 +41,7 @@ use Rattle.hba_driver.specs.Submits.{next_slot}
 use Rattle.hba_driver.specs.Ticks.{due, effects, effects_due}
 use Rattle.hba_driver.proofs.EffectLemmas.{all_at}
 use Rattle.hba_driver.proofs.HistoryLemmas.{free_below, free_other, lives_turn, none_gives, requests_turn}
+use Rattle.hba_driver.proofs.RowMode.{heard_as}
 use Rattle.hba_driver.proofs.SubmitLemmas.{is_taken}
 
 abbrev no_entry : Option Entry
@@ -201,9 +202,10 @@ beside_rows at count old new (inr after) low high i h =
     let there : get_or old (8192 + k) 0 ≡ get_or new (8192 + k) 0 = sym (get_or-drop 8192 old k 0) ∙ ap (λ (l : List ℕ). get_or l k 0) (sym high) ∙ get_or-drop 8192 new k 0 in
     subst (λ (n : ℕ). get_or old n 0 ≡ get_or new n 0) e there
 
-pub posted_beside : (at count fb dev : ℕ) (fis : Option Fis) (old new : List ℕ) → fb ≡ 4096 → LieApart at count 4096 4096 → PostsOf fb dev fis old new → AgreeFrom at count old new
-posted_beside at count fb dev None old new is apart h i below = ap (λ (l : List ℕ). slice_index l (at + i)) (sym h)
-posted_beside at count fb dev (Some fis) old new is apart h i below =
+pub posted_beside : (at count fb : ℕ) (row : Option ℕ) (fis : Option Fis) (old new : List ℕ) → fb ≡ 4096 → LieApart at count 4096 4096 → PostsIn fb row fis old new → AgreeFrom at count old new
+posted_beside at count fb None fis old new is apart h i below = ap (λ (l : List ℕ). slice_index l (at + i)) (sym h)
+posted_beside at count fb (Some dev) None old new is apart h i below = ap (λ (l : List ℕ). slice_index l (at + i)) (sym h)
+posted_beside at count fb (Some dev) (Some fis) old new is apart h i below =
     let posts : Posts 4096 dev fis old new = subst (λ (n : ℕ). Posts n dev fis old new) is h in
     beside_rows at count old new apart posts.before posts.behind i below
 
@@ -221,7 +223,7 @@ not_or_or true b c h = refl
 not_or_or false b c h = absurd (true≢false h)
 
 pub runs : (port : Port) (frame : List ℕ) → ignores (port_of frame) port frame ≡ false → port.registers.started ≡ true
-runs port frame h = and_first port.registers.started _ (not_or_or (is_running port) _ _ h)
+runs port frame h = and_first port.registers.started _ (not_or_or (is_running port) _ _ (heard_as (port_of frame) port frame h))
 
 -- ---- one turn
 
@@ -239,7 +241,7 @@ pub agree_took : (s at count : ℕ) → IsArea s at count → (old new : Host) (
 agree_took s at count area old new frame report h host = elim (cases_Bool (ignores (port_of frame) old.port frame)) [
   | inl skip ↦ same_memory at count old.memory new.memory (ap (λ (m : Memory). m.structure) (h.ignored skip).memory)
   | inr heard ↦
-      posted_beside at count old.port.registers.fb (port_of frame) (admitted (port_of frame) (seen frame)) old.memory.structure new.memory.structure (host.area (runs old.port frame heard)) area.own.rows (h.heard heard).structure
+      posted_beside at count old.port.registers.fb (row_for old.port (port_of frame)) (admitted (port_of frame) (seen frame)) old.memory.structure new.memory.structure (host.area (runs old.port frame heard)) area.own.rows (h.heard heard).structure
 ]
 
 pub agree_turn : (s at count : ℕ) → IsArea s at count → (e : Entry) (old : Host) (t : HostTurn) (new : Host) → Does old t new → IsHost old → entry_at old.driver.entries s ≡ Some e

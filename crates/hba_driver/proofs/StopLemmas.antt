@@ -1,7 +1,7 @@
 -- What a device sends stops the port only by a host bus error.
 use Rattle.std.proofs.Common.{◌≡◌, ◌≢◌, ℕ, ◌-◌, ◌<◌, Bool, true, false, ◌&&◌, List, length, refl, sym, ◌∙◌, ap, inl, inr, arith, Option, Some, None}
-use Rattle.std.specs.Prelude.{◌==◌, ◌%◌, if◌then◌else◌, not, is_some, nat_lt, slice_index}
-use Rattle.std.proofs.lemmas.Bool.{false≢true, ne_eqb}
+use Rattle.std.specs.Prelude.{◌==◌, ◌%◌, ◌||◌, if◌then◌else◌, not, is_some, nat_lt, slice_index}
+use Rattle.std.proofs.lemmas.Bool.{cases_Bool, false≢true, ne_eqb, true≢false}
 use Rattle.fis_view.specs.Seen.{seen}
 use Rattle.fis_view.specs.Table as table
 use Rattle.fis_view.specs.Table.{field}
@@ -28,14 +28,15 @@ use Rattle.hba_fbs.specs.Hearing.{answer_fault, bad_fault, faulty, heard_activat
 use Rattle.hba_fbs.specs.Sending.{Nothing, Outgoing, data_due, data_with, next_receiver, next_to_send, order_due, outgoing}
 use Rattle.hba_fbs.specs.Status.{is_busy, is_error}
 use Rattle.hba_fbs.specs.Tables.{is_sound, sound_command}
-use Rattle.hba_fbs.specs.Taking.{admitted, heard, heard_now, ignores, is_running, port_cause, port_of}
+use Rattle.hba_fbs.specs.Taking.{admitted, heard, heard_now, ignores, is_running, port_cause, port_of, stops_with}
 use Rattle.hba_fbs.specs.Views.{DeviceView, Port, view_of}
 use Rattle.hba_laws.specs.Hosts as event
 use Rattle.hba_laws.specs.Isolation.{fails_by_bus, stops_port}
 use Rattle.hba_laws.specs.Sound.{IsHost}
 use Rattle.hba_laws.proofs.ViewLemmas.{HasContext, IsOwn, is_own}
 use Rattle.hba_driver.specs.Orders.{control_port}
-use Rattle.hba_driver.specs.Going.{CanBeRead, FaultsNeverStop, IsOfControl, IsReport, NothingStops}
+use Rattle.hba_driver.specs.Going.{CanBeRead, FaultsNeverStop, IsOfControl, IsReport, NothingStops, SwitchesIfStarted}
+use Rattle.hba_driver.proofs.ModeLemmas.{stops_as}
 
 -- what holds for both values holds for the choice
 pub either : {A : Type 0} (P : A → Type 0) (b : Bool) (x y : A) → P x → P y → P (if b then x else y)
@@ -124,12 +125,18 @@ reported n frame (inr bits) none same =
     let bad : Some (view.SetBits frame) ≡ None = sym (ap (admitted n) bits) ∙ none in
     cc
 
+-- while ST is 0, all is ignored
+halted : (over started quiet marked resets stops : Bool) → started ≡ false → (not (over || (not (started && quiet) || marked || resets)) && stops) ≡ false
+halted true started quiet marked resets stops off = refl
+halted false false quiet marked resets stops off = refl
+halted false true quiet marked resets stops off = absurd (true≢false off)
+
 -- ---- a table that can be used
 
 receiving : (c : Context) (f : ℕ → Option Command) → c.to_host ≡ true → is_some (f c.slot) ≡ true → is_some (match_some (receiving_slot (Some c)) None f) ≡ true
 receiving c f way is = rw way is
 
-module _ (host : event.Host) (is : IsHost host) (read : CanBeRead host) where
+module _ (host : event.Host) (is : IsHost host) (switches : SwitchesIfStarted host) (read : CanBeRead host) where
   own_is : (n : ℕ) → IsOwn n (slots_of n host.port.slots)
   own_is n = is_own n host.port.slots is.slots
 
@@ -157,9 +164,15 @@ module _ (host : event.Host) (is : IsHost host) (read : CanBeRead host) where
   takes : (frame : List ℕ) → IsOfControl frame → stops_port (port_of frame) host.port host.memory frame ≡ false
   takes frame of =
       let n : ℕ = port_of frame in
-      and_false (not (ignores n host.port frame)) (is_some (port_cause (heard_now host.port host.memory n (admitted n (seen frame))).fault))
-      (heard_calm n (view_of n host.port) (is_sound host.memory host.port.commands (view_of n host.port).slots) (admitted n (seen frame))
-      (λ c now way. sound n c (low (slice_index frame 1)) now way) (control_or_other frame of))
+      let f : Option Fault = (heard_now host.port host.memory n (admitted n (seen frame))).fault in
+      elim (cases_Bool host.port.registers.started) [
+        | inl on ↦
+            and_false (not (ignores n host.port frame)) (stops_with host.port.registers.switching f)
+            (stops_as host.port.registers.switching f (switches on)
+            ∙ heard_calm n (view_of n host.port) (is_sound host.memory host.port.commands (view_of n host.port).slots) (admitted n (seen frame))
+            (λ c now way. sound n c (low (slice_index frame 1)) now way) (control_or_other frame of))
+        | inr off ↦ halted _ host.port.registers.started _ _ _ _ off
+      ]
 
   order_spares : (slot : ℕ) → fails_by_bus (order_due host.port slot) ≡ false
   order_spares slot = by_issue (Rattle.slots.specs.Slots.issue_at host.port.slots slot)
@@ -203,4 +216,4 @@ module _ (host : event.Host) (is : IsHost host) (read : CanBeRead host) where
   nothing_stops = record { takes = takes; gives = out_spares (not (is_running host.port)) (next_receiver host.port) (next_to_send host.port) receiver_low }
 
 pub faults_never_stop : FaultsNeverStop
-faults_never_stop host is read = nothing_stops host is read
+faults_never_stop host is switches read = nothing_stops host is switches read

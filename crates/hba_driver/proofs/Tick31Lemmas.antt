@@ -5,7 +5,7 @@ use Rattle.std.proofs.lemmas.Bool.{cases_Bool, cases_eq, false≢true, le-ltb, l
 use Rattle.fis_view.specs.declared.build.H2dFields.{H2dFields}
 use Rattle.host_memory.specs.Memory.{Memory}
 use Rattle.port_errors.specs.Errors.{Errors, cause_of, cleared_device, named_by, shown as errors_shown}
-use Rattle.port_errors.specs.declared.cause.PortCause.{PortCause}
+use Rattle.port_errors.specs.declared.cause.Stop.{Stop}
 use Rattle.slots.specs.Slots.{Issue, has_bit, issue_at, lowest_below, match_some, own_issue}
 use Rattle.slots.proofs.MaskLemmas.{lowest_is}
 use Rattle.hba_fbs.specs.Views.{Port}
@@ -102,7 +102,7 @@ module _ (h : Host) (g : IsGoing h) (stage : Stage31) (at : IsAt31 stage h) wher
 
   -- ---- what is due is allowed
 
-  reported : (errors : Errors) (o : Option ℕ) (cause : Option PortCause) (dev : ℕ) → cause ≡ None → named_by (errors_shown o cause) ≡ Some dev → o ≡ Some dev
+  reported : (errors : Errors) (o : Option ℕ) (cause : Option Stop) (dev : ℕ) → cause ≡ None → named_by (errors_shown o cause) ≡ Some dev → o ≡ Some dev
   reported errors None cause dev none is = let bad : None ≡ Some dev = is in cc
   reported errors (Some x) None dev none is = is
   reported errors (Some x) (Some c) dev none is = cc

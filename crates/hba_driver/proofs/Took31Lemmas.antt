@@ -24,10 +24,10 @@ use Rattle.hba_fbs.specs.declared.state.DeviceState.{DeviceState}
 use Rattle.hba_fbs.specs.Hearing.{answer_fault, answered, faulty, heard_bits, heard_d2h, heard_fis, named, quietly, short_fault}
 use Rattle.hba_fbs.specs.Posting.{is_signature, signs}
 use Rattle.hba_fbs.specs.Status.{after_reset, is_busy, is_error, with_bits, with_file}
-use Rattle.hba_fbs.specs.Taking.{admitted, device_cause, heard_view, ignores, is_ignored, is_running, port_of, view_after_hearing}
+use Rattle.hba_fbs.specs.Taking.{admitted, device_cause, heard_view, ignores, is_ignored, is_running, passes_over, port_of, view_after_hearing}
 use Rattle.hba_fbs.specs.Views.{DeviceView, Port, view_of}
 use Rattle.hba_laws.specs.Hosts as event
-use Rattle.hba_laws.specs.Isolation.{Came, after_fis, part_after, part_after_all, row_with}
+use Rattle.hba_laws.specs.Isolation.{Came, after_fis, part_after, part_after_all, row_with, skips}
 use Rattle.hba_laws.specs.Parts.{DevicePart, part_of, with_view}
 use Rattle.hba_laws.proofs.StandLemmas.{some_inj}
 use Rattle.hba_laws.proofs.ViewLemmas.{own_freed}
@@ -41,6 +41,7 @@ use Rattle.hba_driver.proofs.ControlLemmas.{Runs15, part_event}
 use Rattle.hba_driver.proofs.GoingLemmas.{IsGoing, stops_none}
 use Rattle.hba_driver.proofs.OpenLemmas.{up_of}
 use Rattle.hba_driver.proofs.Push31Lemmas.{issued31}
+use Rattle.hba_driver.proofs.RowMode.{skipped_as}
 
 -- ---- an open port
 
@@ -77,7 +78,8 @@ not_started true b h = absurd (true≢false h)
 pub closed_same : (old new : Host) (frame : List ℕ) (report : TakeReport) → Does old (Took frame report) new → IsGoing old → old.driver.plan.opened < 7 → control_of new ≡ control_of old
 closed_same old new frame report does g less =
     let off : is_running old.port ≡ false = not_started old.port.registers.started (is_none old.port.errors.port) (g.way.sound.registers.stopped (omega (arith, less))) in
-    let skip : ignores (port_of frame) old.port frame ≡ true = ignored_closed (is_running old.port) (view_of (port_of frame) old.port) (seen frame) off in
+    let skip : ignores (port_of frame) old.port frame ≡ true =
+    skipped_as (port_of frame) old.port frame (ignored_closed (is_running old.port) (view_of (port_of frame) old.port) (seen frame) off) in
     ap (λ (p : Port). part_of 15 (record { port = p; memory = new.memory })) (does.ignored skip).port
     ∙ ap (λ m. part_of 15 (record { port = old.port; memory = m })) (does.ignored skip).memory
 
@@ -170,17 +172,25 @@ alike_in Fails order asked x y like is = tt
 command_stays : (part : DevicePart) (w : DeviceView) → own_issue w.slots 31 ≡ own_issue part.view.slots 31 → is_some (own_issue part.view.slots 31) ≡ true → (with_view part w).commands 31 ≡ part.commands 31
 command_stays part w same there = ap (λ (o : Option Issue). if is_some o then part.commands 31 else None) same ∙ ap (λ (b : Bool). if b then part.commands 31 else None) there
 
+-- in both modes nothing else of the control port is ignored
+passes_control : (on : Bool) (v : DeviceView) (o : Result Fis FisFault) → passes_over on 15 v o ≡ false
+passes_control true v o = refl
+passes_control false v o = refl
+
+skips_control : (part : DevicePart) (o : Result Fis FisFault) → skips 15 part o ≡ is_ignored true part.view o
+skips_control part o = ap (λ (b : Bool). b || is_ignored true part.view o) (passes_control (is_some part.row) part.view o)
+
 -- a frame that is not ignored
 pub heard_part : (part : DevicePart) (frame : List ℕ) (fis : Fis) → seen frame ≡ Ok fis → admitted 15 (Ok fis) ≡ Some fis → is_ignored true part.view (Ok fis) ≡ false → part_after 15 part (Came frame) ≡ after_fis 15 part (Some fis)
 heard_part part frame fis viewed may hears =
-    ap (λ o. if is_ignored true part.view o then part else after_fis 15 part (admitted 15 o)) viewed
-    ∙ ap (λ (b : Bool). if b then part else after_fis 15 part (admitted 15 (Ok fis))) hears
+    ap (λ o. if skips 15 part o then part else after_fis 15 part (admitted 15 o)) viewed
+    ∙ ap (λ (b : Bool). if b then part else after_fis 15 part (admitted 15 (Ok fis))) (skips_control part (Ok fis) ∙ hears)
     ∙ ap (after_fis 15 part) may
 
 pub skipped_part : (part : DevicePart) (frame : List ℕ) (fis : Fis) → seen frame ≡ Ok fis → is_ignored true part.view (Ok fis) ≡ true → part_after 15 part (Came frame) ≡ part
-skipped_part part frame fis viewed skips =
-    ap (λ o. if is_ignored true part.view o then part else after_fis 15 part (admitted 15 o)) viewed
-    ∙ ap (λ (b : Bool). if b then part else after_fis 15 part (admitted 15 (Ok fis))) skips
+skipped_part part frame fis viewed ignored =
+    ap (λ o. if skips 15 part o then part else after_fis 15 part (admitted 15 o)) viewed
+    ∙ ap (λ (b : Bool). if b then part else after_fis 15 part (admitted 15 (Ok fis))) (skips_control part (Ok fis) ∙ ignored)
 
 ignores_by : (v : DeviceView) (o : Result Fis FisFault) (b : Bool) → is_some v.fault ≡ false → v.state.resetting ≡ b → is_ignored true v o ≡ (b && not (signs o))
 ignores_by v o b none resetting = ap (λ (f : Bool). (not true || f) || (v.state.resetting && not (signs o))) none ∙ ap (λ (r : Bool). r && not (signs o)) resetting

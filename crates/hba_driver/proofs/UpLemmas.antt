@@ -22,15 +22,17 @@ use Rattle.hba_commands.specs.Writing.{header_for}
 use Rattle.slots.specs.Slots.{Issue, Slots, has_bit, issue_at, lowest, new_issue, own_issue, slots_of}
 use Rattle.slots.specs.Table.{IsIssue, IsTable}
 use Rattle.slots.proofs.MaskLemmas.{lowest_is}
+use Rattle.hba_fbs.specs.declared.error.WriteError.{WriteError}
 use Rattle.hba_fbs.specs.declared.error.WriteError.TheVariants as refusal
 use Rattle.hba_fbs.specs.declared.register.Register.TheVariants.{Sact, Ci, Sntf, Fbs}
 use Rattle.hba_fbs.specs.declared.registers.Registers.{Registers}
 use Rattle.hba_fbs.specs.Bits.{without}
-use Rattle.hba_fbs.specs.Issuing.{any_slot, asked, is_bad, is_busy, is_foreign, issue_with, view_issued}
+use Rattle.hba_fbs.specs.Issuing.{aimed, any_slot, asked, is_bad, is_busy, is_foreign, issue_with, view_issued}
 use Rattle.hba_fbs.specs.Offsets.{register_at}
 use Rattle.hba_fbs.specs.Registers.{own_refusal, running_if, written}
 use Rattle.hba_fbs.specs.Views.{DeviceView, Port, view_of}
-use Rattle.hba_fbs.specs.Writing.{Accepts, refusal_of, slots_refusal, view_after, view_cleared, write_refusal}
+use Rattle.hba_fbs.specs.Writing.{Accepts, apart_refusal, is_apart, refusal_of, slots_refusal, view_after, view_cleared, write_refusal}
+use Rattle.hba_fbs.proofs.AimLemmas.{aimed_chosen}
 use Rattle.port_errors.specs.Errors.{cleared_device}
 use Rattle.hba_laws.proofs.ViewLemmas.{is_own, own_here, own_in, own_issued}
 use Rattle.hba_driver.specs.declared.effect.Effect.TheVariants as effect
@@ -39,6 +41,7 @@ use Rattle.hba_driver.specs.Effects.{Acts, ActsAll, issuing, table_of}
 use Rattle.hba_driver.specs.Sights.{px_ci, px_fbs, px_sact, px_sntf}
 use Rattle.hba_driver.proofs.DrivenLemmas.{no_dec, refusal_is}
 use Rattle.hba_driver.proofs.IssuingLemmas.{bit_other, bit_same}
+use Rattle.hba_driver.proofs.ModeLemmas.{apart_chosen}
 use Rattle.hba_driver.proofs.OpenLemmas.{IsUp, taken}
 
 -- ---- small facts
@@ -221,14 +224,14 @@ sact_step slot old new before after up idle acts =
 
 -- ---- the write of PxCI
 
-ci_free : (starts more busy foreign bad : Bool) → starts ≡ true → busy ≡ false → foreign ≡ false → bad ≡ false
+ci_free : (starts more busy apart bad : Bool) (e : WriteError) → starts ≡ true → busy ≡ false → apart ≡ false → bad ≡ false
     → option_or (if not starts && more then Some refusal.Stopped else None)
-    (if starts then (if busy then Some refusal.SlotBusy else if foreign then Some refusal.WrongDevice else if bad then Some refusal.BadTable else None) else None) ≡ None
-ci_free true more false false false h k l m = refl
-ci_free true more false false true h k l m = absurd (true≢false m)
-ci_free true more false true bad h k l m = absurd (true≢false l)
-ci_free true more true foreign bad h k l m = absurd (true≢false k)
-ci_free false more busy foreign bad h k l m = absurd (false≢true h)
+    (if starts then (if busy then Some refusal.SlotBusy else if apart then Some e else if bad then Some refusal.BadTable else None) else None) ≡ None
+ci_free true more false false false e h k l m = refl
+ci_free true more false false true e h k l m = absurd (true≢false m)
+ci_free true more false true bad e h k l m = absurd (true≢false l)
+ci_free true more true apart bad e h k l m = absurd (true≢false k)
+ci_free false more busy apart bad e h k l m = absurd (false≢true h)
 
 -- what the write finds
 pub record Ready (slot dev : ℕ) (prds : List Prd) (fields : H2dFields) (port : Port) (memory : Memory) : Type 0 where
@@ -261,8 +264,9 @@ module _ (slot dev : ℕ) (prds : List Prd) (fields : H2dFields) (port : Port) (
   pub ci_taken : refusal_of Ci port memory (2 ^ slot) ≡ None
   unfolding own_refusal slots_refusal
   ci_taken =
-      ci_free port.registers.started (not (2 ^ slot == 0)) (any_slot (2 ^ slot) (is_busy port.slots)) (any_slot (2 ^ slot) (is_foreign port.registers memory.structure))
-      (any_slot (2 ^ slot) (is_bad port.registers memory)) r.up.starts (free_busy port.slots slot r.free) (any_none slot (is_foreign port.registers memory.structure) own_port)
+      ci_free port.registers.started (not (2 ^ slot == 0)) (any_slot (2 ^ slot) (is_busy port.slots)) (is_apart port memory (2 ^ slot))
+      (any_slot (2 ^ slot) (is_bad port.registers memory)) (apart_refusal port.registers) r.up.starts (free_busy port.slots slot r.free)
+      (apart_chosen port memory (2 ^ slot) r.up.switches ∙ any_none slot (is_foreign port.registers memory.structure) own_port)
       (any_none slot (is_bad port.registers memory) (ap is_none stands))
 
   pub asks : asked port.registers memory (2 ^ slot) slot ≡ Some (command_placed slot prds fields memory)
@@ -274,7 +278,9 @@ module _ (slot dev : ℕ) (prds : List Prd) (fields : H2dFields) (port : Port) (
       let up : IsUp port.registers = r.up in
       let accepts : Accepts port memory Ci (2 ^ slot) new = taken Ci px_ci (2 ^ slot) port new memory refl ci_taken acts.0 in
       let long = (is_own dev port.slots table).long in
-      let named : (dev == port.registers.chosen) ≡ true = equal_is dev port.registers.chosen (sym r.chosen) in
+      let target : ℕ = aimed port.registers memory.structure (2 ^ slot) in
+      let aims : target ≡ dev = aimed_chosen port.registers memory.structure (2 ^ slot) r.up.switches ∙ r.chosen in
+      let named : (dev == target) ≡ true = equal_is dev target (sym aims) in
       let view : view_of dev new ≡ view_issued port.registers memory (2 ^ slot) (view_of dev port) =
       accepts.views dev r.dev_below ∙ ap (λ (b : Bool). if b then view_issued port.registers memory (2 ^ slot) (view_of dev port) else view_of dev port) named in
       let commands : ℕ → Option Command = asked port.registers memory (2 ^ slot) in
@@ -285,10 +291,10 @@ module _ (slot dev : ℕ) (prds : List Prd) (fields : H2dFields) (port : Port) (
         up = subst IsUp (sym accepts.registers) (record { list = up.list; list_high = up.list_high; area_high = up.area_high; switches = up.switches; receives = up.receives; starts = up.starts });
         armed = ap (λ (x : Registers). x.armed) accepts.registers;
         issued =
-            ap (λ (v : DeviceView). own_issue v.slots slot) view ∙ ap (λ (f : ℕ → Option Issue). f slot) (own_issued port.registers.chosen commands (slots_of dev port.slots) 32 long)
-            ∙ ap (λ (b : Bool). cond b (issue_with port.registers.chosen (commands slot) was) was) (lt-ltb slot 32 r.below)
-            ∙ ap (λ (c : Option Command). issue_with port.registers.chosen c was) asks
-            ∙ ap (λ (d : ℕ). Some (new_issue d whole.work)) r.chosen;
+            ap (λ (v : DeviceView). own_issue v.slots slot) view ∙ ap (λ (f : ℕ → Option Issue). f slot) (own_issued target commands (slots_of dev port.slots) 32 long)
+            ∙ ap (λ (b : Bool). cond b (issue_with target (commands slot) was) was) (lt-ltb slot 32 r.below)
+            ∙ ap (λ (c : Option Command). issue_with target c was) asks
+            ∙ ap (λ (d : ℕ). Some (new_issue d whole.work)) aims;
       }
 
 -- ---- the writes that issue a command

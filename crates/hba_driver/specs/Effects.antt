@@ -84,7 +84,7 @@ effects_of (act.Issues slot dev queued) = issuing slot dev queued
 
 -- the address of a slot's command table
 abbrev pub table_of : ℕ → ℕ
-table_of slot = 8192 + 4096 * slot
+table_of slot = 0x2000 + 0x1000 * slot
 
 -- the driver's buffer: the first 512 bytes of the client area
 abbrev pub buffer_prd : Prd
@@ -102,7 +102,7 @@ pub record Tries (old : Port) (memory : Memory) (offset value : ℕ) (new : Port
 -- a row of the received area is emptied
 abbrev pub emptied : ℕ → Memory → Memory
 emptied dev memory =
-    record memory { structure = overwritten memory.structure (4096 + 256 * dev) (replicate 256 0) }
+    record memory { structure = overwritten memory.structure (0x1000 + 256 * dev) (replicate 256 0) }
 
 -- a command is written into its slot
 pub record Commands (old : Memory) (slot : ℕ) (fields : H2dFields) (prds : List Prd)

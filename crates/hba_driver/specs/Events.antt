@@ -86,7 +86,7 @@ pub record AreDriven (opened restarted : ℕ) (r : Registers) : Type 0 where
   pub commands : r.clb ≡ 0
   pub list_high : 2 ≤ opened → r.clbu ≡ 0
   -- the received area is at 1000h from the third write on
-  pub area : 3 ≤ opened → r.fb ≡ 4096
+  pub area : 3 ≤ opened → r.fb ≡ 0x1000
   pub area_high : 4 ≤ opened → r.fbu ≡ 0
   -- the port switches between devices from the fifth on
   pub switches : 5 ≤ opened → r.switching ≡ true

@@ -1,6 +1,6 @@
--- When a host port goes on. What a device sends stops the port only by a host bus error. What the control
--- port of a multiplier sends stops it only if it is no FIS of the control port (AHCI 1.3.1, 6.1, error types,
--- and 9.3, FIS-based Switching; Serial ATA 3.x, 16.2, control port).
+-- When a host port with FIS-based switching goes on. What a device sends stops the port only by a host bus
+-- error. What the control port of a multiplier sends stops it only if it is no FIS of the control port (AHCI
+-- 1.3.1, 6.1, error types, and 9.3, FIS-based Switching; Serial ATA 3.x, 16.2, control port).
 use Rattle.std.specs.Prelude.{ℕ, ◌≡◌, ◌<◌, ◌⊎◌, true, false, List, [], ◌∷◌, Some, None, Ok, is_some}
 use Rattle.fis_view.specs.Seen.{seen}
 use Rattle.fis_view.specs.declared.view.Fis.TheVariants as view
@@ -39,8 +39,13 @@ pub record NothingStops (host : event.Host) : Type 0 where
       → stops_port (port_of frame) host.port host.memory frame ≡ false
   pub gives : fails_by_bus (outgoing host.port host.memory) ≡ false
 
+-- there is FIS-based switching while ST is 1
+abbrev pub SwitchesIfStarted : event.Host → Type 0
+SwitchesIfStarted host = host.port.registers.started ≡ true → host.port.registers.switching ≡ true
+
 abbrev pub FaultsNeverStop : Type 0
-FaultsNeverStop = (host : event.Host) → IsHost host → CanBeRead host → NothingStops host
+FaultsNeverStop =
+    (host : event.Host) → IsHost host → SwitchesIfStarted host → CanBeRead host → NothingStops host
 
 -- ---- over turns
 

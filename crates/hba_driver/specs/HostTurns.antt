@@ -153,7 +153,7 @@ issued_over old new (turn ∷ turns) run = issued_by old turn ++ issued_over run
 -- area of a port that runs is the driver's.
 pub record IsHost (h : Host) : Type 0 where
   pub memory : IsHostMemory h.memory
-  pub area : h.port.registers.started ≡ true → h.port.registers.fb ≡ 4096
+  pub area : h.port.registers.started ≡ true → h.port.registers.fb ≡ 0x1000
 
 abbrev pub AreHosts : (old new : Host) → (turns : List HostTurn) → DoesAll old turns new → Type 0
 AreHosts old new [] run = IsHost old

@@ -159,7 +159,7 @@ EachRunKeeps = (old : Host) (turns : List HostTurn) (new : Host) (run : DoesAll 
 -- header and table of a slot are as they were
 pub record Stands (s : ℕ) (old new : Memory) : Type 0 where
   pub header : AgreeFrom (header_place 0 s) 32 old.structure new.structure
-  pub table : AgreeFrom (table_of s) 4096 old.structure new.structure
+  pub table : AgreeFrom (table_of s) 0x1000 old.structure new.structure
 
 -- What a request has written into the structure area stays there until the request is polled. Nothing else is
 -- written there except received FISes, the rows of devices that are flushed, and the commands of other slots.

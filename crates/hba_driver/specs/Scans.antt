@@ -2,7 +2,7 @@
 -- and clears the errors of each port that the answer names, lowest port first (Serial ATA 3.x, 16.2 and 16.3,
 -- port multiplier: GSCR[32], PSCR[1]).
 use Rattle.std.specs.Prelude.{ℕ, ◌≡◌, ◌<◌, ◌==◌, ◌&&◌, ◌||◌, Bool, true, false, not, nat_lt, nat_le}
-use Rattle.std.specs.Prelude.{if◌then◌else◌, List, [], ◌∷◌, take, drop, is_none, Result, Ok}
+use Rattle.std.specs.Prelude.{if◌then◌else◌, List, [], ◌∷◌, take, drop, is_none, unwrap_or, Result, Ok}
 use Rattle.fis_view.specs.Seen.{seen}
 use Rattle.fis_view.specs.Table.{D2h, Status, field}
 use Rattle.fis_view.specs.declared.view.Fis.{Fis}
@@ -42,7 +42,7 @@ is_scan order = false
 
 -- the value in the last answer of the control port, whose Register FIS is at 40h of its row
 abbrev pub told_in : DevicePart → ℕ
-told_in part = answer_in (seen (take 20 (drop 64 part.row)))
+told_in part = answer_in (seen (take 20 (drop 64 (unwrap_or part.row []))))
 
 -- it came, and names port n
 abbrev pub tells : ℕ → DevicePart → Bool

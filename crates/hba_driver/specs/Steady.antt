@@ -8,7 +8,7 @@ use Rattle.fis_view.specs.Seen.{seen}
 use Rattle.fis_view.specs.declared.view.Fis.TheVariants as view
 use Rattle.hba_fbs.specs.declared.register.Register.{Register}
 use Rattle.hba_fbs.specs.declared.register.Register.TheVariants.{Ci, Cmd, Fbs}
-use Rattle.hba_fbs.specs.Issuing.{asked}
+use Rattle.hba_fbs.specs.Issuing.{aimed, asked}
 use Rattle.hba_fbs.specs.Registers.{falls}
 use Rattle.hba_fbs.specs.Taking.{port_of}
 use Rattle.hba_fbs.specs.Writing.{cleared_by}
@@ -118,7 +118,7 @@ IsRowTurn n old turn = Unit {0}
 -- a write of PxCI issues for another device, ST does not fall, and the error of n is not cleared
 abbrev pub WritesBeside : ℕ → event.Host → Register → ℕ → Type 0
 WritesBeside n host Cmd value = falls host.port.registers value ≡ false
-WritesBeside n host Ci value = n ≢ host.port.registers.chosen
+WritesBeside n host Ci value = n ≢ aimed host.port.registers host.memory.structure value
 WritesBeside n host Fbs value = cleared_by host.port.errors value ≢ Some n
 WritesBeside n host register value = Unit {0}
 
@@ -136,7 +136,7 @@ IsBeside n host (event.Put at bytes) = Unit {0}
 pub record Issues (n slot : ℕ) (host : event.Host) (e : HostEvent) : Type 0 where
   pub is : e ≡ event.Wrote Ci (2 ^ slot)
   pub below : slot < 32
-  pub for_dev : host.port.registers.chosen ≡ n
+  pub for_dev : aimed host.port.registers host.memory.structure (2 ^ slot) ≡ n
   pub command : is_some (asked host.port.registers host.memory (2 ^ slot) slot) ≡ true
 
 -- the same for each of these events
