@@ -15,7 +15,8 @@ use Rattle.disk_thread.specs.Runs.{StationState, IsAtSamePort}
 use Rattle.pm_thread.specs.Runs.{PortSeats, ends_of, IsUnused, frames_at}
 use Rattle.pm_thread.specs.Passing.{risen}
 use Rattle.pm_threads.specs.Seats.{TiedTo, Starts, Handed}
-use Rattle.pm_threads.specs.Ends.{sent_at, EachArrives, is_short, is_shut}
+use Rattle.pm_threads.specs.Ends.{sent_at, EachArrives}
+use Rattle.pm_threads.specs.Halts.{is_short, is_shut}
 use Rattle.runner.specs.declared.worker.Fault.{Fault}
 use Rattle.runner.specs.declared.worker.Fault.TheVariants as fault
 
@@ -98,6 +99,16 @@ module _ {D E : Type 0} (station : E → StationState D) (R : StationState D →
     all_ran (x ∷ us) (w ∷ ws) [] u r f = absurd r
     all_ran (x ∷ us) (w ∷ ws) (y ∷ es) u r f =
         (goes_on x w y r.0 (f 0 y (omega arith)) u.0, all_ran us ws es u.1 r.1 (λ k d less. f (suc k) d (omega (arith, less))))
+
+    -- those that no fault ended
+    pub all_ran_unless : (us : List U) (ws : List (StationState D)) (es : List E) → AllZip Ran us ws → AllZip R ws es
+        → AllZip (λ u e. fault e ≡ None → Ran u (station e)) us es
+    all_ran_unless [] [] [] u r = tt
+    all_ran_unless [] [] (x ∷ es) u r = absurd r
+    all_ran_unless [] (w ∷ ws) es u r = absurd u
+    all_ran_unless (x ∷ us) [] es u r = absurd u
+    all_ran_unless (x ∷ us) (w ∷ ws) [] u r = absurd r
+    all_ran_unless (x ∷ us) (w ∷ ws) (y ∷ es) u r = ((λ quiet. goes_on x w y r.0 quiet u.0), all_ran_unless us ws es u.1 r.1)
 
 -- ---- faults
 

@@ -7,3 +7,4 @@ pub mod Pulls
 pub mod Puts
 pub mod Replicas
 pub mod Zips
+pub mod Failures

@@ -9,15 +9,9 @@ use Rattle.multiplier.specs.Passing.{of_conn}
 use Rattle.disk_model.specs.Histories.{Happening, Plan}
 use Rattle.disk_model.specs.Units.{plan_of, StandsFor, MaySend}
 use Rattle.disk_thread.specs.Runs.{StationState, IsRun}
-use Rattle.disk_thread.specs.declared.worker.DiskEnd.{DiskEnd}
 use Rattle.pm_thread.specs.Runs.{PmView}
 use Rattle.pm_thread.specs.Passing.{risen}
-use Rattle.host_memory.specs.Memory.{Memory}
-use Rattle.host_thread.specs.Runs.{HostView, IsRun as IsHostRun, is_open}
-use Rattle.host_thread.specs.declared.plan.Planned.{Planned}
-use Rattle.runner.specs.Posts.{PostState}
-use Rattle.runner.specs.declared.worker.Fault.{Fault}
-use Rattle.runner.specs.declared.worker.Fault.TheVariants as fault
+use Rattle.host_thread.specs.Runs.{HostView}
 use Rattle.pm_threads.specs.Seats.{TiedTo}
 use Rattle.pm_threads.specs.Setups.{pulls_at}
 
@@ -60,46 +54,3 @@ abbrev pub AllGoOn : List (StationState Unit) → List (StationState Unit) → T
 AllGoOn old new =
     (pulls : List (ℕ × ℕ)) (units : List Unit) → AllZip (RanWith pulls) units old
     → AllZip (RanWith pulls) units new
-
--- ---- runs that leave no ends
-
--- whether a worker ended by this fault
-abbrev pub is_short : Option Fault → Bool
-is_short (Some fault.OutOfMemory) = true
-is_short f = false
-
-abbrev pub is_shut : Option Fault → Bool
-is_shut (Some fault.GateShut) = true
-is_shut f = false
-
--- whether a worker says that its turns were spent
-abbrev pub is_given : Option PostState → Bool
-is_given None = false
-is_given (Some spent) = true
-
--- whether the worker of a device, of the multiplier or of the host ended by lack of memory
-abbrev pub is_any_short : List (DiskEnd Unit) → (pm host : Option Fault) → Bool
-is_any_short disks pm host = list_any (λ e. is_short e.fault) disks || is_short pm || is_short host
-
--- whether one of them says that its turns were spent
-abbrev pub is_any_spent : List (DiskEnd Unit) → (pm host : Option PostState) → Bool
-is_any_spent disks pm host = list_any (λ e. is_given e.spent) disks || is_given pm || is_given host
-
--- The workers of these units with these pulls, and of a host with this plan beside this memory, ran
--- until a request was open and none had a fault.
-pub record LeavesOpen (units : List Unit) (pulls : List (ℕ × ℕ)) (start : Memory)
-    (plan : List Planned) : Type 0 where
-  pub disks : List (StationState Unit)
-  pub ran : AllZip (RanWith pulls) units disks
-  pub host : HostView
-  pub hosted : IsHostRun start host
-  pub plan_is : host.plan ≡ plan
-  pub open_is : list_any is_open host.states ≡ true
-
--- if that holds, whatever units and pulls the workers were runs of, and whatever memory the host's
--- worker stood beside
-abbrev pub MayLeaveOpen : Type 0 → List (StationState Unit) → HostView → Type 0
-MayLeaveOpen IsSo workers host =
-    (units : List Unit) (pulls : List (ℕ × ℕ)) (start : Memory) → AllZip (RanWith pulls) units workers
-    → IsHostRun start host → IsSo
-    → LeavesOpen units pulls start host.plan

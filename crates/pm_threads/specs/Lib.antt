@@ -3,3 +3,5 @@ pub mod Links
 pub mod Seats
 pub mod Setups
 pub mod Summaries
+pub mod Halts
+pub mod Failures

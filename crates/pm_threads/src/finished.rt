@@ -4,11 +4,12 @@ ghost use Rattle.std.specs.Prelude.{◌≡◌, false, map};
 ghost use Rattle.std.specs.List.{list_any};
 ghost use Rattle.host_thread.specs.Runs.{is_open};
 ghost use Rattle.pm_threads.specs.Ends.{AreOfOneRun};
+ghost use Rattle.pm_threads.specs.Halts.{ends_of};
 
 use disk_model::Unit;
 use disk_thread::DiskEnd;
-use host_thread::HostWorker;
-use pm_thread::PmWorker;
+use host_thread::{HostEnd, HostWorker};
+use pm_thread::{PmEnd, PmWorker};
 use std::marker::Model;
 
 /// The ends of all workers of one run, with their seats. All requests have ended.
@@ -47,5 +48,42 @@ impl<'a> Finished<'a> {
     {
         let Finished { disks, pm, host } = self;
         (disks, pm, host)
+    }
+}
+
+/// The ends of all workers of a run that has not finished, with their seats. A worker had a fault, or a
+/// request is open.
+#[derive(Drop)]
+pub struct Unfinished<'a> {
+    pub(crate) disks: Vec<DiskEnd<'a, Unit>>,
+    pub(crate) pm: PmEnd<'a>,
+    pub(crate) host: HostEnd<'a>,
+}
+
+impl<'a> Model for Unfinished<'a> {
+    ghost use Rattle.pm_threads.specs.Ends.{AreOfOneRun};
+    ghost use Rattle.pm_threads.specs.Halts.{Halt, ends_of};
+
+    ghost Value = { Halt };
+
+    ghost view = { λ u. record { disks = u.disks.items; pm = u.pm; host = u.host } };
+
+    ghost invariant = { λ u. AreOfOneRun (ends_of (record {
+      disks = u.disks.items;
+      pm = u.pm;
+      host = u.host;
+    })) };
+}
+
+impl<'a> Unfinished<'a> {
+    /// The ends one by one. Their seats are of the same links.
+    pub(crate) fn into_parts(self) -> (Vec<DiskEnd<'a, Unit>>, PmWorker<'a>, HostWorker<'a>)
+        ensures disks { result.0.items ≡ self.entry.disks }
+        ensures pm { result.1 ≡ self.entry.pm.worker }
+        ensures host { result.2 ≡ self.entry.host.worker }
+        ensures one { AreOfOneRun (ends_of self.entry) }
+    {
+        let Unfinished { disks, pm, host } = self;
+        (disks, pm.worker, host.worker)
     }
 }

@@ -2,7 +2,8 @@
 //!
 //! [`run_threads`] seats a worker at each end of the [`Links`] and runs all of them side by side.
 //! [`close`] brings the seats together again. It says what holds for every run, whatever the threads
-//! did when: what the host took of a connection is a beginning of what its device sent on it.
+//! did when: what the host took of a connection is a beginning of what its device sent on it. For a run
+//! that has not finished, [`close_unfinished`] does the same, and says which requests are open.
 #![tactic(auto)]
 
 mod closing;
@@ -15,10 +16,10 @@ mod run;
 mod seats;
 mod setup;
 
-pub use closing::{CloseError, Summary, close};
+pub use closing::{CloseError, PartialSummary, Summary, close, close_unfinished};
 pub use disk_thread::{Gate, GateShut};
-pub use finished::Finished;
-pub use host_thread::Planned;
+pub use finished::{Finished, Unfinished};
+pub use host_thread::{Ended, Planned, State};
 pub use links::{Links, LinksError};
-pub use run::{RunError, run_threads};
+pub use run::{RunError, RunFailure, run_threads};
 pub use setup::{MAX_TURNS, Setup};

@@ -1,13 +1,15 @@
 //! All workers at once.
 
-ghost use Rattle.std.specs.Prelude.{◌≡◌, ◌≤◌, ◌↔◌, ◌||◌, true, false, length, map, None, Err, All, IfOk, OnOk};
+ghost use Rattle.std.specs.Prelude.{◌≡◌, ◌≤◌, ◌↔◌, ◌||◌, true, false, length, map, None, Some, All, IfErr, IfNone, IfOk, IfSome, OnOk};
 ghost use Rattle.std.specs.List.{AllZip, list_any};
 ghost use Rattle.host_thread.specs.Runs.{GoesOn, IsRun as IsHostRun, is_open};
-ghost use Rattle.pm_threads.specs.Ends.{AllGoOn, AreOfOneRun, LeavesOpen, MayLeaveOpen, RanWith, is_any_short, is_any_spent, is_given, is_short, is_shut};
+ghost use Rattle.pm_threads.specs.Ends.{AllGoOn, AreOfOneRun, RanWith};
+ghost use Rattle.pm_threads.specs.Failures.{IsTold, error_of};
+ghost use Rattle.pm_threads.specs.Halts.{Halt, IsLeftOf, IsWhy, LeadsTo, is_any_short, is_any_spent, is_given, is_short, is_shut};
 ghost use Rattle.pm_threads.specs.Seats.{TiedTo, first_ports};
 ghost use Rattle.pm_threads.specs.Setups.{can_run, memory_of};
 
-use crate::finished::Finished;
+use crate::finished::{Finished, Unfinished};
 use crate::links::Links;
 use crate::seats::seated;
 use crate::setup::{Setup, filled};
@@ -21,7 +23,7 @@ use std::sync::Wait;
 use std::thread::Threads;
 use thiserror::Error;
 
-/// Why a run leaves no ends.
+/// Why a run has not finished.
 #[derive(Clone, Copy, Debug, PartialEq, Eq, Error)]
 pub enum RunError {
     /// The allocator refused memory, or a thread could not be made. It comes before all others but BadSetup.
@@ -38,14 +40,37 @@ pub enum RunError {
     BadSetup = 4,
 }
 
-impl From<AllocError> for RunError {
-    ghost use Rattle.std.specs.Prelude.{◌≡◌};
+/// Why a run has not finished, and what is left of it.
+#[derive(Drop)]
+pub struct RunFailure<'a> {
+    /// Why.
+    pub error: RunError,
+    /// The ends of its workers. There are none if the run did not begin, as with BadSetup, if not all of its
+    /// threads could be made, or if memory for the list of ends was refused.
+    pub left: Option<Unfinished<'a>>,
+}
+
+impl<'a> From<AllocError> for RunFailure<'a> {
+    ghost use Rattle.std.specs.Prelude.{◌≡◌, None};
     ghost use Rattle.pm_threads.specs.declared.run.RunError.TheVariants.{OutOfMemory};
 
-    ghost from_gives = { λ _ e. e ≡ OutOfMemory };
+    ghost from_gives = { λ _ failure. failure ≡ record { error = OutOfMemory; left = None } };
 
-    fn from(_: AllocError) -> RunError {
-        RunError::OutOfMemory
+    fn from(_: AllocError) -> RunFailure<'a> {
+        RunFailure {
+            error: RunError::OutOfMemory,
+            left: None,
+        }
+    }
+}
+
+impl<'a> From<RunFailure<'a>> for RunError {
+    ghost use Rattle.std.specs.Prelude.{◌≡◌};
+
+    ghost from_gives = { λ failure error. error ≡ failure.error };
+
+    fn from(failure: RunFailure<'a>) -> RunError {
+        failure.error
     }
 }
 
@@ -105,12 +130,36 @@ fn is_any_spent(disks: &[DiskEnd<'_, Unit>], pm: Option<Spent>, host: Option<Spe
     any_spent(disks) || is_given(pm) || is_given(host)
 }
 
-/// What is left of a run, if no worker ended by a fault and no request is open.
+/// Why a run whose workers ended like this has not finished, or `None` if it has. Lack of memory is told
+/// before all else.
+fn cause(disks: &[DiskEnd<'_, Unit>], pm: &PmEnd<'_>, host: &HostEnd<'_>) -> Option<RunError>
+    ensures why { IfSome result (λ error.
+        IsWhy error (record { disks = disks.now; pm = pm.now; host = host.now })) }
+    ensures quiet { IfNone result (All (λ e. e.fault ≡ None) disks.now) }
+    ensures closed { IfNone result (list_any is_open host.now.worker.states ≡ false) }
+{
+    if is_any_short(disks, pm.fault, host.fault) {
+        return Some(RunError::OutOfMemory);
+    }
+    if any_shut(disks) {
+        return Some(RunError::GateShut);
+    }
+    if !host.worker.is_open() {
+        return None;
+    }
+    if is_any_spent(disks, pm.spent, host.spent) {
+        return Some(RunError::TurnsSpent);
+    }
+    Some(RunError::OutOfMemory)
+}
+
+/// What is left of a run. It has finished if no worker ended by a fault and no request is open. Otherwise
+/// all ends come with the error.
 fn finished<'a>(
     disks: Vec<DiskEnd<'a, Unit>>,
     pm: PmEnd<'a>,
     host: HostEnd<'a>,
-) -> Result<Finished<'a>, RunError>
+) -> Result<Finished<'a>, RunFailure<'a>>
     requires { AreOfOneRun (record {
       disks = map (λ e. e.station) disks.items;
       pm = pm.worker;
@@ -120,26 +169,14 @@ fn finished<'a>(
     ensures no_fault { OnOk result (All (λ e. e.fault ≡ None) disks.entry.items) }
     ensures host { IfOk result (λ f. f.host ≡ host.entry.worker) }
     ensures closed { OnOk result (list_any is_open host.entry.worker.states ≡ false) }
-    ensures bad_setup { result ≡ Err RunError.BadSetup → ⊥ }
-    ensures short { is_any_short disks.entry.items pm.entry.fault host.entry.fault ≡ true
-        → result ≡ Err RunError.OutOfMemory }
-    ensures gate { result ≡ Err RunError.GateShut → list_any (λ e. is_shut e.fault) disks.entry.items ≡ true }
-    ensures spent { result ≡ Err RunError.TurnsSpent
-        → is_any_spent disks.entry.items pm.entry.spent host.entry.spent ≡ true }
-    ensures quiet { result ≡ Err RunError.TurnsSpent → All (λ e. e.fault ≡ None) disks.entry.items }
-    ensures open { result ≡ Err RunError.TurnsSpent → list_any is_open host.entry.worker.states ≡ true }
+    ensures left { IfErr result (λ failure. failure.left ≡
+        Some (record { disks = disks.entry.items; pm = pm.entry; host = host.entry })) }
+    ensures why { IfErr result (λ failure.
+        IsWhy failure.error (record { disks = disks.entry.items; pm = pm.entry; host = host.entry })) }
 {
-    if is_any_short(disks.as_slice(), pm.fault, host.fault) {
-        return Err(RunError::OutOfMemory);
-    }
-    if any_shut(disks.as_slice()) {
-        return Err(RunError::GateShut);
-    }
-    if host.worker.is_open() {
-        if is_any_spent(disks.as_slice(), pm.spent, host.spent) {
-            return Err(RunError::TurnsSpent);
-        }
-        return Err(RunError::OutOfMemory);
+    if let Some(error) = cause(disks.as_slice(), &pm, &host) {
+        let left = Some(Unfinished { disks, pm, host });
+        return Err(RunFailure { error, left });
     }
     Ok(Finished {
         disks,
@@ -149,7 +186,8 @@ fn finished<'a>(
 }
 
 /// Runs the workers side by side, until all have ended. The stations stay runs of whatever units they
-/// were runs of, and so does the host.
+/// were runs of, and so does the host. If the run has not finished, that holds for each device whose
+/// worker had no fault.
 fn run_seated<'a, 'g, G: Gate + Sync, R: Threads + Wait + Sync>(
     rt: &R,
     alloc: Global,
@@ -157,7 +195,7 @@ fn run_seated<'a, 'g, G: Gate + Sync, R: Threads + Wait + Sync>(
     pm: PmWorker<'a>,
     host: HostWorker<'a>,
     turns: u64,
-) -> Result<Finished<'a>, RunError>
+) -> Result<Finished<'a>, RunFailure<'a>>
     requires few { length workers.items ≤ 15 }
     requires tied { AllZip TiedTo workers.items pm.ports }
     requires up { pm.host.link ≡ host.frames.link }
@@ -167,9 +205,11 @@ fn run_seated<'a, 'g, G: Gate + Sync, R: Threads + Wait + Sync>(
     ensures host { IfOk result (λ f. GoesOn host.entry f.host) }
     ensures plan { IfOk result (λ f. f.host.plan ≡ host.entry.plan) }
     ensures closed { IfOk result (λ f. list_any is_open f.host.states ≡ false) }
-    ensures bad_setup { result ≡ Err RunError.BadSetup → ⊥ }
-    ensures gate { result ≡ Err RunError.GateShut → G.may_refuse }
-    ensures turns { MayLeaveOpen (result ≡ Err RunError.TurnsSpent) workers.entry.items host.entry }
+    ensures begun { error_of result ≡ Some RunError.BadSetup → ⊥ }
+    ensures gate { error_of result ≡ Some RunError.GateShut → G.may_refuse }
+    ensures left { IfErr result (λ failure.
+        IfSome failure.left (λ h. LeadsTo workers.entry.items host.entry h)) }
+    ensures why { IfErr result (λ failure. IsTold failure) }
 {
     let (disks, pm, host) = run_three(rt, alloc, workers, pm, host, turns)?;
     finished(disks, pm, host)
@@ -178,15 +218,16 @@ fn run_seated<'a, 'g, G: Gate + Sync, R: Threads + Wait + Sync>(
 /// Runs each device, the multiplier and the host in threads of their own, until all requests have
 /// ended or a worker's turns are spent. The end of each device is a run of the unit that was given
 /// for its port, which was pulled out exactly when that was due. The end of the host is a run beside
-/// the memory with the puts.
+/// the memory with the puts. If the run has not finished, what is left of it comes with the error: the
+/// ends of the host and of each device whose worker had no fault are such runs.
 pub fn run_threads<'a, G: Gate + Sync, R: Threads + Wait + Sync>(
     rt: &R,
     alloc: Global,
     links: &'a mut Links,
     setup: Setup,
     gate: &G,
-) -> Result<Finished<'a>, RunError>
-    ensures bad_setup { (result ≡ Err RunError.BadSetup) ↔ (can_run links.old setup ≡ false) }
+) -> Result<Finished<'a>, RunFailure<'a>>
+    ensures bad_setup { (error_of result ≡ Some RunError.BadSetup) ↔ (can_run links.old setup ≡ false) }
     ensures disks { IfOk result (λ f.
         AllZip (RanWith setup.pulls.items) setup.units.items f.disks) }
     ensures ports { IfOk result (λ f. map (λ s. s.port) f.disks ≡ first_ports (length links.old.devices)) }
@@ -194,12 +235,17 @@ pub fn run_threads<'a, G: Gate + Sync, R: Threads + Wait + Sync>(
         (memory_of setup.memory (map (λ put. (put.0, put.1.items)) setup.puts.items)) f.host) }
     ensures plan { IfOk result (λ f. f.host.plan ≡ setup.plan.items) }
     ensures closed { IfOk result (λ f. list_any is_open f.host.states ≡ false) }
-    ensures gate { result ≡ Err RunError.GateShut → G.may_refuse }
-    ensures turns { result ≡ Err RunError.TurnsSpent → LeavesOpen setup.units.items setup.pulls.items
-        (memory_of setup.memory (map (λ put. (put.0, put.1.items)) setup.puts.items)) setup.plan.items }
+    ensures gate { error_of result ≡ Some RunError.GateShut → G.may_refuse }
+    ensures left { IfErr result (λ failure. IfSome failure.left (λ h.
+        IsLeftOf setup.units.items setup.pulls.items (length links.old.devices)
+        (memory_of setup.memory (map (λ put. (put.0, put.1.items)) setup.puts.items)) setup.plan.items h)) }
+    ensures why { IfErr result (λ failure. IsTold failure) }
 {
     if links.given || !setup.fits(links.ports()) {
-        return Err(RunError::BadSetup);
+        return Err(RunFailure {
+            error: RunError::BadSetup,
+            left: None,
+        });
     }
     links.given = true;
     let Setup {

@@ -92,9 +92,11 @@ fn summary_of<R: Threads + Wait + Sync>(
     };
     let finished = match run_threads(rt, alloc, &mut links, setup, &Open) {
         Ok(finished) => finished,
-        Err(RunError::OutOfMemory) => return Err(Failure::OutOfMemory),
-        Err(RunError::TurnsSpent) => return Ok(None),
-        Err(RunError::GateShut | RunError::BadSetup) => unreachable!(),
+        Err(failure) => match failure.error {
+            RunError::OutOfMemory => return Err(Failure::OutOfMemory),
+            RunError::TurnsSpent => return Ok(None),
+            RunError::GateShut | RunError::BadSetup => unreachable!(),
+        },
     };
     match close(rt, alloc, finished) {
         Ok(summary) => Ok(Some(summary)),

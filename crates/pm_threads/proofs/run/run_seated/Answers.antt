@@ -12,7 +12,11 @@ use Rattle.pm_thread.specs.Runs.{SameLinks, LinkEnd}
 use Rattle.host_thread.specs.Runs.{GoesOn, Same, LinkEnd as HostLinkEnd}
 use Rattle.pm_threads.specs.Ends.{Ends, AllGoOn, RanWith}
 use Rattle.pm_threads.specs.Setups.{pulls_at}
-use Rattle.pm_threads.proofs.Ends.{all_at_ports, all_tied, all_ran, if_ok, on_ok, one_refused}
+use Rattle.pm_threads.proofs.Ends.{all_at_ports, all_tied, all_ran, all_ran_unless, if_ok, on_ok, one_refused}
+use Rattle.pm_threads.proofs.Failures.{has_begun, is_told, left_is, shut_by_gate}
+use Rattle.pm_threads.specs.Halts.{Halt, LeadsTo}
+use Rattle.pm_thread.specs.declared.end.PmEnd.{PmEnd}
+use Rattle.host_thread.specs.declared.end.HostEnd.{HostEnd}
 use Rattle.pm_threads.proofs.run.run_seated.Goals as goal
 
 module _ (MayRefuse : Type 0) (turns : ℕ) where
@@ -56,23 +60,36 @@ returns-clause-ports g c =
     (λ f is. ap (map (λ (s : StationState Unit). s.port)) is
     ∙ all_at_ports (λ (e : DiskEnd Unit). e.station) (Ended g.G.Gate.may_refuse c.args.turns) (λ w e r. r.0) c.args.workers.items c.in_ok-disks.disks.items ended)
 
+-- what is left of a run that has not finished
+abbrev left_of : List (DiskEnd Unit) → PmEnd → HostEnd → Halt
+left_of disks pm host = record { disks = disks; pm = pm; host = host }
+
 pub returns-clause-gate : goal.returns-clause-gate
 returns-clause-gate g c shut =
     let ended : AllZip (Ended g.G.Gate.may_refuse c.args.turns) c.args.workers.items c.in_ok-disks.disks.items = search rules in
     one_refused (λ (e : DiskEnd Unit). e.fault) (Ended g.G.Gate.may_refuse c.args.turns) g.G.Gate.may_refuse (λ w e r is. r.2 is)
-    c.args.workers.items c.in_ok-disks.disks.items ended (c.finished.ensures.gate shut)
+    c.args.workers.items c.in_ok-disks.disks.items ended
+    (shut_by_gate c.finished.result (left_of c.in_ok-disks.disks.items c.in_ok-disks.pm c.in_ok-disks.host) c.finished.ensures.why shut)
 
-pub returns-clause-turns : goal.returns-clause-turns
-returns-clause-turns g c units pulls start ran hosted spent =
+pub returns-clause-begun : goal.returns-clause-begun
+returns-clause-begun g c bad =
+    has_begun c.finished.result (left_of c.in_ok-disks.disks.items c.in_ok-disks.pm c.in_ok-disks.host) c.finished.ensures.why bad
+
+pub returns-clause-why : goal.returns-clause-why
+returns-clause-why g c =
+    is_told c.finished.result (left_of c.in_ok-disks.disks.items c.in_ok-disks.pm c.in_ok-disks.host) c.finished.ensures.left c.finished.ensures.why
+
+pub returns-clause-left : goal.returns-clause-left
+returns-clause-left g c =
     let ended : AllZip (Ended g.G.Gate.may_refuse c.args.turns) c.args.workers.items c.in_ok-disks.disks.items = search rules in
     let goes : GoesOn c.args.host c.in_ok-disks.host.worker = search rules in
     let same : Same c.args.host c.in_ok-disks.host.worker = search rules in
-    record {
-      disks = map (λ (e : DiskEnd Unit). e.station) c.in_ok-disks.disks.items;
-      ran = all_ran (λ (e : DiskEnd Unit). e.station) (Ended g.G.Gate.may_refuse c.args.turns) (λ (e : DiskEnd Unit). e.fault) (RanWith pulls)
-          (still_ran g.G.Gate.may_refuse c.args.turns pulls) units _ _ ran ended (c.finished.ensures.quiet spent);
-      host = c.in_ok-disks.host.worker;
-      hosted = goes start hosted;
-      plan_is = same.plan;
-      open_is = c.finished.ensures.open spent;
-    }
+    left_is c.finished.result (left_of c.in_ok-disks.disks.items c.in_ok-disks.pm c.in_ok-disks.host)
+    (LeadsTo c.args.workers.items c.args.host) c.finished.ensures.left
+    (record {
+      disks = λ pulls units ran. all_ran_unless (λ (e : DiskEnd Unit). e.station) (Ended g.G.Gate.may_refuse c.args.turns)
+          (λ (e : DiskEnd Unit). e.fault) (RanWith pulls) (still_ran g.G.Gate.may_refuse c.args.turns pulls) units _ _ ran ended;
+      ports = all_at_ports (λ (e : DiskEnd Unit). e.station) (Ended g.G.Gate.may_refuse c.args.turns) (λ w e r. r.0) c.args.workers.items c.in_ok-disks.disks.items ended;
+      goes_on = goes;
+      plan = same.plan;
+    })

@@ -3,9 +3,10 @@ use Rattle.std.specs.Prelude.{map}
 use Rattle.std.specs.List.{AllZip, list_all}
 use Rattle.disk_model.specs.declared.unit.Unit.{Unit}
 use Rattle.disk_thread.specs.Runs.{StationState}
-use Rattle.host_thread.specs.declared.plan.Planned.{Planned}
 use Rattle.host_thread.specs.Runs.{GoesOn, IsRun as IsHostRun}
-use Rattle.pm_threads.specs.Ends.{Ends, AllGoOn, LeavesOpen, RanWith}
+use Rattle.pm_threads.specs.Ends.{Ends, AllGoOn, RanWith}
+use Rattle.pm_threads.specs.Halts.{IsLeftOf, LeadsTo}
+use Rattle.pm_threads.proofs.Failures.{left_then}
 use Rattle.pm_threads.specs.Seats.{Starts, first_ports}
 use Rattle.pm_threads.specs.Setups.{is_fitting, lies_in, memory_of}
 use Rattle.pm_threads.proofs.Ends.{all_unused, starts_tied, if_ok}
@@ -98,8 +99,8 @@ returns-clause-ports g c =
     (λ (f : Ends). map (λ (s : StationState Unit). s.port) f.disks ≡ first_ports (length c.args.links.now.devices)) c.run_seated.ensures.ports
     (λ f is. is ∙ at ∙ ap first_ports (count ∙ there))
 
-pub returns-clause-turns : goal.returns-clause-turns
-returns-clause-turns g c spent =
+pub returns-clause-left : goal.returns-clause-left
+returns-clause-left g c =
     let start = memory_of c.args.setup.memory (map (λ (put : ℕ × Vec ℕ Global). (put.0, put.1.items)) c.args.setup.puts.items) in
     let due : c.deref.result.now ≡ c.args.setup.pulls.items = search rules in
     let runs : AllZip (RanWith c.args.setup.pulls.items) c.args.setup.units.items c.in_ok-workers.workers.items =
@@ -110,5 +111,16 @@ returns-clause-turns g c spent =
     ∙ ap (λ (l : List (ℕ × Vec ℕ Global)). memory_of c.args.setup.memory (map (λ (put : ℕ × Vec ℕ Global). (put.0, put.1.items)) l)) given in
     let ran : IsHostRun c.in_ok-memory.memory c.in_ok-host.host = search rules in
     let plan : c.in_ok-host.host.plan ≡ c.args.setup.plan.items = search rules in
-    subst (λ (p : List Planned). LeavesOpen c.args.setup.units.items c.args.setup.pulls.items start p) plan
-    (c.run_seated.ensures.turns c.args.setup.units.items c.args.setup.pulls.items start runs (subst (λ m. IsHostRun m c.in_ok-host.host) is ran) spent)
+    let fits : is_fitting c.ports.result c.args.setup ≡ true = search rules in
+    let count : length c.args.setup.units.items ≡ c.ports.result = fits_units c.ports.result c.args.setup fits in
+    let there : c.ports.result ≡ length c.args.links.now.devices = search rules in
+    let at : map (λ (s : StationState Unit). s.port) c.in_ok-workers.workers.items ≡ first_ports (length c.args.setup.units.items) = c.in_ok-workers.ensures.ports in
+    left_then c.run_seated.result (LeadsTo c.in_ok-workers.workers.items c.in_ok-host.host)
+    (IsLeftOf c.args.setup.units.items c.args.setup.pulls.items (length c.args.links.now.devices) start c.args.setup.plan.items)
+    c.run_seated.ensures.left
+    (λ h leads. record {
+      disks = leads.disks c.args.setup.pulls.items c.args.setup.units.items runs;
+      at_ports = leads.ports ∙ at ∙ ap first_ports (count ∙ there);
+      hosted = leads.goes_on start (subst (λ m. IsHostRun m c.in_ok-host.host) is ran);
+      plan_is = leads.plan ∙ plan;
+    })

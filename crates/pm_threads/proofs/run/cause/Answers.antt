@@ -1,0 +1,42 @@
+use Rattle.std.proofs.Common.{rules, ◌≡◌, ◌∙◌, List, Option, None, true, false, sym, inr}
+use Rattle.std.specs.Prelude.{All}
+use Rattle.std.specs.List.{list_any}
+use Rattle.disk_model.specs.declared.unit.Unit.{Unit}
+use Rattle.disk_thread.specs.declared.worker.DiskEnd.{DiskEnd}
+use Rattle.host_thread.specs.Runs.{is_open}
+use Rattle.host_thread.specs.declared.end.HostEnd.{HostEnd}
+use Rattle.pm_thread.specs.declared.end.PmEnd.{PmEnd}
+use Rattle.runner.specs.declared.worker.Fault.{Fault}
+use Rattle.pm_threads.specs.Halts.{Halt, IsOpen, is_any_short, is_short, is_shut}
+use Rattle.pm_threads.proofs.Ends.{all_quiet, first_false}
+use Rattle.pm_threads.proofs.run.cause.Goals as goal
+
+quiet : (disks : List (DiskEnd Unit)) (pm host : Option Fault) → is_any_short disks pm host ≡ false
+    → list_any (λ e. is_shut e.fault) disks ≡ false → All (λ e. e.fault ≡ None) disks
+quiet disks pm host short shut = all_quiet (λ e. e.fault) disks (first_false _ _ _ short) shut
+
+-- a request is open, and no worker lacked memory or ended by its gate
+open_ends : (disks : List (DiskEnd Unit)) (pm : PmEnd) (host : HostEnd) → is_any_short disks pm.fault host.fault ≡ false
+    → list_any (λ e. is_shut e.fault) disks ≡ false → list_any is_open host.worker.states ≡ true
+    → IsOpen (record { disks = disks; pm = pm; host = host })
+open_ends disks pm host short shut is =
+    record { memory = short; quiet = quiet disks pm.fault host.fault short shut; open_is = is }
+
+pub returns-then-not-is_open-clause-quiet : goal.returns-then-not-is_open-clause-quiet
+returns-then-not-is_open-clause-quiet c =
+    quiet c.args.disks.now c.args.pm.now.fault c.args.host.now.fault (sym c.is_any_short.ensures ∙ c.if-is_any_short.false)
+    (sym c.any_shut.ensures ∙ c.if-any_shut.false)
+
+pub returns-then-is_any_spent-clause-why : goal.returns-then-is_any_spent-clause-why
+returns-then-is_any_spent-clause-why c = (
+  open_ends c.args.disks.now c.args.pm.now c.args.host.now (sym c.is_any_short.ensures ∙ c.if-is_any_short.false)
+      (sym c.any_shut.ensures ∙ c.if-any_shut.false) (sym c.if-not-is_open.ensures),
+  sym c.is_any_spent.ensures ∙ c.if-is_any_spent.true,
+)
+
+pub returns-clause-why : goal.returns-clause-why
+returns-clause-why c = inr (
+  open_ends c.args.disks.now c.args.pm.now c.args.host.now (sym c.is_any_short.ensures ∙ c.if-is_any_short.false)
+      (sym c.any_shut.ensures ∙ c.if-any_shut.false) (sym c.if-not-is_open.ensures),
+  sym c.is_any_spent.ensures ∙ c.if-is_any_spent.false,
+)
