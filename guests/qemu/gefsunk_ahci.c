@@ -4,9 +4,9 @@
  *
  *   -device gefsunk-ahci,disks=15,sectors=65536,log=FILE
  *
- * BAR 5 has the registers of AHCI. BAR 0 has one register, the hand: a write pulls a disk, or plugs in a new one. The
- * controller, the multiplier and the disks are the library's; here FISes are carried between them, bytes are written to the
- * guest's memory where the library says, and the interrupt is raised.
+ * BAR 5 has the registers of AHCI. BAR 0 has one register, the hand: a write pulls a disk, plugs in a new one, or holds all
+ * FISes back for a while. The controller, the multiplier and the disks are the library's; here FISes are carried between
+ * them, bytes are written to the guest's memory where the library says, and the interrupt is raised.
  */
 #include "qemu/osdep.h"
 #include "qapi/error.h"
@@ -41,7 +41,7 @@ struct GefsunkAhci {
     gef_hba hba;
     gef_pm pm;
     gef_disk disk[PORTS];
-    bool is_there[PORTS];
+    bool is_there[PORTS], is_held;
     Waiting down, up[PORTS];
     uint8_t fis[GEF_FIS_ROOM];
     gef_place places[GEF_PLACES_ROOM];
@@ -86,7 +86,7 @@ static void set_line(GefsunkAhci *s, uint32_t message)
     pci_set_irq(PCI_DEVICE(s), raised);
 }
 
-/* A new disk at a port; its third thousand of sectors can be unreadable in one place. */
+/* A new disk at a port, all of whose sectors can be read, or all but one. */
 static void plug(GefsunkAhci *s, unsigned port, bool is_bad)
 {
     static const uint32_t bad[] = {5000};
@@ -196,7 +196,7 @@ static void run_pump(void *opaque)
 {
     GefsunkAhci *s = opaque;
     unsigned round, port;
-    bool moved = true;
+    bool moved = !s->is_held;
     for (round = 0; moved && round < ROUNDS; round++) {
         moved = move_out(s);
         for (port = 0; port < PORTS; port++) {
@@ -229,7 +229,10 @@ static void write_register(void *opaque, hwaddr at, uint64_t value, unsigned siz
     qemu_bh_schedule(s->pump);
 }
 
-/* The hand: bits 7:0 are the port, bits 15:8 what is done: 1 pulls the disk, 2 plugs in one, 3 one with a bad sector. */
+/*
+ * The hand: bits 7:0 are the port, bits 15:8 what is done. 1 pulls the disk, 2 plugs in one, 3 one with a bad sector. 4 holds
+ * all FISes back, and 5 lets them go.
+ */
 static void write_hand(void *opaque, hwaddr at, uint64_t value, unsigned size)
 {
     GefsunkAhci *s = opaque;
@@ -242,6 +245,7 @@ static void write_hand(void *opaque, hwaddr at, uint64_t value, unsigned size)
     } else if ((what == 2 || what == 3) && !s->is_there[port]) {
         plug(s, port, what == 3);
     }
+    s->is_held = what == 4 || (s->is_held && what != 5);
     qemu_bh_schedule(s->pump);
 }
 
