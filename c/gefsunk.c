@@ -23,6 +23,16 @@ uint32_t gefsunk_disk_plug(gef_disk *disk);
 uint32_t gefsunk_disk_from_host(gef_disk *disk, const uint8_t *fis, size_t len);
 uint32_t gefsunk_disk_to_host(gef_disk *disk, uint8_t *fis, size_t room, size_t *len);
 uint32_t gefsunk_disk_sector(gef_disk *disk, uint32_t lba, uint8_t *bytes, size_t room);
+uint32_t gefsunk_hba_new(gef_hba *hba);
+uint32_t gefsunk_hba_free(gef_hba *hba);
+uint32_t gefsunk_hba_read32(gef_hba *hba, uint32_t offset, uint32_t *value);
+uint32_t gefsunk_hba_line(gef_hba *hba, uint32_t *raised);
+uint32_t gefsunk_hba_write32(gef_hba *hba, const uint8_t *memory, size_t len, uint64_t base, uint32_t offset,
+                             uint32_t value, uint32_t *link, uint32_t *message);
+uint32_t gefsunk_hba_take(gef_hba *hba, const uint8_t *fis, size_t len, gef_taken *taken);
+uint32_t gefsunk_hba_data(gef_hba *hba, gef_place *places, size_t room, size_t *count);
+uint32_t gefsunk_hba_next_out(gef_hba *hba, const uint8_t *memory, size_t memory_len, uint64_t base, uint8_t *fis,
+                              size_t room, size_t *len, uint32_t *message);
 
 const char *gef_status_text(gef_status status) {
     switch (status) {
@@ -124,4 +134,41 @@ gef_status gef_disk_to_host(gef_disk *disk, uint8_t *fis, size_t room, size_t *l
 
 gef_status gef_disk_sector(gef_disk *disk, uint32_t lba, uint8_t *bytes, size_t room) {
     return disk && bytes ? (gef_status)gefsunk_disk_sector(disk, lba, bytes, room) : GEF_NULL;
+}
+
+gef_status gef_hba_new(gef_hba *hba) {
+    return hba ? (gef_status)gefsunk_hba_new(hba) : GEF_NULL;
+}
+
+gef_status gef_hba_free(gef_hba *hba) {
+    return hba ? (gef_status)gefsunk_hba_free(hba) : GEF_NULL;
+}
+
+gef_status gef_hba_read32(gef_hba *hba, uint32_t offset, uint32_t *value) {
+    return hba && value ? (gef_status)gefsunk_hba_read32(hba, offset, value) : GEF_NULL;
+}
+
+gef_status gef_hba_line(gef_hba *hba, uint32_t *raised) {
+    return hba && raised ? (gef_status)gefsunk_hba_line(hba, raised) : GEF_NULL;
+}
+
+gef_status gef_hba_write32(gef_hba *hba, const gef_memory *memory, uint32_t offset, uint32_t value, uint32_t *link,
+                           uint32_t *message) {
+    if (!hba || !memory || !memory->bytes || !link || !message) return GEF_NULL;
+    return (gef_status)gefsunk_hba_write32(hba, memory->bytes, memory->len, memory->address, offset, value, link,
+                                           message);
+}
+
+gef_status gef_hba_take(gef_hba *hba, const uint8_t *fis, size_t len, gef_taken *taken) {
+    return hba && fis && taken ? (gef_status)gefsunk_hba_take(hba, fis, len, taken) : GEF_NULL;
+}
+
+gef_status gef_hba_data(gef_hba *hba, gef_place *places, size_t room, size_t *count) {
+    return hba && places && count ? (gef_status)gefsunk_hba_data(hba, places, room, count) : GEF_NULL;
+}
+
+gef_status gef_hba_next_out(gef_hba *hba, const gef_memory *memory, uint8_t *fis, size_t room, size_t *len,
+                            uint32_t *message) {
+    if (!hba || !memory || !memory->bytes || !fis || !len || !message) return GEF_NULL;
+    return (gef_status)gefsunk_hba_next_out(hba, memory->bytes, memory->len, memory->address, fis, room, len, message);
 }

@@ -1,5 +1,5 @@
 /*
- * gefsunk.h - a Serial ATA port multiplier, disks and a decoder of FISes, for C.
+ * gefsunk.h - an AHCI controller, a Serial ATA port multiplier, disks and a decoder of FISes, for C.
  *
  * Serial ATA devices and hosts send each other FISes (frame information structures): 4 to 8,196 bytes, a multiple of 4.
  * A port multiplier lets one host port serve up to fifteen devices. This library is its firmware at the level of the
@@ -219,6 +219,114 @@ gef_status gef_disk_to_host(gef_disk *disk, uint8_t *fis, size_t room, size_t *l
  * Can return GEF_CLOSED, GEF_NO_SECTOR, GEF_TOO_SHORT.
  */
 gef_status gef_disk_sector(gef_disk *disk, uint32_t lba, uint8_t *bytes, size_t room);
+
+/* ---- a controller ------------------------------------------------------------------------------------------------ */
+
+/*
+ * An AHCI controller (AHCI 1.3.1) with one port, as a register file for drivers that nobody will change: FIS-based
+ * switching, native command queuing, 32 slots, 64-bit addresses. Behind it you put a multiplier, or one device of your own,
+ * and in front of it a guest: gef_hba_read32 and gef_hba_write32 are the accesses to its registers. The rules of a
+ * handle are those of gef_pm. A controller takes about 5 MB.
+ *
+ *     on a write of a register:  gef_hba_write32; do what *link says; then pump, and set the line
+ *     pump, until nothing moves: gef_hba_next_out gives a FIS: it goes to gef_pm_from_host
+ *                                gef_pm_to_host gives one: it goes to gef_hba_take, and from there to guest memory
+ *     after each of them:        gef_hba_line says whether the interrupt line is up
+ */
+typedef struct gef_hba {
+    uint32_t mark;
+    void *at;
+} gef_hba;
+
+#define GEF_HBA_CLOSED { 0, 0 }
+
+/*
+ * The guest's memory, for one call: len bytes, the first of them at this address of the guest. What lies outside is no
+ * memory to the controller. Nobody may write to the bytes while the call runs. A guest's driver keeps to that: it leaves
+ * the commands that it has issued, and data on their way out, as they are. If you do not trust your guest, stop its
+ * processors for the time of the call, or give a copy.
+ *
+ * The controller never writes there. Its calls say what is to be written, and you write it: so a virtual machine's own
+ * means for that (a log of changed pages, for one) see each write.
+ */
+typedef struct gef_memory {
+    const uint8_t *bytes;
+    size_t len;
+    uint64_t address;
+} gef_memory;
+
+/* Makes a controller, and opens the handle: stopped, the link up. Can return GEF_OPEN, GEF_NO_MEMORY. */
+gef_status gef_hba_new(gef_hba *hba);
+
+/* Frees the controller, and closes the handle. A second call returns GEF_CLOSED. */
+gef_status gef_hba_free(gef_hba *hba);
+
+/*
+ * Reads the register at an offset (those of the port begin at 100h): 0 where no register begins. It changes nothing.
+ * Can return GEF_CLOSED.
+ */
+gef_status gef_hba_read32(gef_hba *hba, uint32_t offset, uint32_t *value);
+
+/* Whether the interrupt line is up: 1 or 0. It changes nothing. Can return GEF_CLOSED. */
+gef_status gef_hba_line(gef_hba *hba, uint32_t *raised);
+
+/* What a write does to the link. */
+#define GEF_LINK_STAYS 0u /* nothing */
+#define GEF_LINK_RESET 1u /* it goes down: drop what is on its way, and make the multiplier and what is behind it anew */
+#define GEF_LINK_UP 2u    /* it is up again */
+
+/*
+ * Writes the register at an offset. No write is an error: what may not be done is ignored, or held until it may be. Ones
+ * written to PxCI issue commands; their headers, FISes and tables are read from the guest's memory in this call, and never
+ * again. *link says what the write does to the link. *message is 1 if a message is due (where messages, MSI, stand for
+ * the line), else 0.
+ * Can return GEF_CLOSED.
+ */
+gef_status gef_hba_write32(gef_hba *hba, const gef_memory *memory, uint32_t offset, uint32_t value, uint32_t *link,
+                           uint32_t *message);
+
+/* What taking a FIS did. */
+typedef struct gef_taken {
+    uint32_t is_posted;  /* 1: the FIS goes to the guest's memory, all of it, from post_at on */
+    uint32_t is_counted; /* 1: count goes there, as 4 bytes, least significant first, at count_at */
+    uint64_t post_at;
+    uint64_t count_at;
+    uint32_t count;
+    uint32_t message; /* 1: a message is due */
+} gef_taken;
+
+/*
+ * A FIS arrives from the multiplier, or from a device of yours, with its port in PM Port. Before the guest goes on, write
+ * to its memory, in this order: the bytes of a Data FIS (gef_hba_data), the FIS (is_posted), the count (is_counted).
+ * Can return GEF_CLOSED, GEF_BAD_LENGTH, GEF_NO_MEMORY.
+ */
+gef_status gef_hba_take(gef_hba *hba, const uint8_t *fis, size_t len, gef_taken *taken);
+
+/* Bytes of a Data FIS, and where they go: those from fis + 4 + from on, len of them, to this address of the guest. */
+typedef struct gef_place {
+    uint64_t at;
+    size_t from;
+    size_t len;
+} gef_place;
+
+/* Room for the places of any Data FIS. Drivers seldom need more than 20. */
+#define GEF_PLACES_ROOM 8192
+
+/*
+ * Where the bytes of the FIS that gef_hba_take took last go: the places into the room, their number into *count. It changes
+ * nothing. GEF_NOTHING: it brought no bytes.
+ * Can return GEF_CLOSED, GEF_TOO_SHORT, GEF_NOTHING. After GEF_TOO_SHORT the room has some of the places.
+ */
+gef_status gef_hba_data(gef_hba *hba, gef_place *places, size_t room, size_t *count);
+
+/*
+ * Takes the next FIS that goes out, with its PM Port: its bytes go into fis, and their number into *len. The room must be
+ * GEF_FIS_ROOM. Bytes of a write are read from the guest's memory in this call. *message is 1 if a message is due, after
+ * GEF_NOTHING too.
+ * Can return GEF_CLOSED, GEF_TOO_SHORT, GEF_NOTHING, GEF_NO_MEMORY (pass it again).
+ */
+gef_status gef_hba_next_out(gef_hba *hba, const gef_memory *memory, uint8_t *fis, size_t room, size_t *len,
+                            uint32_t *message);
 
 /*
  * ---- What is proved, and what you must keep

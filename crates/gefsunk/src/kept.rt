@@ -1,6 +1,7 @@
 //! What a handle can have behind it.
 
 use crate::pm::Pm;
+use ahci_port::Controller;
 use disk_model::Disk;
 
 /// What stands behind a handle. One kind of handle keeps all, so that a handle of one kind that is given to
@@ -11,4 +12,6 @@ pub enum Kept {
     Pm(Pm),
     /// A disk.
     Disk(Disk),
+    /// A controller of one port.
+    Hba(Controller),
 }

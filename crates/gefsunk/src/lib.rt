@@ -4,23 +4,29 @@
 
 ghost use Rattle.std.specs.Prelude.{◌≡◌, length, take};
 ghost use Rattle.gefsunk.specs.Disks.{DiskFromHost, DiskPlug, DiskToHost, SectorRule};
-ghost use Rattle.gefsunk.specs.Exports.{AtDisk, AtPm, FreedDisk, FreedPm, MadeDisk, MadePm};
+ghost use Rattle.gefsunk.specs.Exports.{AtDisk, AtHba, AtPm, FreedDisk, FreedHba, FreedPm, MadeDisk, MadeHba, MadePm};
+ghost use Rattle.gefsunk.specs.Hbas.{DataRule, HbaRead, HbaTake, HbaWrite, LineRule, NextOut, block};
 ghost use Rattle.gefsunk.specs.Pms.{FromDevice, FromHost, Plug, ReadRule, ToDevice, ToHost, Unplug};
 ghost use Rattle.gefsunk.specs.Statuses.{status_of};
 ghost use Rattle.gefsunk.specs.Texts.{TextRule};
 ghost use Rattle.gefsunk.specs.declared.status.Status.TheVariants as status;
 
 mod disk;
+mod guest;
 mod handle;
+mod hba;
 mod kept;
 mod pm;
 mod status;
 mod text;
 
 pub use handle::{Handle, Held};
+pub use hba::{FisTaken, Place};
 pub use kept::Kept;
 pub use pm::Pm;
 pub use status::Status;
+use crate::guest::GuestBlock;
+use ahci_port::Controller;
 use std::alloc::Global;
 
 /// Writes the text of a FIS and its length.
@@ -63,7 +69,7 @@ pub extern "C" fn gefsunk_pm_free(handle: &mut Handle, alloc: Global) -> u32
     };
     match &*kept {
         Kept::Pm(_) => Status::Done.code(),
-        Kept::Disk(_) => {
+        Kept::Disk(_) | Kept::Hba(_) => {
             *handle = Handle::open(kept);
             Status::Closed.code()
         }
@@ -81,7 +87,7 @@ pub extern "C" fn gefsunk_pm_plug(handle: &mut Handle, alloc: Global, port: u8) 
     };
     let status = match &mut *kept {
         Kept::Pm(pm) => pm.plug(port),
-        Kept::Disk(_) => Status::Closed,
+        Kept::Disk(_) | Kept::Hba(_) => Status::Closed,
     };
     *handle = Handle::open(kept);
     status.code()
@@ -98,7 +104,7 @@ pub extern "C" fn gefsunk_pm_unplug(handle: &mut Handle, alloc: Global, port: u8
     };
     let status = match &mut *kept {
         Kept::Pm(pm) => pm.unplug(port),
-        Kept::Disk(_) => Status::Closed,
+        Kept::Disk(_) | Kept::Hba(_) => Status::Closed,
     };
     *handle = Handle::open(kept);
     status.code()
@@ -115,7 +121,7 @@ pub extern "C" fn gefsunk_pm_from_host(handle: &mut Handle, alloc: Global, fis: 
     };
     let status = match &mut *kept {
         Kept::Pm(pm) => pm.from_host(alloc, fis),
-        Kept::Disk(_) => Status::Closed,
+        Kept::Disk(_) | Kept::Hba(_) => Status::Closed,
     };
     *handle = Handle::open(kept);
     status.code()
@@ -137,7 +143,7 @@ pub extern "C" fn gefsunk_pm_from_device(
     };
     let status = match &mut *kept {
         Kept::Pm(pm) => pm.from_device(alloc, port, fis),
-        Kept::Disk(_) => Status::Closed,
+        Kept::Disk(_) | Kept::Hba(_) => Status::Closed,
     };
     *handle = Handle::open(kept);
     status.code()
@@ -160,7 +166,7 @@ pub extern "C" fn gefsunk_pm_to_host(
     };
     let status = match &mut *kept {
         Kept::Pm(pm) => pm.to_host(alloc, room, len, port),
-        Kept::Disk(_) => Status::Closed,
+        Kept::Disk(_) | Kept::Hba(_) => Status::Closed,
     };
     *handle = Handle::open(kept);
     status.code()
@@ -183,7 +189,7 @@ pub extern "C" fn gefsunk_pm_to_device(
     };
     let status = match &mut *kept {
         Kept::Pm(pm) => pm.to_device(port, room, len),
-        Kept::Disk(_) => Status::Closed,
+        Kept::Disk(_) | Kept::Hba(_) => Status::Closed,
     };
     *handle = Handle::open(kept);
     status.code()
@@ -206,7 +212,7 @@ pub extern "C" fn gefsunk_pm_read(
     };
     let status = match &*kept {
         Kept::Pm(pm) => pm.read(port, number, value),
-        Kept::Disk(_) => Status::Closed,
+        Kept::Disk(_) | Kept::Hba(_) => Status::Closed,
     };
     *handle = Handle::open(kept);
     status.code()
@@ -226,7 +232,7 @@ pub extern "C" fn gefsunk_pm_dropped(handle: &mut Handle, alloc: Global, count: 
             *count = pm.multiplier.dropped();
             Status::Done
         }
-        Kept::Disk(_) => Status::Closed,
+        Kept::Disk(_) | Kept::Hba(_) => Status::Closed,
     };
     *handle = Handle::open(kept);
     status.code()
@@ -273,7 +279,7 @@ pub extern "C" fn gefsunk_disk_free(handle: &mut Handle, alloc: Global) -> u32
     };
     match &*kept {
         Kept::Disk(_) => Status::Done.code(),
-        Kept::Pm(_) => {
+        Kept::Pm(_) | Kept::Hba(_) => {
             *handle = Handle::open(kept);
             Status::Closed.code()
         }
@@ -291,7 +297,7 @@ pub extern "C" fn gefsunk_disk_plug(handle: &mut Handle, alloc: Global) -> u32
     };
     let status = match &mut *kept {
         Kept::Disk(disk) => disk::plug(disk, alloc),
-        Kept::Pm(_) => Status::Closed,
+        Kept::Pm(_) | Kept::Hba(_) => Status::Closed,
     };
     *handle = Handle::open(kept);
     status.code()
@@ -308,7 +314,7 @@ pub extern "C" fn gefsunk_disk_from_host(handle: &mut Handle, alloc: Global, fis
     };
     let status = match &mut *kept {
         Kept::Disk(disk) => disk::from_host(disk, alloc, fis),
-        Kept::Pm(_) => Status::Closed,
+        Kept::Pm(_) | Kept::Hba(_) => Status::Closed,
     };
     *handle = Handle::open(kept);
     status.code()
@@ -330,7 +336,7 @@ pub extern "C" fn gefsunk_disk_to_host(
     };
     let status = match &mut *kept {
         Kept::Disk(disk) => disk::to_host(disk, alloc, room, len),
-        Kept::Pm(_) => Status::Closed,
+        Kept::Pm(_) | Kept::Hba(_) => Status::Closed,
     };
     *handle = Handle::open(kept);
     status.code()
@@ -352,7 +358,184 @@ pub extern "C" fn gefsunk_disk_sector(
     };
     let status = match &*kept {
         Kept::Disk(disk) => disk::sector(disk, lba, room),
-        Kept::Pm(_) => Status::Closed,
+        Kept::Pm(_) | Kept::Hba(_) => Status::Closed,
+    };
+    *handle = Handle::open(kept);
+    status.code()
+}
+
+/// Makes a controller, and opens the handle.
+#[unsafe(no_mangle)]
+pub extern "C" fn gefsunk_hba_new(handle: &mut Handle, alloc: Global) -> u32
+    ensures { MadeHba handle.old.held.value (status_of result) handle.new.held.value }
+{
+    if let Some(kept) = handle.take(alloc) {
+        *handle = Handle::open(kept);
+        return Status::Open.code();
+    }
+    let Ok(controller) = Controller::new(alloc) else {
+        return Status::NoMemory.code();
+    };
+    match Box::new(alloc, Kept::Hba(controller)) {
+        Ok(kept) => {
+            *handle = Handle::open(kept);
+            Status::Done.code()
+        }
+        Err(_) => Status::NoMemory.code(),
+    }
+}
+
+/// Frees the controller, and closes the handle.
+#[unsafe(no_mangle)]
+pub extern "C" fn gefsunk_hba_free(handle: &mut Handle, alloc: Global) -> u32
+    ensures { FreedHba handle.old.held.value (status_of result) handle.new.held.value }
+{
+    let Some(kept) = handle.take(alloc) else {
+        return Status::Closed.code();
+    };
+    match &*kept {
+        Kept::Hba(_) => Status::Done.code(),
+        Kept::Pm(_) | Kept::Disk(_) => {
+            *handle = Handle::open(kept);
+            Status::Closed.code()
+        }
+    }
+}
+
+/// Reads a register of the controller.
+#[unsafe(no_mangle)]
+pub extern "C" fn gefsunk_hba_read32(
+    handle: &mut Handle,
+    alloc: Global,
+    offset: u32,
+    value: &mut u32,
+) -> u32
+    ensures { AtHba handle.old.held.value (status_of result) handle.new.held.value
+        (λ old new. HbaRead old offset (status_of result) value.new × (new ≡ old)) }
+{
+    let Some(kept) = handle.take(alloc) else {
+        return Status::Closed.code();
+    };
+    let status = match &*kept {
+        Kept::Hba(controller) => hba::read32(controller, offset, value),
+        Kept::Pm(_) | Kept::Disk(_) => Status::Closed,
+    };
+    *handle = Handle::open(kept);
+    status.code()
+}
+
+/// Says whether the interrupt line is raised.
+#[unsafe(no_mangle)]
+pub extern "C" fn gefsunk_hba_line(handle: &mut Handle, alloc: Global, raised: &mut u32) -> u32
+    ensures { AtHba handle.old.held.value (status_of result) handle.new.held.value
+        (λ old new. LineRule old (status_of result) raised.new × (new ≡ old)) }
+{
+    let Some(kept) = handle.take(alloc) else {
+        return Status::Closed.code();
+    };
+    let status = match &*kept {
+        Kept::Hba(controller) => hba::line(controller, raised),
+        Kept::Pm(_) | Kept::Disk(_) => Status::Closed,
+    };
+    *handle = Handle::open(kept);
+    status.code()
+}
+
+/// Writes a register of the controller. Says what that does to the link, and whether a message is due.
+#[unsafe(no_mangle)]
+pub extern "C" fn gefsunk_hba_write32(
+    handle: &mut Handle,
+    alloc: Global,
+    memory: &[u8],
+    base: u64,
+    offset: u32,
+    value: u32,
+    link: &mut u32,
+    message: &mut u32,
+) -> u32
+    ensures { AtHba handle.old.held.value (status_of result) handle.new.held.value
+        (λ old new. HbaWrite old (block base memory.now) offset value (status_of result) link.new message.new new) }
+{
+    let Some(mut kept) = handle.take(alloc) else {
+        return Status::Closed.code();
+    };
+    let guest = GuestBlock::new(base, memory);
+    let status = match &mut *kept {
+        Kept::Hba(controller) => {
+            hba::write32(controller, alloc, &guest, offset, value, link, message)
+        }
+        Kept::Pm(_) | Kept::Disk(_) => Status::Closed,
+    };
+    *handle = Handle::open(kept);
+    status.code()
+}
+
+/// The controller takes a FIS of a device.
+#[unsafe(no_mangle)]
+pub extern "C" fn gefsunk_hba_take(
+    handle: &mut Handle,
+    alloc: Global,
+    fis: &[u8],
+    taken: &mut FisTaken,
+) -> u32
+    ensures { AtHba handle.old.held.value (status_of result) handle.new.held.value
+        (λ old new. HbaTake old fis.now (status_of result) taken.new new) }
+{
+    let Some(mut kept) = handle.take(alloc) else {
+        return Status::Closed.code();
+    };
+    let status = match &mut *kept {
+        Kept::Hba(controller) => hba::take(controller, alloc, fis, taken),
+        Kept::Pm(_) | Kept::Disk(_) => Status::Closed,
+    };
+    *handle = Handle::open(kept);
+    status.code()
+}
+
+/// Gives the places of the bytes of the Data FIS that was taken last.
+#[unsafe(no_mangle)]
+pub extern "C" fn gefsunk_hba_data(
+    handle: &mut Handle,
+    alloc: Global,
+    room: &mut [Place],
+    count: &mut usize,
+) -> u32
+    ensures { AtHba handle.old.held.value (status_of result) handle.new.held.value
+        (λ old new. DataRule old (length room.old) (status_of result) (take count.new room.new) × (new ≡ old)) }
+{
+    let Some(kept) = handle.take(alloc) else {
+        return Status::Closed.code();
+    };
+    let status = match &*kept {
+        Kept::Hba(controller) => hba::data(controller, room, count),
+        Kept::Pm(_) | Kept::Disk(_) => Status::Closed,
+    };
+    *handle = Handle::open(kept);
+    status.code()
+}
+
+/// Gives the next FIS of the controller for its devices.
+#[unsafe(no_mangle)]
+pub extern "C" fn gefsunk_hba_next_out(
+    handle: &mut Handle,
+    alloc: Global,
+    memory: &[u8],
+    base: u64,
+    room: &mut [u8],
+    len: &mut usize,
+    message: &mut u32,
+) -> u32
+    ensures { AtHba handle.old.held.value (status_of result) handle.new.held.value
+        (λ old new. NextOut old (block base memory.now) (length room.old) (status_of result)
+            (take len.new room.new) message.new new) }
+{
+    let Some(mut kept) = handle.take(alloc) else {
+        return Status::Closed.code();
+    };
+    let guest = GuestBlock::new(base, memory);
+    let status = match &mut *kept {
+        Kept::Hba(controller) => hba::next_out(controller, alloc, &guest, room, len, message),
+        Kept::Pm(_) | Kept::Disk(_) => Status::Closed,
     };
     *handle = Handle::open(kept);
     status.code()
