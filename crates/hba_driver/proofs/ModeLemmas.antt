@@ -1,5 +1,5 @@
 -- With FIS-based switching: what the words of the port that tell the modes apart come to.
-use Rattle.std.proofs.Common.{◌≡◌, ℕ, Bool, true, false, List, [], ◌∷◌, refl, ap, subst, ◌∙◌, Option, Some, None}
+use Rattle.std.proofs.Common.{◌≡◌, ℕ, Bool, true, false, List, [], ◌∷◌, ap, subst, ◌∙◌, Option, Some, None}
 use Rattle.std.specs.Prelude.{◌==◌, ◌&&◌, ◌||◌, not, if◌then◌else◌, is_some, Result}
 use Rattle.fis_view.specs.Seen.{seen}
 use Rattle.fis_view.specs.declared.view.Fis.{Fis}
@@ -7,7 +7,6 @@ use Rattle.fis_view.specs.declared.view.FisFault.{FisFault}
 use Rattle.host_memory.specs.Memory.{Memory}
 use Rattle.port_errors.specs.Errors.{Errors}
 use Rattle.rx_area.specs.Area.{row_of}
-use Rattle.rx_area.specs.declared.area.Posted.{Posted}
 use Rattle.hba_fbs.specs.declared.error.WriteError.{WriteError}
 use Rattle.hba_fbs.specs.declared.error.WriteError.TheVariants as refusal
 use Rattle.hba_fbs.specs.declared.hearing.Fault.{Fault}
@@ -21,7 +20,7 @@ use Rattle.hba_fbs.specs.Views.{DeviceView, Port, view_of}
 use Rattle.hba_fbs.specs.Writing.{apart_refusal, is_apart, issue_refusal, view_after}
 use Rattle.hba_fbs.proofs.AimLemmas.{aimed_chosen}
 use Rattle.hba_laws.specs.Hosts.{Host}
-use Rattle.hba_laws.specs.Isolation.{Issued, OwnEvent, skips, written_to}
+use Rattle.hba_laws.specs.Isolation.{Issued, skips, written_to}
 use Rattle.hba_laws.specs.Parts.{DevicePart, own_row}
 
 -- ---- what a write of PxCI issues
