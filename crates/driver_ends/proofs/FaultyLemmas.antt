@@ -1,6 +1,6 @@
 -- A fault of a disk's FIS sets the device aside, and the driver does not look for it.
 use Rattle.std.proofs.Common.{◌≡◌, ℕ, ◌≤◌, ◌⊎◌, Bool, true, false, List, refl, sym, ◌∙◌, ap, subst, inl, inr, arith, Option, Some, None, Result}
-use Rattle.std.specs.Prelude.{◌&&◌, is_none, if◌then◌else◌, not, is_some, nat_lt}
+use Rattle.std.specs.Prelude.{◌&&◌, is_none, if◌then◌else◌, is_some, nat_lt}
 use Rattle.std.proofs.lemmas.Bool.{cases_Bool, false≢true, true≢false}
 use Rattle.std.proofs.lemmas.Bool.Decides.{nat_tests}
 use Rattle.fis_view.specs.Frames.{marked}
@@ -11,7 +11,6 @@ use Rattle.fis_view.specs.declared.view.Fis.TheVariants as view
 use Rattle.fis_view.specs.declared.view.Fis.{Fis}
 use Rattle.fis_view.specs.declared.view.FisFault.{FisFault}
 use Rattle.host_memory.specs.Memory.{Memory}
-use Rattle.rx_area.specs.declared.area.Posted.{Posted}
 use Rattle.slots.specs.Commands.{answer_for}
 use Rattle.slots.specs.Slots.{DeviceSlots, Issue, match_some, own_issue, waiting}
 use Rattle.slots.specs.declared.answer.Answered.TheVariants.{Nobody}
@@ -63,9 +62,9 @@ signed_fine dev v sound k r none owes right mine =
 -- ---- a fault
 
 -- what a report says of a frame that is not ignored
-pub report_fault : (dev : ℕ) (at : Posted) (port : Port) (memory : Memory) (fis : Option Fis) → (heard_report dev at (heard_now port memory dev fis)).fault ≡ device_cause (heard_now port memory dev fis).fault
+pub report_fault : (dev : ℕ) (row : Option ℕ) (port : Port) (memory : Memory) (fis : Option Fis) → (heard_report dev (place_in row fis) (heard_now port memory dev fis)).fault ≡ device_cause (heard_now port memory dev fis).fault
 unfolding heard_report
-report_fault dev at port memory fis = refl
+report_fault dev row port memory fis = refl
 
 not_ignored : (old : Host) (frame : List ℕ) (report : TakeReport) (new : Host) (b : Bool) → ignores (port_of frame) old.port frame ≡ b → Does old (Took frame report) new → is_some report.fault ≡ true → b ≡ false
 not_ignored old frame report new false is does faulty = refl
@@ -95,8 +94,7 @@ faults_set_aside n base old plain report new given commands touches below framed
     not_ignored old (marked plain n) report new (ignores (port_of (marked plain n)) old.port (marked plain n)) refl does faulty in
     let hears : Hears (port_of (marked plain n)) old.port old.memory (marked plain n) report new.port new.memory = does.heard heard_is in
     let told : report.fault ≡ device_cause (heard_now old.port old.memory (port_of (marked plain n)) (admitted (port_of (marked plain n)) (seen (marked plain n)))).fault =
-    ap (λ (r : TakeReport). r.fault) hears.reports ∙ report_fault (port_of (marked plain n))
-    (place_in (row_for old.port (port_of (marked plain n))) (admitted (port_of (marked plain n)) (seen (marked plain n)))) old.port old.memory
+    ap (λ (r : TakeReport). r.fault) hears.reports ∙ report_fault (port_of (marked plain n)) (row_for old.port (port_of (marked plain n))) old.port old.memory
     (admitted (port_of (marked plain n)) (seen (marked plain n))) in
     let shown : (view_of n new.port).fault ≡ report.fault = subst (λ (m : ℕ). (view_of m new.port).fault ≡ report.fault) port (ap (λ (v : DeviceView). v.fault) hears.own ∙ sym told) in
     let running : old.port.registers.started ≡ true = runs old (marked plain n) old.port.registers.started refl heard_is in (

@@ -7,7 +7,7 @@ use Rattle.fis_view.specs.Frames.{IsFrame, marked}
 use Rattle.fis_view.specs.Seen.{seen}
 use Rattle.hba_fbs.specs.declared.report.TakeReport.{TakeReport}
 use Rattle.hba_fbs.specs.Posting.{signs}
-use Rattle.hba_fbs.specs.Taking.{Hears, admitted, device_cause, heard_now, ignores, place_in, port_of, row_for}
+use Rattle.hba_fbs.specs.Taking.{Hears, admitted, device_cause, heard_now, ignores, port_of, row_for}
 use Rattle.hba_fbs.specs.Views.{DeviceView, Port, view_of}
 use Rattle.disk_model.specs.declared.plan.DiskPlan.{DiskPlan}
 use Rattle.disk_model.specs.Anew.{IsCarefulSince, OwesOnly}
@@ -72,7 +72,7 @@ shown n old frame report new port does heard =
     let hears : Hears (port_of frame) old.port old.memory frame report new.port new.memory = does.heard heard in
     let told : report.fault ≡ device_cause (heard_now old.port old.memory (port_of frame) (admitted (port_of frame) (seen frame))).fault =
     ap (λ (r : TakeReport). r.fault) hears.reports
-    ∙ report_fault (port_of frame) (place_in (row_for old.port (port_of frame)) (admitted (port_of frame) (seen frame))) old.port old.memory (admitted (port_of frame) (seen frame)) in
+    ∙ report_fault (port_of frame) (row_for old.port (port_of frame)) old.port old.memory (admitted (port_of frame) (seen frame)) in
     subst (λ (m : ℕ). (view_of m new.port).fault ≡ report.fault) port (ap (λ (v : DeviceView). v.fault) hears.own ∙ sym told)
 
 module _ (n : ℕ) (plan : DiskPlan) (sectors : ℕ) (old : Host) (bytes : List ℕ) (report : TakeReport) (new : Host)

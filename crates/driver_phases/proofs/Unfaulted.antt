@@ -11,7 +11,6 @@ use Rattle.fis_view.specs.declared.view.Fis.{Fis}
 use Rattle.host_memory.specs.Memory.{Memory}
 use Rattle.port_errors.specs.Errors.{Errors, cause_of, named_by, shown as errors_shown}
 use Rattle.port_errors.specs.declared.cause.Stop.{Stop}
-use Rattle.rx_area.specs.declared.area.Posted.{Posted}
 use Rattle.hba_fbs.specs.declared.hearing.Heard.{Heard}
 use Rattle.hba_fbs.specs.declared.register.Register.{Register}
 use Rattle.hba_fbs.specs.declared.register.Register.TheVariants.{Ci, Cmd, Fbs}
@@ -56,10 +55,10 @@ same_errors n old new same is = ap (λ (e : Errors). cause_of e n) same ∙ is
 
 -- ---- a FIS is taken
 
-none_told : (dev : ℕ) (at : Posted) (h : Heard) (report : TakeReport) → report ≡ heard_report dev at h → report.fault ≡ None
+none_told : (dev : ℕ) (row : Option ℕ) (fis : Option Fis) (h : Heard) (report : TakeReport) → report ≡ heard_report dev (place_in row fis) h → report.fault ≡ None
     → device_cause h.fault ≡ None
 unfolding heard_report
-none_told dev at h report is none = sym (ap (λ (r : TakeReport). r.fault) is) ∙ none
+none_told dev row fis h report is none = sym (ap (λ (r : TakeReport). r.fault) is) ∙ none
 
 took_unfaulted : (n : ℕ) (old : event.Host) (frame : List ℕ) (report : TakeReport) (new : event.Host) → TakesFrame old frame report new
     → (port_of frame ≡ n → report.fault ≡ None) → IsUnfaulted n old.port → IsUnfaulted n new.port
@@ -72,7 +71,7 @@ took_unfaulted n old frame report new tooks well is = elim (cases_Bool (ignores 
     heard hears (inl own) =
         subst (λ (k : ℕ). IsUnfaulted k new.port) (sym own)
         (ap (λ (v : DeviceView). v.fault) (tooks.heard hears).own
-        ∙ none_told (port_of frame) (place_in (row_for old.port (port_of frame)) (admitted (port_of frame) (seen frame)))
+        ∙ none_told (port_of frame) (row_for old.port (port_of frame)) (admitted (port_of frame) (seen frame))
         (heard_now old.port old.memory (port_of frame) (admitted (port_of frame) (seen frame))) report (tooks.heard hears).reports (well (sym own)))
     heard hears (inr other) = same_view n old.port new.port ((tooks.heard hears).others n other) is
 

@@ -1,11 +1,10 @@
 -- What holds for a host of a run, from the opening on and after each turn. It follows that the commands of
 -- requests go out to known devices, each with the PM Port of its device.
-use Rattle.std.proofs.Common.{◌≡◌, ℕ, ◌<◌, Bool, true, false, List, [], ◌∷◌, refl, sym, ◌∙◌, ap, subst, Option, Some, None}
+use Rattle.std.proofs.Common.{◌≡◌, ℕ, ◌<◌, Bool, true, false, refl, sym, ◌∙◌, subst, Some}
 use Rattle.std.specs.Prelude.{◌%◌, slice_index}
-use Rattle.std.proofs.lemmas.Bool.{true_from_ne_false, false≢true}
+use Rattle.std.proofs.lemmas.Bool.{true_from_ne_false}
 use Rattle.fis_view.specs.Frames.{Stamped}
 use Rattle.host_memory.specs.Memory.{is_memory_size}
-use Rattle.hba_driver.specs.Drivers.{Entry, entry_at, is_issued}
 use Rattle.hba_driver.specs.Events.{opening_host}
 use Rattle.hba_driver.specs.HostTurns.{Does, Host, HostTurn, Pushed}
 use Rattle.hba_driver.specs.Known.{is_request, known_after}

@@ -1,6 +1,6 @@
 -- A device that is not known stays unknown in a tick, unless its IDENTIFY DEVICE came back.
 use Rattle.std.proofs.Common.{◌≡◌, ◌≢◌, ℕ, zero, suc, Bool, true, false, ◌&&◌, List, [], ◌∷◌, map, get_or, set, refl, sym, ◌∙◌, ap, subst, inl, inr, Option, Some, None}
-use Rattle.std.specs.Prelude.{if◌then◌else◌, ◌==◌, ◌%◌, is_some, nat_lt}
+use Rattle.std.specs.Prelude.{if◌then◌else◌, ◌==◌, is_some, nat_lt}
 use Rattle.std.specs.Option.{option_map, option_or}
 use Rattle.std.proofs.lemmas.Bool.{and_parts, eq-eqb, eqb-true, false≢true, true≢false}
 use Rattle.slots.specs.Slots.{lowest_below, match_some}

@@ -1,40 +1,26 @@
 -- With FIS-based switching: what the words of the port that tell the modes apart come to.
-use Rattle.std.proofs.Common.{◌≡◌, ℕ, Bool, true, false, List, [], ◌∷◌, refl, ap, subst, ◌∙◌, Option, Some, None}
+use Rattle.std.proofs.Common.{◌≡◌, ℕ, Bool, true, false, List, [], ◌∷◌, ap, subst, Option, Some, None}
 use Rattle.std.specs.Prelude.{◌==◌, ◌&&◌, ◌||◌, not, if◌then◌else◌, is_some, Result}
 use Rattle.fis_view.specs.Seen.{seen}
 use Rattle.fis_view.specs.declared.view.Fis.{Fis}
 use Rattle.fis_view.specs.declared.view.FisFault.{FisFault}
 use Rattle.host_memory.specs.Memory.{Memory}
-use Rattle.port_errors.specs.Errors.{Errors}
 use Rattle.rx_area.specs.Area.{row_of}
-use Rattle.rx_area.specs.declared.area.Posted.{Posted}
-use Rattle.hba_fbs.specs.declared.error.WriteError.{WriteError}
-use Rattle.hba_fbs.specs.declared.error.WriteError.TheVariants as refusal
 use Rattle.hba_fbs.specs.declared.hearing.Fault.{Fault}
 use Rattle.hba_fbs.specs.declared.register.Register.TheVariants.{Ci}
 use Rattle.hba_fbs.specs.declared.registers.Registers.{Registers}
-use Rattle.hba_fbs.specs.Issuing.{any_beside, any_slot, asked, first_named, is_bad, is_busy, is_foreign, names_other, view_issued, view_with}
+use Rattle.hba_fbs.specs.Issuing.{any_beside, any_slot, asked, first_named, is_foreign, names_other}
 use Rattle.hba_fbs.specs.Posting.{area_at}
 use Rattle.hba_fbs.specs.Reading.{shown_device}
-use Rattle.hba_fbs.specs.Taking.{PostsIn, PostsOf, errors_in, errors_with, ignores, is_ignored, is_running, passes_over, place_in, place_of, port_cause, row_for, stops_with}
+use Rattle.hba_fbs.specs.Taking.{PostsIn, PostsOf, ignores, is_ignored, is_running, passes_over, port_cause, row_for, stops_with}
 use Rattle.hba_fbs.specs.Views.{DeviceView, Port, view_of}
-use Rattle.hba_fbs.specs.Writing.{apart_refusal, is_apart, issue_refusal, view_after}
+use Rattle.hba_fbs.specs.Writing.{is_apart}
 use Rattle.hba_fbs.proofs.AimLemmas.{aimed_chosen}
 use Rattle.hba_laws.specs.Hosts.{Host}
-use Rattle.hba_laws.specs.Isolation.{Issued, OwnEvent, skips, written_to}
-use Rattle.hba_laws.specs.Parts.{DevicePart, own_row}
+use Rattle.hba_laws.specs.Isolation.{Issued, written_to}
+use Rattle.hba_laws.specs.Parts.{own_row}
 
 -- ---- what a write of PxCI issues
-
--- the device in PxFBS.DEV is the one for which it issues
-pub issued_chosen : (r : Registers) (memory : Memory) (value : ℕ) (view : DeviceView) → r.switching ≡ true → view_issued r memory value view ≡ view_with r.chosen (asked r memory value) view
-issued_chosen r memory value view on = ap (λ (dev : ℕ). view_with dev (asked r memory value) view) (aimed_chosen r memory.structure value on)
-
-pub view_chosen : (old : Port) (memory : Memory) (value n : ℕ) → old.registers.switching ≡ true
-    → view_after Ci old memory value n ≡ (if n == old.registers.chosen then view_with old.registers.chosen (asked old.registers memory value) (view_of n old) else view_of n old)
-unfolding view_after
-view_chosen old memory value n on =
-    ap (λ (dev : ℕ). if n == dev then view_with dev (asked old.registers memory value) (view_of n old) else view_of n old) (aimed_chosen old.registers memory.structure value on)
 
 pub written_chosen : (n : ℕ) (host : Host) (value : ℕ) → host.port.registers.switching ≡ true
     → written_to n host Ci value ≡ (if n == host.port.registers.chosen then Issued (asked host.port.registers host.memory value) ∷ [] else [])
@@ -47,24 +33,6 @@ apart_chosen port memory value on =
     let r : Registers = port.registers in
     ap (λ (b : Bool). not b && not (value == 0) && any_beside port.slots (if b then r.chosen else first_named r memory.structure value)
     || any_slot value (names_other r memory.structure (if b then r.chosen else first_named r memory.structure value))) on
-
-pub wrong_device : (r : Registers) → r.switching ≡ true → apart_refusal r ≡ refusal.WrongDevice
-wrong_device r on = ap (λ (b : Bool). if b then refusal.WrongDevice else refusal.OtherDevice) on
-
-pub refusal_chosen : (port : Port) (memory : Memory) (value : ℕ) → port.registers.switching ≡ true → issue_refusal port memory value
-    ≡ (if any_slot value (is_busy port.slots) then Some refusal.SlotBusy
-    else if any_slot value (is_foreign port.registers memory.structure) then Some refusal.WrongDevice
-    else if any_slot value (is_bad port.registers memory) then Some refusal.BadTable
-    else None)
-refusal_chosen port memory value on =
-    ap (λ (apart : Bool). if any_slot value (is_busy port.slots) then Some refusal.SlotBusy
-    else if apart then Some (apart_refusal port.registers)
-    else if any_slot value (is_bad port.registers memory) then Some refusal.BadTable
-    else None) (apart_chosen port memory value on)
-    ∙ ap (λ (error : WriteError). if any_slot value (is_busy port.slots) then Some refusal.SlotBusy
-    else if any_slot value (is_foreign port.registers memory.structure) then Some error
-    else if any_slot value (is_bad port.registers memory) then Some refusal.BadTable
-    else None) (wrong_device port.registers on)
 
 -- ---- what PxTFD shows
 
@@ -81,25 +49,15 @@ pub ignores_as : (dev : ℕ) (port : Port) (frame : List ℕ) → port.registers
 ignores_as dev port frame on =
     ap (λ (b : Bool). b || is_ignored (is_running port) (view_of dev port) (seen frame)) (passes_none port.registers.switching dev (view_of dev port) (seen frame) on)
 
-pub skips_as : (n : ℕ) (part : DevicePart) (fis : Result Fis FisFault) → is_some part.row ≡ true → skips n part fis ≡ is_ignored true part.view fis
-skips_as n part fis on = ap (λ (b : Bool). b || is_ignored true part.view fis) (passes_none (is_some part.row) n part.view fis on)
-
 -- it is posted in the row of its device
 pub row_own : (port : Port) (dev : ℕ) → port.registers.switching ≡ true → row_for port dev ≡ Some dev
 row_own port dev on = ap (λ (b : Bool). if b then Some dev else if dev == port.active then Some 0 else None) on
-
-pub place_own : (port : Port) (dev : ℕ) (fis : Option Fis) → port.registers.switching ≡ true → place_in (row_for port dev) fis ≡ place_of fis
-place_own port dev fis on = ap (λ (row : Option ℕ). place_in row fis) (row_own port dev on)
 
 pub posts_own : (port : Port) (fb dev : ℕ) (fis : Option Fis) (s t : List ℕ) → port.registers.switching ≡ true → PostsIn fb (row_for port dev) fis s t → PostsOf fb dev fis s t
 posts_own port fb dev fis s t on posts = subst (λ (row : Option ℕ). PostsIn fb row fis s t) (row_own port dev on) posts
 
 pub own_row_is : (on : Bool) (fb : ℕ) (structure : List ℕ) (n : ℕ) → on ≡ true → own_row on fb structure n ≡ Some (row_of (area_at structure fb) n)
 own_row_is on fb structure n is = ap (λ (b : Bool). own_row b fb structure n) is
-
--- a fault of a device does not stop the port
-pub errors_as : (on : Bool) (errors : Errors) (dev : ℕ) (f : Option Fault) → on ≡ true → errors_in on errors dev f ≡ errors_with errors dev f
-errors_as on errors dev f is = ap (λ (b : Bool). errors_in b errors dev f) is
 
 pub stops_as : (on : Bool) (f : Option Fault) → on ≡ true → stops_with on f ≡ is_some (port_cause f)
 stops_as on f is = ap (λ (b : Bool). stops_with b f) is

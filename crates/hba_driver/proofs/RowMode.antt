@@ -1,6 +1,6 @@
 -- What holds of a frame in both modes, and the mode of a driver's port that runs.
 use Rattle.std.proofs.Common.{◌≡◌, ℕ, Bool, true, false, List, sym, ◌∙◌, inl, inr, arith, Option, Some, None}
-use Rattle.std.specs.Prelude.{◌||◌, ◌&&◌, not, is_some}
+use Rattle.std.specs.Prelude.{◌&&◌, not, is_some}
 use Rattle.std.proofs.lemmas.Bool.{cases_lt, false≢true, or_parts, or_right, true≢false}
 use Rattle.fis_view.specs.Seen.{seen}
 use Rattle.port_errors.specs.Errors.{Errors}

@@ -35,7 +35,7 @@ use Rattle.hba_laws.specs.Isolation.{fails_by_bus, stops_port}
 use Rattle.hba_laws.specs.Sound.{IsHost}
 use Rattle.hba_laws.proofs.ViewLemmas.{HasContext, IsOwn, is_own}
 use Rattle.hba_driver.specs.Orders.{control_port}
-use Rattle.hba_driver.specs.Going.{CanBeRead, FaultsNeverStop, IsOfControl, IsReport, NothingStops, SwitchesIfStarted}
+use Rattle.hba_driver.specs.Going.{CanBeRead, FaultsNeverStop, IsOfControl, IsReport, NothingStops, SparesPort, SwitchesIfStarted}
 use Rattle.hba_driver.proofs.ModeLemmas.{stops_as}
 
 -- what holds for both values holds for the choice
@@ -136,7 +136,7 @@ halted false true quiet marked resets stops off = absurd (true≢false off)
 receiving : (c : Context) (f : ℕ → Option Command) → c.to_host ≡ true → is_some (f c.slot) ≡ true → is_some (match_some (receiving_slot (Some c)) None f) ≡ true
 receiving c f way is = rw way is
 
-module _ (host : event.Host) (is : IsHost host) (switches : SwitchesIfStarted host) (read : CanBeRead host) where
+module _ (host : event.Host) (is : IsHost host) (read : CanBeRead host) where
   own_is : (n : ℕ) → IsOwn n (slots_of n host.port.slots)
   own_is n = is_own n host.port.slots is.slots
 
@@ -151,28 +151,17 @@ module _ (host : event.Host) (is : IsHost host) (switches : SwitchesIfStarted ho
       ap (λ (o : Option Context). is_some (match_some (receiving_slot o) None (sound_command host.memory host.port.commands (slots_of n host.port.slots)))) now
       ∙ receiving c (sound_command host.memory host.port.commands (slots_of n host.port.slots)) way (slot_sound n c below now)
 
-  and_false : (a b : Bool) → b ≡ false → (a && b) ≡ false
-  and_false true b h = h
-  and_false false b h = refl
-
   low : (k : ℕ) → k % 16 < 16
   low k = omega arith
 
   control_or_other : (frame : List ℕ) → IsOfControl frame → admitted (port_of frame) (seen frame) ≡ None → port_of frame ≢ control_port
   control_or_other frame of none same = reported (port_of frame) frame (of same) none same
 
-  takes : (frame : List ℕ) → IsOfControl frame → stops_port (port_of frame) host.port host.memory frame ≡ false
-  takes frame of =
+  hears : (frame : List ℕ) → IsOfControl frame → Calm (heard_now host.port host.memory (port_of frame) (admitted (port_of frame) (seen frame)))
+  hears frame of =
       let n : ℕ = port_of frame in
-      let f : Option Fault = (heard_now host.port host.memory n (admitted n (seen frame))).fault in
-      elim (cases_Bool host.port.registers.started) [
-        | inl on ↦
-            and_false (not (ignores n host.port frame)) (stops_with host.port.registers.switching f)
-            (stops_as host.port.registers.switching f (switches on)
-            ∙ heard_calm n (view_of n host.port) (is_sound host.memory host.port.commands (view_of n host.port).slots) (admitted n (seen frame))
-            (λ c now way. sound n c (low (slice_index frame 1)) now way) (control_or_other frame of))
-        | inr off ↦ halted _ host.port.registers.started _ _ _ _ off
-      ]
+      heard_calm n (view_of n host.port) (is_sound host.memory host.port.commands (view_of n host.port).slots) (admitted n (seen frame))
+      (λ c now way. sound n c (low (slice_index frame 1)) now way) (control_or_other frame of)
 
   order_spares : (slot : ℕ) → fails_by_bus (order_due host.port slot) ≡ false
   order_spares slot = by_issue (Rattle.slots.specs.Slots.issue_at host.port.slots slot)
@@ -212,8 +201,29 @@ module _ (host : event.Host) (is : IsHost host) (switches : SwitchesIfStarted ho
   unfolding next_receiver
   receiver_low dev h = (Rattle.slots.proofs.MaskLemmas.lowest_is (Rattle.hba_fbs.specs.Sending.is_due host.port.slots host.port.errors) 16 dev h).below
 
-  pub nothing_stops : NothingStops host
-  nothing_stops = record { takes = takes; gives = out_spares (not (is_running host.port)) (next_receiver host.port) (next_to_send host.port) receiver_low }
+  spares_port : SparesPort host
+  spares_port = record { hears = hears; gives = out_spares (not (is_running host.port)) (next_receiver host.port) (next_to_send host.port) receiver_low }
+
+-- ---- with FIS-based switching
+
+and_false : (a b : Bool) → b ≡ false → (a && b) ≡ false
+and_false true b h = h
+and_false false b h = refl
+
+never_stops : (host : event.Host) (frame : List ℕ) → SwitchesIfStarted host → Calm (heard_now host.port host.memory (port_of frame) (admitted (port_of frame) (seen frame)))
+    → stops_port (port_of frame) host.port host.memory frame ≡ false
+never_stops host frame switches calm =
+    let n : ℕ = port_of frame in
+    let f : Option Fault = (heard_now host.port host.memory n (admitted n (seen frame))).fault in
+    elim (cases_Bool host.port.registers.started) [
+      | inl on ↦ and_false (not (ignores n host.port frame)) (stops_with host.port.registers.switching f) (stops_as host.port.registers.switching f (switches on) ∙ calm)
+      | inr off ↦ halted _ host.port.registers.started _ _ _ _ off
+    ]
+
+pub nothing_stops : (host : event.Host) → IsHost host → SwitchesIfStarted host → CanBeRead host → NothingStops host
+nothing_stops host is switches read =
+    let spares : SparesPort host = spares_port host is read in
+    record { takes = λ frame of. never_stops host frame switches (spares.hears frame of); gives = spares.gives }
 
 pub faults_never_stop : FaultsNeverStop
-faults_never_stop host is switches read = nothing_stops host is switches read
+faults_never_stop host is read = (spares_port host is read, λ switches. nothing_stops host is switches read)

@@ -1,6 +1,7 @@
--- When a host port with FIS-based switching goes on. What a device sends stops the port only by a host bus
--- error. What the control port of a multiplier sends stops it only if it is no FIS of the control port (AHCI
--- 1.3.1, 6.1, error types, and 9.3, FIS-based Switching; Serial ATA 3.x, 16.2, control port).
+-- When a host port goes on. What a device sends is a fault of the port as a whole only by a host bus error.
+-- What the control port of a multiplier sends is one only if it is no FIS of the control port (AHCI 1.3.1,
+-- 6.1, error types, and 9.3, FIS-based Switching; Serial ATA 3.x, 16.2, control port). With FIS-based
+-- switching nothing else stops the port.
 use Rattle.std.specs.Prelude.{ℕ, ◌≡◌, ◌<◌, ◌⊎◌, true, false, List, [], ◌∷◌, Some, None, Ok, is_some}
 use Rattle.fis_view.specs.Seen.{seen}
 use Rattle.fis_view.specs.declared.view.Fis.TheVariants as view
@@ -8,7 +9,7 @@ use Rattle.host_memory.specs.Memory.{is_memory_size}
 use Rattle.slots.specs.Slots.{own_issue, slots_of}
 use Rattle.hba_fbs.specs.Sending.{outgoing}
 use Rattle.hba_fbs.specs.Tables.{sound_command}
-use Rattle.hba_fbs.specs.Taking.{port_of}
+use Rattle.hba_fbs.specs.Taking.{admitted, heard_now, port_cause, port_of}
 use Rattle.hba_laws.specs.Hosts as event
 use Rattle.hba_laws.specs.Isolation.{fails_by_bus, stops_port}
 use Rattle.hba_laws.specs.Sound.{IsHost}
@@ -33,7 +34,14 @@ CanBeRead host =
     (n s : ℕ) → n < 16 → is_some (own_issue (slots_of n host.port.slots) s) ≡ true
     → is_some (sound_command host.memory host.port.commands (slots_of n host.port.slots) s) ≡ true
 
--- then neither a FIS that comes nor the search for the next one stops the port
+-- then no FIS that comes is a fault of the port as a whole, and the search for the next one to go is none
+pub record SparesPort (host : event.Host) : Type 0 where
+  pub hears : (frame : List ℕ) → IsOfControl frame
+      → is_some (port_cause (heard_now host.port host.memory (port_of frame)
+      (admitted (port_of frame) (seen frame))).fault) ≡ false
+  pub gives : fails_by_bus (outgoing host.port host.memory) ≡ false
+
+-- neither a FIS that comes nor the search for the next one stops the port
 pub record NothingStops (host : event.Host) : Type 0 where
   pub takes : (frame : List ℕ) → IsOfControl frame
       → stops_port (port_of frame) host.port host.memory frame ≡ false
@@ -45,7 +53,8 @@ SwitchesIfStarted host = host.port.registers.started ≡ true → host.port.regi
 
 abbrev pub FaultsNeverStop : Type 0
 FaultsNeverStop =
-    (host : event.Host) → IsHost host → SwitchesIfStarted host → CanBeRead host → NothingStops host
+    (host : event.Host) → IsHost host → CanBeRead host
+    → SparesPort host × (SwitchesIfStarted host → NothingStops host)
 
 -- ---- over turns
 

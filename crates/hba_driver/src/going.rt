@@ -4,10 +4,11 @@ ghost use Rattle.hba_driver.specs.Addressed.{FramesAreAddressed};
 ghost use Rattle.hba_driver.specs.Going.{FaultsNeverStop, PortsGoOn};
 ghost use Rattle.hba_driver.specs.Slot31.{OrdersTakeTurns};
 
-/// With FIS-based switching, a FIS from a device never stops the host port while the tables of issued commands
-/// can be used. Neither does a Register Device to Host or a Set Device Bits FIS from the control port. So over
-/// every list of turns of the host from its opening in which the control port sends no others, no fault of the
-/// port stands, and the driver never stops the port or starts it again. The call runs no code.
+/// A FIS from a device is never a fault of the host port as a whole while the tables of issued commands can
+/// be used. Neither is a Register Device to Host or a Set Device Bits FIS from the control port. With
+/// FIS-based switching none of them stops the port. So over every list of turns of the host from its opening
+/// in which the control port sends no others, no fault of the port stands, and the driver never stops the
+/// port or starts it again. The call runs no code.
 pub fn port_goes_on()
     ensures hears { FaultsNeverStop }
     ensures turns { PortsGoOn }
