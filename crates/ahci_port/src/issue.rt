@@ -94,7 +94,12 @@ impl Controller {
             Refuses (G.may_read guest.now) (G.may_miss guest.now) slot error self.old self.new) }
     {
         let command = self.fetch(alloc, guest, slot)?;
-        put_command(&mut self.memory, slot, &command.head.fields, command.head.len);
+        put_command(
+            &mut self.memory,
+            slot,
+            &command.head.fields,
+            command.head.len,
+        );
         give(&mut self.port, &self.memory, slot)?;
         self.tables[slot as usize] = Some(command.table);
         self.counts[slot as usize] = 0;
