@@ -118,6 +118,10 @@ module _ (v : DeviceView) where
   register_heard status error is ends =
       subst (λ (n : ℕ). IsFineHeard v (hear.heard_register v.slots v.state n error)) (sym is) (register_by error v.state.resetting ends)
 
+  -- the mark of a signature is no part of the task file
+  signing_fine : (f : List ℕ) (h : Heard) → IsFineHeard v h → IsFineHeard v (hear.signing f h)
+  signing_fine f h fine = record { status = fine.status; ends = fine.ends }
+
   named_ends : (mask : ℕ) → EndsFine v → ((after_complete mask v.slots).context ≡ None) ⊎ IsFineBlock v.state.block
   named_ends mask (inl none) = inl (ap (context_unless (is_done mask v.slots)) none)
   named_ends mask (inr fine) = inr fine
@@ -186,7 +190,8 @@ module _ (v : DeviceView) where
       → IsFineHeard v (heard_fis v.slots v.state sound fis)
   unfolding heard_fis
   fis_heard k sound (view.RegD2H f) none right mine fine =
-      register_heard (field D2h Status f) (field D2h table.Error f) (answer_status k.awaited f none right.replies) fine.ends
+      signing_fine f (hear.heard_register v.slots v.state (field D2h Status f) (field D2h table.Error f))
+      (register_heard (field D2h Status f) (field D2h table.Error f) (answer_status k.awaited f none right.replies) fine.ends)
   fis_heard k sound (view.SetBits f) none right mine fine =
       bits_heard (field Bits Status f) (field Bits table.Error f) (field Bits SActive f) (error_none (field Bits Status f) right.fine) fine.ends
   fis_heard k sound (view.DmaActivate f) none right mine fine = activated_by v.slots.context refl fine
@@ -213,7 +218,8 @@ module _ (v : DeviceView) where
       → IsFineHeard v (heard_fis v.slots v.state sound fis) ⊎ (is_some (device_cause (heard_fis v.slots v.state sound fis).fault) ≡ true)
   unfolding heard_fis
   first_fis k sound (view.RegD2H f) none clear right mine unset =
-      inl (register_heard (field D2h Status f) (field D2h table.Error f) (answer_status k.awaited f none right.replies) (inl unset))
+      inl (signing_fine f (hear.heard_register v.slots v.state (field D2h Status f) (field D2h table.Error f))
+      (register_heard (field D2h Status f) (field D2h table.Error f) (answer_status k.awaited f none right.replies) (inl unset)))
   first_fis k sound (view.SetBits f) none clear right mine unset =
       inl (bits_heard (field Bits Status f) (field Bits table.Error f) (field Bits SActive f) (error_none (field Bits Status f) right.fine) (inl unset))
   first_fis k sound (view.DmaActivate f) none clear right mine unset = absurd (subst ActivatesRight clear.moving right.moves)

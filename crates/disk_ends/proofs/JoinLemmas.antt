@@ -521,7 +521,8 @@ module _ (dev : ℕ) (v : DeviceView) (sound : Bool) (frame : List ℕ) (command
   unfolding heard_fis
   asks_fis (view.RegH2D f) right = asks_quietly (Ok (view.RegH2D f)) (quietly v.state happening.Nothing) right tt
   asks_fis (view.RegD2H f) right =
-      asks_quietly (Ok (view.RegD2H f)) (hear.heard_register v.slots v.state (field table.D2h table.Status f) (field table.D2h table.Error f)) right
+      asks_quietly (Ok (view.RegD2H f))
+      (hear.signing f (hear.heard_register v.slots v.state (field table.D2h table.Status f) (field table.D2h table.Error f))) right
       (quiet_register v.slots v.state (field table.D2h table.Status f) (field table.D2h table.Error f) v.state.resetting
       (is_error (field table.D2h table.Status f)) (is_busy (field table.D2h table.Status f)))
   asks_fis (view.SetBits f) right =

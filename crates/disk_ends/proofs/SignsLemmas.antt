@@ -12,7 +12,7 @@ use Rattle.slots.specs.Slots.{own_issue}
 use Rattle.hba_fbs.specs.declared.hearing.Happening.TheVariants as happening
 use Rattle.hba_fbs.specs.declared.hearing.Heard.{Heard}
 use Rattle.hba_fbs.specs.declared.report.TakeReport.{TakeReport}
-use Rattle.hba_fbs.specs.Hearing.{heard_d2h, heard_fis, quietly}
+use Rattle.hba_fbs.specs.Hearing.{heard_d2h, heard_fis, quietly, signing}
 use Rattle.hba_fbs.specs.Posting.{is_signature, signs}
 use Rattle.hba_fbs.specs.Status.{after_reset, is_quiet}
 use Rattle.hba_fbs.specs.Tables.{is_sound}
@@ -82,14 +82,15 @@ signed host new frame report well =
 -- ## What the port makes of it
 
 abbrev pub reset_by : DeviceView → List ℕ → Heard
-reset_by v f = quietly (after_reset v.state (field D2h Status f) (field D2h table.Error f)) happening.Nothing
+reset_by v f = signing f (quietly (after_reset v.state (field D2h Status f) (field D2h table.Error f)) happening.Nothing)
 
 signed_heard : (dev : ℕ) (v : DeviceView) (sound : Bool) (f : List ℕ) (resetting : Bool) → v.state.resetting ≡ resetting → resetting ≡ true
     → heard dev v sound (admitted dev (Ok (view.RegD2H f))) ≡ reset_by v f
 unfolding heard_fis
 signed_heard dev v sound f false is set = cc set
 signed_heard dev v sound f true is set =
-    ap (λ (b : Bool). if b then reset_by v f else heard_d2h v.slots v.state (field D2h Status f) (field D2h table.Error f)) is
+    ap (λ (b : Bool). signing f (if b then quietly (after_reset v.state (field D2h Status f) (field D2h table.Error f)) happening.Nothing
+    else heard_d2h v.slots v.state (field D2h Status f) (field D2h table.Error f))) is
 
 pub now_heard : (host new : Host) (frame : List ℕ) (report : TakeReport) (well : IsSignedWell host frame report new)
     → heard_now host.port host.memory (port_of frame) (admitted (port_of frame) (seen frame))

@@ -81,7 +81,7 @@ pio_off own state off status error count to_host block =
 fis_off : (own : DeviceSlots) (state : DeviceState) (sound : Bool) (fis : Fis) → state.resetting ≡ false → Off (heard_fis own state sound fis)
 unfolding heard_fis
 fis_off own state sound (view.RegH2D f) off = off
-fis_off own state sound (view.RegD2H f) off = register_off own state off _ _
+fis_off own state sound (view.RegD2H f) off = register_off own state off (field table.D2h table.Status f) (field table.D2h table.Error f)
 fis_off own state sound (view.SetBits f) off = bits_off own state off _ _ _
 fis_off own state sound (view.DmaActivate f) off = activate_off own state off
 fis_off own state sound (view.DmaSetup f) off = set_up_off own state off _ _ _

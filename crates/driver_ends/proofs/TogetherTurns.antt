@@ -222,7 +222,7 @@ steady_of n old (Put at bytes) calm = tt
 
 pub calm_tends : (n : ℕ) (base : List Happening) (old : Host) (turn : HostTurn) (new : Host) → DoesAll old (turn ∷ []) new → (given : List Happening) (commands : ℕ → SlotCommand) (touches : Touches) → n < 15 → IsCalmTurn n old turn
     → IsServedOn n base old given commands touches → TendsOn n old turn new
-calm_tends n base old turn new run given commands touches below calm h = turn_tended n old turn new (omega (arith, below)) (after old turn new run) (steady_of n old turn calm) h.tended
+calm_tends n base old turn new run given commands touches below calm h = turn_tended n old turn new (omega (arith, below)) (after old turn new run) h.sound.drives (steady_of n old turn calm) h.tended
 
 pub calm_turns_keep_on : CalmTurnsKeepOn
 calm_turns_keep_on n base old turn new run given commands touches below calm never h =

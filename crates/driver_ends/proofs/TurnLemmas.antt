@@ -17,6 +17,7 @@ use Rattle.disk_ends.specs.Hosted.{IsHosted, plugged}
 use Rattle.disk_ends.proofs.CalmLemmas.{calm_runs_keep}
 use Rattle.disk_ends.proofs.HostedLemmas.{hosted_is_kept}
 use Rattle.disk_ends.specs.Same.{SlotCommand}
+use Rattle.hba_driver.specs.declared.mode.Mode.TheVariants.{Switching}
 use Rattle.hba_driver.specs.Drivers.{Driver, Entry, entry_at, rephased}
 use Rattle.hba_driver.specs.Events.{IsSoundHost, events_over, opening_host, shared_by}
 use Rattle.hba_driver.specs.HostTurns.{Does, DoesAll, Host, HostTurn, Took, Pushed, Ticked, Submitted, Polled, Put, sight_in}
@@ -35,7 +36,7 @@ use Rattle.hba_driver.proofs.RowLemmas.{flush_row, opens_row, rows_stay}
 use Rattle.hba_driver.proofs.ServedLemmas.{turns_serve}
 use Rattle.hba_driver.proofs.SoundLemmas.{hosts_stay_sound, sound_turn}
 use Rattle.hba_driver.proofs.StandLemmas.{in_slots}
-use Rattle.hba_driver.proofs.SteadyTurns.{DriverKeeps, flush_steady, issued_unended, opens_steady, turn_steady}
+use Rattle.hba_driver.proofs.SteadyTurns.{DriverKeeps, flush_steady, issued_unended, opens_steady, turn_steady, Signs}
 use Rattle.driver_ends.specs.Kept.{CalmTurnsKeep, FlushOpens, IsCalmTurn, IsServedHonestly, OpensHonestly, ServesOn}
 use Rattle.driver_ends.specs.Steady.{AreNamed, IsAskedSigned, IsRowSigned, command_of}
 use Rattle.driver_ends.proofs.AwayLemmas.{AreAway, CalmEnds, IsNewOrOld, beside_away, calm_ends}
@@ -177,11 +178,11 @@ calm_turn n old (Took frame report) new run given commands touches below calm h 
 calm_turn n old (Pushed frame) new run given commands touches below calm h = absurd calm
 calm_turn n old (Ticked a) new run given commands touches below calm h =
     let d = after old (Ticked a) new run in
-    let keeps : DriverKeeps n (HasSignature n old) old.driver new.driver = turn_steady n old (Ticked a) new d calm h.steady in
+    let keeps : DriverKeeps n (Signs n old) old.driver new.driver = turn_steady n old (Ticked a) new d calm h.steady in
     let runs = (turns_serve.runs old new (Ticked a ∷ []) run h.sound touches h.served).runs in
     goes_on n old (Ticked a) new run given commands touches below h (slot_in old)
     (beside_away n (slot_in old) (shared_by old) (shared_by new) (events_over old new (Ticked a ∷ []) run) runs (tick_beside n old a new run h.sound h.served.bounded calm runs)) keeps.steady
-    (λ asked. elim (keeps.asks asked) [ inl was ↦ h.signed was | inr signs ↦ h.row signs ]) (λ signs. h.row (rows_stay n old (Ticked a) new (omega (arith, below)) d h.sound calm signs))
+    (λ asked. elim (keeps.asks asked) [ inl was ↦ h.signed was | inr signs ↦ h.row (signs h.sound.drives) ]) (λ signs. h.row (rows_stay n old (Ticked a) new (omega (arith, below)) d h.sound calm signs))
 calm_turn n old (Submitted dev request ticket) new run given commands touches below calm h =
     let d = after old (Submitted dev request ticket) new run in
     goes_on n old (Submitted dev request ticket) new run given commands touches below h 31 (inl tt, tt) (turn_steady n old (Submitted dev request ticket) new d tt h.steady).steady
@@ -259,7 +260,7 @@ begins n h commands touches below sound served steady unasked unsigned tags = re
 pub opens_honestly : OpensHonestly
 opens_honestly n given len commands below size tags =
     let steady = opens_steady n given in
-    begins n (opening_host given len) commands [] below (hosts_stay_sound.opens given len size) (turns_serve.opens given len size) steady.0 steady.1 (opens_row n given len (omega (arith, below))) tags
+    begins n (opening_host given len) commands [] below (hosts_stay_sound.opens Switching given len size) (turns_serve.opens Switching given len size) steady.0 steady.1 (opens_row n given len (omega (arith, below))) tags
 
 pub flush_opens : FlushOpens
 flush_opens n old a new run touches below flush sound served =

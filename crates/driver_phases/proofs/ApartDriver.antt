@@ -21,6 +21,7 @@ use Rattle.disk_model.specs.Requests.{command_request, names_error_log, request_
 use Rattle.disk_ends.proofs.MarkedFiles.{marks_ask_nothing}
 use Rattle.hba_laws.specs.Client.{Touches}
 use Rattle.hba_laws.proofs.StandLemmas.{some_inj}
+use Rattle.hba_driver.specs.declared.mode.Mode.TheVariants.{Switching}
 use Rattle.hba_driver.specs.declared.path.Recovery.{Recovery}
 use Rattle.hba_driver.specs.declared.path.Recovery.TheVariants.{Log, Reset}
 use Rattle.hba_driver.specs.declared.path.Stage.TheVariants.{ReadLog}
@@ -48,6 +49,7 @@ use Rattle.hba_driver.proofs.EndingLemmas.{MayClear, MayEnd, may_end}
 use Rattle.hba_driver.proofs.RowMode.{skipped_as}
 use Rattle.hba_driver.proofs.SteadyLemmas.{set_other}
 use Rattle.hba_driver.proofs.SteadyTurns.{calm_or_flush}
+use Rattle.hba_driver.proofs.SwitchLemmas.{tick_acts}
 use Rattle.hba_driver.proofs.TendedTurns.{turn_tended}
 use Rattle.hba_driver.proofs.Tick31Lemmas.{faulty_shown}
 use Rattle.hba_driver.proofs.UnsoughtLemmas.{stays_unsought}
@@ -179,7 +181,7 @@ map_some f o x e = ap (option_map f) e
 module _ (n : ℕ) (past : Touches) (h : Host) (low : n < 15) (on : IsOn30 past h) (stage : Stage30) (at : IsAt30 n stage h) (acts : Bool) (new : Host)
     (does : Does h (Ticked acts) new) (flush : IsFlushTick n h → ⊥) where
   may_clear : (dev : ℕ) → IsClearTick dev h → MayClear dev h.port
-  may_clear dev is = subst (λ x. MayEnd x h.port) is (may_end h on.sound)
+  may_clear dev is = (subst (λ x. MayEnd Switching x h.port) is (may_end h on.sound)).1
 
   unclear : is_faulty stage ≡ false → IsClearTick n h → ⊥
   unclear well is = false≢true (sym well ∙ sym at.fault ∙ cleared_faulty h.port n on.sound.ruled (may_clear n is).faulty)
@@ -248,15 +250,15 @@ module _ (n : ℕ) (past : Touches) (h : Host) (low : n < 15) (on : IsOn30 past 
         ap (λ (d : Driver). d.plan) does.driver ∙ ap (λ x. (acted x (file_shown new.port) (seen (sight_in h) h.driver)).plan) c.is
         ∙ ap (λ (p : Plan). cleared_plan c.dev (file_shown new.port) p) c.same
 
-    clears_effects : (dev : ℕ) → IsClearTick dev h → ActsAll (clearing dev) h.port h.memory new.port new.memory
+    clears_effects : (dev : ℕ) → IsClearTick dev h → ActsAll (clearing Switching dev) h.port h.memory new.port new.memory
     unfolding effects_of
-    clears_effects dev is = subst (λ x. ActsAll (effects_due x) h.port h.memory new.port new.memory) is does.does
+    clears_effects dev is = subst (λ x. ActsAll (effects_due Switching x) h.port h.memory new.port new.memory) is (tick_acts h acts new does on.sound)
 
     own_view : (c : Clearing30) → c.dev ≡ n → view_of n new.port ≡ stopped_view (view_of n h.port)
     own_view c same =
         let may = may_clear c.dev c.is in
         clearing_own_view n h.port new.port h.memory new.memory (omega (arith, low)) may.switches (may.faulty ∙ ap (λ (k : ℕ). Some k) same)
-        (subst (λ (k : ℕ). ActsAll (clearing k) h.port h.memory new.port new.memory) same (clears_effects c.dev c.is))
+        (subst (λ (k : ℕ). ActsAll (clearing Switching k) h.port h.memory new.port new.memory) same (clears_effects c.dev c.is))
 
     other_view : (c : Clearing30) → c.dev ≢ n → view_of n new.port ≡ view_of n h.port
     other_view c other =
@@ -437,7 +439,7 @@ module _ (n : ℕ) (past : Touches) (old : Host) (acts : Bool) (new : Host) (low
     where
       tends : TendsOn n old (Ticked acts) new
       tends =
-          turn_tended n old (Ticked acts) new (omega (arith, low)) does (calm_tick n past old low on Cleared at acts new does flush refl)
+          turn_tended n old (Ticked acts) new (omega (arith, low)) does on.sound.drives (calm_tick n past old low on Cleared at acts new does flush refl)
           (spoilt_tended n old at off device)
 
       by_next : TicksOn30 Cleared next → GoesByReset n next new

@@ -23,12 +23,12 @@ use Rattle.hba_driver.specs.Events.{IsSoundHost, events_over, shared_by}
 use Rattle.hba_driver.specs.HostTurns.{Does, DoesAll, Host, HostTurn, Polled, Pushed, Put, Submitted, Ticked, Took, sight_in}
 use Rattle.hba_driver.specs.Served.{AreBounded}
 use Rattle.hba_driver.specs.Sights.{file_shown}
-use Rattle.hba_driver.specs.Steady.{HasSignature, IsCalmTick, IsFine, IsSteadyPlan, IsSteadyTurn, Issues, slot_in}
+use Rattle.hba_driver.specs.Steady.{IsCalmTick, IsFine, IsSteadyPlan, IsSteadyTurn, Issues, slot_in}
 use Rattle.hba_driver.specs.Ticks.{after_tick, done_ended, seen, turn}
 use Rattle.hba_driver.proofs.BesideLemmas.{tick_beside}
 use Rattle.hba_driver.proofs.PageLemmas.{poll_plan}
 use Rattle.hba_driver.proofs.SteadyLemmas.{PlanKeeps, act_keeps, keeps_then, of_turn, turn_keeps}
-use Rattle.hba_driver.proofs.SteadyTurns.{acted_plan, signed_by}
+use Rattle.hba_driver.proofs.SteadyTurns.{acted_plan, signed_by, Signs}
 use Rattle.driver_ends.specs.Kept.{IsCalmTurn}
 use Rattle.driver_ends.proofs.AwayLemmas.{AreAway, beside_away}
 
@@ -36,15 +36,15 @@ use Rattle.driver_ends.proofs.AwayLemmas.{AreAway, beside_away}
 
 -- as tick_plan of hba_driver/proofs/SteadyTurns.antt
 tick_plan : (n : ℕ) (old : Host) (file : TaskFile) → IsCalmTick n old → IsSteadyPlan n old.driver.plan
-    → PlanKeeps n (HasSignature n old) old.driver.plan (after_tick (sight_in old) file old.driver).plan
+    → PlanKeeps n (Signs n old) old.driver.plan (after_tick (sight_in old) file old.driver).plan
 unfolding after_tick
 tick_plan n old file calm h =
     let v = sight_in old in
-    let first = turn_keeps n (HasSignature n old) v old.driver.plan (done_ended v.issued old.driver.entries) h in
-    let second = act_keeps n (HasSignature n old) v file (turn v old.driver).plan first.steady (turn v old.driver).act
-    (λ on. signed_by n old.port old.memory on) calm (of_turn v old.driver.plan (done_ended v.issued old.driver.entries)) in
-    let whole = keeps_then n (HasSignature n old) old.driver.plan (turn v old.driver).plan _ first second in
-    subst (λ (p : Plan). PlanKeeps n (HasSignature n old) old.driver.plan p)
+    let first = turn_keeps n (Signs n old) v old.driver.plan (done_ended v.issued old.driver.entries) h in
+    let second = act_keeps n (Signs n old) v file (turn v old.driver).plan first.steady (turn v old.driver).act
+    (λ bit on. signed_by n old.driver.plan.mode old.port old.memory on bit) calm (of_turn v old.driver.plan (done_ended v.issued old.driver.entries)) in
+    let whole = keeps_then n (Signs n old) old.driver.plan (turn v old.driver).plan _ first second in
+    subst (λ (p : Plan). PlanKeeps n (Signs n old) old.driver.plan p)
     (sym (acted_plan (turn v old.driver).act file (seen v old.driver))) whole
 
 -- the turn is none in which the driver ticks

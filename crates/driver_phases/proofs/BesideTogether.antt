@@ -133,7 +133,7 @@ module _ (n : ℕ) (old : Host) (turn : HostTurn) (new : Host) (run : DoesAll ol
   does = after old turn new run
 
   tends : IsSteadyTurn n old turn → TendsOn n old turn new
-  tends steady = turn_tended n old turn new (omega (arith, below)) does steady t.served.tended
+  tends steady = turn_tended n old turn new (omega (arith, below)) does t.served.sound.drives steady t.served.tended
 
   -- its software reset goes on
   resetting_at : t.given ≡ t.base → OwesOnly (ledger t.base) (Signs ∷ []) [] → IsAtStage n IsReleasing old.driver.plan

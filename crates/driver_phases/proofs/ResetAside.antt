@@ -6,6 +6,7 @@ use Rattle.slots.specs.Slots.{Issue, issue_at}
 use Rattle.hba_fbs.specs.Views.{view_of}
 use Rattle.disk_model.specs.Histories.{Happening}
 use Rattle.hba_laws.specs.Client.{Touches}
+use Rattle.hba_driver.specs.declared.mode.Mode.TheVariants.{Switching}
 use Rattle.hba_driver.specs.declared.path.Stage.{Stage}
 use Rattle.hba_driver.specs.declared.path.Stage.TheVariants.{AssertReset, AwaitReset, Identify, ReadLog, ReleaseReset}
 use Rattle.hba_driver.specs.declared.plan.Plan.{Plan}
@@ -29,6 +30,7 @@ use Rattle.hba_driver.proofs.OpenLemmas.{IsUp, up_of}
 use Rattle.hba_driver.proofs.ServedLemmas.{seen_served}
 use Rattle.hba_driver.proofs.ServingLemmas.{not_busy}
 use Rattle.hba_driver.proofs.SetsLemmas.{each_reset_is_driven}
+use Rattle.hba_driver.proofs.SwitchLemmas.{tick_acts}
 use Rattle.hba_driver.proofs.TendedLemmas.{at_stage, stage_is, unworked}
 use Rattle.hba_driver.proofs.TendedTurns.{turn_tended}
 use Rattle.hba_driver.proofs.TickingLemmas.{free_slot}
@@ -67,7 +69,7 @@ module _ (n : ℕ) (base : List Happening) (old : Host) (acted : Bool) (new : Ho
   calm = subst (IsCalmAct n) (sym is) tt
 
   driven : IsSetDriven n new
-  driven = each_reset_is_driven n old acted new (omega (arith, below)) does is h.tended
+  driven = each_reset_is_driven n old acted new (omega (arith, below)) does on.sound.drives is h.tended
 
   -- nothing of it was issued before
   begins : ResetsAt n old (Ticked acted) new touches
@@ -104,7 +106,7 @@ module _ (n : ℕ) (base : List Happening) (old : Host) (acted : Bool) (new : Ho
     | inl busy ↦
         absurd (not_busy (seen (sight_in old) old.driver) (beside old.port old.memory) touches 30 30
         (sound_beside old.port old.memory on.sound.ruled on.sound.memory)
-        (seen_served old.port old.memory old.driver touches (sound_beside old.port old.memory on.sound.ruled on.sound.memory) on.served)
+        (seen_served old.driver.plan.mode old.port old.memory old.driver touches (sound_beside old.port old.memory on.sound.ruled on.sound.memory) on.served)
         (free_slot (seen (sight_in old) old.driver) n AssertReset may) busy refl)
     | inr idle ↦ by_none (issue_at old.port.slots 30) idle
   ]
@@ -113,9 +115,9 @@ module _ (n : ℕ) (base : List Happening) (old : Host) (acted : Bool) (new : Ho
       by_none None e = refl
       by_none (Some i) e = absurd (true≢false e)
 
-  effects : ActsAll (stage_effects n AssertReset) old.port old.memory new.port new.memory
+  effects : ActsAll (stage_effects Switching n AssertReset) old.port old.memory new.port new.memory
   unfolding effects_of
-  effects = subst (λ x. ActsAll (effects_due x) old.port old.memory new.port new.memory) is does.does
+  effects = subst (λ x. ActsAll (effects_due Switching x) old.port old.memory new.port new.memory) is (tick_acts old acted new does on.sound)
 
   issued : Issues30 n (control n 4) old.port new.port
   issued =
@@ -126,7 +128,7 @@ module _ (n : ℕ) (base : List Happening) (old : Host) (acted : Bool) (new : Ho
   unreset : (view_of n old.port).state.resetting ≡ false
   unreset = elim (cases_Bool (view_of n old.port).state.resetting) [
     | inl set ↦
-        let tends : TendsOn n old (Ticked acted) new = turn_tended n old (Ticked acted) new (omega (arith, below)) does calm h.tended in
+        let tends : TendsOn n old (Ticked acted) new = turn_tended n old (Ticked acted) new (omega (arith, below)) does on.sound.drives calm h.tended in
         let there : IsAtStage n IsReleasing new.driver.plan = tends.awaiting (h.resets set).0 set in
         absurd (stage_is n AssertReset true new.driver.plan IsReleasing driven.plan.path there)
     | inr off ↦ off

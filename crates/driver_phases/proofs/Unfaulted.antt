@@ -24,6 +24,7 @@ use Rattle.hba_fbs.specs.Writing.{cleared_by, is_device, view_after}
 use Rattle.hba_laws.specs.Hosts as event
 use Rattle.hba_laws.specs.Hosts.{HostEvent, Runs, TakesFrame}
 use Rattle.hba_laws.specs.Isolation.{stops_port}
+use Rattle.hba_driver.specs.declared.mode.Mode.TheVariants.{Switching}
 use Rattle.hba_driver.specs.Effects.{ActsAll, effects_of, order_effects}
 use Rattle.hba_driver.specs.Events.{IsSoundHost, events_of_effects, events_over, shared_by, taken_by, took}
 use Rattle.hba_driver.specs.declared.plan.Plan.{Plan}
@@ -173,8 +174,8 @@ flush_events : (n : ℕ) (old : Host) (acted : Bool) (new : Host) (does : Does o
     → IsFlushFirst n (events_over old new (Ticked acted ∷ []) (new, does, refl))
 unfolding ActsAll events_of_effects effects_of order_effects
 flush_events n old acted new does flush =
-    subst (λ a. (acts : ActsAll (effects_due a) old.port old.memory new.port new.memory)
-    → IsFlushFirst n (events_of_effects (effects_due a) old.port old.memory new.port new.memory acts ++ []))
+    subst (λ a. (acts : ActsAll (effects_due old.driver.plan.mode a) old.port old.memory new.port new.memory)
+    → IsFlushFirst n (events_of_effects (effects_due old.driver.plan.mode a) old.port old.memory new.port new.memory acts ++ []))
     (sym flush) (λ acts. flush_first n _) does.does
 
 first_unfaulted : (n : ℕ) → n < 16 → (old : event.Host) (events : List HostEvent) (new : event.Host) → IsFlushFirst n events → Runs old events new
@@ -203,7 +204,7 @@ reported (Some x) (Some c) dev is = absurd (cc)
 
 pub never_cleared : (n : ℕ) (h : Host) → IsSoundHost h → IsUnfaulted n h.port → IsClearTick n h → ⊥
 never_cleared n h sound none tick =
-    let may : MayClear n h.port = subst (λ a. MayEnd a h.port) tick (may_end h sound) in
+    let may : MayClear n h.port = (subst (λ a. MayEnd Switching a h.port) tick (may_end h sound)).1 in
     let marked : is_some (cause_of h.port.errors n) ≡ true =
     (sound.ruled.faults.reported_is_marked n (reported h.port.errors.reported h.port.errors.port n may.faulty)).1 in
     false≢true (sym (ap is_some none) ∙ marked)

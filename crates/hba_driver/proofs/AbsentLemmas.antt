@@ -24,7 +24,7 @@ use Rattle.hba_driver.specs.HostTurns.{Does, Host, HostTurn, Polled, Pushed, Put
 use Rattle.hba_driver.specs.Sights.{file_shown}
 use Rattle.hba_driver.specs.Steady.{IsCalmAct, IsSteadyTurn, detects}
 use Rattle.hba_driver.specs.Ticks.{after_tick, done_ended, from_reset, ordered, plan_after, recovering, seen, turn}
-use Rattle.hba_driver.specs.Turns.{advanced, answered, control_news, control_seen, control_turn, device_seen, early_due, found_of, is_back, is_out, met_order, noted, order_due, plain_turn, turn_of, with_next}
+use Rattle.hba_driver.specs.Turns.{advanced, answered, control_news, control_seen, control_turn, device_seen, early_due, found_of, is_back, is_out, met_order, noted, order_allowed, plain_turn, turn_of, with_next}
 use Rattle.hba_driver.proofs.HistoryLemmas.{PollFacts, freed, poll_facts}
 use Rattle.hba_driver.proofs.SteadyTurns.{acted_plan}
 
@@ -152,7 +152,7 @@ module _ (n : ℕ) (file : TaskFile) where
 
   control_turn_was : (v : Sight) (p r : Plan) (news : Bool) (entries : List (Option Entry)) → WasAbsent n p r → TurnWas p (control_turn v news r entries)
   control_turn_was v p r news entries was =
-      turn_if p (is_some (order_due r)) (plain_turn r (order_due r) news) _ (plain_was p r (order_due r) news was)
+      turn_if p (is_some (order_allowed v r entries)) (plain_turn r (order_allowed v r entries) news) _ (plain_was p r (order_allowed v r entries) news was)
       (λ calm h. was (device_was n v r (act_was (device_seen v r) _ calm h)))
 
   whole_was : (v : Sight) (p : Plan) (entries : List (Option Entry)) → IsSoughtAbsent n p → TurnWas p (turn_of v p entries)

@@ -37,8 +37,9 @@ use Rattle.hba_laws.proofs.ViewLemmas.{is_own, own_in, own_issued}
 use Rattle.hba_driver.specs.declared.effect.Effect.{Effect}
 use Rattle.hba_driver.specs.declared.effect.Effect.TheVariants as effect
 use Rattle.hba_driver.specs.Addressed.{AreAddressed, FramesAreAddressed, IsAddressed}
+use Rattle.hba_driver.specs.declared.mode.Mode.{Mode}
 use Rattle.hba_driver.specs.Effects.{Acts, ActsAll, IsRuled, Tries}
-use Rattle.hba_driver.specs.Events.{IsSoundHost, opening_host}
+use Rattle.hba_driver.specs.Events.{IsSoundHostIn, opening_host_in}
 use Rattle.hba_driver.specs.HostTurns.{Does, DoesAll, Host, HostTurn, Took, Pushed, Ticked, Submitted, Polled, Put, sight_in}
 use Rattle.hba_driver.specs.Ticks.{effects}
 use Rattle.hba_driver.proofs.DrivenLemmas.{tried_at}
@@ -274,7 +275,7 @@ acts_their (e ∷ es) old new before after h ruled are = acts_their es h.0 new h
 
 -- ---- each turn
 
-pub turn_their : (old : Host) (t : HostTurn) (new : Host) → Does old t new → IsSoundHost old → AreOfTheir old.port → AreOfTheir new.port
+pub turn_their : {mode : Mode} (old : Host) (t : HostTurn) (new : Host) → Does old t new → IsSoundHostIn mode old → AreOfTheir old.port → AreOfTheir new.port
 turn_their old (Took frame report) new h s are = took_their old new frame report h are
 turn_their old (Pushed frame) new h s are = gave_their (outgoing old.port old.memory) old.port old.memory frame new.port h.gives are
 turn_their old (Ticked a) new h s are = acts_their (effects (sight_in old) old.driver) old.port new.port old.memory new.memory h.does s.ruled are
@@ -311,7 +312,7 @@ gave_addressed (Order dev slot command) old memory f new is gives ruled are =
     let of : i.0.dev ≡ dev = subst (Owns dev) at.1 o.owns in
     ap (λ (x : Stamped). slice_index x.bytes 1 % 16) gives.frame_is ∙ are dev slot command (subst (λ (m : ℕ). m < 16) of rules.dev_below) busy o.stands ∙ sym (ap (λ (x : Stamped). x.stamp.port) gives.frame_is)
 
-pub turn_addressed : (old : Host) (t : HostTurn) (new : Host) → Does old t new → IsSoundHost old → AreOfTheir old.port → IsAddressed t
+pub turn_addressed : {mode : Mode} (old : Host) (t : HostTurn) (new : Host) → Does old t new → IsSoundHostIn mode old → AreOfTheir old.port → IsAddressed t
 turn_addressed old (Pushed None) new h s are = tt
 turn_addressed old (Pushed (Some f)) new h s are = gave_addressed (outgoing old.port old.memory) old.port old.memory f new.port refl h.gives s.ruled are
 turn_addressed old (Took frame report) new h s are = tt
@@ -320,7 +321,7 @@ turn_addressed old (Submitted dev request ticket) new h s are = tt
 turn_addressed old (Polled c) new h s are = tt
 turn_addressed old (Put at bytes) new h s are = tt
 
-over_addressed : (turns : List HostTurn) (old new : Host) → DoesAll old turns new → IsSoundHost old → AreOfTheir old.port → AreAddressed turns
+over_addressed : {mode : Mode} (turns : List HostTurn) (old new : Host) → DoesAll old turns new → IsSoundHostIn mode old → AreOfTheir old.port → AreAddressed turns
 over_addressed [] old new run s are = tt
 over_addressed (t ∷ turns) old new run s are =
     (turn_addressed old t run.0 run.1 s are, over_addressed turns run.0 new run.2 (sound_turn old t run.0 run.1 s) (turn_their old t run.0 run.1 s are))
@@ -335,4 +336,4 @@ none_issued n s c h = elim (cases_lt s 32) [
     none_some h = cc
 
 pub frames_are_addressed : FramesAreAddressed
-frames_are_addressed given len right turns h run = over_addressed turns (opening_host given len) h run (hosts_stay_sound.opens given len right) (λ n s c low busy last. none_issued n s c last)
+frames_are_addressed mode given len right turns h run = over_addressed turns (opening_host_in mode given len) h run (hosts_stay_sound.opens mode given len right) (λ n s c low busy last. none_issued n s c last)

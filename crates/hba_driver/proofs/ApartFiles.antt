@@ -14,6 +14,7 @@ use Rattle.hba_fbs.specs.Reading.{shown_device, value_of}
 use Rattle.hba_fbs.specs.Registers.{written}
 use Rattle.hba_fbs.specs.Views.{Port, state_at, stopped_state, view_of}
 use Rattle.hba_fbs.specs.Writing.{Accepts}
+use Rattle.hba_driver.specs.declared.mode.Mode.TheVariants.{Switching}
 use Rattle.hba_driver.specs.Effects.{ActsAll, clearing}
 use Rattle.hba_driver.specs.Sights.{file_shown, shown}
 use Rattle.hba_driver.proofs.EndingLemmas.{clear_taken, has_en, is_accepted}
@@ -26,7 +27,7 @@ in_dev : (n : ℕ) → n < 16 → (256 * n + 3) / 256 % 16 ≡ n
 in_dev n low = omega (arith, low)
 
 -- PxTFD is that of the device then
-pub clearing_shown : (n : ℕ) (old new : Port) (before after : Memory) → n < 16 → old.registers.switching ≡ true → ActsAll (clearing n) old before new after → shown_device new ≡ n
+pub clearing_shown : (n : ℕ) (old new : Port) (before after : Memory) → n < 16 → old.registers.switching ≡ true → ActsAll (clearing Switching n) old before new after → shown_device new ≡ n
 unfolding ActsAll written register_at
 clearing_shown n old new before after low on acts =
     let switches : acts.0.registers.switching ≡ true = ap (λ (r : Registers). r.switching) (is_accepted 0x49000000 old acts.0 before acts.1 acts.2).registers ∙ on in

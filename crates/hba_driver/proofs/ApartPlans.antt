@@ -23,7 +23,8 @@ use Rattle.hba_driver.specs.Drivers.{Entry, device_at, entry_at, with_device}
 use Rattle.hba_driver.specs.Paths.{next_stage, stage_fields}
 use Rattle.hba_driver.specs.Tended.{IsUnworked}
 use Rattle.hba_driver.specs.Slot30.{Asks, Cleared, Clears, Faulty, IsCleared, IsPlan30, LogSent, Off, On, ReadsLog, Resets, Sets, Stage30, is_faulty, path_of}
-use Rattle.hba_driver.specs.Turns.{advanced, answered, control_seen, detected, device_due, device_seen, early_due, found_of, is_back, is_due, is_in_reset, is_out, is_there, issue_of, may_issue, met, met_order, met_path, met_stage, noted, order_due, path_answered, path_due, path_met, request_due, stage_due, stage_for, step_of, turn_of, with_next}
+use Rattle.hba_driver.specs.Turns.{advanced, allowed, answered, control_seen, detected, device_due, device_or_request, device_seen, early_due, found_of, is_back, is_due, is_in_reset, is_out, is_there, issue_of, may_issue, met, met_order, met_path, met_stage, noted, order_allowed, order_due, path_answered, path_due, path_met, request_due, stage_due, stage_for, step_of, turn_of, with_next}
+use Rattle.hba_driver.proofs.DueLemmas.{allowed_keeps}
 use Rattle.hba_driver.proofs.SteadyLemmas.{none_path, path_to_dev, same_path, set_other}
 use Rattle.hba_driver.proofs.StopLemmas.{either}
 
@@ -257,7 +258,7 @@ turn_plan n stage v p entries well shows found h =
     let l : Leaves n p (control_seen v p) = control_leaves n v p r.0 r.1 found in
     let c : IsPlan30 n stage (control_seen v p) = plan_of n stage p (control_seen v p) h (l.device, l.path) in
     turn_if n stage (is_some (early_due v p)) _ _ h
-    (turn_if n stage (is_some (order_due (control_seen v p))) _ _ c (seen_plan n stage v (control_seen v p) well shows c))
+    (turn_if n stage (is_some (order_allowed v (control_seen v p) entries)) _ _ c (seen_plan n stage v (control_seen v p) well shows c))
 
 -- ---- what a stage issues has fields
 
@@ -321,6 +322,12 @@ fields_order p = either HasFields p.asked None _ tt (by_fields (Rattle.hba_drive
     by_fields None = tt
     by_fields (Some f) = tt
 
+fields_allowed : (v : Sight) (p : Plan) (entries : List (Option Entry)) (a : Option Act) → HasFields a → HasFields (allowed p.mode v p entries a)
+fields_allowed v p entries a h = allowed_keeps HasFields tt p.mode v p entries a h
+
+fields_devices : (v : Sight) (p : Plan) (entries : List (Option Entry)) → HasFields (device_or_request v p entries)
+fields_devices v p entries = fields_or _ _ (fields_allowed v p entries (device_due v p) (fields_device v p)) (fields_allowed v p entries (request_due p entries) (fields_request p entries))
+
 fields_if : (b : Bool) (t u : Turn) → HasFields t.act → HasFields u.act → HasFields (if b then t else u).act
 fields_if true t u h k = h
 fields_if false t u h k = k
@@ -329,5 +336,5 @@ pub fields_turn : (v : Sight) (p : Plan) (entries : List (Option Entry)) → Has
 unfolding turn_of
 fields_turn v p entries =
     fields_if (is_some (early_due v p)) _ _ (fields_early v p)
-    (fields_if (is_some (order_due (control_seen v p))) _ _ (fields_order (control_seen v p))
-    (fields_or _ _ (fields_device v (device_seen v (control_seen v p))) (fields_request (device_seen v (control_seen v p)) entries)))
+    (fields_if (is_some (order_allowed v (control_seen v p) entries)) _ _ (fields_allowed v (control_seen v p) entries (order_due (control_seen v p)) (fields_order (control_seen v p)))
+    (fields_devices v (device_seen v (control_seen v p)) entries))

@@ -27,7 +27,7 @@ use Rattle.hba_fbs.specs.declared.report.TakeReport.{TakeReport}
 use Rattle.hba_fbs.specs.declared.state.DeviceState.{DeviceState}
 use Rattle.hba_fbs.specs.declared.status.Block.{Block}
 use Rattle.hba_fbs.specs.declared.hearing.Happening.{Happening}
-use Rattle.hba_fbs.specs.Hearing.{answered, block_of, faulty, heard_data, heard_data_of, heard_pio, heard_setup, heard_d2h, heard_fis, quietly, set_up, tag_of}
+use Rattle.hba_fbs.specs.Hearing.{answered, block_of, faulty, heard_data, heard_data_of, heard_pio, heard_setup, heard_d2h, heard_fis, quietly, set_up, tag_of, heard_register, signing}
 use Rattle.hba_fbs.specs.Posting.{signs}
 use Rattle.hba_fbs.specs.Status.{after_reset, is_busy, is_error, with_file}
 use Rattle.hba_fbs.specs.Taking.{heard_view, ignores, is_running, port_of, view_after_hearing}
@@ -135,12 +135,17 @@ module _ (w : DeviceView) (none : w.slots.context ≡ None) (reset : w.state.res
   data_stays sound count =
       subst (λ (c : Option Context). Hears (match_some c (faulty w.state cause.Stray) (heard_data_of w.slots w.state sound count))) (sym none) (record { issue = refl; context = none; resetting = reset })
 
+  -- the mark of a signature is not of slot 30
+  signing_stays : (f : List ℕ) (h : Heard) → Hears h → Hears (signing f h)
+  signing_stays f h stays = record { issue = stays.issue; context = stays.context; resetting = stays.resetting }
+
   fis_stays : (sound : Bool) (fis : Fis) → Hears (heard_fis w.slots w.state sound fis)
   unfolding heard_fis
   fis_stays sound (view.RegH2D f) = record { issue = refl; context = none; resetting = reset }
   fis_stays sound (view.RegD2H f) =
-      subst (λ (b : Bool). Hears (if b then quietly (after_reset w.state (field table.D2h table.Status f) (field table.D2h table.Error f)) happening.Nothing else heard_d2h w.slots w.state (field table.D2h table.Status f) (field table.D2h table.Error f))) (sym reset)
-      (d2h_stays (field table.D2h table.Status f) (field table.D2h table.Error f))
+      signing_stays f (heard_register w.slots w.state (field table.D2h table.Status f) (field table.D2h table.Error f))
+      (subst (λ (b : Bool). Hears (if b then quietly (after_reset w.state (field table.D2h table.Status f) (field table.D2h table.Error f)) happening.Nothing else heard_d2h w.slots w.state (field table.D2h table.Status f) (field table.D2h table.Error f))) (sym reset)
+      (d2h_stays (field table.D2h table.Status f) (field table.D2h table.Error f)))
   fis_stays sound (view.SetBits f) =
       either Hears (is_error (field table.Bits table.Status f)) _ _ (record { issue = refl; context = none; resetting = reset })
       (record { issue = named_slots (field table.Bits table.SActive f); context = ap (context_unless (is_done (field table.Bits table.SActive f) w.slots)) none; resetting = reset })

@@ -11,6 +11,7 @@ use Rattle.slots.specs.Slots.{Issue, has_bit, issue_at, match_some, own_issue}
 use Rattle.hba_fbs.specs.Views.{DeviceView, Port, last_command, stopped_view, view_of}
 use Rattle.hba_laws.specs.Client.{Touches}
 use Rattle.hba_laws.proofs.ViewLemmas.{own_in}
+use Rattle.hba_driver.specs.declared.mode.Mode.TheVariants.{Switching}
 use Rattle.hba_driver.specs.declared.order.Order.{Order}
 use Rattle.hba_driver.specs.declared.path.Stage.{Stage}
 use Rattle.hba_driver.specs.declared.plan.Plan.{Plan}
@@ -44,16 +45,17 @@ use Rattle.hba_driver.proofs.AwaitLemmas.{here_effects}
 use Rattle.hba_driver.proofs.DoneLemmas.{free_slot as slot_free}
 use Rattle.hba_driver.proofs.DrivenLemmas.{not_below, tick_is}
 use Rattle.hba_driver.proofs.DueLemmas.{Due, MayStep, Runs, goes_turn, runs_turn}
-use Rattle.hba_driver.proofs.EndingLemmas.{MayEnd, may_end}
+use Rattle.hba_driver.proofs.EndingLemmas.{MayClear, MayEnd, may_end}
 use Rattle.hba_driver.proofs.EventLemmas.{beside, sound_beside}
 use Rattle.hba_driver.proofs.HistoryLemmas.{back_of}
 use Rattle.hba_driver.proofs.LifeLemmas.{due_seen, keeps_tick}
 use Rattle.hba_driver.proofs.OpenLemmas.{IsUp, up_of}
 use Rattle.hba_driver.proofs.ServedLemmas.{seen_served}
-use Rattle.hba_driver.proofs.ServingLemmas.{not_busy}
 use Rattle.hba_driver.proofs.ServeLemmas.{ticks_serve}
+use Rattle.hba_driver.proofs.ServingLemmas.{not_busy}
 use Rattle.hba_driver.proofs.SteadyLemmas.{of_turn, unless_here}
 use Rattle.hba_driver.proofs.SteadyTurns.{acted_plan}
+use Rattle.hba_driver.proofs.SwitchLemmas.{sight_is, tick_acts}
 use Rattle.hba_driver.proofs.Tick31Lemmas.{faulty_shown}
 use Rattle.hba_driver.proofs.TickingLemmas.{free_slot, step_dev}
 
@@ -135,12 +137,12 @@ module _ (n : ℕ) (past : Touches) (h : Host) (low : n < 15) (on : IsOn30 past 
 
   -- ---- the act is calm
 
-  calm_by : (a : Option Act) → due v h.driver ≡ a → is_faulty stage ≡ false → MayEnd a h.port → IsCalmAct n a
+  calm_by : (a : Option Act) → due v h.driver ≡ a → is_faulty stage ≡ false → MayEnd Switching a h.port → IsCalmAct n a
   calm_by None is well may = tt
   calm_by (Some (act.Opens k)) is well may = tt
   calm_by (Some act.Stops) is well may = on.going.ticks act.Stops is
   calm_by (Some (act.Restarts k)) is well may = tt
-  calm_by (Some (act.Clears dev)) is well may = λ same. false≢true (sym well ∙ sym at.fault ∙ subst (λ (k : ℕ). is_some (view_of k h.port).fault ≡ true) (sym same) (cleared_faulty h.port dev on.sound.ruled may.faulty))
+  calm_by (Some (act.Clears dev)) is well may = λ same. false≢true (sym well ∙ sym at.fault ∙ subst (λ (k : ℕ). is_some (view_of k h.port).fault ≡ true) (sym same) (cleared_faulty h.port dev on.sound.ruled may.1.faulty))
   calm_by (Some (act.Orders order)) is well may = λ same. flush (is ∙ ap (λ (o : Order). Some (act.Orders o)) same)
   calm_by (Some (act.Steps dev step)) is well may = tt
   calm_by (Some (act.Issues slot dev queued)) is well may = tt
@@ -161,7 +163,7 @@ module _ (n : ℕ) (past : Touches) (h : Host) (low : n < 15) (on : IsOn30 past 
     plans = turn_plan n stage v h.driver.plan (done_ended v.issued h.driver.entries) well (shows stage refl well apart.slot) found apart.plan
 
     served : Rattle.hba_driver.specs.Served.IsServed (seen v h.driver) (beside h.port h.memory) past
-    served = seen_served h.port h.memory h.driver past (sound_beside h.port h.memory on.sound.ruled on.sound.memory) on.served
+    served = seen_served h.driver.plan.mode h.port h.memory h.driver past (sound_beside h.port h.memory on.sound.ruled on.sound.memory) on.served
 
     low_dev : (dev : ℕ) (step : Stage) → MayStep q dev step → dev < 15
     low_dev dev step may = step_dev (seen v h.driver) dev step served.bounded.path may
@@ -178,14 +180,14 @@ module _ (n : ℕ) (past : Touches) (h : Host) (low : n < 15) (on : IsOn30 past 
         by_none (Some i) e = absurd (true≢false e)
 
     -- the act leaves the view
-    view_by : (a : Option Act) → due v h.driver ≡ a → MayEnd a h.port → IsCalmAct n a → Due v q (seen v h.driver).entries a → Runs h.driver.plan a → ((dev : ℕ) (step : Stage) → a ≡ Some (act.Steps dev step) → dev ≢ n)
-        → ActsAll (effects_due a) h.port h.memory new.port new.memory → view_of n new.port ≡ view_of n h.port
+    view_by : (a : Option Act) → due v h.driver ≡ a → MayEnd Switching a h.port → IsCalmAct n a → Due v q (seen v h.driver).entries a → Runs h.driver.plan a → ((dev : ℕ) (step : Stage) → a ≡ Some (act.Steps dev step) → dev ≢ n)
+        → ActsAll (effects_due Switching a) h.port h.memory new.port new.memory → view_of n new.port ≡ view_of n h.port
     unfolding effects_of ActsAll
     view_by None is may calm known runs none es = ap (view_of n) es.0
     view_by (Some (act.Opens k)) is may calm known runs none es = absurd (omega (arith, at.opened, known.1, (goes_turn v h.driver.plan (done_ended v.issued h.driver.entries)).opened))
     view_by (Some act.Stops) is may calm known runs none es = absurd calm
     view_by (Some (act.Restarts k)) is may calm known runs none es = absurd (on.going.ticks (act.Restarts k) is)
-    view_by (Some (act.Clears dev)) is may calm known runs none es = clearing_view n dev h.port new.port h.memory new.memory (omega (arith, low)) (λ e. calm (sym e)) may.faulty es
+    view_by (Some (act.Clears dev)) is may calm known runs none es = clearing_view n dev h.port new.port h.memory new.memory (omega (arith, low)) (λ e. calm (sym e)) may.1.faulty es
     view_by (Some (act.Orders order)) is may calm known runs none es = order_view n order h.port new.port h.memory new.memory low calm (up runs.1) es
     view_by (Some (act.Steps dev step)) is may calm known runs none es =
         let below : dev < 15 = low_dev dev step known in
@@ -197,12 +199,12 @@ module _ (n : ℕ) (past : Touches) (h : Host) (low : n < 15) (on : IsOn30 past 
         (not_issued n stage v (file_shown new.port) q (seen v h.driver).entries well plans slot dev w) (up runs.1) es
 
     -- the act leaves the command of slot 30
-    last_by : (a : Option Act) → Due v q (seen v h.driver).entries a → ((dev : ℕ) (step : Stage) → a ≡ Some (act.Steps dev step) → ⊥) → ActsAll (effects_due a) h.port h.memory new.port new.memory
+    last_by : (a : Option Act) → Due v q (seen v h.driver).entries a → ((dev : ℕ) (step : Stage) → a ≡ Some (act.Steps dev step) → ⊥) → ActsAll (effects_due Switching a) h.port h.memory new.port new.memory
         → last_command new.port.commands 30 ≡ last_command h.port.commands 30
     unfolding ActsAll
     last_by None known none es = ap (λ (p : Port). last_command p.commands 30) es.0
     last_by (Some a) known none es =
-        here_effects (effects_due (Some a)) h.port new.port h.memory new.memory (here_act a (λ dev step e. none dev step (ap (λ (x : Act). Some x) e)) (λ slot dev queued e. below slot dev queued (subst (λ (x : Act). Due v q (seen v h.driver).entries (Some x)) e known))) es
+        here_effects (effects_due Switching (Some a)) h.port new.port h.memory new.memory (here_act a (λ dev step e. none dev step (ap (λ (x : Act). Some x) e)) (λ slot dev queued e. below slot dev queued (subst (λ (x : Act). Due v q (seen v h.driver).entries (Some x)) e known))) es
       where
         below : (slot dev : ℕ) (queued : Bool) → Due v q (seen v h.driver).entries (Some (act.Issues slot dev queued)) → slot ≢ 30
         below slot dev queued d same =
@@ -237,8 +239,8 @@ module _ (n : ℕ) (past : Touches) (h : Host) (low : n < 15) (on : IsOn30 past 
     rests_then r = record {
       next = stage;
       at = kept30 n stage h new
-          (view_by (due v h.driver) refl (may_end h on.sound) (calm_by (due v h.driver) refl well (may_end h on.sound)) (due_seen v h.driver) (runs_turn v h.driver.plan (done_ended v.issued h.driver.entries)) r.none does.does)
-          (λ some. last_by (due v h.driver) (due_seen v h.driver) (none_held (due v h.driver) r.free some) does.does) (driven_now stage r.is) at;
+          (view_by (due v h.driver) refl (may_end h on.sound) (calm_by (due v h.driver) refl well (may_end h on.sound)) (due_seen v h.driver) (runs_turn v h.driver.plan (done_ended v.issued h.driver.entries)) r.none (tick_acts h acts new does on.sound))
+          (λ some. last_by (due v h.driver) (due_seen v h.driver) (none_held (due v h.driver) r.free some) (tick_acts h acts new does on.sound)) (driven_now stage r.is) at;
       is = same_follows stage;
     }
 
@@ -247,7 +249,7 @@ module _ (n : ℕ) (past : Touches) (h : Host) (low : n < 15) (on : IsOn30 past 
     begins_then b =
         let known : MayStep q n b.step = subst (Due v q (seen v h.driver).entries) b.due (due_seen v h.driver) in
         let runs = subst (Runs h.driver.plan) b.due (runs_turn v h.driver.plan (done_ended v.issued h.driver.entries)) in
-        let es : ActsAll (stage_effects n b.step) h.port h.memory new.port new.memory = subst (λ (x : Option Act). ActsAll (effects_due x) h.port h.memory new.port new.memory) b.due does.does in
+        let es : ActsAll (stage_effects Switching n b.step) h.port h.memory new.port new.memory = subst (λ (x : Option Act). ActsAll (effects_due Switching x) h.port h.memory new.port new.memory) b.due (tick_acts h acts new does on.sound) in
         let i : Issues30 n b.fields h.port new.port = step30 n b.step b.fields h.port new.port h.memory new.memory low b.given (up runs.1) on.unarmed (free30 b.step known) on.sound.memory es in
         let d : IsDriven30 n b.next new.driver = driven_now b.next b.is in
         record {
@@ -305,7 +307,7 @@ module _ (n : ℕ) (past : Touches) (h : Host) (low : n < 15) (on : IsOn30 past 
         absurd (on.going.ticks act.Stops d.0)
     by_stopped false is early =
         let shown_is = faulty_shown h.port h.memory on.sound.ruled on.going.faultless (reported_some h.port.errors.reported refl) in
-        let d = due_of (act.Clears shown_is.0) (early ∙ ap (λ (b : Bool). if b then Some act.Stops else option_map act.Clears v.faulty) is ∙ ap (option_map act.Clears) shown_is.1) in
+        let d = due_of (act.Clears shown_is.0) (early ∙ ap (λ (b : Bool). if b then Some act.Stops else option_map act.Clears v.faulty) is ∙ ap (option_map act.Clears) (ap (λ (s : Sight). s.faulty) (sight_is h on.sound) ∙ shown_is.1)) in
         record { dev = shown_is.0; is = d.0; same = d.1 }
 
     by_restart : (b : Bool) → nat_lt h.driver.plan.restarted 2 ≡ b → Clearing30
@@ -323,12 +325,12 @@ module _ (n : ℕ) (past : Touches) (h : Host) (low : n < 15) (on : IsOn30 past 
         ap (λ (d : Driver). d.plan) does.driver ∙ ap (λ (x : Option Act). (acted x (file_shown new.port) (seen v h.driver)).plan) c.is
         ∙ ap (λ (p : Plan). cleared_plan c.dev (file_shown new.port) p) c.same
 
-    clears_effects : (c : Clearing30) → ActsAll (clearing c.dev) h.port h.memory new.port new.memory
+    clears_effects : (c : Clearing30) → ActsAll (clearing Switching c.dev) h.port h.memory new.port new.memory
     unfolding effects_of
-    clears_effects c = subst (λ (x : Option Act). ActsAll (effects_due x) h.port h.memory new.port new.memory) c.is does.does
+    clears_effects c = subst (λ (x : Option Act). ActsAll (effects_due Switching x) h.port h.memory new.port new.memory) c.is (tick_acts h acts new does on.sound)
 
-    may_clear : (c : Clearing30) → MayEnd (Some (act.Clears c.dev)) h.port
-    may_clear c = subst (λ (x : Option Act). MayEnd x h.port) c.is (may_end h on.sound)
+    may_clear : (c : Clearing30) → MayClear c.dev h.port
+    may_clear c = (subst (λ (x : Option Act). MayEnd Switching x h.port) c.is (may_end h on.sound)).1
 
     -- the device's own fault
     own_plan : (c : Clearing30) → c.dev ≡ n → new.driver.plan ≡ recovering n (file_shown new.port) h.driver.plan
@@ -346,7 +348,7 @@ module _ (n : ℕ) (past : Touches) (h : Host) (low : n < 15) (on : IsOn30 past 
     own_view c same =
         let may = may_clear c in
         clearing_own_view n h.port new.port h.memory new.memory (omega (arith, low)) may.switches (may.faulty ∙ ap (λ (k : ℕ). Some k) same)
-        (subst (λ (k : ℕ). ActsAll (clearing k) h.port h.memory new.port new.memory) same (clears_effects c))
+        (subst (λ (k : ℕ). ActsAll (clearing Switching k) h.port h.memory new.port new.memory) same (clears_effects c))
 
     clears_own : (c : Clearing30) → c.dev ≡ n → IsAt30 n Cleared new
     clears_own c same =
@@ -411,7 +413,7 @@ module _ (n : ℕ) (past : Touches) (h : Host) (low : n < 15) (on : IsOn30 past 
                 ready = l.0;
                 shown = l.1;
                 failed = file_error n new.port (view_of n h.port).state
-                    (clearing_shown n h.port new.port h.memory new.memory (omega (arith, low)) (may_clear c).switches (subst (λ (k : ℕ). ActsAll (clearing k) h.port h.memory new.port new.memory) same (clears_effects c)))
+                    (clearing_shown n h.port new.port h.memory new.memory (omega (arith, low)) (may_clear c).switches (subst (λ (k : ℕ). ActsAll (clearing Switching k) h.port h.memory new.port new.memory) same (clears_effects c)))
                     (ap (λ (w : DeviceView). w.state) (own_view c same)) l.2;
               }
           | inr other ↦ absurd (false≢true (sym well ∙ ap (λ (w : DeviceView). is_some w.fault) (other_view c other) ∙ at.fault ∙ failed))

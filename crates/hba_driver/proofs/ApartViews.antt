@@ -28,6 +28,7 @@ use Rattle.hba_fbs.proofs.AimLemmas.{aimed_chosen}
 use Rattle.hba_laws.proofs.StandLemmas.{some_inj}
 use Rattle.hba_laws.proofs.ViewLemmas.{own_in}
 use Rattle.hba_driver.specs.declared.effect.Effect.TheVariants as effect
+use Rattle.hba_driver.specs.declared.mode.Mode.TheVariants.{Switching}
 use Rattle.hba_driver.specs.declared.order.Order.{Order}
 use Rattle.hba_driver.specs.declared.order.Order.TheVariants.{Scan, Clear}
 use Rattle.hba_driver.specs.declared.path.Stage.{Stage}
@@ -70,7 +71,7 @@ ci_view n slot dev old new before after low other is acts =
     (ap (λ (b : Bool). if b then Rattle.hba_fbs.specs.Issuing.view_issued old.registers before (2 ^ slot) (view_of n old) else view_of n old) (ne_eqb n (aimed old.registers before.structure (2 ^ slot)) (λ same. other (sym (same ∙ to))))) acts
 
 -- commands of another device
-pub issuing_view : (n slot dev : ℕ) (queued : Bool) (old new : Port) (before after : Memory) → n < 16 → dev < 16 → dev ≢ n → IsUp old.registers → ActsAll (issuing slot dev queued) old before new after → view_of n new ≡ view_of n old
+pub issuing_view : (n slot dev : ℕ) (queued : Bool) (old new : Port) (before after : Memory) → n < 16 → dev < 16 → dev ≢ n → IsUp old.registers → ActsAll (issuing Switching slot dev queued) old before new after → view_of n new ≡ view_of n old
 unfolding ActsAll view_after register_at
 issuing_view n slot dev false old new before after low below other up acts =
     let f = fbs_step dev old acts.0 before acts.1 below up acts.2 in
@@ -81,7 +82,7 @@ issuing_view n slot dev true old new before after low below other up acts =
     ap (view_of n) acts.4.4.4.0 ∙ ci_view n slot dev acts.4.0 acts.4.4.0 acts.4.1 acts.4.4.1 low other chosen acts.4.4.2
     ∙ write_view n Sact px_sact (2 ^ slot) acts.0 acts.4.0 acts.1 acts.4.1 low refl refl acts.4.2 ∙ f.0.views n low
 
-pub sending_view : (n slot dev : ℕ) (o : Option H2dFields) (buffer : Bool) (old new : Port) (before after : Memory) → n < 16 → dev < 16 → dev ≢ n → IsUp old.registers → ActsAll (match_some o [] (λ f. sending slot dev f buffer)) old before new after
+pub sending_view : (n slot dev : ℕ) (o : Option H2dFields) (buffer : Bool) (old new : Port) (before after : Memory) → n < 16 → dev < 16 → dev ≢ n → IsUp old.registers → ActsAll (match_some o [] (λ f. sending Switching slot dev f buffer)) old before new after
     → view_of n new ≡ view_of n old
 unfolding ActsAll
 sending_view n slot dev None buffer old new before after low below other up acts = ap (view_of n) acts.0
@@ -89,7 +90,7 @@ sending_view n slot dev (Some f) buffer old new before after low below other up 
     issuing_view n slot dev false acts.0 new acts.1 after low below other (subst (λ (p : Port). IsUp p.registers) (sym acts.2.0) up) acts.4 ∙ ap (view_of n) acts.2.0
 
 -- an order that does not flush it
-pub order_view : (n : ℕ) (order : Order) (old new : Port) (before after : Memory) → n < 15 → order ≢ Clear n → IsUp old.registers → ActsAll (order_effects order) old before new after → view_of n new ≡ view_of n old
+pub order_view : (n : ℕ) (order : Order) (old new : Port) (before after : Memory) → n < 15 → order ≢ Clear n → IsUp old.registers → ActsAll (order_effects Switching order) old before new after → view_of n new ≡ view_of n old
 unfolding order_effects ActsAll
 order_view n Scan old new before after low other up acts =
     let s = sntf_step old acts.0 before acts.1 up acts.2 in
@@ -106,7 +107,7 @@ errors_same : (value : ℕ) (old new : Port) (before after : Memory) → Acts (e
 unfolding errors_after
 errors_same value old new before after acts = (is_accepted value old new before after acts).errors
 
-pub clearing_view : (n dev : ℕ) (old new : Port) (before after : Memory) → n < 16 → dev ≢ n → cleared_device old.errors ≡ Some dev → ActsAll (clearing dev) old before new after → view_of n new ≡ view_of n old
+pub clearing_view : (n dev : ℕ) (old new : Port) (before after : Memory) → n < 16 → dev ≢ n → cleared_device old.errors ≡ Some dev → ActsAll (clearing Switching dev) old before new after → view_of n new ≡ view_of n old
 unfolding ActsAll view_after register_at
 clearing_view n dev old new before after low other is acts =
     let errors : acts.0.errors ≡ old.errors = errors_same 0x49000000 old acts.0 before acts.1 acts.2 in
@@ -115,7 +116,7 @@ clearing_view n dev old new before after low other is acts =
     (ap (λ (o : Option ℕ). view_cleared n o (view_of n acts.0)) (only_cleared dev acts.0.errors (ap cleared_device errors ∙ is)) ∙ ap (λ (b : Bool). if b then stopped_view (view_of n acts.0) else view_of n acts.0) (ne_eqb dev n other)) acts.4.2
     ∙ write_view n Is px_is 0x49000000 old acts.0 before acts.1 low refl refl acts.2
 
-pub clearing_own_view : (n : ℕ) (old new : Port) (before after : Memory) → n < 16 → old.registers.switching ≡ true → cleared_device old.errors ≡ Some n → ActsAll (clearing n) old before new after → view_of n new ≡ stopped_view (view_of n old)
+pub clearing_own_view : (n : ℕ) (old new : Port) (before after : Memory) → n < 16 → old.registers.switching ≡ true → cleared_device old.errors ≡ Some n → ActsAll (clearing Switching n) old before new after → view_of n new ≡ stopped_view (view_of n old)
 unfolding ActsAll view_after register_at written
 clearing_own_view n old new before after low on is acts =
     let errors : acts.0.errors ≡ old.errors = errors_same 0x49000000 old acts.0 before acts.1 acts.2 in
@@ -153,18 +154,18 @@ last_new a old c is some = elim (cases_lt 30 (length old)) [
 ]
 
 -- the write of PxCI
-ci30 : (n : ℕ) (prds : List Rattle.host_memory.specs.declared.table.Prd.Prd) (fields : H2dFields) (old new : Port) (before after : Memory) → n < 16 → Ready 30 n prds fields old before → IsRuled old → IsRuled new → Acts (effect.Writes px_ci (2 ^ 30)) old before new after
+ci30 : (n : ℕ) (prds : List Rattle.host_memory.specs.declared.table.Prd.Prd) (fields : H2dFields) (old new : Port) (before after : Memory) → n < 16 → Ready Switching 30 n prds fields old before → IsRuled old → IsRuled new → Acts (effect.Writes px_ci (2 ^ 30)) old before new after
     → IsBuilt H2d (h2d_given fields) (cfis_at before.structure (table_of 30)) → Issues30 n fields old new
 unfolding view_after commands_after register_at
 ci30 n prds fields old new before after low ready was ruled acts built =
-    let free : refusal_of Ci old before (2 ^ 30) ≡ None = ci_taken 30 n prds fields old before ready in
+    let free : refusal_of Ci old before (2 ^ 30) ≡ None = ci_taken Switching 30 n prds fields old before ready in
     let accepts : Accepts old before Ci (2 ^ 30) new = taken Ci px_ci (2 ^ 30) old new before refl free acts.0 in
     let whole : Command = command_placed 30 prds fields before in
-    let asks_is : asked old.registers before (2 ^ 30) 30 ≡ Some whole = asks 30 n prds fields old before ready in
-    let to : aimed old.registers before.structure (2 ^ 30) ≡ n = aimed_chosen old.registers before.structure (2 ^ 30) ready.up.switches ∙ ready.chosen in
+    let asks_is : asked old.registers before (2 ^ 30) 30 ≡ Some whole = asks Switching 30 n prds fields old before ready in
+    let to : aimed old.registers before.structure (2 ^ 30) ≡ n = aimed_chosen old.registers before.structure (2 ^ 30) ready.up.switches ∙ ready.aims in
     let view : view_of n new ≡ Rattle.hba_fbs.specs.Issuing.view_issued old.registers before (2 ^ 30) (view_of n old) =
     accepts.views n low ∙ ap (λ (b : Bool). if b then Rattle.hba_fbs.specs.Issuing.view_issued old.registers before (2 ^ 30) (view_of n old) else view_of n old) (eq-eqb n (aimed old.registers before.structure (2 ^ 30)) (sym to)) in
-    let issued : own_issue (slots_of n new.slots) 30 ≡ Some (new_issue n (work_of (request_of fields))) = (ci_step 30 n prds fields old before ready new after was.table acts).issued in
+    let issued : own_issue (slots_of n new.slots) 30 ≡ Some (new_issue n (work_of (request_of fields))) = (ci_step Switching 30 n prds fields old before ready new after was.table acts).issued in
     let busy : issue_at new.slots 30 ≡ Some (new_issue n (work_of (request_of fields))) = (own_in n 30 new.slots (new_issue n (work_of (request_of fields))) issued).1 in
     record {
       state = ap (λ (v : DeviceView). v.state) view;
@@ -194,7 +195,7 @@ record IsProper30 (n : ℕ) (fields : H2dFields) (buffer : Bool) : Type 0 where
   pub proper : is_proper (header_for (request_of fields) (table_of 30) (length (prds_with buffer))) (request_of fields) (total_of (prds_with buffer)) 30 false ≡ true
 
 sending30 : (n : ℕ) (fields : H2dFields) (buffer : Bool) (old new : Port) (before after : Memory) → n < 15 → IsProper30 n fields buffer → IsUp old.registers → old.registers.armed ≡ 0 → issue_at old.slots 30 ≡ None → IsHostMemory before
-    → ActsAll (sending 30 n fields buffer) old before new after → Issues30 n fields old new
+    → ActsAll (sending Switching 30 n fields buffer) old before new after → Issues30 n fields old new
 unfolding ActsAll
 sending30 n fields buffer old new before after low is up none free m acts =
     let w = acts.2.1.structure in
@@ -211,11 +212,11 @@ sending30 n fields buffer old new before after low is up none free m acts =
     let f = fbs_step n acts.0 a.0 acts.1 a.1 (omega (arith, low)) up0 a.2 in
     let unarmed : a.0.registers.armed ≡ 0 = f.2 ∙ ap (λ (p : Port). p.registers.armed) acts.2.0 ∙ none in
     let free0 : issue_at acts.0.slots 30 ≡ None = ap (λ (p : Port). issue_at p.slots 30) acts.2.0 ∙ free in
-    let ready : Ready 30 n (prds_with buffer) fields a.0 a.1 = record {
+    let ready : Ready Switching 30 n (prds_with buffer) fields a.0 a.1 = record {
       below = omega arith;
       dev_below = omega (arith, low);
       up = f.0.up;
-      chosen = f.1;
+      aims = f.1;
       free = same_free acts.0 a.0 30 a.3.table f.0.views free0;
       placed = subst (λ (b : Bool). Placed 30 n (prds_with buffer) fields b a.1) (sym (no_bit a.0.registers.armed 30 unarmed)) (subst (Placed 30 n (prds_with buffer) fields false) (sym a.2.1) placed);
     } in
@@ -245,6 +246,6 @@ proper_step n AwaitReset f low is = cc
 
 -- a stage's command
 pub step30 : (n : ℕ) (step : Stage) (f : H2dFields) (old new : Port) (before after : Memory) → n < 15 → stage_fields n step ≡ Some f → IsUp old.registers → old.registers.armed ≡ 0 → issue_at old.slots 30 ≡ None → IsHostMemory before
-    → ActsAll (stage_effects n step) old before new after → Issues30 n f old new
+    → ActsAll (stage_effects Switching n step) old before new after → Issues30 n f old new
 step30 n step f old new before after low is up none free m acts =
-    sending30 n f (reads_page step) old new before after low (proper_step n step f low is) up none free m (subst (λ (o : Option H2dFields). ActsAll (match_some o [] (λ f. sending 30 n f (reads_page step))) old before new after) is acts)
+    sending30 n f (reads_page step) old new before after low (proper_step n step f low is) up none free m (subst (λ (o : Option H2dFields). ActsAll (match_some o [] (λ f. sending Switching 30 n f (reads_page step))) old before new after) is acts)

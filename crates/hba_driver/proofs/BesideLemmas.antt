@@ -21,6 +21,8 @@ use Rattle.hba_laws.specs.Hosts as event
 use Rattle.hba_laws.specs.Hosts.{HostEvent, Runs}
 use Rattle.hba_driver.specs.declared.effect.Effect.{Effect}
 use Rattle.hba_driver.specs.declared.effect.Effect.TheVariants as effect
+use Rattle.hba_driver.specs.declared.mode.Mode.TheVariants.{CommandBased, Switching}
+use Rattle.hba_driver.specs.declared.mode.Mode.{Mode}
 use Rattle.hba_driver.specs.declared.order.Order.{Order}
 use Rattle.hba_driver.specs.declared.order.Order.TheVariants.{ResetOn, ResetOff, AwaitSignature, CountPorts, SetMask, Enable, Open, Scan, Clear, Detect, Watch}
 use Rattle.hba_driver.specs.declared.sight.Sight.{Sight}
@@ -136,8 +138,8 @@ calm_chosen n slot dev fs c port memory below on rest h =
 
 -- ---- lists of effects
 
-calm_issuing : (n slot dev : ℕ) (queued : Bool) (old new : Port) (before after : Memory) (c : event.Host) → slot < 32 → dev < 16 → old.registers.switching ≡ true → (acts : ActsAll (issuing slot dev queued) old before new after) → (h : event.Host)
-    → Calm n slot (events_of_effects (issuing slot dev queued) old before new after acts) c h
+calm_issuing : (n slot dev : ℕ) (queued : Bool) (old new : Port) (before after : Memory) (c : event.Host) → slot < 32 → dev < 16 → old.registers.switching ≡ true → (acts : ActsAll (issuing Switching slot dev queued) old before new after) → (h : event.Host)
+    → Calm n slot (events_of_effects (issuing Switching slot dev queued) old before new after acts) c h
 unfolding ActsAll events_of_effects
 calm_issuing n slot dev false old new before after c below dev_below on acts =
     calm_chosen n slot dev _ c old before dev_below on (calm_ci n slot dev [] c acts.0 acts.1 below (λ h. calm_none n slot c h))
@@ -145,14 +147,14 @@ calm_issuing n slot dev true old new before after c below dev_below on acts =
     calm_chosen n slot dev _ c old before dev_below on (calm_sact n slot dev (2 ^ slot) _ c acts.0 acts.1 (calm_ci n slot dev [] c acts.4.0 acts.4.1 below (λ h. calm_none n slot c h)))
 
 calm_sending : (n slot dev : ℕ) (fields : H2dFields) (buffer : Bool) (old new : Port) (before after : Memory) (c : event.Host) → slot < 32 → dev < 16 → old.registers.switching ≡ true
-    → (acts : ActsAll (sending slot dev fields buffer) old before new after) → (h : event.Host) → Calm n slot (events_of_effects (sending slot dev fields buffer) old before new after acts) c h
+    → (acts : ActsAll (sending Switching slot dev fields buffer) old before new after) → (h : event.Host) → Calm n slot (events_of_effects (sending Switching slot dev fields buffer) old before new after acts) c h
 unfolding ActsAll events_of_effects
 calm_sending n slot dev fields buffer old new before after c below dev_below on acts h =
     calm_then n slot (event.Stored acts.1.structure) _ c h (λ mid does. inl tt) (λ mid does.
     calm_issuing n slot dev false acts.0 new acts.1 after c below dev_below (ap (λ (p : Port). p.registers.switching) acts.2.0 ∙ on) acts.4 mid)
 
 calm_command : (n slot dev : ℕ) (o : Option H2dFields) (buffer : Bool) (old new : Port) (before after : Memory) (c : event.Host) → slot < 32 → dev < 16 → old.registers.switching ≡ true
-    → (acts : ActsAll (match_some o [] (λ f. sending slot dev f buffer)) old before new after) → (h : event.Host) → Calm n slot (events_of_effects (match_some o [] (λ f. sending slot dev f buffer)) old before new after acts) c h
+    → (acts : ActsAll (match_some o [] (λ f. sending Switching slot dev f buffer)) old before new after) → (h : event.Host) → Calm n slot (events_of_effects (match_some o [] (λ f. sending Switching slot dev f buffer)) old before new after acts) c h
 unfolding ActsAll events_of_effects
 calm_command n slot dev None buffer old new before after c below dev_below on acts h = calm_none n slot c h
 calm_command n slot dev (Some f) buffer old new before after c below dev_below on acts h = calm_sending n slot dev f buffer old new before after c below dev_below on acts h
@@ -163,8 +165,8 @@ small = omega arith
 port_small : 15 < 16
 port_small = omega arith
 
-calm_order : (n : ℕ) (order : Order) (old new : Port) (before after : Memory) (c : event.Host) → order ≢ Clear n → old.registers.switching ≡ true → (acts : ActsAll (order_effects order) old before new after) → (h : event.Host)
-    → Calm n 31 (events_of_effects (order_effects order) old before new after acts) c h
+calm_order : (n : ℕ) (order : Order) (old new : Port) (before after : Memory) (c : event.Host) → order ≢ Clear n → old.registers.switching ≡ true → (acts : ActsAll (order_effects Switching order) old before new after) → (h : event.Host)
+    → Calm n 31 (events_of_effects (order_effects Switching order) old before new after acts) c h
 unfolding order_effects ActsAll events_of_effects register_at
 calm_order n ResetOn old new before after c other on acts h = calm_command n 31 15 (order_fields ResetOn) false old new before after c small port_small on acts h
 calm_order n ResetOff old new before after c other on acts h = calm_command n 31 15 (order_fields ResetOff) false old new before after c small port_small on acts h
@@ -176,12 +178,12 @@ calm_order n (Open port) old new before after c other on acts h = calm_command n
 calm_order n (Detect port) old new before after c other on acts h = calm_command n 31 15 (order_fields (Detect port)) false old new before after c small port_small on acts h
 calm_order n Watch old new before after c other on acts h = calm_command n 31 15 (order_fields Watch) false old new before after c small port_small on acts h
 calm_order n Scan old new before after c other on acts h =
-    let place = place_effect (effect.Writes px_sntf 32768) old acts.0 before acts.1 refl acts.2 in
-    let rest : (k : event.Host) → Calm n 31 (events_of_effects (match_some (order_fields Scan) [] (λ f. sending 31 control_port f false)) acts.0 acts.1 new after acts.4) c k =
+    let place = place_effect Switching (effect.Writes px_sntf 32768) old acts.0 before acts.1 refl acts.2 in
+    let rest : (k : event.Host) → Calm n 31 (events_of_effects (match_some (order_fields Scan) [] (λ f. sending Switching 31 control_port f false)) acts.0 acts.1 new after acts.4) c k =
     λ k. calm_command n 31 15 (order_fields Scan) false acts.0 new acts.1 after c small port_small (place.switches on) acts.4 k in
     calm_write n 31 _ c h old before px_sntf Sntf 32768 refl (λ mid does. inl tt) (λ mid does. rest mid) (λ none. rest h)
 calm_order n (Clear port) old new before after c other on acts h =
-    let last : List HostEvent = events_of_effects (match_some (order_fields (Clear port)) [] (λ f. sending 31 control_port f false)) acts.4.0 acts.4.1 new after acts.4.4 in
+    let last : List HostEvent = events_of_effects (match_some (order_fields (Clear port)) [] (λ f. sending Switching 31 control_port f false)) acts.4.0 acts.4.1 new after acts.4.4 in
     calm_then n 31 (event.Flushed port) (event.Rewrote port (replicate 256 0) ∷ last) c h (λ mid does. inl (λ same. other (ap Clear (sym same)))) (λ mid does.
     calm_then n 31 (event.Rewrote port (replicate 256 0)) last c mid (λ mid does. inl tt) (λ mid does.
     calm_command n 31 15 (order_fields (Clear port)) false acts.4.0 new acts.4.1 after c small port_small
@@ -247,9 +249,9 @@ calm_tame n slot quiet (effect.Flushes dev) old new before after c h off is acts
 calm_tame n slot quiet (effect.Empties dev) old new before after c h off is acts = absurd (false≢true is)
 calm_tame n slot quiet (effect.Commands k fields buffer) old new before after c h off is acts = absurd (false≢true is)
 
-tame_opening : (k : ℕ) → tame true (opening_write k) ≡ true
+tame_opening : (k : ℕ) → tame true (opening_write Switching k) ≡ true
 unfolding opening_write register_at
-tame_opening k = all_at (tame true) opening_writes k _ refl refl
+tame_opening k = all_at (tame true) (opening_writes Switching) k _ refl refl
 
 tame_restart : (k : ℕ) → tame false (restart_write k) ≡ true
 unfolding restart_write register_at
@@ -267,8 +269,8 @@ other_cleared n dev h other is named = other (sym (one dev n (sym (only_cleared 
     one : (a b : ℕ) → Some a ≡ Some b → a ≡ b
     one a b e = cc
 
-calm_clearing : (n slot dev : ℕ) (old new : Port) (before after : Memory) (c h : event.Host) → n ≢ dev → cleared_device h.port.errors ≡ Some dev → (acts : ActsAll (clearing dev) old before new after)
-    → Calm n slot (events_of_effects (clearing dev) old before new after acts) c h
+calm_clearing : (n slot dev : ℕ) (old new : Port) (before after : Memory) (c h : event.Host) → n ≢ dev → cleared_device h.port.errors ≡ Some dev → (acts : ActsAll (clearing Switching dev) old before new after)
+    → Calm n slot (events_of_effects (clearing Switching dev) old before new after acts) c h
 unfolding ActsAll events_of_effects register_at
 calm_clearing n slot dev old new before after c h other is acts =
     let last : (k : event.Host) → cleared_device k.port.errors ≡ Some dev → Calm n slot (tried acts.0 acts.1 px_fbs (256 * dev + 3) ++ []) c k =
@@ -288,11 +290,11 @@ Finds (Some (act.Orders order)) old h = old.registers.switching ≡ true
 Finds (Some (act.Steps dev stage)) old h = (old.registers.switching ≡ true) × (dev < 16)
 Finds (Some (act.Issues slot dev queued)) old h = (old.registers.switching ≡ true) × ((slot < 30) × (dev < 16))
 
-calm_act : (n : ℕ) (old new : Port) (before after : Memory) (c h : event.Host) (a : Option Act) → IsCalmAct n a → Finds a old h → (acts : ActsAll (effects_due a) old before new after)
-    → Calm n (slot_of a) (events_of_effects (effects_due a) old before new after acts) c h
+calm_act : (n : ℕ) (old new : Port) (before after : Memory) (c h : event.Host) (a : Option Act) → IsCalmAct n a → Finds a old h → (acts : ActsAll (effects_due Switching a) old before new after)
+    → Calm n (slot_of a) (events_of_effects (effects_due Switching a) old before new after acts) c h
 unfolding effects_of ActsAll events_of_effects
 calm_act n old new before after c h None calm finds acts = calm_none n 31 c h
-calm_act n old new before after c h (Some (act.Opens k)) calm finds acts = calm_tame n 31 true (opening_write k) old new before after c h (λ q. finds) (tame_opening k) acts
+calm_act n old new before after c h (Some (act.Opens k)) calm finds acts = calm_tame n 31 true (opening_write Switching k) old new before after c h (λ q. finds) (tame_opening k) acts
 calm_act n old new before after c h (Some act.Stops) calm finds acts = absurd calm
 calm_act n old new before after c h (Some (act.Restarts k)) calm finds acts = calm_tame n 31 false (restart_write k) old new before after c h (λ q. absurd (false≢true q)) (tame_restart k) acts
 calm_act n old new before after c h (Some (act.Clears dev)) calm finds acts = calm_clearing n 31 dev old new before after c h calm finds acts
@@ -302,17 +304,23 @@ calm_act n old new before after c h (Some (act.Issues slot dev queued)) calm fin
     let below : slot < 30 = finds.1.0 in
     calm_issuing n slot dev queued old new before after c (omega (arith, below)) finds.1.1 finds.0 acts h
 
+-- the same for a host of either mode, if it is this one
+calm_in : (mode : Mode) (n : ℕ) (old new : Port) (before after : Memory) (c h : event.Host) (a : Option Act) → mode ≡ Switching → IsCalmAct n a → Finds a old h → (acts : ActsAll (effects_due mode a) old before new after)
+    → Calm n (slot_of a) (events_of_effects (effects_due mode a) old before new after acts) c h
+calm_in Switching n old new before after c h a on calm finds acts = calm_act n old new before after c h a calm finds acts
+calm_in CommandBased n old new before after c h a on calm finds acts = absurd (cc)
+
 switching : (old : Host) → IsSoundHost old → nat_lt old.driver.plan.opened 7 ≡ false → old.port.registers.switching ≡ true
 switching old s up = s.registers.switches (omega (arith, not_below old.driver.plan.opened 7 up))
 
 -- what is known of the host if an act is due
 finds_of : (old : Host) (plan : Plan) (entries : List (Option Entry)) (a : Option Act) → IsSoundHost old → plan.opened ≡ old.driver.plan.opened → IsPath plan.path → ((s : ℕ) (e : Entry) → entry_at entries s ≡ Some e → e.head.dev < 15)
-    → Due (sight_in old) plan entries a → due_lemmas.Runs old.driver.plan a → MayEnd a old.port → Finds a old.port (shared_by old)
+    → Due (sight_in old) plan entries a → due_lemmas.Runs old.driver.plan a → MayEnd Switching a old.port → Finds a old.port (shared_by old)
 finds_of old plan entries None s same path devs due runs may = tt
 finds_of old plan entries (Some (act.Opens k)) s same path devs due runs may = s.registers.stopped (omega (arith, due.1, same))
 finds_of old plan entries (Some act.Stops) s same path devs due runs may = tt
 finds_of old plan entries (Some (act.Restarts k)) s same path devs due runs may = tt
-finds_of old plan entries (Some (act.Clears dev)) s same path devs due runs may = may.faulty
+finds_of old plan entries (Some (act.Clears dev)) s same path devs due runs may = may.1.faulty
 finds_of old plan entries (Some (act.Orders order)) s same path devs due runs may = switching old s runs.0
 finds_of old plan entries (Some (act.Steps dev stage)) s same path devs due runs may =
     let low : dev < 15 = elim due [ inl none ↦ none.1 | inr goes ↦ subst IsPath goes path ] in
@@ -334,7 +342,7 @@ tick_calm n old acted new does c s bounded calm =
     let a : Option Act = (turn v old.driver).act in
     let done : List (Option Entry) = done_ended v.issued old.driver.entries in
     let goes = goes_turn v old.driver.plan done in
-    calm_act n old.port new.port old.memory new.memory c (shared_by old) a calm
+    calm_in old.driver.plan.mode n old.port new.port old.memory new.memory c (shared_by old) a s.drives calm
     (finds_of old (turn v old.driver).plan done a s goes.opened (goes.low bounded.path) (done_devs old.driver v.issued bounded) (due_turn v old.driver.plan done) (runs_turn v old.driver.plan done) (may_end old s)) does.does
 
 pub tick_beside : (n : ℕ) (old : Host) (acted : Bool) (new : Host) (run : DoesAll old (Ticked acted ∷ []) new) → IsSoundHost old → AreBounded old.driver → IsCalmTick n old

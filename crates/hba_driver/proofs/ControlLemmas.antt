@@ -36,6 +36,7 @@ use Rattle.hba_laws.specs.Sound as sound
 use Rattle.hba_laws.proofs.IsolationLemmas.{fold_of_own}
 use Rattle.hba_laws.proofs.StandLemmas.{some_inj}
 use Rattle.hba_driver.specs.declared.effect.Effect.TheVariants as effect
+use Rattle.hba_driver.specs.declared.mode.Mode.TheVariants.{Switching}
 use Rattle.hba_driver.specs.declared.order.Order.{Order}
 use Rattle.hba_driver.specs.declared.order.Order.TheVariants.{ResetOn, ResetOff, AwaitSignature, CountPorts, SetMask, Enable, Open, Scan, Clear, Detect, Watch}
 use Rattle.hba_driver.specs.Effects.{Acts, ActsAll, IsRuled, clearing, is_effect, issuing, order_effects, sending, table_of}
@@ -263,7 +264,7 @@ nothing_leaves old new before after port memory r = record {
 }
 
 -- commands of other devices
-pub issuing_leaves : (slot dev : ℕ) (queued : Bool) (old new : Port) (before after : Memory) → dev < 15 → IsUp old.registers → Runs15 old before → ActsAll (issuing slot dev queued) old before new after → Leaves15 old before new after
+pub issuing_leaves : (slot dev : ℕ) (queued : Bool) (old new : Port) (before after : Memory) → dev < 15 → IsUp old.registers → Runs15 old before → ActsAll (issuing Switching slot dev queued) old before new after → Leaves15 old before new after
 unfolding ActsAll
 issuing_leaves slot dev false old new before after low up r acts =
     let other : dev ≢ 15 = λ same. omega (arith, low, same) in
@@ -307,7 +308,7 @@ dec_own old new before after is on r acts ruled = elim (tried_at Fbs px_fbs (256
     not_refused e h = cc
 
 -- the clearing of another device's error
-pub clearing_leaves : (dev : ℕ) (old new : Port) (before after : Memory) → dev ≢ 15 → cleared_device old.errors ≡ Some dev → Runs15 old before → ActsAll (clearing dev) old before new after → Leaves15 old before new after
+pub clearing_leaves : (dev : ℕ) (old new : Port) (before after : Memory) → dev ≢ 15 → cleared_device old.errors ≡ Some dev → Runs15 old before → ActsAll (clearing Switching dev) old before new after → Leaves15 old before new after
 unfolding ActsAll
 clearing_leaves dev old new before after other is r acts =
     let first : Leaves15 old before acts.0 acts.1 = write_leaves Is px_is 0x49000000 old acts.0 before acts.1 is_at refl r acts.2 acts.3 refl in
@@ -319,7 +320,7 @@ clearing_leaves dev old new before after other is r acts =
     (leaves_then acts.0 acts.4.0 new acts.1 acts.4.1 after second (nothing_leaves acts.4.0 new acts.4.1 after acts.4.4.0 acts.4.4.1 second.runs))
 
 -- the clearing of the control port's own error
-pub clearing_own : (old new : Port) (before after : Memory) → cleared_device old.errors ≡ Some 15 → old.registers.switching ≡ true → Runs15 old before → ActsAll (clearing 15) old before new after
+pub clearing_own : (old new : Port) (before after : Memory) → cleared_device old.errors ≡ Some 15 → old.registers.switching ≡ true → Runs15 old before → ActsAll (clearing Switching 15) old before new after
     → control_part new after ≡ part_after 15 (control_part old before) Cleared
 unfolding ActsAll written
 clearing_own old new before after is on r acts =
@@ -392,11 +393,11 @@ if_true true x y h = refl
 if_true false x y h = absurd (false≢true h)
 
 -- the write of PxCI
-ci31 : (fields : H2dFields) (old new : Port) (before after : Memory) → Ready 31 15 [] fields old before → old.registers.armed ≡ 0 → Runs15 old before → Acts (effect.Writes px_ci (2 ^ 31)) old before new after → IsTable old.slots → IsRuled new
+ci31 : (fields : H2dFields) (old new : Port) (before after : Memory) → Ready Switching 31 15 [] fields old before → old.registers.armed ≡ 0 → Runs15 old before → Acts (effect.Writes px_ci (2 ^ 31)) old before new after → IsTable old.slots → IsRuled new
     → IsBuilt H2d (h2d_given fields) (cfis_at before.structure (table_of 31)) → Issues31 fields old before new after
 unfolding view_after
 ci31 fields old new before after ready none r acts table ruled built =
-    let free : refusal_of Ci old before (2 ^ 31) ≡ None = ci_taken 31 15 [] fields old before ready in
+    let free : refusal_of Ci old before (2 ^ 31) ≡ None = ci_taken Switching 31 15 [] fields old before ready in
     let accepts : Accepts old before Ci (2 ^ 31) new = taken Ci px_ci (2 ^ 31) old new before ci_at free acts.0 in
     let next : Runs15 new after = record {
       ruled = ruled;
@@ -412,12 +413,12 @@ ci31 fields old new before after ready none r acts table ruled built =
     ∙ ap (λ (c : ℕ). command_at before c 31 (has_bit old.registers.armed 31)) ready.up.list
     ∙ command_is 31 15 [] fields (has_bit old.registers.armed 31) before ready.below ready.placed in
     let events : own_events 15 (beside old before) (event.Wrote Ci (2 ^ 31)) ≡ Issued commands ∷ [] =
-    written_chosen 15 (beside old before) (2 ^ 31) ready.up.switches ∙ if_true (15 == old.registers.chosen) (Issued commands ∷ []) [] (eq-eqb 15 old.registers.chosen (sym ready.chosen)) in
+    written_chosen 15 (beside old before) (2 ^ 31) ready.up.switches ∙ if_true (15 == old.registers.chosen) (Issued commands ∷ []) [] (eq-eqb 15 old.registers.chosen (sym ready.aims)) in
     let part : control_part new after ≡ part_after 15 (control_part old before) (Issued commands) =
     part_event old new before after (event.Wrote Ci (2 ^ 31)) r next (free, accepts, acts.1) refl
     ∙ ap (λ (es : List OwnEvent). part_after_all 15 (control_part old before) (es ++ [])) events in
     let issued : own_issue (slots_of 15 new.slots) 31 ≡ Some (new_issue 15 (work_of (request_of fields))) =
-    (ci_step 31 15 [] fields old before ready new after table acts).issued in
+    (ci_step Switching 31 15 [] fields old before ready new after table acts).issued in
     let own : own_issue (part_after 15 (control_part old before) (Issued commands)).view.slots 31 ≡ Some (new_issue 15 (work_of (request_of fields))) =
     ap (λ (p : DevicePart). own_issue p.view.slots 31) (sym part) ∙ issued in
     record {
@@ -436,7 +437,7 @@ ci31 fields old new before after ready none r acts table ruled built =
     }
 
 sending31 : (fields : H2dFields) (old new : Port) (before after : Memory) → IsProper31 fields → IsUp old.registers → old.registers.armed ≡ 0 → issue_at old.slots 31 ≡ None → Runs15 old before
-    → ActsAll (sending 31 15 fields false) old before new after → Issues31 fields old before new after
+    → ActsAll (sending Switching 31 15 fields false) old before new after → Issues31 fields old before new after
 unfolding ActsAll
 sending31 fields old new before after proper up none free r acts =
     let w = acts.2.1.structure in
@@ -455,11 +456,11 @@ sending31 fields old new before after proper up none free r acts =
     let chosen : Leaves15 acts.0 acts.1 a.0 a.1 = write_leaves Fbs px_fbs (256 * 15 + 1) acts.0 a.0 acts.1 a.1 fbs_at refl stored.runs a.2 a.3 (no_clear 15 acts.0 acts.1) in
     let unarmed : a.0.registers.armed ≡ 0 = f.2 ∙ ap (λ (p : Port). p.registers.armed) acts.2.0 ∙ none in
     let free0 : issue_at acts.0.slots 31 ≡ None = ap (λ (p : Port). issue_at p.slots 31) acts.2.0 ∙ free in
-    let ready : Ready 31 15 [] fields a.0 a.1 = record {
+    let ready : Ready Switching 31 15 [] fields a.0 a.1 = record {
       below = omega arith;
       dev_below = omega arith;
       up = f.0.up;
-      chosen = f.1;
+      aims = f.1;
       free = same_free acts.0 a.0 31 a.3.table f.0.views free0;
       placed = subst (λ (b : Bool). Placed 31 15 [] fields b a.1) (sym (no_bit a.0.registers.armed 31 unarmed)) (subst (Placed 31 15 [] fields false) (sym a.2.1) placed);
     } in
@@ -486,14 +487,14 @@ flushed_before old new dev n s i h here = elim (cases_eq n dev) [
 
 -- the tick's effects for an order
 pub order31 : (order : Order) (fields : H2dFields) (old new : Port) (before after : Memory) → order_fields order ≡ Some fields → IsLow order → IsUp old.registers → old.registers.armed ≡ 0 → issue_at old.slots 31 ≡ None
-    → Runs15 old before → ActsAll (order_effects order) old before new after → Issues31 fields old before new after
+    → Runs15 old before → ActsAll (order_effects Switching order) old before new after → Issues31 fields old before new after
 unfolding ActsAll order_effects
 order31 Scan fields old new before after is low up none free r acts =
     let s = sntf_step old acts.0 before acts.1 up acts.2 in
     let first : Leaves15 old before acts.0 acts.1 = write_leaves Sntf px_sntf 0x8000 old acts.0 before acts.1 sntf_at refl r acts.2 acts.3 refl in
     issues_from fields old acts.0 new before acts.1 after first
     (sending31 fields acts.0 new acts.1 after (proper31 Scan fields is) s.0.up (s.1 ∙ none) (same_free old acts.0 31 acts.3.table s.0.views free) first.runs
-    (subst (λ (o : Option H2dFields). ActsAll (match_some o [] (λ f. sending 31 15 f false)) acts.0 acts.1 new after) is acts.4))
+    (subst (λ (o : Option H2dFields). ActsAll (match_some o [] (λ f. sending Switching 31 15 f false)) acts.0 acts.1 new after) is acts.4))
 order31 (Clear port) fields old new before after is low up none free r acts =
     let flushed : Flushes old port acts.0 = acts.2.0 in
     let next : acts.4.0 ≡ acts.0 = acts.4.2.0 in
@@ -506,6 +507,6 @@ order31 (Clear port) fields old new before after is low up none free r acts =
     (issues_from fields acts.0 acts.4.0 new acts.1 acts.4.1 after second
     (sending31 fields acts.4.0 new acts.4.1 after (proper31 (Clear port) fields is) (subst (λ (p : Port). IsUp p.registers) (sym next) up1) (ap (λ (p : Port). p.registers.armed) next ∙ none1)
     (ap (λ (p : Port). issue_at p.slots 31) next ∙ free1) second.runs
-    (subst (λ (o : Option H2dFields). ActsAll (match_some o [] (λ f. sending 31 15 f false)) acts.4.0 acts.4.1 new after) is acts.4.4)))
+    (subst (λ (o : Option H2dFields). ActsAll (match_some o [] (λ f. sending Switching 31 15 f false)) acts.4.0 acts.4.1 new after) is acts.4.4)))
 order31 order fields old new before after is low up none free r acts =
-    sending31 fields old new before after (proper31 order fields is) up none free r (subst (λ (o : Option H2dFields). ActsAll (match_some o [] (λ f. sending 31 15 f false)) old before new after) is acts)
+    sending31 fields old new before after (proper31 order fields is) up none free r (subst (λ (o : Option H2dFields). ActsAll (match_some o [] (λ f. sending Switching 31 15 f false)) old before new after) is acts)

@@ -20,9 +20,10 @@ use Rattle.hba_laws.proofs.EventLemmas.{histories_are_parts}
 use Rattle.hba_laws.proofs.OnceLemmas.{completes_once}
 use Rattle.hba_laws.proofs.ReadLemmas.{done_reads_stand}
 use Rattle.hba_laws.proofs.SpareLemmas.{spared_tables_read}
+use Rattle.hba_driver.specs.declared.mode.Mode.{Mode}
 use Rattle.hba_driver.specs.Delivered.{HasCome, HostDelivers, IsAtItsPlace, IssuesAreApart, TookDelivers, TurnsDeliver, touches_of, zero_at}
-use Rattle.hba_driver.specs.Drivers.{new_driver}
-use Rattle.hba_driver.specs.Events.{IsSoundHost, events_over, opening_host, shared_by}
+use Rattle.hba_driver.specs.Drivers.{new_driver_in}
+use Rattle.hba_driver.specs.Events.{IsSoundHostIn, events_over, opening_host_in, shared_by}
 use Rattle.hba_driver.specs.HostTurns.{Does, DoesAll, Host, HostTurn, Took}
 use Rattle.hba_driver.specs.Served.{IsIssueOf, IsServed, RunServes}
 use Rattle.hba_driver.specs.Submits.{end_of}
@@ -47,25 +48,25 @@ behind p least = omega (arith, least)
 within_len : (p len : ℕ) → 1048576 ≤ p → p + 1 ≤ 1048576 + len → p - 1048576 < len
 within_len p len least most = omega (arith, least, most)
 
-module _ (given len : ℕ) (right : is_memory_size len ≡ true) (turns : List HostTurn) (h : Host) where
+module _ (mode : Mode) (given len : ℕ) (right : is_memory_size len ≡ true) (turns : List HostTurn) (h : Host) where
   abbrev pub opened : Host
-  opened = opening_host given len
+  opened = opening_host_in mode given len
 
-  sound_first : IsSoundHost opened
-  sound_first = hosts_stay_sound.opens given len right
+  sound_first : IsSoundHostIn mode opened
+  sound_first = hosts_stay_sound.opens mode given len right
 
-  served_first : IsServed (new_driver given) (shared_by opened) []
-  served_first = turns_serve.opens given len right
+  served_first : IsServed (new_driver_in mode given) (shared_by opened) []
+  served_first = turns_serve.opens mode given len right
 
-  pub comes : DoesAll opened turns h → HasCome given len turns h
+  pub comes : DoesAll opened turns h → HasCome mode given len turns h
   comes does = record { does = does; serves = turns_serve.runs opened h turns does sound_first [] served_first }
 
-  module _ (c : HasCome given len turns h) where
+  module _ (c : HasCome mode given len turns h) where
     abbrev pub events : List HostEvent
     events = events_over opened h turns c.does
 
     abbrev pub past : Touches
-    past = touches_of given len turns h c
+    past = touches_of mode given len turns h c
 
     no_tables : HaveTables (shared_by opened) []
     no_tables n below s t command is last = absurd (cc)
@@ -88,7 +89,7 @@ module _ (given len : ℕ) (right : is_memory_size len ≡ true) (turns : List H
     kept : IsKept past
     kept = c.serves.kept tt
 
-    now_sound : IsSoundHost h
+    now_sound : IsSoundHostIn mode h
     now_sound = hosts_stay_sound.last opened turns h c.does sound_first
 
     is_host : sound.IsHost (shared_by h)
@@ -156,7 +157,7 @@ module _ (given len : ℕ) (right : is_memory_size len ≡ true) (turns : List H
                 done_reads_stand (shared_by h) (shared_by after) frame report is_host does.framed takes zero_at past c.serves.last.told within touched_bytes
                 next_read.0.0 (next.kept kept) s i (place t.table i - client_start) t below bit reads in_it (behind (place t.table i) lies.0) room
 
-    pub delivers : HostDelivers given len turns h c
+    pub delivers : HostDelivers mode given len turns h c
     delivers = record {
       took = took;
       once = λ n s later before is. completes_once s before;

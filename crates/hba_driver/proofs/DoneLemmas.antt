@@ -14,6 +14,7 @@ use Rattle.host_memory.specs.Memory.{Memory}
 use Rattle.hba_fbs.specs.Offsets.{register_at}
 use Rattle.hba_fbs.specs.Reading.{value_of}
 use Rattle.hba_fbs.specs.Views.{Port}
+use Rattle.hba_driver.specs.declared.mode.Mode.{Mode}
 use Rattle.hba_driver.specs.declared.order.Order.{Order}
 use Rattle.hba_driver.specs.declared.order.Order.TheVariants.{Clear}
 use Rattle.hba_driver.specs.declared.path.Stage.{Stage}
@@ -64,7 +65,7 @@ none_issued : (o : Option Issue) → MatchOption o (Unit {0}) IsIssue → issue_
 none_issued None h a q = refl
 none_issued (Some i) h a q = absurd (true≢false (sym (h.answers (not_false i.answered a)).0 ∙ q))
 
-pub free_slot : (port : Port) (memory : Memory) (s : ℕ) → IsTable port.slots → s < 32 → has_bit (sight_of port memory).issued s ≡ false → issue_at port.slots s ≡ None
+pub free_slot : {mode : Mode} (port : Port) (memory : Memory) (s : ℕ) → IsTable port.slots → s < 32 → has_bit (sight_of mode port memory).issued s ≡ false → issue_at port.slots s ≡ None
 unfolding sight_of
 free_slot port memory s table below h =
     let bits = or_false (shown port px_ci) (shown port px_sact) s h in
@@ -210,8 +211,8 @@ done_of v file d s e f here open' there h = elim (cases_Bool (is_done v.issued s
 ]
 
 pub done_is_free : DoneIsFree
-done_is_free port memory file d s e f table r here open' there phase =
-    let done : is_done (sight_of port memory).issued s e.head ≡ true = done_of (sight_of port memory) file d s e f here open' there (ap isd phase) in
-    let parts = and_both (is_issued e.head) (has_bit (sight_of port memory).issued s) done in
+done_is_free mode port memory file d s e f table r here open' there phase =
+    let done : is_done (sight_of mode port memory).issued s e.head ≡ true = done_of (sight_of mode port memory) file d s e f here open' there (ap isd phase) in
+    let parts = and_both (is_issued e.head) (has_bit (sight_of mode port memory).issued s) done in
     let below : s < 30 = in_slots d.entries s e r.slots here in
     (parts.0, free_slot port memory s table (omega (arith, below)) parts.1)

@@ -1,6 +1,6 @@
 -- What holds for port, driver and memory together, and what each turn leaves of it.
-use Rattle.std.proofs.Common.{◌≡◌, ℕ, ◌+◌, ◌*◌, ◌/◌, ◌<◌, ◌≤◌, ◌⊎◌, ◌&&◌, Bool, true, false, nat_lt, nat_le, List, [], ◌∷◌, refl, sym, ◌∙◌, ap, subst, inl, inr, arith, Option, Some, None}
-use Rattle.std.specs.Prelude.{if◌then◌else◌, ◌==◌, ◌%◌, MatchOption}
+use Rattle.std.proofs.Common.{◌≡◌, ℕ, ◌+◌, ◌*◌, ◌/◌, ◌<◌, ◌≤◌, ◌⊎◌, ◌&&◌, Bool, true, false, nat_lt, nat_le, List, [], ◌∷◌, refl, sym, ◌∙◌, ap, subst, inl, inr, arith, Option, Some, None, ◌++◌}
+use Rattle.std.specs.Prelude.{if◌then◌else◌, ◌==◌, ◌%◌, MatchOption, not}
 use Rattle.std.proofs.lemmas.Nat.Bits.{bit_at-suc, bit_at_lowest}
 use Rattle.fis_view.specs.declared.build.H2dFields.{H2dFields}
 use Rattle.hba_fbs.specs.Bits.{dec, en, fre}
@@ -20,6 +20,8 @@ use Rattle.hba_fbs.specs.Writing.{Accepts, refusal_of, write_refusal}
 use Rattle.slots.specs.Slots.{has_bit, match_some}
 use Rattle.hba_driver.specs.declared.effect.Effect.{Effect}
 use Rattle.hba_driver.specs.declared.effect.Effect.TheVariants as effect
+use Rattle.hba_driver.specs.declared.mode.Mode.{Mode}
+use Rattle.hba_driver.specs.declared.mode.Mode.TheVariants.{Switching, CommandBased}
 use Rattle.hba_driver.specs.declared.order.Order.{Order}
 use Rattle.hba_driver.specs.declared.order.Order.TheVariants.{ResetOn, ResetOff, AwaitSignature, CountPorts, SetMask, Enable, Open, Scan, Clear, Detect, Watch}
 use Rattle.hba_driver.specs.declared.path.Stage.{Stage}
@@ -31,8 +33,9 @@ use Rattle.hba_driver.specs.declared.turn.Act.{Act}
 use Rattle.hba_driver.specs.declared.turn.Act.TheVariants as act
 use Rattle.hba_driver.specs.declared.turn.Turn.{Turn}
 use Rattle.hba_driver.specs.Drivers.{Driver, Entry}
-use Rattle.hba_driver.specs.Effects.{Acts, ActsAll, Tries, effects_of, issuing, opening_write, order_effects, restart_write, restart_writes, sending, stage_effects}
+use Rattle.hba_driver.specs.Effects.{Acts, ActsAll, Tries, effects_of, emptying, issuing, opening_write, order_command, order_effects, restart_write, restart_writes, sending, stage_effects}
 use Rattle.hba_driver.specs.Events.{AreDriven, KnowsNone}
+use Rattle.hba_driver.specs.Modes.{clears_with, is_switching}
 use Rattle.hba_driver.specs.Orders.{order_fields}
 use Rattle.hba_driver.specs.Paths.{reads_page, stage_fields}
 use Rattle.hba_driver.specs.Ticks.{acted, after_tick, done_ended, effects, effects_due, from_reset, logged_ended, plan_after, recovering, seen, turn}
@@ -74,32 +77,37 @@ tried_at register offset value old memory new at tries = tried_by register offse
 
 -- ---- what leaves command list and received area where they are
 
-abbrev calm : Option Register → ℕ → Bool
-calm None value = false
-calm (Some Sact) value = true
-calm (Some Ci) value = true
-calm (Some Sntf) value = true
-calm (Some Is) value = true
-calm (Some Fbs) value = has_bit value en
-calm (Some Cmd) value = has_bit value fre
-calm (Some register) value = false
+-- the value has EN as the mode has it
+abbrev keeps_en : Mode → ℕ → Bool
+keeps_en Switching value = has_bit value en
+keeps_en CommandBased value = not (has_bit value en)
 
-abbrev pub calm_effect : Effect → Bool
-calm_effect (effect.Writes offset value) = calm (register_at offset) value
-calm_effect (effect.Flushes dev) = true
-calm_effect (effect.Empties dev) = true
-calm_effect (effect.Commands slot fields buffer) = true
+abbrev calm : Mode → Option Register → ℕ → Bool
+calm mode None value = false
+calm mode (Some Sact) value = true
+calm mode (Some Ci) value = true
+calm mode (Some Sntf) value = true
+calm mode (Some Is) value = true
+calm mode (Some Fbs) value = keeps_en mode value
+calm mode (Some Cmd) value = has_bit value fre
+calm mode (Some register) value = false
 
--- FBS.EN and FRE stay set too
-pub record SamePlace (r s : Registers) : Type 0 where
+abbrev pub calm_effect : Mode → Effect → Bool
+calm_effect mode (effect.Writes offset value) = calm mode (register_at offset) value
+calm_effect mode (effect.Flushes dev) = true
+calm_effect mode (effect.Empties dev) = true
+calm_effect mode (effect.Commands slot fields buffer) = true
+
+-- FBS.EN stays as the mode has it, and FRE stays set
+pub record SamePlace (mode : Mode) (r s : Registers) : Type 0 where
   pub list : s.clb ≡ r.clb
   pub list_high : s.clbu ≡ r.clbu
   pub area : s.fb ≡ r.fb
   pub area_high : s.fbu ≡ r.fbu
-  pub switches : r.switching ≡ true → s.switching ≡ true
+  pub switches : r.switching ≡ is_switching mode → s.switching ≡ is_switching mode
   pub receives : r.receives ≡ true → s.receives ≡ true
 
-pub same_place : (r s : Registers) → s ≡ r → SamePlace r s
+pub same_place : {mode : Mode} (r s : Registers) → s ≡ r → SamePlace mode r s
 same_place r s is = record {
   list = ap (λ (x : Registers). x.clb) is;
   list_high = ap (λ (x : Registers). x.clbu) is;
@@ -109,7 +117,7 @@ same_place r s is = record {
   receives = λ h. ap (λ (x : Registers). x.receives) is ∙ h;
 }
 
-pub place_then : (r s t : Registers) → SamePlace r s → SamePlace s t → SamePlace r t
+pub place_then : {mode : Mode} (r s t : Registers) → SamePlace mode r s → SamePlace mode s t → SamePlace mode r t
 place_then r s t h k = record {
   list = k.list ∙ h.list;
   list_high = k.list_high ∙ h.list_high;
@@ -119,36 +127,44 @@ place_then r s t h k = record {
   receives = λ on. k.receives (h.receives on);
 }
 
-written_calm : (register : Register) (r : Registers) (value : ℕ) → calm (Some register) value ≡ true → SamePlace r (written register r value)
-unfolding written
-written_calm Sact r value h = record { list = refl; list_high = refl; area = refl; area_high = refl; switches = λ on. on; receives = λ on. on }
-written_calm Ci r value h = record { list = refl; list_high = refl; area = refl; area_high = refl; switches = λ on. on; receives = λ on. on }
-written_calm Sntf r value h = record { list = refl; list_high = refl; area = refl; area_high = refl; switches = λ on. on; receives = λ on. on }
-written_calm Is r value h = record { list = refl; list_high = refl; area = refl; area_high = refl; switches = λ on. on; receives = λ on. on }
-written_calm Fbs r value h = record { list = refl; list_high = refl; area = refl; area_high = refl; switches = λ on. h; receives = λ on. on }
-written_calm Cmd r value h = record { list = refl; list_high = refl; area = refl; area_high = refl; switches = λ on. on; receives = λ on. h }
-written_calm Clb r value h = absurd (false≢true h)
-written_calm Clbu r value h = absurd (false≢true h)
-written_calm Fb r value h = absurd (false≢true h)
-written_calm Fbu r value h = absurd (false≢true h)
-written_calm Ie r value h = absurd (false≢true h)
-written_calm Tfd r value h = absurd (false≢true h)
-written_calm Sig r value h = absurd (false≢true h)
-written_calm Serr r value h = absurd (false≢true h)
+en_kept : (mode : Mode) (value : ℕ) → keeps_en mode value ≡ true → has_bit value en ≡ is_switching mode
+en_kept Switching value h = h
+en_kept CommandBased value h = not_set (has_bit value en) h
+  where
+    not_set : (b : Bool) → not b ≡ true → b ≡ false
+    not_set true h = absurd (false≢true h)
+    not_set false h = refl
 
-place_tried : (o : Option Register) (offset value : ℕ) (old : Port) (memory : Memory) (new : Port) → register_at offset ≡ o → calm o value ≡ true → Tries old memory offset value new
-    → SamePlace old.registers new.registers
-place_tried None offset value old memory new at h tries = absurd (false≢true h)
-place_tried (Some register) offset value old memory new at h tries = elim (tried_at register offset value old memory new at tries) [
-  | inl taken ↦ subst (λ (r : Registers). SamePlace old.registers r) (sym taken.accepts.registers) (written_calm register old.registers value h)
+written_calm : (mode : Mode) (register : Register) (r : Registers) (value : ℕ) → calm mode (Some register) value ≡ true → SamePlace mode r (written register r value)
+unfolding written
+written_calm mode Sact r value h = record { list = refl; list_high = refl; area = refl; area_high = refl; switches = λ on. on; receives = λ on. on }
+written_calm mode Ci r value h = record { list = refl; list_high = refl; area = refl; area_high = refl; switches = λ on. on; receives = λ on. on }
+written_calm mode Sntf r value h = record { list = refl; list_high = refl; area = refl; area_high = refl; switches = λ on. on; receives = λ on. on }
+written_calm mode Is r value h = record { list = refl; list_high = refl; area = refl; area_high = refl; switches = λ on. on; receives = λ on. on }
+written_calm mode Fbs r value h = record { list = refl; list_high = refl; area = refl; area_high = refl; switches = λ on. en_kept mode value h; receives = λ on. on }
+written_calm mode Cmd r value h = record { list = refl; list_high = refl; area = refl; area_high = refl; switches = λ on. on; receives = λ on. h }
+written_calm mode Clb r value h = absurd (false≢true h)
+written_calm mode Clbu r value h = absurd (false≢true h)
+written_calm mode Fb r value h = absurd (false≢true h)
+written_calm mode Fbu r value h = absurd (false≢true h)
+written_calm mode Ie r value h = absurd (false≢true h)
+written_calm mode Tfd r value h = absurd (false≢true h)
+written_calm mode Sig r value h = absurd (false≢true h)
+written_calm mode Serr r value h = absurd (false≢true h)
+
+place_tried : (mode : Mode) (o : Option Register) (offset value : ℕ) (old : Port) (memory : Memory) (new : Port) → register_at offset ≡ o → calm mode o value ≡ true → Tries old memory offset value new
+    → SamePlace mode old.registers new.registers
+place_tried mode None offset value old memory new at h tries = absurd (false≢true h)
+place_tried mode (Some register) offset value old memory new at h tries = elim (tried_at register offset value old memory new at tries) [
+  | inl taken ↦ subst (λ (r : Registers). SamePlace mode old.registers r) (sym taken.accepts.registers) (written_calm mode register old.registers value h)
   | inr refused ↦ same_place old.registers new.registers (ap (λ (p : Port). p.registers) refused.stays)
 ]
 
-pub place_effect : (e : Effect) (old new : Port) (before after : Memory) → calm_effect e ≡ true → Acts e old before new after → SamePlace old.registers new.registers
-place_effect (effect.Writes offset value) old new before after h acts = place_tried (register_at offset) offset value old before new refl h acts.0
-place_effect (effect.Flushes dev) old new before after h acts = same_place old.registers new.registers acts.0.registers
-place_effect (effect.Empties dev) old new before after h acts = same_place old.registers new.registers (ap (λ (p : Port). p.registers) acts.0)
-place_effect (effect.Commands slot fields buffer) old new before after h acts = same_place old.registers new.registers (ap (λ (p : Port). p.registers) acts.0)
+pub place_effect : (mode : Mode) (e : Effect) (old new : Port) (before after : Memory) → calm_effect mode e ≡ true → Acts e old before new after → SamePlace mode old.registers new.registers
+place_effect mode (effect.Writes offset value) old new before after h acts = place_tried mode (register_at offset) offset value old before new refl h acts.0
+place_effect mode (effect.Flushes dev) old new before after h acts = same_place old.registers new.registers acts.0.registers
+place_effect mode (effect.Empties dev) old new before after h acts = same_place old.registers new.registers (ap (λ (p : Port). p.registers) acts.0)
+place_effect mode (effect.Commands slot fields buffer) old new before after h acts = same_place old.registers new.registers (ap (λ (p : Port). p.registers) acts.0)
 
 -- EN is in the values that choose and clear a device; DEC is not in the first
 pub en_chosen : (dev : ℕ) → has_bit (256 * dev + 1) en ≡ true
@@ -169,24 +185,41 @@ no_dec dev = ap (λ (k : ℕ). k == 1) (bit_at-suc (256 * dev + 1) 0 ∙ bit_at_
     even : (d : ℕ) → (256 * d + 1) / 2 % 2 ≡ 0
     even d = omega arith
 
-calm_issuing : (slot dev : ℕ) (queued : Bool) → list_all calm_effect (issuing slot dev queued) ≡ true
-unfolding register_at
-calm_issuing slot dev true = ap (λ (b : Bool). b && true) (en_chosen dev)
-calm_issuing slot dev false = ap (λ (b : Bool). b && true) (en_chosen dev)
+en_off : (dev : ℕ) → has_bit (256 * dev + 2) en ≡ false
+en_off dev = ap (λ (k : ℕ). k == 1) (bit_at_lowest (256 * dev + 2) ∙ even dev)
+  where
+    even : (d : ℕ) → (256 * d + 2) % 2 ≡ 0
+    even d = omega arith
 
-calm_order : (order : Order) → list_all calm_effect (order_effects order) ≡ true
+-- by the mode
+en_clears : (mode : Mode) (dev : ℕ) → keeps_en mode (256 * dev + clears_with mode) ≡ true
+en_clears Switching dev = en_cleared dev
+en_clears CommandBased dev = ap not (en_off dev)
+
+calm_issuing : (mode : Mode) (slot dev : ℕ) (queued : Bool) → list_all (calm_effect mode) (issuing mode slot dev queued) ≡ true
+unfolding register_at
+calm_issuing Switching slot dev true = ap (λ (b : Bool). b && true) (en_chosen dev)
+calm_issuing Switching slot dev false = ap (λ (b : Bool). b && true) (en_chosen dev)
+calm_issuing CommandBased slot dev true = refl
+calm_issuing CommandBased slot dev false = refl
+
+calm_emptying : (mode : Mode) (dev : ℕ) (es : List Effect) → list_all (calm_effect mode) es ≡ true → list_all (calm_effect mode) (emptying mode dev ++ es) ≡ true
+calm_emptying Switching dev es h = h
+calm_emptying CommandBased dev es h = h
+
+calm_order : (mode : Mode) (order : Order) → list_all (calm_effect mode) (order_effects mode order) ≡ true
 unfolding order_fields order_effects register_at
-calm_order ResetOn = refl
-calm_order ResetOff = refl
-calm_order AwaitSignature = refl
-calm_order CountPorts = refl
-calm_order SetMask = refl
-calm_order Enable = refl
-calm_order (Open port) = refl
-calm_order Scan = refl
-calm_order (Clear port) = refl
-calm_order (Detect port) = refl
-calm_order Watch = refl
+calm_order mode ResetOn = calm_issuing mode 31 15 false
+calm_order mode ResetOff = calm_issuing mode 31 15 false
+calm_order mode AwaitSignature = refl
+calm_order mode CountPorts = calm_issuing mode 31 15 false
+calm_order mode SetMask = calm_issuing mode 31 15 false
+calm_order mode Enable = calm_issuing mode 31 15 false
+calm_order mode (Open port) = calm_issuing mode 31 15 false
+calm_order mode Scan = calm_issuing mode 31 15 false
+calm_order mode (Clear port) = calm_emptying mode port (order_command mode (Clear port)) (calm_issuing mode 31 15 false)
+calm_order mode (Detect port) = calm_issuing mode 31 15 false
+calm_order mode Watch = refl
 
 -- ---- what leaves ST
 
@@ -231,31 +264,37 @@ started_effects (e ∷ es) old new before after h acts =
     let parts = and_parts (firm_effect e) (list_all firm_effect es) h in
     started_effects es acts.0 new acts.1 after parts.1 acts.4 ∙ started_effect e old acts.0 before acts.1 parts.0 acts.2
 
-firm_issuing : (slot dev : ℕ) (queued : Bool) → list_all firm_effect (issuing slot dev queued) ≡ true
+firm_issuing : (mode : Mode) (slot dev : ℕ) (queued : Bool) → list_all firm_effect (issuing mode slot dev queued) ≡ true
 unfolding register_at
-firm_issuing slot dev true = refl
-firm_issuing slot dev false = refl
+firm_issuing Switching slot dev true = refl
+firm_issuing Switching slot dev false = refl
+firm_issuing CommandBased slot dev true = refl
+firm_issuing CommandBased slot dev false = refl
 
-firm_sending : (slot dev : ℕ) (o : Option H2dFields) (buffer : Bool) → list_all firm_effect (match_some o [] (λ f. sending slot dev f buffer)) ≡ true
-firm_sending slot dev None buffer = refl
-firm_sending slot dev (Some f) buffer = firm_issuing slot dev false
+firm_sending : (mode : Mode) (slot dev : ℕ) (o : Option H2dFields) (buffer : Bool) → list_all firm_effect (match_some o [] (λ f. sending mode slot dev f buffer)) ≡ true
+firm_sending mode slot dev None buffer = refl
+firm_sending mode slot dev (Some f) buffer = firm_issuing mode slot dev false
 
-firm_order : (order : Order) → list_all firm_effect (order_effects order) ≡ true
+firm_emptying : (mode : Mode) (dev : ℕ) (es : List Effect) → list_all firm_effect es ≡ true → list_all firm_effect (emptying mode dev ++ es) ≡ true
+firm_emptying Switching dev es h = h
+firm_emptying CommandBased dev es h = h
+
+firm_order : (mode : Mode) (order : Order) → list_all firm_effect (order_effects mode order) ≡ true
 unfolding order_effects register_at
-firm_order Scan = firm_sending 31 15 (order_fields Scan) false
-firm_order (Clear port) = firm_sending 31 15 (order_fields (Clear port)) false
-firm_order order = firm_sending 31 15 (order_fields order) false
+firm_order mode Scan = firm_sending mode 31 15 (order_fields Scan) false
+firm_order mode (Clear port) = firm_emptying mode port (order_command mode (Clear port)) (firm_sending mode 31 15 (order_fields (Clear port)) false)
+firm_order mode order = firm_sending mode 31 15 (order_fields order) false
 
-firm_clears : (dev : ℕ) → list_all firm_effect (effects_due (Some (act.Clears dev))) ≡ true
+firm_clears : (mode : Mode) (dev : ℕ) → list_all firm_effect (effects_due mode (Some (act.Clears dev))) ≡ true
 unfolding effects_of register_at
-firm_clears dev = refl
+firm_clears mode dev = refl
 
 -- the numbers are not in this order
 pub past : (n m : ℕ) {P : Type 0} → nat_le n m ≡ false → n ≤ m → P
 past n m more h = absurd (grind (arith, nat_tests))
 
 -- the registers of an open port, after something that leaves its places
-pub driven_open : (n m k : ℕ) (r s : Registers) → 7 ≤ n → SamePlace r s → (2 ≤ k → s.started ≡ true) → AreDriven n m r → AreDriven n k s
+pub driven_open : {mode : Mode} (n m k : ℕ) (r s : Registers) → 7 ≤ n → SamePlace mode r s → (2 ≤ k → s.started ≡ true) → AreDriven mode n m r → AreDriven mode n k s
 driven_open n m k r s least same starts d = record {
   commands = same.list ∙ d.commands;
   list_high = λ h. same.list_high ∙ d.list_high h;
@@ -273,36 +312,38 @@ driven_open n m k r s least same starts d = record {
 -- it is the next write that opens the port
 pub record Opening (v : Sight) (file : TaskFile) (d : Driver) : Type 0 where
   pub less : d.plan.opened < 7
-  pub one : effects v d ≡ opening_write d.plan.opened ∷ []
+  pub one : effects v d ≡ opening_write d.plan.mode d.plan.opened ∷ []
   pub plan_is : (after_tick v file d).plan ≡ record d.plan { opened = d.plan.opened + 1 }
 
 -- an act leaves ST, and the number of writes that start the port again
-pub record Steady (a : Option Act) (before after : ℕ) : Type 0 where
-  pub firm_is : list_all firm_effect (effects_due a) ≡ true
+pub record Steady (mode : Mode) (a : Option Act) (before after : ℕ) : Type 0 where
+  pub firm_is : list_all firm_effect (effects_due mode a) ≡ true
   pub same : after ≡ before
 
 -- it is the next of these writes
-pub record Restarting (a : Option Act) (before after : ℕ) : Type 0 where
+pub record Restarting (mode : Mode) (a : Option Act) (before after : ℕ) : Type 0 where
   pub less : before < 2
-  pub one : effects_due a ≡ restart_write before ∷ []
+  pub one : effects_due mode a ≡ restart_write before ∷ []
   pub next : after ≡ before + 1
 
 -- one of the two, or it stops the port
-abbrev pub Way : Option Act → (before after : ℕ) → Type 0
-Way a before after = Steady a before after ⊎ ((after ≡ 0) ⊎ Restarting a before after)
+abbrev pub Way : Mode → Option Act → (before after : ℕ) → Type 0
+Way mode a before after = Steady mode a before after ⊎ ((after ≡ 0) ⊎ Restarting mode a before after)
 
 -- the port is open
 pub record Going (v : Sight) (file : TaskFile) (d : Driver) : Type 0 where
   pub least : 7 ≤ d.plan.opened
-  pub quiet : list_all calm_effect (effects v d) ≡ true
+  pub quiet : list_all (calm_effect d.plan.mode) (effects v d) ≡ true
   pub opened_is : (after_tick v file d).plan.opened ≡ d.plan.opened
-  pub way : Way (turn v d).act d.plan.restarted (after_tick v file d).plan.restarted
+  pub mode_is : (after_tick v file d).plan.mode ≡ d.plan.mode
+  pub way : Way d.plan.mode (turn v d).act d.plan.restarted (after_tick v file d).plan.restarted
 
 -- an act that is not an opening write
 record Calm (a : Option Act) (d : Driver) : Type 0 where
-  pub quiet : list_all calm_effect (effects_due a) ≡ true
+  pub quiet : list_all (calm_effect d.plan.mode) (effects_due d.plan.mode a) ≡ true
   pub stays : (file : TaskFile) → (acted a file d).plan.opened ≡ d.plan.opened
-  pub way : (file : TaskFile) → Way a d.plan.restarted (acted a file d).plan.restarted
+  pub keeps : (file : TaskFile) → (acted a file d).plan.mode ≡ d.plan.mode
+  pub way : (file : TaskFile) → Way d.plan.mode a d.plan.restarted (acted a file d).plan.restarted
 
 opened_ordered : (order : Order) (file : TaskFile) (plan : Plan) → (plan_after (act.Orders order) file plan).opened ≡ plan.opened
 unfolding plan_after
@@ -313,6 +354,19 @@ restarted_ordered : (order : Order) (file : TaskFile) (plan : Plan) → (plan_af
 unfolding plan_after
 restarted_ordered (Clear port) file plan = refl
 restarted_ordered order file plan = refl
+
+mode_ordered : (order : Order) (file : TaskFile) (plan : Plan) → (plan_after (act.Orders order) file plan).mode ≡ plan.mode
+unfolding plan_after
+mode_ordered (Clear port) file plan = refl
+mode_ordered order file plan = refl
+
+mode_if : (b : Bool) (p q : Plan) (mode : Mode) → p.mode ≡ mode → q.mode ≡ mode → (if b then p else q).mode ≡ mode
+mode_if true p q mode h k = h
+mode_if false p q mode h k = k
+
+mode_cleared : (dev : ℕ) (file : TaskFile) (plan : Plan) → (plan_after (act.Clears dev) file plan).mode ≡ plan.mode
+unfolding plan_after
+mode_cleared dev file plan = mode_if (nat_lt dev 15) (recovering dev file plan) (from_reset plan) plan.mode refl refl
 
 opened_if : (b : Bool) (p q : Plan) (n : ℕ) → p.opened ≡ n → q.opened ≡ n → (if b then p else q).opened ≡ n
 opened_if true p q n h k = h
@@ -330,55 +384,60 @@ restarted_cleared : (dev : ℕ) (file : TaskFile) (plan : Plan) → (plan_after 
 unfolding plan_after
 restarted_cleared dev file plan = restarted_if (nat_lt dev 15) (recovering dev file plan) (from_reset plan) plan.restarted refl refl
 
-calm_restart : (k : ℕ) → calm_effect (restart_write k) ≡ true
+calm_restart : (mode : Mode) (k : ℕ) → calm_effect mode (restart_write k) ≡ true
 unfolding restart_write register_at
-calm_restart k = all_at calm_effect restart_writes k _ refl refl
+calm_restart mode k = all_at (calm_effect mode) restart_writes k _ refl refl
 
-calm_stage : (dev : ℕ) (stage : Stage) → list_all calm_effect (stage_effects dev stage) ≡ true
+calm_stage : (mode : Mode) (dev : ℕ) (stage : Stage) → list_all (calm_effect mode) (stage_effects mode dev stage) ≡ true
 unfolding stage_fields
-calm_stage dev Identify = calm_issuing 30 dev false
-calm_stage dev (ReadLog file) = calm_issuing 30 dev false
-calm_stage dev AssertReset = calm_issuing 30 dev false
-calm_stage dev ReleaseReset = calm_issuing 30 dev false
-calm_stage dev AwaitReset = refl
+calm_stage mode dev Identify = calm_issuing mode 30 dev false
+calm_stage mode dev (ReadLog file) = calm_issuing mode 30 dev false
+calm_stage mode dev AssertReset = calm_issuing mode 30 dev false
+calm_stage mode dev ReleaseReset = calm_issuing mode 30 dev false
+calm_stage mode dev AwaitReset = refl
 
-calm_stops : list_all calm_effect (effects_due (Some act.Stops)) ≡ true
+calm_stops : (mode : Mode) → list_all (calm_effect mode) (effects_due mode (Some act.Stops)) ≡ true
 unfolding effects_of register_at
-calm_stops = refl
+calm_stops mode = refl
 
-calm_clears : (dev : ℕ) → list_all calm_effect (effects_due (Some (act.Clears dev))) ≡ true
+calm_clears : (mode : Mode) (dev : ℕ) → list_all (calm_effect mode) (effects_due mode (Some (act.Clears dev))) ≡ true
 unfolding effects_of register_at
-calm_clears dev = ap (λ (b : Bool). b && true) (en_cleared dev)
+calm_clears mode dev = ap (λ (b : Bool). b && true) (en_clears mode dev)
 
 calm_due : (v : Sight) (d : Driver) (entries : List (Option Entry)) (a : Option Act) → 7 ≤ d.plan.opened → Due v d.plan entries a → Calm a d
 unfolding effects_of plan_after
-calm_due v d entries None least due = record { quiet = refl; stays = λ file. refl; way = λ file. inl (record { firm_is = refl; same = refl }) }
+calm_due v d entries None least due = record { quiet = refl; stays = λ file. refl; keeps = λ file. refl; way = λ file. inl (record { firm_is = refl; same = refl }) }
 calm_due v d entries (Some (act.Opens k)) least due = absurd (omega (arith, least, due.1))
-calm_due v d entries (Some act.Stops) least due = record { quiet = calm_stops; stays = λ file. refl; way = λ file. inr (inl refl) }
+calm_due v d entries (Some act.Stops) least due = record { quiet = calm_stops d.plan.mode; stays = λ file. refl; keeps = λ file. refl; way = λ file. inr (inl refl) }
 calm_due v d entries (Some (act.Restarts k)) least due = record {
-  quiet = rw (calm_restart k) refl;
+  quiet = rw (calm_restart d.plan.mode k) refl;
   stays = λ file. refl;
+  keeps = λ file. refl;
   way = λ file. inr (inr (record { less = due.1; one = ap (λ (n : ℕ). restart_write n ∷ []) due.0; next = ap (λ (n : ℕ). n + 1) due.0 }));
 }
 calm_due v d entries (Some (act.Clears dev)) least due = record {
-  quiet = calm_clears dev;
+  quiet = calm_clears d.plan.mode dev;
   stays = λ file. opened_cleared dev file d.plan;
-  way = λ file. inl (record { firm_is = firm_clears dev; same = restarted_cleared dev file d.plan });
+  keeps = λ file. mode_cleared dev file d.plan;
+  way = λ file. inl (record { firm_is = firm_clears d.plan.mode dev; same = restarted_cleared dev file d.plan });
 }
 calm_due v d entries (Some (act.Orders order)) least due = record {
-  quiet = calm_order order;
+  quiet = calm_order d.plan.mode order;
   stays = λ file. opened_ordered order file d.plan;
-  way = λ file. inl (record { firm_is = firm_order order; same = restarted_ordered order file d.plan });
+  keeps = λ file. mode_ordered order file d.plan;
+  way = λ file. inl (record { firm_is = firm_order d.plan.mode order; same = restarted_ordered order file d.plan });
 }
 calm_due v d entries (Some (act.Steps dev stage)) least due = record {
-  quiet = calm_stage dev stage;
+  quiet = calm_stage d.plan.mode dev stage;
   stays = λ file. refl;
-  way = λ file. inl (record { firm_is = firm_sending 30 dev (stage_fields dev stage) (reads_page stage); same = refl });
+  keeps = λ file. refl;
+  way = λ file. inl (record { firm_is = firm_sending d.plan.mode 30 dev (stage_fields dev stage) (reads_page stage); same = refl });
 }
 calm_due v d entries (Some (act.Issues slot dev queued)) least due = record {
-  quiet = calm_issuing slot dev queued;
+  quiet = calm_issuing d.plan.mode slot dev queued;
   stays = λ file. refl;
-  way = λ file. inl (record { firm_is = firm_issuing slot dev queued; same = refl });
+  keeps = λ file. refl;
+  way = λ file. inl (record { firm_is = firm_issuing d.plan.mode slot dev queued; same = refl });
 }
 
 pub turn_opens : (v : Sight) (plan : Plan) (entries : List (Option Entry)) → nat_lt plan.opened 7 ≡ true → turn_of v plan entries ≡ plain_turn plan (Some (act.Opens plan.opened)) false
@@ -397,7 +456,7 @@ opens v file d less =
     let is : turn v d ≡ plain_turn d.plan (Some (act.Opens d.plan.opened)) false = turn_opens v d.plan (done_ended v.issued d.entries) less in
     record {
       less = below d.plan.opened 7 less;
-      one = ap (λ (t : Turn). effects_due t.act) is;
+      one = ap (λ (t : Turn). effects_due d.plan.mode t.act) is;
       plan_is = ap (λ (t : Turn). (acted t.act file (record d { plan = t.plan; entries = logged_ended v.log t.logged (done_ended v.issued d.entries) })).plan) is;
     }
 
@@ -411,13 +470,22 @@ goes v file d more =
     calm_due v (seen v d) (done_ended v.issued d.entries) (turn v d).act (omega (arith, least, opened)) (due_turn v d.plan (done_ended v.issued d.entries)) in
     record {
       least = least;
-      quiet = is.quiet;
+      quiet = subst (λ (m : Mode). list_all (calm_effect m) (effects_due m (turn v d).act) ≡ true) same.mode is.quiet;
       opened_is = is.stays file ∙ opened;
-      way = subst (λ (n : ℕ). Way (turn v d).act n (acted (turn v d).act file (seen v d)).plan.restarted) same.restarted (is.way file);
+      mode_is = is.keeps file ∙ same.mode;
+      way = subst (λ (m : Mode). Way m (turn v d).act d.plan.restarted (acted (turn v d).act file (seen v d)).plan.restarted) same.mode
+          (subst (λ (n : ℕ). Way (turn v d).plan.mode (turn v d).act n (acted (turn v d).act file (seen v d)).plan.restarted) same.restarted (is.way file));
     }
 
 pub tick_is : (v : Sight) (file : TaskFile) (d : Driver) → Opening v file d ⊎ Going v file d
 tick_is v file d = elim (cases_Bool (nat_lt d.plan.opened 7)) [ inl less ↦ inl (opens v file d less) | inr more ↦ inr (goes v file d more) ]
+
+-- the mode stays
+pub mode_ticked : (v : Sight) (file : TaskFile) (d : Driver) → (after_tick v file d).plan.mode ≡ d.plan.mode
+mode_ticked v file d = elim (tick_is v file d) [
+  | inl first ↦ ap (λ (p : Plan). p.mode) first.plan_is
+  | inr going ↦ going.mode_is
+]
 
 -- ---- no device is there before the port is open
 

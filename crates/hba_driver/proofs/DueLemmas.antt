@@ -8,6 +8,8 @@ use Rattle.std.proofs.lemmas.List.{length-set}
 use Rattle.fis_view.specs.declared.build.H2dFields.{H2dFields}
 use Rattle.slots.specs.Slots.{has_bit, lowest_below, match_some}
 use Rattle.slots.proofs.MaskLemmas.{lowest_is}
+use Rattle.hba_driver.specs.declared.mode.Mode.{Mode}
+use Rattle.hba_driver.specs.declared.mode.Mode.TheVariants.{Switching, CommandBased}
 use Rattle.hba_driver.specs.declared.order.Order.{Order}
 use Rattle.hba_driver.specs.declared.order.Order.TheVariants.{CountPorts, Scan, Detect}
 use Rattle.hba_driver.specs.declared.path.Path.{Path}
@@ -21,7 +23,7 @@ use Rattle.hba_driver.specs.declared.turn.Turn.{Turn}
 use Rattle.hba_driver.specs.Drivers.{Entry, IsPath, entry_at, waits}
 use Rattle.hba_driver.specs.Orders.{is_queued, order_fields}
 use Rattle.hba_driver.specs.Paths.{next_stage, stage_fields}
-use Rattle.hba_driver.specs.Turns.{advanced, answered, control_news, control_seen, control_turn, device_due, device_seen, early_due, fault_due, found_of, is_back, is_due, issue_of, may_issue, met, met_order, met_path, noted, order_due, path_answered, path_due, path_met, path_to, request_due, stage_due, stage_for, step_of, turn_of, with_next}
+use Rattle.hba_driver.specs.Turns.{advanced, allowed, answered, control_news, control_seen, control_turn, device_due, device_of, device_or_request, device_seen, device_turn, early_due, fault_due, found_of, is_back, is_due, issue_of, may_go_to, may_issue, met, met_order, met_path, noted, order_allowed, order_due, path_answered, path_due, path_met, path_to, plain_turn, request_due, stage_due, stage_for, step_of, turn_of, with_next}
 
 -- ---- what is due
 
@@ -139,13 +141,30 @@ due_request v plan entries =
     let low = lowest_is (λ slot. may_issue plan (entry_at entries slot)) 30 s is in
     (low.below, low.passes))
 
-due_device : (v : Sight) (plan : Plan) (entries : List (Option Entry)) → Due v plan entries (option_or (device_due v plan) (request_due plan entries))
+-- what holds of an act, and of none, holds of what may go of it
+pub allowed_keeps : (P : Option Act → Type 0) → P None → (mode : Mode) (v : Sight) (plan : Plan) (entries : List (Option Entry)) (a : Option Act) → P a → P (allowed mode v plan entries a)
+allowed_keeps P none Switching v plan entries a h = h
+allowed_keeps P none CommandBased v plan entries None h = none
+allowed_keeps P none CommandBased v plan entries (Some a) h = by_test (may_go_to v plan entries (device_of a))
+  where
+    by_test : (b : Bool) → P (if b then Some a else None)
+    by_test true = h
+    by_test false = none
+
+due_device : (v : Sight) (plan : Plan) (entries : List (Option Entry)) → Due v plan entries (device_or_request v plan entries)
 unfolding device_due
-due_device v plan entries = due_or v _ (request_due plan entries) plan entries (due_slot v plan.path plan entries refl) (due_request v plan entries)
+due_device v plan entries =
+    due_or v _ _ plan entries
+    (allowed_keeps (Due v plan entries) tt plan.mode v plan entries (device_due v plan) (due_slot v plan.path plan entries refl))
+    (allowed_keeps (Due v plan entries) tt plan.mode v plan entries (request_due plan entries) (due_request v plan entries))
+
+due_allowed : (v : Sight) (plan : Plan) (entries : List (Option Entry)) → Due v plan entries (order_allowed v plan entries)
+due_allowed v plan entries =
+    allowed_keeps (Due v plan entries) tt plan.mode v plan entries (order_due plan) (due_order v plan.asked (order_fields plan.order) plan.order plan entries refl)
 
 due_control : (v : Sight) (news : Bool) (plan : Plan) (entries : List (Option Entry)) → Due v (control_turn v news plan entries).plan entries (control_turn v news plan entries).act
 due_control v news plan entries =
-    if_due v (is_some (order_due plan)) _ _ entries (due_order v plan.asked (order_fields plan.order) plan.order plan entries refl) (due_device v (device_seen v plan) entries)
+    if_due v (is_some (order_allowed v plan entries)) _ _ entries (due_allowed v plan entries) (due_device v (device_seen v plan) entries)
 
 pub due_turn : (v : Sight) (plan : Plan) (entries : List (Option Entry)) → Due v (turn_of v plan entries).plan entries (turn_of v plan entries).act
 unfolding turn_of
@@ -161,13 +180,14 @@ pub record PlanGoes (v : Sight) (p q : Plan) : Type 0 where
   pub devices : length q.devices ≡ length p.devices
   pub opened : q.opened ≡ p.opened
   pub restarted : q.restarted ≡ p.restarted
+  pub mode : q.mode ≡ p.mode
   pub low : IsPath p.path → IsPath q.path
 
 goes_same : (v : Sight) (p : Plan) → PlanGoes v p p
-goes_same v p = record { asked = λ b h. h; path = λ b x here a. here; back = λ x here a. here; devices = refl; opened = refl; restarted = refl; low = λ h. h }
+goes_same v p = record { asked = λ b h. h; path = λ b x here a. here; back = λ x here a. here; devices = refl; opened = refl; restarted = refl; mode = refl; low = λ h. h }
 
 goes_then : (v : Sight) (p q r : Plan) → PlanGoes v p q → PlanGoes v q r → PlanGoes v p r
-goes_then v p q r h k = record { asked = λ b a. k.asked b (h.asked b a); path = λ b x here a. k.path b x (h.path b x here a) a; back = λ x here a. h.back x (k.back x here a) a; devices = k.devices ∙ h.devices; opened = k.opened ∙ h.opened; restarted = k.restarted ∙ h.restarted; low = λ x. k.low (h.low x) }
+goes_then v p q r h k = record { asked = λ b a. k.asked b (h.asked b a); path = λ b x here a. k.path b x (h.path b x here a) a; back = λ x here a. h.back x (k.back x here a) a; devices = k.devices ∙ h.devices; opened = k.opened ∙ h.opened; restarted = k.restarted ∙ h.restarted; mode = k.mode ∙ h.mode; low = λ x. k.low (h.low x) }
 
 -- the rest of the plan is as it was
 record Alike (p q : Plan) : Type 0 where
@@ -175,13 +195,14 @@ record Alike (p q : Plan) : Type 0 where
   pub devices : length q.devices ≡ length p.devices
   pub opened : q.opened ≡ p.opened
   pub restarted : q.restarted ≡ p.restarted
+  pub mode : q.mode ≡ p.mode
 
 alike_noted : (v : Sight) (order : Order) (plan : Plan) → Alike plan (noted v order plan)
 unfolding noted
-alike_noted v CountPorts plan = record { path = refl; devices = refl; opened = refl; restarted = refl }
-alike_noted v Scan plan = record { path = refl; devices = refl; opened = refl; restarted = refl }
-alike_noted v (Detect port) plan = record { path = refl; devices = length-set plan.devices port _; opened = refl; restarted = refl }
-alike_noted v order plan = record { path = refl; devices = refl; opened = refl; restarted = refl }
+alike_noted v CountPorts plan = record { path = refl; devices = refl; opened = refl; restarted = refl; mode = refl }
+alike_noted v Scan plan = record { path = refl; devices = refl; opened = refl; restarted = refl; mode = refl }
+alike_noted v (Detect port) plan = record { path = refl; devices = length-set plan.devices port _; opened = refl; restarted = refl; mode = refl }
+alike_noted v order plan = record { path = refl; devices = refl; opened = refl; restarted = refl; mode = refl }
 
 goes_answer : (v : Sight) (b c : Bool) (next plan : Plan) → has_bit v.issued 31 ≡ c → Alike plan next → PlanGoes v plan (if b && not c then next else plan)
 goes_answer v true true next plan is same = goes_same v plan
@@ -193,6 +214,7 @@ goes_answer v true false next plan is same = record {
   devices = same.devices;
   opened = same.opened;
   restarted = same.restarted;
+  mode = same.mode;
   low = λ h. subst IsPath (sym same.path) h;
 }
 
@@ -200,7 +222,7 @@ goes_answered : (v : Sight) (plan : Plan) → PlanGoes v plan (answered v plan)
 goes_answered v plan =
     let same : Alike plan (noted v plan.order plan) = alike_noted v plan.order plan in
     goes_answer v plan.asked (has_bit v.issued 31) (with_next plan.order (noted v plan.order plan)) plan refl
-    (record { path = same.path; devices = same.devices; opened = same.opened; restarted = same.restarted })
+    (record { path = same.path; devices = same.devices; opened = same.opened; restarted = same.restarted; mode = same.mode })
 
 goes_if : (v : Sight) (b : Bool) (p q r : Plan) → PlanGoes v p q → PlanGoes v p r → PlanGoes v p (if b then q else r)
 goes_if v true p q r h k = h
@@ -208,9 +230,9 @@ goes_if v false p q r h k = k
 
 goes_met : (v : Sight) (plan : Plan) → PlanGoes v plan (met v plan)
 goes_met v plan =
-    goes_if v plan.asked plan plan (record plan { order = met_order v plan.order }) (goes_same v plan) (record { asked = λ b h. h; path = λ b x here a. here; back = λ x here a. here; devices = refl; opened = refl; restarted = refl; low = λ h. h })
+    goes_if v plan.asked plan plan (record plan { order = met_order v plan.order }) (goes_same v plan) (record { asked = λ b h. h; path = λ b x here a. here; back = λ x here a. here; devices = refl; opened = refl; restarted = refl; mode = refl; low = λ h. h })
 
-goes_control : (v : Sight) (plan : Plan) → PlanGoes v plan (control_seen v plan)
+pub goes_control : (v : Sight) (plan : Plan) → PlanGoes v plan (control_seen v plan)
 goes_control v plan = goes_then v plan (answered v plan) (control_seen v plan) (goes_answered v plan) (goes_met v (answered v plan))
 
 length_found : (v : Sight) (stage : Stage) (dev : ℕ) (plan : Plan) → length (found_of v stage dev plan).devices ≡ length plan.devices
@@ -236,6 +258,12 @@ unfolding found_of
 restarted_found v Identify dev plan = refl
 restarted_found v (ReadLog file) dev plan = refl
 restarted_found v stage dev plan = refl
+
+mode_found : (v : Sight) (stage : Stage) (dev : ℕ) (plan : Plan) → (found_of v stage dev plan).mode ≡ plan.mode
+unfolding found_of
+mode_found v Identify dev plan = refl
+mode_found v (ReadLog file) dev plan = refl
+mode_found v stage dev plan = refl
 
 same_path : (x y : Path) → Some x ≡ Some y → x ≡ y
 same_path x y h = cc
@@ -272,6 +300,7 @@ goes_back v bit path plan here is = by_asked path.asked bit is refl
       devices = length_found v path.stage path.dev plan;
       opened = opened_found v path.stage path.dev plan;
       restarted = restarted_found v path.stage path.dev plan;
+      mode = mode_found v path.stage path.dev plan;
       low = λ h. path_low path.dev (next_stage path.stage) (subst IsPath here h);
     }
     by_asked false bit is a = goes_same v plan
@@ -302,10 +331,11 @@ goes_path_met v plan = record {
   devices = refl;
   opened = refl;
   restarted = refl;
+  mode = refl;
   low = λ h. met_low v plan.path h;
 }
 
-goes_device : (v : Sight) (plan : Plan) → PlanGoes v plan (device_seen v plan)
+pub goes_device : (v : Sight) (plan : Plan) → PlanGoes v plan (device_seen v plan)
 goes_device v plan = goes_then v plan (path_answered v plan) (device_seen v plan) (goes_answered_by v plan.path plan refl) (goes_path_met v (path_answered v plan))
 
 turn_if : (v : Sight) (b : Bool) (p : Plan) (t u : Turn) → PlanGoes v p t.plan → PlanGoes v p u.plan → PlanGoes v p (if b then t else u).plan
@@ -314,7 +344,7 @@ turn_if v false p t u h k = k
 
 goes_control_turn : (v : Sight) (news : Bool) (plan : Plan) (entries : List (Option Entry)) → PlanGoes v plan (control_turn v news plan entries).plan
 goes_control_turn v news plan entries =
-    turn_if v (is_some (order_due plan)) plan _ _ (goes_same v plan) (goes_device v plan)
+    turn_if v (is_some (order_allowed v plan entries)) plan _ _ (goes_same v plan) (goes_device v plan)
 
 pub goes_turn : (v : Sight) (plan : Plan) (entries : List (Option Entry)) → PlanGoes v plan (turn_of v plan entries).plan
 unfolding turn_of
@@ -357,3 +387,59 @@ pub runs_then : (v : Sight) (plan : Plan) (entries : List (Option Entry)) → Ru
 runs_then v plan entries =
     let goes : PlanGoes v plan (turn_of v plan entries).plan = goes_turn v plan entries in
     runs_as plan (turn_of v plan entries).plan (turn_of v plan entries).act goes.opened goes.restarted (runs_turn v plan entries)
+
+-- ---- with command-based switching nothing is issued beside another device
+
+-- if it issues a command, nothing is issued for another device
+abbrev pub MayGo : Sight → Plan → List (Option Entry) → Option Act → Type 0
+MayGo v plan entries None = Unit {0}
+MayGo v plan entries (Some a) = may_go_to v plan entries (device_of a) ≡ true
+
+alone_goes : (mode : Mode) (v : Sight) (plan : Plan) (entries : List (Option Entry)) (a : Option Act) → mode ≡ CommandBased → MayGo v plan entries (allowed mode v plan entries a)
+alone_goes Switching v plan entries a is = cc
+alone_goes CommandBased v plan entries None is = tt
+alone_goes CommandBased v plan entries (Some a) is = by_test (may_go_to v plan entries (device_of a)) refl
+  where
+    by_test : (b : Bool) → may_go_to v plan entries (device_of a) ≡ b → MayGo v plan entries (if b then Some a else None)
+    by_test true goes = goes
+    by_test false goes = tt
+
+alone_or : (v : Sight) (plan : Plan) (entries : List (Option Entry)) (a b : Option Act) → MayGo v plan entries a → MayGo v plan entries b → MayGo v plan entries (option_or a b)
+alone_or v plan entries None b h k = k
+alone_or v plan entries (Some a) b h k = h
+
+alone_if : (v : Sight) (b : Bool) (t u : Turn) (entries : List (Option Entry)) → MayGo v t.plan entries t.act → MayGo v u.plan entries u.act → MayGo v (if b then t else u).plan entries (if b then t else u).act
+alone_if v true t u entries h k = h
+alone_if v false t u entries h k = k
+
+-- what comes before everything else issues no command
+alone_clears : (v : Sight) (plan : Plan) (entries : List (Option Entry)) (o : Option ℕ) → MayGo v plan entries (option_map act.Clears o)
+alone_clears v plan entries None = tt
+alone_clears v plan entries (Some dev) = refl
+
+alone_when : (v : Sight) (plan : Plan) (entries : List (Option Entry)) (b : Bool) (a : Act) (o : Option Act) → device_of a ≡ None → MayGo v plan entries o → MayGo v plan entries (if b then Some a else o)
+alone_when v plan entries true a o none h = ap (may_go_to v plan entries) none
+alone_when v plan entries false a o none h = h
+
+alone_early : (v : Sight) (plan : Plan) (entries : List (Option Entry)) → MayGo v plan entries (early_due v plan)
+unfolding early_due
+alone_early v plan entries =
+    alone_or v plan entries _ _ (alone_when v plan entries (nat_lt plan.opened 7) (act.Opens plan.opened) None refl tt)
+    (alone_or v plan entries _ _ (alone_when v plan entries (nat_lt plan.restarted 2) (act.Restarts plan.restarted) None refl tt)
+    (alone_when v plan entries v.stopped act.Stops (option_map act.Clears v.faulty) refl (alone_clears v plan entries v.faulty)))
+
+alone_device : (v : Sight) (plan : Plan) (entries : List (Option Entry)) → plan.mode ≡ CommandBased → MayGo v plan entries (device_or_request v plan entries)
+alone_device v plan entries is =
+    alone_or v plan entries _ _ (alone_goes plan.mode v plan entries (device_due v plan) is) (alone_goes plan.mode v plan entries (request_due plan entries) is)
+
+alone_control : (v : Sight) (news : Bool) (plan : Plan) (entries : List (Option Entry)) → plan.mode ≡ CommandBased
+    → MayGo v (control_turn v news plan entries).plan entries (control_turn v news plan entries).act
+alone_control v news plan entries is =
+    alone_if v (is_some (order_allowed v plan entries)) (plain_turn plan (order_allowed v plan entries) news) (device_turn v news plan entries) entries
+    (alone_goes plan.mode v plan entries (order_due plan) is) (alone_device v (device_seen v plan) entries ((goes_device v plan).mode ∙ is))
+
+pub turn_alone : (v : Sight) (plan : Plan) (entries : List (Option Entry)) → plan.mode ≡ CommandBased → MayGo v (turn_of v plan entries).plan entries (turn_of v plan entries).act
+unfolding turn_of
+turn_alone v plan entries is =
+    alone_if v (is_some (early_due v plan)) (plain_turn plan (early_due v plan) false) (control_turn v (control_news v plan) (control_seen v plan) entries) entries (alone_early v plan entries)
+    (alone_control v (control_news v plan) (control_seen v plan) entries ((goes_control v plan).mode ∙ is))

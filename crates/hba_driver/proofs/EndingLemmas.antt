@@ -24,6 +24,8 @@ use Rattle.hba_laws.specs.History.{Transfer, issued}
 use Rattle.hba_laws.specs.Hosts as event
 use Rattle.hba_laws.specs.Hosts.{HostEvent}
 use Rattle.hba_laws.proofs.StandLemmas.{some_inj}
+use Rattle.hba_driver.specs.declared.mode.Mode.{Mode}
+use Rattle.hba_driver.specs.declared.mode.Mode.TheVariants.{Switching, CommandBased}
 use Rattle.hba_driver.specs.declared.effect.Effect.TheVariants as effect
 use Rattle.hba_driver.specs.declared.path.Path.{Path}
 use Rattle.hba_driver.specs.declared.path.TaskFile.{TaskFile}
@@ -35,8 +37,9 @@ use Rattle.hba_driver.specs.declared.turn.Act.{Act}
 use Rattle.hba_driver.specs.declared.turn.Act.TheVariants as act
 use Rattle.hba_driver.specs.Drivers.{Driver, Entry, IsPath, entry_at, has_ended, rephase, rephase_all, rephased}
 use Rattle.hba_driver.specs.Effects.{Acts, ActsAll, IsRuled, clearing, effects_of, is_effect}
-use Rattle.hba_driver.specs.Events.{IsSoundHost, events_of_effect, events_of_effects}
+use Rattle.hba_driver.specs.Events.{IsSoundHostIn, events_of_effect, events_of_effects}
 use Rattle.hba_driver.specs.HostTurns.{Host, sight_in}
+use Rattle.hba_driver.specs.Modes.{is_switching}
 use Rattle.hba_driver.specs.Paths.{reset_if_there}
 use Rattle.hba_driver.specs.Sights.{faulty_in, px_cmd, px_fbs, px_is, shown, sight_of}
 use Rattle.hba_driver.specs.Ticks.{acted, cleared_plan, done_ended, effects_due, entries_after, from_reset, is_open, is_open_of, plan_after, recovering, stopped_plan, turn}
@@ -47,7 +50,7 @@ use Rattle.hba_driver.proofs.HistoryLemmas.{back_of}
 use Rattle.hba_driver.proofs.IssuingLemmas.{From}
 use Rattle.hba_driver.proofs.LifeLemmas.{entry_of_rephased, keeps_set_aside, keeps_stopped, length_of_rephased}
 use Rattle.hba_driver.proofs.ServingLemmas.{Follows, Goes, first_goes, from_moves, not_flushed, taken_goes, write_goes}
-use Rattle.hba_driver.proofs.TickingLemmas.{Needs, act_goes, else_entry, last_goes, unless_back, unless_other, unless_path}
+use Rattle.hba_driver.proofs.TickingLemmas.{IsOurs, Needs, act_goes, else_entry, last_goes, unless_back, unless_other, unless_path}
 
 -- ---- the port is stopped
 
@@ -60,6 +63,7 @@ none_path x h = cc
 stopped_follows : (d : Driver) → Follows d (stopped d)
 unfolding stopped
 stopped_follows d = record {
+  mode = refl;
   devices = length-map d.plan.devices reset_if_there;
   slots = length_of_rephased is_open (Ended PortError) d.entries;
   path = λ h. tt;
@@ -99,6 +103,10 @@ stop_act D d file fs c old new before after may ruled m acts go =
 set_aside : ℕ → TaskFile → Driver → Driver
 set_aside dev file d = record d { plan = cleared_plan dev file d.plan; entries = rephase_all (is_open_of dev) Aside d.entries }
 
+mode_if : (b : Bool) (dev : ℕ) (file : TaskFile) (plan : Plan) → (if b then recovering dev file plan else from_reset plan).mode ≡ plan.mode
+mode_if true dev file plan = refl
+mode_if false dev file plan = refl
+
 devices_if : (b : Bool) (dev : ℕ) (file : TaskFile) (plan : Plan) → length (if b then recovering dev file plan else from_reset plan).devices ≡ length plan.devices
 devices_if true dev file plan = length-set plan.devices dev _
 devices_if false dev file plan = refl
@@ -114,6 +122,7 @@ path_back false dev file plan x h = h
 aside_follows : (dev : ℕ) (file : TaskFile) (d : Driver) → Follows d (set_aside dev file d)
 unfolding set_aside
 aside_follows dev file d = record {
+  mode = mode_if (nat_lt dev 15) dev file d.plan;
   devices = devices_if (nat_lt dev 15) dev file d.plan;
   slots = length_of_rephased (is_open_of dev) Aside d.entries;
   path = λ h. path_if (nat_lt dev 15) dev file d.plan h;
@@ -192,8 +201,8 @@ unfolding own_refusal slots_refusal register_at
 is_accepted value old new before after acts = acts.0.accepted refl
 
 pub clear_act : (D d : Driver) (file : TaskFile) (fs : List HostEvent) (c : event.Host) (dev : ℕ) (old new : Port) (before after : Memory) → MayClear dev old → IsRuled old → IsHostMemory before
-    → (acts : ActsAll (clearing dev) old before new after) → Goes D (acted (Some (act.Clears dev)) file d) fs c (beside new after)
-    → Goes D d (events_of_effects (clearing dev) old before new after acts ++ fs) c (beside old before)
+    → (acts : ActsAll (clearing Switching dev) old before new after) → Goes D (acted (Some (act.Clears dev)) file d) fs c (beside new after)
+    → Goes D d (events_of_effects (clearing Switching dev) old before new after acts ++ fs) c (beside old before)
 unfolding ActsAll events_of_effects plan_after entries_after register_at set_aside
 clear_act D d file fs c dev old new before after may ruled m acts go =
     let value : ℕ = 256 * dev + 3 in
@@ -262,13 +271,19 @@ faulty_by on c None None dev low below h = quiet_by on c dev h
 faulty_by on c None (Some cause) dev low below h = quiet_by on c dev h
 
 -- what a tick sees of PxFBS is the device that DEC clears
-faulty_is : (port : Port) (memory : Memory) (dev : ℕ) → IsRuled port → (sight_of port memory).faulty ≡ Some dev → (cleared_device port.errors ≡ Some dev) × (dev < 16)
+none_faulty : (dev : ℕ) {P : Type 0} → None ≡ Some dev → P
+none_faulty dev h = cc
+
+faulty_is : (mode : Mode) (port : Port) (memory : Memory) (dev : ℕ) → IsRuled port → (sight_of mode port memory).faulty ≡ Some dev → (mode ≡ Switching) × ((cleared_device port.errors ≡ Some dev) × (dev < 16))
 unfolding sight_of shown register_at value_of
-faulty_is port memory dev ruled h =
-    faulty_by port.registers.switching port.registers.chosen port.errors.reported port.errors.port dev ruled.rules.registers.chosen (λ x is. (ruled.faults.reported_is_marked x is).0) h
+faulty_is CommandBased port memory dev ruled h = none_faulty dev h
+faulty_is Switching port memory dev ruled h = (
+  refl,
+  faulty_by port.registers.switching port.registers.chosen port.errors.reported port.errors.port dev ruled.rules.registers.chosen (λ x is. (ruled.faults.reported_is_marked x is).0) h,
+)
 
 -- PxFBS shows the device that is reported, if no fault of the port stands
-pub faulty_reported : (port : Port) (memory : Memory) (x : ℕ) → IsRuled port → port.errors.port ≡ None → port.errors.reported ≡ Some x → (sight_of port memory).faulty ≡ Some x
+pub faulty_reported : (port : Port) (memory : Memory) (x : ℕ) → IsRuled port → port.errors.port ≡ None → port.errors.reported ≡ Some x → (sight_of Switching port memory).faulty ≡ Some x
 unfolding sight_of shown register_at value_of
 faulty_reported port memory x ruled none is =
     let low : ℕ = bit en port.registers.switching + 256 * port.registers.chosen + 61440 in
@@ -282,42 +297,53 @@ faulty_reported port memory x ruled none is =
 -- ---- each act
 
 -- what the acts that end a fault need of the port
-abbrev pub MayEnd : Option Act → Port → Type 0
-MayEnd (Some act.Stops) port = MayStop port.registers
-MayEnd (Some (act.Clears dev)) port = MayClear dev port
-MayEnd a port = Unit {0}
+abbrev pub MayEnd : Mode → Option Act → Port → Type 0
+MayEnd mode (Some act.Stops) port = MayStop port.registers
+MayEnd mode (Some (act.Clears dev)) port = (mode ≡ Switching) × MayClear dev port
+MayEnd mode a port = Unit {0}
 
-pub each_act : (D d : Driver) (v : Sight) (file : TaskFile) (fs : List HostEvent) (c : event.Host) (a : Option Act) (old new : Port) (before after : Memory) → MayEnd a old → Due v d.plan d.entries a → old.registers.clb ≡ 0 → (Needs a → old.registers.fb ≡ 4096) → IsRuled old → IsHostMemory before
-    → list_all is_effect (effects_due a) ≡ true → (acts : ActsAll (effects_due a) old before new after) → Goes D (acted a file d) fs c (beside new after)
-    → Goes D d (events_of_effects (effects_due a) old before new after acts ++ fs) c (beside old before)
+none_clears : {P : Type 0} → CommandBased ≡ Switching → P
+none_clears h = cc
+
+pub each_act : (D d : Driver) (v : Sight) (file : TaskFile) (fs : List HostEvent) (c : event.Host) (mode : Mode) (a : Option Act) (old new : Port) (before after : Memory) → MayEnd mode a old → Due v d.plan d.entries a → d.plan.mode ≡ mode → (Needs a → IsOurs mode old.registers) → IsRuled old → IsHostMemory before
+    → list_all is_effect (effects_due mode a) ≡ true → (acts : ActsAll (effects_due mode a) old before new after) → Goes D (acted a file d) fs c (beside new after)
+    → Goes D d (events_of_effects (effects_due mode a) old before new after acts ++ fs) c (beside old before)
 unfolding effects_of
-each_act D d v file fs c (Some act.Stops) old new before after may due list area ruled m is acts go = stop_act D d file fs c old new before after may ruled m acts go
-each_act D d v file fs c (Some (act.Clears dev)) old new before after may due list area ruled m is acts go = clear_act D d file fs c dev old new before after may ruled m acts go
-each_act D d v file fs c None old new before after may due list area ruled m is acts go = act_goes D d v file fs c None old new before after refl due list area ruled m is acts go
-each_act D d v file fs c (Some (act.Opens k)) old new before after may due list area ruled m is acts go = act_goes D d v file fs c (Some (act.Opens k)) old new before after refl due list area ruled m is acts go
-each_act D d v file fs c (Some (act.Restarts k)) old new before after may due list area ruled m is acts go = act_goes D d v file fs c (Some (act.Restarts k)) old new before after refl due list area ruled m is acts go
-each_act D d v file fs c (Some (act.Orders order)) old new before after may due list area ruled m is acts go = act_goes D d v file fs c (Some (act.Orders order)) old new before after refl due list area ruled m is acts go
-each_act D d v file fs c (Some (act.Steps dev stage)) old new before after may due list area ruled m is acts go = act_goes D d v file fs c (Some (act.Steps dev stage)) old new before after refl due list area ruled m is acts go
-each_act D d v file fs c (Some (act.Issues slot dev queued)) old new before after may due list area ruled m is acts go = act_goes D d v file fs c (Some (act.Issues slot dev queued)) old new before after refl due list area ruled m is acts go
+each_act D d v file fs c mode (Some act.Stops) old new before after may due drives ours ruled m is acts go = stop_act D d file fs c old new before after may ruled m acts go
+each_act D d v file fs c Switching (Some (act.Clears dev)) old new before after may due drives ours ruled m is acts go = clear_act D d file fs c dev old new before after may.1 ruled m acts go
+each_act D d v file fs c CommandBased (Some (act.Clears dev)) old new before after may due drives ours ruled m is acts go = none_clears may.0
+each_act D d v file fs c mode None old new before after may due drives ours ruled m is acts go = act_goes D d v file fs c mode None old new before after refl due drives ours ruled m is acts go
+each_act D d v file fs c mode (Some (act.Opens k)) old new before after may due drives ours ruled m is acts go = act_goes D d v file fs c mode (Some (act.Opens k)) old new before after refl due drives ours ruled m is acts go
+each_act D d v file fs c mode (Some (act.Restarts k)) old new before after may due drives ours ruled m is acts go = act_goes D d v file fs c mode (Some (act.Restarts k)) old new before after refl due drives ours ruled m is acts go
+each_act D d v file fs c mode (Some (act.Orders order)) old new before after may due drives ours ruled m is acts go = act_goes D d v file fs c mode (Some (act.Orders order)) old new before after refl due drives ours ruled m is acts go
+each_act D d v file fs c mode (Some (act.Steps dev stage)) old new before after may due drives ours ruled m is acts go = act_goes D d v file fs c mode (Some (act.Steps dev stage)) old new before after refl due drives ours ruled m is acts go
+each_act D d v file fs c mode (Some (act.Issues slot dev queued)) old new before after may due drives ours ruled m is acts go = act_goes D d v file fs c mode (Some (act.Issues slot dev queued)) old new before after refl due drives ours ruled m is acts go
 
 -- ---- an act that ends a fault is due only while the port runs
 
-may_of : (h : Host) (plan : Plan) (entries : List (Option Entry)) (a : Option Act) → IsSoundHost h → Due (sight_in h) plan entries a → Runs h.driver.plan a → MayEnd a h.port
-may_of h plan entries None s due runs = tt
-may_of h plan entries (Some (act.Opens k)) s due runs = tt
-may_of h plan entries (Some act.Stops) s due runs =
+may_of : (mode : Mode) (h : Host) (plan : Plan) (entries : List (Option Entry)) (a : Option Act) → IsSoundHostIn mode h → Due (sight_in h) plan entries a → Runs h.driver.plan a → MayEnd mode a h.port
+may_of mode h plan entries None s due runs = tt
+may_of mode h plan entries (Some (act.Opens k)) s due runs = tt
+may_of mode h plan entries (Some act.Stops) s due runs =
     let opened : 7 ≤ h.driver.plan.opened = not_below h.driver.plan.opened 7 runs.0 in
     record { receives = s.registers.receives (omega (arith, opened)); started = s.registers.starts opened (not_below h.driver.plan.restarted 2 runs.1) }
-may_of h plan entries (Some (act.Restarts k)) s due runs = tt
-may_of h plan entries (Some (act.Clears dev)) s due runs =
-    let shown_is = faulty_is h.port h.memory dev s.ruled due in
-    record { below = shown_is.1; switches = s.registers.switches (omega (arith, not_below h.driver.plan.opened 7 runs.0)); faulty = shown_is.0 }
-may_of h plan entries (Some (act.Orders order)) s due runs = tt
-may_of h plan entries (Some (act.Steps dev stage)) s due runs = tt
-may_of h plan entries (Some (act.Issues slot dev queued)) s due runs = tt
+may_of mode h plan entries (Some (act.Restarts k)) s due runs = tt
+may_of mode h plan entries (Some (act.Clears dev)) s due runs =
+    let shown_is = faulty_is h.driver.plan.mode h.port h.memory dev s.ruled due in
+    let on : mode ≡ Switching = sym s.drives ∙ shown_is.0 in (
+      on,
+      record {
+        below = shown_is.1.1;
+        switches = s.registers.switches (omega (arith, not_below h.driver.plan.opened 7 runs.0)) ∙ ap is_switching on;
+        faulty = shown_is.1.0;
+      },
+    )
+may_of mode h plan entries (Some (act.Orders order)) s due runs = tt
+may_of mode h plan entries (Some (act.Steps dev stage)) s due runs = tt
+may_of mode h plan entries (Some (act.Issues slot dev queued)) s due runs = tt
 
-pub may_end : (h : Host) → IsSoundHost h → MayEnd (turn (sight_in h) h.driver).act h.port
-may_end h s =
+pub may_end : {mode : Mode} (h : Host) → IsSoundHostIn mode h → MayEnd mode (turn (sight_in h) h.driver).act h.port
+may_end {mode} h s =
     let v : Sight = sight_in h in
     let done : List (Option Entry) = done_ended v.issued h.driver.entries in
-    may_of h (turn v h.driver).plan done (turn v h.driver).act s (due_turn v h.driver.plan done) (runs_turn v h.driver.plan done)
+    may_of mode h (turn v h.driver).plan done (turn v h.driver).act s (due_turn v h.driver.plan done) (runs_turn v h.driver.plan done)

@@ -21,6 +21,7 @@ use Rattle.hba_laws.specs.Hosts.{HostEvent, Runs}
 use Rattle.hba_laws.specs.Sound as sound
 use Rattle.hba_driver.specs.declared.effect.Effect.{Effect}
 use Rattle.hba_driver.specs.declared.effect.Effect.TheVariants as effect
+use Rattle.hba_driver.specs.declared.mode.Mode.{Mode}
 use Rattle.hba_driver.specs.Effects.{Acts, ActsAll, IsRuled, Tries, is_effect, prds_with, table_of}
 use Rattle.hba_driver.specs.Events.{events_of_effect, events_of_effects, wrote_to}
 use Rattle.hba_driver.proofs.DrivenLemmas.{SamePlace, calm_effect, place_effect, place_then, refusal_is, same_place}
@@ -153,31 +154,31 @@ good_effect (effect.Commands slot fields buffer) old new before after is area m 
 -- ---- the events of effects, one after another
 
 -- what effects leave
-pub record Left (old : Port) (new : Port) (after : Memory) : Type 0 where
-  pub place : SamePlace old.registers new.registers
+pub record Left (mode : Mode) (old : Port) (new : Port) (after : Memory) : Type 0 where
+  pub place : SamePlace mode old.registers new.registers
   pub sizes : IsHostMemory after
 
-pub left_effects : (es : List Effect) (old new : Port) (before after : Memory) → list_all is_effect es ≡ true → list_all calm_effect es ≡ true → IsHostMemory before → ActsAll es old before new after → Left old new after
+pub left_effects : (mode : Mode) (es : List Effect) (old new : Port) (before after : Memory) → list_all is_effect es ≡ true → list_all (calm_effect mode) es ≡ true → IsHostMemory before → ActsAll es old before new after → Left mode old new after
 unfolding ActsAll
-left_effects [] old new before after is quiet m h = record { place = same_place old.registers new.registers (ap (λ (p : Port). p.registers) h.0); sizes = same_sizes before after h.1 m }
-left_effects (e ∷ es) old new before after is quiet m h =
+left_effects mode [] old new before after is quiet m h = record { place = same_place old.registers new.registers (ap (λ (p : Port). p.registers) h.0); sizes = same_sizes before after h.1 m }
+left_effects mode (e ∷ es) old new before after is quiet m h =
     let effect_is = both (is_effect e) (list_all is_effect es) is in
-    let calm_is = both (calm_effect e) (list_all calm_effect es) quiet in
-    let rest : Left h.0 new after = left_effects es h.0 new h.1 after effect_is.1 calm_is.1 (sized_effect e old h.0 before h.1 effect_is.0 h.2 m) h.4 in
-    record { place = place_then old.registers h.0.registers new.registers (place_effect e old h.0 before h.1 calm_is.0 h.2) rest.place; sizes = rest.sizes }
+    let calm_is = both (calm_effect mode e) (list_all (calm_effect mode) es) quiet in
+    let rest : Left mode h.0 new after = left_effects mode es h.0 new h.1 after effect_is.1 calm_is.1 (sized_effect e old h.0 before h.1 effect_is.0 h.2 m) h.4 in
+    record { place = place_then old.registers h.0.registers new.registers (place_effect mode e old h.0 before h.1 calm_is.0 h.2) rest.place; sizes = rest.sizes }
 
-pub good_effects : (es : List Effect) (old new : Port) (before after : Memory) → list_all is_effect es ≡ true → list_all calm_effect es ≡ true → old.registers.fb ≡ 4096 → IsHostMemory before
+pub good_effects : (mode : Mode) (es : List Effect) (old new : Port) (before after : Memory) → list_all is_effect es ≡ true → list_all (calm_effect mode) es ≡ true → old.registers.fb ≡ 4096 → IsHostMemory before
     → (acts : ActsAll es old before new after) → IsRuled old → IsRuled new → Good (beside old before) (events_of_effects es old before new after acts) (beside new after)
 unfolding ActsAll events_of_effects
-good_effects [] old new before after is quiet at m h first last =
+good_effects mode [] old new before after is quiet at m h first last =
     good_none (beside old before) (beside new after) (beside_same old new before after h.0 h.1) (sound_beside old before first m)
-good_effects (e ∷ es) old new before after is quiet at m h first last =
+good_effects mode (e ∷ es) old new before after is quiet at m h first last =
     let effect_is = both (is_effect e) (list_all is_effect es) is in
-    let calm_is = both (calm_effect e) (list_all calm_effect es) quiet in
+    let calm_is = both (calm_effect mode e) (list_all (calm_effect mode) es) quiet in
     let later : IsHostMemory h.1 = sized_effect e old h.0 before h.1 effect_is.0 h.2 m in
-    let there : h.0.registers.fb ≡ 4096 = (place_effect e old h.0 before h.1 calm_is.0 h.2).area ∙ at in
+    let there : h.0.registers.fb ≡ 4096 = (place_effect mode e old h.0 before h.1 calm_is.0 h.2).area ∙ at in
     let one : Good (beside old before) (events_of_effect e old before h.1) (beside h.0 h.1) =
     good_effect e old h.0 before h.1 effect_is.0 (λ w. at) m h.2 (sound_beside old before first m) (sound_beside h.0 h.1 h.3 later) in
     let rest : Good (beside h.0 h.1) (events_of_effects es h.0 h.1 new after h.4) (beside new after) =
-    good_effects es h.0 new h.1 after effect_is.1 calm_is.1 there later h.4 h.3 last in
+    good_effects mode es h.0 new h.1 after effect_is.1 calm_is.1 there later h.4 h.3 last in
     good_then (events_of_effect e old before h.1) (events_of_effects es h.0 h.1 new after h.4) (beside old before) (beside h.0 h.1) (beside new after) one rest

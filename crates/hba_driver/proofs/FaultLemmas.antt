@@ -21,7 +21,7 @@ use Rattle.hba_driver.specs.declared.turn.Turn.{Turn}
 use Rattle.hba_driver.specs.Drivers.{Driver, Entry, entry_at, has_ended, has_ended_in, is_aside, is_aside_in, rephase, rephase_all, rephased}
 use Rattle.hba_driver.specs.Faults.{ErrorsAreNamed, IsNamedBy}
 use Rattle.hba_driver.specs.Ticks.{after_tick, done_ended, is_aside_of, is_done, is_named, is_named_of, log_outcome, logged_ended, seen, turn}
-use Rattle.hba_driver.specs.Turns.{control_seen, early_due, is_back, logged_by, order_due, turn_of}
+use Rattle.hba_driver.specs.Turns.{control_seen, early_due, is_back, logged_by, order_allowed, turn_of}
 use Rattle.hba_driver.proofs.DoneLemmas.{IsOwnEnd, acted_end, end_same, end_turned, seen_some, some_at}
 use Rattle.hba_driver.proofs.LifeLemmas.{entry_of_rephased}
 
@@ -97,7 +97,7 @@ read_turn : (v : Sight) (plan : Plan) (entries : List (Option Entry)) (l : Logge
 unfolding turn_of
 read_turn v plan entries l =
     if_logged (is_some (early_due v plan)) _ _ l (λ h. no_log l h)
-    (if_logged (is_some (order_due (control_seen v plan))) _ _ l (λ h. no_log l h) (λ h. read_path v (control_seen v plan).path (control_seen v plan) l refl h))
+    (if_logged (is_some (order_allowed v (control_seen v plan) entries)) _ _ l (λ h. no_log l h) (λ h. read_path v (control_seen v plan).path (control_seen v plan) l refl h))
 
 -- ---- what a log ends
 

@@ -13,13 +13,14 @@ use Rattle.hba_commands.specs.Commands.{is_proper, total_at, total_if_sound}
 use Rattle.hba_commands.specs.Requests.{request_of, sectors, work_of}
 use Rattle.hba_commands.specs.Writing.{header_for, is_usable}
 use Rattle.hba_laws.proofs.KeptLemmas.{client_lens}
+use Rattle.hba_driver.specs.declared.mode.Mode.{Mode}
 use Rattle.hba_driver.specs.declared.request.Request.{Request}
 use Rattle.hba_driver.specs.declared.request.Work.{Work}
 use Rattle.hba_driver.specs.declared.request.Work.TheVariants as work
 use Rattle.hba_driver.specs.declared.slot.Phase.{Phase}
 use Rattle.hba_driver.specs.Drivers.{Driver, Entry, entry_at, rephased}
 use Rattle.hba_driver.specs.Effects.{table_of}
-use Rattle.hba_driver.specs.Events.{IsSoundHost, events_over, shared_by}
+use Rattle.hba_driver.specs.Events.{IsSoundHostIn, events_over, shared_by}
 use Rattle.hba_driver.specs.HostTurns.{Does, DoesAll, Host, HostTurn, Took, Pushed, Ticked, Submitted, Polled, Put}
 use Rattle.hba_driver.specs.Orders.{is_flush, is_queued, request_fields, work_fields}
 use Rattle.hba_driver.specs.Requests.{is_bad_prd}
@@ -211,7 +212,7 @@ module _ (old : Host) (dev : ℕ) (request : Request) (ticket : ℕ) (new : Host
 
 -- ---- over a turn
 
-client_turn : (old : Host) (t : HostTurn) (new : Host) → Does old t new → IsSoundHost old → length new.memory.client ≡ length old.memory.client
+client_turn : {mode : Mode} (old : Host) (t : HostTurn) (new : Host) → Does old t new → IsSoundHostIn mode old → length new.memory.client ≡ length old.memory.client
 client_turn old t new h sound =
     let one : DoesAll old (t ∷ []) new = (new, h, refl) in
     client_lens (shared_by old) (shared_by new) (events_over old new (t ∷ []) one) (turns_are_events old new (t ∷ []) one sound).runs
@@ -226,7 +227,7 @@ fit_fresh_at old (Ticked a) new h long s f is = absurd is
 fit_fresh_at old (Polled c) new h long s f is = absurd is
 fit_fresh_at old (Put at bytes) new h long s f is = absurd is
 
-pub fit_turn : (old : Host) (t : HostTurn) (new : Host) → Does old t new → IsSoundHost old → IsSoundHost new → AreBounded old.driver → AreFit old.driver old.memory → AreFit new.driver new.memory
+pub fit_turn : {mode : Mode} (old : Host) (t : HostTurn) (new : Host) → Does old t new → IsSoundHostIn mode old → IsSoundHostIn mode new → AreBounded old.driver → AreFit old.driver old.memory → AreFit new.driver new.memory
 fit_turn old t new h sound next bounded fit s f here = elim (comes_from old t new h s f here) [
   | inl stood ↦
       let e : Entry = stood.entry in

@@ -1,5 +1,5 @@
 -- A device that is flushed is not in software reset afterwards.
-use Rattle.std.proofs.Common.{◌≡◌, ℕ, ◌<◌, Bool, false, List, [], ◌∷◌, sym, subst, inl, inr, refl, Option, Some, None}
+use Rattle.std.proofs.Common.{◌≡◌, ℕ, ◌<◌, Bool, false, List, [], ◌∷◌, sym, subst, inl, inr, refl, Option, Some, None, ◌++◌}
 use Rattle.std.specs.Prelude.{MatchOption, ◌==◌}
 use Rattle.std.proofs.lemmas.Bool.{cases_eq}
 use Rattle.host_memory.specs.Memory.{Memory}
@@ -13,9 +13,10 @@ use Rattle.hba_fbs.specs.Views.{DeviceView, Port, stopped_view, view_of}
 use Rattle.hba_fbs.specs.Writing.{Accepts, cleared_by, is_device, view_after, write_refusal}
 use Rattle.hba_driver.specs.declared.effect.Effect.{Effect}
 use Rattle.hba_driver.specs.declared.effect.Effect.TheVariants as effect
+use Rattle.hba_driver.specs.declared.mode.Mode.{Mode}
 use Rattle.hba_driver.specs.declared.order.Order.TheVariants.{Clear}
 use Rattle.hba_driver.specs.declared.turn.Act.{Act}
-use Rattle.hba_driver.specs.Effects.{Acts, ActsAll, Tries, effects_of, order_command, order_effects}
+use Rattle.hba_driver.specs.Effects.{Acts, ActsAll, Tries, effects_of, emptying, order_command, order_effects}
 use Rattle.hba_driver.specs.HostTurns.{Does, Host, Ticked}
 use Rattle.hba_driver.specs.Steady.{IsFlushTick}
 use Rattle.hba_driver.specs.Tended.{IsUnreset}
@@ -69,12 +70,12 @@ effects_off n (e ∷ es) old new before after below off acts =
 
 -- ---- its flush ends a reset
 
-cleared_off : (n : ℕ) (old new : Port) (before after : Memory) → n < 16 → ActsAll (order_effects (Clear n)) old before new after → Off (view_of n new)
+cleared_off : (n : ℕ) (mode : Mode) (old new : Port) (before after : Memory) → n < 16 → ActsAll (order_effects mode (Clear n)) old before new after → Off (view_of n new)
 unfolding ActsAll order_effects
-cleared_off n old new before after below acts =
-    effects_off n (effect.Empties n ∷ order_command (Clear n)) acts.0 new acts.1 after below (subst Off (sym acts.2.0.own) refl) acts.4
+cleared_off n mode old new before after below acts =
+    effects_off n (emptying mode n ++ order_command mode (Clear n)) acts.0 new acts.1 after below (subst Off (sym acts.2.0.own) refl) acts.4
 
 pub flush_unreset : (n : ℕ) (old : Host) (a : Bool) (new : Host) → n < 16 → Does old (Ticked a) new → IsFlushTick n old → IsUnreset n new
 unfolding effects_of
 flush_unreset n old a new below does is =
-    cleared_off n old.port new.port old.memory new.memory below (subst (λ (x : Option Act). ActsAll (effects_due x) old.port old.memory new.port new.memory) is does.does)
+    cleared_off n old.driver.plan.mode old.port new.port old.memory new.memory below (subst (λ (x : Option Act). ActsAll (effects_due old.driver.plan.mode x) old.port old.memory new.port new.memory) is does.does)

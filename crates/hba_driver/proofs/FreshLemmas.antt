@@ -20,6 +20,7 @@ use Rattle.hba_fbs.specs.Offsets.{register_at}
 use Rattle.hba_fbs.specs.Views.{Port, last_command}
 use Rattle.hba_fbs.specs.Writing.{commands_after}
 use Rattle.hba_laws.proofs.ViewLemmas.{own_in}
+use Rattle.hba_driver.specs.declared.mode.Mode.TheVariants.{Switching}
 use Rattle.hba_driver.specs.Effects.{ActsAll, prds_with, sending, table_of}
 use Rattle.hba_driver.specs.Known.{is_identify}
 use Rattle.hba_driver.specs.Orders.{identify_fields}
@@ -70,7 +71,7 @@ module _ (dev : ℕ) (old new : Port) (before after : Memory) (below : dev < 15)
   abbrev Fields : H2dFields
   Fields = identify_fields dev
 
-  pub fresh_identify : ActsAll (sending 30 dev (identify_fields dev) true) old before new after → IsAwaited dev new
+  pub fresh_identify : ActsAll (sending Switching 30 dev (identify_fields dev) true) old before new after → IsAwaited dev new
   unfolding ActsAll register_at commands_after work_of
   fresh_identify acts =
       let w = acts.2.1.structure in
@@ -86,15 +87,15 @@ module _ (dev : ℕ) (old new : Port) (before after : Memory) (below : dev < 15)
       let none1 : acts.0.registers.armed ≡ 0 = ap (λ (p : Port). p.registers.armed) acts.2.0 ∙ none in
       let free1 : issue_at acts.0.slots 30 ≡ None = ap (λ (p : Port). issue_at p.slots 30) acts.2.0 ∙ free in
       let low : dev < 16 = omega (arith, below) in
-      let i : Issues 30 dev false Fields acts.0 acts.1 new after acts.4 = issuing_taken 30 dev false (prds_with true) Fields acts.0 new acts.1 after (omega arith) low up1 none1 free1 placed acts.4 in
+      let i : Issues Switching 30 dev false Fields acts.0 acts.1 new after acts.4 = issuing_taken Switching 30 dev false (prds_with true) Fields acts.0 new acts.1 after (omega arith) low up1 acts.3.table (λ on. absurd (cc)) none1 free1 placed acts.4 in
       let b = acts.4 in
       let f = fbs_step dev acts.0 b.0 acts.1 b.1 low up1 b.2 in
       let unarmed : b.0.registers.armed ≡ 0 = f.2 ∙ none1 in
-      let ready : Ready 30 dev (prds_with true) Fields b.0 b.1 = record {
+      let ready : Ready Switching 30 dev (prds_with true) Fields b.0 b.1 = record {
         below = omega arith;
         dev_below = low;
         up = f.0.up;
-        chosen = f.1;
+        aims = f.1;
         free = same_free acts.0 b.0 30 b.3.table f.0.views free1;
         placed = placed_as 30 dev (prds_with true) Fields false (has_bit b.0.registers.armed 30) acts.1 b.1 (no_bit b.0.registers.armed 30 unarmed) b.2.1 placed;
       } in
@@ -105,11 +106,11 @@ module _ (dev : ℕ) (old new : Port) (before after : Memory) (below : dev < 15)
         | inl taken ↦
             let is : last_command b.4.0.commands 30 ≡ Some (command_placed 30 (prds_with true) Fields b.1) =
             ap (λ (c : List (Option Command)). last_command c 30) taken.accepts.commands
-            ∙ last_asked (asked b.0.registers b.1 (2 ^ 30)) b.0.commands (command_placed 30 (prds_with true) Fields b.1) (asks 30 dev (prds_with true) Fields b.0 b.1 ready)
+            ∙ last_asked (asked b.0.registers b.1 (2 ^ 30)) b.0.commands (command_placed 30 (prds_with true) Fields b.1) (asks Switching 30 dev (prds_with true) Fields b.0 b.1 ready)
             (λ gone. there (ap (λ (c : List (Option Command)). last_command c 30) taken.accepts.commands ∙ gone)) in
             ap is_identify is ∙ identify_named dev b.1.structure (table_of 30) (command_placed 30 (prds_with true) Fields b.1) refl ready.placed.request_is
         | inr refused ↦
-            let wrong = sym refused.is ∙ ci_taken 30 dev (prds_with true) Fields b.0 b.1 ready in absurd (cc)
+            let wrong = sym refused.is ∙ ci_taken Switching 30 dev (prds_with true) Fields b.0 b.1 ready in absurd (cc)
       ] in
       record {
         own = record { issue = new_issue dev (work_of (request_of Fields)); is = i.issued; pio = refl; short = not_whole 128 511 };

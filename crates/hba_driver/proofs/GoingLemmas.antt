@@ -37,31 +37,34 @@ use Rattle.hba_laws.specs.Isolation.{fails_by_bus}
 use Rattle.hba_laws.proofs.SpareLemmas.{spared_tables_read}
 use Rattle.hba_driver.specs.declared.effect.Effect.{Effect}
 use Rattle.hba_driver.specs.declared.effect.Effect.TheVariants as effect
+use Rattle.hba_driver.specs.declared.mode.Mode.TheVariants.{Switching}
 use Rattle.hba_driver.specs.declared.order.Order as own_order
 use Rattle.hba_driver.specs.declared.order.Order.TheVariants.{Clear}
 use Rattle.hba_driver.specs.declared.path.TaskFile.{TaskFile}
 use Rattle.hba_driver.specs.declared.plan.Plan.{Plan}
+use Rattle.hba_driver.specs.declared.sight.Sight.{Sight}
 use Rattle.hba_driver.specs.declared.turn.Act.{Act}
 use Rattle.hba_driver.specs.declared.turn.Act.TheVariants as act
 use Rattle.hba_driver.specs.Drivers.{Driver}
 use Rattle.hba_driver.specs.Effects.{Acts, ActsAll, Tries}
-use Rattle.hba_driver.specs.Events.{events_over, opening_host, shared_by}
+use Rattle.hba_driver.specs.Events.{IsSoundHost, events_over, opening_host, shared_by}
 use Rattle.hba_driver.specs.HostTurns.{Does, DoesAll, Host, HostTurn, Took, Pushed, Ticked, Submitted, Polled, Put, sight_in}
 use Rattle.hba_driver.specs.Served.{RunServes}
 use Rattle.hba_driver.specs.Sights.{file_shown, shown, sight_of}
 use Rattle.hba_driver.specs.Submits.{after_poll, lowest_ended}
 use Rattle.hba_driver.specs.Ticks.{acted, after_tick, due, effects, from_reset, ordered, plan_after, recovering, seen, turn}
+use Rattle.hba_driver.specs.Going.{AreOfControl, GoesOn, IsOfControl, NothingStops, PortsGoOn, leaves_port}
 use Rattle.hba_driver.proofs.AcceptLemmas.{IsOnWay, way_opens, way_turn}
 use Rattle.hba_driver.proofs.DrivenLemmas.{tried_at}
 use Rattle.hba_driver.proofs.DueLemmas.{Due, goes_turn}
 use Rattle.hba_driver.proofs.LifeLemmas.{due_seen}
+use Rattle.hba_driver.proofs.PageLemmas.{page_turn}
+use Rattle.hba_driver.proofs.ReadLemmas.{HasPage, can_read}
 use Rattle.hba_driver.proofs.RowMode.{faultless_as, spares_as, started_mode}
 use Rattle.hba_driver.proofs.ServedLemmas.{turns_serve}
 use Rattle.hba_driver.proofs.StopLemmas.{either}
-use Rattle.hba_driver.specs.Going.{AreOfControl, GoesOn, IsOfControl, NothingStops, PortsGoOn, leaves_port}
-use Rattle.hba_driver.proofs.PageLemmas.{page_turn}
-use Rattle.hba_driver.proofs.ReadLemmas.{HasPage, can_read}
 use Rattle.hba_driver.proofs.StopLemmas.{nothing_stops}
+use Rattle.hba_driver.proofs.SwitchLemmas.{sight_is}
 
 -- ---- bit HBFS, 29, of PxIS
 
@@ -192,10 +195,13 @@ acts_calm (e ∷ es) old new before after h is = acts_calm es h.0 new h.1 after 
 quiet_bit : (n : ℕ) → NoFatal n → has_bit n 29 ≡ false
 quiet_bit n h = ap (λ (k : ℕ). k == 1) h
 
-pub never_stopped : (port : Port) (memory : Memory) → IsCalm port → (sight_of port memory).stopped ≡ false
+never_stopped : (port : Port) (memory : Memory) → IsCalm port → (sight_of Switching port memory).stopped ≡ false
 unfolding sight_of shown value_of register_at
 never_stopped port memory is =
     ap (λ (b : Bool). b && not (has_bit (shown port 0x40) 2)) (quiet_bit (bit_or port.registers.interrupts (bit ufs port.registers.unknown)) (or_none _ _ is.quiet (bit_low 4 port.registers.unknown refl)))
+
+pub never_stops : (h : Host) → IsSoundHost h → IsCalm h.port → (sight_in h).stopped ≡ false
+never_stops h s is = ap (λ (v : Sight). v.stopped) (sight_is h s) ∙ never_stopped h.port h.memory is
 
 -- an act that leaves the port does not have to start it again
 acted_restarted : (a : Option Act) (file : TaskFile) (d : Driver) → ((b : Act) → a ≡ Some b → leaves_port b) → (acted a file d).plan.restarted ≡ d.plan.restarted
@@ -213,12 +219,12 @@ acted_restarted (Some (act.Orders order)) file d leaves = by_order order
 acted_restarted (Some (act.Steps dev stage)) file d leaves = refl
 acted_restarted (Some (act.Issues slot dev queued)) file d leaves = refl
 
-module _ (h : Host) (calm : IsCalm h.port) (up : h.driver.plan.restarted ≡ 2) where
+module _ (h : Host) (s : IsSoundHost h) (calm : IsCalm h.port) (up : h.driver.plan.restarted ≡ 2) where
   seen_up : (seen (sight_in h) h.driver).plan.restarted ≡ 2
   seen_up = (goes_turn (sight_in h) h.driver.plan _).restarted ∙ up
 
   leaves_due : (a : Option Act) → Due (sight_in h) (seen (sight_in h) h.driver).plan (seen (sight_in h) h.driver).entries a → (b : Act) → a ≡ Some b → leaves_port b
-  leaves_due (Some act.Stops) known act.Stops is = absurd (true≢false (sym known ∙ never_stopped h.port h.memory calm))
+  leaves_due (Some act.Stops) known act.Stops is = absurd (true≢false (sym known ∙ never_stops h s calm))
   leaves_due (Some (act.Restarts k)) known (act.Restarts n) is = absurd (omega (arith, known.1, seen_up))
   leaves_due a known (act.Opens k) is = tt
   leaves_due a known (act.Clears dev) is = tt
@@ -274,8 +280,8 @@ up_turn old (Took frame report) new h g = ap (λ (d : Driver). d.plan.restarted)
 up_turn old (Pushed frame) new h g = ap (λ (d : Driver). d.plan.restarted) h.driver ∙ g.up
 up_turn old (Ticked a) new h g =
     ap (λ (d : Driver). d.plan.restarted) h.driver
-    ∙ acted_restarted (due (sight_in old) old.driver) (file_shown new.port) (seen (sight_in old) old.driver) (leaves old g.calm g.up)
-    ∙ seen_up old g.calm g.up
+    ∙ acted_restarted (due (sight_in old) old.driver) (file_shown new.port) (seen (sight_in old) old.driver) (leaves old g.way.sound g.calm g.up)
+    ∙ seen_up old g.way.sound g.calm g.up
 up_turn old (Submitted dev request ticket) new h g = ap (λ (d : Driver). d.plan.restarted) h.taken.driver ∙ g.up
 up_turn old (Polled c) new h g = ap (λ (d : Driver). d.plan.restarted) h.driver ∙ poll_up old.driver ∙ g.up
 up_turn old (Put at bytes) new h g = ap (λ (d : Driver). d.plan.restarted) h.driver ∙ g.up
@@ -304,7 +310,7 @@ pub going_opens : (given len : ℕ) → is_memory_size len ≡ true → IsGoing 
 going_opens given len right =
     let first : IsOnWay (opening_host given len) = way_opens given len right in
     record {
-      way = record { sound = first.sound; past = []; served = turns_serve.opens given len right; unarmed = first.unarmed; fit = first.fit };
+      way = record { sound = first.sound; past = []; served = turns_serve.opens Switching given len right; unarmed = first.unarmed; fit = first.fit };
       tables = λ n below s t command is last. absurd (cc);
       page = λ path here out reads. absurd (cc);
       calm = record { faultless = refl; quiet = refl };
@@ -326,7 +332,7 @@ going_over (t ∷ turns) old new run g of =
     going_over turns run.0 new run.2 (going_turn old t run.0 run.1 g parts.0) parts.1
 
 pub goes_on : (h : Host) → IsGoing h → GoesOn h
-goes_on h g = record { faultless = g.calm.faultless; next = stops_none h g; ticks = leaves h g.calm g.up }
+goes_on h g = record { faultless = g.calm.faultless; next = stops_none h g; ticks = leaves h g.way.sound g.calm g.up }
 
 pub ports_go_on : PortsGoOn
 ports_go_on given len right turns h run of = goes_on h (going_over turns (opening_host given len) h run (going_opens given len right) of)

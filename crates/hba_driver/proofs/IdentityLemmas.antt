@@ -225,13 +225,18 @@ stays_data own state sound count = by_context own.context refl
         (stays_if own (not sound) _ _ (λ none short. short)
         (stays_if own (nat_lt c.left count) _ _ (λ none short. short) (stays_bytes own state count c state.block (c.left == count) is)))
 
+-- the mark of a signature changes no slot
+stays_signing : (own : DeviceSlots) (f : List ℕ) (h : Heard) → Stays own h → Stays own (hearing.signing f h)
+stays_signing own f h stays = stays
+
 pub stays_heard : (own : DeviceSlots) (state : DeviceState) (sound : Bool) (fis : Fis) → Stays own (heard_fis own state sound fis)
 unfolding heard_fis
 stays_heard own state sound (view.RegH2D f) = λ none short. short
 stays_heard own state sound (view.RegD2H f) =
-    stays_if own state.resetting _ _ (λ none short. short)
+    stays_signing own f (heard_register own state (field table.D2h table.Status f) (field table.D2h table.Error f))
+    (stays_if own state.resetting _ _ (λ none short. short)
     (stays_if own (is_error (field table.D2h table.Status f)) _ _ (λ none short. short)
-    (stays_if own (is_busy (field table.D2h table.Status f)) _ _ (λ none short. short) (λ none short. short_answered own short)))
+    (stays_if own (is_busy (field table.D2h table.Status f)) _ _ (λ none short. short) (λ none short. short_answered own short))))
 stays_heard own state sound (view.SetBits f) =
     stays_if own (is_error (field table.Bits table.Status f)) _ _ (λ none short. short) (λ none short. short_named own (field table.Bits table.SActive f) short)
 stays_heard own state sound (view.DmaActivate f) = stays_if own (may_activate own.context) _ _ (λ none short. short_activated own short) (λ none short. short)

@@ -20,6 +20,7 @@ use Rattle.hba_laws.proofs.SoundLemmas.{sizes_stay}
 use Rattle.hba_laws.proofs.ViewLemmas.{own_in}
 use Rattle.hba_driver.specs.declared.effect.Effect.{Effect}
 use Rattle.hba_driver.specs.declared.effect.Effect.TheVariants as effect
+use Rattle.hba_driver.specs.declared.mode.Mode.{Mode}
 use Rattle.hba_driver.specs.declared.path.Stage.{Stage}
 use Rattle.hba_driver.specs.declared.path.Stage.TheVariants.{Identify, ReadLog, AssertReset, ReleaseReset, AwaitReset}
 use Rattle.hba_driver.specs.declared.path.TaskFile.{TaskFile}
@@ -28,7 +29,7 @@ use Rattle.hba_driver.specs.declared.request.Request.{Request}
 use Rattle.hba_driver.specs.declared.sight.Sight.{Sight}
 use Rattle.hba_driver.specs.Drivers.{Driver, Entry, entry_at}
 use Rattle.hba_driver.specs.Effects.{Acts, ActsAll, prds_with}
-use Rattle.hba_driver.specs.Events.{IsSoundHost, events_over, shared_by}
+use Rattle.hba_driver.specs.Events.{IsSoundHostIn, events_over, shared_by}
 use Rattle.hba_driver.specs.HostTurns.{Does, DoesAll, Host, HostTurn, Took, Pushed, Ticked, Submitted, Polled, Put, sight_in}
 use Rattle.hba_driver.specs.Paths.{reads_page}
 use Rattle.hba_driver.specs.Requests.{is_bad_prd}
@@ -90,7 +91,7 @@ good_turn old (Polled c) new h = good_poll (end_of old.memory) c old.driver new.
 good_turn old (Put at bytes) new h = good_same (end_of old.memory) old.driver new.driver h.driver
 
 -- memory keeps its size
-pub as_long : (old : Host) (turns : List HostTurn) (new : Host) → DoesAll old turns new → IsSoundHost old → length new.memory.client ≡ length old.memory.client
+pub as_long : {mode : Mode} (old : Host) (turns : List HostTurn) (new : Host) → DoesAll old turns new → IsSoundHostIn mode old → length new.memory.client ≡ length old.memory.client
 as_long old turns new run sound =
     let e = turns_are_events old new turns run sound in
     (sizes_stay (shared_by old) (shared_by new) (events_over old new turns run) e.runs e.sound.hosts).1
@@ -110,7 +111,7 @@ acts_client (e ∷ es) old before new after acts = acts_client es acts.0 acts.1 
 pub tick_client : (old : Host) (acted : Bool) (new : Host) → Does old (Ticked acted) new → new.memory.client ≡ old.memory.client
 tick_client old acted new does = acts_client (effects (sight_in old) old.driver) old.port old.memory new.port new.memory does.does
 
-good_over : (turns : List HostTurn) (old new : Host) → DoesAll old turns new → IsSoundHost old → HaveGoodPrds (end_of old.memory) old.driver → HaveGoodPrds (end_of new.memory) new.driver
+good_over : {mode : Mode} (turns : List HostTurn) (old new : Host) → DoesAll old turns new → IsSoundHostIn mode old → HaveGoodPrds (end_of old.memory) old.driver → HaveGoodPrds (end_of new.memory) new.driver
 good_over [] old new run sound good = subst (λ (h : Host). HaveGoodPrds (end_of h.memory) h.driver) (sym run) good
 good_over (t ∷ turns) old new run sound good =
     let one : DoesAll old (t ∷ []) run.0 = (run.0, run.1, refl) in
@@ -125,7 +126,7 @@ no_request s e h = elim (cases_lt s 30) [
 ]
 
 -- the same over all turns of a driver that begins without requests
-pub good_since : (turns : List HostTurn) (old new : Host) → DoesAll old turns new → IsSoundHost old → old.driver.entries ≡ replicate 30 None → HaveGoodPrds (end_of new.memory) new.driver
+pub good_since : {mode : Mode} (turns : List HostTurn) (old new : Host) → DoesAll old turns new → IsSoundHostIn mode old → old.driver.entries ≡ replicate 30 None → HaveGoodPrds (end_of new.memory) new.driver
 good_since turns old new run sound none =
     good_over turns old new run sound (λ s e here. no_request s e (ap (λ (entries : List (Option Entry)). entry_at entries s) (sym none) ∙ here))
 
@@ -155,7 +156,7 @@ step_inside len AssertReset least = tt
 step_inside len ReleaseReset least = tt
 step_inside len AwaitReset least = tt
 
-pub issue_inside : (h : Host) (n s : ℕ) (t : Transfer) → IsSoundHost h → HaveGoodPrds (end_of h.memory) h.driver → From h.driver n s t → AreInside (length h.memory.client) t.table
+pub issue_inside : {mode : Mode} (h : Host) (n s : ℕ) (t : Transfer) → IsSoundHostIn mode h → HaveGoodPrds (end_of h.memory) h.driver → From h.driver n s t → AreInside (length h.memory.client) t.table
 issue_inside h n s t sound good (inl r) =
     subst (AreInside (length h.memory.client)) (sym r.table) (inside_all (length h.memory.client) r.entry.prds (good s r.entry r.stands))
 issue_inside h n s t sound good (inr (inl i)) =

@@ -26,11 +26,13 @@ use Rattle.hba_laws.proofs.ClientLemmas.{histories_step}
 use Rattle.hba_laws.proofs.SpareLemmas.{NoneIssues, was_there}
 use Rattle.hba_laws.proofs.ViewLemmas.{own_here, own_in}
 use Rattle.hba_laws.proofs.WithinLemmas.{the_transfer}
+use Rattle.hba_driver.specs.declared.mode.Mode.{Mode}
+use Rattle.hba_driver.specs.declared.mode.Mode.TheVariants.{Switching, CommandBased}
 use Rattle.hba_driver.specs.Drivers.{Driver, Entry}
 use Rattle.hba_driver.specs.Effects.{table_of}
 use Rattle.hba_driver.specs.Laws.{Stands}
 use Rattle.hba_driver.specs.Orders.{request_fields}
-use Rattle.hba_driver.specs.Served.{HasCommand, HaveCommands, IsServed}
+use Rattle.hba_driver.specs.Served.{AreOfOne, HasCommand, HaveCommands, IsServed}
 
 -- ---- lists of events that serve
 
@@ -126,6 +128,11 @@ spares_by d a b past served long same s command busy is =
 
 -- ---- an event that issues nothing
 
+-- if nothing more is issued, all is issued to one device still
+pub one_still : (mode : Mode) (p q : Touches) → ((n s : ℕ) (t : Transfer) → issued s (own n q) ≡ Some t → issued s (own n p) ≡ Some t) → AreOfOne mode p → AreOfOne mode q
+one_still Switching p q back one = tt
+one_still CommandBased p q back one n m s r t u here there = one n m s r t u (back n s t here) (back m r u there)
+
 pub calm_event : (d : Driver) (a b : event.Host) (e : HostEvent) (past : Touches) → sound.IsHost a → IsFramed e → event.Does a e b → NoneIssues (touched a e) → b.port.commands ≡ a.port.commands → HaveCommands d b.memory
     → IsServed d a past → IsServed d b (touched a e ++ past)
 calm_event d a b e past host framed does none commands stand served = record {
@@ -134,5 +141,6 @@ calm_event d a b e past host framed does none commands stand served = record {
   commands = stand;
   issues = λ n s t here. served.issues n s t (was_there n s (touched a e) past t none here);
   fises = λ n s t command here is. served.fises n s t command (was_there n s (touched a e) past t none here) (ap (λ c. last_command c s) (sym commands) ∙ is);
+  one = one_still d.plan.mode past (touched a e ++ past) (λ n s t here. was_there n s (touched a e) past t none here) served.one;
   tables = λ s command is. served.tables s command (ap (λ c. last_command c s) (sym commands) ∙ is);
 }

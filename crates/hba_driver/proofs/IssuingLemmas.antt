@@ -21,17 +21,19 @@ use Rattle.hba_commands.specs.Commands.{cfis_at, command_at, command_in, command
 use Rattle.hba_commands.specs.Headers.{header_at}
 use Rattle.hba_commands.specs.Requests.{request_at, request_of, work_of}
 use Rattle.hba_commands.specs.Writing.{header_for}
-use Rattle.slots.specs.Slots.{Issue, has_bit, issue_at, lowest, own_issue, slots_of}
+use Rattle.slots.specs.Slots.{Issue, has_bit, issue_at, lowest, owned_by, own_issue, slots_of}
+use Rattle.slots.specs.Slots.{holds as issue_holds}
 use Rattle.slots.specs.declared.work.Work.{Work}
 use Rattle.slots.proofs.MaskLemmas.{none_below}
 use Rattle.hba_fbs.specs.declared.error.WriteError.{WriteError}
 use Rattle.hba_fbs.specs.declared.error.WriteError.TheVariants as refusal
 use Rattle.hba_fbs.specs.declared.register.Register.TheVariants.{Ci}
-use Rattle.hba_fbs.specs.Issuing.{aimed, any_beside, any_slot, asked, commands_with, is_bad, is_busy, named_in, names_other}
+use Rattle.hba_fbs.specs.Issuing.{aimed, any_beside, any_slot, asked, commands_with, is_bad, is_beside, is_busy, named_in, names_other}
 use Rattle.hba_fbs.specs.Registers.{own_refusal}
 use Rattle.hba_fbs.specs.Tables.{is_readable, prds_of}
 use Rattle.hba_fbs.specs.Views.{Port, last_command}
 use Rattle.hba_fbs.specs.Writing.{apart_refusal, commands_after, is_apart, refusal_of, slots_refusal}
+use Rattle.hba_fbs.proofs.SlotLemmas.{own_at}
 use Rattle.hba_laws.specs.Agreement.{AreHistoriesOf, work_of_issue, work_of_transfer}
 use Rattle.hba_laws.specs.Client.{IsKept, Touches, own}
 use Rattle.hba_laws.specs.Delivering.{issued_below, issued_in, touched}
@@ -48,7 +50,10 @@ use Rattle.hba_driver.specs.Drivers.{Driver, Entry, entry_at}
 use Rattle.hba_driver.specs.Effects.{table_of}
 use Rattle.hba_driver.specs.Orders.{request_fields}
 use Rattle.hba_driver.specs.Paths.{stage_fields}
-use Rattle.hba_driver.specs.Served.{HasItsTable, HaveCommands, IsBuiltOf, IsFisOf, IsIssueOf, IsOrdered, IsRequest, IsServed, IsStep}
+use Rattle.hba_driver.specs.declared.mode.Mode.{Mode}
+use Rattle.hba_driver.specs.declared.mode.Mode.TheVariants.{Switching, CommandBased}
+use Rattle.hba_driver.specs.Modes.{is_switching}
+use Rattle.hba_driver.specs.Served.{AreOfOne, HasItsTable, HaveCommands, IsBuiltOf, IsFisOf, IsIssueOf, IsOrdered, IsRequest, IsServed, IsStep}
 
 -- ---- the command that stands in a slot
 
@@ -359,8 +364,29 @@ pmp_is : (structure : List ℕ) (clb slot table count dev : ℕ) (fields : H2dFi
     → (header_at structure clb slot).pmp ≡ dev
 pmp_is structure clb slot table count dev fields list h to = rw (list, h) to
 
+-- what is a device's names it
+owned_dev : (n : ℕ) (o : Option Issue) (i : Issue) → owned_by n o ≡ Some i → i.dev ≡ n
+owned_dev n None i e = cc
+owned_dev n (Some x) i e = by_test (x.dev == n) refl e
+  where
+    by_test : (b : Bool) → (x.dev == n) ≡ b → (if b then Some x else None) ≡ Some i → i.dev ≡ n
+    by_test true is e = ap (λ (y : Issue). y.dev) (sym (some_inj x i e)) ∙ equal_of x.dev n is
+    by_test false is e = cc
+
+-- an issue of the driver's is in a slot of the port
+pub slot_of_issue : (d : Driver) (n s : ℕ) (t : Transfer) → From d n s t → s < 32
+slot_of_issue d n s t (inl r) = omega (arith, r.slot)
+slot_of_issue d n s t (inr (inl i)) = omega (arith, i.slot)
+slot_of_issue d n s t (inr (inr o)) = omega (arith, o.slot)
+
+-- with command-based switching a write that is not refused issues beside no other device
+beside_none : (on zero beside : Bool) → on ≡ false → zero ≡ false → (not on && not zero && beside) ≡ false → beside ≡ false
+beside_none true zero beside off some h = absurd (true≢false off)
+beside_none false true beside off some h = absurd (true≢false some)
+beside_none false false beside off some h = h
+
 module _ (d : Driver) (a b : event.Host) (past : Touches) (slot dev : ℕ) (prds : List Prd) (fields : H2dFields) (below : slot < 32) (dev_below : dev < 16) (host : sound.IsHost a)
-    (list : a.port.registers.clb ≡ 0) (stands : Standing slot dev prds fields a.memory) (may : MayIssue d slot dev prds fields) (does : event.Does a (event.Wrote Ci (2 ^ slot)) b) (served : IsServed d a past) where
+    (list : a.port.registers.clb ≡ 0) (switches : a.port.registers.switching ≡ is_switching d.plan.mode) (stands : Standing slot dev prds fields a.memory) (may : MayIssue d slot dev prds fields) (does : event.Does a (event.Wrote Ci (2 ^ slot)) b) (served : IsServed d a past) where
   found : (s : ℕ) (command : Command) → asked a.port.registers a.memory (2 ^ slot) s ≡ Some command → (s ≡ slot) × Stood slot prds fields a.memory command
   found s command h =
       let is = asked_is a.port a.memory slot s command h in (
@@ -443,6 +469,38 @@ module _ (d : Driver) (a b : event.Host) (past : Touches) (slot dev : ℕ) (prds
         | inr old ↦ served.tables s command old
       ]
 
+  -- what is issued already is the device's
+  alone : d.plan.mode ≡ CommandBased → (n s : ℕ) (t : Transfer) → issued s (own n past) ≡ Some t → n ≡ dev
+  alone is n s t here =
+      let parts = or_parts (not a.port.registers.switching && not (2 ^ slot == 0) && any_beside a.port.slots (aimed a.port.registers a.memory.structure (2 ^ slot)))
+      (any_slot (2 ^ slot) (names_other a.port.registers a.memory.structure (aimed a.port.registers a.memory.structure (2 ^ slot)))) (apart_none a.port a.memory (2 ^ slot) (not_zero slot) does.0) in
+      let none : any_beside a.port.slots (aimed a.port.registers a.memory.structure (2 ^ slot)) ≡ false =
+      beside_none a.port.registers.switching (2 ^ slot == 0) (any_beside a.port.slots (aimed a.port.registers a.memory.structure (2 ^ slot))) (switches ∙ ap is_switching is) (not_zero slot) parts.0 in
+      by_issue (own_issue (slots_of n a.port.slots) s) refl none
+    where
+      by_issue : (o : Option Issue) → own_issue (slots_of n a.port.slots) s ≡ o → any_beside a.port.slots (aimed a.port.registers a.memory.structure (2 ^ slot)) ≡ false → n ≡ dev
+      by_issue None e none =
+          let bad : Some t.work ≡ None = sym (ap (option_map work_of_transfer) here) ∙ (served.told n (served.issues n s t here).dev).issued s ∙ ap (option_map work_of_issue) e in cc
+      by_issue (Some i) e none =
+          let at : issue_at a.port.slots s ≡ Some i = (own_in n s a.port.slots i e).1 in
+          let of_dev : i.dev ≡ n = owned_dev n (issue_at a.port.slots s) i (sym (own_at n a.port.slots s) ∙ e) in
+          let below : s < 32 = slot_of_issue d n s t (served.issues n s t here).from in
+          let test : is_beside a.port.slots (aimed a.port.registers a.memory.structure (2 ^ slot)) s ≡ false =
+          none_below (is_beside a.port.slots (aimed a.port.registers a.memory.structure (2 ^ slot))) 32 (not_some (lowest (is_beside a.port.slots (aimed a.port.registers a.memory.structure (2 ^ slot)))) none) s below in
+          let same : i.dev ≡ aimed a.port.registers a.memory.structure (2 ^ slot) =
+          equal_of i.dev (aimed a.port.registers a.memory.structure (2 ^ slot)) (not_not true (i.dev == aimed a.port.registers a.memory.structure (2 ^ slot)) refl (sym (ap (issue_holds (λ issue. not (issue.dev == aimed a.port.registers a.memory.structure (2 ^ slot)))) at) ∙ test)) in
+          sym of_dev ∙ same ∙ for_dev
+
+  owner : d.plan.mode ≡ CommandBased → (n s : ℕ) (t : Transfer) → issued s (own n (touched a (event.Wrote Ci (2 ^ slot)) ++ past)) ≡ Some t → n ≡ dev
+  owner is n s t at = elim (issued_cases (aimed a.port.registers a.memory.structure (2 ^ slot)) n a.memory (asked a.port.registers a.memory (2 ^ slot)) past s t at) [
+    | inl new ↦ sym new.0 ∙ for_dev
+    | inr old ↦ alone is n s t old
+  ]
+
+  one_in : (mode : Mode) → d.plan.mode ≡ mode → AreOfOne mode (touched a (event.Wrote Ci (2 ^ slot)) ++ past)
+  one_in Switching is = tt
+  one_in CommandBased is n m s r t u here there = owner is n s t here ∙ sym (owner is m r u there)
+
   pub ci_served : IsServed d b (touched a (event.Wrote Ci (2 ^ slot)) ++ past)
   ci_served = record {
     told = histories_step a host past served.told (event.Wrote Ci (2 ^ slot)) b tt does;
@@ -450,5 +508,6 @@ module _ (d : Driver) (a b : event.Host) (past : Touches) (slot dev : ℕ) (prds
     commands = subst (HaveCommands d) (sym does.2) served.commands;
     issues = issues_then;
     fises = fises_then;
+    one = one_in d.plan.mode refl;
     tables = tables_then;
   }

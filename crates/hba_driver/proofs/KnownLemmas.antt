@@ -29,9 +29,9 @@ use Rattle.hba_driver.specs.Drivers.{Driver, Entry, device_at, entry_at, is_issu
 use Rattle.hba_driver.specs.Orders.{order_fields}
 use Rattle.hba_driver.specs.Paths.{first_stage, next_stage, recovery, reset_if_there, stage_fields}
 use Rattle.hba_driver.specs.Ticks.{acted, after_tick, done_ended, entries_after, from_reset, is_aside_of, is_done, is_named_of, is_open, is_open_of, log_outcome, logged_ended, ordered, plan_after, recovering, removed, seen, stage_ended, turn, unless}
-use Rattle.hba_driver.specs.Turns.{advanced, answered, control_seen, detected, device_due, device_seen, early_due, fault_due, found_of, found_there, is_back, is_due, is_in_reset, is_ready, is_there, issue_of, may_issue, met, met_order}
+use Rattle.hba_driver.specs.Turns.{advanced, allowed, answered, control_seen, detected, device_due, device_or_request, device_seen, early_due, fault_due, found_of, found_there, is_back, is_due, is_in_reset, is_ready, is_there, issue_of, may_issue, met, met_order, order_allowed}
 use Rattle.hba_driver.specs.Turns.{met_path, met_stage, noted, opening_due, order_due, path_answered, path_due, path_to, request_due, restart_due, stage_due, stage_for, step_of, turn_of, with_next}
-use Rattle.hba_driver.proofs.DueLemmas.{Due, Waiting}
+use Rattle.hba_driver.proofs.DueLemmas.{Due, Waiting, allowed_keeps}
 use Rattle.hba_driver.proofs.LifeLemmas.{due_seen, entry_of_rephased}
 use Rattle.hba_driver.proofs.RequestLemmas.{set_cases}
 
@@ -296,6 +296,12 @@ fits_request n plan entries = by_lowest (lowest_below (λ slot. may_issue plan (
     by_lowest None = tt
     by_lowest (Some slot) = by_entry slot (entry_at entries slot)
 
+fits_allowed : (n : ℕ) (v : Sight) (plan : Plan) (entries : List (Option Entry)) (a : Option Act) → Fits n a → Fits n (allowed plan.mode v plan entries a)
+fits_allowed n v plan entries a h = allowed_keeps (Fits n) tt plan.mode v plan entries a h
+
+fits_device : (n : ℕ) (v : Sight) (plan : Plan) (entries : List (Option Entry)) → IsNew n plan → Fits n (device_or_request v plan entries)
+fits_device n v plan entries h = fits_or n _ _ (fits_allowed n v plan entries (device_due v plan) (fits_slot n v plan h)) (fits_allowed n v plan entries (request_due plan entries) (fits_request n plan entries))
+
 -- what the turn knows and does
 record TurnNew (n : ℕ) (t : Turn) : Type 0 where
   plan : IsNew n t.plan
@@ -309,8 +315,8 @@ new_turn : (n : ℕ) (v : Sight) (plan : Plan) (entries : List (Option Entry)) �
 unfolding turn_of
 new_turn n v plan entries back h =
     if_turn n (is_some (early_due v plan)) _ _ (record { plan = h; act = fits_early n v plan })
-    (if_turn n (is_some (order_due (control_seen v plan))) _ _ (record { plan = control; act = fits_order n (control_seen v plan) })
-    (record { plan = device; act = fits_or n (device_due v (device_seen v (control_seen v plan))) _ (fits_slot n v (device_seen v (control_seen v plan)) device) (fits_request n (device_seen v (control_seen v plan)) entries) }))
+    (if_turn n (is_some (order_allowed v (control_seen v plan) entries)) _ _ (record { plan = control; act = fits_allowed n v (control_seen v plan) entries (order_due (control_seen v plan)) (fits_order n (control_seen v plan)) })
+    (record { plan = device; act = fits_device n v (device_seen v (control_seen v plan)) entries device }))
   where
     control : IsNew n (control_seen v plan)
     control = new_control n v plan h

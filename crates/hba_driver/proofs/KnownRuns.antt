@@ -8,6 +8,8 @@ use Rattle.host_memory.specs.Memory.{is_memory_size}
 use Rattle.slots.specs.Slots.{Issue, has_bit, issue_at, match_some}
 use Rattle.hba_fbs.specs.Views.{Port}
 use Rattle.hba_laws.proofs.ViewLemmas.{own_in}
+use Rattle.hba_driver.specs.declared.mode.Mode.TheVariants.{Switching}
+use Rattle.hba_driver.specs.declared.mode.Mode.{Mode}
 use Rattle.hba_driver.specs.declared.order.Order.{Order}
 use Rattle.hba_driver.specs.declared.order.Order.TheVariants.{ResetOn, ResetOff, AwaitSignature, CountPorts, SetMask, Enable, Open, Scan, Clear, Detect, Watch}
 use Rattle.hba_driver.specs.declared.path.Path.{Path}
@@ -32,21 +34,23 @@ use Rattle.hba_driver.specs.Paths.{next_stage, stage_fields}
 use Rattle.hba_driver.specs.Sights.{file_shown}
 use Rattle.hba_driver.specs.Submits.{after_poll, lowest_ended, new_entry, next_slot}
 use Rattle.hba_driver.specs.Ticks.{acted, after_tick, done_ended, due, effects, effects_due, from_reset, ordered, plan_after, recovering, seen, turn, unless}
-use Rattle.hba_driver.specs.Turns.{advanced, control_seen, device_seen, early_due, is_back, met_path, met_stage, order_due, path_to, turn_of}
-use Rattle.hba_driver.proofs.ActLemmas.{here_act}
-use Rattle.hba_driver.proofs.PushedLemmas.{plain_at, request_known}
-use Rattle.hba_driver.proofs.DueLemmas.{Due, Runs, goes_turn, runs_turn}
+use Rattle.hba_driver.specs.Turns.{advanced, control_seen, device_seen, early_due, is_back, met_path, met_stage, order_allowed, path_to, turn_of}
 use Rattle.hba_driver.proofs.AcceptLemmas.{Goes, IsOnWay, free_here, goes_on, is_up, none_here, way_opens, way_turn}
+use Rattle.hba_driver.proofs.ActLemmas.{here_act}
 use Rattle.hba_driver.proofs.AwaitLemmas.{IsAwaited, awaited_pushed, awaited_took, here_effects}
 use Rattle.hba_driver.proofs.DoneLemmas as done
+use Rattle.hba_driver.proofs.DrivenLemmas.{not_below}
+use Rattle.hba_driver.proofs.DueLemmas.{Due, Runs, goes_turn, runs_turn}
 use Rattle.hba_driver.proofs.EndingLemmas.{MayClear, MayEnd, may_end}
 use Rattle.hba_driver.proofs.FreshLemmas.{fresh_identify}
 use Rattle.hba_driver.proofs.KnownLemmas.{IsUnknown, NoneIssued, comes_back, is_logging, is_named, is_reading, is_trusted, path_control, unknown_tick}
 use Rattle.hba_driver.proofs.LifeLemmas.{due_seen}
-use Rattle.hba_driver.proofs.DrivenLemmas.{not_below}
+use Rattle.hba_driver.proofs.OpenLemmas.{IsUpIn}
 use Rattle.hba_driver.proofs.OutLemmas.{kept_clear, kept_effects, kept_stopped, lasting_act, opening_is}
+use Rattle.hba_driver.proofs.PushedLemmas.{plain_at, request_known}
 use Rattle.hba_driver.proofs.RequestLemmas.{set_cases}
 use Rattle.hba_driver.proofs.ServeLemmas.{act_clears, cleared, ticks_serve}
+use Rattle.hba_driver.proofs.SwitchLemmas.{tick_acts}
 use Rattle.hba_driver.proofs.TickingLemmas.{free_slot}
 use Rattle.hba_driver.proofs.UpLemmas.{IsIssuedAt}
 
@@ -99,7 +103,7 @@ path_turn : (v : Sight) (plan : Plan) (entries : List (Option Entry)) (p : Path)
 unfolding turn_of
 path_turn v plan entries p asked =
     turn_if (is_some (early_due v plan)) _ _ (λ o. o ≡ Some p → plan.path ≡ Some p) (λ e. e)
-    (turn_if (is_some (order_due (control_seen v plan))) _ _ (λ o. o ≡ Some p → plan.path ≡ Some p) (λ e. sym (path_control v plan) ∙ e)
+    (turn_if (is_some (order_allowed v (control_seen v plan) entries)) _ _ (λ o. o ≡ Some p → plan.path ≡ Some p) (λ e. sym (path_control v plan) ∙ e)
     (λ e. sym (path_control v plan) ∙ path_seen v (control_seen v plan) p asked e))
 
 -- a path that an act leaves was there before, and is not of a device that is cleared
@@ -173,8 +177,8 @@ module _ (n : ℕ) (below : n < 15) (old new : Host) (w : IsOnWay old) where
   sixteen : n < 16
   sixteen = omega (arith, below)
 
-  flushes_none : (a : Act) → ((k : ℕ) → a ≡ act.Orders (Clear k) → n ≢ k) → list_any (flushes n) (effects_due (Some a)) ≡ false
-  flushes_none a orders = false_from_ne_true (list_any (flushes n) (effects_due (Some a))) (λ flushed. orders n (some_act a (act.Orders (Clear n)) (act_clears n (Some a) flushed)) refl)
+  flushes_none : (a : Act) → ((k : ℕ) → a ≡ act.Orders (Clear k) → n ≢ k) → list_any (flushes n) (effects_due Switching (Some a)) ≡ false
+  flushes_none a orders = false_from_ne_true (list_any (flushes n) (effects_due Switching (Some a))) (λ flushed. orders n (some_act a (act.Orders (Clear n)) (act_clears n (Some a) flushed)) refl)
     where
       some_act : (x y : Act) → Some x ≡ Some y → x ≡ y
       some_act x y e = cc
@@ -188,25 +192,25 @@ module _ (n : ℕ) (below : n < 15) (old new : Host) (w : IsOnWay old) where
 
   -- the same issue stays, unless the device or the port is cleared
   kept_issue : (a : Act) (i : Issue) → due v old.driver ≡ Some a → (a ≡ act.Stops → ⊥) → ((k : ℕ) → a ≡ act.Clears k → n ≢ k) → ((k : ℕ) → a ≡ act.Orders (Clear k) → n ≢ k)
-      → ActsAll (effects_due (Some a)) old.port old.memory new.port new.memory → IsIssuedAt old.port n 30 i → IsIssuedAt new.port n 30 i
+      → ActsAll (effects_due Switching (Some a)) old.port old.memory new.port new.memory → IsIssuedAt old.port n 30 i → IsIssuedAt new.port n 30 i
   unfolding effects_of ActsAll
   kept_issue (act.Opens k) i is stops clears orders acts here =
       let less : old.driver.plan.opened < 7 = opens_due k is in
       let stopped : old.port.registers.started ≡ false = w.sound.registers.stopped (omega (arith, less)) in
-      let there : IsIssuedAt acts.0 n 30 i = kept_stopped (opening_write k) old.port acts.0 old.memory acts.1 n 30 i (opening_is k) stopped sixteen acts.2 w.sound.ruled.table here in
+      let there : IsIssuedAt acts.0 n 30 i = kept_stopped (opening_write Switching k) old.port acts.0 old.memory acts.1 n 30 i (opening_is Switching k) stopped sixteen acts.2 w.sound.ruled.table here in
       subst (λ (p : Port). IsIssuedAt p n 30 i) (sym acts.4.0) there
   kept_issue act.Stops i is stops clears orders acts here = absurd (stops refl)
   kept_issue (act.Clears k) i is stops clears orders acts here =
-      let may : MayClear k old.port = subst (λ (a : Option Act). MayEnd a old.port) is (may_end old w.sound) in
+      let may : MayClear k old.port = (subst (λ (a : Option Act). MayEnd Switching a old.port) is (may_end old w.sound)).1 in
       kept_clear old.port new.port old.memory new.memory 30 n k i sixteen (clears k refl) may w.sound.ruled.table acts here
   kept_issue (act.Restarts k) i is stops clears orders acts here =
-      kept_effects (effects_due (Some (act.Restarts k))) old.port new.port old.memory new.memory n 30 i (lasting_act (Some (act.Restarts k)) refl (λ j e. absurd (cc))) (flushes_none (act.Restarts k) orders) sixteen acts w.sound.ruled.table here
+      kept_effects (effects_due Switching (Some (act.Restarts k))) old.port new.port old.memory new.memory n 30 i (lasting_act Switching (Some (act.Restarts k)) refl (λ j e. absurd (cc))) (flushes_none (act.Restarts k) orders) sixteen acts w.sound.ruled.table here
   kept_issue (act.Orders order) i is stops clears orders acts here =
-      kept_effects (effects_due (Some (act.Orders order))) old.port new.port old.memory new.memory n 30 i (lasting_act (Some (act.Orders order)) refl (λ j e. absurd (cc))) (flushes_none (act.Orders order) orders) sixteen acts w.sound.ruled.table here
+      kept_effects (effects_due Switching (Some (act.Orders order))) old.port new.port old.memory new.memory n 30 i (lasting_act Switching (Some (act.Orders order)) refl (λ j e. absurd (cc))) (flushes_none (act.Orders order) orders) sixteen acts w.sound.ruled.table here
   kept_issue (act.Steps dev stage) i is stops clears orders acts here =
-      kept_effects (effects_due (Some (act.Steps dev stage))) old.port new.port old.memory new.memory n 30 i (lasting_act (Some (act.Steps dev stage)) refl (λ j e. absurd (cc))) (flushes_none (act.Steps dev stage) orders) sixteen acts w.sound.ruled.table here
+      kept_effects (effects_due Switching (Some (act.Steps dev stage))) old.port new.port old.memory new.memory n 30 i (lasting_act Switching (Some (act.Steps dev stage)) refl (λ j e. absurd (cc))) (flushes_none (act.Steps dev stage) orders) sixteen acts w.sound.ruled.table here
   kept_issue (act.Issues slot dev queued) i is stops clears orders acts here =
-      kept_effects (effects_due (Some (act.Issues slot dev queued))) old.port new.port old.memory new.memory n 30 i (lasting_act (Some (act.Issues slot dev queued)) refl (λ j e. absurd (cc))) (flushes_none (act.Issues slot dev queued) orders) sixteen acts
+      kept_effects (effects_due Switching (Some (act.Issues slot dev queued))) old.port new.port old.memory new.memory n 30 i (lasting_act Switching (Some (act.Issues slot dev queued)) refl (λ j e. absurd (cc))) (flushes_none (act.Issues slot dev queued) orders) sixteen acts
       w.sound.ruled.table here
 
   slot_below : (slot dev : ℕ) (queued : Bool) → due v old.driver ≡ Some (act.Issues slot dev queued) → slot ≢ 30
@@ -216,24 +220,25 @@ module _ (n : ℕ) (below : n < 15) (old new : Host) (w : IsOnWay old) where
       absurd (omega (arith, less, same))
 
   kept_awaited : (a : Act) → due v old.driver ≡ Some a → (a ≡ act.Stops → ⊥) → ((k : ℕ) → a ≡ act.Clears k → n ≢ k) → ((k : ℕ) → a ≡ act.Orders (Clear k) → n ≢ k) → ((dev : ℕ) (stage : Stage) → a ≡ act.Steps dev stage → ⊥)
-      → ActsAll (effects_due (Some a)) old.port old.memory new.port new.memory → IsAwaited n old.port → IsAwaited n new.port
+      → ActsAll (effects_due Switching (Some a)) old.port old.memory new.port new.memory → IsAwaited n old.port → IsAwaited n new.port
   kept_awaited a is stops clears orders steps acts h = record {
     own = record { issue = h.own.issue; is = kept_issue a h.own.issue is stops clears orders acts h.own.is; pio = h.own.pio; short = h.own.short };
     command =
-        ap is_identify (here_effects (effects_due (Some a)) old.port new.port old.memory new.memory
+        ap is_identify (here_effects (effects_due Switching (Some a)) old.port new.port old.memory new.memory
         (here_act a steps (λ slot dev queued same. slot_below slot dev queued (is ∙ ap (λ (x : Act). Some x) same))) acts)
         ∙ h.command;
   }
 
   -- the tick that issues it
-  identify_due : due v old.driver ≡ Some (act.Steps n Identify) → ActsAll (effects_due (Some (act.Steps n Identify))) old.port old.memory new.port new.memory → IsAwaited n new.port
+  identify_due : due v old.driver ≡ Some (act.Steps n Identify) → ActsAll (effects_due Switching (Some (act.Steps n Identify))) old.port old.memory new.port new.memory → IsAwaited n new.port
   unfolding effects_of stage_fields
   identify_due is acts =
       let runs = subst (Runs old.driver.plan) is (runs_turn v old.driver.plan (done_ended v.issued old.driver.entries)) in
       let goes : Goes old = goes_on old w (not_below old.driver.plan.opened 7 runs.0) in
       let step = subst (Due v (seen v old.driver).plan (seen v old.driver).entries) is goes.due_is in
       let more = subst (Runs (seen v old.driver).plan) is goes.runs in
-      fresh_identify n old.port new.port old.memory new.memory below (is_up (seen v old.driver) old.port old.memory goes.knows more.1) w.unarmed
+      fresh_identify n old.port new.port old.memory new.memory below
+      (subst (λ (m : Mode). IsUpIn m old.port.registers) ((goes_turn v old.driver.plan (done_ended v.issued old.driver.entries)).mode ∙ w.sound.drives) (is_up (seen v old.driver) old.port old.memory goes.knows more.1)) w.unarmed
       (free_here (seen v old.driver) old.port old.memory goes.knows 30 (free_slot (seen v old.driver) n Identify step)) w.sound.memory acts
 
   -- ---- a tick, whatever it does
@@ -273,23 +278,23 @@ module _ (n : ℕ) (below : n < 15) (old new : Host) (w : IsOnWay old) where
       low : p.dev < 15
       low = omega (arith, dev, below)
 
-      by_leaves : (a : Act) → due v old.driver ≡ Some a → ActsAll (effects_due (Some a)) old.port old.memory new.port new.memory → Leaves a (seen v old.driver).plan p → IsAwaited n new.port
+      by_leaves : (a : Act) → due v old.driver ≡ Some a → ActsAll (effects_due Switching (Some a)) old.port old.memory new.port new.memory → Leaves a (seen v old.driver).plan p → IsAwaited n new.port
       by_leaves a is acts (Begins d stage begins path) =
           let to : d ≡ n = sym (ap (λ (x : Path). x.dev) path) ∙ dev in
           let of : stage ≡ Identify = named_is stage (ap (λ (x : Path). is_named x.stage) (sym path) ∙ named) in
           let is_act : a ≡ act.Steps n Identify = begins ∙ ap (λ (k : ℕ). act.Steps k stage) to ∙ ap (λ (s : Stage). act.Steps n s) of in
-          identify_due (is ∙ ap (λ (x : Act). Some x) is_act) (subst (λ (x : Act). ActsAll (effects_due (Some x)) old.port old.memory new.port new.memory) is_act acts)
+          identify_due (is ∙ ap (λ (x : Act). Some x) is_act) (subst (λ (x : Act). ActsAll (effects_due Switching (Some x)) old.port old.memory new.port new.memory) is_act acts)
       by_leaves a is acts (Keeps e stops clears orders steps) =
           kept_awaited a is stops (λ k same at. clears k same (dev ∙ at)) (λ k same at. orders k same (dev ∙ at)) steps acts (was e)
 
-      by_act : (o : Option Act) → (turn v old.driver).act ≡ o → (acted o file (seen v old.driver)).plan.path ≡ Some p → ActsAll (effects_due o) old.port old.memory new.port new.memory → IsAwaited n new.port
+      by_act : (o : Option Act) → (turn v old.driver).act ≡ o → (acted o file (seen v old.driver)).plan.path ≡ Some p → ActsAll (effects_due Switching o) old.port old.memory new.port new.memory → IsAwaited n new.port
       by_act None is here acts = subst (IsAwaited n) (sym acts.0) (was here)
       by_act (Some a) is here acts = by_leaves a is acts (leaves a file (seen v old.driver).plan p low here)
 
   unknown_ticked : (did : Bool) → Does old (Ticked did) new → HostUnknown n old → HostUnknown n new
   unknown_ticked did does h = record {
     driver = subst (IsUnknown n) (sym does.driver) (unknown_tick n v (file_shown new.port) old.driver (never_back h) h.driver);
-    awaits = subst (λ (d : Driver). Awaits n d.plan.path new.port) (sym does.driver) (awaits_then h (file_shown new.port) does.does);
+    awaits = subst (λ (d : Driver). Awaits n d.plan.path new.port) (sym does.driver) (awaits_then h (file_shown new.port) (tick_acts old did new does w.sound));
   }
 
   -- ---- the tick of its flush

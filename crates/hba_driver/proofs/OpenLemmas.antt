@@ -25,24 +25,31 @@ use Rattle.hba_fbs.specs.Sending.{Data, Gives, Nothing, Order, Outgoing, Unreada
 use Rattle.hba_fbs.specs.Taking.{admitted, heard_now, ignores, port_of, posted_of, settled}
 use Rattle.hba_fbs.specs.Views.{Port, view_of}
 use Rattle.hba_fbs.specs.Writing.{Accepts, refusal_of, slots_refusal, write_refusal}
+use Rattle.hba_driver.specs.declared.mode.Mode.{Mode}
+use Rattle.hba_driver.specs.declared.mode.Mode.TheVariants.{Switching, CommandBased}
 use Rattle.hba_driver.specs.Accepted.{IsAccepted}
 use Rattle.hba_driver.specs.Effects.{Acts, Tries, opening_write, restart_write}
 use Rattle.hba_driver.specs.Events.{AreDriven}
 use Rattle.hba_driver.specs.HostTurns.{Does, Host, Took}
+use Rattle.hba_driver.specs.Modes.{enabled, is_switching}
 use Rattle.hba_driver.proofs.DrivenLemmas.{past, refusal_is}
 
 -- ---- what the registers are
 
--- the port is open, and runs
-pub record IsUp (r : Registers) : Type 0 where
+-- the port is open, and runs in this mode
+pub record IsUpIn (mode : Mode) (r : Registers) : Type 0 where
   pub list : r.clb ≡ 0
   pub list_high : r.clbu ≡ 0
   pub area_high : r.fbu ≡ 0
-  pub switches : r.switching ≡ true
+  pub switches : r.switching ≡ is_switching mode
   pub receives : r.receives ≡ true
   pub starts : r.started ≡ true
 
-pub up_of : (n m : ℕ) (r : Registers) → 7 ≤ n → 2 ≤ m → AreDriven n m r → IsUp r
+-- the same with FIS-based switching
+abbrev pub IsUp : Registers → Type 0
+IsUp r = IsUpIn Switching r
+
+pub up_of : {mode : Mode} (n m : ℕ) (r : Registers) → 7 ≤ n → 2 ≤ m → AreDriven mode n m r → IsUpIn mode r
 up_of n m r least done d = record {
   list = d.commands;
   list_high = d.list_high (omega (arith, least));
@@ -77,7 +84,7 @@ stays_same r s is = record {
   armed = ap (λ (x : Registers). x.armed) is;
 }
 
-pub stays_driven : (n m : ℕ) (r s : Registers) → Stays r s → AreDriven n m r → AreDriven n m s
+pub stays_driven : {mode : Mode} (n m : ℕ) (r s : Registers) → Stays r s → AreDriven mode n m r → AreDriven mode n m s
 stays_driven n m r s k d = record {
   commands = k.list ∙ d.commands;
   list_high = λ h. k.list_high ∙ d.list_high h;
@@ -141,14 +148,14 @@ taken register offset value old new memory at free tries =
 -- ---- the writes that open the port, and start it again
 
 -- such a write is not refused; the registers are then as after one more write, and it sets no bit of PxSACT
-abbrev Step : (offset value n m : ℕ) → (old new : Port) → Memory → Type 0
-Step offset value n m old new memory = (write_refusal old memory offset value ≡ None) × AreDriven n m new.registers × (old.registers.armed ≡ 0 → new.registers.armed ≡ 0)
+abbrev Step : Mode → (offset value n m : ℕ) → (old new : Port) → Memory → Type 0
+Step mode offset value n m old new memory = (write_refusal old memory offset value ≡ None) × AreDriven mode n m new.registers × (old.registers.armed ≡ 0 → new.registers.armed ≡ 0)
 
-step : (register : Register) (offset value n m : ℕ) (old new : Port) (memory : Memory) → register_at offset ≡ Some register → refusal_of register old memory value ≡ None → Tries old memory offset value new
-    → AreDriven n m (written register old.registers value) → (old.registers.armed ≡ 0 → (written register old.registers value).armed ≡ 0) → Step offset value n m old new memory
-step register offset value n m old new memory at free tries next unarmed =
+step : (mode : Mode) (register : Register) (offset value n m : ℕ) (old new : Port) (memory : Memory) → register_at offset ≡ Some register → refusal_of register old memory value ≡ None → Tries old memory offset value new
+    → AreDriven mode n m (written register old.registers value) → (old.registers.armed ≡ 0 → (written register old.registers value).armed ≡ 0) → Step mode offset value n m old new memory
+step mode register offset value n m old new memory at free tries next unarmed =
     let accepts : Accepts old memory register value new = taken register offset value old new memory at free tries in
-    (refusal_is register offset value old memory at ∙ free, subst (AreDriven n m) (sym accepts.registers) next, λ none. ap (λ (r : Registers). r.armed) accepts.registers ∙ unarmed none)
+    (refusal_is register offset value old memory at ∙ free, subst (AreDriven mode n m) (sym accepts.registers) next, λ none. ap (λ (r : Registers). r.armed) accepts.registers ∙ unarmed none)
 
 idle : (b : Bool) → b ≡ false → option_or (running_if b) None ≡ None
 idle true h = absurd (true≢false h)
@@ -197,11 +204,16 @@ or_none : (o : Option WriteError) → o ≡ None → option_or o None ≡ None
 or_none None h = refl
 or_none (Some e) h = h
 
-pub opens_taken : (k m : ℕ) → k < 7 → (old new : Port) (before after : Memory) → Acts (opening_write k) old before new after → AreDriven k m old.registers
-    → IsAccepted (opening_write k) old before × AreDriven (k + 1) m new.registers × (old.registers.armed ≡ 0 → new.registers.armed ≡ 0)
+-- EN as it is written when the port opens
+en_opened : (mode : Mode) → has_bit (enabled mode) 0 ≡ is_switching mode
+en_opened Switching = refl
+en_opened CommandBased = refl
+
+pub opens_taken : (mode : Mode) (k m : ℕ) → k < 7 → (old new : Port) (before after : Memory) → Acts (opening_write mode k) old before new after → AreDriven mode k m old.registers
+    → IsAccepted (opening_write mode k) old before × AreDriven mode (k + 1) m new.registers × (old.registers.armed ≡ 0 → new.registers.armed ≡ 0)
 unfolding opening_write register_at written own_refusal slots_refusal
-opens_taken zero m less old new before after acts d =
-    step Clb 0 0 1 m old new before refl (idle old.registers.started (d.stopped (omega arith))) acts.0
+opens_taken mode zero m less old new before after acts d =
+    step mode Clb 0 0 1 m old new before refl (idle old.registers.started (d.stopped (omega arith))) acts.0
     (record {
       commands = refl;
       list_high = past 2 1 refl;
@@ -213,8 +225,8 @@ opens_taken zero m less old new before after acts d =
       stopped = λ h. d.stopped (omega arith);
       starts = past 7 1 refl;
     }) (λ none. none)
-opens_taken (suc zero) m less old new before after acts d =
-    step Clbu 4 0 2 m old new before refl (idle old.registers.started (d.stopped (omega arith))) acts.0
+opens_taken mode (suc zero) m less old new before after acts d =
+    step mode Clbu 4 0 2 m old new before refl (idle old.registers.started (d.stopped (omega arith))) acts.0
     (record {
       commands = d.commands;
       list_high = λ h. refl;
@@ -226,8 +238,8 @@ opens_taken (suc zero) m less old new before after acts d =
       stopped = λ h. d.stopped (omega arith);
       starts = past 7 2 refl;
     }) (λ none. none)
-opens_taken (suc (suc zero)) m less old new before after acts d =
-    step Fb 8 4096 3 m old new before refl (idle old.registers.receives (d.closed (omega arith))) acts.0
+opens_taken mode (suc (suc zero)) m less old new before after acts d =
+    step mode Fb 8 4096 3 m old new before refl (idle old.registers.receives (d.closed (omega arith))) acts.0
     (record {
       commands = d.commands;
       list_high = λ h. d.list_high (omega arith);
@@ -239,8 +251,8 @@ opens_taken (suc (suc zero)) m less old new before after acts d =
       stopped = λ h. d.stopped (omega arith);
       starts = past 7 3 refl;
     }) (λ none. none)
-opens_taken (suc (suc (suc zero))) m less old new before after acts d =
-    step Fbu 12 0 4 m old new before refl (idle old.registers.receives (d.closed (omega arith))) acts.0
+opens_taken mode (suc (suc (suc zero))) m less old new before after acts d =
+    step mode Fbu 12 0 4 m old new before refl (idle old.registers.receives (d.closed (omega arith))) acts.0
     (record {
       commands = d.commands;
       list_high = λ h. d.list_high (omega arith);
@@ -252,24 +264,24 @@ opens_taken (suc (suc (suc zero))) m less old new before after acts d =
       stopped = λ h. d.stopped (omega arith);
       starts = past 7 4 refl;
     }) (λ none. none)
-opens_taken (suc (suc (suc (suc zero)))) m less old new before after acts d =
-    step Fbs 64 1 5 m old new before refl (idle_and old.registers.started (not (beq (has_bit 1 0) old.registers.switching)) (d.stopped (omega arith))) acts.0
+opens_taken mode (suc (suc (suc (suc zero)))) m less old new before after acts d =
+    step mode Fbs 64 (enabled mode) 5 m old new before refl (idle_and old.registers.started (not (beq (has_bit (enabled mode) 0) old.registers.switching)) (d.stopped (omega arith))) acts.0
     (record {
       commands = d.commands;
       list_high = λ h. d.list_high (omega arith);
       area = λ h. d.area (omega arith);
       area_high = λ h. d.area_high (omega arith);
-      switches = λ h. refl;
+      switches = λ h. en_opened mode;
       closed = λ h. d.closed (omega arith);
       receives = past 6 5 refl;
       stopped = λ h. d.stopped (omega arith);
       starts = past 7 5 refl;
     }) (λ none. none)
-opens_taken (suc (suc (suc (suc (suc zero))))) m less old new before after acts d =
+opens_taken mode (suc (suc (suc (suc (suc zero))))) m less old new before after acts d =
     let r : Registers = old.registers in
     let free : cmd_refusal r false true ≡ None =
     cmd_is r false true ∙ fre_test r.receives (is_area_outside r) r.started (is_list_outside r) (d.closed (omega arith)) (area_inside r (d.area_high (omega arith)) (d.area (omega arith))) in
-    step Cmd 24 16 6 m old new before refl (or_none (cmd_refusal r false true) free) acts.0
+    step mode Cmd 24 16 6 m old new before refl (or_none (cmd_refusal r false true) free) acts.0
     (record {
       commands = d.commands;
       list_high = λ h. d.list_high (omega arith);
@@ -281,11 +293,11 @@ opens_taken (suc (suc (suc (suc (suc zero))))) m less old new before after acts 
       stopped = λ h. refl;
       starts = past 7 6 refl;
     }) (zero_either (falls r 16) r.armed)
-opens_taken (suc (suc (suc (suc (suc (suc zero)))))) m less old new before after acts d =
+opens_taken mode (suc (suc (suc (suc (suc (suc zero)))))) m less old new before after acts d =
     let r : Registers = old.registers in
     let free : cmd_refusal r true true ≡ None =
     cmd_is r true true ∙ st_test r.receives (is_area_outside r) r.started (is_list_outside r) (d.receives (omega arith)) (list_inside r (d.list_high (omega arith)) d.commands) in
-    step Cmd 24 131089 7 m old new before refl (or_none (cmd_refusal r true true) free) acts.0
+    step mode Cmd 24 131089 7 m old new before refl (or_none (cmd_refusal r true true) free) acts.0
     (record {
       commands = d.commands;
       list_high = λ h. d.list_high (omega arith);
@@ -297,13 +309,13 @@ opens_taken (suc (suc (suc (suc (suc (suc zero)))))) m less old new before after
       stopped = past 7 6 refl;
       starts = λ h g. refl;
     }) (zero_either (falls r 131089) r.armed)
-opens_taken (suc (suc (suc (suc (suc (suc (suc k))))))) m less old new before after acts d = absurd (omega (arith, less))
+opens_taken mode (suc (suc (suc (suc (suc (suc (suc k))))))) m less old new before after acts d = absurd (omega (arith, less))
 
-pub restart_taken : (k n : ℕ) → k < 2 → 7 ≤ n → (old new : Port) (before after : Memory) → Acts (restart_write k) old before new after → AreDriven n k old.registers
-    → IsAccepted (restart_write k) old before × AreDriven n (k + 1) new.registers × (old.registers.armed ≡ 0 → new.registers.armed ≡ 0)
+pub restart_taken : (mode : Mode) (k n : ℕ) → k < 2 → 7 ≤ n → (old new : Port) (before after : Memory) → Acts (restart_write k) old before new after → AreDriven mode n k old.registers
+    → IsAccepted (restart_write k) old before × AreDriven mode n (k + 1) new.registers × (old.registers.armed ≡ 0 → new.registers.armed ≡ 0)
 unfolding restart_write register_at written own_refusal slots_refusal
-restart_taken zero n less least old new before after acts d =
-    step Is 16 4294967295 n 1 old new before refl refl acts.0
+restart_taken mode zero n less least old new before after acts d =
+    step mode Is 16 4294967295 n 1 old new before refl refl acts.0
     (record {
       commands = d.commands;
       list_high = d.list_high;
@@ -315,12 +327,12 @@ restart_taken zero n less least old new before after acts d =
       stopped = d.stopped;
       starts = λ h. past 2 1 refl;
     }) (λ none. none)
-restart_taken (suc zero) n less least old new before after acts d =
+restart_taken mode (suc zero) n less least old new before after acts d =
     let r : Registers = old.registers in
     let free : cmd_refusal r true true ≡ None =
     cmd_is r true true
     ∙ st_test r.receives (is_area_outside r) r.started (is_list_outside r) (d.receives (omega (arith, least))) (list_inside r (d.list_high (omega (arith, least))) d.commands) in
-    step Cmd 24 131089 n 2 old new before refl (or_none (cmd_refusal r true true) free) acts.0
+    step mode Cmd 24 131089 n 2 old new before refl (or_none (cmd_refusal r true true) free) acts.0
     (record {
       commands = d.commands;
       list_high = d.list_high;
@@ -332,4 +344,4 @@ restart_taken (suc zero) n less least old new before after acts d =
       stopped = λ h. absurd (omega (arith, least, h));
       starts = λ h g. refl;
     }) (zero_either (falls r 131089) r.armed)
-restart_taken (suc (suc k)) n less least old new before after acts d = absurd (omega (arith, less))
+restart_taken mode (suc (suc k)) n less least old new before after acts d = absurd (omega (arith, less))

@@ -47,12 +47,14 @@ use Rattle.hba_laws.proofs.ViewLemmas.{is_own, own_below, own_in, own_issued}
 use Rattle.hba_laws.proofs.WithinLemmas.{the_transfer}
 use Rattle.hba_driver.specs.declared.effect.Effect.{Effect}
 use Rattle.hba_driver.specs.declared.effect.Effect.TheVariants as effect
+use Rattle.hba_driver.specs.declared.mode.Mode.{Mode}
+use Rattle.hba_driver.specs.declared.mode.Mode.TheVariants.{Switching, CommandBased}
 use Rattle.hba_driver.specs.declared.order.Order.{Order}
 use Rattle.hba_driver.specs.declared.order.Order.TheVariants.{Scan, Clear}
 use Rattle.hba_driver.specs.declared.turn.Act.{Act}
 use Rattle.hba_driver.specs.declared.turn.Act.TheVariants as act
 use Rattle.hba_driver.specs.Effects.{Acts, ActsAll, Tries, clearing, effects_of, issuing, opening_write, opening_writes, order_effects, restart_write, restart_writes, sending}
-use Rattle.hba_driver.specs.Events.{IsSoundHost, shared_by}
+use Rattle.hba_driver.specs.Events.{IsSoundHostIn, shared_by}
 use Rattle.hba_driver.specs.HostTurns.{Does, Host, Took, Pushed}
 use Rattle.hba_driver.specs.Laws.{flushes}
 use Rattle.hba_driver.specs.Orders.{order_fields}
@@ -193,7 +195,7 @@ taken_still host new frame report past dev slot t below reports none is (Some e)
     still_issued slot e (own dev past) t (taken_goes host frame e taken) is (none_completed slot host frame (own dev past) t e is taken there))
 
 -- it completes the command, or leaves it
-pub out_took : (old new : Host) (frame : List ℕ) (report : TakeReport) (past : Touches) (slot dev : ℕ) → Does old (Took frame report) new → IsSoundHost old → IsServed old.driver (shared_by old) past → slot < 32 → dev < 16
+pub out_took : {mode : Mode} (old new : Host) (frame : List ℕ) (report : TakeReport) (past : Touches) (slot dev : ℕ) → Does old (Took frame report) new → IsSoundHostIn mode old → IsServed old.driver (shared_by old) past → slot < 32 → dev < 16
     → (has_bit report.done slot && (port_of frame == dev)) ≡ false → HasOut old.port slot dev → HasOut new.port slot dev
 out_took old new frame report past slot dev does sound served below dev_below none h =
     let a : event.Host = shared_by old in
@@ -236,7 +238,7 @@ out_still host past dev slot h t work is (out.Order n k command) =
     let there : issue_at host.port.slots k ≡ Some h.issue = subst (λ (j : ℕ). issue_at host.port.slots j ≡ Some h.issue) (sym at) (own_in dev slot host.port.slots h.issue h.is).1 in
     ap (holds is_control_issue) there ∙ h.control) (holds is_control_issue (issue_at host.port.slots k)) refl)
 
-pub out_pushed : (old new : Host) (frame : Option Stamped) (past : Touches) (slot dev : ℕ) → Does old (Pushed frame) new → IsSoundHost old → IsServed old.driver (shared_by old) past → dev < 16 → HasOut old.port slot dev
+pub out_pushed : {mode : Mode} (old new : Host) (frame : Option Stamped) (past : Touches) (slot dev : ℕ) → Does old (Pushed frame) new → IsSoundHostIn mode old → IsServed old.driver (shared_by old) past → dev < 16 → HasOut old.port slot dev
     → HasOut new.port slot dev
 out_pushed old new frame past slot dev does sound served dev_below h =
     let a : event.Host = shared_by old in
@@ -374,39 +376,47 @@ out_effects es old new before after slot dev calm other below acts table h =
 
 -- ---- what each act leaves, except the two that end a fault
 
-lasting_issuing : (slot dev : ℕ) (queued : Bool) → list_all lasting_effect (issuing slot dev queued) ≡ true
+lasting_issuing : (mode : Mode) (slot dev : ℕ) (queued : Bool) → list_all lasting_effect (issuing mode slot dev queued) ≡ true
 unfolding register_at
-lasting_issuing slot dev true = ap (λ (b : Bool). not b && true) (no_dec dev)
-lasting_issuing slot dev false = ap (λ (b : Bool). not b && true) (no_dec dev)
+lasting_issuing Switching slot dev true = ap (λ (b : Bool). not b && true) (no_dec dev)
+lasting_issuing Switching slot dev false = ap (λ (b : Bool). not b && true) (no_dec dev)
+lasting_issuing CommandBased slot dev true = refl
+lasting_issuing CommandBased slot dev false = refl
 
-lasting_sending : (slot dev : ℕ) (o : Option H2dFields) (buffer : Bool) → list_all lasting_effect (match_some o [] (λ f. sending slot dev f buffer)) ≡ true
-lasting_sending slot dev None buffer = refl
-lasting_sending slot dev (Some f) buffer = lasting_issuing slot dev false
+lasting_sending : (mode : Mode) (slot dev : ℕ) (o : Option H2dFields) (buffer : Bool) → list_all lasting_effect (match_some o [] (λ f. sending mode slot dev f buffer)) ≡ true
+lasting_sending mode slot dev None buffer = refl
+lasting_sending mode slot dev (Some f) buffer = lasting_issuing mode slot dev false
 
-lasting_order : (order : Order) → list_all lasting_effect (order_effects order) ≡ true
+-- a row that is emptied, or not, by the mode
+lasting_clear : (mode : Mode) (port : ℕ) → list_all lasting_effect (order_effects mode (Clear port)) ≡ true
 unfolding order_effects register_at
-lasting_order Scan = lasting_sending 31 15 (order_fields Scan) false
-lasting_order (Clear port) = lasting_sending 31 15 (order_fields (Clear port)) false
-lasting_order order = lasting_sending 31 15 (order_fields order) false
+lasting_clear Switching port = lasting_sending Switching 31 15 (order_fields (Clear port)) false
+lasting_clear CommandBased port = lasting_sending CommandBased 31 15 (order_fields (Clear port)) false
+
+lasting_order : (mode : Mode) (order : Order) → list_all lasting_effect (order_effects mode order) ≡ true
+unfolding order_effects register_at
+lasting_order mode Scan = lasting_sending mode 31 15 (order_fields Scan) false
+lasting_order mode (Clear port) = lasting_clear mode port
+lasting_order mode order = lasting_sending mode 31 15 (order_fields order) false
 
 lasting_restart : (k : ℕ) → lasting_effect (restart_write k) ≡ true
 unfolding restart_write register_at
 lasting_restart k = all_at lasting_effect restart_writes k _ refl refl
 
-pub lasting_act : (a : Option Act) → is_calm a ≡ true → ((k : ℕ) → a ≡ Some (act.Opens k) → ⊥) → list_all lasting_effect (effects_due a) ≡ true
+pub lasting_act : (mode : Mode) (a : Option Act) → is_calm a ≡ true → ((k : ℕ) → a ≡ Some (act.Opens k) → ⊥) → list_all lasting_effect (effects_due mode a) ≡ true
 unfolding effects_of
-lasting_act None calm opens = refl
-lasting_act (Some (act.Opens k)) calm opens = absurd (opens k refl)
-lasting_act (Some act.Stops) calm opens = absurd (false≢true calm)
-lasting_act (Some (act.Restarts k)) calm opens = rw (lasting_restart k) refl
-lasting_act (Some (act.Clears dev)) calm opens = absurd (false≢true calm)
-lasting_act (Some (act.Orders order)) calm opens = lasting_order order
-lasting_act (Some (act.Steps dev stage)) calm opens = lasting_sending 30 dev (stage_fields dev stage) (reads_page stage)
-lasting_act (Some (act.Issues slot dev queued)) calm opens = lasting_issuing slot dev queued
+lasting_act mode None calm opens = refl
+lasting_act mode (Some (act.Opens k)) calm opens = absurd (opens k refl)
+lasting_act mode (Some act.Stops) calm opens = absurd (false≢true calm)
+lasting_act mode (Some (act.Restarts k)) calm opens = rw (lasting_restart k) refl
+lasting_act mode (Some (act.Clears dev)) calm opens = absurd (false≢true calm)
+lasting_act mode (Some (act.Orders order)) calm opens = lasting_order mode order
+lasting_act mode (Some (act.Steps dev stage)) calm opens = lasting_sending mode 30 dev (stage_fields dev stage) (reads_page stage)
+lasting_act mode (Some (act.Issues slot dev queued)) calm opens = lasting_issuing mode slot dev queued
 
 -- ---- another device is cleared
 
-pub kept_clear : (old new : Port) (before after : Memory) (slot dev k : ℕ) (i : Issue) → dev < 16 → dev ≢ k → MayClear k old → IsTable old.slots → ActsAll (clearing k) old before new after → IsIssuedAt old dev slot i → IsIssuedAt new dev slot i
+pub kept_clear : (old new : Port) (before after : Memory) (slot dev k : ℕ) (i : Issue) → dev < 16 → dev ≢ k → MayClear k old → IsTable old.slots → ActsAll (clearing Switching k) old before new after → IsIssuedAt old dev slot i → IsIssuedAt new dev slot i
 unfolding ActsAll register_at view_after
 kept_clear old new before after slot dev k i below other may table acts here =
     let value : ℕ = 256 * k + 3 in
@@ -422,28 +432,31 @@ kept_clear old new before after slot dev k i below other may table acts here =
     ] in
     subst (λ (p : Port). IsIssuedAt p dev slot i) (sym acts.4.4.0) second
 
-out_clear : (old new : Port) (before after : Memory) (slot dev k : ℕ) → dev < 16 → dev ≢ k → MayClear k old → IsTable old.slots → ActsAll (clearing k) old before new after → HasOut old slot dev → HasOut new slot dev
+out_clear : (old new : Port) (before after : Memory) (slot dev k : ℕ) → dev < 16 → dev ≢ k → MayClear k old → IsTable old.slots → ActsAll (clearing Switching k) old before new after → HasOut old slot dev → HasOut new slot dev
 out_clear old new before after slot dev k below other may table acts h =
     record { issue = h.issue; is = kept_clear old new before after slot dev k h.issue below other may table acts h.is; pio = h.pio; control = h.control }
 
 -- ---- each act, except one that stops the port
 
-pub out_act : (a : Option Act) (old new : Port) (before after : Memory) (slot dev : ℕ) → dev < 16 → MayEnd a old → (a ≡ Some act.Stops → ⊥) → ((k : ℕ) → a ≡ Some (act.Clears k) → dev ≢ k)
-    → ((k : ℕ) → a ≡ Some (act.Opens k) → ⊥) → list_any (flushes dev) (effects_due a) ≡ false → ActsAll (effects_due a) old before new after → IsTable old.slots → HasOut old slot dev → HasOut new slot dev
+pub out_act : (mode : Mode) (a : Option Act) (old new : Port) (before after : Memory) (slot dev : ℕ) → dev < 16 → MayEnd mode a old → (a ≡ Some act.Stops → ⊥) → ((k : ℕ) → a ≡ Some (act.Clears k) → dev ≢ k)
+    → ((k : ℕ) → a ≡ Some (act.Opens k) → ⊥) → list_any (flushes dev) (effects_due mode a) ≡ false → ActsAll (effects_due mode a) old before new after → IsTable old.slots → HasOut old slot dev → HasOut new slot dev
 unfolding effects_of
-out_act None old new before after slot dev below may stops clears opens other acts table h = out_effects [] old new before after slot dev refl other below acts table h
-out_act (Some (act.Opens k)) old new before after slot dev below may stops clears opens other acts table h = absurd (opens k refl)
-out_act (Some act.Stops) old new before after slot dev below may stops clears opens other acts table h = absurd (stops refl)
-out_act (Some (act.Clears k)) old new before after slot dev below may stops clears opens other acts table h =
-    out_clear old new before after slot dev k below (clears k refl) may table acts h
-out_act (Some (act.Restarts k)) old new before after slot dev below may stops clears opens other acts table h =
-    out_effects (effects_due (Some (act.Restarts k))) old new before after slot dev (lasting_act (Some (act.Restarts k)) refl opens) other below acts table h
-out_act (Some (act.Orders order)) old new before after slot dev below may stops clears opens other acts table h =
-    out_effects (effects_due (Some (act.Orders order))) old new before after slot dev (lasting_act (Some (act.Orders order)) refl opens) other below acts table h
-out_act (Some (act.Steps n stage)) old new before after slot dev below may stops clears opens other acts table h =
-    out_effects (effects_due (Some (act.Steps n stage))) old new before after slot dev (lasting_act (Some (act.Steps n stage)) refl opens) other below acts table h
-out_act (Some (act.Issues s n queued)) old new before after slot dev below may stops clears opens other acts table h =
-    out_effects (effects_due (Some (act.Issues s n queued))) old new before after slot dev (lasting_act (Some (act.Issues s n queued)) refl opens) other below acts table h
+out_act mode None old new before after slot dev below may stops clears opens other acts table h = out_effects [] old new before after slot dev refl other below acts table h
+out_act mode (Some (act.Opens k)) old new before after slot dev below may stops clears opens other acts table h = absurd (opens k refl)
+out_act mode (Some act.Stops) old new before after slot dev below may stops clears opens other acts table h = absurd (stops refl)
+out_act Switching (Some (act.Clears k)) old new before after slot dev below may stops clears opens other acts table h =
+    out_clear old new before after slot dev k below (clears k refl) may.1 table acts h
+out_act CommandBased (Some (act.Clears k)) old new before after slot dev below may stops clears opens other acts table h =
+    let bad : CommandBased ≡ Switching = may.0 in
+    cc
+out_act mode (Some (act.Restarts k)) old new before after slot dev below may stops clears opens other acts table h =
+    out_effects (effects_due mode (Some (act.Restarts k))) old new before after slot dev (lasting_act mode (Some (act.Restarts k)) refl opens) other below acts table h
+out_act mode (Some (act.Orders order)) old new before after slot dev below may stops clears opens other acts table h =
+    out_effects (effects_due mode (Some (act.Orders order))) old new before after slot dev (lasting_act mode (Some (act.Orders order)) refl opens) other below acts table h
+out_act mode (Some (act.Steps n stage)) old new before after slot dev below may stops clears opens other acts table h =
+    out_effects (effects_due mode (Some (act.Steps n stage))) old new before after slot dev (lasting_act mode (Some (act.Steps n stage)) refl opens) other below acts table h
+out_act mode (Some (act.Issues s n queued)) old new before after slot dev below may stops clears opens other acts table h =
+    out_effects (effects_due mode (Some (act.Issues s n queued))) old new before after slot dev (lasting_act mode (Some (act.Issues s n queued)) refl opens) other below acts table h
 
 -- ---- a write that opens the port
 
@@ -475,9 +488,10 @@ is_write (effect.Flushes dev) = false
 is_write (effect.Empties dev) = false
 is_write (effect.Commands slot fields buffer) = false
 
-pub opening_is : (k : ℕ) → is_write (opening_write k) ≡ true
+pub opening_is : (mode : Mode) (k : ℕ) → is_write (opening_write mode k) ≡ true
 unfolding opening_write register_at
-opening_is k = all_at is_write opening_writes k _ refl refl
+opening_is Switching k = all_at is_write (opening_writes Switching) k _ refl refl
+opening_is CommandBased k = all_at is_write (opening_writes CommandBased) k _ refl refl
 
 pub kept_stopped : (e : Effect) (old new : Port) (before after : Memory) (dev s : ℕ) (i : Issue) → is_write e ≡ true → old.registers.started ≡ false → dev < 16 → Acts e old before new after → IsTable old.slots
     → IsIssuedAt old dev s i → IsIssuedAt new dev s i
@@ -487,10 +501,10 @@ kept_stopped (effect.Flushes n) old new before after dev s i is stopped below ac
 kept_stopped (effect.Empties n) old new before after dev s i is stopped below acts table here = absurd (false≢true is)
 kept_stopped (effect.Commands slot fields buffer) old new before after dev s i is stopped below acts table here = absurd (false≢true is)
 
-pub out_opening : (k : ℕ) (old new : Port) (before after : Memory) (slot dev : ℕ) → old.registers.started ≡ false → dev < 16 → ActsAll (opening_write k ∷ []) old before new after → IsTable old.slots → HasOut old slot dev → HasOut new slot dev
+pub out_opening : (mode : Mode) (k : ℕ) (old new : Port) (before after : Memory) (slot dev : ℕ) → old.registers.started ≡ false → dev < 16 → ActsAll (opening_write mode k ∷ []) old before new after → IsTable old.slots → HasOut old slot dev → HasOut new slot dev
 unfolding ActsAll
-out_opening k old new before after slot dev stopped below acts table h =
-    let there : IsIssuedAt acts.0 dev slot h.issue = kept_stopped (opening_write k) old acts.0 before acts.1 dev slot h.issue (opening_is k) stopped below acts.2 table h.is in
+out_opening mode k old new before after slot dev stopped below acts table h =
+    let there : IsIssuedAt acts.0 dev slot h.issue = kept_stopped (opening_write mode k) old acts.0 before acts.1 dev slot h.issue (opening_is mode k) stopped below acts.2 table h.is in
     record { issue = h.issue; is = subst (λ (p : Port). IsIssuedAt p dev slot h.issue) (sym acts.4.0) there; pio = h.pio; control = h.control }
 
 pub out_rest : (old new : Port) (before after : Memory) (slot dev : ℕ) → ActsAll [] old before new after → HasOut old slot dev → HasOut new slot dev

@@ -19,6 +19,7 @@ use Rattle.hba_commands.specs.Commands.{total_if_sound}
 use Rattle.hba_commands.specs.Writing.{total_if_usable}
 use Rattle.hba_driver.specs.declared.effect.Effect.{Effect}
 use Rattle.hba_driver.specs.declared.effect.Effect.TheVariants as effect
+use Rattle.hba_driver.specs.declared.mode.Mode.TheVariants.{Switching}
 use Rattle.hba_driver.specs.declared.order.Order.{Order}
 use Rattle.hba_driver.specs.declared.order.Order.TheVariants.{ResetOn, ResetOff, AwaitSignature, CountPorts, SetMask, Enable, Open, Scan, Clear, Detect, Watch}
 use Rattle.hba_driver.specs.declared.path.Path.{Path}
@@ -38,16 +39,17 @@ use Rattle.hba_driver.specs.Sights.{file_shown}
 use Rattle.hba_driver.specs.Submits.{after_poll, lowest_ended, next_slot}
 use Rattle.hba_driver.specs.Orders.{order_fields}
 use Rattle.hba_driver.specs.Paths.{next_stage, reads_page, stage_fields}
-use Rattle.hba_driver.specs.Ticks.{acted, after_tick, done_ended, due, effects, effects_due, ordered, plan_after, seen, unless}
-use Rattle.hba_driver.specs.Turns.{advanced, answered, control_seen, device_seen, early_due, is_back, met_path, met_stage, noted, order_due, path_answered, path_to, turn_of}
+use Rattle.hba_driver.specs.Ticks.{acted, after_tick, done_ended, due, effects_due, ordered, plan_after, seen, unless}
+use Rattle.hba_driver.specs.Turns.{advanced, answered, control_seen, device_seen, early_due, is_back, met_path, met_stage, noted, order_allowed, path_answered, path_to, turn_of}
 use Rattle.hba_driver.proofs.EffectLemmas.{all_at}
 use Rattle.hba_driver.proofs.HistoryLemmas.{free_below}
 use Rattle.hba_driver.proofs.InsideLemmas.{as_long}
+use Rattle.hba_driver.proofs.ReadLemmas.{HasPage}
 use Rattle.hba_driver.proofs.SoundLemmas.{sound_host}
 use Rattle.hba_driver.proofs.StandLemmas.{Same, both, few_prds, lt_of, posted_beside, runs, same_beside, same_written}
-use Rattle.hba_driver.proofs.SubmitLemmas.{is_taken}
 use Rattle.hba_driver.proofs.StopLemmas.{either}
-use Rattle.hba_driver.proofs.ReadLemmas.{HasPage}
+use Rattle.hba_driver.proofs.SubmitLemmas.{is_taken}
+use Rattle.hba_driver.proofs.SwitchLemmas.{tick_acts, tick_possible}
 
 -- ---- a path that waits was there before
 
@@ -108,7 +110,7 @@ turn_back v plan entries =
     let q : Plan = control_seen v plan in
     let here : Back plan.path q.path = back_same plan.path q.path (control_path v plan) in
     either P (is_some (early_due v plan)) _ _ (back_same plan.path plan.path refl)
-    (either P (is_some (order_due q)) _ _ here (back_by plan.path q.path (device_seen v q).path (control_path v plan) (device_back v q)))
+    (either P (is_some (order_allowed v q entries)) _ _ here (back_by plan.path q.path (device_seen v q).path (control_path v plan) (device_back v q)))
 
 unless_back : (dev : ℕ) (o : Option Path) → Back o (unless dev o)
 unless_back dev None = λ x here out. none_there x here
@@ -184,19 +186,19 @@ abbrev Elsewhere : Option Act → Type 0
 Elsewhere (Some (act.Steps dev stage)) = ⊥
 Elsewhere a = Unit {0}
 
-spares_issuing : (slot dev : ℕ) (queued : Bool) → list_all spares_page (issuing slot dev queued) ≡ true
+spares_issuing : (slot dev : ℕ) (queued : Bool) → list_all spares_page (issuing Switching slot dev queued) ≡ true
 spares_issuing slot dev true = refl
 spares_issuing slot dev false = refl
 
-spares_opens : (k : ℕ) → spares_page (opening_write k) ≡ true
+spares_opens : (k : ℕ) → spares_page (opening_write Switching k) ≡ true
 unfolding opening_write
-spares_opens k = all_at spares_page opening_writes k _ refl refl
+spares_opens k = all_at spares_page (opening_writes Switching) k _ refl refl
 
 spares_restarts : (k : ℕ) → spares_page (restart_write k) ≡ true
 unfolding restart_write
 spares_restarts k = all_at spares_page restart_writes k _ refl refl
 
-spares_order : (order : Order) → list_all spares_page (order_effects order) ≡ true
+spares_order : (order : Order) → list_all spares_page (order_effects Switching order) ≡ true
 unfolding order_fields order_effects
 spares_order ResetOn = refl
 spares_order ResetOff = refl
@@ -210,7 +212,7 @@ spares_order (Clear port) = refl
 spares_order (Detect port) = refl
 spares_order Watch = refl
 
-spares_due : (a : Option Act) → Elsewhere a → list_all spares_page (effects_due a) ≡ true
+spares_due : (a : Option Act) → Elsewhere a → list_all spares_page (effects_due Switching a) ≡ true
 unfolding effects_of
 spares_due None other = refl
 spares_due (Some (act.Opens k)) other = rw (spares_opens k) refl
@@ -238,7 +240,7 @@ read_unrefused (Some e) total t h = let bad : None ≡ Some t = h in cc
 abbrev pub IsPage : Memory → Type 0
 IsPage memory = read_fault memory.structure (length memory.client) page_at 1 ≡ None
 
-page_written : (dev : ℕ) (fields : H2dFields) (old new : Port) (before after : Memory) → IsHostMemory before → ActsAll (sending 30 dev fields true) old before new after → IsPage after
+page_written : (dev : ℕ) (fields : H2dFields) (old new : Port) (before after : Memory) → IsHostMemory before → ActsAll (sending Switching 30 dev fields true) old before new after → IsPage after
 unfolding ActsAll
 page_written dev fields old new before after m acts =
     let client : length acts.1.client ≡ length before.client = ap (λ (c : List ℕ). length c) acts.2.1.client in
@@ -246,7 +248,7 @@ page_written dev fields old new before after m acts =
     let here : IsPage acts.1 = read_unrefused (read_fault acts.1.structure (length acts.1.client) page_at 1) _ 512 (acts.2.1.structure.total (length acts.1.client) ∙ usable) in
     subst IsPage (sym (acts.4.4.4.1 ∙ acts.4.4.2.1 ∙ acts.4.2.1)) here
 
-page_stage : (dev : ℕ) (stage : Stage) (old new : Port) (before after : Memory) → reads_page stage ≡ true → IsHostMemory before → ActsAll (stage_effects dev stage) old before new after → IsPage after
+page_stage : (dev : ℕ) (stage : Stage) (old new : Port) (before after : Memory) → reads_page stage ≡ true → IsHostMemory before → ActsAll (stage_effects Switching dev stage) old before new after → IsPage after
 unfolding stage_fields
 page_stage dev Identify old new before after reads m acts = page_written dev _ old new before after m acts
 page_stage dev (ReadLog file) old new before after reads m acts = page_written dev _ old new before after m acts
@@ -291,7 +293,7 @@ unfolding plan_after effects_of
 ticked_page old new (Some (act.Steps dev stage)) is acts h s has path here out reads =
     let same : record { dev = dev; stage = stage; asked = true } ≡ path = cc in
     page_stage dev stage old.port new.port old.memory new.memory (ap (λ (p : Path). reads_page p.stage) same ∙ reads) s.memory
-    (subst (λ (x : Option Act). ActsAll (effects_due x) old.port old.memory new.port new.memory) is h.does)
+    (subst (λ (x : Option Act). ActsAll (effects_due Switching x) old.port old.memory new.port new.memory) is (tick_acts old acts new h s))
 ticked_page old new a is acts h s has path here out reads = other (acted_back a (file_shown new.port) (seen (sight_in old) old.driver) path here out)
   where
     other : Begins a path ⊎ ((seen (sight_in old) old.driver).plan.path ≡ Some path) → IsPage new.memory
@@ -299,7 +301,7 @@ ticked_page old new a is acts h s has path here out reads = other (acted_back a 
     other (inr there) =
         let was : old.driver.plan.path ≡ Some path = turn_back (sight_in old) old.driver.plan (done_ended (sight_in old).issued old.driver.entries) path there out in
         page_kept old.memory new.memory s.memory.structure_len
-        (page_acts (effects (sight_in old) old.driver) old.port new.port old.memory new.memory h.possible (ap (λ (x : Option Act). list_all spares_page (effects_due x)) is ∙ spares_due a tt) h.does s.memory.structure_len)
+        (page_acts (effects_due Switching (due (sight_in old) old.driver)) old.port new.port old.memory new.memory (tick_possible old acts new h s) (ap (λ (x : Option Act). list_all spares_page (effects_due Switching x)) is ∙ spares_due a tt) (tick_acts old acts new h s) s.memory.structure_len)
         (client_same old (Ticked acts) new h s) (has path was out reads)
 
 pub poll_plan : (d : Driver) → (after_poll d).plan ≡ d.plan

@@ -32,6 +32,7 @@ use Rattle.hba_laws.proofs.SpareLemmas.{gives_commands}
 use Rattle.hba_laws.proofs.StandLemmas.{some_inj}
 use Rattle.hba_laws.proofs.ViewLemmas.{own_here}
 use Rattle.hba_laws.proofs.WithinLemmas.{the_transfer}
+use Rattle.hba_driver.specs.declared.mode.Mode.TheVariants.{Switching}
 use Rattle.hba_driver.specs.declared.path.Stage.{Stage}
 use Rattle.hba_driver.specs.declared.path.Stage.TheVariants.{Identify, ReadLog, AssertReset, ReleaseReset, AwaitReset}
 use Rattle.hba_driver.specs.declared.turn.Act.{Act}
@@ -48,11 +49,12 @@ use Rattle.hba_driver.specs.Served.{IsIssueOf}
 use Rattle.hba_driver.specs.Sights.{px_ci, px_fbs}
 use Rattle.hba_driver.specs.Ticks.{due, effects_due, seen}
 use Rattle.hba_driver.proofs.AcceptLemmas.{IsOnWay, way_turn}
+use Rattle.hba_driver.proofs.ActLemmas.{here_act}
 use Rattle.hba_driver.proofs.AwaitLemmas.{here_effects}
 use Rattle.hba_driver.proofs.DrivenLemmas.{tried_at}
 use Rattle.hba_driver.proofs.DueLemmas.{Due}
-use Rattle.hba_driver.proofs.ActLemmas.{here_act}
 use Rattle.hba_driver.proofs.LifeLemmas.{due_seen}
+use Rattle.hba_driver.proofs.SwitchLemmas.{tick_acts}
 
 -- ---- slot 30 has no command of a request
 
@@ -122,7 +124,7 @@ same_here value old new memory tries = elim (tried_at Fbs px_fbs value old memor
 
 -- a command of the driver's own in slot 30
 module _ (dev : ℕ) (fields : H2dFields) (buffer : Bool) (old new : Port) (before after : Memory) (plain : is_asked (kind_of (request_of fields)) ≡ false) (list : old.registers.clb ≡ 0) where
-  plain_sending : ActsAll (sending 30 dev fields buffer) old before new after → IsPlain old → IsPlain new
+  plain_sending : ActsAll (sending Switching 30 dev fields buffer) old before new after → IsPlain old → IsPlain new
   unfolding ActsAll commands_after register_at
   plain_sending acts h c is =
       let w = acts.2.1.structure in
@@ -151,7 +153,7 @@ module _ (dev : ℕ) (fields : H2dFields) (buffer : Bool) (old new : Port) (befo
   unfolding ActsAll
   plain_none acts h = plain_as old new (ap (λ (p : Port). last_command p.commands 30) acts.0) h
 
-plain_step : (dev : ℕ) (stage : Stage) (old new : Port) (before after : Memory) → old.registers.clb ≡ 0 → ActsAll (effects_due (Some (act.Steps dev stage))) old before new after → IsPlain old → IsPlain new
+plain_step : (dev : ℕ) (stage : Stage) (old new : Port) (before after : Memory) → old.registers.clb ≡ 0 → ActsAll (effects_due Switching (Some (act.Steps dev stage))) old before new after → IsPlain old → IsPlain new
 unfolding effects_of stage_fields
 plain_step dev Identify old new before after list acts h = plain_sending dev (identify_fields dev) true old new before after refl list acts h
 plain_step dev (ReadLog file) old new before after list acts h = plain_sending dev (log_fields dev) true old new before after refl list acts h
@@ -159,12 +161,12 @@ plain_step dev AssertReset old new before after list acts h = plain_sending dev 
 plain_step dev ReleaseReset old new before after list acts h = plain_sending dev (control dev 0) false old new before after refl list acts h
 plain_step dev AwaitReset old new before after list acts h = plain_none dev (identify_fields dev) false old new before after refl list acts h
 
-plain_ticked : (old new : Host) (a : Option Act) → IsOnWay old → due (sight_in old) old.driver ≡ a → ActsAll (effects_due a) old.port old.memory new.port new.memory → IsPlain old.port → IsPlain new.port
+plain_ticked : (old new : Host) (a : Option Act) → IsOnWay old → due (sight_in old) old.driver ≡ a → ActsAll (effects_due Switching a) old.port old.memory new.port new.memory → IsPlain old.port → IsPlain new.port
 unfolding ActsAll
 plain_ticked old new None w is acts h = plain_as old.port new.port (ap (λ (p : Port). last_command p.commands 30) acts.0) h
 plain_ticked old new (Some (act.Steps dev stage)) w is acts h = plain_step dev stage old.port new.port old.memory new.memory w.sound.registers.commands acts h
 plain_ticked old new (Some a) w is acts h =
-    plain_as old.port new.port (here_effects (effects_due (Some a)) old.port new.port old.memory new.memory (here_act a (λ dev stage e. absurd (cc)) (λ slot dev queued e. below slot dev queued (is ∙ ap (λ (x : Act). Some x) e))) acts) h
+    plain_as old.port new.port (here_effects (effects_due Switching (Some a)) old.port new.port old.memory new.memory (here_act a (λ dev stage e. absurd (cc)) (λ slot dev queued e. below slot dev queued (is ∙ ap (λ (x : Act). Some x) e))) acts) h
   where
     below : (slot dev : ℕ) (queued : Bool) → due (sight_in old) old.driver ≡ Some (act.Issues slot dev queued) → slot ≢ 30
     below slot dev queued e same =
@@ -180,7 +182,7 @@ plain_turn old (Took frame report) new does w h = by_ignored (ignores (port_of f
     by_ignored false is = plain_as old.port new.port (ap (λ (l : List (Option Command)). last_command l 30) (does.heard is).commands) h
 plain_turn old (Pushed frame) new does w h =
     plain_as old.port new.port (ap (λ (l : List (Option Command)). last_command l 30) (gives_commands (outgoing old.port old.memory) old.port new.port old.memory frame does.gives)) h
-plain_turn old (Ticked did) new does w h = plain_ticked old new (due (sight_in old) old.driver) w refl does.does h
+plain_turn old (Ticked did) new does w h = plain_ticked old new (due (sight_in old) old.driver) w refl (tick_acts old did new does w.sound) h
 plain_turn old (Submitted dev request ticket) new does w h = plain_as old.port new.port (ap (λ (p : Port). last_command p.commands 30) does.port) h
 plain_turn old (Polled completion) new does w h = plain_as old.port new.port (ap (λ (p : Port). last_command p.commands 30) does.port) h
 plain_turn old (Put at bytes) new does w h = plain_as old.port new.port (ap (λ (p : Port). last_command p.commands 30) does.port) h

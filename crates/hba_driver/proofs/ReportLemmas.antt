@@ -8,6 +8,7 @@ use Rattle.hba_fbs.specs.declared.report.TakeReport.{TakeReport}
 use Rattle.hba_fbs.specs.Views.{Port}
 use Rattle.hba_laws.proofs.StandLemmas.{some_inj}
 use Rattle.hba_laws.proofs.ViewLemmas.{own_in}
+use Rattle.hba_driver.specs.declared.mode.Mode.{Mode}
 use Rattle.hba_driver.specs.declared.request.Outcome.TheVariants.{Done, DeviceError, Aborted, Removed, PortError}
 use Rattle.hba_driver.specs.declared.sight.Sight.{Sight}
 use Rattle.hba_driver.specs.declared.slot.Phase.{Phase}
@@ -19,7 +20,7 @@ use Rattle.hba_driver.specs.HostTurns.{Does, Host, HostTurn, Took, Pushed, Ticke
 use Rattle.hba_driver.specs.Laws.{Goes, GoesOn, flushes}
 use Rattle.hba_driver.specs.Sights.{file_shown}
 use Rattle.hba_driver.specs.Ticks.{after_tick, due, effects}
-use Rattle.hba_driver.proofs.AcceptLemmas.{IsOnWay}
+use Rattle.hba_driver.proofs.AcceptLemmas.{IsOnWayIn}
 use Rattle.hba_driver.proofs.ComeLemmas.{Fresh, comes_from, ticks}
 use Rattle.hba_driver.proofs.DoneLemmas.{done_is_free}
 use Rattle.hba_driver.proofs.HistoryLemmas.{requests_turn}
@@ -85,7 +86,7 @@ stands_free P port s e Issued free is (inr h) = none_some h.issue (sym free ∙ 
 stands_free P port s e Aside free is h = absurd (false≢true is)
 stands_free P port s e (Ended o) free is h = absurd (false≢true is)
 
-module _ (P Q : ℕ → Entry → Type 0) (old : Host) (w : IsOnWay old) (stand : AllStand P old) (on : (s : ℕ) (e : Entry) → P s e → Q s e) where
+module _ {mode : Mode} (P Q : ℕ → Entry → Type 0) (old : Host) (w : IsOnWayIn mode old) (stand : AllStand P old) (on : (s : ℕ) (e : Entry) → P s e → Q s e) where
   low_slot : (s : ℕ) (e : Entry) → entry_at old.driver.entries s ≡ Some e → s < 32
   low_slot s e here = wider s 30 32 (in_slots old.driver.entries s e w.served.bounded.slots here) (omega arith)
 
@@ -187,7 +188,7 @@ module _ (P Q : ℕ → Entry → Type 0) (old : Host) (w : IsOnWay old) (stand 
             let before : e.head.phase ≡ Ended Done = sym (ended_same e.head.phase f.head.phase goes.goes ended) ∙ is in
             known (subst (λ (p : Phase). Stands P old.port s (rephased Waits e) p) before (stand s e was))
         | inr going ↦
-            let free = done_is_free old.port old.memory (file_shown new.port) old.driver s e f w.sound.ruled.table w.sound.requests was going (here_after s f here) is in
+            let free = done_is_free old.driver.plan.mode old.port old.memory (file_shown new.port) old.driver s e f w.sound.ruled.table w.sound.requests was going (here_after s f here) is in
             known (stands_free P old.port s (rephased Waits e) e.head.phase free.1 free.0 (stand s e was))
       ]
 

@@ -6,18 +6,19 @@ use Rattle.host_memory.specs.Memory.{is_memory_size}
 use Rattle.slots.specs.Slots.{has_bit}
 use Rattle.hba_fbs.specs.declared.report.TakeReport.{TakeReport}
 use Rattle.hba_fbs.specs.Taking.{port_of}
+use Rattle.hba_driver.specs.declared.mode.Mode.{Mode}
 use Rattle.hba_driver.specs.declared.request.Completion.{Completion}
 use Rattle.hba_driver.specs.declared.request.Outcome.TheVariants.{Done}
 use Rattle.hba_driver.specs.declared.request.Request.{Request}
 use Rattle.hba_driver.specs.declared.slot.Phase.{Phase}
 use Rattle.hba_driver.specs.declared.slot.Phase.TheVariants.{Waits, Issued, Ended}
 use Rattle.hba_driver.specs.Drivers.{Entry, entry_at, rephased}
-use Rattle.hba_driver.specs.Events.{opening_host}
+use Rattle.hba_driver.specs.Events.{opening_host_in}
 use Rattle.hba_driver.specs.HostTurns.{Does, DoesAll, Host, HostTurn, Took, Pushed, Ticked, Submitted, Polled, Put}
 use Rattle.hba_driver.specs.Reported.{DoneWasReported, IsTurnOf, WasReported}
 use Rattle.hba_driver.specs.Submits.{new_entry}
 use Rattle.hba_driver.proofs.AcceptLemmas as accept
-use Rattle.hba_driver.proofs.AcceptLemmas.{IsOnWay, way_opens, way_turn}
+use Rattle.hba_driver.proofs.AcceptLemmas.{IsOnWayIn, way_opens, way_turn}
 use Rattle.hba_driver.proofs.ComeLemmas.{Fresh, comes_from}
 use Rattle.hba_driver.proofs.HistoryLemmas.{PollFacts, poll_facts}
 use Rattle.hba_driver.proofs.ReportLemmas.{AllStand, Reports, Stands, all_wider, turn_stands}
@@ -89,7 +90,7 @@ reported_later t turns old new run s e r = record {
   issued = r.issued;
 }
 
-stand_over : (turns : List HostTurn) (P : ℕ → Entry → Type 0) (old new : Host) (run : DoesAll old turns new) → IsOnWay old → AllStand P old
+stand_over : {mode : Mode} (turns : List HostTurn) (P : ℕ → Entry → Type 0) (old new : Host) (run : DoesAll old turns new) → IsOnWayIn mode old → AllStand P old
     → AllStand (λ (s : ℕ) (e : Entry). P s e ⊎ ReportedIn old new turns run s e) new
 stand_over [] P old new run w stand =
     all_wider P (λ (s : ℕ) (e : Entry). P s e ⊎ ReportedIn old new [] run s e) new (λ s e p. inl p) (subst (AllStand P) (sym run) stand)
@@ -152,10 +153,10 @@ submitted_over (t ∷ turns) old new run s f here = elim (submitted_over turns r
 
 -- ---- the law
 
-module _ (given len : ℕ) (right : is_memory_size len ≡ true) (turns : List HostTurn) (h : Host) (run : DoesAll (opening_host given len) turns h) (c : Completion) (after : Host)
+module _ (mode : Mode) (given len : ℕ) (right : is_memory_size len ≡ true) (turns : List HostTurn) (h : Host) (run : DoesAll (opening_host_in mode given len) turns h) (c : Completion) (after : Host)
     (does : Does h (Polled c) after) (done : c.outcome ≡ Done) where
   abbrev opened : Host
-  opened = opening_host given len
+  opened = opening_host_in mode given len
 
   facts : PollFacts h.driver c
   facts = poll_facts h.driver c does.polled
@@ -209,4 +210,4 @@ module _ (given len : ℕ) (right : is_memory_size len ≡ true) (turns : List H
       }
 
 pub done_was_reported : DoneWasReported
-done_was_reported given len right turns h run c after does done = was_reported given len right turns h run c after does done
+done_was_reported mode given len right turns h run c after does done = was_reported mode given len right turns h run c after does done

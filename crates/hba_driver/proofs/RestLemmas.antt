@@ -1,9 +1,8 @@
 -- A tick that does not act leaves the driver as it was.
-use Rattle.std.proofs.Common.{◌≡◌, ℕ, Bool, true, false, List, length, refl, ap, ◌∙◌, subst, inl, inr, Option, Some, None}
-use Rattle.std.specs.Prelude.{if◌then◌else◌, ◌&&◌, not}
+use Rattle.std.proofs.Common.{◌≡◌, ℕ, Bool, true, false, List, length, refl, ap, ◌∙◌, inl, inr, Option, Some, None}
+use Rattle.std.specs.Prelude.{if◌then◌else◌, ◌&&◌, not, ◌||◌}
 use Rattle.std.specs.Option.{is_some, option_map}
 use Rattle.std.proofs.lemmas.Bool.{or_parts, false≢true, true≢false, cases_Bool}
-use Rattle.fis_view.specs.declared.build.H2dFields.{H2dFields}
 use Rattle.slots.specs.Slots.{has_bit, match_some}
 use Rattle.hba_driver.specs.declared.order.Order.{Order}
 use Rattle.hba_driver.specs.declared.order.Order.TheVariants.{ResetOn, ResetOff, AwaitSignature, CountPorts, SetMask, Enable, Open, Scan, Clear, Detect, Watch}
@@ -20,9 +19,8 @@ use Rattle.hba_driver.specs.declared.turn.Act.TheVariants as act
 use Rattle.hba_driver.specs.declared.turn.Logged.{Logged}
 use Rattle.hba_driver.specs.declared.turn.Turn.{Turn}
 use Rattle.hba_driver.specs.Drivers.{Driver, Entry}
-use Rattle.hba_driver.specs.Orders.{order_fields}
 use Rattle.hba_driver.specs.Ticks.{acts, any_done, done_ended, due, is_done, logged_ended, seen, turn}
-use Rattle.hba_driver.specs.Turns.{advanced, awaits, awaits_reset, control_news, control_seen, control_turn, device_news, device_seen, early_due, is_back, is_in_reset, is_out, logged_by, met, met_order, met_path, met_stage, order_due, path_met, path_news, turn_of}
+use Rattle.hba_driver.specs.Turns.{advanced, awaits, awaits_reset, control_news, control_seen, control_turn, device_news, device_seen, early_due, is_back, is_in_reset, is_out, logged_by, met, met_order, met_path, met_stage, order_allowed, path_met, path_news, turn_of, watches}
 use Rattle.hba_driver.proofs.ScanLemmas.{none_rephased}
 
 -- ---- slot 31
@@ -31,42 +29,27 @@ waits_on : (r : Bool) (o : Order) → not r ≡ false → (if r then AwaitSignat
 waits_on true o h = refl
 waits_on false o h = absurd (true≢false h)
 
--- the order has nothing to issue
-abbrev IsOver : Order → Type 0
-IsOver o = order_fields o ≡ None
+watches_on : (n : Bool) → n ≡ false → (if n then Scan else Watch) ≡ Watch
+watches_on true h = absurd (true≢false h)
+watches_on false h = refl
 
-watches : (n : Bool) → IsOver (if n then Scan else Watch) → (if n then Scan else Watch) ≡ Watch
-unfolding order_fields
-watches false h = refl
-watches true h = cc
-
-met_quiet : (v : Sight) (o : Order) → (awaits o && not v.resetting) ≡ false → IsOver (met_order v o) → met_order v o ≡ o
+-- where nothing came, the order goes on
+met_quiet : (v : Sight) (o : Order) → ((awaits o && not v.resetting) || (watches o && v.notified)) ≡ false → met_order v o ≡ o
 unfolding met_order
-met_quiet v AwaitSignature n h = waits_on v.resetting _ n
-met_quiet v Watch n h = watches v.notified h
-met_quiet v ResetOn n h = refl
-met_quiet v ResetOff n h = refl
-met_quiet v CountPorts n h = refl
-met_quiet v SetMask n h = refl
-met_quiet v Enable n h = refl
-met_quiet v (Open p) n h = refl
-met_quiet v Scan n h = refl
-met_quiet v (Clear p) n h = refl
-met_quiet v (Detect p) n h = refl
-
-not_due : (fields : Option H2dFields) (a : Act) → is_some (option_map (λ f. a) fields) ≡ false → fields ≡ None
-not_due None a h = refl
-not_due (Some f) a h = absurd (true≢false h)
+met_quiet v AwaitSignature n = waits_on v.resetting _ (or_parts (not v.resetting) false n).0
+met_quiet v Watch n = watches_on v.notified n
+met_quiet v ResetOn n = refl
+met_quiet v ResetOff n = refl
+met_quiet v CountPorts n = refl
+met_quiet v SetMask n = refl
+met_quiet v Enable n = refl
+met_quiet v (Open p) n = refl
+met_quiet v Scan n = refl
+met_quiet v (Clear p) n = refl
+met_quiet v (Detect p) n = refl
 
 abbrev with_order : Order → Plan → Plan
 with_order o plan = record plan { order = o }
-
--- nothing is due for the order of a plan
-abbrev NothingDue : Plan → Type 0
-NothingDue plan = is_some (order_due plan) ≡ false
-
-over : (v : Sight) (plan : Plan) → plan.asked ≡ false → NothingDue (with_order (met_order v plan.order) plan) → IsOver (met_order v plan.order)
-over v plan a h = not_due (order_fields (met_order v plan.order)) (act.Orders (met_order v plan.order)) (rw a at h)
 
 else_is : (b : Bool) (x y : Plan) → b ≡ false → (if b then x else y) ≡ y
 else_is true x y h = absurd (true≢false h)
@@ -84,19 +67,18 @@ quiet_asked v plan a n =
     ap (met v) (else_is (plan.asked && not (is_out v plan)) _ plan still) ∙ then_is plan.asked plan _ a
 
 -- it has no command
-quiet_free : (v : Sight) (plan : Plan) → plan.asked ≡ false → control_news v plan ≡ false → NothingDue (control_seen v plan) → control_seen v plan ≡ plan
-quiet_free v plan a n h =
+quiet_free : (v : Sight) (plan : Plan) → plan.asked ≡ false → control_news v plan ≡ false → control_seen v plan ≡ plan
+quiet_free v plan a n =
     let still : (plan.asked && not (is_out v plan)) ≡ false = rw a refl in
     let seen_is : control_seen v plan ≡ with_order (met_order v plan.order) plan =
     ap (met v) (else_is (plan.asked && not (is_out v plan)) _ plan still) ∙ else_is plan.asked plan _ a in
-    let nothing : NothingDue (with_order (met_order v plan.order) plan) = subst (λ (p : Plan). NothingDue p) seen_is h in
-    let quiet : (awaits plan.order && not v.resetting) ≡ false = rw a at n in
-    seen_is ∙ ap (λ (o : Order). with_order o plan) (met_quiet v plan.order quiet (over v plan a nothing))
+    let quiet : ((awaits plan.order && not v.resetting) || (watches plan.order && v.notified)) ≡ false = rw a at n in
+    seen_is ∙ ap (λ (o : Order). with_order o plan) (met_quiet v plan.order quiet)
 
-control_quiet : (v : Sight) (plan : Plan) → control_news v plan ≡ false → NothingDue (control_seen v plan) → control_seen v plan ≡ plan
-control_quiet v plan n h = elim (cases_Bool plan.asked) [
+control_quiet : (v : Sight) (plan : Plan) → control_news v plan ≡ false → control_seen v plan ≡ plan
+control_quiet v plan n = elim (cases_Bool plan.asked) [
   | inl a ↦ quiet_asked v plan a n
-  | inr a ↦ quiet_free v plan a n h
+  | inr a ↦ quiet_free v plan a n
 ]
 
 -- ---- slot 30
@@ -158,11 +140,11 @@ if_rests false plan t u f g = g refl
 
 rest_control : (v : Sight) (plan : Plan) (entries : List (Option Entry)) → Rests plan (control_turn v (control_news v plan) (control_seen v plan) entries)
 rest_control v plan entries =
-    if_rests (is_some (order_due (control_seen v plan))) plan _ _
+    if_rests (is_some (order_allowed v (control_seen v plan) entries)) plan _ _
     (λ some a n. absurd (false≢true (rw a at some)))
     (λ none a n.
     let parts = or_parts (control_news v plan) (device_news v (control_seen v plan)) n in
-    (device_quiet v (control_seen v plan) parts.1 ∙ control_quiet v plan parts.0 none, logged_quiet v (control_seen v plan).path parts.1))
+    (device_quiet v (control_seen v plan) parts.1 ∙ control_quiet v plan parts.0, logged_quiet v (control_seen v plan).path parts.1))
 
 rest_turn : (v : Sight) (plan : Plan) (entries : List (Option Entry)) → Rests plan (turn_of v plan entries)
 unfolding turn_of

@@ -22,6 +22,7 @@ use Rattle.hba_fbs.specs.Taking.{PostsOf, admitted, ignores, port_of}
 use Rattle.hba_fbs.specs.Views.{Port}
 use Rattle.hba_driver.specs.declared.effect.Effect.{Effect}
 use Rattle.hba_driver.specs.declared.effect.Effect.TheVariants as effect
+use Rattle.hba_driver.specs.declared.mode.Mode.TheVariants.{Switching}
 use Rattle.hba_driver.specs.declared.order.Order.{Order}
 use Rattle.hba_driver.specs.declared.order.Order.TheVariants.{ResetOn, ResetOff, AwaitSignature, CountPorts, SetMask, Enable, Open, Scan, Clear, Detect, Watch}
 use Rattle.hba_driver.specs.declared.path.Stage.{Stage}
@@ -36,7 +37,7 @@ use Rattle.hba_driver.specs.Paths.{stage_fields}
 use Rattle.hba_driver.specs.Sights.{is_ata, last_d2h}
 use Rattle.hba_driver.specs.Steady.{HasSignature, IsCalmAct, IsFlushTick, IsRowTurn}
 use Rattle.hba_driver.specs.Submits.{next_slot}
-use Rattle.hba_driver.specs.Ticks.{due, effects, effects_due}
+use Rattle.hba_driver.specs.Ticks.{due, effects_due}
 use Rattle.hba_driver.proofs.EffectLemmas.{all_at}
 use Rattle.hba_driver.proofs.HistoryLemmas.{free_below}
 use Rattle.hba_driver.proofs.ModeLemmas.{posts_own}
@@ -44,6 +45,7 @@ use Rattle.hba_driver.proofs.RowMode.{started_mode}
 use Rattle.hba_driver.proofs.SoundLemmas.{sound_host, sound_turn}
 use Rattle.hba_driver.proofs.StandLemmas.{Same, both, few_prds, lt_of, runs, same_beside, same_memory, same_written}
 use Rattle.hba_driver.proofs.SubmitLemmas.{is_taken}
+use Rattle.hba_driver.proofs.SwitchLemmas.{tick_acts, tick_possible}
 
 -- ---- where it is
 
@@ -115,7 +117,7 @@ row_acts n (e ∷ es) old new before after low spared is h long =
 and_true : (b : Bool) → b ≡ true → (b && true) ≡ true
 and_true b h = ap (λ (x : Bool). x && true) h
 
-spares_order : (n : ℕ) (order : Order) → order ≢ Clear n → list_all (spares n) (order_effects order) ≡ true
+spares_order : (n : ℕ) (order : Order) → order ≢ Clear n → list_all (spares n) (order_effects Switching order) ≡ true
 unfolding order_effects order_fields
 spares_order n (Clear port) other = ap (λ (b : Bool). not b && true) (ne_eqb port n (λ same. other (ap Clear same)))
 spares_order n ResetOn other = refl
@@ -129,7 +131,7 @@ spares_order n Scan other = refl
 spares_order n (Detect port) other = refl
 spares_order n Watch other = refl
 
-spares_stage : (n dev : ℕ) (stage : Stage) → list_all (spares n) (stage_effects dev stage) ≡ true
+spares_stage : (n dev : ℕ) (stage : Stage) → list_all (spares n) (stage_effects Switching dev stage) ≡ true
 unfolding stage_fields
 spares_stage n dev Identify = refl
 spares_stage n dev (ReadLog file) = refl
@@ -137,14 +139,14 @@ spares_stage n dev AssertReset = refl
 spares_stage n dev ReleaseReset = refl
 spares_stage n dev AwaitReset = refl
 
-spares_issuing : (n slot dev : ℕ) (queued : Bool) → list_all (spares n) (issuing slot dev queued) ≡ true
+spares_issuing : (n slot dev : ℕ) (queued : Bool) → list_all (spares n) (issuing Switching slot dev queued) ≡ true
 spares_issuing n slot dev true = refl
 spares_issuing n slot dev false = refl
 
-spares_act : (n : ℕ) (a : Option Act) → IsCalmAct n a → list_all (spares n) (effects_due a) ≡ true
+spares_act : (n : ℕ) (a : Option Act) → IsCalmAct n a → list_all (spares n) (effects_due Switching a) ≡ true
 unfolding effects_of opening_write restart_write
 spares_act n None calm = refl
-spares_act n (Some (act.Opens k)) calm = and_true _ (all_at (spares n) opening_writes k _ refl refl)
+spares_act n (Some (act.Opens k)) calm = and_true _ (all_at (spares n) (opening_writes Switching) k _ refl refl)
 spares_act n (Some act.Stops) calm = refl
 spares_act n (Some (act.Restarts k)) calm = and_true _ (all_at (spares n) restart_writes k _ refl refl)
 spares_act n (Some (act.Clears dev)) calm = refl
@@ -288,7 +290,8 @@ row_turn n old (Took frame report) new low h s which = elim (cases_Bool (ignores
 ]
 row_turn n old (Pushed frame) new low h s which = same_memory (place n) 20 old.memory new.memory (ap (λ (m : Memory). m.structure) h.memory)
 row_turn n old (Ticked a) new low h s which =
-    (row_acts n (effects (sight_in old) old.driver) old.port new.port old.memory new.memory low (spares_act n (due (sight_in old) old.driver) which) h.possible h.does s.memory.structure_len).agree
+    (row_acts n (effects_due Switching (due (sight_in old) old.driver)) old.port new.port old.memory new.memory low (spares_act n (due (sight_in old) old.driver) which) (tick_possible old a new h s) (tick_acts old a new h s)
+    s.memory.structure_len).agree
 row_turn n old (Submitted dev request ticket) new low h s which =
     let slot : ℕ = next_slot old.driver in
     let below : slot < 30 = free_below old.driver old.memory dev request h.accepted in
@@ -351,7 +354,7 @@ set_window old bytes at long room =
     get_or-take 20 (drop at (rx.overwritten old at bytes)) i 0 below ∙ get_or-drop at (rx.overwritten old at bytes) i 0 ∙ at_place old bytes at i room (omega (arith, long, below)))
 
 -- in the tick that flushes the device
-clear_row : (n : ℕ) (old new : Port) (before after : Memory) → n < 16 → list_all is_effect (order_effects (Clear n)) ≡ true → ActsAll (order_effects (Clear n)) old before new after → length before.structure ≡ 1048576 → slice_index after.structure (place n) ≡ 0
+clear_row : (n : ℕ) (old new : Port) (before after : Memory) → n < 16 → list_all is_effect (order_effects Switching (Clear n)) ≡ true → ActsAll (order_effects Switching (Clear n)) old before new after → length before.structure ≡ 1048576 → slice_index after.structure (place n) ≡ 0
 unfolding order_effects order_fields ActsAll
 clear_row n old new before after low is acts long =
     let first : length acts.1.structure ≡ 1048576 = ap (λ (m : Memory). length m.structure) acts.2.1 ∙ long in
@@ -366,12 +369,12 @@ clear_row n old new before after low is acts long =
     let back : place n + 0 ≡ place n = omega arith in
     let parts = both (is_effect (effect.Flushes n)) _ is in
     let more = both (is_effect (effect.Empties n)) _ parts.1 in
-    let rest : Same (place n) 20 acts.4.1.structure after.structure = row_acts n (order_command (Clear n)) acts.4.0 new acts.4.1 after low refl more.1 acts.4.4 emptied_is.long in
+    let rest : Same (place n) 20 acts.4.1.structure after.structure = row_acts n (order_command Switching (Clear n)) acts.4.0 new acts.4.1 after low refl more.1 acts.4.4 emptied_is.long in
     ap (λ (k : ℕ). get_or after.structure k 0) (sym back) ∙ sym (rest.agree 0 (omega arith)) ∙ ap (λ (k : ℕ). get_or acts.4.1.structure k 0) (sym at) ∙ one
 
 pub flush_row : (n : ℕ) (old : Host) (acted : Bool) (new : Host) → n < 16 → Does old (Ticked acted) new → IsSoundHost old → IsFlushTick n old → HasSignature n new → ⊥
 unfolding effects_of
 flush_row n old acted new low does s flush signs =
-    let acts = subst (λ (a : Option Act). ActsAll (effects_due a) old.port old.memory new.port new.memory) flush does.does in
-    let possible = subst (λ (a : Option Act). list_all is_effect (effects_due a) ≡ true) flush does.possible in
+    let acts = subst (λ (a : Option Act). ActsAll (effects_due Switching a) old.port old.memory new.port new.memory) flush (tick_acts old acted new does s) in
+    let possible = subst (λ (a : Option Act). list_all is_effect (effects_due Switching a) ≡ true) flush (tick_possible old acted new does s) in
     false≢true (sym (zero_row n new.memory.structure (clear_row n old.port new.port old.memory new.memory low possible acts s.memory.structure_len)) ∙ signs)

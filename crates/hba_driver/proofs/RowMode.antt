@@ -9,6 +9,7 @@ use Rattle.hba_fbs.specs.declared.hearing.Fault.TheVariants as fault
 use Rattle.hba_fbs.specs.declared.registers.Registers.{Registers}
 use Rattle.hba_fbs.specs.Taking.{errors_in, ignores, is_ignored, is_running, passes_over, port_cause, stops_with}
 use Rattle.hba_fbs.specs.Views.{Port, view_of}
+use Rattle.hba_driver.specs.declared.mode.Mode.TheVariants.{Switching}
 use Rattle.hba_driver.specs.Events.{AreDriven}
 
 -- ---- in both modes
@@ -33,7 +34,7 @@ faultless_as false errors dev (Some f) spares h = absurd (true≢false spares)
 -- ---- the driver's mode
 
 -- a port that runs switches between devices
-pub started_mode : (n m : ℕ) (r : Registers) → AreDriven n m r → r.started ≡ true → r.switching ≡ true
+pub started_mode : (n m : ℕ) (r : Registers) → AreDriven Switching n m r → r.started ≡ true → r.switching ≡ true
 started_mode n m r d starts = elim (cases_lt n 7) [
   | inl less ↦ absurd (false≢true (sym (d.stopped (omega (arith, less))) ∙ starts))
   | inr least ↦ d.switches (omega (arith, least))

@@ -24,6 +24,7 @@ use Rattle.hba_laws.proofs.ViewLemmas.{own_in}
 use Rattle.hba_driver.specs.declared.order.Order.{Order}
 use Rattle.hba_driver.specs.declared.order.Order.TheVariants.{Scan}
 use Rattle.hba_driver.specs.declared.plan.Plan.{Plan}
+use Rattle.hba_driver.specs.declared.sight.Sight.{Sight}
 use Rattle.hba_driver.specs.Drivers.{Driver}
 use Rattle.hba_driver.specs.Events.{opening_host, shared_by}
 use Rattle.hba_driver.specs.Going.{IsOfControl, IsReport}
@@ -44,6 +45,7 @@ use Rattle.hba_driver.proofs.RowLemmas.{d2h_row, d2h_same, own_row, row_long, ro
 use Rattle.hba_driver.proofs.ScansLemmas.{Anew, Issues, Keeps, Moves, Orders31, Reads, Sees, cleared_none, moved_clears, moved_found, moved_left, moves, scan_is, seen_asked}
 use Rattle.hba_driver.proofs.ServeLemmas.{act_clears}
 use Rattle.hba_driver.proofs.Slot31Lemmas.{Control}
+use Rattle.hba_driver.proofs.SwitchLemmas.{sight_is}
 use Rattle.hba_driver.proofs.Tick31Lemmas.{order_stands, other_stays}
 use Rattle.hba_driver.proofs.Took31Lemmas.{closed_same, going_runs, heard_part, none_done, notice_view, skipped_part, took_own, took_part}
 use Rattle.hba_driver.proofs.Turn31Lemmas.{closed_gives, control_in31, opens31, turn31}
@@ -296,7 +298,7 @@ module _ (old : Host) (g : IsGoing old) (stage : Stage31) (at : IsAt31 stage old
       let least : 7 ≤ old.driver.plan.opened = asked_open stage old at r.asked in
       let free : is_none (own_issue (control_of old).view.slots 31) ≡ true =
       no_issue (own_issue (control_of old).view.slots 31) refl (slot_free old.port old.memory 31 g.way.sound.ruled.table (omega arith) r.free) in
-      let bit : has_bit (told_in (control_of old)) n ≡ true = ap (λ (k : ℕ). has_bit k n) (told_is old g least) ∙ r.bit in
+      let bit : has_bit (told_in (control_of old)) n ≡ true = ap (λ (k : ℕ). has_bit k n) (told_is old g least) ∙ ap (λ (v : Sight). has_bit v.answer n) (sym (sight_is old g.way.sound)) ∙ r.bit in
       and_from (is_scan old.driver.plan.order && old.driver.plan.asked) (tells n (control_of old))
       (and_from (is_scan old.driver.plan.order) old.driver.plan.asked (ap is_scan r.order) r.asked)
       (and_from (is_none (own_issue (control_of old).view.slots 31)) (has_bit (told_in (control_of old)) n) free bit)

@@ -1,11 +1,13 @@
 -- What a tick does to devices: whom it serves, and whom it flushes.
-use Rattle.std.proofs.Common.{◌≡◌, ℕ, zero, suc, ◌<◌, nat_lt, Bool, true, false, List, [], ◌∷◌, length, get_or, set, refl, sym, ◌∙◌, ap, subst, inl, inr, arith, Option, Some, None}
+use Rattle.std.proofs.Common.{◌≡◌, ℕ, zero, suc, ◌<◌, nat_lt, Bool, true, false, List, [], ◌∷◌, length, get_or, set, refl, sym, ◌∙◌, ap, subst, inl, inr, arith, Option, Some, None, ◌++◌}
 use Rattle.std.specs.Prelude.{if◌then◌else◌, ◌==◌, ◌||◌}
 use Rattle.std.specs.List.{list_any}
 use Rattle.std.proofs.lemmas.Bool.{cases_Bool, cases_lt, false≢true, true≢false}
 use Rattle.std.proofs.lemmas.Bool.Decides.{nat_tests}
 use Rattle.std.proofs.lemmas.List.{get_or_past, get_or-set_same, length-set}
 use Rattle.hba_driver.specs.declared.effect.Effect.{Effect}
+use Rattle.hba_driver.specs.declared.mode.Mode.{Mode}
+use Rattle.hba_driver.specs.declared.mode.Mode.TheVariants.{Switching, CommandBased}
 use Rattle.hba_driver.specs.declared.order.Order.{Order}
 use Rattle.hba_driver.specs.declared.order.Order.TheVariants.{ResetOn, ResetOff, AwaitSignature, CountPorts, SetMask, Enable, Open, Scan, Clear, Detect, Watch}
 use Rattle.hba_driver.specs.declared.plan.Device.{Device}
@@ -22,7 +24,7 @@ use Rattle.hba_driver.specs.declared.slot.Phase.TheVariants.{Aside, Ended}
 use Rattle.hba_driver.specs.declared.turn.Act.{Act}
 use Rattle.hba_driver.specs.declared.turn.Act.TheVariants as act
 use Rattle.hba_driver.specs.Drivers.{Driver, Entry, device_at, entry_at, has_ended, is_aside, rephase, rephased}
-use Rattle.hba_driver.specs.Effects.{effects_of, issuing, opening_write, opening_writes, order_effects, restart_write, restart_writes, stage_effects}
+use Rattle.hba_driver.specs.Effects.{effects_of, emptying, issuing, opening_write, opening_writes, order_command, order_effects, restart_write, restart_writes, stage_effects}
 use Rattle.hba_driver.specs.Laws.{TicksServe, flushes, is_withdrawn}
 use Rattle.hba_driver.specs.Orders.{order_fields}
 use Rattle.hba_driver.specs.Paths.{recovery, stage_fields}
@@ -55,25 +57,27 @@ at_none dev (x ∷ es) (suc k) e h n = at_none dev es k e (rest (flushes dev x) 
     rest true b h = absurd (true≢false h)
     rest false b h = h
 
-opens_none : (dev k : ℕ) → list_any (flushes dev) (effects_of (act.Opens k)) ≡ false
+opens_none : (mode : Mode) (dev k : ℕ) → list_any (flushes dev) (effects_of mode (act.Opens k)) ≡ false
 unfolding effects_of opening_write
-opens_none dev k = ap (λ (b : Bool). b || false) (at_none dev opening_writes k _ refl refl)
+opens_none mode dev k = ap (λ (b : Bool). b || false) (at_none dev (opening_writes mode) k _ refl refl)
 
-restarts_none : (dev k : ℕ) → list_any (flushes dev) (effects_of (act.Restarts k)) ≡ false
+restarts_none : (mode : Mode) (dev k : ℕ) → list_any (flushes dev) (effects_of mode (act.Restarts k)) ≡ false
 unfolding effects_of restart_write
-restarts_none dev k = ap (λ (b : Bool). b || false) (at_none dev restart_writes k _ refl refl)
+restarts_none mode dev k = ap (λ (b : Bool). b || false) (at_none dev restart_writes k _ refl refl)
 
-steps_none : (dev other : ℕ) (stage : Stage) → list_any (flushes dev) (stage_effects other stage) ≡ false
+issues_none : (mode : Mode) (dev slot other : ℕ) (queued : Bool) → list_any (flushes dev) (issuing mode slot other queued) ≡ false
+issues_none Switching dev slot other true = refl
+issues_none Switching dev slot other false = refl
+issues_none CommandBased dev slot other true = refl
+issues_none CommandBased dev slot other false = refl
+
+steps_none : (mode : Mode) (dev other : ℕ) (stage : Stage) → list_any (flushes dev) (stage_effects mode other stage) ≡ false
 unfolding stage_fields
-steps_none dev other Identify = refl
-steps_none dev other (ReadLog file) = refl
-steps_none dev other AssertReset = refl
-steps_none dev other ReleaseReset = refl
-steps_none dev other AwaitReset = refl
-
-issues_none : (dev slot other : ℕ) (queued : Bool) → list_any (flushes dev) (issuing slot other queued) ≡ false
-issues_none dev slot other true = refl
-issues_none dev slot other false = refl
+steps_none mode dev other Identify = issues_none mode dev 30 other false
+steps_none mode dev other (ReadLog file) = issues_none mode dev 30 other false
+steps_none mode dev other AssertReset = issues_none mode dev 30 other false
+steps_none mode dev other ReleaseReset = issues_none mode dev 30 other false
+steps_none mode dev other AwaitReset = refl
 
 -- an order flushes only the port that it clears
 abbrev ClearsPort : ℕ → Order → Type 0
@@ -82,30 +86,44 @@ ClearsPort dev order = order ≡ Clear dev
 equal_of : (x y : ℕ) → ((x == y) || false) ≡ true → x ≡ y
 equal_of x y h = grind (arith, nat_tests)
 
-clears : (dev : ℕ) (order : Order) → list_any (flushes dev) (order_effects order) ≡ true → order ≡ Clear dev
-unfolding order_effects order_fields
-clears dev ResetOn h = absurd (false≢true h)
-clears dev ResetOff h = absurd (false≢true h)
-clears dev AwaitSignature h = absurd (false≢true h)
-clears dev CountPorts h = absurd (false≢true h)
-clears dev SetMask h = absurd (false≢true h)
-clears dev Enable h = absurd (false≢true h)
-clears dev (Open port) h = absurd (false≢true h)
-clears dev Scan h = absurd (false≢true h)
-clears dev (Clear port) h = ap Clear (equal_of port dev h)
-clears dev (Detect port) h = absurd (false≢true h)
-clears dev Watch h = absurd (false≢true h)
+none_cleared : (mode : Mode) (dev : ℕ) {P : Type 0} → list_any (flushes dev) (issuing mode 31 15 false) ≡ true → P
+none_cleared mode dev h = absurd (false≢true (sym (issues_none mode dev 31 15 false) ∙ h))
 
-pub act_clears : (dev : ℕ) (a : Option Act) → list_any (flushes dev) (effects_due a) ≡ true → a ≡ Some (act.Orders (Clear dev))
+-- the rest of what clears a port flushes nothing
+rest_none : (mode : Mode) (dev port : ℕ) (es : List Effect) → list_any (flushes dev) es ≡ false → list_any (flushes dev) (emptying mode port ++ es) ≡ false
+rest_none Switching dev port es h = h
+rest_none CommandBased dev port es h = h
+
+by_flush : (b c : Bool) → c ≡ false → (b || c) ≡ true → (b || false) ≡ true
+by_flush true c none h = refl
+by_flush false c none h = absurd (false≢true (sym none ∙ h))
+
+clears : (mode : Mode) (dev : ℕ) (order : Order) → list_any (flushes dev) (order_effects mode order) ≡ true → order ≡ Clear dev
+unfolding order_effects order_fields
+clears mode dev ResetOn h = none_cleared mode dev h
+clears mode dev ResetOff h = none_cleared mode dev h
+clears mode dev AwaitSignature h = absurd (false≢true h)
+clears mode dev CountPorts h = none_cleared mode dev h
+clears mode dev SetMask h = none_cleared mode dev h
+clears mode dev Enable h = none_cleared mode dev h
+clears mode dev (Open port) h = none_cleared mode dev h
+clears mode dev Scan h = none_cleared mode dev h
+clears mode dev (Clear port) h =
+    ap Clear (equal_of port dev
+    (by_flush (port == dev) _ (rest_none mode dev port (order_command mode (Clear port)) (issues_none mode dev 31 15 false)) h))
+clears mode dev (Detect port) h = none_cleared mode dev h
+clears mode dev Watch h = absurd (false≢true h)
+
+pub act_clears : {mode : Mode} (dev : ℕ) (a : Option Act) → list_any (flushes dev) (effects_due mode a) ≡ true → a ≡ Some (act.Orders (Clear dev))
 unfolding effects_of
-act_clears dev None h = absurd (false≢true h)
-act_clears dev (Some (act.Opens k)) h = absurd (false≢true (sym (opens_none dev k) ∙ h))
-act_clears dev (Some act.Stops) h = absurd (false≢true h)
-act_clears dev (Some (act.Restarts k)) h = absurd (false≢true (sym (restarts_none dev k) ∙ h))
-act_clears dev (Some (act.Clears other)) h = absurd (false≢true h)
-act_clears dev (Some (act.Orders order)) h = ap (λ (o : Order). Some (act.Orders o)) (clears dev order h)
-act_clears dev (Some (act.Steps other stage)) h = absurd (false≢true (sym (steps_none dev other stage) ∙ h))
-act_clears dev (Some (act.Issues slot other queued)) h = absurd (false≢true (sym (issues_none dev slot other queued) ∙ h))
+act_clears {mode} dev None h = absurd (false≢true h)
+act_clears {mode} dev (Some (act.Opens k)) h = absurd (false≢true (sym (opens_none mode dev k) ∙ h))
+act_clears {mode} dev (Some act.Stops) h = absurd (false≢true h)
+act_clears {mode} dev (Some (act.Restarts k)) h = absurd (false≢true (sym (restarts_none mode dev k) ∙ h))
+act_clears {mode} dev (Some (act.Clears other)) h = absurd (false≢true h)
+act_clears {mode} dev (Some (act.Orders order)) h = ap (λ (o : Order). Some (act.Orders o)) (clears mode dev order h)
+act_clears {mode} dev (Some (act.Steps other stage)) h = absurd (false≢true (sym (steps_none mode dev other stage) ∙ h))
+act_clears {mode} dev (Some (act.Issues slot other queued)) h = absurd (false≢true (sym (issues_none mode dev slot other queued) ∙ h))
 
 -- what is due tells what becomes of the driver
 tick_of : (v : Sight) (file : TaskFile) (d : Driver) (a : Act) → due v d ≡ Some a → after_tick v file d ≡ acted (Some a) file (seen v d)

@@ -27,6 +27,8 @@ use Rattle.hba_laws.specs.Hosts.{HostEvent}
 use Rattle.hba_laws.specs.Sound as sound
 use Rattle.hba_laws.proofs.DoneLemmas.{opens_untold}
 use Rattle.hba_laws.proofs.SpareLemmas.{NoneIssues, gives_commands, out_none, took_none}
+use Rattle.hba_driver.specs.declared.mode.Mode.{Mode}
+use Rattle.hba_driver.specs.declared.mode.Mode.TheVariants.{Switching, CommandBased}
 use Rattle.hba_driver.specs.declared.plan.Device.{Device}
 use Rattle.hba_driver.specs.declared.plan.Device.TheVariants.{Absent}
 use Rattle.hba_driver.specs.declared.request.Completion.{Completion}
@@ -40,13 +42,14 @@ use Rattle.hba_driver.specs.declared.sight.Sight.{Sight}
 use Rattle.hba_driver.specs.declared.slot.Phase.{Phase}
 use Rattle.hba_driver.specs.declared.slot.Phase.TheVariants.{Waits, Issued, Aside, Ended}
 use Rattle.hba_driver.specs.declared.turn.Turn.{Turn}
-use Rattle.hba_driver.specs.Drivers.{Driver, Entry, device_at, entry_at, has_ended, has_ended_in, holds, is_aside, is_aside_in, is_issued, is_issued_in, new_driver, rephase, rephased}
+use Rattle.hba_driver.specs.Drivers.{Driver, Entry, device_at, entry_at, has_ended, has_ended_in, holds, is_aside, is_aside_in, is_issued, is_issued_in, new_driver_in, rephase, rephased}
 use Rattle.hba_driver.specs.Effects.{buffer_prd, table_of}
-use Rattle.hba_driver.specs.Events.{IsSoundHost, events_of, events_over, opening_host, shared_by}
+use Rattle.hba_driver.specs.Events.{IsSoundHostIn, events_of, events_over, opening_host_in, shared_by}
 use Rattle.hba_driver.specs.HostTurns.{Does, DoesAll, Host, HostTurn, Took, Pushed, Ticked, Submitted, Polled, Put, sight_in}
+use Rattle.hba_driver.specs.Modes.{is_switching}
 use Rattle.hba_driver.specs.Orders.{is_flush, is_queued}
 use Rattle.hba_driver.specs.Requests.{device_refusal, is_bad_count, is_bad_prd}
-use Rattle.hba_driver.specs.Served.{AreBounded, HasCommand, HaveCommands, HasSize, IsBounded, IsFisOf, IsIssueOf, IsServed, RunServes, TurnsServe}
+use Rattle.hba_driver.specs.Served.{AreBounded, HasCommand, HaveCommands, HasSize, IsBounded, IsFisOf, IsIssueOf, IsServed, RunServes, TurnsServe, AreOfOne}
 use Rattle.hba_driver.specs.Sights.{file_shown, sight_of}
 use Rattle.hba_driver.specs.Submits.{after_submit, end_of, lowest_ended, new_entry, new_head, next_slot, submit_refusal}
 use Rattle.hba_driver.specs.Ticks.{after_tick, done_ended, is_done, seen, turn}
@@ -65,7 +68,7 @@ use Rattle.hba_driver.proofs.ServingLemmas.{Follows, Goes, IsFree, beside_table,
 use Rattle.hba_driver.proofs.SoundLemmas.{sound_host, sound_turn}
 use Rattle.hba_driver.proofs.StandLemmas.{agree_turn, header_area, in_slots, posted_beside, runs, same_memory, same_written, table_area}
 use Rattle.hba_driver.proofs.SubmitLemmas.{is_taken}
-use Rattle.hba_driver.proofs.TickingLemmas.{Needs}
+use Rattle.hba_driver.proofs.TickingLemmas.{IsOurs, Needs}
 use Rattle.hba_driver.proofs.TurnLemmas.{first_none, framed_over, sound_shared, submit_open}
 
 -- ---- what a tick sees
@@ -73,7 +76,7 @@ use Rattle.hba_driver.proofs.TurnLemmas.{first_none, framed_over, sound_shared, 
 some_same : {A : Type 0} (a b : A) → Some a ≡ Some b → a ≡ b
 some_same a b h = cc
 
-not_done : (a b : Bool) → b ≡ true → (a && not b) ≡ false
+pub not_done : (a b : Bool) → b ≡ true → (a && not b) ≡ false
 not_done true true h = refl
 not_done false true h = refl
 not_done a false h = absurd (false≢true h)
@@ -88,63 +91,79 @@ issued_unaside Issued h = refl
 issued_unaside Aside h = absurd (false≢true h)
 issued_unaside (Ended o) h = refl
 
-module _ (port : Port) (memory : Memory) (d : Driver) (past : Touches) (host : sound.IsHost (beside port memory)) (served : IsServed d (beside port memory) past) where
+module _ (mode : Mode) (port : Port) (memory : Memory) (d : Driver) (past : Touches) (host : sound.IsHost (beside port memory)) (served : IsServed d (beside port memory) past) where
   -- what is issued has its bit
-  bit_on : (n s : ℕ) (t : Transfer) → n < 16 → s < 32 → issued s (own n past) ≡ Some t → has_bit (sight_of port memory).issued s ≡ true
-  bit_on n s t below slot here = elim (cases_Bool (has_bit (sight_of port memory).issued s)) [
+  pub bit_on : (n s : ℕ) (t : Transfer) → n < 16 → s < 32 → issued s (own n past) ≡ Some t → has_bit (sight_of mode port memory).issued s ≡ true
+  bit_on n s t below slot here = elim (cases_Bool (has_bit (sight_of mode port memory).issued s)) [
     | inl on ↦ on
     | inr off ↦ absurd (false≢true (sym (ap is_some (free_slot port memory s host.slots slot off)) ∙ told_at (beside port memory) past served.told n s t below here))
   ]
 
-  seen_follows : Follows d (seen (sight_of port memory) d)
+  seen_follows : Follows d (seen (sight_of mode port memory) d)
   seen_follows = record {
-    devices = (goes_turn (sight_of port memory) d.plan (done_ended (sight_of port memory).issued d.entries)).devices;
-    slots = slots_seen (sight_of port memory) d;
-    path = (goes_turn (sight_of port memory) d.plan (done_ended (sight_of port memory).issued d.entries)).low;
-    asked = λ x here a. inl ((goes_turn (sight_of port memory) d.plan (done_ended (sight_of port memory).issued d.entries)).back x here a);
+    mode = (goes_turn (sight_of mode port memory) d.plan (done_ended (sight_of mode port memory).issued d.entries)).mode;
+    devices = (goes_turn (sight_of mode port memory) d.plan (done_ended (sight_of mode port memory).issued d.entries)).devices;
+    slots = slots_seen (sight_of mode port memory) d;
+    path = (goes_turn (sight_of mode port memory) d.plan (done_ended (sight_of mode port memory).issued d.entries)).low;
+    asked = λ x here a. inl ((goes_turn (sight_of mode port memory) d.plan (done_ended (sight_of mode port memory).issued d.entries)).back x here a);
     entries = λ s f here.
-        let b = back_of (entry_at d.entries s) (entry_at (seen (sight_of port memory) d).entries s) (keeps_seen (sight_of port memory) d s) f here in
+        let b = back_of (entry_at d.entries s) (entry_at (seen (sight_of mode port memory) d).entries s) (keeps_seen (sight_of mode port memory) d s) f here in
         (b.0, b.1, b.2.same);
   }
 
-  seen_moves : (n s : ℕ) (t : Transfer) → n < 16 → issued s (own n past) ≡ Some t → From d n s t → From (seen (sight_of port memory) d) n s t
+  seen_moves : (n s : ℕ) (t : Transfer) → n < 16 → issued s (own n past) ≡ Some t → From d n s t → From (seen (sight_of mode port memory) d) n s t
   seen_moves n s t below here from =
-      let plan = goes_turn (sight_of port memory) d.plan (done_ended (sight_of port memory).issued d.entries) in
-      from_moves d (seen (sight_of port memory) d) n s t
+      let plan = goes_turn (sight_of mode port memory) d.plan (done_ended (sight_of mode port memory).issued d.entries) in
+      from_moves d (seen (sight_of mode port memory) d) n s t
       (λ f slot there goes of_dev.
-      let v : Sight = sight_of port memory in
+      let v : Sight = sight_of mode port memory in
       let still : entry_at (done_ended v.issued d.entries) s ≡ Some f =
       entry_of_rephased (is_done v.issued) (Ended Done) d.entries s ∙ ap (rephase (is_done v.issued s) (Ended Done)) there
       ∙ else_entry (is_done v.issued s f.head) (Some (rephased (Ended Done) f)) (Some f) (not_done (is_issued f.head) (has_bit v.issued s) (bit_on n s t below (omega (arith, slot)) here)) in
       unaside_stays v.log (turn v d).logged (done_ended v.issued d.entries) s (ap (holds is_aside) still ∙ issued_unaside f.head.phase goes) ∙ still)
-      (λ is x h a of_dev. plan.path (subst (λ (k : ℕ). has_bit (sight_of port memory).issued k ≡ true) is (bit_on n s t below (omega (arith, is)) here)) x h a)
-      (λ is h. plan.asked (subst (λ (k : ℕ). has_bit (sight_of port memory).issued k ≡ true) is (bit_on n s t below (omega (arith, is)) here)) h)
+      (λ is x h a of_dev. plan.path (subst (λ (k : ℕ). has_bit (sight_of mode port memory).issued k ≡ true) is (bit_on n s t below (omega (arith, is)) here)) x h a)
+      (λ is h. plan.asked (subst (λ (k : ℕ). has_bit (sight_of mode port memory).issued k ≡ true) is (bit_on n s t below (omega (arith, is)) here)) h)
       from
 
-  pub seen_served : IsServed (seen (sight_of port memory) d) (beside port memory) past
-  seen_served = served_moves d (seen (sight_of port memory) d) (beside port memory) past seen_follows seen_moves served
+  pub seen_served : IsServed (seen (sight_of mode port memory) d) (beside port memory) past
+  seen_served = served_moves d (seen (sight_of mode port memory) d) (beside port memory) past seen_follows seen_moves served
 
 -- ---- a tick
 
-pub needs_area : (old : Host) → IsSoundHost old → Needs (turn (sight_in old) old.driver).act → old.port.registers.fb ≡ 4096
-needs_area old s needs = elim (cases_Bool (nat_lt old.driver.plan.opened 7)) [
+opened_for : {mode : Mode} (old : Host) → IsSoundHostIn mode old → Needs (turn (sight_in old) old.driver).act → 7 ≤ old.driver.plan.opened
+opened_for old s needs = elim (cases_Bool (nat_lt old.driver.plan.opened 7)) [
   | inl less ↦
       let is = turn_opens (sight_in old) old.driver.plan (done_ended (sight_in old).issued old.driver.entries) less in
       absurd (subst Needs (ap (λ (t : Turn). t.act) is) needs)
-  | inr more ↦ s.registers.area (omega (arith, not_below old.driver.plan.opened 7 more))
+  | inr more ↦ not_below old.driver.plan.opened 7 more
 ]
 
-tick_goes : (D : Driver) (fs : List HostEvent) (c : event.Host) (old : Host) (a : Bool) (new : Host) (h : Does old (Ticked a) new) → MayEnd (turn (sight_in old) old.driver).act old.port → IsSoundHost old → Goes D new.driver fs c (shared_by new)
+pub needs_area : {mode : Mode} (old : Host) → IsSoundHostIn mode old → Needs (turn (sight_in old) old.driver).act → old.port.registers.fb ≡ 4096
+needs_area old s needs = s.registers.area (omega (arith, opened_for old s needs))
+
+pub needs_ours : {mode : Mode} (old : Host) → IsSoundHostIn mode old → Needs (turn (sight_in old) old.driver).act → IsOurs old.driver.plan.mode old.port.registers
+needs_ours old s needs = record {
+  list = s.registers.commands;
+  area = needs_area old s needs;
+  switches = s.registers.switches (omega (arith, opened_for old s needs)) ∙ ap is_switching (sym s.drives);
+}
+
+-- what ends a fault, in the mode of the driver
+pub may_end_in : {mode : Mode} (old : Host) → IsSoundHostIn mode old → MayEnd old.driver.plan.mode (turn (sight_in old) old.driver).act old.port
+may_end_in old s = subst (λ (m : Mode). MayEnd m (turn (sight_in old) old.driver).act old.port) (sym s.drives) (may_end old s)
+
+tick_goes : {mode : Mode} (D : Driver) (fs : List HostEvent) (c : event.Host) (old : Host) (a : Bool) (new : Host) (h : Does old (Ticked a) new) → IsSoundHostIn mode old → Goes D new.driver fs c (shared_by new)
     → Goes D old.driver (events_of old (Ticked a) new h ++ fs) c (shared_by old)
 unfolding after_tick
-tick_goes D fs c old a new h may s go = λ past served.
+tick_goes D fs c old a new h s go = λ past served.
     let v : Sight = sight_in old in
-    each_act D (seen v old.driver) v (file_shown new.port) fs c (turn v old.driver).act old.port new.port old.memory new.memory may (due_seen v old.driver) s.registers.commands (needs_area old s) s.ruled s.memory h.possible h.does
-    (subst (λ (d : Driver). Goes D d fs c (shared_by new)) h.driver go) past (seen_served old.port old.memory old.driver past (sound_beside old.port old.memory s.ruled s.memory) served)
+    let mode_is : (seen v old.driver).plan.mode ≡ old.driver.plan.mode = (goes_turn v old.driver.plan (done_ended v.issued old.driver.entries)).mode in
+    each_act D (seen v old.driver) v (file_shown new.port) fs c old.driver.plan.mode (turn v old.driver).act old.port new.port old.memory new.memory (may_end_in old s) (due_seen v old.driver) mode_is (needs_ours old s) s.ruled s.memory h.possible h.does
+    (subst (λ (d : Driver). Goes D d fs c (shared_by new)) h.driver go) past (seen_served old.driver.plan.mode old.port old.memory old.driver past (sound_beside old.port old.memory s.ruled s.memory) served)
 
 -- ---- commands stay over a turn
 
-stands_turn : (old : Host) (t : HostTurn) (new : Host) → Does old t new → IsSoundHost old → IsSoundHost new → AreBounded old.driver → HaveCommands old.driver old.memory → HaveCommands old.driver new.memory
+stands_turn : {mode : Mode} (old : Host) (t : HostTurn) (new : Host) → Does old t new → IsSoundHostIn mode old → IsSoundHostIn mode new → AreBounded old.driver → HaveCommands old.driver old.memory → HaveCommands old.driver new.memory
 stands_turn old t new h s n bounded commands k e here =
     let below : k < 30 = in_slots old.driver.entries k e bounded.slots here in
     command_stays k e old.memory new.memory (n.memory.structure_len ∙ sym s.memory.structure_len) (bounded.entries k e here).few (record {
@@ -163,7 +182,7 @@ took_commands old new frame report h = elim (cases_Bool (ignores (port_of frame)
   | inr heard ↦ (h.heard heard).commands
 ]
 
-took_table : (old new : Host) (frame : List ℕ) (report : TakeReport) → Does old (Took frame report) new → IsSoundHost old → (s : ℕ) → AgreeFrom (table_of s) 4096 old.memory.structure new.memory.structure
+took_table : {mode : Mode} (old new : Host) (frame : List ℕ) (report : TakeReport) → Does old (Took frame report) new → IsSoundHostIn mode old → (s : ℕ) → AgreeFrom (table_of s) 4096 old.memory.structure new.memory.structure
 took_table old new frame report h sound s = elim (cases_Bool (ignores (port_of frame) old.port frame)) [
   | inl skip ↦ same_memory (table_of s) 4096 old.memory new.memory (ap (λ (m : Memory). m.structure) (h.ignored skip).memory)
   | inr heard ↦
@@ -181,7 +200,7 @@ kept_out past apart k host (out.Unreadable dev) = k
 kept_out past apart k host (out.Data dev offset len command) = (apart, k)
 kept_out past apart k host (out.Order dev slot command) = kept_sent past k dev slot (issue_holds is_control_issue (issue_at host.port.slots slot))
 
-all_apart : (h : Host) (past : Touches) → IsSoundHost h → IsServed h.driver (shared_by h) past → AreApart past
+all_apart : {mode : Mode} (h : Host) (past : Touches) → IsSoundHostIn mode h → IsServed h.driver (shared_by h) past → AreApart past
 all_apart h past s served = issues_apart h.driver past served.issues served.bounded s.requests
 
 same_driver : (D : Driver) (fs : List HostEvent) (c : event.Host) (old new : Host) → new.driver ≡ old.driver → Goes D new.driver fs c (shared_by new) → Goes D old.driver fs c (shared_by new)
@@ -275,6 +294,7 @@ submit_served old dev request ticket new past h served = record {
   issues = λ n s t here.
       let i = served.issues n s t here in
       record { dev = i.dev; from = submit_moves old.driver old.memory dev request h.accepted n s t i.from; total = i.total; apart = i.apart };
+  one = served.one;
   fises = λ n s t command here is.
       let f = served.fises n s t command here is in
       record {
@@ -305,6 +325,7 @@ poll_ended d c f =
 module _ (d : Driver) (c : Completion) (f : PollFacts d c) where
   poll_follows : Follows d (record d { entries = set d.entries f.place None })
   poll_follows = record {
+    mode = refl;
     devices = refl;
     path = λ h. h;
     asked = λ x here a. inl here;
@@ -331,7 +352,7 @@ module _ (d : Driver) (c : Completion) (f : PollFacts d c) where
 
 -- ---- each turn
 
-turn_goes : (D : Driver) (fs : List HostEvent) (c : event.Host) (old : Host) (t : HostTurn) (new : Host) (h : Does old t new) → IsSoundHost old → IsSoundHost new → Goes D new.driver fs c (shared_by new)
+turn_goes : {mode : Mode} (D : Driver) (fs : List HostEvent) (c : event.Host) (old : Host) (t : HostTurn) (new : Host) (h : Does old t new) → IsSoundHostIn mode old → IsSoundHostIn mode new → Goes D new.driver fs c (shared_by new)
     → Goes D old.driver (events_of old t new h ++ fs) c (shared_by old)
 unfolding NoneIssues
 turn_goes D fs c old (Took frame report) new h s n go = λ past served.
@@ -351,7 +372,7 @@ turn_goes D fs c old (Pushed frame) new h s n go = λ past served.
     (same_driver D fs c old new h.driver go (touched (shared_by old) (event.Gave frame) ++ past)
     (calm_event old.driver (shared_by old) (shared_by new) (event.Gave frame) past host tt does (out_none (shared_by old) (outgoing old.port old.memory))
     (gives_commands (outgoing old.port old.memory) old.port new.port old.memory frame h.gives) (stands_turn old (Pushed frame) new h s n served.bounded served.commands) served))
-turn_goes D fs c old (Ticked a) new h s n go = tick_goes D fs c old a new h (may_end old s) s go
+turn_goes D fs c old (Ticked a) new h s n go = tick_goes D fs c old a new h s go
 turn_goes D fs c old (Submitted dev request ticket) new h s n go = λ past served.
     let host = sound_shared old s in
     let below : next_slot old.driver < 30 = free_below old.driver old.memory dev request h.accepted in
@@ -384,14 +405,14 @@ turn_goes D fs c old (Put at bytes) new h s n go = λ past served.
 
 -- ---- over turns
 
-over : (turns : List HostTurn) (old new : Host) (run : DoesAll old turns new) → IsSoundHost old → Goes new.driver old.driver (events_over old new turns run) (shared_by new) (shared_by old)
-over [] old new run s = λ past served.
+over : {mode : Mode} (turns : List HostTurn) (old new : Host) (run : DoesAll old turns new) → IsSoundHostIn mode old → Goes new.driver old.driver (events_over old new turns run) (shared_by new) (shared_by old)
+over {mode} [] old new run s = λ past served.
     rest_none new.driver (shared_by old) (shared_by new) past (ap shared_by run) (sound_shared old s) (subst (λ (x : Host). IsServed x.driver (shared_by old) past) (sym run) served)
-over (t ∷ turns) old new run s =
-    let n : IsSoundHost run.0 = sound_turn old t run.0 run.1 s in
+over {mode} (t ∷ turns) old new run s =
+    let n : IsSoundHostIn mode run.0 = sound_turn old t run.0 run.1 s in
     turn_goes new.driver (events_over run.0 new turns run.2) (shared_by new) old t run.0 run.1 s n (over turns run.0 new run.2 n)
 
-serves : (old new : Host) (turns : List HostTurn) (run : DoesAll old turns new) → IsSoundHost old → (past : Touches) → IsServed old.driver (shared_by old) past → RunServes old new turns run past
+serves : {mode : Mode} (old new : Host) (turns : List HostTurn) (run : DoesAll old turns new) → IsSoundHostIn mode old → (past : Touches) → IsServed old.driver (shared_by old) past → RunServes old new turns run past
 serves old new turns run s past served =
     let rest = over turns old new run s past served in
     record {
@@ -431,13 +452,18 @@ none_issued d n s t h = cc
 none_fis : (d : Driver) (n s : ℕ) (t : Transfer) (command : Command) → None ≡ Some t → IsFisOf d n s t command
 none_fis d n s t command h = cc
 
-opens : (given len : ℕ) → is_memory_size len ≡ true → IsServed (new_driver given) (shared_by (opening_host given len)) []
-opens given len h = record {
-  told = λ n below. opens_untold n (shared_by (opening_host given len)).memory;
+none_of_two : (mode : Mode) → AreOfOne mode []
+none_of_two Switching = tt
+none_of_two CommandBased n m s r t u here there = cc
+
+opens : (mode : Mode) (given len : ℕ) → is_memory_size len ≡ true → IsServed (new_driver_in mode given) (shared_by (opening_host_in mode given len)) []
+opens mode given len h = record {
+  told = λ n below. opens_untold n (shared_by (opening_host_in mode given len)).memory;
   bounded = record { devices = length-replicate {A = Device} 15 Absent; path = tt; slots = length-replicate {A = Option Entry} 30 None; entries = λ s e here. none_here s e here };
   commands = λ s e here. none_here s e here;
-  issues = λ n s t here. none_issued (new_driver given) n s t here;
-  fises = λ n s t command here is. none_fis (new_driver given) n s t command here;
+  issues = λ n s t here. none_issued (new_driver_in mode given) n s t here;
+  fises = λ n s t command here is. none_fis (new_driver_in mode given) n s t command here;
+  one = none_of_two mode;
   tables = λ s command is. no_command s command is;
 }
 

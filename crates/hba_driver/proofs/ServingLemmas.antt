@@ -34,7 +34,9 @@ use Rattle.hba_driver.specs.Drivers.{Driver, Entry, IsPath, entry_at, is_issued,
 use Rattle.hba_driver.specs.Effects.{Acts, Tries, is_effect, prds_with, table_of}
 use Rattle.hba_driver.specs.Events.{events_of_effect, wrote_to}
 use Rattle.hba_driver.specs.Orders.{request_fields}
-use Rattle.hba_driver.specs.Served.{AreBounded, HasCommand, HaveCommands, IsBounded, IsBuiltOf, IsFisOf, IsServed}
+use Rattle.hba_driver.specs.declared.mode.Mode.{Mode}
+use Rattle.hba_driver.specs.Modes.{is_switching}
+use Rattle.hba_driver.specs.Served.{AreBounded, AreOfOne, HasCommand, HaveCommands, IsBounded, IsBuiltOf, IsFisOf, IsServed}
 use Rattle.hba_driver.proofs.DrivenLemmas.{refusal_is}
 use Rattle.hba_driver.proofs.EventLemmas.{beside, beside_area, beside_same, does_store}
 use Rattle.hba_driver.proofs.IssueLemmas.{Rest, calm_event, command_stays, rest_then, spares_by, told_of}
@@ -49,6 +51,7 @@ IsNoStep d = (x : Path) → d.plan.path ≡ Some x → x.asked ≡ true → ⊥
 
 -- of each request only the phase may change
 pub record Follows (d e : Driver) : Type 0 where
+  pub mode : e.plan.mode ≡ d.plan.mode
   pub devices : length e.plan.devices ≡ length d.plan.devices
   pub slots : length e.entries ≡ length d.entries
   pub path : IsPath d.plan.path → IsPath e.plan.path
@@ -107,6 +110,7 @@ served_moves d e h past follows moves served = record {
       let i = served.issues n s t here in
       record { dev = i.dev; from = moves n s t i.dev here i.from; total = i.total; apart = i.apart };
   fises = λ n s t command here is. fis_moves d e n s t command follows (served.issues n s t here).from (served.fises n s t command here is);
+  one = subst (λ (m : Mode). AreOfOne m past) (sym follows.mode) served.one;
   tables = served.tables;
 }
 
@@ -252,26 +256,26 @@ taken_goes D d e fs c register offset value old new before after at is calm foll
 
 -- the write of PxCI that issues the command in a slot
 ci_by : (D d : Driver) (fs : List HostEvent) (c : event.Host) (o : Option WriteError) (offset slot dev : ℕ) (prds : List Prd) (fields : H2dFields) (old new : Port) (before after : Memory)
-    → slot < 32 → dev < 16 → old.registers.clb ≡ 0 → Standing slot dev prds fields before → MayIssue d slot dev prds fields
+    → slot < 32 → dev < 16 → old.registers.clb ≡ 0 → old.registers.switching ≡ is_switching d.plan.mode → Standing slot dev prds fields before → MayIssue d slot dev prds fields
     → write_refusal old before offset (2 ^ slot) ≡ o → register_at offset ≡ Some Ci → sound.IsHost (beside old before) → Tries old before offset (2 ^ slot) new → after ≡ before
     → Goes D d fs c (beside new after) → Goes D d (match_some o (wrote_to (Some Ci) (2 ^ slot)) (λ e. []) ++ fs) c (beside old before)
-ci_by D d fs c (Some e) offset slot dev prds fields old new before after below dev_below list stands may is at host tries stays go =
+ci_by D d fs c (Some e) offset slot dev prds fields old new before after below dev_below list on stands may is at host tries stays go =
     subst (λ (h : event.Host). Goes D d fs c h) (beside_same old new before after (tries.refused e is) stays) go
-ci_by D d fs c None offset slot dev prds fields old new before after below dev_below list stands may is at host tries stays go = λ past served.
+ci_by D d fs c None offset slot dev prds fields old new before after below dev_below list on stands may is at host tries stays go = λ past served.
     let accepts : Accepts old before Ci (2 ^ slot) new = accepts_at old new before offset (2 ^ slot) (Some Ci) at tries is in
     let does : event.Does (beside old before) (event.Wrote Ci (2 ^ slot)) (beside new after) = (sym (refusal_is Ci offset (2 ^ slot) old before at) ∙ is, accepts, stays) in
     rest_then D (beside old before) (beside new after) c (event.Wrote Ci (2 ^ slot)) fs past does host (spares_same (beside old before) (beside new after) stays)
     (kept_write Ci (beside old before) (2 ^ slot) past)
     (go (touched (beside old before) (event.Wrote Ci (2 ^ slot)) ++ past)
-    (ci_served d (beside old before) (beside new after) past slot dev prds fields below dev_below host list stands may does served))
+    (ci_served d (beside old before) (beside new after) past slot dev prds fields below dev_below host list on stands may does served))
 
 pub ci_goes : (D d : Driver) (fs : List HostEvent) (c : event.Host) (offset slot dev : ℕ) (prds : List Prd) (fields : H2dFields) (old new : Port) (before after : Memory)
-    → slot < 32 → dev < 16 → old.registers.clb ≡ 0 → Standing slot dev prds fields before → MayIssue d slot dev prds fields → register_at offset ≡ Some Ci → sound.IsHost (beside old before)
+    → slot < 32 → dev < 16 → old.registers.clb ≡ 0 → old.registers.switching ≡ is_switching d.plan.mode → Standing slot dev prds fields before → MayIssue d slot dev prds fields → register_at offset ≡ Some Ci → sound.IsHost (beside old before)
     → Acts (effect.Writes offset (2 ^ slot)) old before new after → Goes D d fs c (beside new after)
     → Goes D d (events_of_effect (effect.Writes offset (2 ^ slot)) old before after ++ fs) c (beside old before)
-ci_goes D d fs c offset slot dev prds fields old new before after below dev_below list stands may at host acts go =
+ci_goes D d fs c offset slot dev prds fields old new before after below dev_below list on stands may at host acts go =
     subst (λ (r : Option Register). Goes D d (match_some (write_refusal old before offset (2 ^ slot)) (wrote_to r (2 ^ slot)) (λ e. []) ++ fs) c (beside old before)) (sym at)
-    (ci_by D d fs c (write_refusal old before offset (2 ^ slot)) offset slot dev prds fields old new before after below dev_below list stands may refl at host acts.0 acts.1 go)
+    (ci_by D d fs c (write_refusal old before offset (2 ^ slot)) offset slot dev prds fields old new before after below dev_below list on stands may refl at host acts.0 acts.1 go)
 
 -- ---- a device is flushed
 

@@ -58,11 +58,11 @@ set_driven n h reset = record {
 }
 
 pub each_reset_is_driven : EachResetIsDriven
-each_reset_is_driven n old acted new below does is tended =
+each_reset_is_driven n old acted new below does on is tended =
     let calm : IsCalmAct n (due (sight_in old) old.driver) = subst (IsCalmAct n) (sym is) tt in
-    let on : TendsOn n old (Ticked acted) new = turn_tended n old (Ticked acted) new below does calm tended in
+    let tends : TendsOn n old (Ticked acted) new = turn_tended n old (Ticked acted) new below does on calm tended in
     let works : WorksOn n AssertReset true new.driver.plan = subst (λ (d : Driver). WorksOn n AssertReset true d.plan) (sym does.driver) (path_set n old (file_shown new.port) is) in
-    elim on.next [
+    elim tends.next [
       | inl still ↦ absurd (not_tended n new.driver.plan still.plan.way (at_stage n AssertReset true new.driver.plan IsSetting works tt))
       | inr reset ↦ set_driven n new reset.1
     ]

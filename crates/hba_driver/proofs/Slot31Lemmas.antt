@@ -21,8 +21,9 @@ use Rattle.hba_driver.specs.Orders.{next_order, order_fields, scan_from}
 use Rattle.hba_driver.specs.Paths.{stage_fields}
 use Rattle.hba_driver.specs.Slot31.{is_off, is_on}
 use Rattle.hba_driver.specs.Ticks.{acted, after_tick, done_ended, due, from_reset, plan_after, recovering, seen}
-use Rattle.hba_driver.specs.Turns.{advanced, answered, control_news, control_seen, device_due, device_seen, device_turn, early_due, found_of, is_back, is_due, issue_of, may_issue, met, met_order, noted, path_due, plain_turn, request_due, stage_due, stage_for, step_of, turn_of, with_next}
+use Rattle.hba_driver.specs.Turns.{advanced, allowed, answered, control_news, control_seen, device_due, device_seen, device_turn, early_due, found_of, is_back, is_due, issue_of, may_issue, met, met_order, noted, order_due, path_due, plain_turn, request_due, stage_due, stage_for, step_of, turn_of, with_next}
 use Rattle.hba_driver.specs.Going.{leaves_port}
+use Rattle.hba_driver.proofs.DueLemmas.{allowed_keeps}
 use Rattle.hba_driver.proofs.StopLemmas.{either}
 
 -- ---- the part of a plan that concerns slot 31
@@ -119,12 +120,20 @@ module _ (v : Sight) (p : Plan) (entries : List (Option Entry)) where
   abbrev c : Plan
   c = control_seen v p
 
-  devices_seen : Seen (device_turn v (control_news v p) c entries)
-  devices_seen = Looked (or_other _ _ (device_other v (device_seen v c)) (request_other (device_seen v c) entries)) (device_same v c)
+  abbrev d : Plan
+  d = device_seen v c
 
-  due_seen_by : (b : Bool) (o : Option H2dFields) → c.asked ≡ b → order_fields c.order ≡ o
-      → Seen (if is_some (if b then None else option_map (λ (f : H2dFields). act.Orders c.order) o)
-      then plain_turn c (if b then None else option_map (λ (f : H2dFields). act.Orders c.order) o) (control_news v p) else device_turn v (control_news v p) c entries)
+  other_allowed : (q : Plan) (a : Option Act) → IsOther a → IsOther (allowed q.mode v q entries a)
+  other_allowed q a h = allowed_keeps IsOther tt q.mode v q entries a h
+
+  devices_seen : Seen (device_turn v (control_news v p) c entries)
+  devices_seen = Looked (or_other _ _ (other_allowed d (device_due v d) (device_other v d)) (other_allowed d (request_due d entries) (request_other d entries))) (device_same v c)
+
+  -- what is due for slot 31, and what may go of it
+  abbrev SeenBy : Option Act → Type 0
+  SeenBy a = Seen (if is_some a then plain_turn c a (control_news v p) else device_turn v (control_news v p) c entries)
+
+  due_seen_by : (b : Bool) (o : Option H2dFields) → c.asked ≡ b → order_fields c.order ≡ o → SeenBy (if b then None else option_map (λ (f : H2dFields). act.Orders c.order) o)
   due_seen_by true o asked fields = devices_seen
   due_seen_by false None asked fields = devices_seen
   due_seen_by false (Some f) asked fields = Ordered c.order refl refl asked refl (ap is_some fields)
@@ -133,7 +142,7 @@ module _ (v : Sight) (p : Plan) (entries : List (Option Entry)) where
   unfolding turn_of
   turn_seen =
       either Seen (is_some (early_due v p)) _ _ (Early (early_other v p) refl)
-      (due_seen_by c.asked (order_fields c.order) refl refl)
+      (allowed_keeps SeenBy devices_seen c.mode v c entries (order_due c) (due_seen_by c.asked (order_fields c.order) refl refl))
 
 -- ---- what an act leaves of it
 

@@ -25,6 +25,8 @@ use Rattle.hba_fbs.specs.Taking.{PostsIn, admitted, ignores, is_running, port_of
 use Rattle.hba_fbs.specs.Views.{Port}
 use Rattle.hba_driver.specs.declared.effect.Effect.{Effect}
 use Rattle.hba_driver.specs.declared.effect.Effect.TheVariants as effect
+use Rattle.hba_driver.specs.declared.mode.Mode.{Mode}
+use Rattle.hba_driver.specs.declared.mode.Mode.TheVariants.{Switching, CommandBased}
 use Rattle.hba_driver.specs.declared.order.Order.{Order}
 use Rattle.hba_driver.specs.declared.order.Order.TheVariants.{ResetOn, ResetOff, AwaitSignature, CountPorts, SetMask, Enable, Open, Scan, Clear, Detect, Watch}
 use Rattle.hba_driver.specs.declared.turn.Act.{Act}
@@ -32,7 +34,7 @@ use Rattle.hba_driver.specs.declared.turn.Act.TheVariants as act
 use Rattle.hba_driver.specs.Drivers.{AreRequests, Entry, entry_at}
 use Rattle.hba_driver.specs.declared.path.Stage.{Stage}
 use Rattle.hba_driver.specs.declared.path.Stage.TheVariants.{Identify, ReadLog, AssertReset, ReleaseReset, AwaitReset}
-use Rattle.hba_driver.specs.Effects.{Acts, ActsAll, effects_of, is_effect, issuing, opening_write, opening_writes, order_effects, prds_with, restart_write, restart_writes, stage_effects, table_of}
+use Rattle.hba_driver.specs.Effects.{Acts, ActsAll, effects_of, emptying, is_effect, issuing, opening_write, opening_writes, order_command, order_effects, prds_with, restart_write, restart_writes, stage_effects, table_of}
 use Rattle.hba_driver.specs.HostTurns.{AreHosts, Does, DoesAll, Host, HostTurn, IsHost, Took, Pushed, Ticked, Submitted, Polled, Put, sight_in}
 use Rattle.hba_driver.specs.Laws.{CommandsStand, Stands, gives}
 use Rattle.hba_driver.specs.Orders.{order_fields}
@@ -145,50 +147,56 @@ same_acts at count own (e ∷ es) old new before after is l h long =
     same_then at count before.structure h.1.structure after.structure first (same_acts at count own es h.0 new h.1 after effect_is.1 late_is.1 h.4 first.long)
 
 -- each act writes commands only into the slots 30 and 31
-late_issuing : (slot dev : ℕ) (queued : Bool) → list_all late (issuing slot dev queued) ≡ true
-late_issuing slot dev true = refl
-late_issuing slot dev false = refl
+late_issuing : (mode : Mode) (slot dev : ℕ) (queued : Bool) → list_all late (issuing mode slot dev queued) ≡ true
+late_issuing Switching slot dev true = refl
+late_issuing Switching slot dev false = refl
+late_issuing CommandBased slot dev true = refl
+late_issuing CommandBased slot dev false = refl
 
-late_opens : (k : ℕ) → late (opening_write k) ≡ true
+late_emptying : (mode : Mode) (dev : ℕ) (es : List Effect) → list_all late es ≡ true → list_all late (emptying mode dev ++ es) ≡ true
+late_emptying Switching dev es h = h
+late_emptying CommandBased dev es h = h
+
+late_opens : (mode : Mode) (k : ℕ) → late (opening_write mode k) ≡ true
 unfolding opening_write
-late_opens k = all_at late opening_writes k _ refl refl
+late_opens mode k = all_at late (opening_writes mode) k _ refl refl
 
 late_restarts : (k : ℕ) → late (restart_write k) ≡ true
 unfolding restart_write
 late_restarts k = all_at late restart_writes k _ refl refl
 
-late_stage : (dev : ℕ) (stage : Stage) → list_all late (stage_effects dev stage) ≡ true
+late_stage : (mode : Mode) (dev : ℕ) (stage : Stage) → list_all late (stage_effects mode dev stage) ≡ true
 unfolding stage_fields
-late_stage dev Identify = refl
-late_stage dev (ReadLog file) = refl
-late_stage dev AssertReset = refl
-late_stage dev ReleaseReset = refl
-late_stage dev AwaitReset = refl
+late_stage mode dev Identify = late_issuing mode 30 dev false
+late_stage mode dev (ReadLog file) = late_issuing mode 30 dev false
+late_stage mode dev AssertReset = late_issuing mode 30 dev false
+late_stage mode dev ReleaseReset = late_issuing mode 30 dev false
+late_stage mode dev AwaitReset = refl
 
-late_order : (order : Order) → list_all late (order_effects order) ≡ true
+late_order : (mode : Mode) (order : Order) → list_all late (order_effects mode order) ≡ true
 unfolding order_fields order_effects
-late_order ResetOn = refl
-late_order ResetOff = refl
-late_order AwaitSignature = refl
-late_order CountPorts = refl
-late_order SetMask = refl
-late_order Enable = refl
-late_order (Open port) = refl
-late_order Scan = refl
-late_order (Clear port) = refl
-late_order (Detect port) = refl
-late_order Watch = refl
+late_order mode ResetOn = late_issuing mode 31 15 false
+late_order mode ResetOff = late_issuing mode 31 15 false
+late_order mode AwaitSignature = refl
+late_order mode CountPorts = late_issuing mode 31 15 false
+late_order mode SetMask = late_issuing mode 31 15 false
+late_order mode Enable = late_issuing mode 31 15 false
+late_order mode (Open port) = late_issuing mode 31 15 false
+late_order mode Scan = late_issuing mode 31 15 false
+late_order mode (Clear port) = late_emptying mode port (order_command mode (Clear port)) (late_issuing mode 31 15 false)
+late_order mode (Detect port) = late_issuing mode 31 15 false
+late_order mode Watch = refl
 
-pub late_act : (a : Option Act) → list_all late (effects_due a) ≡ true
+pub late_act : (mode : Mode) (a : Option Act) → list_all late (effects_due mode a) ≡ true
 unfolding effects_of
-late_act None = refl
-late_act (Some (act.Opens k)) = rw (late_opens k) refl
-late_act (Some act.Stops) = refl
-late_act (Some (act.Restarts k)) = rw (late_restarts k) refl
-late_act (Some (act.Clears dev)) = refl
-late_act (Some (act.Orders order)) = late_order order
-late_act (Some (act.Steps dev stage)) = late_stage dev stage
-late_act (Some (act.Issues slot dev queued)) = late_issuing slot dev queued
+late_act mode None = refl
+late_act mode (Some (act.Opens k)) = rw (late_opens mode k) refl
+late_act mode (Some act.Stops) = refl
+late_act mode (Some (act.Restarts k)) = rw (late_restarts k) refl
+late_act mode (Some (act.Clears dev)) = refl
+late_act mode (Some (act.Orders order)) = late_order mode order
+late_act mode (Some (act.Steps dev stage)) = late_stage mode dev stage
+late_act mode (Some (act.Issues slot dev queued)) = late_issuing mode slot dev queued
 
 -- ---- posted FISes
 
@@ -249,7 +257,7 @@ pub agree_turn : (s at count : ℕ) → IsArea s at count → (e : Entry) (old :
 agree_turn s at count area e old (Took frame report) new h host here = agree_took s at count area old new frame report h host
 agree_turn s at count area e old (Pushed frame) new h host here = same_memory at count old.memory new.memory (ap (λ (m : Memory). m.structure) h.memory)
 agree_turn s at count area e old (Ticked a) new h host here =
-    (same_acts at count area.own (effects (sight_in old) old.driver) old.port new.port old.memory new.memory h.possible (late_act (due (sight_in old) old.driver)) h.does host.memory.structure_len).agree
+    (same_acts at count area.own (effects (sight_in old) old.driver) old.port new.port old.memory new.memory h.possible (late_act old.driver.plan.mode (due (sight_in old) old.driver)) h.does host.memory.structure_len).agree
 agree_turn s at count area e old (Submitted dev request ticket) new h host here =
     let n : ℕ = next_slot old.driver in
     let below : n < 30 = free_below old.driver old.memory dev request h.accepted in

@@ -26,7 +26,8 @@ use Rattle.hba_driver.specs.Orders.{next_order, open_from, order_fields, scan_fr
 use Rattle.hba_driver.specs.Paths.{first_stage, next_stage, stage_fields}
 use Rattle.hba_driver.specs.Steady.{IsAskedOf, IsCalmAct, IsFine, IsSteadyPlan, detects}
 use Rattle.hba_driver.specs.Ticks.{from_reset, ordered, plan_after, recovering, unless}
-use Rattle.hba_driver.specs.Turns.{advanced, answered, control_news, control_seen, control_turn, detected, device_due, device_seen, early_due, fault_due, found_of, is_back, is_due, is_there, issue_of, may_issue, met, met_order, met_path, noted, opening_due, order_due, path_answered, path_due, path_met, path_to, request_due, restart_due, signed_order, stage_due, stage_for, step_of, turn_of, with_next}
+use Rattle.hba_driver.specs.Turns.{advanced, allowed, answered, control_news, control_seen, control_turn, detected, device_due, device_or_request, device_seen, early_due, fault_due, found_of, is_back, is_due, is_there, issue_of, may_issue, met, met_order, met_path, noted, opening_due, order_allowed, order_due, path_answered, path_due, path_met, path_to, request_due, restart_due, signed_order, stage_due, stage_for, step_of, turn_of, with_next}
+use Rattle.hba_driver.proofs.DueLemmas.{allowed_keeps}
 
 -- ---- what goes on
 
@@ -328,7 +329,7 @@ turn_if n signs false p t u h k = k
 
 control_turn_keeps : (n : ℕ) (signs : Type 0) (v : Sight) (news : Bool) (plan : Plan) (entries : List (Option Entry)) → IsSteadyPlan n plan → PlanKeeps n signs plan (control_turn v news plan entries).plan
 control_turn_keeps n signs v news plan entries h =
-    turn_if n signs (is_some (order_due plan)) plan _ _ (keeps_none n signs plan h) (device_keeps n signs v plan h)
+    turn_if n signs (is_some (order_allowed v plan entries)) plan _ _ (keeps_none n signs plan h) (device_keeps n signs v plan h)
 
 pub turn_keeps : (n : ℕ) (signs : Type 0) (v : Sight) (plan : Plan) (entries : List (Option Entry)) → IsSteadyPlan n plan → PlanKeeps n signs plan (turn_of v plan entries).plan
 unfolding turn_of
@@ -418,12 +419,15 @@ of_request : (v : Sight) (plan : Plan) (entries : List (Option Entry)) → DueOf
 unfolding request_due
 of_request v plan entries = of_slots v plan entries (lowest_below (λ slot. may_issue plan (entry_at entries slot)) 30)
 
-pub of_device : (v : Sight) (plan : Plan) (entries : List (Option Entry)) → DueOf v plan (option_or (device_due v plan) (request_due plan entries))
+of_allowed : (v : Sight) (plan : Plan) (entries : List (Option Entry)) (a : Option Act) → DueOf v plan a → DueOf v plan (allowed plan.mode v plan entries a)
+of_allowed v plan entries a h = allowed_keeps (DueOf v plan) tt plan.mode v plan entries a h
+
+pub of_device : (v : Sight) (plan : Plan) (entries : List (Option Entry)) → DueOf v plan (device_or_request v plan entries)
 unfolding device_due
-of_device v plan entries = of_or v plan _ _ (of_slot v plan plan.path refl) (of_request v plan entries)
+of_device v plan entries = of_or v plan _ _ (of_allowed v plan entries (device_due v plan) (of_slot v plan plan.path refl)) (of_allowed v plan entries (request_due plan entries) (of_request v plan entries))
 
 of_control : (v : Sight) (news : Bool) (plan : Plan) (entries : List (Option Entry)) → DueOf v (control_turn v news plan entries).plan (control_turn v news plan entries).act
-of_control v news plan entries = of_if v (is_some (order_due plan)) _ _ (of_order v plan plan.asked) (of_device v (device_seen v plan) entries)
+of_control v news plan entries = of_if v (is_some (order_allowed v plan entries)) _ _ (of_allowed v plan entries (order_due plan) (of_order v plan plan.asked)) (of_device v (device_seen v plan) entries)
 
 pub of_turn : (v : Sight) (plan : Plan) (entries : List (Option Entry)) → DueOf v (turn_of v plan entries).plan (turn_of v plan entries).act
 unfolding turn_of

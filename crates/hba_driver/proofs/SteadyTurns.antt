@@ -12,6 +12,8 @@ use Rattle.host_memory.specs.Memory.{Memory}
 use Rattle.slots.specs.Slots.{match_some}
 use Rattle.hba_fbs.specs.Views.{Port}
 use Rattle.hba_laws.proofs.StandLemmas.{some_inj}
+use Rattle.hba_driver.specs.declared.mode.Mode.TheVariants.{CommandBased, Switching}
+use Rattle.hba_driver.specs.declared.mode.Mode.{Mode}
 use Rattle.hba_driver.specs.declared.order.Order.{Order}
 use Rattle.hba_driver.specs.declared.order.Order.TheVariants.{Clear}
 use Rattle.hba_driver.specs.declared.path.Path.{Path}
@@ -38,7 +40,7 @@ use Rattle.hba_driver.specs.HostTurns.{Does, Host, HostTurn, Took, Pushed, Ticke
 use Rattle.hba_driver.specs.Laws.{Goes, GoesOn, Keeps, Kept, flushes}
 use Rattle.hba_driver.specs.Requests.{blocks, device_refusal}
 use Rattle.hba_driver.specs.Sights.{file_shown, is_ata, last_d2h, sight_of}
-use Rattle.hba_driver.specs.Steady.{AreSteady, HasSignature, IsAskedOf, IsCalmAct, IsCalmTick, IsClearTick, IsFine, IsFlushTick, IsOpenAt, IsSteady, IsSteadyPlan, IsSteadyTurn, slot_in, slot_of}
+use Rattle.hba_driver.specs.Steady.{AreSteady, HasSignature, IsAskedOf, IsCalmAct, IsCalmTick, IsClearTick, IsFine, IsFlushTick, IsOpenAt, IsSteady, IsSteadyPlan, IsSteadyTurn, IsSwitching, slot_in, slot_of}
 use Rattle.hba_driver.specs.Submits.{after_submit, is_blocked, new_entry, next_slot, queue_refusal, submit_refusal}
 use Rattle.hba_driver.specs.Ticks.{acted, after_tick, done_ended, due, effects, effects_due, plan_after, seen, turn, unless}
 use Rattle.hba_driver.proofs.HistoryLemmas.{PollFacts, back_of, freed, poll_facts}
@@ -100,23 +102,28 @@ pub acted_plan : (a : Option Act) (file : TaskFile) (d : Driver) → (acted a fi
 acted_plan None file d = refl
 acted_plan (Some a) file d = refl
 
-pub signed_by : (n : ℕ) (port : Port) (memory : Memory) → slice_index_or (sight_of port memory).signed n false ≡ true → is_ata (seen_in (last_d2h memory.structure n)) ≡ true
+pub signed_by : (n : ℕ) (mode : Mode) (port : Port) (memory : Memory) → mode ≡ Switching → slice_index_or (sight_of mode port memory).signed n false ≡ true → is_ata (seen_in (last_d2h memory.structure n)) ≡ true
 unfolding sight_of
-signed_by n port memory h = elim (cases_lt n 16) [
+signed_by n CommandBased port memory on h = absurd (cc)
+signed_by n Switching port memory on h = elim (cases_lt n 16) [
   | inl below ↦ sym (get_or-map-range_with_len (λ dev. is_ata (seen_in (last_d2h memory.structure dev))) 0 16 n n false below (omega arith)) ∙ h
   | inr past ↦
       let long = length-map-range_with_len (λ dev. is_ata (seen_in (last_d2h memory.structure dev))) 0 16 in
       absurd (false≢true (sym (get_or_past (map (λ dev. is_ata (seen_in (last_d2h memory.structure dev))) (range_with_len 0 16)) n false (omega (arith, long, past))) ∙ h))
 ]
 
-tick_plan : (n : ℕ) (old : Host) (file : TaskFile) → IsCalmTick n old → IsSteadyPlan n old.driver.plan → PlanKeeps n (HasSignature n old) old.driver.plan (after_tick (sight_in old) file old.driver).plan
+-- its signature stands in its row, if the driver uses FIS-based switching
+abbrev pub Signs : ℕ → Host → Type 0
+Signs n old = IsSwitching old → HasSignature n old
+
+tick_plan : (n : ℕ) (old : Host) (file : TaskFile) → IsCalmTick n old → IsSteadyPlan n old.driver.plan → PlanKeeps n (Signs n old) old.driver.plan (after_tick (sight_in old) file old.driver).plan
 unfolding after_tick
 tick_plan n old file calm h =
     let v : Sight = sight_in old in
-    let first = turn_keeps n (HasSignature n old) v old.driver.plan (done_ended v.issued old.driver.entries) h in
-    let second = act_keeps n (HasSignature n old) v file (turn v old.driver).plan first.steady (turn v old.driver).act (λ on. signed_by n old.port old.memory on) calm (of_turn v old.driver.plan (done_ended v.issued old.driver.entries)) in
-    let whole = keeps_then n (HasSignature n old) old.driver.plan (turn v old.driver).plan _ first second in
-    subst (λ (p : Plan). PlanKeeps n (HasSignature n old) old.driver.plan p) (sym (acted_plan (turn v old.driver).act file (seen v old.driver))) whole
+    let first = turn_keeps n (Signs n old) v old.driver.plan (done_ended v.issued old.driver.entries) h in
+    let second = act_keeps n (Signs n old) v file (turn v old.driver).plan first.steady (turn v old.driver).act (λ bit on. signed_by n old.driver.plan.mode old.port old.memory on bit) calm (of_turn v old.driver.plan (done_ended v.issued old.driver.entries)) in
+    let whole = keeps_then n (Signs n old) old.driver.plan (turn v old.driver).plan _ first second in
+    subst (λ (p : Plan). PlanKeeps n (Signs n old) old.driver.plan p) (sym (acted_plan (turn v old.driver).act file (seen v old.driver))) whole
 
 -- what a turn leaves of the driver
 pub record DriverKeeps (n : ℕ) (signs : Type 0) (d e : Driver) : Type 0 where
@@ -126,12 +133,12 @@ pub record DriverKeeps (n : ℕ) (signs : Type 0) (d e : Driver) : Type 0 where
 keeps_same : (n : ℕ) (signs : Type 0) (d e : Driver) → e ≡ d → IsSteady n d → DriverKeeps n signs d e
 keeps_same n signs d e is h = subst (λ (x : Driver). DriverKeeps n signs d x) (sym is) (record { steady = h; asks = λ a. inl a })
 
-tick_keeps : (n : ℕ) (old : Host) (a : Bool) (new : Host) → Does old (Ticked a) new → IsCalmTick n old → IsSteady n old.driver → DriverKeeps n (HasSignature n old) old.driver new.driver
+tick_keeps : (n : ℕ) (old : Host) (a : Bool) (new : Host) → Does old (Ticked a) new → IsCalmTick n old → IsSteady n old.driver → DriverKeeps n (Signs n old) old.driver new.driver
 tick_keeps n old a new does calm h =
     let v : Sight = sight_in old in
     let plan = tick_plan n old (file_shown new.port) calm h.plan in
     let after : Driver = after_tick v (file_shown new.port) old.driver in
-    subst (λ (x : Driver). DriverKeeps n (HasSignature n old) old.driver x) (sym does.driver) (record {
+    subst (λ (x : Driver). DriverKeeps n (Signs n old) old.driver x) (sym does.driver) (record {
       steady = record {
         plan = plan.steady;
         requests = requests_keep n old.driver.plan after.plan old.driver.entries after.entries plan.ready (λ s. keeps_tick v (file_shown new.port) old.driver s) h.requests;
@@ -261,25 +268,25 @@ fewer n d entries was h = record {
   };
 }
 
-poll_keeps : (n : ℕ) (old : Host) (c : Completion) (new : Host) → Does old (Polled c) new → IsSteady n old.driver → DriverKeeps n (HasSignature n old) old.driver new.driver
+poll_keeps : (n : ℕ) (old : Host) (c : Completion) (new : Host) → Does old (Polled c) new → IsSteady n old.driver → DriverKeeps n (Signs n old) old.driver new.driver
 poll_keeps n old c new does h =
     let f : PollFacts old.driver c = poll_facts old.driver c does.polled in
     let left : List (Option Entry) = set old.driver.entries f.place None in
     let steady : IsSteady n (record old.driver { entries = left }) =
     fewer n old.driver left (λ s e there. elim (set_cases old.driver.entries f.place None s e there) [ inl at ↦ none_some e at.1 | inr beside ↦ beside.1 ]) h in
-    subst (λ (x : Driver). DriverKeeps n (HasSignature n old) old.driver x) (sym (does.driver ∙ freed old.driver c f)) (record { steady = steady; asks = λ a. inl a })
+    subst (λ (x : Driver). DriverKeeps n (Signs n old) old.driver x) (sym (does.driver ∙ freed old.driver c f)) (record { steady = steady; asks = λ a. inl a })
 
 -- ---- each turn
 
-pub turn_steady : (n : ℕ) (old : Host) (t : HostTurn) (new : Host) → Does old t new → IsSteadyTurn n old t → IsSteady n old.driver → DriverKeeps n (HasSignature n old) old.driver new.driver
-turn_steady n old (Took frame report) new does calm h = keeps_same n (HasSignature n old) old.driver new.driver does.driver h
-turn_steady n old (Pushed frame) new does calm h = keeps_same n (HasSignature n old) old.driver new.driver does.driver h
+pub turn_steady : (n : ℕ) (old : Host) (t : HostTurn) (new : Host) → Does old t new → IsSteadyTurn n old t → IsSteady n old.driver → DriverKeeps n (Signs n old) old.driver new.driver
+turn_steady n old (Took frame report) new does calm h = keeps_same n (Signs n old) old.driver new.driver does.driver h
+turn_steady n old (Pushed frame) new does calm h = keeps_same n (Signs n old) old.driver new.driver does.driver h
 turn_steady n old (Ticked a) new does calm h = tick_keeps n old a new does calm h
 turn_steady n old (Submitted dev request ticket) new does calm h =
-    subst (λ (x : Driver). DriverKeeps n (HasSignature n old) old.driver x) (sym does.taken.driver)
+    subst (λ (x : Driver). DriverKeeps n (Signs n old) old.driver x) (sym does.taken.driver)
     (record { steady = submit_steady n old.driver old.memory dev request does.accepted h; asks = λ a. inl a })
 turn_steady n old (Polled c) new does calm h = poll_keeps n old c new does h
-turn_steady n old (Put at bytes) new does calm h = keeps_same n (HasSignature n old) old.driver new.driver does.driver h
+turn_steady n old (Put at bytes) new does calm h = keeps_same n (Signs n old) old.driver new.driver does.driver h
 
 -- ---- while nothing is known of the device
 
@@ -324,9 +331,9 @@ or_left : (a b : Bool) → a ≡ true → (a || b) ≡ true
 or_left true b h = refl
 or_left false b h = absurd (false≢true h)
 
-flush_effects : (n : ℕ) (a : Option Act) → a ≡ Some (act.Orders (Clear n)) → list_any (flushes n) (effects_due a) ≡ true
+flush_effects : (n : ℕ) (mode : Mode) (a : Option Act) → a ≡ Some (act.Orders (Clear n)) → list_any (flushes n) (effects_due mode a) ≡ true
 unfolding effects_of order_effects order_fields
-flush_effects n a is = subst (λ (x : Option Act). list_any (flushes n) (effects_due x) ≡ true) (sym is) (or_left (n == n) _ (equal_is n n refl))
+flush_effects n mode a is = subst (λ (x : Option Act). list_any (flushes n) (effects_due mode x) ≡ true) (sym is) (or_left (n == n) _ (equal_is n n refl))
 
 flush_path : (n : ℕ) (v : Sight) (file : TaskFile) (d : Driver) → due v d ≡ Some (act.Orders (Clear n)) → (p : Path) → (after_tick v file d).plan.path ≡ Some p → p.dev ≢ n
 unfolding after_tick plan_after
@@ -338,7 +345,7 @@ pub flush_steady : (n : ℕ) (old : Host) (a : Bool) (new : Host) → Does old (
 flush_steady n old a new does is =
     let v : Sight = sight_in old in
     let file : TaskFile = file_shown new.port in
-    let flushed : list_any (flushes n) (effects v old.driver) ≡ true = flush_effects n (due v old.driver) is in
+    let flushed : list_any (flushes n) (effects v old.driver) ≡ true = flush_effects n old.driver.plan.mode (due v old.driver) is in
     let all : IsSteady n (after_tick v file old.driver) × (IsAskedOf n (after_tick v file old.driver).plan → ⊥) =
     empty_steady n (after_tick v file old.driver) (ticks_serve.leaves v file old.driver n flushed) (λ p here. flush_path n v file old.driver is p here)
     (λ s e there. true≢false (sym (ticks_serve.ends v file old.driver n s e flushed there.stands there.of_dev) ∙ there.unended)) in

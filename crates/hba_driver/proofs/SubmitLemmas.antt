@@ -15,7 +15,7 @@ use Rattle.hba_driver.specs.declared.request.Request.{Request}
 use Rattle.hba_driver.specs.declared.request.SubmitError.{SubmitError}
 use Rattle.hba_driver.specs.Drivers.{Driver, Entry, device_at, entry_at, is_read}
 use Rattle.hba_driver.specs.Requests.{conflicts, device_refusal, is_bad_count, is_bad_prd, is_full, is_mismatch, overlaps, room_refusal, shape_refusal}
-use Rattle.hba_driver.specs.Submits.{end_of, queue_refusal, submit_refusal}
+use Rattle.hba_driver.specs.Submits.{end_of, other_refusal, queue_refusal, submit_refusal}
 
 abbrev no_entry : Option Entry
 no_entry = None
@@ -51,10 +51,13 @@ differs n m h = grind (arith, nat_tests)
 pub is_taken : (d : Driver) (memory : Memory) (dev : ℕ) (request : Request) → submit_refusal d memory dev request ≡ None → IsTaken d memory request
 unfolding submit_refusal
 is_taken d memory dev request none =
-    let queue : option_or (queue_refusal d dev request) (option_or (shape_refusal (end_of memory) request) (room_refusal d request)) ≡ None = later (device_refusal (device_at d.plan dev)) _ none in
-    let rest : option_or (shape_refusal (end_of memory) request) (room_refusal d request) ≡ None = later (queue_refusal d dev request) _ queue in
-    let shape : shape_refusal (end_of memory) request ≡ None = earlier _ (room_refusal d request) rest in
-    let room : room_refusal d request ≡ None = later (shape_refusal (end_of memory) request) _ rest in
+    let other : Option SubmitError = other_refusal d.plan.mode dev d.entries in
+    let queue : option_or (queue_refusal d dev request) (option_or (shape_refusal (end_of memory) request) (option_or (room_refusal d request) other)) ≡ None =
+    later (device_refusal (device_at d.plan dev)) _ none in
+    let rest : option_or (shape_refusal (end_of memory) request) (option_or (room_refusal d request) other) ≡ None = later (queue_refusal d dev request) _ queue in
+    let shape : shape_refusal (end_of memory) request ≡ None = earlier _ (option_or (room_refusal d request) other) rest in
+    let last : option_or (room_refusal d request) other ≡ None = later (shape_refusal (end_of memory) request) _ rest in
+    let room : room_refusal d request ≡ None = earlier _ other last in
     let count = unrefused (is_bad_count request) _ _ shape in
     let mismatch = unrefused (is_mismatch request) _ _ count.1 in
     let bad = unrefused (list_any (is_bad_prd (end_of memory)) request.prds.items) _ _ mismatch.1 in

@@ -7,6 +7,8 @@ use Rattle.std.proofs.lemmas.Bool.Decides.{nat_tests}
 use Rattle.std.proofs.lemmas.List.{get_or-set_other}
 use Rattle.fis_view.specs.declared.build.H2dFields.{H2dFields}
 use Rattle.slots.specs.Slots.{lowest_below, match_some}
+use Rattle.hba_driver.specs.declared.mode.Mode.{Mode}
+use Rattle.hba_driver.specs.declared.mode.Mode.TheVariants.{Switching, CommandBased}
 use Rattle.hba_driver.specs.declared.order.Order.{Order}
 use Rattle.hba_driver.specs.declared.order.Order.TheVariants.{ResetOn, ResetOff, AwaitSignature, CountPorts, SetMask, Enable, Open, Scan, Clear, Detect, Watch}
 use Rattle.hba_driver.specs.declared.path.Path.{Path}
@@ -28,7 +30,8 @@ use Rattle.hba_driver.specs.Paths.{first_stage, next_stage, stage_fields}
 use Rattle.hba_driver.specs.Steady.{IsAskedOf, IsCalmAct, IsFine, IsSteadyPlan, detects}
 use Rattle.hba_driver.specs.Tended.{Awaits, Fine, Identifies, IsAskedOn, IsAsking, IsAtStage, IsBegun, IsReleasing, IsStepless, IsTendedBy, IsTendedPlan, IsUnworked, Logs, Releases, Spoilt, WorksOn}
 use Rattle.hba_driver.specs.Ticks.{from_reset, ordered, plan_after, recovering, unless}
-use Rattle.hba_driver.specs.Turns.{advanced, answered, control_news, control_seen, control_turn, detected, device_due, device_seen, device_turn, early_due, found_of, is_back, is_due, is_in_reset, is_out, issue_of, may_issue, met, met_order, met_path, met_stage, noted, order_due, path_answered, path_due, path_met, path_to, plain_turn, request_due, signed_order, stage_due, stage_for, turn_of, with_next}
+use Rattle.hba_driver.specs.Turns.{advanced, allowed, answered, control_news, control_seen, control_turn, detected, device_due, device_or_request, device_seen, device_turn, early_due, found_of, is_back, is_due, is_in_reset, is_out, issue_of, may_issue, met, met_order, met_path, met_stage, noted, order_allowed, order_due, path_answered, path_due, path_met, path_to, plain_turn, request_due, signed_order, stage_due, stage_for, turn_of, with_next}
+use Rattle.hba_driver.proofs.DueLemmas.{allowed_keeps, goes_control, goes_device}
 use Rattle.hba_driver.proofs.SteadyLemmas.{DueOf, PlanKeeps, act_keeps, keeps_then, never, never_open, of_device, of_turn, set_same, turn_keeps, unless_here}
 
 -- ---- paths
@@ -261,6 +264,9 @@ plainly_slots plan entries (Some slot) = plainly_entry plan slot (entry_at entri
 plainly_request : (plan : Plan) (entries : List (Option Entry)) → Plainly plan (request_due plan entries)
 unfolding request_due
 plainly_request plan entries = plainly_slots plan entries (lowest_below (λ slot. may_issue plan (entry_at entries slot)) 30)
+
+plainly_allowed : (v : Sight) (plan : Plan) (entries : List (Option Entry)) (a : Option Act) → Plainly plan a → Plainly plan (allowed plan.mode v plan entries a)
+plainly_allowed v plan entries a h = allowed_keeps (Plainly plan) tt plan.mode v plan entries a h
 
 plainly_stepless : (plan : Plan) (a : Option Act) → Plainly plan a → IsStepless a
 plainly_stepless plan None h = tt
@@ -597,29 +603,40 @@ module _ (n : ℕ) (signs : Type 0) (v : Sight) (file : TaskFile) (p : Plan) (en
   Keeps = (q : Plan) (a : Option Act) → Leaves n p q → IsStepless a → PlanTends n signs v a p q
 
   abbrev Looks : Type 0
-  Looks = (q : Plan) (news : Bool) → Leaves n p q → TurnTends n signs v file p (device_turn v news q entries)
+  Looks = (q : Plan) (news : Bool) → q.mode ≡ Switching → Leaves n p q → TurnTends n signs v file p (device_turn v news q entries)
 
   plain_tends : Keeps → (r : Plan) (a : Option Act) (news : Bool) → Leaves n p r → Plainly r a → TurnTends n signs v file p (plain_turn r a news)
   plain_tends keep r a news leaves due calm =
       keep (match_some a r (λ x. plan_after x file r)) a (leaves_then n p r (match_some a r (λ x. plan_after x file r)) leaves (act_leaves n file r leaves.unsought a calm due)) (plainly_stepless r a due)
 
-  control_tends : Keeps → Looks → (r : Plan) (news : Bool) → Leaves n p r → TurnTends n signs v file p (control_turn v news r entries)
-  control_tends keep looks r news leaves =
-      tends_if n signs v file p (is_some (order_due r)) (plain_turn r (order_due r) news) _ (plain_tends keep r (order_due r) news leaves (plainly_order r r.asked)) (looks r news leaves)
+  control_tends : Keeps → Looks → (r : Plan) (news : Bool) → r.mode ≡ Switching → Leaves n p r → TurnTends n signs v file p (control_turn v news r entries)
+  control_tends keep looks r news switching leaves =
+      tends_if n signs v file p (is_some (order_allowed v r entries)) (plain_turn r (order_allowed v r entries) news) _
+      (plain_tends keep r (order_allowed v r entries) news leaves (plainly_allowed v r entries (order_due r) (plainly_order r r.asked))) (looks r news switching leaves)
 
-  whole_tends : IsUnsought n p → Keeps → Looks → TurnTends n signs v file p (turn_of v p entries)
+  whole_tends : p.mode ≡ Switching → IsUnsought n p → Keeps → Looks → TurnTends n signs v file p (turn_of v p entries)
   unfolding turn_of
-  whole_tends unsought keep looks =
+  whole_tends switching unsought keep looks =
       tends_if n signs v file p (is_some (early_due v p)) (plain_turn p (early_due v p) false) _ (plain_tends keep p (early_due v p) false (leaves_same n p unsought) (plainly_early v p))
-      (control_tends keep looks (control_seen v p) (control_news v p) (control_leaves n v p unsought))
+      (control_tends keep looks (control_seen v p) (control_news v p) ((goes_control v p).mode ∙ switching) (control_leaves n v p unsought))
+
+  -- the request that is due, if it may go
+  abbrev request_of : Plan → Option Act
+  request_of q = allowed q.mode v q entries (request_due q entries)
+
+  none_allowed : (mode : Mode) (q : Plan) → allowed mode v q entries None ≡ None
+  none_allowed Switching q = refl
+  none_allowed CommandBased q = refl
 
   -- no stage is due, since slot 30 is held
   holding : (q : Plan) → IsUnsought n q → device_due v q ≡ None
-      → ((r : Plan) (a : Option Act) → Leaves n q r → IsStepless a → PlanTends n signs v a p r) → IsCalmAct n (option_or (device_due v q) (request_due q entries))
-      → PlanTends n signs v (option_or (device_due v q) (request_due q entries)) p (match_some (option_or (device_due v q) (request_due q entries)) q (λ x. plan_after x file q))
+      → ((r : Plan) (a : Option Act) → Leaves n q r → IsStepless a → PlanTends n signs v a p r) → IsCalmAct n (device_or_request v q entries)
+      → PlanTends n signs v (device_or_request v q entries) p (match_some (device_or_request v q entries) q (λ x. plan_after x file q))
   holding q unsought none f =
-      renamed n signs v file p q (option_or (device_due v q) (request_due q entries)) (request_due q entries) (ap (λ (o : Option Act). option_or o (request_due q entries)) none)
-      (λ calm. f (match_some (request_due q entries) q (λ x. plan_after x file q)) (request_due q entries) (act_leaves n file q unsought (request_due q entries) calm (plainly_request q entries)) (plainly_stepless q (request_due q entries) (plainly_request q entries)))
+      let plainly : Plainly q (request_of q) = plainly_allowed v q entries (request_due q entries) (plainly_request q entries) in
+      renamed n signs v file p q (device_or_request v q entries) (request_of q)
+      (ap (λ (o : Option Act). option_or (allowed q.mode v q entries o) (request_of q)) none ∙ ap (λ (o : Option Act). option_or o (request_of q)) (none_allowed q.mode q))
+      (λ calm. f (match_some (request_of q) q (λ x. plan_after x file q)) (request_of q) (act_leaves n file q unsought (request_of q) calm plainly) (plainly_stepless q (request_of q) plainly))
 
   -- ---- each state
 
@@ -627,17 +644,18 @@ module _ (n : ℕ) (signs : Type 0) (v : Sight) (file : TaskFile) (p : Plan) (en
     unready : (way : Recovery) → device_at p n ≡ Recovering way → device_at p n ≡ Ready → ⊥
     unready way device r = recovering_ready way (sym device ∙ r)
 
-    released_looks : device_at p n ≡ Recovering Reset → IsAtStage n IsReleasing p → IsAtStage n IsBegun p → (q : Plan) (news : Bool) → ReleasedSeen n v (device_seen v q) → TurnTends n signs v file p (device_turn v news q entries)
+    released_looks : device_at p n ≡ Recovering Reset → IsAtStage n IsReleasing p → IsAtStage n IsBegun p → (q : Plan) (news : Bool) → q.mode ≡ Switching → ReleasedSeen n v (device_seen v q) → TurnTends n signs v file p (device_turn v news q entries)
     unfolding plan_after
-    released_looks device at begun q news (Going there unsought works) =
+    released_looks device at begun q news switching (Going there unsought works) =
         holding (device_seen v q) unsought (due_is v (device_seen v q) (path_at n ReleaseReset true) works) (λ r a leaves stepless.
         to_released n signs v a p r (unready Reset device) at begun stepless (leaves.device ∙ there) leaves.unsought (inl (leaves.path (path_at n ReleaseReset true) refl works)))
-    released_looks device at begun q news (Waiting there unsought works) =
+    released_looks device at begun q news switching (Waiting there unsought works) =
         holding (device_seen v q) unsought (due_is v (device_seen v q) (path_at n AwaitReset false) works ∙ none_due n) (λ r a leaves stepless.
         to_released n signs v a p r (unready Reset device) at begun stepless (leaves.device ∙ there) leaves.unsought (inr (leaves.path (path_at n AwaitReset false) refl works)))
-    released_looks device at begun q news (Signed there unsought works off) =
-        renamed n signs v file p (device_seen v q) (option_or (device_due v (device_seen v q)) (request_due (device_seen v q) entries)) (Some (act.Steps n Identify))
-        (ap (λ (o : Option Act). option_or o (request_due (device_seen v q) entries)) (due_is v (device_seen v q) (path_at n Identify false) works ∙ identify_due n)) (λ calm. stepped (device_seen v q) there unsought)
+    released_looks device at begun q news switching (Signed there unsought works off) =
+        renamed n signs v file p (device_seen v q) (device_or_request v (device_seen v q) entries) (Some (act.Steps n Identify))
+        (ap (λ (m : Mode). option_or (allowed m v (device_seen v q) entries (device_due v (device_seen v q))) (allowed m v (device_seen v q) entries (request_due (device_seen v q) entries))) ((goes_device v q).mode ∙ switching)
+        ∙ ap (λ (o : Option Act). option_or o (request_due (device_seen v q) entries)) (due_is v (device_seen v q) (path_at n Identify false) works ∙ identify_due n)) (λ calm. stepped (device_seen v q) there unsought)
       where
         stepped : (r : Plan) → device_at r n ≡ Recovering Reset → IsUnsought n r → PlanTends n signs v (Some (act.Steps n Identify)) p (plan_after (act.Steps n Identify) file r)
         stepped r there unsought = to_signed n signs v (Some (act.Steps n Identify)) p (record r { path = Some (path_at n Identify true) }) (unready Reset device) at there unsought refl off
@@ -651,8 +669,8 @@ module _ (n : ℕ) (signs : Type 0) (v : Sight) (file : TaskFile) (p : Plan) (en
           path = λ x here to. none_path x (sym none ∙ here);
           order = unsought_order n (device_seen v q) unsought;
         } in
-        to_steady n signs v (option_or (device_due v (device_seen v q)) (request_due (device_seen v q) entries)) p _ not_ready asked unreleased
-        (act_keeps n signs v file (device_seen v q) steady (option_or (device_due v (device_seen v q)) (request_due (device_seen v q) entries)) signed calm (of_device v (device_seen v q) entries)).steady
+        to_steady n signs v (device_or_request v (device_seen v q) entries) p _ not_ready asked unreleased
+        (act_keeps n signs v file (device_seen v q) steady (device_or_request v (device_seen v q) entries) signed calm (of_device v (device_seen v q) entries)).steady
 
     -- it is to be reset
     left_plain : (device_at p n ≡ Ready → ⊥) → (IsAtStage n IsReleasing p → ⊥) → (q : Plan) → IsLeft n q → (a : Option Act) → Plainly q a → IsCalmAct n a → PlanTends n signs v a p (match_some a q (λ x. plan_after x file q))
@@ -684,7 +702,7 @@ module _ (n : ℕ) (signs : Type 0) (v : Sight) (file : TaskFile) (p : Plan) (en
 
     left_looks : (device_at p n ≡ Ready → ⊥) → (IsAtStage n IsReleasing p → ⊥) → (q : Plan) (news : Bool) → IsLeft n (device_seen v q) → TurnTends n signs v file p (device_turn v news q entries)
     left_looks not_ready unreleased q news left calm =
-        left_acts not_ready unreleased (device_seen v q) left (option_or (device_due v (device_seen v q)) (request_due (device_seen v q) entries)) (of_device v (device_seen v q) entries) calm
+        left_acts not_ready unreleased (device_seen v q) left (device_or_request v (device_seen v q) entries) (of_device v (device_seen v q) entries) calm
 
     -- a page of it is out
     page_looks : (way : Recovery) (stage : Stage) → (device_at p n ≡ Ready → ⊥) → IsAskedOn n p → (IsAtStage n IsReleasing p → ⊥) → (q : Plan) (news : Bool) → PageSeen n way stage (device_seen v q)
@@ -699,44 +717,44 @@ module _ (n : ℕ) (signs : Type 0) (v : Sight) (file : TaskFile) (p : Plan) (en
     unsought_by : (way : Recovery) → (detects n p.asked p.order ≡ true → device_at p n ≡ Absent) → device_at p n ≡ Recovering way → IsUnsought n p
     unsought_by way order device on = recovering_absent way (sym device ∙ order on)
 
-    by_way : IsTendedBy n p → (detects n p.asked p.order ≡ true → device_at p n ≡ Absent) → TurnTends n signs v file p (turn_of v p entries)
-    by_way (Fine fine path) order = λ calm.
+    by_way : p.mode ≡ Switching → IsTendedBy n p → (detects n p.asked p.order ≡ true → device_at p n ≡ Absent) → TurnTends n signs v file p (turn_of v p entries)
+    by_way switching (Fine fine path) order = λ calm.
         let h : IsSteadyPlan n p = record { fine = fine; path = path; order = order } in
         let first = turn_keeps n signs v p entries h in
         let second = act_keeps n signs v file (turn_of v p entries).plan first.steady (turn_of v p entries).act signed calm (of_turn v p entries) in
         fine_tends n signs v (turn_of v p entries).act p _ h (keeps_then n signs p (turn_of v p entries).plan _ first second)
-    by_way (Releases device works) order =
+    by_way switching (Releases device works) order =
         let at : IsAtStage n IsReleasing p = at_stage n ReleaseReset true p IsReleasing works tt in
         let begun : IsAtStage n IsBegun p = at_stage n ReleaseReset true p IsBegun works tt in
-        whole_tends (unsought_by Reset order device)
+        whole_tends switching (unsought_by Reset order device)
         (λ q a leaves stepless. to_released n signs v a p q (unready Reset device) at begun stepless (leaves.device ∙ device) leaves.unsought (inl (leaves.path (path_at n ReleaseReset true) refl works)))
-        (λ q news leaves. released_looks device at begun q news (releases_seen n v q (leaves.device ∙ device) leaves.unsought (leaves.path (path_at n ReleaseReset true) refl works)))
-    by_way (Awaits device works) order =
+        (λ q news mode leaves. released_looks device at begun q news mode (releases_seen n v q (leaves.device ∙ device) leaves.unsought (leaves.path (path_at n ReleaseReset true) refl works)))
+    by_way switching (Awaits device works) order =
         let at : IsAtStage n IsReleasing p = at_stage n AwaitReset false p IsReleasing works tt in
         let begun : IsAtStage n IsBegun p = at_stage n AwaitReset false p IsBegun works tt in
-        whole_tends (unsought_by Reset order device)
+        whole_tends switching (unsought_by Reset order device)
         (λ q a leaves stepless. to_released n signs v a p q (unready Reset device) at begun stepless (leaves.device ∙ device) leaves.unsought (inr (leaves.path (path_at n AwaitReset false) refl works)))
-        (λ q news leaves. released_looks device at begun q news (awaits_seen n v q (leaves.device ∙ device) leaves.unsought (leaves.path (path_at n AwaitReset false) refl works)))
-    by_way (Identifies device works) order =
+        (λ q news mode leaves. released_looks device at begun q news mode (awaits_seen n v q (leaves.device ∙ device) leaves.unsought (leaves.path (path_at n AwaitReset false) refl works)))
+    by_way switching (Identifies device works) order =
         let unreleased : IsAtStage n IsReleasing p → ⊥ = λ there. stage_is n Identify true p IsReleasing works there in
-        whole_tends (unsought_by Reset order device)
+        whole_tends switching (unsought_by Reset order device)
         (λ q a leaves stepless. to_identifies n signs v a p q (unready Reset device) works (leaves.device ∙ device) leaves.unsought (leaves.path (path_at n Identify true) refl works))
-        (λ q news leaves. page_looks Reset Identify (unready Reset device) (inr (at_stage n Identify true p IsAsking works tt)) unreleased q news
+        (λ q news mode leaves. page_looks Reset Identify (unready Reset device) (inr (at_stage n Identify true p IsAsking works tt)) unreleased q news
         (identifies_seen n v q (leaves.device ∙ device) leaves.unsought (leaves.path (path_at n Identify true) refl works))
         (λ there on r a more stepless. to_identifies n signs v a p r (unready Reset device) works (more.device ∙ there) more.unsought (more.path (path_at n Identify true) refl on)))
-    by_way (Logs before page device works) order =
+    by_way switching (Logs before page device works) order =
         let unreleased : IsAtStage n IsReleasing p → ⊥ = λ there. stage_is n (ReadLog page) true p IsReleasing works there in
-        whole_tends (unsought_by (Log before) order device)
+        whole_tends switching (unsought_by (Log before) order device)
         (λ q a leaves stepless. to_logs n signs v a p q (unready (Log before) device) before page stepless works (leaves.device ∙ device) leaves.unsought (leaves.path (path_at n (ReadLog page) true) refl works))
-        (λ q news leaves. page_looks (Log before) (ReadLog page) (unready (Log before) device) (inr (at_stage n (ReadLog page) true p IsAsking works tt)) unreleased q news
+        (λ q news mode leaves. page_looks (Log before) (ReadLog page) (unready (Log before) device) (inr (at_stage n (ReadLog page) true p IsAsking works tt)) unreleased q news
         (logs_seen n v q before page (leaves.device ∙ device) leaves.unsought (leaves.path (path_at n (ReadLog page) true) refl works))
         (λ there on r a more stepless. to_logs n signs v a p r (unready (Log before) device) before page stepless works (more.device ∙ there) more.unsought (more.path (path_at n (ReadLog page) true) refl on)))
-    by_way (Spoilt device free) order =
+    by_way switching (Spoilt device free) order =
         let unreleased : IsAtStage n IsReleasing p → ⊥ = unworked n p IsReleasing free in
-        whole_tends (unsought_by Reset order device)
+        whole_tends switching (unsought_by Reset order device)
         (λ q a leaves stepless. to_spoilt n signs v a p q (unready Reset device) unreleased (leaves.device ∙ device) leaves.unsought (λ x there to. free x (leaves.back x to there) to))
-        (λ q news leaves. left_looks (unready Reset device) unreleased q news
+        (λ q news mode leaves. left_looks (unready Reset device) unreleased q news
         (left_seen n v q (record { device = leaves.device ∙ device; unsought = leaves.unsought; free = λ x there to. free x (leaves.back x to there) to })))
 
-    pub turn_tends : IsTendedPlan n p → TurnTends n signs v file p (turn_of v p entries)
-    turn_tends h = by_way h.way h.order
+    pub turn_tends : p.mode ≡ Switching → IsTendedPlan n p → TurnTends n signs v file p (turn_of v p entries)
+    turn_tends switching h = by_way switching h.way h.order

@@ -6,6 +6,7 @@ use Rattle.host_memory.specs.Memory.{Memory}
 use Rattle.slots.specs.Slots.{has_bit, issue_at}
 use Rattle.hba_fbs.specs.Views.{Port, view_of}
 use Rattle.hba_laws.proofs.StandLemmas.{some_inj}
+use Rattle.hba_driver.specs.declared.mode.Mode.{Mode}
 use Rattle.hba_driver.specs.declared.path.Path.{Path}
 use Rattle.hba_driver.specs.declared.path.Recovery.TheVariants.{Reset}
 use Rattle.hba_driver.specs.declared.path.TaskFile.{TaskFile}
@@ -25,7 +26,7 @@ use Rattle.hba_driver.specs.HostTurns.{Does, Host, HostTurn, Took, Pushed, Ticke
 use Rattle.hba_driver.specs.Laws.{Goes, Keeps}
 use Rattle.hba_driver.specs.Orders.{is_flush}
 use Rattle.hba_driver.specs.Sights.{file_shown, sight_of}
-use Rattle.hba_driver.specs.Steady.{HasSignature, IsCalmTick, IsFine, IsFlushTick, IsOpenAt, IsSteady, IsSteadyTurn, slot_in, slot_of}
+use Rattle.hba_driver.specs.Steady.{HasSignature, IsCalmTick, IsFine, IsFlushTick, IsOpenAt, IsSteady, IsSteadyTurn, IsSwitching, slot_in, slot_of}
 use Rattle.hba_driver.specs.Submits.{after_submit, new_entry, next_slot, submit_refusal}
 use Rattle.hba_driver.specs.Tended.{AreTended, Fine, IsAskedOn, IsAtStage, IsBegun, IsLiveAt, IsReleasing, IsStepless, IsSteplessTurn, IsTended, IsTendedPlan, TendsOn, TurnsTend}
 use Rattle.hba_driver.specs.Ticks.{after_tick, done_ended, due, seen, turn}
@@ -119,27 +120,27 @@ flush_tended n old a new does is =
 
 -- ---- a tick
 
-in_reset_is : (n : ℕ) (port : Port) (memory : Memory) → n < 16 → is_in_reset (sight_of port memory) n ≡ (view_of n port).state.resetting
+in_reset_is : (n : ℕ) (mode : Mode) (port : Port) (memory : Memory) → n < 16 → is_in_reset (sight_of mode port memory) n ≡ (view_of n port).state.resetting
 unfolding sight_of
-in_reset_is n port memory below = get_or-map-range_with_len (λ dev. (view_of dev port).state.resetting) 0 16 n n false below (omega arith)
+in_reset_is n mode port memory below = get_or-map-range_with_len (λ dev. (view_of dev port).state.resetting) 0 16 n n false below (omega arith)
 
-tick_plan : (n : ℕ) (old : Host) (file : TaskFile) → IsCalmTick n old → IsTendedPlan n old.driver.plan
+tick_plan : (n : ℕ) (old : Host) (file : TaskFile) → IsSwitching old → IsCalmTick n old → IsTendedPlan n old.driver.plan
     → PlanTends n (HasSignature n old) (sight_in old) (due (sight_in old) old.driver) old.driver.plan (after_tick (sight_in old) file old.driver).plan
 unfolding after_tick
-tick_plan n old file calm h =
+tick_plan n old file on calm h =
     let v : Sight = sight_in old in
-    let whole = turn_tends n (HasSignature n old) v file old.driver.plan (done_ended v.issued old.driver.entries) (λ on. signed_by n old.port old.memory on) h calm in
+    let whole = turn_tends n (HasSignature n old) v file old.driver.plan (done_ended v.issued old.driver.entries) (λ bit. signed_by n old.driver.plan.mode old.port old.memory on bit) on h calm in
     subst (λ (p : Plan). PlanTends n (HasSignature n old) (sight_in old) (due (sight_in old) old.driver) old.driver.plan p) (sym (acted_plan (turn v old.driver).act file (seen v old.driver))) whole
 
-tick_tends : (n : ℕ) (old : Host) (a : Bool) (new : Host) → n < 16 → Does old (Ticked a) new → IsCalmTick n old → IsTended n old.driver → TendsOn n old (Ticked a) new
-tick_tends n old a new below does calm h =
+tick_tends : (n : ℕ) (old : Host) (a : Bool) (new : Host) → n < 16 → Does old (Ticked a) new → IsSwitching old → IsCalmTick n old → IsTended n old.driver → TendsOn n old (Ticked a) new
+tick_tends n old a new below does on calm h =
     let v : Sight = sight_in old in
     let after : Driver = after_tick v (file_shown new.port) old.driver in
-    let plan = subst (λ (x : Driver). PlanTends n (HasSignature n old) (sight_in old) (due (sight_in old) old.driver) old.driver.plan x.plan) (sym does.driver) (tick_plan n old (file_shown new.port) calm h.plan) in
+    let plan = subst (λ (x : Driver). PlanTends n (HasSignature n old) (sight_in old) (due (sight_in old) old.driver) old.driver.plan x.plan) (sym does.driver) (tick_plan n old (file_shown new.port) on calm h.plan) in
     let requests : AreTended n new.driver.plan new.driver.entries =
     requests_keep n old.driver.plan new.driver.plan old.driver.entries new.driver.entries plan.ready
     (λ s. subst (λ (x : Driver). Keeps (entry_at old.driver.entries s) (entry_at x.entries s)) (sym does.driver) (keeps_tick v (file_shown new.port) old.driver s)) h.requests in
-    let shown : is_in_reset (sight_in old) n ≡ (view_of n old.port).state.resetting = in_reset_is n old.port old.memory below in
+    let shown : is_in_reset (sight_in old) n ≡ (view_of n old.port).state.resetting = in_reset_is n old.driver.plan.mode old.port old.memory below in
     record {
       next = elim plan.next [
         | inl on ↦ inl (record { plan = on; requests = requests })
@@ -287,15 +288,15 @@ slot_over n old p sound is here asked =
 
 -- ---- each turn
 
-pub turn_tended : (n : ℕ) (old : Host) (t : HostTurn) (new : Host) → n < 16 → Does old t new → IsSteadyTurn n old t → IsTended n old.driver → TendsOn n old t new
-turn_tended n old (Took frame report) new below does calm h = plan_stays n old (Took frame report) new (ap (λ (x : Driver). x.plan) does.driver) (λ there. tt) (driver_stays n old new does.driver h)
-turn_tended n old (Pushed frame) new below does calm h = plan_stays n old (Pushed frame) new (ap (λ (x : Driver). x.plan) does.driver) (λ there. tt) (driver_stays n old new does.driver h)
-turn_tended n old (Ticked a) new below does calm h = tick_tends n old a new below does calm h
-turn_tended n old (Submitted dev request ticket) new below does calm h =
+pub turn_tended : (n : ℕ) (old : Host) (t : HostTurn) (new : Host) → n < 16 → Does old t new → IsSwitching old → IsSteadyTurn n old t → IsTended n old.driver → TendsOn n old t new
+turn_tended n old (Took frame report) new below does on calm h = plan_stays n old (Took frame report) new (ap (λ (x : Driver). x.plan) does.driver) (λ there. tt) (driver_stays n old new does.driver h)
+turn_tended n old (Pushed frame) new below does on calm h = plan_stays n old (Pushed frame) new (ap (λ (x : Driver). x.plan) does.driver) (λ there. tt) (driver_stays n old new does.driver h)
+turn_tended n old (Ticked a) new below does on calm h = tick_tends n old a new below does on calm h
+turn_tended n old (Submitted dev request ticket) new below does on calm h =
     plan_stays n old (Submitted dev request ticket) new (ap (λ (x : Driver). x.plan) does.taken.driver) (λ there. tt)
     (subst (λ (x : Driver). IsTended n x) (sym does.taken.driver) (submit_tended n old.driver old.memory dev request does.accepted h))
-turn_tended n old (Polled c) new below does calm h = poll_tends n old c new does h
-turn_tended n old (Put at bytes) new below does calm h = plan_stays n old (Put at bytes) new (ap (λ (x : Driver). x.plan) does.driver) (λ there. tt) (driver_stays n old new does.driver h)
+turn_tended n old (Polled c) new below does on calm h = poll_tends n old c new does h
+turn_tended n old (Put at bytes) new below does on calm h = plan_stays n old (Put at bytes) new (ap (λ (x : Driver). x.plan) does.driver) (λ there. tt) (driver_stays n old new does.driver h)
 
 pub each_is_tended : (n : ℕ) → TurnsTend n
 each_is_tended n = record {
@@ -304,5 +305,5 @@ each_is_tended n = record {
   flushed = λ old a new does is. flush_tended n old a new does is;
   unreset = λ old a new below does is. flush_unreset n old a new below does is;
   over = λ old a p sound is here asked. slot_over n old p sound is here asked;
-  stays = λ old t new below does calm h. turn_tended n old t new below does calm h;
+  stays = λ old t new below does on calm h. turn_tended n old t new below does on calm h;
 }

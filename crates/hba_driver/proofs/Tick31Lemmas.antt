@@ -12,6 +12,7 @@ use Rattle.hba_fbs.specs.Views.{Port}
 use Rattle.hba_laws.specs.Parts.{DevicePart}
 use Rattle.hba_laws.proofs.StandLemmas.{the}
 use Rattle.hba_laws.proofs.ViewLemmas.{own_in}
+use Rattle.hba_driver.specs.declared.mode.Mode.TheVariants.{Switching}
 use Rattle.hba_driver.specs.declared.order.Order.{Order}
 use Rattle.hba_driver.specs.declared.order.Order.TheVariants.{ResetOn, ResetOff, AwaitSignature, CountPorts, Enable, Open, Scan, Clear, Detect, Watch}
 use Rattle.hba_driver.specs.declared.plan.Plan.{Plan}
@@ -36,21 +37,22 @@ use Rattle.hba_driver.proofs.DrivenLemmas.{tick_is}
 use Rattle.hba_driver.proofs.DueLemmas.{Due, Waiting, goes_turn}
 use Rattle.hba_driver.proofs.EndingLemmas.{MayEnd, faulty_reported, may_end}
 use Rattle.hba_driver.proofs.EventLemmas.{beside, sound_beside}
-use Rattle.hba_driver.proofs.GoingLemmas.{IsGoing, leaves, never_stopped}
+use Rattle.hba_driver.proofs.GoingLemmas.{IsGoing, leaves, never_stops}
 use Rattle.hba_driver.proofs.LifeLemmas.{due_seen}
 use Rattle.hba_driver.proofs.OpenLemmas.{IsUp, up_of}
 use Rattle.hba_driver.proofs.ServedLemmas.{seen_served}
 use Rattle.hba_driver.proofs.ServingLemmas.{not_busy}
 use Rattle.hba_driver.proofs.Slot31Lemmas.{Control, IsAllowed, IsOther, Looks, Orders, Stays, Ticks31, met_off, next_off, seen_free, seen_out, seen_unasked, ticks31}
 use Rattle.hba_driver.proofs.StopLemmas.{either}
+use Rattle.hba_driver.proofs.SwitchLemmas.{sight_is, tick_acts}
 use Rattle.hba_driver.proofs.TickingLemmas.{free_order, step_dev}
 
 -- ---- PxFBS shows the device that is reported
 
-pub faulty_shown : (port : Port) (memory : Memory) → IsRuled port → port.errors.port ≡ None → is_some port.errors.reported ≡ true → (dev : ℕ) × ((sight_of port memory).faulty ≡ Some dev)
+pub faulty_shown : (port : Port) (memory : Memory) → IsRuled port → port.errors.port ≡ None → is_some port.errors.reported ≡ true → (dev : ℕ) × ((sight_of Switching port memory).faulty ≡ Some dev)
 faulty_shown port memory ruled none some = by_reported port.errors.reported refl some
   where
-    by_reported : (o : Option ℕ) → port.errors.reported ≡ o → is_some o ≡ true → (dev : ℕ) × ((sight_of port memory).faulty ≡ Some dev)
+    by_reported : (o : Option ℕ) → port.errors.reported ≡ o → is_some o ≡ true → (dev : ℕ) × ((sight_of Switching port memory).faulty ≡ Some dev)
     by_reported None is e = absurd (false≢true e)
     by_reported (Some dev) is e = (dev, faulty_reported port memory dev ruled none is)
 
@@ -117,10 +119,10 @@ module _ (h : Host) (g : IsGoing h) (stage : Stage31) (at : IsAt31 stage h) wher
       below : (n : ℕ) → n < 16 → n ≢ 15 → n < 15
       below n less other = omega (arith, less, other)
 
-  cleared : (a : Option Act) → MayEnd a h.port → (dev : ℕ) → a ≡ Some (act.Clears dev) → cleared_device h.port.errors ≡ Some dev
+  cleared : (a : Option Act) → MayEnd Switching a h.port → (dev : ℕ) → a ≡ Some (act.Clears dev) → cleared_device h.port.errors ≡ Some dev
   cleared (Some (act.Clears d)) may dev is =
       let same : d ≡ dev = cc in
-      may.faulty ∙ ap (λ (n : ℕ). Some n) same
+      may.1.faulty ∙ ap (λ (n : ℕ). Some n) same
   cleared None may dev is = cc
   cleared (Some act.Stops) may dev is = cc
   cleared (Some (act.Opens k)) may dev is = cc
@@ -133,7 +135,7 @@ module _ (h : Host) (g : IsGoing h) (stage : Stage31) (at : IsAt31 stage h) wher
   cleared_due dev is = cleared (due v h.driver) (may_end h g.way.sound) dev is
 
   allowed : has_failed stage ≡ false → IsAllowed (due v h.driver)
-  allowed well = record { leaves = leaves h g.calm g.up; clears = λ dev is. not_control well dev (cleared_due dev is) }
+  allowed well = record { leaves = leaves h g.way.sound g.calm g.up; clears = λ dev is. not_control well dev (cleared_due dev is) }
 
   -- ---- the port is open
 
@@ -155,7 +157,7 @@ module _ (h : Host) (g : IsGoing h) (stage : Stage31) (at : IsAt31 stage h) wher
     free31 asked = elim (cases_Bool (is_some (issue_at h.port.slots 31))) [
       | inl busy ↦
           absurd (not_busy (seen v h.driver) (beside h.port h.memory) g.way.past 31 31 (sound_beside h.port h.memory g.way.sound.ruled g.way.sound.memory)
-          (seen_served h.port h.memory h.driver g.way.past (sound_beside h.port h.memory g.way.sound.ruled g.way.sound.memory) g.way.served)
+          (seen_served h.driver.plan.mode h.port h.memory h.driver g.way.past (sound_beside h.port h.memory g.way.sound.ruled g.way.sound.memory) g.way.served)
           (free_order (seen v h.driver) asked) busy refl)
       | inr idle ↦ by_none (issue_at h.port.slots 31) idle
     ]
@@ -164,7 +166,7 @@ module _ (h : Host) (g : IsGoing h) (stage : Stage31) (at : IsAt31 stage h) wher
         by_none None e = refl
         by_none (Some i) e = absurd (true≢false e)
 
-    step_leaves : (dev : ℕ) (o : Option H2dFields) (buffer : Bool) (new : Host) → dev < 15 → ActsAll (match_some o [] (λ f. sending 30 dev f buffer)) h.port h.memory new.port new.memory
+    step_leaves : (dev : ℕ) (o : Option H2dFields) (buffer : Bool) (new : Host) → dev < 15 → ActsAll (match_some o [] (λ f. sending Switching 30 dev f buffer)) h.port h.memory new.port new.memory
         → Leaves15 h.port h.memory new.port new.memory
     unfolding ActsAll
     step_leaves dev None buffer new low acts = nothing_leaves h.port new.port h.memory new.memory acts.0 acts.1 runs
@@ -174,14 +176,14 @@ module _ (h : Host) (g : IsGoing h) (stage : Stage31) (at : IsAt31 stage h) wher
         (issuing_leaves 30 dev false acts.0 new.port acts.1 new.memory low (subst (λ (q : Port). IsUp q.registers) (sym acts.2.0) up) stored.runs acts.4)
 
     -- an act that is not an order leaves the control port's part
-    other_leaves : has_failed stage ≡ false → (a : Option Act) → due v h.driver ≡ a → IsOther a → Due v (seen v h.driver).plan (seen v h.driver).entries a → (new : Host) → ActsAll (effects_due a) h.port h.memory new.port new.memory
+    other_leaves : has_failed stage ≡ false → (a : Option Act) → due v h.driver ≡ a → IsOther a → Due v (seen v h.driver).plan (seen v h.driver).entries a → (new : Host) → ActsAll (effects_due Switching a) h.port h.memory new.port new.memory
         → Leaves15 h.port h.memory new.port new.memory
     unfolding effects_of ActsAll
     other_leaves well None is other known new acts = nothing_leaves h.port new.port h.memory new.memory acts.0 acts.1 runs
     other_leaves well (Some (act.Opens k)) is other known new acts =
         absurd (omega (arith, least, known.1, (goes_turn v h.driver.plan (done_ended v.issued h.driver.entries)).opened))
-    other_leaves well (Some act.Stops) is other known new acts = absurd (leaves h g.calm g.up act.Stops is)
-    other_leaves well (Some (act.Restarts k)) is other known new acts = absurd (leaves h g.calm g.up (act.Restarts k) is)
+    other_leaves well (Some act.Stops) is other known new acts = absurd (leaves h g.way.sound g.calm g.up act.Stops is)
+    other_leaves well (Some (act.Restarts k)) is other known new acts = absurd (leaves h g.way.sound g.calm g.up (act.Restarts k) is)
     other_leaves well (Some (act.Clears dev)) is other known new acts =
         let cleared_is : cleared_device h.port.errors ≡ Some dev = cleared_due dev is in
         clearing_leaves dev h.port new.port h.memory new.memory (λ same. far dev (not_control well dev cleared_is) same) cleared_is runs acts
@@ -191,10 +193,10 @@ module _ (h : Host) (g : IsGoing h) (stage : Stage31) (at : IsAt31 stage h) wher
     other_leaves well (Some (act.Orders o)) is other known new acts = absurd other
     other_leaves well (Some (act.Steps dev s)) is other known new acts =
         step_leaves dev (stage_fields dev s) (reads_page s) new
-        (step_dev (seen v h.driver) dev s (seen_served h.port h.memory h.driver g.way.past (sound_beside h.port h.memory g.way.sound.ruled g.way.sound.memory) g.way.served).bounded.path known) acts
+        (step_dev (seen v h.driver) dev s (seen_served h.driver.plan.mode h.port h.memory h.driver g.way.past (sound_beside h.port h.memory g.way.sound.ruled g.way.sound.memory) g.way.served).bounded.path known) acts
     other_leaves well (Some (act.Issues slot dev queued)) is other known new acts =
         let w : Waiting (seen v h.driver).plan (seen v h.driver).entries slot dev = known.0 in
-        let bounds = (seen_served h.port h.memory h.driver g.way.past (sound_beside h.port h.memory g.way.sound.ruled g.way.sound.memory) g.way.served).bounded.entries slot w.entry w.stands in
+        let bounds = (seen_served h.driver.plan.mode h.port h.memory h.driver g.way.past (sound_beside h.port h.memory g.way.sound.ruled g.way.sound.memory) g.way.served).bounded.entries slot w.entry w.stands in
         issuing_leaves slot dev queued h.port new.port h.memory new.memory (subst (λ (n : ℕ). n < 15) w.of_dev bounds.dev) up runs acts
 
     -- ---- what is seen of slot 31
@@ -322,7 +324,7 @@ module _ (h : Host) (g : IsGoing h) (stage : Stage31) (at : IsAt31 stage h) wher
     tick_other : has_failed stage ≡ false → (new : Host) (a : Bool) → Does h (Ticked a) new → IsOther (due v h.driver) → (next : Stage31) (o : Order) (b : Bool) → StaysOn stage next → flags31 next ≡ flags31 stage → IsIn next o b (control_of h)
         → IsLow o → new.driver.plan.order ≡ o → new.driver.plan.asked ≡ b → (next ≡ Waits → stage ≡ Waits) → (is_pending stage ≡ true → o ≡ p.order) → Ticked31 new
     tick_other well new a does other next o b stays resets is low order asked waits stands =
-        let part : control_of new ≡ control_of h = (other_leaves well (due v h.driver) refl other (due_seen v h.driver) new does.does).same in
+        let part : control_of new ≡ control_of h = (other_leaves well (due v h.driver) refl other (due_seen v h.driver) new (tick_acts h a new does g.way.sound)).same in
         record {
           next = next;
           stays = inl stays;
@@ -345,7 +347,7 @@ module _ (h : Host) (g : IsGoing h) (stage : Stage31) (at : IsAt31 stage h) wher
         → ((n : ℕ) → o ≡ Clear n → (next ≡ Waits) × (is_idle stage ≡ true)) → is_pending stage ≡ false → Ticked31 new
     unfolding effects_of
     tick_ordered new a does o due_is free fields are low order asked next stays resets is clears none =
-        let acts : ActsAll (order_effects o) h.port h.memory new.port new.memory = subst (λ (x : Option Act). ActsAll (effects_due x) h.port h.memory new.port new.memory) due_is does.does in
+        let acts : ActsAll (order_effects Switching o) h.port h.memory new.port new.memory = subst (λ (x : Option Act). ActsAll (effects_due Switching x) h.port h.memory new.port new.memory) due_is (tick_acts h a new does g.way.sound) in
         let i : Issues31 fields h.port h.memory new.port new.memory = order31 o fields h.port new.port h.memory new.memory are low up g.way.unarmed (free31 free) runs acts in
         let unsent : IsUnsent o (control_of new) = record { fields = fields; are = are; issued = i.issued; command = i.command; there = i.there; work = i.work; built = i.built } in
         record {
@@ -460,7 +462,7 @@ module _ (h : Host) (g : IsGoing h) (stage : Stage31) (at : IsAt31 stage h) wher
     faulty_on (Some dev) is marked = refl
 
     -- the clearing of the control port's own error
-    own_cleared : (new : Host) → ActsAll (clearing 15) h.port h.memory new.port new.memory → cleared_device h.port.errors ≡ Some 15 → control_of new ≡ part_after 15 (control_of h) Cleared
+    own_cleared : (new : Host) → ActsAll (clearing Switching 15) h.port h.memory new.port new.memory → cleared_device h.port.errors ≡ Some 15 → control_of new ≡ part_after 15 (control_of h) Cleared
     own_cleared new acts is = clearing_own h.port new.port h.memory new.memory is up.switches runs acts
 
     fails_tick : (new : Host) (a : Bool) → Does h (Ticked a) new → stage ≡ Fails → (act_is : Option Act) → due v h.driver ≡ act_is → Due v (seen v h.driver).plan (seen v h.driver).entries act_is
@@ -469,7 +471,7 @@ module _ (h : Host) (g : IsGoing h) (stage : Stage31) (at : IsAt31 stage h) wher
     fails_tick new a does fails act_is due_is known plan dev clears =
         let is : due v h.driver ≡ Some (act.Clears dev) = due_is ∙ clears in
         let cleared_is : cleared_device h.port.errors ≡ Some dev = cleared_due dev is in
-        let acts : ActsAll (clearing dev) h.port h.memory new.port new.memory = subst (λ (x : Option Act). ActsAll (effects_due x) h.port h.memory new.port new.memory) is does.does in
+        let acts : ActsAll (clearing Switching dev) h.port h.memory new.port new.memory = subst (λ (x : Option Act). ActsAll (effects_due Switching x) h.port h.memory new.port new.memory) is (tick_acts h a new does g.way.sound) in
         let after : new.driver.plan ≡ cleared_plan dev (file_shown new.port) p =
         ap (λ (d : Driver). d.plan) does.driver ∙ ap (λ (x : Option Act). (acted x (file_shown new.port) (seen v h.driver)).plan) is ∙ ap (λ (q : Plan). cleared_plan dev (file_shown new.port) q) plan in
         elim (cases_eq dev 15) [
@@ -478,7 +480,7 @@ module _ (h : Host) (g : IsGoing h) (stage : Stage31) (at : IsAt31 stage h) wher
             stays = inr (fails, refl);
             now =
                 let part : control_of new ≡ part_after 15 (control_of h) Cleared =
-                own_cleared new (subst (λ (n : ℕ). ActsAll (clearing n) h.port h.memory new.port new.memory) own acts) (cleared_is ∙ ap (λ (n : ℕ). Some n) own) in
+                own_cleared new (subst (λ (n : ℕ). ActsAll (clearing Switching n) h.port h.memory new.port new.memory) own acts) (cleared_is ∙ ap (λ (n : ℕ). Some n) own) in
                 let reset : new.driver.plan ≡ from_reset p = after ∙ ap (λ (n : ℕ). cleared_plan n (file_shown new.port) p) own in
                 record {
                   fault = ap (λ (x : DevicePart). is_some x.view.fault) part;
@@ -516,8 +518,8 @@ module _ (h : Host) (g : IsGoing h) (stage : Stage31) (at : IsAt31 stage h) wher
         low_of : (n : ℕ) → n < 16 → n ≢ 15 → nat_lt n 15 ≡ true
         low_of n below other = lt-ltb n 15 (omega (arith, below, other))
 
-        may_low : (n : ℕ) → due v h.driver ≡ Some (act.Clears n) → MayEnd (due v h.driver) h.port → n < 16
-        may_low n is may = (subst (λ (x : Option Act). MayEnd x h.port) is may).below
+        may_low : (n : ℕ) → due v h.driver ≡ Some (act.Clears n) → MayEnd Switching (due v h.driver) h.port → n < 16
+        may_low n is may = (subst (λ (x : Option Act). MayEnd Switching x h.port) is may).1.below
 
     -- the fault of a device comes before all else
     failed_due : stage ≡ Fails → (dev : ℕ) × (due v h.driver ≡ Some (act.Clears dev)) × ((seen v h.driver).plan ≡ p)
@@ -528,8 +530,8 @@ module _ (h : Host) (g : IsGoing h) (stage : Stage31) (at : IsAt31 stage h) wher
         let first : early_due v p ≡ Some (act.Clears shown_is.0) =
         ap (λ (b : Bool). option_or (if b then Some (act.Opens p.opened) else None) (option_or (restart_due p) (fault_due v))) (le-ltb p.opened 7 least)
         ∙ ap (λ (b : Bool). option_or (if b then Some (act.Restarts p.restarted) else None) (fault_due v)) (le-ltb p.restarted 2 (omega (arith, g.up)))
-        ∙ ap (λ (b : Bool). if b then Some act.Stops else option_map act.Clears v.faulty) (never_stopped h.port h.memory g.calm)
-        ∙ ap (option_map act.Clears) shown_is.1 in
+        ∙ ap (λ (b : Bool). if b then Some act.Stops else option_map act.Clears v.faulty) (never_stops h g.way.sound g.calm)
+        ∙ ap (option_map act.Clears) (ap (λ (s : Sight). s.faulty) (sight_is h g.way.sound) ∙ shown_is.1) in
         let whole : turn v h.driver ≡ plain_turn p (early_due v p) false =
         ap (λ (b : Bool). if b then plain_turn p (early_due v p) false else control_turn v (control_news v p) (control_seen v p) (done_ended v.issued h.driver.entries)) (ap is_some first) in
         (shown_is.0, ap (λ (t : Turn). t.act) whole ∙ first, ap (λ (t : Turn). t.plan) whole)
@@ -556,7 +558,7 @@ module _ (h : Host) (g : IsGoing h) (stage : Stage31) (at : IsAt31 stage h) wher
     unfolding effects_of
     order_stands new a does o due_is order some =
         let fields = the (order_fields o) some in
-        let acts : ActsAll (order_effects o) h.port h.memory new.port new.memory = subst (λ (x : Option Act). ActsAll (effects_due x) h.port h.memory new.port new.memory) due_is does.does in
+        let acts : ActsAll (order_effects Switching o) h.port h.memory new.port new.memory = subst (λ (x : Option Act). ActsAll (effects_due Switching x) h.port h.memory new.port new.memory) due_is (tick_acts h a new does g.way.sound) in
         let free : (seen v h.driver).plan.asked ≡ false = subst (λ (x : Option Act). Due v (seen v h.driver).plan (seen v h.driver).entries x) due_is (due_seen v h.driver) in
         let i : Issues31 fields.0 h.port h.memory new.port new.memory = order31 o fields.0 h.port new.port h.memory new.memory fields.1 (subst IsLow order seen_low) up g.way.unarmed (free31 free) runs acts in
         ap is_none i.issued
@@ -567,12 +569,12 @@ module _ (h : Host) (g : IsGoing h) (stage : Stage31) (at : IsAt31 stage h) wher
     other_stays new a does other = elim (cases_Bool (has_failed stage)) [
       | inl failed ↦
           let f = failed_due (fails_is stage failed) in
-          let acts : ActsAll (clearing f.0) h.port h.memory new.port new.memory = subst (λ (x : Option Act). ActsAll (effects_due x) h.port h.memory new.port new.memory) f.1 does.does in
+          let acts : ActsAll (clearing Switching f.0) h.port h.memory new.port new.memory = subst (λ (x : Option Act). ActsAll (effects_due Switching x) h.port h.memory new.port new.memory) f.1 (tick_acts h a new does g.way.sound) in
           let after : new.driver.plan ≡ cleared_plan f.0 (file_shown new.port) p =
           ap (λ (d : Driver). d.plan) does.driver ∙ ap (λ (x : Option Act). (acted x (file_shown new.port) (seen v h.driver)).plan) f.1 ∙ ap (λ (q : Plan). cleared_plan f.0 (file_shown new.port) q) f.2 in
           elim (cases_eq f.0 15) [
             | inl own ↦ inr (ap (λ (q : Plan). q.order) (after ∙ ap (λ (n : ℕ). cleared_plan n (file_shown new.port) p) own))
             | inr far ↦ inl (clearing_leaves f.0 h.port new.port h.memory new.memory far (cleared_due f.0 f.1) runs acts).same
           ]
-      | inr well ↦ inl (other_leaves well (due v h.driver) refl other (due_seen v h.driver) new does.does).same
+      | inr well ↦ inl (other_leaves well (due v h.driver) refl other (due_seen v h.driver) new (tick_acts h a new does g.way.sound)).same
     ]

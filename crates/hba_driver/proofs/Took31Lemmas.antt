@@ -21,7 +21,7 @@ use Rattle.hba_fbs.specs.declared.hearing.Happening.TheVariants as happening
 use Rattle.hba_fbs.specs.declared.hearing.Heard.{Heard}
 use Rattle.hba_fbs.specs.declared.report.TakeReport.{TakeReport}
 use Rattle.hba_fbs.specs.declared.state.DeviceState.{DeviceState}
-use Rattle.hba_fbs.specs.Hearing.{answer_fault, answered, faulty, heard_bits, heard_d2h, heard_fis, named, quietly, short_fault}
+use Rattle.hba_fbs.specs.Hearing.{answer_fault, answered, faulty, heard_bits, heard_d2h, heard_fis, named, quietly, short_fault, signing}
 use Rattle.hba_fbs.specs.Posting.{is_signature, signs}
 use Rattle.hba_fbs.specs.Status.{after_reset, is_busy, is_error, with_bits, with_file}
 use Rattle.hba_fbs.specs.Taking.{admitted, device_cause, heard_view, ignores, is_ignored, is_running, passes_over, port_of, view_after_hearing}
@@ -325,9 +325,9 @@ module _ (old : Host) (g : IsGoing old) (new : Host) (n : IsGoing new) (frame : 
       let x : DevicePart = control_of old in
       let on : x.view.state.resetting ≡ true = at.resetting ∙ ap is_resetting waits in
       let state : DeviceState = after_reset x.view.state (field D2h Status frame) (field D2h Error frame) in
-      let w : DeviceView = view_after_hearing x.view (quietly state happening.Nothing) in
+      let w : DeviceView = view_after_hearing x.view (signing frame (quietly state happening.Nothing)) in
       let h : heard_view 15 x.view true (Some (view.RegD2H frame)) ≡ w =
-      ap (λ (b : Bool). view_after_hearing x.view (if b then quietly state happening.Nothing else heard_d2h x.view.slots x.view.state (field D2h Status frame) (field D2h Error frame))) on in
+      ap (λ (b : Bool). view_after_hearing x.view (signing frame (if b then quietly state happening.Nothing else heard_d2h x.view.slots x.view.state (field D2h Status frame) (field D2h Error frame)))) on in
       let part : control_of new ≡ record (with_view x w) { row = row_with x.row (Some (view.RegD2H frame)) } =
       register_heard (ap has_failed waits) true on (ap not is.signs) is.viewed least ∙ ap (λ (y : DeviceView). record (with_view x y) { row = row_with x.row (Some (view.RegD2H frame)) }) h in
       by_order (subst (λ (s : Stage31). IsIn s old.driver.plan.order old.driver.plan.asked x) waits at.is) w part refl at.context refl refl
@@ -360,14 +360,14 @@ module _ (old : Host) (g : IsGoing old) (new : Host) (n : IsGoing new) (frame : 
 
     -- the part after it is heard as this
     as_heard : (h : Heard) → heard_d2h (control_of old).view.slots (control_of old).view.state (field D2h Status frame) (field D2h Error frame) ≡ h
-        → control_of new ≡ record (with_view (control_of old) (view_after_hearing (control_of old).view h)) { row = row_with (control_of old).row (Some (view.RegD2H frame)) }
+        → control_of new ≡ record (with_view (control_of old) (view_after_hearing (control_of old).view (signing frame h))) { row = row_with (control_of old).row (Some (view.RegD2H frame)) }
     unfolding heard_fis
     as_heard h same =
         register_heard (ap has_failed waits) false off refl is.viewed least
-        ∙ ap (λ (b : Bool). record (with_view (control_of old) (view_after_hearing (control_of old).view
+        ∙ ap (λ (b : Bool). record (with_view (control_of old) (view_after_hearing (control_of old).view (signing frame
         (if b then quietly (after_reset (control_of old).view.state (field D2h Status frame) (field D2h Error frame)) happening.Nothing
-        else heard_d2h (control_of old).view.slots (control_of old).view.state (field D2h Status frame) (field D2h Error frame)))) { row = row_with (control_of old).row (Some (view.RegD2H frame)) }) off
-        ∙ ap (λ (x : Heard). record (with_view (control_of old) (view_after_hearing (control_of old).view x)) { row = row_with (control_of old).row (Some (view.RegD2H frame)) }) same
+        else heard_d2h (control_of old).view.slots (control_of old).view.state (field D2h Status frame) (field D2h Error frame))))) { row = row_with (control_of old).row (Some (view.RegD2H frame)) }) off
+        ∙ ap (λ (x : Heard). record (with_view (control_of old) (view_after_hearing (control_of old).view (signing frame x))) { row = row_with (control_of old).row (Some (view.RegD2H frame)) }) same
 
     all_plain : IsSent (control_of old) → (s : ℕ) (i : Issue) → own_issue (control_of old).view.slots s ≡ Some i → (is_pio i.work.kind || is_queued i.work.kind) ≡ false
     all_plain s k i there =
@@ -383,7 +383,7 @@ module _ (old : Host) (g : IsGoing old) (new : Host) (n : IsGoing new) (frame : 
     told : is_error (field D2h Status frame) ≡ false → Took31 stage frame new
     told right =
         let a : Answered = answer_of (control_of old).view.slots in
-        let w : DeviceView = view_after_hearing (control_of old).view (answered a file) in
+        let w : DeviceView = view_after_hearing (control_of old).view (signing frame (answered a file)) in
         let plain : IsPlainAnswer a = plain_answer (control_of old).view.slots (all_plain asks.2) in
         record {
           next = Told;
@@ -399,7 +399,7 @@ module _ (old : Host) (g : IsGoing old) (new : Host) (n : IsGoing new) (frame : 
     failed wrong = record {
       next = Fails;
       follows = inr (refl, inl (waits, is));
-      at = made31 Fails (view_after_hearing (control_of old).view (faulty file cause.TaskFile)) (view.RegD2H frame)
+      at = made31 Fails (view_after_hearing (control_of old).view (signing frame (faulty file cause.TaskFile))) (view.RegD2H frame)
           (as_heard (faulty file cause.TaskFile)
           (ap (λ (b : Bool). if b then faulty file cause.TaskFile else if is_busy (field D2h Status frame) then quietly file happening.Nothing else answered (answer_of (control_of old).view.slots) file) wrong))
           refl at.context off tt (shut least Fails);

@@ -13,6 +13,7 @@ use Rattle.hba_fbs.specs.Views.{Port}
 use Rattle.hba_laws.proofs.StandLemmas.{some_inj}
 use Rattle.hba_laws.proofs.ViewLemmas.{own_in}
 use Rattle.hba_driver.specs.declared.effect.Effect.{Effect}
+use Rattle.hba_driver.specs.declared.mode.Mode.{Mode}
 use Rattle.hba_driver.specs.declared.order.Order.{Order}
 use Rattle.hba_driver.specs.declared.order.Order.TheVariants.{Clear}
 use Rattle.hba_driver.specs.declared.path.Stage.{Stage as PathStage}
@@ -32,23 +33,23 @@ use Rattle.hba_driver.specs.declared.turn.Turn.{Turn}
 use Rattle.hba_driver.specs.Done.{DoneIsTrue, WasCompleted, completes, is_completed, takes}
 use Rattle.hba_driver.specs.Drivers.{AreRequests, Driver, Entry, entry_at, has_ended, has_ended_in, holds, is_aside_in, is_issued_in, rephase, rephase_all, rephased, waits, waits_in}
 use Rattle.hba_driver.specs.Effects.{ActsAll, effects_of, issuing}
-use Rattle.hba_driver.specs.Events.{opening_host}
+use Rattle.hba_driver.specs.Events.{opening_host_in}
 use Rattle.hba_driver.specs.HostTurns.{Does, DoesAll, Host, HostTurn, Took, Pushed, Ticked, Submitted, Polled, Put, issued_by_act, issued_in_tick, sight_in, ticket_of}
 use Rattle.hba_driver.specs.Laws.{Goes, GoesOn, flushes}
 use Rattle.hba_driver.specs.Orders.{request_fields, work_fields}
 use Rattle.hba_driver.specs.Sights.{file_shown}
 use Rattle.hba_driver.specs.Ticks.{acted, after_tick, done_ended, due, effects, effects_due, entries_after, is_aside_of, is_done, is_open, is_open_of, removed, seen, stage_ended, turn}
+use Rattle.hba_driver.proofs.AcceptLemmas.{AloneFor, IsOnWayIn, goes_on, is_up, issue_taken, way_opens, way_turn}
 use Rattle.hba_driver.proofs.AcceptLemmas as accept
-use Rattle.hba_driver.proofs.AcceptLemmas.{IsOnWay, goes_on, is_up, issue_taken, way_opens, way_turn}
 use Rattle.hba_driver.proofs.ComeLemmas.{Fresh, comes_from, ticks}
 use Rattle.hba_driver.proofs.DoneLemmas.{done_is_free}
 use Rattle.hba_driver.proofs.DrivenLemmas.{not_below, tick_is, turn_opens}
-use Rattle.hba_driver.proofs.DueLemmas.{Due, Runs}
-use Rattle.hba_driver.proofs.EndingLemmas.{may_end}
+use Rattle.hba_driver.proofs.DueLemmas.{Due, Runs, goes_turn}
 use Rattle.hba_driver.proofs.HistoryLemmas.{PollFacts, poll_facts, requests_turn}
 use Rattle.hba_driver.proofs.LifeLemmas.{entry_of_rephased, waiting_stays}
 use Rattle.hba_driver.proofs.OutLemmas.{HasOut, out_act, out_opening, out_pushed, out_same, out_took}
 use Rattle.hba_driver.proofs.RequestLemmas.{set_cases}
+use Rattle.hba_driver.proofs.ServedLemmas.{may_end_in}
 use Rattle.hba_driver.proofs.ServeLemmas.{ticks_serve}
 use Rattle.hba_driver.proofs.StageLemmas.{Stage, Idle, Out, Whole, stage_after, stage_by, stage_over, tells}
 use Rattle.hba_driver.proofs.StandLemmas.{in_slots}
@@ -218,7 +219,7 @@ unfolding entries_after
 acted_entry file d slot dev queued e long below here =
     get_or-set_same d.entries slot (option_map (rephased Issued) (entry_at d.entries slot)) None (omega (arith, long, below)) ∙ ap (option_map (rephased Issued)) here
 
-pub went_out : (h : Host) (a : Bool) (new : Host) (ticket : ℕ) → Does h (Ticked a) new → IsOnWay h → IssuesIt (sight_in h) h.driver ticket → WentOut h new ticket
+pub went_out : {mode : Mode} (h : Host) (a : Bool) (new : Host) (ticket : ℕ) → Does h (Ticked a) new → IsOnWayIn mode h → IssuesIt (sight_in h) h.driver ticket → WentOut h new ticket
 unfolding effects_of after_tick
 went_out h a new ticket does w i =
     let v : Sight = sight_in h in
@@ -227,8 +228,12 @@ went_out h a new ticket does w i =
     let waiting = subst (λ (x : Option Act). Due v d.plan d.entries x) i.is g.due_is in
     let runs : Runs d.plan (Some (act.Issues i.slot i.dev i.queued)) = subst (λ (x : Option Act). Runs d.plan x) i.is g.runs in
     let same : waiting.0.entry ≡ i.entry = some_inj waiting.0.entry i.entry (sym waiting.0.stands ∙ i.there) in
-    let acts : ActsAll (issuing i.slot i.dev i.queued) h.port h.memory new.port new.memory = subst (λ (x : Option Act). ActsAll (effects_due x) h.port h.memory new.port new.memory) i.is does.does in
-    let issued = issue_taken d i.slot i.dev i.queued h.port new.port h.memory new.memory g.knows (is_up d h.port h.memory g.knows runs.1) waiting.0 waiting.1 acts in
+    let mode_is : d.plan.mode ≡ h.driver.plan.mode = (goes_turn v h.driver.plan (done_ended v.issued h.driver.entries)).mode in
+    let acts_in : ActsAll (effects_due d.plan.mode (due v h.driver)) h.port h.memory new.port new.memory =
+    subst (λ (m : Mode). ActsAll (effects_due m (due v h.driver)) h.port h.memory new.port new.memory) (sym mode_is) does.does in
+    let alone : AloneFor d.plan.mode (Some (act.Issues i.slot i.dev i.queued)) h.port = subst (λ (x : Option Act). AloneFor d.plan.mode x h.port) i.is g.alone in
+    let acts : ActsAll (issuing d.plan.mode i.slot i.dev i.queued) h.port h.memory new.port new.memory = subst (λ (x : Option Act). ActsAll (effects_due d.plan.mode x) h.port h.memory new.port new.memory) i.is acts_in in
+    let issued = issue_taken d i.slot i.dev i.queued h.port new.port h.memory new.memory g.knows (is_up d h.port h.memory g.knows runs.1) alone waiting.0 waiting.1 acts in
     let kinds = calm_request i.slot waiting.0.entry.head in
     let out : HasOut new.port i.slot i.dev = record {
       issue = new_issue i.dev (work_of (request_of (request_fields i.slot waiting.0.entry.head)));
@@ -324,33 +329,33 @@ ended_same Issued q h k = absurd (false≢true k)
 ended_same Aside q h k = absurd (false≢true k)
 ended_same (Ended o) q h k = h
 
-whole_ended : (ticket slot dev : ℕ) (h : Host) (stage : Stage) (e f : Entry) → IsOnWay h → Far ticket slot dev h stage → entry_at h.driver.entries slot ≡ Some e → GoesOn e f
+whole_ended : {mode : Mode} (ticket slot dev : ℕ) (h : Host) (stage : Stage) (e f : Entry) → IsOnWayIn mode h → Far ticket slot dev h stage → entry_at h.driver.entries slot ≡ Some e → GoesOn e f
     → (file : TaskFile) → entry_at (after_tick (sight_in h) file h.driver).entries slot ≡ Some f → f.head.phase ≡ Ended Done → e.head.ticket ≡ ticket → e.head.dev ≡ dev → stage ≡ Whole
 whole_ended ticket slot dev h stage e f w far here on file there is of_ticket of_dev =
     let fits : Fits stage h.port slot dev e.head.phase = far e here of_ticket of_dev in
     elim (cases_Bool (has_ended e.head)) [
       | inl ended ↦ fits_done stage h.port slot dev e.head.phase (sym (ended_same e.head.phase f.head.phase on.goes ended) ∙ is) fits
       | inr going ↦
-          let free = done_is_free h.port h.memory file h.driver slot e f w.sound.ruled.table w.sound.requests here going there is in
+          let free = done_is_free h.driver.plan.mode h.port h.memory file h.driver slot e f w.sound.ruled.table w.sound.requests here going there is in
           fits_ended stage h.port slot dev e.head.phase free.1 free.0 fits
     ]
 
 -- a request that stays issued over a tick, which neither stops the port nor clears its device
-pub out_tick : (h : Host) (a : Bool) (new : Host) (slot dev : ℕ) → Does h (Ticked a) new → IsOnWay h → dev < 16 → list_any (flushes dev) (effects (sight_in h) h.driver) ≡ false
+pub out_tick : {mode : Mode} (h : Host) (a : Bool) (new : Host) (slot dev : ℕ) → Does h (Ticked a) new → IsOnWayIn mode h → dev < 16 → list_any (flushes dev) (effects (sight_in h) h.driver) ≡ false
     → (due (sight_in h) h.driver ≡ Some act.Stops → ⊥) → ((k : ℕ) → due (sight_in h) h.driver ≡ Some (act.Clears k) → dev ≢ k) → HasOut h.port slot dev → HasOut new.port slot dev
 out_tick h a new slot dev does w below other stops clears out = elim (tick_is (sight_in h) (file_shown new.port) h.driver) [
   | inl first ↦
       let k : ℕ = h.driver.plan.opened in
-      out_opening k h.port new.port h.memory new.memory slot dev (w.sound.registers.stopped (less_most k first.less)) below
+      out_opening h.driver.plan.mode k h.port new.port h.memory new.memory slot dev (w.sound.registers.stopped (less_most k first.less)) below
       (subst (λ (es : List Effect). ActsAll es h.port h.memory new.port new.memory) first.one does.does) w.sound.ruled.table out
   | inr going ↦
-      out_act (due (sight_in h) h.driver) h.port new.port h.memory new.memory slot dev below (may_end h w.sound) stops clears (goes_on h w going.least).opens other does.does w.sound.ruled.table out
+      out_act h.driver.plan.mode (due (sight_in h) h.driver) h.port new.port h.memory new.memory slot dev below (may_end_in h w.sound) stops clears (goes_on h w going.least).opens other does.does w.sound.ruled.table out
 ]
   where
     less_most : (n : ℕ) → n < 7 → n ≤ 6
     less_most n h = omega (arith, h)
 
-module _ (ticket slot dev : ℕ) (h : Host) (a : Bool) (new : Host) (does : Does h (Ticked a) new) (w : IsOnWay h) (stage : Stage) (far : Far ticket slot dev h stage) where
+module _ {mode : Mode} (ticket slot dev : ℕ) (h : Host) (a : Bool) (new : Host) (does : Does h (Ticked a) new) (w : IsOnWayIn mode h) (stage : Stage) (far : Far ticket slot dev h stage) where
   abbrev v : Sight
   v = sight_in h
 
@@ -433,7 +438,7 @@ module _ (ticket slot dev : ℕ) (h : Host) (a : Bool) (new : Host) (does : Does
 
 -- ---- each turn
 
-far_turn : (ticket slot dev : ℕ) (old : Host) (t : HostTurn) (new : Host) (stage : Stage) → slot < 32 → dev < 16 → Does old t new → IsOnWay old → Far ticket slot dev old stage → Far ticket slot dev new (stage_after ticket slot dev stage old t)
+far_turn : {mode : Mode} (ticket slot dev : ℕ) (old : Host) (t : HostTurn) (new : Host) (stage : Stage) → slot < 32 → dev < 16 → Does old t new → IsOnWayIn mode old → Far ticket slot dev old stage → Far ticket slot dev new (stage_after ticket slot dev stage old t)
 far_turn ticket slot dev old (Took frame report) new stage below dev_below h w far =
     far_still (Took frame report) ticket slot dev old new stage (stage_after ticket slot dev stage old (Took frame report)) h refl
     (took_whole (completes slot dev (Took frame report)) stage)
@@ -448,11 +453,11 @@ far_turn ticket slot dev old (Polled c) new stage below dev_below h w far =
 far_turn ticket slot dev old (Put at bytes) new stage below dev_below h w far =
     far_still (Put at bytes) ticket slot dev old new stage stage h refl (λ is. is) (λ is out. inr (is, out_same old.port new.port slot dev h.port out)) far
 
-way_over : (turns : List HostTurn) (old new : Host) → DoesAll old turns new → IsOnWay old → IsOnWay new
-way_over [] old new run w = subst IsOnWay (sym run) w
-way_over (t ∷ turns) old new run w = way_over turns run.0 new run.2 (way_turn old t run.0 run.1 w)
+way_over : {mode : Mode} (turns : List HostTurn) (old new : Host) → DoesAll old turns new → IsOnWayIn mode old → IsOnWayIn mode new
+way_over {mode} [] old new run w = subst (IsOnWayIn mode) (sym run) w
+way_over {mode} (t ∷ turns) old new run w = way_over turns run.0 new run.2 (way_turn old t run.0 run.1 w)
 
-far_over : (ticket slot dev : ℕ) → slot < 32 → dev < 16 → (turns : List HostTurn) (stage : Stage) (old new : Host) (run : DoesAll old turns new) → IsOnWay old → Far ticket slot dev old stage
+far_over : {mode : Mode} (ticket slot dev : ℕ) → slot < 32 → dev < 16 → (turns : List HostTurn) (stage : Stage) (old new : Host) (run : DoesAll old turns new) → IsOnWayIn mode old → Far ticket slot dev old stage
     → Far ticket slot dev new (stage_over ticket slot dev stage old new turns run)
 far_over ticket slot dev below dev_below [] stage old new run w far = subst (λ (h : Host). Far ticket slot dev h stage) (sym run) far
 far_over ticket slot dev below dev_below (t ∷ turns) stage old new run w far =
@@ -497,11 +502,11 @@ comes_over (t ∷ turns) old new run s f here = elim (comes_over turns run.0 new
 
 -- ---- the law
 
-module _ (given len : ℕ) (right : is_memory_size len ≡ true) (turns : List HostTurn) (h : Host) (run : DoesAll (opening_host given len) turns h) where
+module _ (mode : Mode) (given len : ℕ) (right : is_memory_size len ≡ true) (turns : List HostTurn) (h : Host) (run : DoesAll (opening_host_in mode given len) turns h) where
   abbrev opened : Host
-  opened = opening_host given len
+  opened = opening_host_in mode given len
 
-  now : IsOnWay h
+  now : IsOnWayIn mode h
   now = way_over turns opened h run (way_opens given len right)
 
   far_now : (ticket slot dev : ℕ) → slot < 32 → dev < 16 → Far ticket slot dev h (stage_over ticket slot dev Idle opened h turns run)
@@ -546,6 +551,6 @@ module _ (given len : ℕ) (right : is_memory_size len ≡ true) (turns : List H
 
 pub done_is_true : DoneIsTrue
 done_is_true = record {
-  ends = λ given len right turns h run a after does s e here is. ends given len right turns h run a after does s e here is;
-  polled = λ given len right turns h run c after does done. polled given len right turns h run c after does done;
+  ends = λ mode given len right turns h run a after does s e here is. ends mode given len right turns h run a after does s e here is;
+  polled = λ mode given len right turns h run c after does done. polled mode given len right turns h run c after does done;
 }

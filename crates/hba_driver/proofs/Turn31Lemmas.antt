@@ -19,12 +19,14 @@ use Rattle.hba_laws.specs.Isolation.{OwnEvent, Went, own_events, part_after_all}
 use Rattle.hba_laws.specs.Parts.{commands_of}
 use Rattle.hba_driver.specs.declared.effect.Effect.{Effect}
 use Rattle.hba_driver.specs.declared.effect.Effect.TheVariants as effect
+use Rattle.hba_driver.specs.declared.mode.Mode.TheVariants.{Switching}
+use Rattle.hba_driver.specs.declared.mode.Mode.{Mode}
 use Rattle.hba_driver.specs.declared.order.Order.TheVariants.{Clear}
 use Rattle.hba_driver.specs.declared.plan.Plan.{Plan}
 use Rattle.hba_driver.specs.declared.turn.Act.{Act}
 use Rattle.hba_driver.specs.declared.turn.Act.TheVariants as act
 use Rattle.hba_driver.specs.Drivers.{Driver}
-use Rattle.hba_driver.specs.Effects.{Acts, ActsAll, effects_of, opening_write, order_command, order_effects}
+use Rattle.hba_driver.specs.Effects.{Acts, ActsAll, effects_of, emptying, opening_write, order_command, order_effects}
 use Rattle.hba_driver.specs.Events.{opening_host, shared_by}
 use Rattle.hba_driver.specs.Going.{IsOfControl, IsReport}
 use Rattle.hba_driver.specs.HostTurns.{Does, DoesAll, Host, HostTurn, Polled, Pushed, Put, Submitted, Ticked, Took, sight_in}
@@ -135,7 +137,7 @@ falls_not : (started b : Bool) (x y : DeviceView) → started ≡ false → (if 
 falls_not false b x y h = refl
 falls_not true b x y h = absurd (true≢false h)
 
-opens_view : (k : ℕ) → k < 7 → (old new : Port) (before after : Memory) → old.registers.started ≡ false → Acts (opening_write k) old before new after → view_of 15 new ≡ view_of 15 old
+opens_view : (k : ℕ) → k < 7 → (old new : Port) (before after : Memory) → old.registers.started ≡ false → Acts (opening_write Switching k) old before new after → view_of 15 new ≡ view_of 15 old
 unfolding opening_write register_at view_after
 opens_view zero less old new before after off acts = open_write Clb 0 0 old new before after refl refl acts
 opens_view (suc zero) less old new before after off acts = open_write Clbu 4 0 old new before after refl refl acts
@@ -148,7 +150,7 @@ opens_view (suc (suc (suc (suc (suc (suc zero)))))) less old new before after of
     open_write Cmd 24 131089 old new before after refl (falls_not old.registers.started _ (stopped_view (view_of 15 old)) (view_of 15 old) off) acts
 opens_view (suc (suc (suc (suc (suc (suc (suc k))))))) less old new before after off acts = absurd (omega (arith, less))
 
-opening_view : (k : ℕ) → k < 7 → (old new : Port) (before after : Memory) → old.registers.started ≡ false → ActsAll (opening_write k ∷ []) old before new after → view_of 15 new ≡ view_of 15 old
+opening_view : (k : ℕ) → k < 7 → (old new : Port) (before after : Memory) → old.registers.started ≡ false → ActsAll (opening_write Switching k ∷ []) old before new after → view_of 15 new ≡ view_of 15 old
 unfolding ActsAll
 opening_view k less old new before after off acts = ap (view_of 15) acts.4.0 ∙ opens_view k less old acts.0 before acts.1 off acts.2
 
@@ -164,7 +166,8 @@ module _ (old : Host) (g : IsGoing old) (stage : Stage31) (at : IsAt31 stage old
   -- if its port is cleared, the device is flushed
   flushed_by : (n : ℕ) → due (sight_in old) old.driver ≡ Some (act.Orders (Clear n)) → orders_clear n old ≡ true
   unfolding effects_of order_effects
-  flushed_by n is = ap (λ (a : Option Act). list_any (flushes n) (effects_due a)) is ∙ first_any (n == n) (list_any (flushes n) (effect.Empties n ∷ order_command (Clear n))) (eq-eqb n n refl)
+  flushed_by n is = ap (λ (a : Option Act). list_any (flushes n) (effects_due old.driver.plan.mode a)) is
+      ∙ first_any (n == n) (list_any (flushes n) (emptying old.driver.plan.mode n ++ order_command old.driver.plan.mode (Clear n))) (eq-eqb n n refl)
 
   never_closed : old.driver.plan.opened < 7 → (n : ℕ) → orders_clear n old ≡ true → ⊥
   never_closed less n flushed =
@@ -176,7 +179,8 @@ module _ (old : Host) (g : IsGoing old) (stage : Stage31) (at : IsAt31 stage old
       let rests : stage ≡ Rests = at.closed less in
       let same : view_of 15 new.port ≡ view_of 15 old.port =
       opening_view old.driver.plan.opened less old.port new.port old.memory new.memory (g.way.sound.registers.stopped (omega (arith, less)))
-      (subst (λ (es : List Effect). ActsAll es old.port old.memory new.port new.memory) first.one does.does) in
+      (subst (λ (m : Mode). ActsAll (opening_write m old.driver.plan.opened ∷ []) old.port old.memory new.port new.memory) g.way.sound.drives
+      (subst (λ (es : List Effect). ActsAll es old.port old.memory new.port new.memory) first.one does.does)) in
       let plan : new.driver.plan ≡ record old.driver.plan { opened = old.driver.plan.opened + 1 } = ap (λ (d : Driver). d.plan) does.driver ∙ first.plan_is in
       let is : IsIn Rests old.driver.plan.order old.driver.plan.asked (control_of old) = subst (λ (s : Stage31). IsIn s old.driver.plan.order old.driver.plan.asked (control_of old)) rests at.is in
       record {

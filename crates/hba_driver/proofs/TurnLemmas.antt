@@ -18,13 +18,14 @@ use Rattle.hba_laws.specs.Hosts.{HostEvent, Runs}
 use Rattle.hba_laws.specs.Sound as sound
 use Rattle.hba_driver.specs.declared.effect.Effect.{Effect}
 use Rattle.hba_driver.specs.declared.effect.Effect.TheVariants as effect
+use Rattle.hba_driver.specs.declared.mode.Mode.{Mode}
 use Rattle.hba_driver.specs.declared.plan.Device.TheVariants.{Absent}
 use Rattle.hba_driver.specs.declared.request.Request.{Request}
 use Rattle.hba_driver.specs.declared.request.SubmitError.{SubmitError}
 use Rattle.hba_driver.specs.declared.request.SubmitError.TheVariants as refusal
 use Rattle.hba_driver.specs.Drivers.{Driver, device_at}
 use Rattle.hba_driver.specs.Effects.{ActsAll, IsRuled, is_effect, opening_write, opening_writes}
-use Rattle.hba_driver.specs.Events.{EachRunTells, IsSoundHost, KnowsNone, TurnsAreEvents, events_of, events_of_effect, events_of_effects, events_over, gave, pushed_by, put, put_by, shared_by, taken_by, took, wrote_to}
+use Rattle.hba_driver.specs.Events.{EachRunTells, IsSoundHostIn, KnowsNone, TurnsAreEvents, events_of, events_of_effect, events_of_effects, events_over, gave, pushed_by, put, put_by, shared_by, taken_by, took, wrote_to}
 use Rattle.hba_driver.specs.HostTurns.{Does, DoesAll, Host, HostTurn, Took, Pushed, Ticked, Submitted, Polled, Put, sight_in}
 use Rattle.hba_driver.specs.Requests.{device_refusal}
 use Rattle.hba_driver.specs.Sights.{file_shown}
@@ -63,11 +64,11 @@ good_few (e ∷ []) old new before after few is spares m h first =
     (good_none (beside h.0 h.1) (beside new after) (beside_same h.0 new h.1 after h.4.0 h.4.1) (sound_beside h.0 h.1 h.3 later))
 good_few (e ∷ f ∷ es) old new before after few is spares m h first = absurd (omega (arith, few))
 
-spares_opening : (k : ℕ) → spares_area (opening_write k) ≡ true
+spares_opening : (mode : Mode) (k : ℕ) → spares_area (opening_write mode k) ≡ true
 unfolding opening_write
-spares_opening k = all_at spares_area opening_writes k _ refl refl
+spares_opening mode k = all_at spares_area (opening_writes mode) k _ refl refl
 
-good_tick : (old : Host) (a : Bool) (new : Host) (h : Does old (Ticked a) new) → IsSoundHost old → IsRuled old.port → IsRuled new.port
+good_tick : {mode : Mode} (old : Host) (a : Bool) (new : Host) (h : Does old (Ticked a) new) → IsSoundHostIn mode old → IsRuled old.port → IsRuled new.port
     → Good (shared_by old) (events_of old (Ticked a) new h) (shared_by new)
 good_tick old a new h s first last =
     let v = sight_in old in
@@ -75,8 +76,8 @@ good_tick old a new h s first last =
     elim (tick_is v (file_shown new.port) d) [
       | inl one ↦
           good_few (effects v d) old.port new.port old.memory new.memory (subst (λ (es : List Effect). length es ≤ 1) (sym one.one) (omega arith)) h.possible
-          (subst (λ (es : List Effect). list_all spares_area es ≡ true) (sym one.one) (ap (λ (b : Bool). b && true) (spares_opening d.plan.opened))) s.memory h.does first
-      | inr going ↦ good_effects (effects v d) old.port new.port old.memory new.memory h.possible going.quiet (s.registers.area (omega (arith, going.least))) s.memory h.does first last
+          (subst (λ (es : List Effect). list_all spares_area es ≡ true) (sym one.one) (ap (λ (b : Bool). b && true) (spares_opening d.plan.mode d.plan.opened))) s.memory h.does first
+      | inr going ↦ good_effects d.plan.mode (effects v d) old.port new.port old.memory new.memory h.possible going.quiet (s.registers.area (omega (arith, going.least))) s.memory h.does first last
     ]
 
 -- ---- a request
@@ -98,10 +99,10 @@ submit_open d memory dev request known h = elim (cases_lt d.plan.opened 7) [
 
 -- ---- each turn
 
-pub sound_shared : (h : Host) → IsSoundHost h → sound.IsHost (shared_by h)
+pub sound_shared : {mode : Mode} (h : Host) → IsSoundHostIn mode h → sound.IsHost (shared_by h)
 sound_shared h s = sound_beside h.port h.memory s.ruled s.memory
 
-good_turn : (old : Host) (t : HostTurn) (new : Host) (h : Does old t new) → IsSoundHost old → IsSoundHost new → Good (shared_by old) (events_of old t new h) (shared_by new)
+good_turn : {mode : Mode} (old : Host) (t : HostTurn) (new : Host) (h : Does old t new) → IsSoundHostIn mode old → IsSoundHostIn mode new → Good (shared_by old) (events_of old t new h) (shared_by new)
 good_turn old (Took frame report) new h s n =
     good_one (shared_by old) (event.Took frame report) (shared_by new) (record { ignored = h.ignored; heard = h.heard }) (sound_shared old s) (sound_shared new n)
 good_turn old (Pushed frame) new h s n =
@@ -120,10 +121,10 @@ good_turn old (Put at bytes) new h s n =
 
 -- ---- over turns
 
-good_turns : (turns : List HostTurn) (old new : Host) (run : DoesAll old turns new) → IsSoundHost old → Good (shared_by old) (events_over old new turns run) (shared_by new)
-good_turns [] old new run s = good_none (shared_by old) (shared_by new) (ap shared_by run) (sound_shared old s)
-good_turns (t ∷ turns) old new run s =
-    let n : IsSoundHost run.0 = sound_turn old t run.0 run.1 s in
+good_turns : {mode : Mode} (turns : List HostTurn) (old new : Host) (run : DoesAll old turns new) → IsSoundHostIn mode old → Good (shared_by old) (events_over old new turns run) (shared_by new)
+good_turns {mode} [] old new run s = good_none (shared_by old) (shared_by new) (ap shared_by run) (sound_shared old s)
+good_turns {mode} (t ∷ turns) old new run s =
+    let n : IsSoundHostIn mode run.0 = sound_turn old t run.0 run.1 s in
     good_then (events_of old t run.0 run.1) (events_over run.0 new turns run.2) (shared_by old) (shared_by run.0) (shared_by new) (good_turn old t run.0 run.1 s n) (good_turns turns run.0 new run.2 n)
 
 -- ---- what the events tell

@@ -20,7 +20,7 @@ use Rattle.hba_driver.specs.Sights.{file_shown}
 use Rattle.hba_driver.specs.Slot30.{IsUnflushed, StaysUnsought}
 use Rattle.hba_driver.specs.Steady.{IsFlushTick, detects}
 use Rattle.hba_driver.specs.Ticks.{after_tick, done_ended, due, from_reset, ordered, plan_after, recovering, seen, turn}
-use Rattle.hba_driver.specs.Turns.{advanced, control_seen, device_seen, early_due, found_of, is_back, order_due, turn_of}
+use Rattle.hba_driver.specs.Turns.{advanced, control_seen, device_seen, early_due, found_of, is_back, order_allowed, turn_of}
 use Rattle.hba_driver.proofs.PageLemmas.{poll_plan}
 use Rattle.hba_driver.proofs.SteadyLemmas.{DueOf, of_turn}
 use Rattle.hba_driver.proofs.SteadyTurns.{acted_plan}
@@ -61,7 +61,7 @@ unfolding turn_of
 turn_unsought n v p entries h =
     let c : IsUnsought n (control_seen v p) = (control_leaves n v p h).unsought in
     turn_if n (is_some (early_due v p)) _ _ h
-    (turn_if n (is_some (order_due (control_seen v p))) _ _ c (device_unsought n v (control_seen v p) c))
+    (turn_if n (is_some (order_allowed v (control_seen v p) entries)) _ _ c (device_unsought n v (control_seen v p) c))
 
 -- ---- the act
 

@@ -1,6 +1,6 @@
 -- The port is open: it takes the writes with which the driver issues a command, and the command is issued.
-use Rattle.std.proofs.Common.{◌≡◌, ℕ, ◌+◌, ◌-◌, ◌*◌, ◌/◌, ◌^◌, ◌<◌, ◌≤◌, Bool, true, false, cond, ◌&&◌, nat_le, bit_or, w32, List, length, refl, sym, ◌∙◌, ap, subst, inl, inr, arith, Option, Some, None}
-use Rattle.std.specs.Prelude.{MatchOption, if◌then◌else◌, ◌==◌, ◌%◌, not, is_none, is_some}
+use Rattle.std.proofs.Common.{◌≡◌, ℕ, ◌+◌, ◌-◌, ◌*◌, ◌/◌, ◌^◌, ◌<◌, ◌≤◌, Bool, true, false, cond, ◌&&◌, nat_le, bit_or, w32, List, length, refl, sym, ◌∙◌, ap, subst, inl, inr, arith, Option, Some, None, [], ◌∷◌}
+use Rattle.std.specs.Prelude.{MatchOption, if◌then◌else◌, ◌==◌, ◌%◌, not, is_none, is_some, ◌||◌}
 use Rattle.std.specs.Bool.{beq}
 use Rattle.std.specs.Int.{bit_at}
 use Rattle.std.specs.Int.Bits.{and_zero_l, or_zero_l}
@@ -19,6 +19,7 @@ use Rattle.hba_commands.specs.Commands.{cfis_at, command_at, command_in, command
 use Rattle.hba_commands.specs.Headers.{header_at}
 use Rattle.hba_commands.specs.Requests.{request_at, request_of, work_of}
 use Rattle.hba_commands.specs.Writing.{header_for}
+use Rattle.slots.specs.Slots.{holds as issue_holds}
 use Rattle.slots.specs.Slots.{Issue, Slots, has_bit, issue_at, lowest, new_issue, own_issue, slots_of}
 use Rattle.slots.specs.Table.{IsIssue, IsTable}
 use Rattle.slots.proofs.MaskLemmas.{lowest_is}
@@ -27,22 +28,25 @@ use Rattle.hba_fbs.specs.declared.error.WriteError.TheVariants as refusal
 use Rattle.hba_fbs.specs.declared.register.Register.TheVariants.{Sact, Ci, Sntf, Fbs}
 use Rattle.hba_fbs.specs.declared.registers.Registers.{Registers}
 use Rattle.hba_fbs.specs.Bits.{without}
-use Rattle.hba_fbs.specs.Issuing.{aimed, any_slot, asked, is_bad, is_busy, is_foreign, issue_with, view_issued}
+use Rattle.hba_fbs.specs.Issuing.{aimed, any_beside, any_slot, asked, is_bad, is_beside, is_busy, issue_with, named_in, names_other, view_issued}
 use Rattle.hba_fbs.specs.Offsets.{register_at}
 use Rattle.hba_fbs.specs.Registers.{own_refusal, running_if, written}
 use Rattle.hba_fbs.specs.Views.{DeviceView, Port, view_of}
 use Rattle.hba_fbs.specs.Writing.{Accepts, apart_refusal, is_apart, refusal_of, slots_refusal, view_after, view_cleared, write_refusal}
-use Rattle.hba_fbs.proofs.AimLemmas.{aimed_chosen}
+use Rattle.hba_fbs.proofs.AimLemmas.{aimed_chosen, aimed_first}
 use Rattle.port_errors.specs.Errors.{cleared_device}
 use Rattle.hba_laws.proofs.ViewLemmas.{is_own, own_here, own_in, own_issued}
+use Rattle.hba_driver.specs.declared.effect.Effect.{Effect}
 use Rattle.hba_driver.specs.declared.effect.Effect.TheVariants as effect
+use Rattle.hba_driver.specs.declared.mode.Mode.{Mode}
+use Rattle.hba_driver.specs.declared.mode.Mode.TheVariants.{Switching, CommandBased}
 use Rattle.hba_driver.specs.Accepted.{AreAccepted}
 use Rattle.hba_driver.specs.Effects.{Acts, ActsAll, issuing, table_of}
+use Rattle.hba_driver.specs.Modes.{is_switching}
 use Rattle.hba_driver.specs.Sights.{px_ci, px_fbs, px_sact, px_sntf}
 use Rattle.hba_driver.proofs.DrivenLemmas.{no_dec, refusal_is}
 use Rattle.hba_driver.proofs.IssuingLemmas.{bit_other, bit_same}
-use Rattle.hba_driver.proofs.ModeLemmas.{apart_chosen}
-use Rattle.hba_driver.proofs.OpenLemmas.{IsUp, taken}
+use Rattle.hba_driver.proofs.OpenLemmas.{IsUpIn, taken}
 
 -- ---- small facts
 
@@ -160,19 +164,19 @@ same_free old new s table same free = free_by old new s table (λ n i below here
 -- ---- the writes before that of PxCI
 
 -- the port takes a write that issues nothing, and is open after it
-pub record Quiet (offset value : ℕ) (old : Port) (memory : Memory) (new : Port) : Type 0 where
+pub record Quiet (mode : Mode) (offset value : ℕ) (old : Port) (memory : Memory) (new : Port) : Type 0 where
   pub accepted : write_refusal old memory offset value ≡ None
-  pub up : IsUp new.registers
+  pub up : IsUpIn mode new.registers
   pub views : (n : ℕ) → n < 16 → view_of n new ≡ view_of n old
 
-pub sntf_step : (old new : Port) (before after : Memory) → IsUp old.registers → Acts (effect.Writes px_sntf 0x8000) old before new after
-    → Quiet px_sntf 0x8000 old before new × (new.registers.armed ≡ old.registers.armed)
+pub sntf_step : {mode : Mode} (old new : Port) (before after : Memory) → IsUpIn mode old.registers → Acts (effect.Writes px_sntf 0x8000) old before new after
+    → Quiet mode px_sntf 0x8000 old before new × (new.registers.armed ≡ old.registers.armed)
 unfolding register_at own_refusal slots_refusal written view_after
-sntf_step old new before after up acts =
+sntf_step {mode} old new before after up acts =
     let accepts : Accepts old before Sntf 0x8000 new = taken Sntf px_sntf 0x8000 old new before refl refl acts.0 in (
       record {
         accepted = refl;
-        up = subst IsUp (sym accepts.registers) (record { list = up.list; list_high = up.list_high; area_high = up.area_high; switches = up.switches; receives = up.receives; starts = up.starts });
+        up = subst (IsUpIn mode) (sym accepts.registers) (record { list = up.list; list_high = up.list_high; area_high = up.area_high; switches = up.switches; receives = up.receives; starts = up.starts });
         views = accepts.views;
       },
       ap (λ (r : Registers). r.armed) accepts.registers,
@@ -184,15 +188,15 @@ fbs_free false true true h k = refl
 fbs_free starts true false h k = absurd (false≢true k)
 fbs_free starts false switching h k = absurd (false≢true h)
 
-pub fbs_step : (dev : ℕ) (old new : Port) (before after : Memory) → dev < 16 → IsUp old.registers → Acts (effect.Writes px_fbs (256 * dev + 1)) old before new after
-    → Quiet px_fbs (256 * dev + 1) old before new × (new.registers.chosen ≡ dev) × (new.registers.armed ≡ old.registers.armed)
+pub fbs_step : (dev : ℕ) (old new : Port) (before after : Memory) → dev < 16 → IsUpIn Switching old.registers → Acts (effect.Writes px_fbs (256 * dev + 1)) old before new after
+    → Quiet Switching px_fbs (256 * dev + 1) old before new × (new.registers.chosen ≡ dev) × (new.registers.armed ≡ old.registers.armed)
 unfolding register_at own_refusal slots_refusal written view_after
 fbs_step dev old new before after below up acts =
     let free : refusal_of Fbs old before (256 * dev + 1) ≡ None = fbs_free old.registers.started (has_bit (256 * dev + 1) 0) old.registers.switching (bit_first dev) up.switches in
     let accepts : Accepts old before Fbs (256 * dev + 1) new = taken Fbs px_fbs (256 * dev + 1) old new before refl free acts.0 in (
       record {
         accepted = refusal_is Fbs px_fbs (256 * dev + 1) old before refl ∙ free;
-        up = subst IsUp (sym accepts.registers) (record { list = up.list; list_high = up.list_high; area_high = up.area_high; switches = bit_first dev; receives = up.receives; starts = up.starts });
+        up = subst (IsUpIn Switching) (sym accepts.registers) (record { list = up.list; list_high = up.list_high; area_high = up.area_high; switches = bit_first dev; receives = up.receives; starts = up.starts });
         views = λ n low. accepts.views n low ∙ ap (λ (b : Bool). view_cleared n (if b then cleared_device old.errors else None) (view_of n old)) (no_dec dev);
       },
       ap (λ (r : Registers). r.chosen) accepts.registers ∙ in_dev dev below,
@@ -207,15 +211,15 @@ sact_free false more busy h k = absurd (false≢true h)
 free_busy : (slots : Slots) (slot : ℕ) → issue_at slots slot ≡ None → any_slot (2 ^ slot) (is_busy slots) ≡ false
 free_busy slots slot free = any_none slot (is_busy slots) (ap is_some free)
 
-pub sact_step : (slot : ℕ) (old new : Port) (before after : Memory) → IsUp old.registers → issue_at old.slots slot ≡ None → Acts (effect.Writes px_sact (2 ^ slot)) old before new after
-    → Quiet px_sact (2 ^ slot) old before new × (new.registers.chosen ≡ old.registers.chosen) × (new.registers.armed ≡ bit_or old.registers.armed (2 ^ slot))
+pub sact_step : {mode : Mode} (slot : ℕ) (old new : Port) (before after : Memory) → IsUpIn mode old.registers → issue_at old.slots slot ≡ None → Acts (effect.Writes px_sact (2 ^ slot)) old before new after
+    → Quiet mode px_sact (2 ^ slot) old before new × (new.registers.chosen ≡ old.registers.chosen) × (new.registers.armed ≡ bit_or old.registers.armed (2 ^ slot))
 unfolding register_at own_refusal slots_refusal written view_after
-sact_step slot old new before after up idle acts =
+sact_step {mode} slot old new before after up idle acts =
     let free : refusal_of Sact old before (2 ^ slot) ≡ None = sact_free old.registers.started (not (2 ^ slot == 0)) (any_slot (2 ^ slot) (is_busy old.slots)) up.starts (free_busy old.slots slot idle) in
     let accepts : Accepts old before Sact (2 ^ slot) new = taken Sact px_sact (2 ^ slot) old new before refl free acts.0 in (
       record {
         accepted = refusal_is Sact px_sact (2 ^ slot) old before refl ∙ free;
-        up = subst IsUp (sym accepts.registers) (record { list = up.list; list_high = up.list_high; area_high = up.area_high; switches = up.switches; receives = up.receives; starts = up.starts });
+        up = subst (IsUpIn mode) (sym accepts.registers) (record { list = up.list; list_high = up.list_high; area_high = up.area_high; switches = up.switches; receives = up.receives; starts = up.starts });
         views = accepts.views;
       },
       ap (λ (r : Registers). r.chosen) accepts.registers,
@@ -233,62 +237,106 @@ ci_free true more false true bad e h k l m = absurd (true≢false l)
 ci_free true more true apart bad e h k l m = absurd (true≢false k)
 ci_free false more busy apart bad e h k l m = absurd (false≢true h)
 
+-- The device is chosen. Without FIS-based switching nothing is issued for another one.
+abbrev pub MayAim : Mode → ℕ → Port → Type 0
+MayAim Switching dev port = port.registers.chosen ≡ dev
+MayAim CommandBased dev port = (s : ℕ) (i : Issue) → issue_at port.slots s ≡ Some i → i.dev ≡ dev
+
 -- what the write finds
-pub record Ready (slot dev : ℕ) (prds : List Prd) (fields : H2dFields) (port : Port) (memory : Memory) : Type 0 where
+pub record Ready (mode : Mode) (slot dev : ℕ) (prds : List Prd) (fields : H2dFields) (port : Port) (memory : Memory) : Type 0 where
   pub below : slot < 32
   pub dev_below : dev < 16
-  pub up : IsUp port.registers
-  pub chosen : port.registers.chosen ≡ dev
+  pub up : IsUpIn mode port.registers
+  pub aims : MayAim mode dev port
   pub free : issue_at port.slots slot ≡ None
   pub placed : Placed slot dev prds fields (has_bit port.registers.armed slot) memory
 
 -- what the write leaves
-pub record CiDone (slot dev : ℕ) (fields : H2dFields) (old : Port) (memory : Memory) (new : Port) : Type 0 where
+pub record CiDone (mode : Mode) (slot dev : ℕ) (fields : H2dFields) (old : Port) (memory : Memory) (new : Port) : Type 0 where
   pub accepted : write_refusal old memory px_ci (2 ^ slot) ≡ None
-  pub up : IsUp new.registers
+  pub up : IsUpIn mode new.registers
   pub armed : new.registers.armed ≡ without old.registers.armed (2 ^ slot)
   pub issued : IsIssuedAt new dev slot (new_issue dev (work_of (request_of fields)))
 
-module _ (slot dev : ℕ) (prds : List Prd) (fields : H2dFields) (port : Port) (memory : Memory) (r : Ready slot dev prds fields port memory) where
+-- a slot of another device, where there is none
+none_beside : (slots : Slots) (dev : ℕ) → ((s : ℕ) (i : Issue) → issue_at slots s ≡ Some i → i.dev ≡ dev) → any_beside slots dev ≡ false
+none_beside slots dev all = by_low (lowest (is_beside slots dev)) refl
+  where
+    by_issue : (s : ℕ) (o : Option Issue) → issue_at slots s ≡ o → issue_holds (λ issue. not (issue.dev == dev)) o ≡ true → ⊥
+    by_issue s None is h = false≢true h
+    by_issue s (Some i) is h = false≢true (sym (ap not (equal_is i.dev dev (all s i is))) ∙ h)
+
+    by_low : (o : Option ℕ) → lowest (is_beside slots dev) ≡ o → is_some (lowest (is_beside slots dev)) ≡ false
+    by_low None is = ap is_some is
+    by_low (Some k) is = absurd (by_issue k (issue_at slots k) refl (lowest_is (is_beside slots dev) 32 k is).passes)
+
+beside_off : (on more beside other : Bool) → beside ≡ false → other ≡ false → (not on && not more && beside || other) ≡ false
+beside_off true more beside other none own = own
+beside_off false true beside other none own = own
+beside_off false false beside other none own = rw none own
+
+module _ (mode : Mode) (slot dev : ℕ) (prds : List Prd) (fields : H2dFields) (port : Port) (memory : Memory) (r : Ready mode slot dev prds fields port memory) where
   stands : command_at memory port.registers.clb slot (has_bit port.registers.armed slot) ≡ Some (command_placed slot prds fields memory)
   stands =
       ap (λ (c : ℕ). command_at memory c slot (has_bit port.registers.armed slot)) r.up.list
       ∙ command_is slot dev prds fields (has_bit port.registers.armed slot) memory r.below r.placed
 
-  own_port : is_foreign port.registers memory.structure slot ≡ false
-  own_port =
-      let pmp : (header_at memory.structure port.registers.clb slot).pmp ≡ port.registers.chosen =
-      ap (λ (c : ℕ). (header_at memory.structure c slot).pmp) r.up.list ∙ ap (λ h. h.pmp) r.placed.header ∙ r.placed.to_dev ∙ sym r.chosen in
-      ap not (equal_is (header_at memory.structure port.registers.clb slot).pmp port.registers.chosen pmp)
+  -- the header names the device
+  named : named_in port.registers memory.structure slot ≡ dev
+  named = ap (λ (c : ℕ). (header_at memory.structure c slot).pmp) r.up.list ∙ ap (λ h. h.pmp) r.placed.header ∙ r.placed.to_dev
+
+  -- so the write is aimed at it
+  aims_in : (m : Mode) → mode ≡ m → MayAim m dev port → aimed port.registers memory.structure (2 ^ slot) ≡ dev
+  aims_in Switching is may = aimed_chosen port.registers memory.structure (2 ^ slot) (r.up.switches ∙ ap is_switching is) ∙ may
+  aims_in CommandBased is may =
+      aimed_first port.registers memory.structure (2 ^ slot) slot (r.up.switches ∙ ap is_switching is) r.below (bit_same slot) (λ k less. bit_other slot k (λ same. omega (arith, less, same))) ∙ named
+
+  aims : aimed port.registers memory.structure (2 ^ slot) ≡ dev
+  aims = aims_in mode refl r.aims
+
+  own_port : names_other port.registers memory.structure dev slot ≡ false
+  own_port = ap not (equal_is (named_in port.registers memory.structure slot) dev named)
+
+  apart_in : (m : Mode) → mode ≡ m → MayAim m dev port
+      → (not port.registers.switching && not (2 ^ slot == 0) && any_beside port.slots dev || any_slot (2 ^ slot) (names_other port.registers memory.structure dev)) ≡ false
+  apart_in Switching is may =
+      ap (λ (b : Bool). not b && not (2 ^ slot == 0) && any_beside port.slots dev || any_slot (2 ^ slot) (names_other port.registers memory.structure dev)) (r.up.switches ∙ ap is_switching is)
+      ∙ any_none slot (names_other port.registers memory.structure dev) own_port
+  apart_in CommandBased is may =
+      beside_off port.registers.switching (2 ^ slot == 0) (any_beside port.slots dev) (any_slot (2 ^ slot) (names_other port.registers memory.structure dev)) (none_beside port.slots dev may)
+      (any_none slot (names_other port.registers memory.structure dev) own_port)
+
+  apart : is_apart port memory (2 ^ slot) ≡ false
+  apart =
+      ap (λ (d : ℕ). not port.registers.switching && not (2 ^ slot == 0) && any_beside port.slots d || any_slot (2 ^ slot) (names_other port.registers memory.structure d)) aims
+      ∙ apart_in mode refl r.aims
 
   pub ci_taken : refusal_of Ci port memory (2 ^ slot) ≡ None
   unfolding own_refusal slots_refusal
   ci_taken =
       ci_free port.registers.started (not (2 ^ slot == 0)) (any_slot (2 ^ slot) (is_busy port.slots)) (is_apart port memory (2 ^ slot))
       (any_slot (2 ^ slot) (is_bad port.registers memory)) (apart_refusal port.registers) r.up.starts (free_busy port.slots slot r.free)
-      (apart_chosen port memory (2 ^ slot) r.up.switches ∙ any_none slot (is_foreign port.registers memory.structure) own_port)
-      (any_none slot (is_bad port.registers memory) (ap is_none stands))
+      apart (any_none slot (is_bad port.registers memory) (ap is_none stands))
 
   pub asks : asked port.registers memory (2 ^ slot) slot ≡ Some (command_placed slot prds fields memory)
   asks = then_is (has_bit (2 ^ slot) slot) (command_at memory port.registers.clb slot (has_bit port.registers.armed slot)) (bit_same slot) ∙ stands
 
-  pub ci_step : (new : Port) (after : Memory) → IsTable port.slots → Acts (effect.Writes px_ci (2 ^ slot)) port memory new after → CiDone slot dev fields port memory new
+  pub ci_step : (new : Port) (after : Memory) → IsTable port.slots → Acts (effect.Writes px_ci (2 ^ slot)) port memory new after → CiDone mode slot dev fields port memory new
   unfolding register_at written view_after
   ci_step new after table acts =
-      let up : IsUp port.registers = r.up in
+      let up : IsUpIn mode port.registers = r.up in
       let accepts : Accepts port memory Ci (2 ^ slot) new = taken Ci px_ci (2 ^ slot) port new memory refl ci_taken acts.0 in
       let long = (is_own dev port.slots table).long in
       let target : ℕ = aimed port.registers memory.structure (2 ^ slot) in
-      let aims : target ≡ dev = aimed_chosen port.registers memory.structure (2 ^ slot) r.up.switches ∙ r.chosen in
-      let named : (dev == target) ≡ true = equal_is dev target (sym aims) in
+      let here : (dev == target) ≡ true = equal_is dev target (sym aims) in
       let view : view_of dev new ≡ view_issued port.registers memory (2 ^ slot) (view_of dev port) =
-      accepts.views dev r.dev_below ∙ ap (λ (b : Bool). if b then view_issued port.registers memory (2 ^ slot) (view_of dev port) else view_of dev port) named in
+      accepts.views dev r.dev_below ∙ ap (λ (b : Bool). if b then view_issued port.registers memory (2 ^ slot) (view_of dev port) else view_of dev port) here in
       let commands : ℕ → Option Command = asked port.registers memory (2 ^ slot) in
       let was : Option Issue = own_issue (slots_of dev port.slots) slot in
       let whole : Command = command_placed slot prds fields memory in
       record {
         accepted = refusal_is Ci px_ci (2 ^ slot) port memory refl ∙ ci_taken;
-        up = subst IsUp (sym accepts.registers) (record { list = up.list; list_high = up.list_high; area_high = up.area_high; switches = up.switches; receives = up.receives; starts = up.starts });
+        up = subst (IsUpIn mode) (sym accepts.registers) (record { list = up.list; list_high = up.list_high; area_high = up.area_high; switches = up.switches; receives = up.receives; starts = up.starts });
         armed = ap (λ (x : Registers). x.armed) accepts.registers;
         issued =
             ap (λ (v : DeviceView). own_issue v.slots slot) view ∙ ap (λ (f : ℕ → Option Issue). f slot) (own_issued target commands (slots_of dev port.slots) 32 long)
@@ -299,9 +347,9 @@ module _ (slot dev : ℕ) (prds : List Prd) (fields : H2dFields) (port : Port) (
 
 -- ---- the writes that issue a command
 
-pub record Issues (slot dev : ℕ) (queued : Bool) (fields : H2dFields) (old : Port) (before : Memory) (new : Port) (after : Memory) (acts : ActsAll (issuing slot dev queued) old before new after) : Type 0 where
-  pub accepted : AreAccepted (issuing slot dev queued) old before new after acts
-  pub up : IsUp new.registers
+pub record Issues (mode : Mode) (slot dev : ℕ) (queued : Bool) (fields : H2dFields) (old : Port) (before : Memory) (new : Port) (after : Memory) (acts : ActsAll (issuing mode slot dev queued) old before new after) : Type 0 where
+  pub accepted : AreAccepted (issuing mode slot dev queued) old before new after acts
+  pub up : IsUpIn mode new.registers
   pub unarmed : new.registers.armed ≡ 0
   pub issued : IsIssuedAt new dev slot (new_issue dev (work_of (request_of fields)))
 
@@ -312,44 +360,96 @@ placed_as slot dev prds fields a b m n h k p =
 pub no_bit : (n slot : ℕ) → n ≡ 0 → has_bit n slot ≡ false
 no_bit n slot h = ap (λ (k : ℕ). has_bit k slot) h ∙ ap (λ (k : ℕ). k == 1) (bit_at-zero slot)
 
-pub issuing_taken : (slot dev : ℕ) (queued : Bool) (prds : List Prd) (fields : H2dFields) (old new : Port) (before after : Memory) → slot < 32 → dev < 16 → IsUp old.registers → old.registers.armed ≡ 0
-    → issue_at old.slots slot ≡ None → Placed slot dev prds fields queued before → (acts : ActsAll (issuing slot dev queued) old before new after) → Issues slot dev queued fields old before new after acts
+-- nothing is issued for another device, if no device has a new issue
+pub alone_by : (old new : Port) (dev : ℕ) → IsTable new.slots → ((n s : ℕ) (i : Issue) → n < 16 → IsIssuedAt new n s i → IsIssuedAt old n s i) → ((s : ℕ) (i : Issue) → issue_at old.slots s ≡ Some i → i.dev ≡ dev)
+    → (s : ℕ) (i : Issue) → issue_at new.slots s ≡ Some i → i.dev ≡ dev
+alone_by old new dev table was alone s i here =
+    let rules : IsIssue i = subst (λ (o : Option Issue). MatchOption o (Unit {0}) IsIssue) here (table.issues s) in
+    alone s i (own_in i.dev s old.slots i (was i.dev s i rules.dev_below (own_here s new.slots i (in_table new s i here) here))).1
+
+-- the same after a write that leaves what is issued
+pub same_alone : (old new : Port) (dev : ℕ) → IsTable new.slots → ((n : ℕ) → n < 16 → view_of n new ≡ view_of n old) → ((s : ℕ) (i : Issue) → issue_at old.slots s ≡ Some i → i.dev ≡ dev)
+    → (s : ℕ) (i : Issue) → issue_at new.slots s ≡ Some i → i.dev ≡ dev
+same_alone old new dev table same alone s i here = alone_by old new dev table (λ n s i below at. ap (λ (v : DeviceView). own_issue v.slots s) (sym (same n below)) ∙ at) alone s i here
+
+-- what is left once the device is chosen
+abbrev arming : (slot : ℕ) → (queued : Bool) → List Effect
+arming slot true = effect.Writes px_sact (2 ^ slot) ∷ effect.Writes px_ci (2 ^ slot) ∷ []
+arming slot false = effect.Writes px_ci (2 ^ slot) ∷ []
+
+record Arms (mode : Mode) (slot dev : ℕ) (queued : Bool) (fields : H2dFields) (old : Port) (before : Memory) (new : Port) (after : Memory) (acts : ActsAll (arming slot queued) old before new after) : Type 0 where
+  pub accepted : AreAccepted (arming slot queued) old before new after acts
+  pub up : IsUpIn mode new.registers
+  pub unarmed : new.registers.armed ≡ 0
+  pub issued : IsIssuedAt new dev slot (new_issue dev (work_of (request_of fields)))
+
+aim_kept : (mode : Mode) (old new : Port) (dev : ℕ) → IsTable new.slots → ((n : ℕ) → n < 16 → view_of n new ≡ view_of n old) → new.registers.chosen ≡ old.registers.chosen → MayAim mode dev old → MayAim mode dev new
+aim_kept Switching old new dev table same chosen may = chosen ∙ may
+aim_kept CommandBased old new dev table same chosen may = same_alone old new dev table same may
+
+arming_taken : (mode : Mode) (slot dev : ℕ) (queued : Bool) (prds : List Prd) (fields : H2dFields) (old new : Port) (before after : Memory) → slot < 32 → dev < 16 → IsUpIn mode old.registers → MayAim mode dev old
+    → old.registers.armed ≡ 0 → IsTable old.slots → issue_at old.slots slot ≡ None → Placed slot dev prds fields queued before → (acts : ActsAll (arming slot queued) old before new after)
+    → Arms mode slot dev queued fields old before new after acts
 unfolding ActsAll AreAccepted
-issuing_taken slot dev false prds fields old new before after below dev_below up none free placed acts =
-    let f = fbs_step dev old acts.0 before acts.1 dev_below up acts.2 in
-    let unarmed : acts.0.registers.armed ≡ 0 = f.2 ∙ none in
-    let ready : Ready slot dev prds fields acts.0 acts.1 = record {
+arming_taken mode slot dev false prds fields old new before after below dev_below up may none table free placed acts =
+    let ready : Ready mode slot dev prds fields old before = record {
       below = below;
       dev_below = dev_below;
-      up = f.0.up;
-      chosen = f.1;
-      free = same_free old acts.0 slot acts.3.table f.0.views free;
-      placed = placed_as slot dev prds fields false (has_bit acts.0.registers.armed slot) before acts.1 (no_bit acts.0.registers.armed slot unarmed) acts.2.1 placed;
+      up = up;
+      aims = may;
+      free = free;
+      placed = placed_as slot dev prds fields false (has_bit old.registers.armed slot) before before (no_bit old.registers.armed slot none) refl placed;
     } in
-    let c : CiDone slot dev fields acts.0 acts.1 acts.4.0 = ci_step slot dev prds fields acts.0 acts.1 ready acts.4.0 acts.4.1 acts.3.table acts.4.2 in
+    let c : CiDone mode slot dev fields old before acts.0 = ci_step mode slot dev prds fields old before ready acts.0 acts.1 table acts.2 in
     record {
-      accepted = (f.0.accepted, (c.accepted, tt));
-      up = subst (λ (p : Port). IsUp p.registers) (sym acts.4.4.0) c.up;
-      unarmed = ap (λ (p : Port). p.registers.armed) acts.4.4.0 ∙ c.armed ∙ ap (λ (x : ℕ). without x (2 ^ slot)) unarmed ∙ no_bits slot;
-      issued = subst (λ (p : Port). IsIssuedAt p dev slot (new_issue dev (work_of (request_of fields)))) (sym acts.4.4.0) c.issued;
+      accepted = (c.accepted, tt);
+      up = subst (λ (p : Port). IsUpIn mode p.registers) (sym acts.4.0) c.up;
+      unarmed = ap (λ (p : Port). p.registers.armed) acts.4.0 ∙ c.armed ∙ ap (λ (x : ℕ). without x (2 ^ slot)) none ∙ no_bits slot;
+      issued = subst (λ (p : Port). IsIssuedAt p dev slot (new_issue dev (work_of (request_of fields)))) (sym acts.4.0) c.issued;
     }
-issuing_taken slot dev true prds fields old new before after below dev_below up none free placed acts =
-    let f = fbs_step dev old acts.0 before acts.1 dev_below up acts.2 in
-    let free1 : issue_at acts.0.slots slot ≡ None = same_free old acts.0 slot acts.3.table f.0.views free in
-    let g = sact_step slot acts.0 acts.4.0 acts.1 acts.4.1 f.0.up free1 acts.4.2 in
-    let armed : acts.4.0.registers.armed ≡ 2 ^ slot = g.2 ∙ ap (λ (x : ℕ). bit_or x (2 ^ slot)) (f.2 ∙ none) ∙ or_zero_l (2 ^ slot) in
-    let ready : Ready slot dev prds fields acts.4.0 acts.4.1 = record {
+arming_taken mode slot dev true prds fields old new before after below dev_below up may none table free placed acts =
+    let g = sact_step slot old acts.0 before acts.1 up free acts.2 in
+    let armed : acts.0.registers.armed ≡ 2 ^ slot = g.2 ∙ ap (λ (x : ℕ). bit_or x (2 ^ slot)) none ∙ or_zero_l (2 ^ slot) in
+    let ready : Ready mode slot dev prds fields acts.0 acts.1 = record {
       below = below;
       dev_below = dev_below;
       up = g.0.up;
-      chosen = g.1 ∙ f.1;
-      free = same_free acts.0 acts.4.0 slot acts.4.3.table g.0.views free1;
-      placed = placed_as slot dev prds fields true (has_bit acts.4.0.registers.armed slot) before acts.4.1 (ap (λ (x : ℕ). has_bit x slot) armed ∙ bit_same slot) (acts.4.2.1 ∙ acts.2.1) placed;
+      aims = aim_kept mode old acts.0 dev acts.3.table g.0.views g.1 may;
+      free = same_free old acts.0 slot acts.3.table g.0.views free;
+      placed = placed_as slot dev prds fields true (has_bit acts.0.registers.armed slot) before acts.1 (ap (λ (x : ℕ). has_bit x slot) armed ∙ bit_same slot) acts.2.1 placed;
     } in
-    let c : CiDone slot dev fields acts.4.0 acts.4.1 acts.4.4.0 = ci_step slot dev prds fields acts.4.0 acts.4.1 ready acts.4.4.0 acts.4.4.1 acts.4.3.table acts.4.4.2 in
+    let c : CiDone mode slot dev fields acts.0 acts.1 acts.4.0 = ci_step mode slot dev prds fields acts.0 acts.1 ready acts.4.0 acts.4.1 acts.3.table acts.4.2 in
     record {
-      accepted = (f.0.accepted, (g.0.accepted, (c.accepted, tt)));
-      up = subst (λ (p : Port). IsUp p.registers) (sym acts.4.4.4.0) c.up;
-      unarmed = ap (λ (p : Port). p.registers.armed) acts.4.4.4.0 ∙ c.armed ∙ ap (λ (x : ℕ). without x (2 ^ slot)) armed ∙ own_bits slot below;
-      issued = subst (λ (p : Port). IsIssuedAt p dev slot (new_issue dev (work_of (request_of fields)))) (sym acts.4.4.4.0) c.issued;
+      accepted = (g.0.accepted, (c.accepted, tt));
+      up = subst (λ (p : Port). IsUpIn mode p.registers) (sym acts.4.4.0) c.up;
+      unarmed = ap (λ (p : Port). p.registers.armed) acts.4.4.0 ∙ c.armed ∙ ap (λ (x : ℕ). without x (2 ^ slot)) armed ∙ own_bits slot below;
+      issued = subst (λ (p : Port). IsIssuedAt p dev slot (new_issue dev (work_of (request_of fields)))) (sym acts.4.4.0) c.issued;
     }
+
+-- with FIS-based switching the device is chosen first
+chosen_taken : (slot dev : ℕ) (queued : Bool) (prds : List Prd) (fields : H2dFields) (old new : Port) (before after : Memory) → slot < 32 → dev < 16 → IsUpIn Switching old.registers → old.registers.armed ≡ 0
+    → issue_at old.slots slot ≡ None → Placed slot dev prds fields queued before → (acts : ActsAll (effect.Writes px_fbs (256 * dev + 1) ∷ arming slot queued) old before new after)
+    → AreAccepted (effect.Writes px_fbs (256 * dev + 1) ∷ arming slot queued) old before new after acts
+    × (IsUpIn Switching new.registers × ((new.registers.armed ≡ 0) × IsIssuedAt new dev slot (new_issue dev (work_of (request_of fields)))))
+unfolding ActsAll AreAccepted
+chosen_taken slot dev queued prds fields old new before after below dev_below up none free placed acts =
+    let f = fbs_step dev old acts.0 before acts.1 dev_below up acts.2 in
+    let a = arming_taken Switching slot dev queued prds fields acts.0 new acts.1 after below dev_below f.0.up f.1 (f.2 ∙ none) acts.3.table (same_free old acts.0 slot acts.3.table f.0.views free)
+    (placed_as slot dev prds fields queued queued before acts.1 refl acts.2.1 placed) acts.4 in
+    ((f.0.accepted, a.accepted), (a.up, (a.unarmed, a.issued)))
+
+pub issuing_taken : (mode : Mode) (slot dev : ℕ) (queued : Bool) (prds : List Prd) (fields : H2dFields) (old new : Port) (before after : Memory) → slot < 32 → dev < 16 → IsUpIn mode old.registers → IsTable old.slots
+    → (mode ≡ CommandBased → MayAim CommandBased dev old) → old.registers.armed ≡ 0
+    → issue_at old.slots slot ≡ None → Placed slot dev prds fields queued before → (acts : ActsAll (issuing mode slot dev queued) old before new after) → Issues mode slot dev queued fields old before new after acts
+issuing_taken Switching slot dev true prds fields old new before after below dev_below up table may none free placed acts =
+    let t = chosen_taken slot dev true prds fields old new before after below dev_below up none free placed acts in
+    record { accepted = t.0; up = t.1.0; unarmed = t.1.1.0; issued = t.1.1.1 }
+issuing_taken Switching slot dev false prds fields old new before after below dev_below up table may none free placed acts =
+    let t = chosen_taken slot dev false prds fields old new before after below dev_below up none free placed acts in
+    record { accepted = t.0; up = t.1.0; unarmed = t.1.1.0; issued = t.1.1.1 }
+issuing_taken CommandBased slot dev true prds fields old new before after below dev_below up table may none free placed acts =
+    let a = arming_taken CommandBased slot dev true prds fields old new before after below dev_below up (may refl) none table free placed acts in
+    record { accepted = a.accepted; up = a.up; unarmed = a.unarmed; issued = a.issued }
+issuing_taken CommandBased slot dev false prds fields old new before after below dev_below up table may none free placed acts =
+    let a = arming_taken CommandBased slot dev false prds fields old new before after below dev_below up (may refl) none table free placed acts in
+    record { accepted = a.accepted; up = a.up; unarmed = a.unarmed; issued = a.issued }

@@ -7,8 +7,9 @@ use Rattle.hba_fbs.specs.Views.{Port}
 use Rattle.hba_fbs.specs.Writing.{write_refusal}
 use Rattle.hba_driver.specs.declared.effect.Effect.{Effect}
 use Rattle.hba_driver.specs.declared.effect.Effect.TheVariants as effect
+use Rattle.hba_driver.specs.declared.mode.Mode.{Mode}
 use Rattle.hba_driver.specs.Effects.{ActsAll}
-use Rattle.hba_driver.specs.Events.{opening_host}
+use Rattle.hba_driver.specs.Events.{opening_host_in}
 use Rattle.hba_driver.specs.HostTurns.{Does, DoesAll, Host, HostTurn, Ticked, sight_in}
 use Rattle.hba_driver.specs.Ticks.{effects}
 
@@ -35,8 +36,9 @@ abbrev pub TurnsAccept : (old new : Host) (turns : List HostTurn) → DoesAll ol
 TurnsAccept old new [] run = Unit {0}
 TurnsAccept old new (turn ∷ turns) run = TurnAccepts old turn run.0 run.1 × TurnsAccept run.0 new turns run.2
 
--- over every list of turns from an opening
+-- over every list of turns from an opening, in each mode
 abbrev pub WritesAreAccepted : Type 0
 WritesAreAccepted =
-    (given len : ℕ) → is_memory_size len ≡ true → (turns : List HostTurn) (h : Host)
-    (run : DoesAll (opening_host given len) turns h) → TurnsAccept (opening_host given len) h turns run
+    (mode : Mode) (given len : ℕ) → is_memory_size len ≡ true → (turns : List HostTurn) (h : Host)
+    (run : DoesAll (opening_host_in mode given len) turns h)
+    → TurnsAccept (opening_host_in mode given len) h turns run

@@ -2,7 +2,8 @@
 -- 16.3, port multiplier: PM Port; AHCI 1.3.1, 9.3, FIS-based Switching).
 use Rattle.std.specs.Prelude.{ℕ, ◌≡◌, ◌%◌, true, List, [], ◌∷◌, Some, slice_index}
 use Rattle.host_memory.specs.Memory.{is_memory_size}
-use Rattle.hba_driver.specs.Events.{opening_host}
+use Rattle.hba_driver.specs.declared.mode.Mode.{Mode}
+use Rattle.hba_driver.specs.Events.{opening_host_in}
 use Rattle.hba_driver.specs.HostTurns.{DoesAll, Host, HostTurn, Pushed}
 
 -- a frame that goes out has the port of its stamp
@@ -14,8 +15,8 @@ abbrev pub AreAddressed : List HostTurn → Type 0
 AreAddressed [] = Unit {0}
 AreAddressed (turn ∷ turns) = IsAddressed turn × AreAddressed turns
 
--- over every list of turns of the host from its opening
+-- over every list of turns of the host from its opening, in each mode
 abbrev pub FramesAreAddressed : Type 0
 FramesAreAddressed =
-    (given len : ℕ) → is_memory_size len ≡ true → (turns : List HostTurn) (h : Host)
-    → DoesAll (opening_host given len) turns h → AreAddressed turns
+    (mode : Mode) (given len : ℕ) → is_memory_size len ≡ true → (turns : List HostTurn) (h : Host)
+    → DoesAll (opening_host_in mode given len) turns h → AreAddressed turns

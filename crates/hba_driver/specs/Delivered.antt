@@ -17,22 +17,23 @@ use Rattle.hba_laws.specs.Client.{AreApart, IsKept, IsReading, Touches, own}
 use Rattle.hba_laws.specs.Delivering.{IsClient, ReportsDone, touched, touches_after}
 use Rattle.hba_laws.specs.History.{History, Transfer, completions, filled, issued}
 use Rattle.hba_laws.specs.Hosts as event
+use Rattle.hba_driver.specs.declared.mode.Mode.{Mode}
 use Rattle.hba_driver.specs.Drivers.{Entry, entry_at, is_read}
-use Rattle.hba_driver.specs.Events.{TurnsTell, events_over, opening_host, shared_by}
+use Rattle.hba_driver.specs.Events.{TurnsTell, events_over, opening_host_in, shared_by}
 use Rattle.hba_driver.specs.HostTurns.{Does, DoesAll, Host, HostTurn, Took}
 use Rattle.hba_driver.specs.Served.{IssuesAreRequests, RunServes}
 
--- the host came here from its opening by these turns
-pub record HasCome (given len : ℕ) (turns : List HostTurn) (h : Host) : Type 0 where
-  pub does : DoesAll (opening_host given len) turns h
-  pub serves : RunServes (opening_host given len) h turns does []
+-- the host came here from its opening in this mode by these turns
+pub record HasCome (mode : Mode) (given len : ℕ) (turns : List HostTurn) (h : Host) : Type 0 where
+  pub does : DoesAll (opening_host_in mode given len) turns h
+  pub serves : RunServes (opening_host_in mode given len) h turns does []
 
 -- what was touched since, the latest first
-abbrev pub touches_of : (given len : ℕ) (turns : List HostTurn) (h : Host)
-    → HasCome given len turns h → Touches
-touches_of given len turns h c =
-    touches_after [] (shared_by (opening_host given len)) (shared_by h)
-    (events_over (opening_host given len) h turns c.does) c.serves.runs
+abbrev pub touches_of : (mode : Mode) (given len : ℕ) (turns : List HostTurn) (h : Host)
+    → HasCome mode given len turns h → Touches
+touches_of mode given len turns h c =
+    touches_after [] (shared_by (opening_host_in mode given len)) (shared_by h)
+    (events_over (opening_host_in mode given len) h turns c.does) c.serves.runs
 
 -- ---- a frame is taken
 
@@ -91,22 +92,23 @@ abbrev pub zero_at : ℕ → ℕ
 zero_at k = 0
 
 -- Over every list of turns from an opening.
-pub record HostDelivers (given len : ℕ) (turns : List HostTurn) (h : Host)
-    (c : HasCome given len turns h) : Type 0 where
+pub record HostDelivers (mode : Mode) (given len : ℕ) (turns : List HostTurn) (h : Host)
+    (c : HasCome mode given len turns h) : Type 0 where
   pub took : (frame : List ℕ) (report : TakeReport) (after : Host) → Does h (Took frame report) after
-      → TookDelivers h (touches_of given len turns h c) frame report after
+      → TookDelivers h (touches_of mode given len turns h c) frame report after
   -- each issue completes at most once: this holds at every moment of a device's history
-  pub once : (n s : ℕ) (later past : History) → own n (touches_of given len turns h c) ≡ later ++ past
+  pub once : (n s : ℕ) (later past : History) → own n (touches_of mode given len turns h c) ≡ later ++ past
       → CompletesAtMostOnce s past
   -- each client byte is 0, except for what clients put and what Data filled at its place
-  pub client : IsClient zero_at (touches_of given len turns h c) (shared_by h)
+  pub client : IsClient zero_at (touches_of mode given len turns h c) (shared_by h)
   -- the frames that come and go and the bytes that clients put are those of the turns
-  pub tells : TurnsTell (opening_host given len) h turns c.does
+  pub tells : TurnsTell (opening_host_in mode given len) h turns c.does
 
+-- in each mode
 pub record TurnsDeliver : Type 0 where
-  pub comes : (given len : ℕ) → is_memory_size len ≡ true → (turns : List HostTurn) (h : Host)
-      → DoesAll (opening_host given len) turns h → HasCome given len turns h
-  pub delivers : (given len : ℕ) → is_memory_size len ≡ true → (turns : List HostTurn) (h : Host)
-      (c : HasCome given len turns h) → HostDelivers given len turns h c
-  pub apart : (given len : ℕ) → is_memory_size len ≡ true → (turns : List HostTurn) (h : Host)
-      (c : HasCome given len turns h) → IssuesAreApart h (touches_of given len turns h c)
+  pub comes : (mode : Mode) (given len : ℕ) → is_memory_size len ≡ true → (turns : List HostTurn) (h : Host)
+      → DoesAll (opening_host_in mode given len) turns h → HasCome mode given len turns h
+  pub delivers : (mode : Mode) (given len : ℕ) → is_memory_size len ≡ true → (turns : List HostTurn) (h : Host)
+      (c : HasCome mode given len turns h) → HostDelivers mode given len turns h c
+  pub apart : (mode : Mode) (given len : ℕ) → is_memory_size len ≡ true → (turns : List HostTurn) (h : Host)
+      (c : HasCome mode given len turns h) → IssuesAreApart h (touches_of mode given len turns h c)

@@ -9,11 +9,12 @@ use Rattle.std.specs.List.{list_any}
 use Rattle.host_memory.specs.Memory.{is_memory_size}
 use Rattle.slots.specs.Slots.{has_bit}
 use Rattle.hba_fbs.specs.Taking.{port_of}
+use Rattle.hba_driver.specs.declared.mode.Mode.{Mode}
 use Rattle.hba_driver.specs.declared.request.Completion.{Completion}
 use Rattle.hba_driver.specs.declared.request.Outcome.TheVariants.{Done}
 use Rattle.hba_driver.specs.declared.slot.Phase.TheVariants.{Ended}
 use Rattle.hba_driver.specs.Drivers.{Entry, entry_at}
-use Rattle.hba_driver.specs.Events.{opening_host}
+use Rattle.hba_driver.specs.Events.{opening_host_in}
 use Rattle.hba_driver.specs.HostTurns.{Does, DoesAll, Host, HostTurn, Took, Ticked, Submitted, Polled}
 use Rattle.hba_driver.specs.HostTurns.{issued_by}
 
@@ -46,15 +47,16 @@ pub record WasCompleted (ticket slot : ℕ) (old new : Host) (turns : List HostT
   pub taken : list_any (takes ticket dev) turns ≡ true
   pub completed : is_completed ticket slot dev old new turns run ≡ true
 
+-- in each mode
 pub record DoneIsTrue : Type 0 where
   -- after a tick: what is there as Done was completed in the turns before the tick
-  pub ends : (given len : ℕ) → is_memory_size len ≡ true → (turns : List HostTurn) (h : Host)
-      (run : DoesAll (opening_host given len) turns h) (acted : Bool) (after : Host)
+  pub ends : (mode : Mode) (given len : ℕ) → is_memory_size len ≡ true → (turns : List HostTurn) (h : Host)
+      (run : DoesAll (opening_host_in mode given len) turns h) (acted : Bool) (after : Host)
       → Does h (Ticked acted) after
       → (s : ℕ) (e : Entry) → entry_at after.driver.entries s ≡ Some e → e.head.phase ≡ Ended Done
-      → is_completed e.head.ticket s e.head.dev (opening_host given len) h turns run ≡ true
+      → is_completed e.head.ticket s e.head.dev (opening_host_in mode given len) h turns run ≡ true
   -- at a poll: what is polled as Done was completed by the device for which it was taken
-  pub polled : (given len : ℕ) → is_memory_size len ≡ true → (turns : List HostTurn) (h : Host)
-      (run : DoesAll (opening_host given len) turns h) (completion : Completion) (after : Host)
+  pub polled : (mode : Mode) (given len : ℕ) → is_memory_size len ≡ true → (turns : List HostTurn) (h : Host)
+      (run : DoesAll (opening_host_in mode given len) turns h) (completion : Completion) (after : Host)
       → Does h (Polled completion) after → completion.outcome ≡ Done
-      → WasCompleted completion.ticket.0 completion.slot (opening_host given len) h turns run
+      → WasCompleted completion.ticket.0 completion.slot (opening_host_in mode given len) h turns run

@@ -7,6 +7,8 @@ use Rattle.std.specs.Option.{option_map}
 use Rattle.std.specs.List.{range_with_len}
 use Rattle.host_memory.specs.Reading.{share_with}
 use Rattle.host_memory.specs.declared.table.Prd.{Prd}
+use Rattle.hba_driver.specs.declared.mode.Mode.{Mode}
+use Rattle.hba_driver.specs.declared.mode.Mode.TheVariants.{Switching}
 use Rattle.hba_driver.specs.declared.order.Order.{Order}
 use Rattle.hba_driver.specs.declared.order.Order.TheVariants.{ResetOn, Open, Clear, Detect}
 use Rattle.hba_driver.specs.declared.path.Path.{Path}
@@ -39,8 +41,9 @@ entry_of (Some head) prds = Some (record { head = head; prds = prds })
 
 -- ---- a new driver
 
-abbrev pub opening_plan : Plan
-opening_plan = record {
+abbrev pub opening_plan_in : Mode → Plan
+opening_plan_in mode = record {
+  mode = mode;
   opened = 0;
   restarted = 2;
   order = ResetOn;
@@ -52,8 +55,16 @@ opening_plan = record {
 }
 
 -- a driver that has done nothing, after this last ticket
+abbrev pub new_driver_in : Mode → (given : ℕ) → Driver
+new_driver_in mode given =
+    record { plan = opening_plan_in mode; given = given; entries = replicate 30 None }
+
+-- the same with FIS-based switching
+abbrev pub opening_plan : Plan
+opening_plan = opening_plan_in Switching
+
 abbrev pub new_driver : (given : ℕ) → Driver
-new_driver given = record { plan = opening_plan; given = given; entries = replicate 30 None }
+new_driver given = new_driver_in Switching given
 
 -- ---- devices
 

@@ -1,6 +1,6 @@
 -- What an act does to port and memory: writes of registers (AHCI 1.3.1, section 3.3), commands (4.2.2,
 -- 4.2.3), the flush of a device and its row of the received area (4.2.1).
-use Rattle.std.specs.Prelude.{ℕ, ◌≡◌, ◌+◌, ◌*◌, ◌^◌, Bool, true, false, nat_lt, List, [], ◌∷◌, replicate}
+use Rattle.std.specs.Prelude.{ℕ, ◌≡◌, ◌+◌, ◌*◌, ◌^◌, Bool, true, false, nat_lt, List, [], ◌∷◌, replicate, ◌++◌}
 use Rattle.std.specs.Prelude.{slice_index_or, Some, None}
 use Rattle.fis_view.specs.declared.build.H2dFields.{H2dFields}
 use Rattle.host_memory.specs.Memory.{Memory, overwritten}
@@ -14,11 +14,14 @@ use Rattle.hba_fbs.specs.Views.{Flushes, IsPort, Port}
 use Rattle.hba_fbs.specs.Writing.{Writes, write_refusal}
 use Rattle.hba_driver.specs.declared.effect.Effect.{Effect}
 use Rattle.hba_driver.specs.declared.effect.Effect.TheVariants as effect
+use Rattle.hba_driver.specs.declared.mode.Mode.{Mode}
+use Rattle.hba_driver.specs.declared.mode.Mode.TheVariants.{Switching, CommandBased}
 use Rattle.hba_driver.specs.declared.order.Order.{Order}
 use Rattle.hba_driver.specs.declared.order.Order.TheVariants.{Scan, Clear}
 use Rattle.hba_driver.specs.declared.path.Stage.{Stage}
 use Rattle.hba_driver.specs.declared.turn.Act.{Act}
 use Rattle.hba_driver.specs.declared.turn.Act.TheVariants as act
+use Rattle.hba_driver.specs.Modes.{clears_with, enabled}
 use Rattle.hba_driver.specs.Orders.{control_port, order_fields}
 use Rattle.hba_driver.specs.Paths.{reads_page, stage_fields}
 use Rattle.hba_driver.specs.Sights.{px_ci, px_clb, px_clbu, px_cmd, px_fb, px_fbs, px_fbu, px_is, px_sact}
@@ -26,14 +29,15 @@ use Rattle.hba_driver.specs.Sights.{px_sntf}
 
 -- ---- the effects of an act
 
--- The command list is at 0 and the received area at 1000h. FBS.EN is set, then FRE, then ST with FRE and PMA.
-abbrev pub opening_writes : List Effect
-opening_writes =
+-- The command list is at 0 and the received area at 1000h. FBS.EN is set or left 0, by the mode. Then FRE
+-- is set, and then ST with FRE and PMA.
+abbrev pub opening_writes : Mode → List Effect
+opening_writes mode =
     effect.Writes px_clb 0 ∷ effect.Writes px_clbu 0 ∷ effect.Writes px_fb 0x1000 ∷ effect.Writes px_fbu 0
-    ∷ effect.Writes px_fbs 1 ∷ effect.Writes px_cmd 0x10 ∷ effect.Writes px_cmd 0x20011 ∷ []
+    ∷ effect.Writes px_fbs (enabled mode) ∷ effect.Writes px_cmd 0x10 ∷ effect.Writes px_cmd 0x20011 ∷ []
 
-unfoldable pub opening_write : ℕ → Effect
-opening_write k = slice_index_or opening_writes k (effect.Writes px_cmd 0x20011)
+unfoldable pub opening_write : Mode → ℕ → Effect
+opening_write mode k = slice_index_or (opening_writes mode) k (effect.Writes px_cmd 0x20011)
 
 -- After a fault of the port, ST is cleared, which ends everything that is issued. Then all of PxIS is
 -- cleared, and ST is set again.
@@ -43,42 +47,56 @@ restart_writes = effect.Writes px_is 0xFFFFFFFF ∷ effect.Writes px_cmd 0x20011
 unfoldable pub restart_write : ℕ → Effect
 restart_write k = slice_index_or restart_writes k (effect.Writes px_cmd 0x20011)
 
--- The fault of a device is cleared: OFS, IFS and TFES in PxIS, and DEC with the device and EN in PxFBS.
-abbrev pub clearing : (dev : ℕ) → List Effect
-clearing dev = effect.Writes px_is 0x49000000 ∷ effect.Writes px_fbs (256 * dev + 3) ∷ []
+-- The fault of a device is cleared: OFS, IFS and TFES in PxIS, and DEC with the device and EN in PxFBS. With
+-- command-based switching that is never due, and DEC does nothing.
+abbrev pub clearing : Mode → (dev : ℕ) → List Effect
+clearing mode dev =
+    effect.Writes px_is 0x49000000 ∷ effect.Writes px_fbs (256 * dev + clears_with mode) ∷ []
 
--- the device and EN go to PxFBS, the slot's bit to PxSACT if the command is queued, and then to PxCI
-abbrev pub issuing : (slot dev : ℕ) → (queued : Bool) → List Effect
-issuing slot dev true = effect.Writes px_fbs (256 * dev + 1) ∷ effect.Writes px_sact (2 ^ slot)
-    ∷ effect.Writes px_ci (2 ^ slot) ∷ []
-issuing slot dev false = effect.Writes px_fbs (256 * dev + 1) ∷ effect.Writes px_ci (2 ^ slot) ∷ []
+-- With FIS-based switching the device and EN go to PxFBS. Without it the device is that of the header.
+abbrev pub choosing : Mode → (dev : ℕ) → List Effect
+choosing Switching dev = effect.Writes px_fbs (256 * dev + 1) ∷ []
+choosing CommandBased dev = []
+
+-- the device is chosen, the slot's bit goes to PxSACT if the command is queued, and then to PxCI
+abbrev pub issuing : Mode → (slot dev : ℕ) → (queued : Bool) → List Effect
+issuing mode slot dev true =
+    choosing mode dev ++ (effect.Writes px_sact (2 ^ slot) ∷ effect.Writes px_ci (2 ^ slot) ∷ [])
+issuing mode slot dev false = choosing mode dev ++ (effect.Writes px_ci (2 ^ slot) ∷ [])
 
 -- a command of the driver's own is written into its slot and issued; buffer says that its data goes to the
 -- driver's buffer
-abbrev pub sending : (slot dev : ℕ) → H2dFields → (buffer : Bool) → List Effect
-sending slot dev fields buffer = effect.Commands slot fields buffer ∷ issuing slot dev false
+abbrev pub sending : Mode → (slot dev : ℕ) → H2dFields → (buffer : Bool) → List Effect
+sending mode slot dev fields buffer = effect.Commands slot fields buffer ∷ issuing mode slot dev false
 
-abbrev pub order_command : Order → List Effect
-order_command order = match_some (order_fields order) [] (λ fields. sending 31 control_port fields false)
+abbrev pub order_command : Mode → Order → List Effect
+order_command mode order =
+    match_some (order_fields order) [] (λ fields. sending mode 31 control_port fields false)
+
+-- with FIS-based switching a device has its own row of the received area, which is emptied
+abbrev pub emptying : Mode → (dev : ℕ) → List Effect
+emptying Switching dev = effect.Empties dev ∷ []
+emptying CommandBased dev = []
 
 -- PxSNTF is cleared before a scan; a port that a scan found is flushed, and its row is emptied
-unfoldable pub order_effects : Order → List Effect
-order_effects Scan = effect.Writes px_sntf 0x8000 ∷ order_command Scan
-order_effects (Clear port) = effect.Flushes port ∷ effect.Empties port ∷ order_command (Clear port)
-order_effects order = order_command order
+unfoldable pub order_effects : Mode → Order → List Effect
+order_effects mode Scan = effect.Writes px_sntf 0x8000 ∷ order_command mode Scan
+order_effects mode (Clear port) =
+    effect.Flushes port ∷ (emptying mode port ++ order_command mode (Clear port))
+order_effects mode order = order_command mode order
 
-abbrev pub stage_effects : (dev : ℕ) → Stage → List Effect
-stage_effects dev stage =
-    match_some (stage_fields dev stage) [] (λ fields. sending 30 dev fields (reads_page stage))
+abbrev pub stage_effects : Mode → (dev : ℕ) → Stage → List Effect
+stage_effects mode dev stage =
+    match_some (stage_fields dev stage) [] (λ fields. sending mode 30 dev fields (reads_page stage))
 
-unfoldable pub effects_of : Act → List Effect
-effects_of (act.Opens k) = opening_write k ∷ []
-effects_of act.Stops = effect.Writes px_cmd 0x20010 ∷ []
-effects_of (act.Restarts k) = restart_write k ∷ []
-effects_of (act.Clears dev) = clearing dev
-effects_of (act.Orders order) = order_effects order
-effects_of (act.Steps dev stage) = stage_effects dev stage
-effects_of (act.Issues slot dev queued) = issuing slot dev queued
+unfoldable pub effects_of : Mode → Act → List Effect
+effects_of mode (act.Opens k) = opening_write mode k ∷ []
+effects_of mode act.Stops = effect.Writes px_cmd 0x20010 ∷ []
+effects_of mode (act.Restarts k) = restart_write k ∷ []
+effects_of mode (act.Clears dev) = clearing mode dev
+effects_of mode (act.Orders order) = order_effects mode order
+effects_of mode (act.Steps dev stage) = stage_effects mode dev stage
+effects_of mode (act.Issues slot dev queued) = issuing mode slot dev queued
 
 -- ---- what an effect leaves of port and memory
 

@@ -18,12 +18,15 @@ use Rattle.hba_laws.specs.Hosts as event
 use Rattle.hba_laws.specs.Hosts.{HostEvent, Runs}
 use Rattle.hba_driver.specs.declared.effect.Effect.{Effect}
 use Rattle.hba_driver.specs.declared.effect.Effect.TheVariants as effect
+use Rattle.hba_driver.specs.declared.mode.Mode.{Mode}
+use Rattle.hba_driver.specs.declared.mode.Mode.TheVariants.{Switching}
 use Rattle.hba_driver.specs.declared.plan.Device.TheVariants.{Absent}
 use Rattle.hba_driver.specs.declared.plan.Plan.{Plan}
-use Rattle.hba_driver.specs.Drivers.{AreRequests, device_at, new_driver}
+use Rattle.hba_driver.specs.Drivers.{AreRequests, device_at, new_driver_in}
 use Rattle.hba_driver.specs.Effects.{ActsAll, IsRuled}
 use Rattle.hba_driver.specs.HostTurns.{AreHosts, Does, DoesAll, Host, HostTurn, sight_in}
 use Rattle.hba_driver.specs.HostTurns.{Took, Pushed, Ticked, Submitted, Polled, Put}
+use Rattle.hba_driver.specs.Modes.{is_switching}
 use Rattle.hba_driver.specs.Ticks.{effects}
 
 -- ---- the events of a turn
@@ -81,15 +84,15 @@ events_over old new (turn ∷ turns) run =
 
 -- The registers of a port whose driver has made this many of the seven writes that open it and, since a fault
 -- stopped it, this many of the two that start it again. Only the driver writes them.
-pub record AreDriven (opened restarted : ℕ) (r : Registers) : Type 0 where
+pub record AreDriven (mode : Mode) (opened restarted : ℕ) (r : Registers) : Type 0 where
   -- the command list is at 0
   pub commands : r.clb ≡ 0
   pub list_high : 2 ≤ opened → r.clbu ≡ 0
   -- the received area is at 1000h from the third write on
   pub area : 3 ≤ opened → r.fb ≡ 0x1000
   pub area_high : 4 ≤ opened → r.fbu ≡ 0
-  -- the port switches between devices from the fifth on
-  pub switches : 5 ≤ opened → r.switching ≡ true
+  -- the port switches between devices from the fifth on, in the mode for that
+  pub switches : 5 ≤ opened → r.switching ≡ is_switching mode
   -- FRE is 0 up to the sixth, and then 1
   pub closed : opened ≤ 5 → r.receives ≡ false
   pub receives : 6 ≤ opened → r.receives ≡ true
@@ -101,33 +104,43 @@ pub record AreDriven (opened restarted : ℕ) (r : Registers) : Type 0 where
 abbrev pub KnowsNone : Plan → Type 0
 KnowsNone plan = plan.opened < 7 → (dev : ℕ) → device_at plan dev ≡ Absent
 
--- What holds for a host, from its opening on, after each of its turns.
-pub record IsSoundHost (h : Host) : Type 0 where
+-- What holds for a host whose driver is in this mode, from its opening on, after each of its turns.
+pub record IsSoundHostIn (mode : Mode) (h : Host) : Type 0 where
+  pub drives : h.driver.plan.mode ≡ mode
   pub ruled : IsRuled h.port
   pub memory : IsHostMemory h.memory
   pub requests : AreRequests h.driver.given h.driver.entries
-  pub registers : AreDriven h.driver.plan.opened h.driver.plan.restarted h.port.registers
+  pub registers : AreDriven mode h.driver.plan.opened h.driver.plan.restarted h.port.registers
   pub devices : KnowsNone h.driver.plan
 
--- a new port and a new driver, with a memory of this many zeros
-abbrev pub opening_host : (given len : ℕ) → Host
-opening_host given len = record {
+-- a new port and a new driver in this mode, with a memory of this many zeros
+abbrev pub opening_host_in : Mode → (given len : ℕ) → Host
+opening_host_in mode given len = record {
   port = opening_port;
-  driver = new_driver given;
+  driver = new_driver_in mode given;
   memory = zeroed len;
 }
 
+-- the same with FIS-based switching
+abbrev pub IsSoundHost : Host → Type 0
+IsSoundHost h = IsSoundHostIn Switching h
+
+abbrev pub opening_host : (given len : ℕ) → Host
+opening_host given len = opening_host_in Switching given len
+
 -- ---- laws: sound hosts
 
+-- in each mode
 pub record HostsAreSound : Type 0 where
-  pub opens : (given len : ℕ) → is_memory_size len ≡ true → IsSoundHost (opening_host given len)
-  pub stays : (old : Host) (turn : HostTurn) (new : Host) → Does old turn new
-      → IsSoundHost old → IsSoundHost new
+  pub opens : (mode : Mode) (given len : ℕ) → is_memory_size len ≡ true
+      → IsSoundHostIn mode (opening_host_in mode given len)
+  pub stays : {mode : Mode} (old : Host) (turn : HostTurn) (new : Host) → Does old turn new
+      → IsSoundHostIn mode old → IsSoundHostIn mode new
   -- it stays sound over turns, and at each of them a port that runs has the driver's received area
-  pub last : (old : Host) (turns : List HostTurn) (new : Host) → DoesAll old turns new
-      → IsSoundHost old → IsSoundHost new
-  pub each : (old : Host) (turns : List HostTurn) (new : Host) (run : DoesAll old turns new)
-      → IsSoundHost old → AreHosts old new turns run
+  pub last : {mode : Mode} (old : Host) (turns : List HostTurn) (new : Host) → DoesAll old turns new
+      → IsSoundHostIn mode old → IsSoundHostIn mode new
+  pub each : {mode : Mode} (old : Host) (turns : List HostTurn) (new : Host) (run : DoesAll old turns new)
+      → IsSoundHostIn mode old → AreHosts old new turns run
 
 -- ---- laws: turns are events
 
@@ -140,8 +153,8 @@ pub record AreEvents (old new : Host) (turns : List HostTurn) (run : DoesAll old
 
 abbrev pub TurnsAreEvents : Type 0
 TurnsAreEvents =
-    (old new : Host) (turns : List HostTurn) (run : DoesAll old turns new) → IsSoundHost old
-    → AreEvents old new turns run
+    {mode : Mode} (old new : Host) (turns : List HostTurn) (run : DoesAll old turns new)
+    → IsSoundHostIn mode old → AreEvents old new turns run
 
 -- ---- laws: what the events are
 

@@ -6,15 +6,16 @@ use Rattle.std.specs.Prelude.{[], ◌∷◌}
 use Rattle.hba_laws.specs.Client.{Touches}
 use Rattle.hba_laws.specs.Delivering.{touches_after}
 use Rattle.hba_laws.specs.Sent.{HoldsWrites}
-use Rattle.hba_driver.specs.Events.{IsSoundHost, events_over, shared_by}
+use Rattle.hba_driver.specs.declared.mode.Mode.{Mode}
+use Rattle.hba_driver.specs.Events.{IsSoundHostIn, events_over, shared_by}
 use Rattle.hba_driver.specs.HostTurns.{DoesAll, Host, HostTurn}
 use Rattle.hba_driver.specs.Served.{IsServed, RunServes}
 
 -- This holds over each turn whose events serve what is issued.
 abbrev pub TurnsHoldWrites : Type 0
 TurnsHoldWrites =
-    (old : Host) (turn : HostTurn) (new : Host) (run : DoesAll old (turn ∷ []) new)
-    → IsSoundHost old → (past : Touches) → IsServed old.driver (shared_by old) past
+    {mode : Mode} (old : Host) (turn : HostTurn) (new : Host) (run : DoesAll old (turn ∷ []) new)
+    → IsSoundHostIn mode old → (past : Touches) → IsServed old.driver (shared_by old) past
     → (serves : RunServes old new (turn ∷ []) run past) → HoldsWrites past
     → HoldsWrites (touches_after past (shared_by old) (shared_by new)
     (events_over old new (turn ∷ []) run) serves.runs)

@@ -57,7 +57,7 @@ pub record Pushes (old : Host) (frame : Option Stamped) (new : Host) : Type 0 wh
   pub ruled : IsRuled new.port
 
 abbrev pub sight_in : Host → Sight
-sight_in h = sight_of h.port h.memory
+sight_in h = sight_of h.driver.plan.mode h.port h.memory
 
 pub record Ticks (old : Host) (acted : Bool) (new : Host) : Type 0 where
   pub driver : new.driver ≡ after_tick (sight_in old) (file_shown new.port) old.driver

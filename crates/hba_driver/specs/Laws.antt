@@ -9,6 +9,7 @@ use Rattle.hba_commands.specs.Headers.{header_place}
 use Rattle.slots.specs.Slots.{issue_at}
 use Rattle.slots.specs.Table.{IsTable}
 use Rattle.hba_fbs.specs.Views.{Port}
+use Rattle.hba_driver.specs.declared.mode.Mode.{Mode}
 use Rattle.hba_driver.specs.declared.request.Outcome.{Outcome}
 use Rattle.hba_driver.specs.declared.request.Outcome.TheVariants.{Done, DeviceError, Aborted, Removed}
 use Rattle.hba_driver.specs.declared.request.Outcome.TheVariants.{PortError}
@@ -175,7 +176,8 @@ CommandsStand =
 -- A tick ends a request as Done only if it was issued and nothing is issued in its slot of the port any more.
 abbrev pub DoneIsFree : Type 0
 DoneIsFree =
-    (port : Port) (memory : Memory) (file : TaskFile) (d : Driver) (s : ℕ) (e f : Entry) → IsTable port.slots
+    (mode : Mode) (port : Port) (memory : Memory) (file : TaskFile) (d : Driver) (s : ℕ) (e f : Entry)
+    → IsTable port.slots
     → AreRequests d.given d.entries → entry_at d.entries s ≡ Some e → has_ended e.head ≡ false
-    → entry_at (after_tick (sight_of port memory) file d).entries s ≡ Some f → f.head.phase ≡ Ended Done
+    → entry_at (after_tick (sight_of mode port memory) file d).entries s ≡ Some f → f.head.phase ≡ Ended Done
     → (is_issued e.head ≡ true) × (issue_at port.slots s ≡ None)

@@ -1,3 +1,4 @@
+pub mod Modes
 pub mod Drivers
 pub mod Orders
 pub mod Paths

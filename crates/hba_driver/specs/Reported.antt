@@ -9,12 +9,13 @@ use Rattle.host_memory.specs.Memory.{is_memory_size}
 use Rattle.slots.specs.Slots.{has_bit}
 use Rattle.hba_fbs.specs.declared.report.TakeReport.{TakeReport}
 use Rattle.hba_fbs.specs.Taking.{port_of}
+use Rattle.hba_driver.specs.declared.mode.Mode.{Mode}
 use Rattle.hba_driver.specs.declared.request.Completion.{Completion}
 use Rattle.hba_driver.specs.declared.request.Outcome.TheVariants.{Done}
 use Rattle.hba_driver.specs.declared.request.Request.{Request}
 use Rattle.hba_driver.specs.declared.slot.Phase.TheVariants.{Ended, Issued}
 use Rattle.hba_driver.specs.Drivers.{entry_at, rephased}
-use Rattle.hba_driver.specs.Events.{opening_host}
+use Rattle.hba_driver.specs.Events.{opening_host_in}
 use Rattle.hba_driver.specs.HostTurns.{Does, DoesAll, Host, HostTurn, Polled, Submitted, Took}
 use Rattle.hba_driver.specs.Submits.{new_entry}
 
@@ -55,10 +56,10 @@ pub record WasReported (ticket slot : ℕ) (old new : Host) (turns : List HostTu
   pub issued : entry_at took.at.driver.entries slot ≡ Some (rephased Issued (new_entry ticket dev request))
   pub ended : entry_at new.driver.entries slot ≡ Some (rephased (Ended Done) (new_entry ticket dev request))
 
--- this holds over every list of turns from an opening
+-- this holds over every list of turns from an opening, in each mode
 abbrev pub DoneWasReported : Type 0
 DoneWasReported =
-    (given len : ℕ) → is_memory_size len ≡ true → (turns : List HostTurn) (h : Host)
-    (run : DoesAll (opening_host given len) turns h) (completion : Completion) (after : Host)
+    (mode : Mode) (given len : ℕ) → is_memory_size len ≡ true → (turns : List HostTurn) (h : Host)
+    (run : DoesAll (opening_host_in mode given len) turns h) (completion : Completion) (after : Host)
     → Does h (Polled completion) after → completion.outcome ≡ Done
-    → WasReported completion.ticket.0 completion.slot (opening_host given len) h turns run
+    → WasReported completion.ticket.0 completion.slot (opening_host_in mode given len) h turns run

@@ -4,7 +4,7 @@ use Rattle.hba_driver.specs.Drivers.{Entry, entry_at}
 use Rattle.hba_driver.specs.HostTurns.{Does, Host, Ticked}
 use Rattle.hba_driver.specs.Laws.{is_withdrawn}
 use Rattle.hba_driver.specs.Slot30.{IsPlan30, Sets}
-use Rattle.hba_driver.specs.Steady.{detects}
+use Rattle.hba_driver.specs.Steady.{IsSwitching, detects}
 use Rattle.hba_driver.specs.Tended.{IsResetTurn, IsTended}
 
 -- Then the driver waits for the Control that sets SRST to go out, and no request of the device waits or is
@@ -18,4 +18,4 @@ pub record IsSetDriven (n : ℕ) (h : Host) : Type 0 where
 abbrev pub EachResetIsDriven : Type 0
 EachResetIsDriven =
     (n : ℕ) (old : Host) (acted : Bool) (new : Host) → n < 16 → Does old (Ticked acted) new
-    → IsResetTurn n old (Ticked acted) → IsTended n old.driver → IsSetDriven n new
+    → IsSwitching old → IsResetTurn n old (Ticked acted) → IsTended n old.driver → IsSetDriven n new

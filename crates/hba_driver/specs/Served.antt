@@ -24,11 +24,13 @@ use Rattle.hba_laws.specs.Delivering.{AreSpared, IsSound, touches_after}
 use Rattle.hba_laws.specs.History.{Transfer, issued}
 use Rattle.hba_laws.specs.Hosts as event
 use Rattle.hba_laws.specs.Hosts.{Runs}
+use Rattle.hba_driver.specs.declared.mode.Mode.{Mode}
+use Rattle.hba_driver.specs.declared.mode.Mode.TheVariants.{Switching, CommandBased}
 use Rattle.hba_driver.specs.declared.path.Path.{Path}
 use Rattle.hba_driver.specs.declared.slot.Head.{Head}
-use Rattle.hba_driver.specs.Drivers.{Driver, Entry, IsPath, entry_at, is_issued, is_read, new_driver}
+use Rattle.hba_driver.specs.Drivers.{Driver, Entry, IsPath, entry_at, is_issued, is_read, new_driver_in}
 use Rattle.hba_driver.specs.Effects.{buffer_prd, prds_with, table_of}
-use Rattle.hba_driver.specs.Events.{IsSoundHost, events_over, opening_host, shared_by}
+use Rattle.hba_driver.specs.Events.{IsSoundHostIn, events_over, opening_host_in, shared_by}
 use Rattle.hba_driver.specs.HostTurns.{DoesAll, Host, HostTurn}
 use Rattle.hba_driver.specs.Orders.{control_port, is_queued, request_fields}
 use Rattle.hba_driver.specs.Paths.{reads_page, stage_fields}
@@ -132,6 +134,12 @@ FisesAreTheirs d port past =
     (n s : ℕ) (t : Transfer) (command : Command) → issued s (own n past) ≡ Some t
     → last_command port.commands s ≡ Some command → IsFisOf d n s t command
 
+-- with command-based switching all that is issued is issued to one device
+abbrev pub AreOfOne : Mode → Touches → Type 0
+AreOfOne Switching past = Unit {0}
+AreOfOne CommandBased past = (n m s r : ℕ) (t u : Transfer) → issued s (own n past) ≡ Some t
+    → issued r (own m past) ≡ Some u → n ≡ m
+
 -- the command that was last issued in a slot has the slot's own table
 pub record HasItsTable (s : ℕ) (command : Command) : Type 0 where
   pub table : command.table ≡ table_of s
@@ -145,6 +153,7 @@ pub record IsServed (d : Driver) (h : event.Host) (past : Touches) : Type 0 wher
   pub commands : HaveCommands d h.memory
   pub issues : IssuesAreRequests d past
   pub fises : FisesAreTheirs d h.port past
+  pub one : AreOfOne d.plan.mode past
   pub tables : (s : ℕ) (command : Command) → last_command h.port.commands s ≡ Some command
       → HasItsTable s command
 
@@ -163,10 +172,11 @@ pub record RunServes (old new : Host) (turns : List HostTurn) (run : DoesAll old
   pub last : IsServed new.driver (shared_by new)
       (touches_after past (shared_by old) (shared_by new) (events_over old new turns run) runs)
 
+-- in each mode
 pub record TurnsServe : Type 0 where
   -- nothing is issued at a new port
-  pub opens : (given len : ℕ) → is_memory_size len ≡ true
-      → IsServed (new_driver given) (shared_by (opening_host given len)) []
-  pub runs : (old new : Host) (turns : List HostTurn) (run : DoesAll old turns new)
-      → IsSoundHost old → (past : Touches) → IsServed old.driver (shared_by old) past
+  pub opens : (mode : Mode) (given len : ℕ) → is_memory_size len ≡ true
+      → IsServed (new_driver_in mode given) (shared_by (opening_host_in mode given len)) []
+  pub runs : {mode : Mode} (old new : Host) (turns : List HostTurn) (run : DoesAll old turns new)
+      → IsSoundHostIn mode old → (past : Touches) → IsServed old.driver (shared_by old) past
       → RunServes old new turns run past

@@ -1,6 +1,6 @@
 -- What a tick sees of the port and of memory: AHCI 1.3.1, section 3.3 (registers) and 4.2.1 (received FISes);
 -- Serial ATA 3.x, 10.5.6 (signatures); ACS-3, IDENTIFY DEVICE.
-use Rattle.std.specs.Prelude.{ℕ, ◌+◌, ◌*◌, ◌/◌, ◌%◌, ◌^◌, ◌==◌, ◌&&◌, Bool, false, not, if◌then◌else◌, bit_or}
+use Rattle.std.specs.Prelude.{ℕ, ◌+◌, ◌*◌, ◌/◌, ◌%◌, ◌^◌, ◌==◌, ◌&&◌, Bool, false, not, if◌then◌else◌, bit_or, ◌||◌}
 use Rattle.std.specs.Prelude.{List, map, take, drop, slice_index, sum, Option, Some, None, Result, Ok}
 use Rattle.std.specs.List.{range_with_len}
 use Rattle.std.specs.Result.{result_unwrap_or}
@@ -12,9 +12,11 @@ use Rattle.fis_view.specs.declared.view.Fis.TheVariants as view
 use Rattle.fis_view.specs.declared.view.FisFault.{FisFault}
 use Rattle.host_memory.specs.Memory.{Memory}
 use Rattle.slots.specs.Slots.{has_bit}
-use Rattle.hba_fbs.specs.Posting.{is_signature}
+use Rattle.hba_fbs.specs.Posting.{is_ata_signature}
 use Rattle.hba_fbs.specs.Reading.{read_at}
 use Rattle.hba_fbs.specs.Views.{Port, view_of}
+use Rattle.hba_driver.specs.declared.mode.Mode.{Mode}
+use Rattle.hba_driver.specs.declared.mode.Mode.TheVariants.{Switching, CommandBased}
 use Rattle.hba_driver.specs.declared.path.TaskFile.{TaskFile}
 use Rattle.hba_driver.specs.declared.sight.ErrorLog.{ErrorLog}
 use Rattle.hba_driver.specs.declared.sight.Sight.{Sight}
@@ -35,9 +37,9 @@ answer_in (Ok (view.RegD2H f)) =
     field table.D2h table.Lba f % 2 ^ 24 * 256 + field table.D2h table.Count f % 2 ^ 8
 answer_in _ = 0
 
--- the signature of an ATA device: LBA 23:8 is 0
+-- the signature of an ATA device
 abbrev pub is_ata : Result Fis FisFault → Bool
-is_ata (Ok (view.RegD2H f)) = is_signature f && (field table.D2h table.Lba f / 2 ^ 8 % 2 ^ 16 == 0)
+is_ata (Ok (view.RegD2H f)) = is_ata_signature f
 is_ata _ = false
 
 -- the IDENTIFY data in the driver's buffer, at the start of the client area, is that of a device for queued
@@ -99,6 +101,35 @@ is_stopped is fbs = has_bit is 29 && not (has_bit fbs 2)
 abbrev pub faulty_in : (fbs : ℕ) → Option ℕ
 faulty_in fbs = if has_bit fbs 2 then Some (fbs / 2 ^ 16 % 16) else None
 
+-- With command-based switching each fault stops the port: PxIS.OFS, IFS, HBFS or TFES. A notification does
+-- while something is issued in a slot of a device, 0 to 30, since the scan could not be issued beside it.
+abbrev pub is_stopped_alone : (is : ℕ) → (notified : Bool) → (issued : ℕ) → Bool
+is_stopped_alone is notified issued =
+    has_bit is 24 || has_bit is 27 || has_bit is 29 || has_bit is 30
+    || (notified && not (issued % 0x80000000 == 0))
+
+-- the port is stopped, or to be stopped
+abbrev pub stopped_by : Mode → Port → (notified : Bool) → (issued : ℕ) → Bool
+stopped_by Switching port notified issued = is_stopped (shown port px_is) (shown port px_fbs)
+stopped_by CommandBased port notified issued = is_stopped_alone (shown port px_is) notified issued
+
+-- the device whose fault is to be cleared
+abbrev pub faulty_for : Mode → Port → Option ℕ
+faulty_for Switching port = faulty_in (shown port px_fbs)
+faulty_for CommandBased port = None
+
+-- the row of the received area in which the answers of the multiplier are posted
+abbrev pub answer_row : Mode → ℕ
+answer_row Switching = 15
+answer_row CommandBased = 0
+
+-- the devices whose signature came: it stands in the device's row, or was heard
+abbrev pub signed_by : Mode → Port → Memory → List Bool
+signed_by Switching port memory =
+    map (λ dev. is_ata (seen (last_d2h memory.structure dev))) (range_with_len 0 16)
+signed_by CommandBased port memory =
+    map (λ dev. (view_of dev port).state.signed) (range_with_len 0 16)
+
 -- PxTFD: Status in bits 7:0, Error in bits 15:8
 abbrev pub file_in : (tfd : ℕ) → TaskFile
 file_in tfd = record { status = tfd % 256; error = tfd / 256 % 256 }
@@ -107,16 +138,17 @@ file_in tfd = record { status = tfd % 256; error = tfd / 256 % 256 }
 abbrev pub file_shown : Port → TaskFile
 file_shown port = file_in (shown port px_tfd)
 
-unfoldable pub sight_of : Port → Memory → Sight
-sight_of port memory = record {
+unfoldable pub sight_of : Mode → Port → Memory → Sight
+sight_of mode port memory = record {
   issued = bit_or (shown port px_ci) (shown port px_sact);
-  stopped = is_stopped (shown port px_is) (shown port px_fbs);
-  faulty = faulty_in (shown port px_fbs);
+  stopped = stopped_by mode port (has_bit (shown port px_sntf) 15)
+      (bit_or (shown port px_ci) (shown port px_sact));
+  faulty = faulty_for mode port;
   resetting = (view_of 15 port).state.resetting;
   in_reset = map (λ dev. (view_of dev port).state.resetting) (range_with_len 0 16);
   notified = has_bit (shown port px_sntf) 15;
-  answer = answer_in (seen (last_d2h memory.structure 15));
-  signed = map (λ dev. is_ata (seen (last_d2h memory.structure dev))) (range_with_len 0 16);
+  answer = answer_in (seen (last_d2h memory.structure (answer_row mode)));
+  signed = signed_by mode port memory;
   usable = is_usable memory.client;
   log = log_in memory.client;
 }

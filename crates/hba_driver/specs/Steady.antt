@@ -14,6 +14,7 @@ use Rattle.hba_fbs.specs.Taking.{port_of}
 use Rattle.hba_fbs.specs.Writing.{cleared_by}
 use Rattle.hba_laws.specs.Hosts as event
 use Rattle.hba_laws.specs.Hosts.{HostEvent, Runs}
+use Rattle.hba_driver.specs.declared.mode.Mode.TheVariants.{Switching}
 use Rattle.hba_driver.specs.declared.order.Order.{Order}
 use Rattle.hba_driver.specs.declared.order.Order.TheVariants.{Clear, Detect}
 use Rattle.hba_driver.specs.declared.path.Path.{Path}
@@ -102,6 +103,10 @@ abbrev pub IsSteadyTurn : ℕ → Host → HostTurn → Type 0
 IsSteadyTurn n old (Ticked acted) = IsCalmTick n old
 IsSteadyTurn n old turn = Unit {0}
 
+-- the driver uses FIS-based switching
+abbrev pub IsSwitching : Host → Type 0
+IsSwitching h = h.driver.plan.mode ≡ Switching
+
 -- the device's row of the received area shows the signature of a disk
 abbrev pub HasSignature : ℕ → Host → Type 0
 HasSignature n h = is_ata (seen (last_d2h h.memory.structure n)) ≡ true
@@ -166,8 +171,8 @@ pub record TurnsAreSteady (n : ℕ) : Type 0 where
       → IsFlushTick n old → IsSteady n new.driver × (IsAskedOf n new.driver.plan → ⊥)
   pub stays : (old : Host) (turn : HostTurn) (new : Host) → Does old turn new
       → IsSteadyTurn n old turn → IsSteady n old.driver → IsSteady n new.driver
-  -- it is asked for nothing before its signature came
-  pub asks : (old : Host) (turn : HostTurn) (new : Host) → Does old turn new
+  -- with FIS-based switching it is asked for nothing before its signature came
+  pub asks : (old : Host) (turn : HostTurn) (new : Host) → Does old turn new → IsSwitching old
       → IsSteadyTurn n old turn → IsSteady n old.driver → IsAskedOf n new.driver.plan
       → IsAskedOf n old.driver.plan ⊎ HasSignature n old
   -- its row of the received area is empty when the host opens and after its flush, and stays empty

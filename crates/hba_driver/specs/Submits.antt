@@ -1,11 +1,13 @@
 -- What submit and poll do.
-use Rattle.std.specs.Prelude.{ℕ, ◌≡◌, ◌+◌, Bool, if◌then◌else◌, List, length, slice_set, Option, Some, None}
+use Rattle.std.specs.Prelude.{ℕ, ◌≡◌, ◌+◌, Bool, if◌then◌else◌, List, length, slice_set, Option, Some, None, ◌==◌, ◌&&◌, not}
 use Rattle.std.specs.Prelude.{unwrap_or}
 use Rattle.std.specs.List.{list_any}
 use Rattle.std.specs.Option.{option_or}
 use Rattle.host_memory.specs.Memory.{Memory, client_start}
 use Rattle.slots.specs.Slots.{lowest_below, match_some}
 use Rattle.hba_commands.specs.Writing.{IsWritten}
+use Rattle.hba_driver.specs.declared.mode.Mode.{Mode}
+use Rattle.hba_driver.specs.declared.mode.Mode.TheVariants.{Switching, CommandBased}
 use Rattle.hba_driver.specs.declared.request.Completion.{Completion}
 use Rattle.hba_driver.specs.declared.request.Request.{Request}
 use Rattle.hba_driver.specs.declared.request.SubmitError.{SubmitError}
@@ -31,12 +33,23 @@ queue_refusal d dev request = if is_blocked d dev request then Some refusal.Queu
 abbrev pub end_of : Memory → ℕ
 end_of memory = client_start + length memory.client
 
+-- of another device, and not ended
+abbrev pub is_open_of_other : (dev : ℕ) → Head → Bool
+is_open_of_other dev head = not (head.dev == dev) && not (has_ended head)
+
+-- with command-based switching a request waits for those of another device to end
+abbrev pub other_refusal : Mode → (dev : ℕ) → List (Option Entry) → Option SubmitError
+other_refusal Switching dev entries = None
+other_refusal CommandBased dev entries =
+    if list_any (holds (is_open_of_other dev)) entries then Some refusal.OtherDevice else None
+
 -- Why a request is refused: the first of these that applies.
 unfoldable pub submit_refusal : Driver → Memory → ℕ → Request → Option SubmitError
 submit_refusal d memory dev request =
     option_or (device_refusal (device_at d.plan dev))
     (option_or (queue_refusal d dev request)
-    (option_or (shape_refusal (end_of memory) request) (room_refusal d request)))
+    (option_or (shape_refusal (end_of memory) request)
+    (option_or (room_refusal d request) (other_refusal d.plan.mode dev d.entries))))
 
 -- the slot that the next request takes: the lowest free one
 abbrev pub next_slot : Driver → ℕ

@@ -25,7 +25,7 @@ use Rattle.hba_driver.specs.Events.{IsSoundHost}
 use Rattle.hba_driver.specs.HostTurns.{Does, Host, HostTurn, Ticked, sight_in}
 use Rattle.hba_driver.specs.Orders.{is_flush}
 use Rattle.hba_driver.specs.Steady.{HasSignature, IsFine, IsFlushTick, IsSteady, IsSteadyTurn}
-use Rattle.hba_driver.specs.Steady.{detects}
+use Rattle.hba_driver.specs.Steady.{IsSwitching, detects}
 use Rattle.hba_driver.specs.Ticks.{due}
 
 -- ---- slot 30
@@ -184,8 +184,8 @@ pub record TurnsTend (n : ℕ) : Type 0 where
   pub over : (old : Host) (acted : Bool) (p : Path) → IsSoundHost old
       → IsResetTurn n old (Ticked acted) → old.driver.plan.path ≡ Some p → p.asked ≡ true
       → issue_at old.port.slots 30 ≡ None
-  -- over each turn that is calm for the device
-  pub stays : (old : Host) (turn : HostTurn) (new : Host) → n < 16 → Does old turn new
+  -- over each turn that is calm for the device, with FIS-based switching
+  pub stays : (old : Host) (turn : HostTurn) (new : Host) → n < 16 → Does old turn new → IsSwitching old
       → IsSteadyTurn n old turn → IsTended n old.driver → TendsOn n old turn new
 
 abbrev pub EachIsTended : Type 0

@@ -6,6 +6,7 @@ use Rattle.host_memory.specs.Memory.{Memory}
 use Rattle.slots.specs.Slots.{has_bit, lowest_below, match_some}
 use Rattle.hba_fbs.specs.Views.{Port}
 use Rattle.hba_driver.specs.declared.effect.Effect.{Effect}
+use Rattle.hba_driver.specs.declared.mode.Mode.{Mode}
 use Rattle.hba_driver.specs.declared.order.Order.{Order}
 use Rattle.hba_driver.specs.declared.order.Order.TheVariants.{Clear, ResetOn}
 use Rattle.hba_driver.specs.declared.path.Path.{Path}
@@ -185,11 +186,11 @@ due v d = (turn v d).act
 unfoldable pub after_tick : Sight → TaskFile → Driver → Driver
 after_tick v file d = acted (turn v d).act file (seen v d)
 
-abbrev pub effects_due : Option Act → List Effect
-effects_due a = match_some a [] effects_of
+abbrev pub effects_due : Mode → Option Act → List Effect
+effects_due mode a = match_some a [] (effects_of mode)
 
 abbrev pub effects : Sight → Driver → List Effect
-effects v d = effects_due (due v d)
+effects v d = effects_due d.plan.mode (due v d)
 
 -- something was due, or something was seen
 unfoldable pub acts : Sight → Driver → Bool

@@ -4,8 +4,11 @@
 -- recovery, and 9.3, FIS-based Switching, on errors).
 use Rattle.std.specs.Prelude.{ℕ, ◌%◌, ◌<◌, ◌==◌, ◌&&◌, ◌||◌, Bool, true, false, not, nat_lt, if◌then◌else◌}
 use Rattle.std.specs.Prelude.{List, slice_index_or, Option, Some, None, is_some}
+use Rattle.std.specs.List.{list_any}
 use Rattle.std.specs.Option.{option_map, option_or}
 use Rattle.slots.specs.Slots.{has_bit, lowest_below, match_some}
+use Rattle.hba_driver.specs.declared.mode.Mode.{Mode}
+use Rattle.hba_driver.specs.declared.mode.Mode.TheVariants.{Switching, CommandBased}
 use Rattle.hba_driver.specs.declared.order.Order.{Order}
 use Rattle.hba_driver.specs.declared.order.Order.TheVariants.{AwaitSignature, CountPorts, ResetOn, Scan}
 use Rattle.hba_driver.specs.declared.order.Order.TheVariants.{Detect, Watch}
@@ -17,12 +20,14 @@ use Rattle.hba_driver.specs.declared.plan.Device.{Device}
 use Rattle.hba_driver.specs.declared.plan.Device.TheVariants.{Absent, Starting, Ready, Unusable, Recovering}
 use Rattle.hba_driver.specs.declared.plan.Plan.{Plan}
 use Rattle.hba_driver.specs.declared.sight.Sight.{Sight}
+use Rattle.hba_driver.specs.declared.slot.Head.{Head}
 use Rattle.hba_driver.specs.declared.turn.Act.{Act}
 use Rattle.hba_driver.specs.declared.turn.Act.TheVariants as act
 use Rattle.hba_driver.specs.declared.turn.Logged.{Logged}
 use Rattle.hba_driver.specs.declared.turn.Turn.{Turn}
-use Rattle.hba_driver.specs.Drivers.{Entry, IsOrder, device_at, entry_at, holds, waits, with_device}
-use Rattle.hba_driver.specs.Orders.{is_queued, next_order, order_fields}
+use Rattle.hba_driver.specs.Drivers.{Entry, IsOrder, device_at, entry_at, holds, is_issued, waits}
+use Rattle.hba_driver.specs.Drivers.{with_device}
+use Rattle.hba_driver.specs.Orders.{control_port, is_queued, next_order, order_fields}
 use Rattle.hba_driver.specs.Paths.{first_stage, next_stage, stage_fields}
 
 -- ---- slot 31: the multiplier
@@ -84,9 +89,15 @@ abbrev pub awaits : Order → Bool
 awaits AwaitSignature = true
 awaits _ = false
 
--- an answer or a signature came
+abbrev pub watches : Order → Bool
+watches Watch = true
+watches _ = false
+
+-- an answer, a signature or a notification came
 abbrev pub control_news : Sight → Plan → Bool
-control_news v plan = if plan.asked then not (is_out v plan) else awaits plan.order && not v.resetting
+control_news v plan =
+    if plan.asked then not (is_out v plan)
+    else (awaits plan.order && not v.resetting) || (watches plan.order && v.notified)
 
 -- ---- slot 30: a device
 
@@ -227,13 +238,64 @@ IsAct (act.Orders order) = IsOrder order
 IsAct (act.Steps dev stage) = dev < 15
 IsAct (act.Issues slot dev queued) = slot < 30
 
+-- ---- one device at a time
+
+-- the device for which an act issues a command
+abbrev pub device_of : Act → Option ℕ
+device_of (act.Opens k) = None
+device_of act.Stops = None
+device_of (act.Restarts k) = None
+device_of (act.Clears dev) = None
+device_of (act.Orders order) = Some control_port
+device_of (act.Steps dev stage) = Some dev
+device_of (act.Issues slot dev queued) = Some dev
+
+-- slot 31 has a command, and the device is another one
+abbrev pub control_beside : Sight → (dev : ℕ) → Bool
+control_beside v dev = has_bit v.issued 31 && not (dev == control_port)
+
+-- slot 30 has a command of another device
+abbrev pub path_beside : Sight → Plan → (dev : ℕ) → Bool
+path_beside v plan dev =
+    match_some plan.path false (λ path. has_bit v.issued 30 && not (path.dev == dev))
+
+-- a request of another device is issued
+abbrev pub is_issued_of_other : (dev : ℕ) → Head → Bool
+is_issued_of_other dev head = not (head.dev == dev) && is_issued head
+
+-- nothing is issued for another device
+abbrev pub may_go : Sight → Plan → List (Option Entry) → (dev : ℕ) → Bool
+may_go v plan entries dev =
+    not (control_beside v dev || path_beside v plan dev || list_any (holds (is_issued_of_other dev)) entries)
+
+-- the same for what an act issues, if it issues something
+abbrev pub may_go_to : Sight → Plan → List (Option Entry) → Option ℕ → Bool
+may_go_to v plan entries None = true
+may_go_to v plan entries (Some dev) = may_go v plan entries dev
+
+-- what may go of what is due: with command-based switching nothing is issued beside another device
+abbrev pub allowed : Mode → Sight → Plan → List (Option Entry) → Option Act → Option Act
+allowed Switching v plan entries due = due
+allowed CommandBased v plan entries due =
+    match_some due None (λ a. if may_go_to v plan entries (device_of a) then Some a else None)
+
+-- the command of the order, if it may go
+abbrev pub order_allowed : Sight → Plan → List (Option Entry) → Option Act
+order_allowed v plan entries = allowed plan.mode v plan entries (order_due plan)
+
+-- what slot 30 or a request has, if it may go
+abbrev pub device_or_request : Sight → Plan → List (Option Entry) → Option Act
+device_or_request v plan entries =
+    option_or (allowed plan.mode v plan entries (device_due v plan))
+    (allowed plan.mode v plan entries (request_due plan entries))
+
 -- ---- the turn: what is known then, the first act that is due, whether an answer came, and whose log it was
 
 -- slot 30 and the requests, if slot 31 has nothing to issue
 abbrev pub device_turn : Sight → Bool → Plan → List (Option Entry) → Turn
 device_turn v news plan entries = record {
   plan = device_seen v plan;
-  act = option_or (device_due v (device_seen v plan)) (request_due (device_seen v plan) entries);
+  act = device_or_request v (device_seen v plan) entries;
   news = news || device_news v plan;
   logged = device_logged v plan;
 }
@@ -245,7 +307,7 @@ plain_turn plan a news = record { plan = plan; act = a; news = news; logged = No
 -- once the port is open
 abbrev pub control_turn : Sight → Bool → Plan → List (Option Entry) → Turn
 control_turn v news plan entries =
-    if is_some (order_due plan) then plain_turn plan (order_due plan) news
+    if is_some (order_allowed v plan entries) then plain_turn plan (order_allowed v plan entries) news
     else device_turn v news plan entries
 
 unfoldable pub turn_of : Sight → Plan → List (Option Entry) → Turn

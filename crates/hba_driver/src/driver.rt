@@ -3,22 +3,23 @@
 ghost use Rattle.std.specs.Prelude.{◌≡◌, ◌-◌, false, true, length, IfOk, IfSome, OnErr, Some};
 ghost use Rattle.std.specs.List.{list_all};
 ghost use Rattle.std.specs.Result.{result_err};
-ghost use Rattle.hba_driver.specs.Drivers.{IsSound, new_driver};
+ghost use Rattle.hba_driver.specs.Drivers.{IsSound, new_driver, new_driver_in};
 ghost use Rattle.hba_driver.specs.Effects.{ActsAll, is_effect};
 ghost use Rattle.hba_driver.specs.Requests.{in_use as in_use_of, room_refusal as room_refusal_of};
 ghost use Rattle.hba_driver.specs.Sights.{file_shown, sight_of};
-ghost use Rattle.hba_driver.specs.Submits.{Takes, after_poll, completion_of, end_of as end_of_memory, submit_refusal};
+ghost use Rattle.hba_driver.specs.Submits.{Takes, after_poll, completion_of, end_of as end_of_memory, other_refusal as other_refusal_of, submit_refusal};
 ghost use Rattle.hba_driver.specs.Ticks.{Rests, acted as acted_of, acts, after_tick, due as due_of, effects, effects_due, seen};
 ghost use Rattle.hba_driver.specs.Turns.{IsAct};
 
 use crate::effect::table_of;
+use crate::mode::Mode;
 use crate::path::TaskFile;
 use crate::plan::Plan;
 use crate::refusal::shape_refusal;
 use crate::request::{Completion, Request, SubmitError, Ticket};
 use crate::scan::{
-    any_done, apply, are_blocked, are_used, end_done, end_logged, have_conflict, lowest_ended,
-    lowest_free,
+    any_done, apply, are_blocked, are_used, end_done, end_logged, has_other, have_conflict,
+    lowest_ended, lowest_free,
 };
 use crate::sight::Sight;
 use crate::slot::{Head, Phase, Slot, share_bytes};
@@ -62,8 +63,15 @@ impl Driver {
     pub fn with_next_ticket(ticket: u32) -> Driver
         ensures { result ≡ new_driver (ticket - 1) }
     {
+        Driver::with_mode(Mode::Switching, ticket)
+    }
+
+    /// The same for a port that tells devices apart in this way.
+    pub fn with_mode(mode: Mode, ticket: u32) -> Driver
+        ensures { result ≡ new_driver_in mode (ticket - 1) }
+    {
         Driver {
-            plan: Plan::new(),
+            plan: Plan::new(mode),
             given: ticket.saturating_sub(1),
             slots: Default::default(),
         }
@@ -95,6 +103,13 @@ impl Driver {
         }
     }
 
+    // How the port tells devices apart.
+    fn mode(&self) -> Mode
+        ensures { result ≡ self.now.plan.mode }
+    {
+        self.plan.mode
+    }
+
     // Looks at all that came. Answers what is due to port and memory, and whether something is due or came.
     #[tactic(auto, unfolding(crate::specs::Ticks::acts))]
     fn look(&mut self, sight: Sight) -> (Option<Act>, bool)
@@ -117,18 +132,21 @@ impl Driver {
     #[tactic(auto, unfolding(crate::specs::Ticks::after_tick))]
     pub fn tick(&mut self, port: &mut HostPort, memory: &mut HostMemory) -> bool
         ensures driver { self.new
-            ≡ after_tick (sight_of port.old memory.old) (file_shown port.new) self.old }
-        ensures effects { ActsAll (effects (sight_of port.old memory.old) self.old)
+            ≡ after_tick (sight_of self.old.plan.mode port.old memory.old) (file_shown port.new)
+            self.old }
+        ensures effects { ActsAll
+            (effects (sight_of self.old.plan.mode port.old memory.old) self.old)
             port.old memory.old port.new memory.new }
-        ensures possible { list_all is_effect (effects (sight_of port.old memory.old) self.old)
-            ≡ true }
-        ensures answer { result ≡ acts (sight_of port.old memory.old) self.old }
+        ensures possible { list_all is_effect
+            (effects (sight_of self.old.plan.mode port.old memory.old) self.old) ≡ true }
+        ensures answer { result ≡ acts (sight_of self.old.plan.mode port.old memory.old) self.old }
         ensures rests { result ≡ false
             → Rests self.old port.old memory.old self.new port.new memory.new }
     {
-        let sight = Sight::of(port, memory);
+        let mode = self.mode();
+        let sight = Sight::of(mode, port, memory);
         let (act, acted) = self.look(sight);
-        perform(act, port, memory);
+        perform(mode, act, port, memory);
         self.advance(act, TaskFile::shown(port));
         acted
     }
@@ -146,6 +164,16 @@ impl Driver {
         (self.given == u32::MAX).then_some(SubmitError::TicketsSpent)
     }
 
+    // Why a request is refused beside one of another device.
+    fn other_refusal(&self, dev: u8) -> Option<SubmitError>
+        ensures { result ≡ other_refusal_of self.now.plan.mode dev self.now.entries }
+    {
+        match self.plan.mode {
+            Mode::Switching => None,
+            Mode::CommandBased => has_other(&self.slots, dev).then_some(SubmitError::OtherDevice),
+        }
+    }
+
     // Why a request is refused: the first refusal that applies.
     #[tactic(auto, unfolding(crate::specs::Submits::submit_refusal))]
     fn refusal(&self, memory: &HostMemory, dev: u8, request: &Request) -> Option<SubmitError>
@@ -160,7 +188,10 @@ impl Driver {
         if let Some(refusal) = shape_refusal(end_of(memory), request) {
             return Some(refusal);
         }
-        self.room_refusal(request)
+        if let Some(refusal) = self.room_refusal(request) {
+            return Some(refusal);
+        }
+        self.other_refusal(dev)
     }
 
     /// Takes a request for a device under the next ticket. Its command is written into the lowest free slot,
@@ -236,12 +267,12 @@ fn end_of(memory: &HostMemory) -> u32
 }
 
 // Does what is due to port and memory, if something is.
-fn perform(act: Option<Act>, port: &mut HostPort, memory: &mut HostMemory)
+fn perform(mode: Mode, act: Option<Act>, port: &mut HostPort, memory: &mut HostMemory)
     requires { IfSome act IsAct }
-    ensures acts { ActsAll (effects_due act) port.old memory.old port.new memory.new }
-    ensures possible { list_all is_effect (effects_due act) ≡ true }
+    ensures acts { ActsAll (effects_due mode act) port.old memory.old port.new memory.new }
+    ensures possible { list_all is_effect (effects_due mode act) ≡ true }
 {
     if let Some(act) = act {
-        act.perform(port, memory);
+        act.perform(mode, port, memory);
     }
 }

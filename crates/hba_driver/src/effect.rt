@@ -3,10 +3,13 @@
 ghost use Rattle.std.specs.Prelude.{◌≡◌, ◌+◌, ◌*◌, ◌^◌, ◌<◌, ◌≤◌, true, length, replicate};
 ghost use Rattle.std.specs.List.{list_all};
 ghost use Rattle.host_memory.specs.Memory.{overwritten};
-ghost use Rattle.hba_driver.specs.Effects.{Acts, ActsAll, Commands, Tries, clearing, effects_of, emptied, is_effect, opening_write as opening_write_of, order_effects, prds_with, restart_write as restart_write_of, stage_effects, table_of as table_of_slot};
+ghost use Rattle.hba_driver.specs.Effects.{Acts, ActsAll, Commands, Tries, clearing, effects_of, emptied, is_effect, issuing, opening_write as opening_write_of, order_effects, prds_with, restart_write as restart_write_of, stage_effects, table_of as table_of_slot};
+ghost use Rattle.hba_driver.specs.Modes.{clears_with as clears_with_in, enabled as enabled_in};
+ghost use Rattle.hba_driver.specs.declared.mode.Mode.TheVariants.{Switching, CommandBased};
 ghost use Rattle.hba_driver.specs.Turns.{IsAct};
 ghost use Rattle.hba_driver.specs.Drivers.{IsOrder};
 
+use crate::mode::Mode;
 use crate::order::{CONTROL_PORT, Order};
 use crate::path::Stage;
 use crate::sight::{CI, CLB, CLBU, CMD, FB, FBS, FBU, IS, SACT, SNTF};
@@ -120,10 +123,20 @@ fn perform_all(effects: &[Effect], port: &mut HostPort, memory: &mut HostMemory)
     }
 }
 
+// PxFBS.EN.
+fn enabled(mode: Mode) -> u32
+    ensures { result ≡ enabled_in mode }
+{
+    match mode {
+        Mode::Switching => 1,
+        Mode::CommandBased => 0,
+    }
+}
+
 #[tactic(auto, unfolding(crate::specs::Effects::opening_write))]
-fn opening_write(k: u8) -> Effect
+fn opening_write(mode: Mode, k: u8) -> Effect
     requires { k < 7 }
-    ensures value { result ≡ opening_write_of k }
+    ensures value { result ≡ opening_write_of mode k }
     ensures possible { is_effect result ≡ true }
 {
     match k {
@@ -131,7 +144,7 @@ fn opening_write(k: u8) -> Effect
         1 => Effect::Writes(CLBU, 0),
         2 => Effect::Writes(FB, 0x1000),
         3 => Effect::Writes(FBU, 0),
-        4 => Effect::Writes(FBS, 1),
+        4 => Effect::Writes(FBS, enabled(mode)),
         5 => Effect::Writes(CMD, 0x10),
         _ => Effect::Writes(CMD, 0x2_0011),
     }
@@ -149,12 +162,22 @@ fn restart_write(k: u8) -> Effect
     }
 }
 
+// PxFBS.DEC and EN.
+fn clears_with(mode: Mode) -> u32
+    ensures { result ≡ clears_with_in mode }
+{
+    match mode {
+        Mode::Switching => 3,
+        Mode::CommandBased => 2,
+    }
+}
+
 // Clears the fault of a device: OFS, IFS and TFES in PxIS, and DEC, with the device and EN, in PxFBS.
-fn clear_fault(dev: u8, port: &mut HostPort, memory: &mut HostMemory)
-    ensures { ActsAll (clearing dev) port.old memory.old port.new memory.new }
+fn clear_fault(mode: Mode, dev: u8, port: &mut HostPort, memory: &mut HostMemory)
+    ensures { ActsAll (clearing mode dev) port.old memory.old port.new memory.new }
 {
     let seen = Effect::Writes(IS, 0x4900_0000);
-    let cleared = Effect::Writes(FBS, 0x100 * u32::from(dev) + 3);
+    let cleared = Effect::Writes(FBS, 0x100 * u32::from(dev) + clears_with(mode));
     perform_all(&[seen, cleared], port, memory);
 }
 
@@ -176,9 +199,21 @@ fn issue(slot: u8) -> Effect
 impl Order {
     // Performs the order.
     #[tactic(auto, unfolding(crate::specs::Effects::order_effects))]
-    fn perform(self, port: &mut HostPort, memory: &mut HostMemory)
+    fn perform(self, mode: Mode, port: &mut HostPort, memory: &mut HostMemory)
         requires { IsOrder self }
-        ensures { ActsAll (order_effects self) port.old memory.old port.new memory.new }
+        ensures { ActsAll (order_effects mode self) port.old memory.old port.new memory.new }
+    {
+        match mode {
+            Mode::Switching => self.perform_switching(port, memory),
+            Mode::CommandBased => self.perform_alone(port, memory),
+        }
+    }
+
+    // With FIS-based switching.
+    #[tactic(auto, unfolding(crate::specs::Effects::order_effects))]
+    fn perform_switching(self, port: &mut HostPort, memory: &mut HostMemory)
+        requires { IsOrder self }
+        ensures { ActsAll (order_effects Switching self) port.old memory.old port.new memory.new }
     {
         let Some(fields) = self.fields() else {
             return;
@@ -197,42 +232,85 @@ impl Order {
             _ => perform_all(&[own, chosen, issued], port, memory),
         }
     }
+
+    // With command-based switching, where the device is that of the header, and no row is the device's own.
+    #[tactic(auto, unfolding(crate::specs::Effects::order_effects))]
+    fn perform_alone(self, port: &mut HostPort, memory: &mut HostMemory)
+        requires { IsOrder self }
+        ensures { ActsAll (order_effects CommandBased self) port.old memory.old port.new memory.new }
+    {
+        let Some(fields) = self.fields() else {
+            return;
+        };
+        let own = Effect::Commands(CONTROL_SLOT, fields, false);
+        let issued = issue(CONTROL_SLOT);
+        match self {
+            Order::Scan => {
+                perform_all(&[Effect::Writes(SNTF, 0x8000), own, issued], port, memory);
+            }
+            Order::Clear(dev) => {
+                perform_all(&[Effect::Flushes(dev), own, issued], port, memory);
+            }
+            _ => perform_all(&[own, issued], port, memory),
+        }
+    }
 }
 
 impl Stage {
     // Performs the stage, for a device.
-    fn perform(self, dev: u8, port: &mut HostPort, memory: &mut HostMemory)
+    fn perform(self, mode: Mode, dev: u8, port: &mut HostPort, memory: &mut HostMemory)
         requires { dev < 15 }
-        ensures { ActsAll (stage_effects dev self) port.old memory.old port.new memory.new }
+        ensures { ActsAll (stage_effects mode dev self) port.old memory.old port.new memory.new }
     {
         let Some(fields) = self.fields(dev) else {
             return;
         };
         let own = Effect::Commands(DEVICE_SLOT, fields, self.reads_page());
-        perform_all(&[own, choose(dev), issue(DEVICE_SLOT)], port, memory);
+        let issued = issue(DEVICE_SLOT);
+        match mode {
+            Mode::Switching => perform_all(&[own, choose(dev), issued], port, memory),
+            Mode::CommandBased => perform_all(&[own, issued], port, memory),
+        }
+    }
+}
+
+// Issues the command of a request.
+fn issue_request(
+    mode: Mode,
+    slot: u8,
+    dev: u8,
+    queued: bool,
+    port: &mut HostPort,
+    memory: &mut HostMemory,
+)
+    requires { slot < 30 }
+    ensures { ActsAll (issuing mode slot dev queued) port.old memory.old port.new memory.new }
+{
+    let (armed, issued) = (Effect::Writes(SACT, bit(slot)), issue(slot));
+    match (mode, queued) {
+        (Mode::Switching, true) => perform_all(&[choose(dev), armed, issued], port, memory),
+        (Mode::Switching, false) => perform_all(&[choose(dev), issued], port, memory),
+        (Mode::CommandBased, true) => perform_all(&[armed, issued], port, memory),
+        (Mode::CommandBased, false) => perform_all(&[issued], port, memory),
     }
 }
 
 impl Act {
     /// Performs the act on port and memory.
     #[tactic(auto, unfolding(crate::specs::Effects::effects_of))]
-    pub(crate) fn perform(self, port: &mut HostPort, memory: &mut HostMemory)
+    pub(crate) fn perform(self, mode: Mode, port: &mut HostPort, memory: &mut HostMemory)
         requires { IsAct self }
-        ensures { ActsAll (effects_of self) port.old memory.old port.new memory.new }
+        ensures { ActsAll (effects_of mode self) port.old memory.old port.new memory.new }
     {
         match self {
-            Act::Opens(k) => perform_all(&[opening_write(k)], port, memory),
+            Act::Opens(k) => perform_all(&[opening_write(mode, k)], port, memory),
             Act::Stops => perform_all(&[Effect::Writes(CMD, 0x2_0010)], port, memory),
             Act::Restarts(k) => perform_all(&[restart_write(k)], port, memory),
-            Act::Clears(dev) => clear_fault(dev, port, memory),
-            Act::Orders(order) => order.perform(port, memory),
-            Act::Steps(dev, stage) => stage.perform(dev, port, memory),
-            Act::Issues(slot, dev, true) => {
-                let armed = Effect::Writes(SACT, bit(slot));
-                perform_all(&[choose(dev), armed, issue(slot)], port, memory);
-            }
-            Act::Issues(slot, dev, false) => {
-                perform_all(&[choose(dev), issue(slot)], port, memory);
+            Act::Clears(dev) => clear_fault(mode, dev, port, memory),
+            Act::Orders(order) => order.perform(mode, port, memory),
+            Act::Steps(dev, stage) => stage.perform(mode, dev, port, memory),
+            Act::Issues(slot, dev, queued) => {
+                issue_request(mode, slot, dev, queued, port, memory);
             }
         }
     }

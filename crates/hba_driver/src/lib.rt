@@ -10,6 +10,7 @@ mod driver;
 mod effect;
 mod going;
 mod laws;
+mod mode;
 mod order;
 mod path;
 mod plan;
@@ -29,5 +30,6 @@ pub use laws::{
     resets_are_issued, ticks_keep, ticks_serve, turns_are_events, turns_are_steady, turns_deliver,
     turns_keep, turns_serve, turns_tend, writes_are_accepted, writes_are_held,
 };
+pub use mode::Mode;
 pub use recovering::{devices_are_apart, none_is_armed};
 pub use request::{Completion, Outcome, Request, SubmitError, Ticket, Work};

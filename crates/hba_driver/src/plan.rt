@@ -1,9 +1,10 @@
 //! What the driver knows of the port, of the multiplier and of the devices behind it.
 
 ghost use Rattle.std.specs.Prelude.{◌≡◌, ◌<◌, length};
-ghost use Rattle.hba_driver.specs.Drivers.{IsOrder, IsSoundPlan, device_at, opening_plan, with_device as with_device_of};
-ghost use Rattle.hba_driver.specs.Turns.{answered as answered_by, awaits as awaits_of, control_news as control_news_of, control_seen as control_seen_by, detected as detected_by, found_there as found_there_of, is_out as is_out_of, is_ready as is_ready_of, met_order as met_order_by, noted as noted_by, signed_order as signed_order_by, with_next as with_next_of};
+ghost use Rattle.hba_driver.specs.Drivers.{IsOrder, IsSoundPlan, device_at, opening_plan_in, with_device as with_device_of};
+ghost use Rattle.hba_driver.specs.Turns.{answered as answered_by, awaits as awaits_of, control_news as control_news_of, control_seen as control_seen_by, detected as detected_by, found_there as found_there_of, is_out as is_out_of, is_ready as is_ready_of, met_order as met_order_by, noted as noted_by, signed_order as signed_order_by, watches as watches_of, with_next as with_next_of};
 
+use crate::mode::Mode;
 use crate::order::Order;
 use crate::path::{Path, Recovery};
 use crate::sight::{Sight, has_bit};
@@ -31,6 +32,8 @@ const CONTROL_SLOT: u8 = 31;
 /// What the driver knows, apart from its requests.
 #[derive(Clone, Copy, Debug, PartialEq, Eq)]
 pub(crate) struct Plan {
+    /// How the port tells devices apart.
+    pub(crate) mode: Mode,
     /// How many of the seven writes that open the port were made.
     pub(crate) opened: u8,
     /// How many of the two writes that start the port again after a fault were made.
@@ -86,11 +89,12 @@ impl Device {
 
 impl Plan {
     /// A plan with nothing done.
-    pub(crate) fn new() -> Plan
-        ensures value { result ≡ opening_plan }
+    pub(crate) fn new(mode: Mode) -> Plan
+        ensures value { result ≡ opening_plan_in mode }
         ensures sound { IsSoundPlan result }
     {
         Plan {
+            mode,
             opened: 0,
             restarted: 2,
             order: Order::ResetOn,
@@ -204,14 +208,14 @@ impl Plan {
         }
     }
 
-    /// Whether an answer or a signature came.
+    /// Whether an answer, a signature or a notification came.
     pub(crate) fn control_news(self, sight: Sight) -> bool
         ensures { result ≡ control_news_of sight self }
     {
         if self.asked {
             !self.is_out(sight)
         } else {
-            self.order.awaits() && !sight.resetting
+            self.order.awaits() && !sight.resetting || self.order.watches() && sight.notified
         }
     }
 }
@@ -221,6 +225,12 @@ impl Order {
         ensures { result ≡ awaits_of self }
     {
         matches!(self, Order::AwaitSignature)
+    }
+
+    fn watches(self) -> bool
+        ensures { result ≡ watches_of self }
+    {
+        matches!(self, Order::Watch)
     }
 
     fn signed(sight: Sight) -> Order

@@ -93,4 +93,7 @@ pub enum SubmitError {
     /// The largest ticket has been given.
     #[error("no more tickets")]
     TicketsSpent = 9,
+    /// With command-based switching: a request of another device has not ended.
+    #[error("a request of another device has not ended")]
+    OtherDevice = 10,
 }

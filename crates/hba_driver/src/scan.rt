@@ -5,9 +5,9 @@ ghost use Rattle.std.specs.List.{list_any};
 ghost use Rattle.slots.specs.Slots.{lowest_below};
 ghost use Rattle.hba_driver.specs.Drivers.{entry_at, has_ended, holds, rephase_all};
 ghost use Rattle.hba_driver.specs.Requests.{blocks, conflicts, is_used_by, lowest_free as lowest_free_of};
-ghost use Rattle.hba_driver.specs.Submits.{lowest_ended as lowest_ended_of};
+ghost use Rattle.hba_driver.specs.Submits.{is_open_of_other, lowest_ended as lowest_ended_of};
 ghost use Rattle.hba_driver.specs.Ticks.{any_done as any_done_of, done_ended, entries_after, is_in, log_ended, log_outcome, logged_ended};
-ghost use Rattle.hba_driver.specs.Turns.{IsAct, may_issue};
+ghost use Rattle.hba_driver.specs.Turns.{IsAct, is_issued_of_other, may_issue};
 
 use crate::order::Order;
 use crate::path::{Stage, TaskFile};
@@ -151,6 +151,20 @@ pub(crate) fn apply(slots: &mut [Slot; 30], act: Act)
         Act::Issues(slot, _, _) => slots[slot as usize].set_phase(Phase::Issued),
         Act::Opens(_) | Act::Restarts(_) | Act::Orders(_) | Act::Steps(..) => {}
     }
+}
+
+/// Whether a request of another device has not ended.
+pub(crate) fn has_other(slots: &[Slot; 30], dev: u8) -> bool
+    ensures { result ≡ list_any (holds (is_open_of_other dev)) slots.now }
+{
+    slots.iter().any(|slot| slot.is_open_of_other(dev))
+}
+
+/// Whether a request of another device is issued.
+pub(crate) fn has_issued_other(slots: &[Slot; 30], dev: u8) -> bool
+    ensures { result ≡ list_any (holds (is_issued_of_other dev)) slots.now }
+{
+    slots.iter().any(|slot| slot.is_issued_of_other(dev))
 }
 
 /// Whether a request prevents this work from being taken for a device.

@@ -5,10 +5,11 @@ ghost use Rattle.std.specs.List.{range_with_len};
 ghost use Rattle.fis_view.specs.Seen.{seen};
 ghost use Rattle.hba_fbs.specs.Posting.{is_signature};
 ghost use Rattle.hba_fbs.specs.Status.{is_quiet as is_quiet_status};
-ghost use Rattle.hba_driver.specs.Sights.{answer_in, faulty_in, is_ata, is_stopped as is_stopped_of, is_usable as is_usable_in, last_d2h as last_d2h_of, log_in, shown, sight_of};
+ghost use Rattle.hba_driver.specs.Sights.{answer_in, answer_row as answer_row_of, faulty_for, faulty_in, is_ata, is_stopped as is_stopped_of, is_stopped_alone as is_stopped_alone_of, is_usable as is_usable_in, last_d2h as last_d2h_of, log_in, shown, sight_of, signed_by, stopped_by};
 ghost use Rattle.hba_fbs.specs.Views.{view_of};
 ghost use Rattle.slots.specs.Slots.{has_bit as has_bit_of};
 
+use crate::mode::Mode;
 use crate::order::CONTROL_PORT;
 use fis_view::{Fis, RegD2H};
 use hba_fbs::HostPort;
@@ -37,8 +38,14 @@ pub(crate) const SNTF: u32 = 0x3C;
 /// PxFBS.
 pub(crate) const FBS: u32 = 0x40;
 
+/// PxIS.OFS.
+const OFS_BIT: u8 = 24;
+/// PxIS.IFS.
+const IFS_BIT: u8 = 27;
 /// PxIS.HBFS.
 const HBFS_BIT: u8 = 29;
+/// PxIS.TFES.
+const TFES_BIT: u8 = 30;
 /// PxFBS.SDE.
 const SDE_BIT: u8 = 2;
 
@@ -67,9 +74,9 @@ pub(crate) struct ErrorLog {
 pub(crate) struct Sight {
     /// PxCI and PxSACT together: the slots that are not done.
     pub(crate) issued: u32,
-    /// A fault has stopped the whole port.
+    /// The port is to be stopped: a fault stopped it, or a notification came beside a command of a device.
     pub(crate) stopped: bool,
-    /// The device whose fault the port shows.
+    /// The device whose fault the port shows, and is to be cleared.
     pub(crate) faulty: Option<u8>,
     /// The multiplier is in software reset.
     pub(crate) resetting: bool,
@@ -79,7 +86,7 @@ pub(crate) struct Sight {
     pub(crate) notified: bool,
     /// The value in the multiplier's last answer, or its signature.
     pub(crate) answer: u32,
-    /// By device: its row of the received area has the signature of an ATA device.
+    /// By device: the signature of an ATA device stands in its row of the received area, or was heard.
     pub(crate) signed: [bool; 16],
     /// The IDENTIFY data in the driver's buffer is that of a device for queued commands.
     pub(crate) usable: bool,
@@ -162,6 +169,38 @@ fn signed(structure: &[u8]) -> [bool; 16]
     signed
 }
 
+// The devices of which the port heard an ATA signature.
+fn marked(port: &HostPort) -> [bool; 16]
+    ensures { result ≡ map (λ dev. (view_of dev port.now).state.signed) (range_with_len 0 16) }
+{
+    let mut marked = [false; 16];
+    for dev in 0..16_u8 {
+        marked[dev as usize] = port.signed(dev);
+    }
+    marked
+}
+
+// The devices whose signature came.
+fn signed_in(mode: Mode, port: &HostPort, memory: &HostMemory) -> [bool; 16]
+    ensures { result ≡ signed_by mode port.now memory.now }
+{
+    match mode {
+        Mode::Switching => signed(memory.structure()),
+        Mode::CommandBased => marked(port),
+    }
+}
+
+// The row of the received area in which the answers of the multiplier are posted.
+fn answer_row(mode: Mode) -> u8
+    ensures value { result ≡ answer_row_of mode }
+    ensures low { result < 16 }
+{
+    match mode {
+        Mode::Switching => CONTROL_PORT,
+        Mode::CommandBased => 0,
+    }
+}
+
 fn is_usable(client: &[u8]) -> bool
     requires { 512 ≤ length client.now }
     ensures { result ≡ is_usable_in client.now }
@@ -221,6 +260,28 @@ fn is_stopped(interrupts: u32, switching: u32) -> bool
     has_bit(interrupts, HBFS_BIT) && !has_bit(switching, SDE_BIT)
 }
 
+// With command-based switching each fault stops the port, and a notification does while a command of a device
+// is issued: the scan could not be issued beside it.
+fn is_stopped_alone(interrupts: u32, notified: bool, issued: u32) -> bool
+    ensures { result ≡ is_stopped_alone_of interrupts notified issued }
+{
+    has_bit(interrupts, OFS_BIT)
+        || has_bit(interrupts, IFS_BIT)
+        || has_bit(interrupts, HBFS_BIT)
+        || has_bit(interrupts, TFES_BIT)
+        || notified && issued % 0x8000_0000 != 0
+}
+
+// Whether the port is stopped, or to be stopped.
+fn stopped(mode: Mode, port: &HostPort, notified: bool, issued: u32) -> bool
+    ensures { result ≡ stopped_by mode port.now notified issued }
+{
+    match mode {
+        Mode::Switching => is_stopped(register(port, IS), register(port, FBS)),
+        Mode::CommandBased => is_stopped_alone(register(port, IS), notified, issued),
+    }
+}
+
 fn faulty(switching: u32) -> Option<u8>
     ensures { result ≡ faulty_in switching }
 {
@@ -231,22 +292,33 @@ fn faulty(switching: u32) -> Option<u8>
     }
 }
 
+// The device whose fault is to be cleared.
+fn faulty_device(mode: Mode, port: &HostPort) -> Option<u8>
+    ensures { result ≡ faulty_for mode port.now }
+{
+    match mode {
+        Mode::Switching => faulty(register(port, FBS)),
+        Mode::CommandBased => None,
+    }
+}
+
 impl Sight {
     /// All that there is to see.
     #[tactic(auto, unfolding(crate::specs::Sights::sight_of))]
-    pub(crate) fn of(port: &HostPort, memory: &HostMemory) -> Sight
-        ensures { result ≡ sight_of port.now memory.now }
+    pub(crate) fn of(mode: Mode, port: &HostPort, memory: &HostMemory) -> Sight
+        ensures { result ≡ sight_of mode port.now memory.now }
     {
-        let structure = memory.structure();
+        let issued = register(port, CI) | register(port, SACT);
+        let notified = has_bit(register(port, SNTF), CONTROL_PORT);
         Sight {
-            issued: register(port, CI) | register(port, SACT),
-            stopped: is_stopped(register(port, IS), register(port, FBS)),
-            faulty: faulty(register(port, FBS)),
+            issued,
+            stopped: stopped(mode, port, notified, issued),
+            faulty: faulty_device(mode, port),
             resetting: port.resetting(CONTROL_PORT),
             in_reset: in_reset(port),
-            notified: has_bit(register(port, SNTF), CONTROL_PORT),
-            answer: answer(last_d2h(structure, CONTROL_PORT)),
-            signed: signed(structure),
+            notified,
+            answer: answer(last_d2h(memory.structure(), answer_row(mode))),
+            signed: signed_in(mode, port, memory),
             usable: is_usable(memory.client()),
             log: error_log(memory.client()),
         }

@@ -6,9 +6,9 @@ ghost use Rattle.host_memory.specs.Reading.{shares_with as shares_with_of, share
 ghost use Rattle.hba_driver.specs.Drivers.{has_ended as has_ended_head, holds, is_aside as is_aside_head, is_issued as is_issued_head, is_read as is_read_of, rephased, waits as waits_head};
 ghost use Rattle.hba_driver.specs.Orders.{is_flush as is_flush_of, is_queued as is_queued_of, request_fields, work_fields};
 ghost use Rattle.hba_driver.specs.Requests.{blocks as blocks_of, conflicts as conflicts_of, is_among as is_among_of, is_free as is_free_entry, is_used_by, share_bytes as share_bytes_of};
-ghost use Rattle.hba_driver.specs.Submits.{completed, completion_at};
+ghost use Rattle.hba_driver.specs.Submits.{completed, completion_at, is_open_of_other as is_open_of_other_head};
 ghost use Rattle.hba_driver.specs.Ticks.{is_aside_of as is_aside_of_head, is_done as is_done_head, is_in as is_in_group, is_named, is_open_of as is_open_of_head};
-ghost use Rattle.hba_driver.specs.Turns.{issue_of, may_issue as may_issue_entry};
+ghost use Rattle.hba_driver.specs.Turns.{is_issued_of_other as is_issued_of_other_head, issue_of, may_issue as may_issue_entry};
 
 use crate::order::command;
 use crate::plan::Plan;
@@ -344,6 +344,26 @@ impl Slot {
     {
         match self.head {
             Some(head) => head.has_ended(),
+            None => false,
+        }
+    }
+
+    /// Whether its request is of another device and has not ended.
+    pub(crate) fn is_open_of_other(&self, dev: u8) -> bool
+        ensures { result ≡ holds (is_open_of_other_head dev) self.now }
+    {
+        match self.head {
+            Some(head) => head.dev != dev && !head.has_ended(),
+            None => false,
+        }
+    }
+
+    /// Whether its request is of another device and issued.
+    pub(crate) fn is_issued_of_other(&self, dev: u8) -> bool
+        ensures { result ≡ holds (is_issued_of_other_head dev) self.now }
+    {
+        match self.head {
+            Some(head) => head.dev != dev && head.is_issued(),
             None => false,
         }
     }

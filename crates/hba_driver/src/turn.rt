@@ -1,17 +1,22 @@
 //! What is due.
 
 ghost use Rattle.std.specs.Prelude.{◌≡◌, ◌<◌, true, IfSome, Some};
-ghost use Rattle.std.specs.Option.{option_or};
 ghost use Rattle.hba_driver.specs.Drivers.{IsOrder, IsSoundPlan};
 ghost use Rattle.hba_driver.specs.Ticks.{cleared_plan, from_reset as from_reset_of, ordered as ordered_of, plan_after as plan_after_of, plan_without, recovering as recovering_of, stopped_plan, unless as unless_of};
-ghost use Rattle.hba_driver.specs.Turns.{IsAct, control_turn as control_turn_of, device_due as device_due_of, device_turn as device_turn_of, early_due as early_due_of, fault_due as fault_due_of, opening_due as opening_due_of, order_due as order_due_of, path_due as path_due_of, plain_turn, request_due as request_due_of, restart_due as restart_due_of, stage_due as stage_due_of, step_of, turn_of};
+ghost use Rattle.hba_driver.specs.Turns.{IsAct, allowed as allowed_of, control_beside as control_beside_of, control_turn as control_turn_of, device_due as device_due_of, device_of, device_or_request, device_turn as device_turn_of, early_due as early_due_of, fault_due as fault_due_of, may_go as may_go_of, may_go_to as may_go_to_of, opening_due as opening_due_of, order_allowed as order_allowed_of, order_due as order_due_of, path_beside as path_beside_of, path_due as path_due_of, plain_turn, request_due as request_due_of, restart_due as restart_due_of, stage_due as stage_due_of, step_of, turn_of};
 
+use crate::mode::Mode;
 use crate::order::{CONTROL_PORT, Order};
 use crate::path::{Path, Stage, TaskFile, reset_all};
 use crate::plan::{Device, Plan};
-use crate::scan::lowest_due;
-use crate::sight::Sight;
+use crate::scan::{has_issued_other, lowest_due};
+use crate::sight::{Sight, has_bit};
 use crate::slot::Slot;
+
+/// The slot of commands to the multiplier.
+const CONTROL_SLOT: u8 = 31;
+/// The slot of the driver's own commands to devices.
+const DEVICE_SLOT: u8 = 30;
 
 /// What a tick does.
 #[derive(Clone, Copy, Debug, PartialEq, Eq)]
@@ -30,6 +35,19 @@ pub(crate) enum Act {
     Steps(u8, Stage),
     /// The request of a slot is issued for a device. The flag says whether its command is queued.
     Issues(u8, u8, bool),
+}
+
+impl Act {
+    // The device for which it issues a command, if it issues one.
+    fn device(self) -> Option<u8>
+        ensures { result ≡ device_of self }
+    {
+        match self {
+            Act::Orders(_) => Some(CONTROL_PORT),
+            Act::Steps(dev, _) | Act::Issues(_, dev, _) => Some(dev),
+            Act::Opens(_) | Act::Stops | Act::Restarts(_) | Act::Clears(_) => None,
+        }
+    }
 }
 
 /// The device whose log came and is whole, with its task file after its fault.
@@ -120,6 +138,57 @@ impl Path {
 }
 
 impl Plan {
+    // Whether slot 31 has a command, and this is another device.
+    fn control_beside(sight: Sight, dev: u8) -> bool
+        ensures { result ≡ control_beside_of sight dev }
+    {
+        has_bit(sight.issued, CONTROL_SLOT) && dev != CONTROL_PORT
+    }
+
+    // Whether slot 30 has a command of another device.
+    fn path_beside(self, sight: Sight, dev: u8) -> bool
+        ensures { result ≡ path_beside_of sight self dev }
+    {
+        match self.path {
+            Some(path) => has_bit(sight.issued, DEVICE_SLOT) && path.dev != dev,
+            None => false,
+        }
+    }
+
+    // Whether nothing is issued for another device.
+    fn may_go(self, sight: Sight, slots: &[Slot; 30], dev: u8) -> bool
+        ensures { result ≡ may_go_of sight self slots.now dev }
+    {
+        !(Plan::control_beside(sight, dev)
+            || self.path_beside(sight, dev)
+            || has_issued_other(slots, dev))
+    }
+
+    // The same for what an act issues, if it issues something.
+    fn may_go_to(self, sight: Sight, slots: &[Slot; 30], dev: Option<u8>) -> bool
+        ensures { result ≡ may_go_to_of sight self slots.now dev }
+    {
+        match dev {
+            Some(dev) => self.may_go(sight, slots, dev),
+            None => true,
+        }
+    }
+
+    // What is due, if it may go: with command-based switching only if nothing is issued for another device.
+    fn allowed(self, sight: Sight, slots: &[Slot; 30], due: Option<Act>) -> Option<Act>
+        requires { IfSome due IsAct }
+        ensures value { result ≡ allowed_of self.mode sight self slots.now due }
+        ensures act { IfSome result IsAct }
+    {
+        match self.mode {
+            Mode::Switching => due,
+            Mode::CommandBased => match due {
+                Some(act) if self.may_go_to(sight, slots, act.device()) => due,
+                _ => None,
+            },
+        }
+    }
+
     fn opening_due(self) -> Option<Act>
         ensures value { result ≡ opening_due_of self }
         ensures act { IfSome result IsAct }
@@ -143,6 +212,15 @@ impl Plan {
             Some(_) => Some(Act::Orders(self.order)),
             None => None,
         }
+    }
+
+    // The command of the order, if it may go.
+    fn order_allowed(self, sight: Sight, slots: &[Slot; 30]) -> Option<Act>
+        requires { IsSoundPlan self }
+        ensures value { result ≡ order_allowed_of sight self slots.now }
+        ensures act { IfSome result IsAct }
+    {
+        self.allowed(sight, slots, self.order_due())
     }
 
     fn restart_due(self) -> Option<Act>
@@ -200,12 +278,12 @@ impl Plan {
     // What is due by slot 30, or else for the requests.
     fn device_due(self, sight: Sight, slots: &[Slot; 30]) -> Option<Act>
         requires { IsSoundPlan self }
-        ensures value { result ≡ option_or (device_due_of sight self) (request_due_of self slots.now) }
+        ensures value { result ≡ device_or_request sight self slots.now }
         ensures act { IfSome result IsAct }
     {
-        match self.slot_due(sight) {
+        match self.allowed(sight, slots, self.slot_due(sight)) {
             Some(act) => Some(act),
-            None => request_due(self, slots),
+            None => self.allowed(sight, slots, request_due(self, slots)),
         }
     }
 
@@ -230,7 +308,7 @@ impl Plan {
         ensures sound { IsSoundPlan result.plan }
         ensures act { IfSome result.act IsAct }
     {
-        let act = self.order_due();
+        let act = self.order_allowed(sight, slots);
         if act.is_some() {
             return Turn::plain(self, act, news);
         }

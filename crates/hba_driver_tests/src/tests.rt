@@ -1,5 +1,6 @@
 //! What no clause says: values from outside, and that calls succeed.
 
+mod alone;
 mod recovering;
 mod rig;
 mod rows;

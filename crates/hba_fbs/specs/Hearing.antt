@@ -29,8 +29,9 @@ use Rattle.hba_fbs.specs.declared.hearing.Heard.{Heard}
 use Rattle.hba_fbs.specs.declared.report.Wrote.{Wrote}
 use Rattle.hba_fbs.specs.declared.state.DeviceState.{DeviceState}
 use Rattle.hba_fbs.specs.declared.status.Block.{Block}
-use Rattle.hba_fbs.specs.Status.{after_reset, is_busy, is_error, is_quiet, with_bits, with_block, with_file}
-use Rattle.hba_fbs.specs.Status.{with_status}
+use Rattle.hba_fbs.specs.Posting.{is_ata_signature}
+use Rattle.hba_fbs.specs.Status.{after_reset, is_busy, is_error, is_quiet, signed_by, with_bits, with_block}
+use Rattle.hba_fbs.specs.Status.{with_file, with_status}
 
 -- ---- happenings
 
@@ -256,12 +257,16 @@ heard_register own state status error =
     if state.resetting then quietly (after_reset state status error) happening.Nothing
     else heard_d2h own state status error
 
+-- the signature of an ATA device marks the device that sent it
+abbrev pub signing : List ℕ → Heard → Heard
+signing f h = record h { state = signed_by h.state (is_ata_signature f) }
+
 -- What a FIS that is heard and may come from its PM Port means for the device that sent it. sound says
 -- whether the PRD table can be used, for the slot for which the device sends Data.
 unfoldable pub heard_fis : DeviceSlots → DeviceState → (sound : Bool) → Fis → Heard
 heard_fis own state sound (view.RegH2D f) = quietly state happening.Nothing
 heard_fis own state sound (view.RegD2H f) =
-    heard_register own state (field table.D2h table.Status f) (field table.D2h table.Error f)
+    signing f (heard_register own state (field table.D2h table.Status f) (field table.D2h table.Error f))
 heard_fis own state sound (view.SetBits f) =
     heard_bits own state (field table.Bits table.Status f) (field table.Bits table.Error f)
     (field table.Bits table.SActive f)

@@ -1,6 +1,6 @@
 -- Posting (AHCI 1.3.1, 4.2.1, Received FIS Structure), and what a posted FIS sets in the port's registers
 -- (3.3.5 PxIS, 3.3.9 PxSIG, 3.3.12 PxSERR, 3.3.15 PxSNTF).
-use Rattle.std.specs.Prelude.{ℕ, ◌≡◌, ◌+◌, ◌*◌, ◌%◌, ◌^◌, ◌==◌, ◌&&◌, Bool, true, false, if◌then◌else◌}
+use Rattle.std.specs.Prelude.{ℕ, ◌≡◌, ◌+◌, ◌*◌, ◌%◌, ◌^◌, ◌==◌, ◌&&◌, Bool, true, false, if◌then◌else◌, ◌/◌}
 use Rattle.std.specs.Prelude.{bit_or, List, take, drop, Result, Ok}
 use Rattle.fis_view.specs.Table as table
 use Rattle.fis_view.specs.Table.{field}
@@ -39,6 +39,10 @@ is_signature f =
     (field table.D2h table.Error f == 1) && is_quiet (field table.D2h table.Status f)
     && (field table.D2h table.Count f % 256 == 1)
     && (field table.D2h table.Lba f % 256 == 1)
+
+-- it is that of an ATA device: LBA 15:8 and LBA 23:16 are 0
+abbrev pub is_ata_signature : List ℕ → Bool
+is_ata_signature f = is_signature f && (field table.D2h table.Lba f / 2 ^ 8 % 2 ^ 16 == 0)
 
 -- the FIS is a Register Device to Host FIS with a signature
 abbrev pub signs : Result Fis FisFault → Bool

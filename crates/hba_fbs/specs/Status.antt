@@ -1,6 +1,6 @@
 -- The Status of a device (ACS-3, 6.2, Status field), and what FISes say about its task file (Serial ATA 3.x,
 -- 10.5).
-use Rattle.std.specs.Prelude.{ℕ, ◌&&◌, Bool, false, not, bit_and, bit_or, Option}
+use Rattle.std.specs.Prelude.{ℕ, ◌&&◌, Bool, false, not, bit_and, bit_or, Option, ◌||◌}
 use Rattle.slots.specs.Slots.{has_bit}
 use Rattle.hba_fbs.specs.declared.state.DeviceState.{DeviceState}
 use Rattle.hba_fbs.specs.declared.status.Block.{Block}
@@ -33,6 +33,10 @@ with_bits state status error =
 -- a signature brings Status and Error and ends the software reset
 abbrev pub after_reset : DeviceState → ℕ → ℕ → DeviceState
 after_reset state status error = record state { status = status; error = error; resetting = false }
+
+-- a Register FIS marks the device, if it is the signature of an ATA device
+abbrev pub signed_by : DeviceState → Bool → DeviceState
+signed_by state signs = record state { signed = state.signed || signs }
 
 -- a setup begins this block, or none
 abbrev pub with_block : DeviceState → Option Block → DeviceState

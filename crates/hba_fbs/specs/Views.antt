@@ -15,7 +15,7 @@ pub record Port : Type 0 where
   pub registers : Registers
   pub slots : Slots
   pub errors : Errors
-  -- by device: its task file, and whether it is in software reset
+  -- by device: its task file, whether it is in software reset, and whether it is marked as signed
   pub states : List DeviceState
   -- by slot: the command as it was when it was issued
   pub commands : List (Option Command)
@@ -27,7 +27,7 @@ pub record Port : Type 0 where
 
 -- the state of a device that has sent nothing: Status 50h, Error 0
 abbrev pub opening_state : DeviceState
-opening_state = record { status = 0x50; error = 0; resetting = false; block = None }
+opening_state = record { status = 0x50; error = 0; resetting = false; block = None; signed = false }
 
 -- a new port
 abbrev pub opening_port : Port
@@ -65,7 +65,8 @@ pub record IsPort (port : Port) : Type 0 where
 -- ---- the view of one device
 
 -- What belongs to a device: its issues with the bytes that were transferred, and its last setup; its task
--- file, whether it is in software reset, and the block of a PIO Setup; and the first cause of its fault.
+-- file, whether it is in software reset, the block of a PIO Setup, and whether the signature of an ATA device
+-- came from it; and the first cause of its fault.
 pub record DeviceView : Type 0 where
   pub slots : DeviceSlots
   pub state : DeviceState
@@ -95,10 +96,15 @@ pub record Flushes (old : Port) (dev : ℕ) (new : Port) : Type 0 where
   pub active : new.active ≡ old.active
 
 -- After ST falls, or after the device is cleared, BSY and DRQ (bits 7 and 3 of Status) are 0, and no reset
--- and no block is under way.
+-- and no block is under way. The mark of its signature stays.
 abbrev pub stopped_state : DeviceState → DeviceState
-stopped_state state =
-    record { status = bit_and state.status 0x77; error = state.error; resetting = false; block = None }
+stopped_state state = record {
+  status = bit_and state.status 0x77;
+  error = state.error;
+  resetting = false;
+  block = None;
+  signed = state.signed;
+}
 
 -- there is no slot, no setup and no fault either
 abbrev pub stopped_view : DeviceView → DeviceView

@@ -4,15 +4,16 @@ ghost use Rattle.std.specs.Prelude.{◌≡◌, ◌<◌, ◌-◌, ◌%◌, ◌==�
 ghost use Rattle.fis_view.specs.Seen.{frame_of};
 ghost use Rattle.slots.specs.Slots.{KeepsFree, LeavesOthers, slots_of};
 ghost use Rattle.slots.specs.Commands.{IsSlotAnswer};
-ghost use Rattle.hba_fbs.specs.Hearing.{answer_fault as answer_fault_of, answered as answered_heard, block_of as block_of_fis, cause_of_setup as cause_of_setup_error, done_by as done_by_answer, faulty as faulty_heard, heard_activate, heard_bad, heard_bits, heard_d2h, heard_fis, heard_pio, heard_register, heard_setup, is_admitted as is_admitted_fis, moved, named as named_heard, quietly as quietly_heard};
+ghost use Rattle.hba_fbs.specs.Hearing.{answer_fault as answer_fault_of, answered as answered_heard, block_of as block_of_fis, cause_of_setup as cause_of_setup_error, done_by as done_by_answer, faulty as faulty_heard, heard_activate, heard_bad, heard_bits, heard_d2h, heard_fis, heard_pio, heard_register, heard_setup, is_admitted as is_admitted_fis, moved, named as named_heard, quietly as quietly_heard, signing as signing_heard};
 ghost use Rattle.hba_fbs.specs.Tables.{Delivers, is_sound};
 ghost use Rattle.hba_fbs.specs.Taking.{wrote_by};
 
 use crate::data::hear_data;
+use crate::post::is_ata_signature;
 use crate::report::Wrote;
 use crate::state::DeviceState;
 use crate::status::{Block, is_busy, is_error};
-use fis_view::{Fis, PioSetup};
+use fis_view::{Fis, PioSetup, RegD2H};
 use hba_commands::Command;
 use host_memory::HostMemory;
 use port_errors::{DeviceCause, PortCause};
@@ -154,6 +155,16 @@ fn hear_d2h(slots: &mut SlotTable, dev: u8, state: DeviceState, status: u8, erro
         return quietly(told, Happening::Nothing);
     }
     answered(slots.answered(dev), told)
+}
+
+// The signature of an ATA device marks the device that sent it.
+fn signing(fis: &RegD2H<'_>, heard: Heard) -> Heard
+    ensures { result ≡ signing_heard fis.now heard }
+{
+    Heard {
+        state: heard.state.signed_by(is_ata_signature(fis)),
+        ..heard
+    }
 }
 
 // Hears a Register Device to Host FIS. In a software reset it is the signature, which ends the reset.
@@ -343,7 +354,10 @@ pub(crate) fn hear(
         (wrote_by result.happening) memory.new.client }
 {
     match fis {
-        Fis::RegD2H(fis) => hear_register(slots, dev, state, fis.status(), fis.error()),
+        Fis::RegD2H(fis) => {
+            let heard = hear_register(slots, dev, state, fis.status(), fis.error());
+            signing(fis, heard)
+        }
         Fis::SetBits(fis) => hear_bits(slots, dev, state, fis.status(), fis.error(), fis.sactive()),
         Fis::DmaSetup(fis) => {
             let tag = (fis.buffer_id() % 32) as u8;

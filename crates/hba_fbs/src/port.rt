@@ -160,8 +160,9 @@ impl HostPort {
         self.errors.cause(dev)
     }
 
-    /// The first cause that stopped the whole port, None while no error has stopped it. The cause stands
-    /// until PxCMD.ST falls.
+    /// The first cause that stopped the whole port, None while no error of the port has stopped it. None too
+    /// where a device did, without FIS-based switching: then `cause` names what it was. The cause stands until
+    /// PxCMD.ST falls.
     pub fn port_cause(&self) -> Option<PortCause>
         ensures { result ≡ port_cause_in self.now.errors.port }
     {
@@ -177,8 +178,17 @@ impl HostPort {
         self.states[dev as usize].resetting
     }
 
-    /// Frees all slots of a device and answers their mask. Its fault and its reset end, and its task file is
-    /// again that of a new port.
+    /// Whether the signature of an ATA device came from a device, and was not ignored, since the port was
+    /// opened or the device was flushed last.
+    pub fn signed(&self, dev: u8) -> bool
+        requires { dev < 16 }
+        ensures { result ≡ (view_of dev self.now).state.signed }
+    {
+        self.states[dev as usize].signed
+    }
+
+    /// Frees all slots of a device and answers their mask. Its fault and its reset end, its task file is again
+    /// that of a new port, and it is not signed.
     pub fn flush_device(&mut self, dev: u8) -> u32
         requires { dev < 16 }
         ensures answer { result ≡ own_slots (slots_of dev self.old.slots) }

@@ -3,7 +3,7 @@
 ghost use Rattle.std.specs.Prelude.{◌≡◌, ◌<◌, ◌≤◌, ◌+◌, bit_or, length};
 ghost use Rattle.rx_area.specs.Area.{LeavesOthers, after_post, posted_at, row_after, row_of};
 ghost use Rattle.hba_fbs.specs.Bits.{bit as bit_of};
-ghost use Rattle.hba_fbs.specs.Posting.{Posts, is_signature as is_signature_of, posted as posted_of, signature_of, signs as signs_of};
+ghost use Rattle.hba_fbs.specs.Posting.{Posts, is_ata_signature as is_ata_signature_of, is_signature as is_signature_of, posted as posted_of, signature_of, signs as signs_of};
 ghost use Rattle.hba_fbs.specs.Registers.{AreRegisters};
 
 use crate::bits::raised;
@@ -57,6 +57,13 @@ fn is_signature(fis: &RegD2H<'_>) -> bool
     ensures { result ≡ is_signature_of fis.now }
 {
     fis.error() == 1 && is_quiet(fis.status()) && fis.count() % 256 == 1 && fis.lba() % 256 == 1
+}
+
+/// Whether this is the signature of an ATA device.
+pub(crate) fn is_ata_signature(fis: &RegD2H<'_>) -> bool
+    ensures { result ≡ is_ata_signature_of fis.now }
+{
+    is_signature(fis) && fis.lba() / 0x100 % 0x1_0000 == 0
 }
 
 /// Whether this is a Register Device to Host FIS with a signature.

@@ -10,7 +10,8 @@ const READY: u8 = 0x50;
 /// All bits of Status except BSY and DRQ.
 const IDLE: u8 = 0x77;
 
-/// The task file of a device, whether it is in software reset, and the block that its last setup began.
+/// The task file of a device, whether it is in software reset, the block that its last setup began, and the
+/// mark of its signature.
 #[derive(Clone, Copy, Debug, PartialEq, Eq)]
 pub struct DeviceState {
     /// Its Status.
@@ -21,6 +22,8 @@ pub struct DeviceState {
     pub resetting: bool,
     /// The block of its last setup, if that was a PIO Setup.
     pub block: Option<Block>,
+    /// The signature of an ATA device came from it, since the port was opened or the device was flushed.
+    pub signed: bool,
 }
 
 impl DeviceState {
@@ -33,6 +36,7 @@ impl DeviceState {
             error: 0,
             resetting: false,
             block: None,
+            signed: false,
         }
     }
 

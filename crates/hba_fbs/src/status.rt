@@ -1,7 +1,7 @@
 //! Status, and what FISes say about a device's task file.
 
 ghost use Rattle.std.specs.Prelude.{◌≡◌};
-ghost use Rattle.hba_fbs.specs.Status.{after_reset as after_reset_of, is_busy as is_busy_status, is_error as is_error_status, is_quiet as is_quiet_status, wants_data as wants_data_status, with_bits as with_bits_of, with_block as with_block_of, with_file as with_file_of, with_status as with_status_of};
+ghost use Rattle.hba_fbs.specs.Status.{after_reset as after_reset_of, is_busy as is_busy_status, is_error as is_error_status, is_quiet as is_quiet_status, signed_by as signed_by_of, wants_data as wants_data_status, with_bits as with_bits_of, with_block as with_block_of, with_file as with_file_of, with_status as with_status_of};
 
 use crate::bits::has_bit;
 use crate::state::DeviceState;
@@ -83,6 +83,16 @@ impl DeviceState {
             status,
             error,
             resetting: false,
+            ..self
+        }
+    }
+
+    /// A Register FIS came from the device, with the signature of an ATA device or without it.
+    pub(crate) fn signed_by(self, signs: bool) -> DeviceState
+        ensures { result ≡ signed_by_of self signs }
+    {
+        DeviceState {
+            signed: self.signed || signs,
             ..self
         }
     }

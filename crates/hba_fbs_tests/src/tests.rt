@@ -6,6 +6,7 @@ mod causes;
 mod clearing;
 mod rig;
 mod sending;
+mod signed;
 mod steps;
 mod taking;
 mod vectors;

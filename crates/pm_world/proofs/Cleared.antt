@@ -30,7 +30,7 @@ use Rattle.multiplier.proofs.Ports.{at, kept_part, other_port}
 use Rattle.disk_model.specs.declared.unit.Unit.{Unit}
 use Rattle.pm_world.specs.Cleared.{EachWaits, NewDevicesWait, PassesNone, clears_x, is_cleared, is_up_from}
 use Rattle.pm_world.specs.Downward.{fell_to}
-use Rattle.pm_world.specs.Places.{IsOrderly, Place, Places, Queue, new_world}
+use Rattle.pm_world.specs.Places.{IsOrderly, Place, Places, Queue, new_world, new_world_in}
 use Rattle.pm_world.specs.Rules.{CameRule, DiskSendRule, DiskTakeRule, GoneRule, InjectRule, OnDevice, Outcome, PmDownRule, PmFromDeviceRule, PmFromHostRule, PmPresenceRule, PmUpRule, Rule, Run, recorded}
 use Rattle.pm_world.specs.declared.link.Change.{Change}
 use Rattle.pm_world.specs.declared.link.Change.TheVariants as change
@@ -526,5 +526,5 @@ opening_shows config units n = all_closed 15 n
     all_closed (suc count) (suc n) = all_closed count n
 
 pub new_devices_wait : (old : Places) (steps : List Step) (answers : List Answer) (new : Places) → NewDevicesWait old steps answers new
-new_devices_wait old steps answers new config units right before told made whole =
-    each_waits (new_world config units) (before ++ steps) (told ++ answers) new whole (opening_orderly config units right) (length-replicate 15 opening_port) (opening_shows config units)
+new_devices_wait old steps answers new mode config units right before told made whole =
+    each_waits (new_world_in mode config units) (before ++ steps) (told ++ answers) new whole (opening_orderly mode config units right) (length-replicate 15 opening_port) (opening_shows config units)

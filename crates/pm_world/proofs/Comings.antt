@@ -10,6 +10,7 @@ use Rattle.std.proofs.lemmas.List.Folds.{list_any-append}
 use Rattle.disk_model.specs.declared.unit.Unit.{Unit}
 use Rattle.multiplier.specs.Arbiter.{control_port}
 use Rattle.multiplier.specs.State.{PmState}
+use Rattle.hba_driver.specs.declared.mode.Mode.TheVariants.{Switching}
 use Rattle.hba_driver.specs.HostTurns.{Host}
 use Rattle.pm_world.specs.Places.{Places, Place, Queue, IsOrderly, opening, new_world}
 use Rattle.pm_world.specs.Rules.{Outcome, CameActs, GoneActs, DiskSendActs, InjectActs, CameRule, GoneRule, DiskSendRule, InjectRule, DiskTakeRule, PmPresenceRule, PmFromDeviceRule, PmDownRule, PmUpRule, HostTakeRule, OnDevice, OnDeviceAndMultiplier, Rule, Run}
@@ -328,7 +329,7 @@ module _ (answers : List Answer) (a : Answer) (all : AreOfARun (answers ++ a ∷
   front = run_front opening_world all.steps answers a all.now all.run
 
   orderly : IsOrderly opening_world
-  orderly = opening_orderly all.config all.units all.fits
+  orderly = opening_orderly Switching all.config all.units all.fits
 
   -- the control port is not the port of a device
   comes_at_device : (n c : ℕ) → says_came n c a ≡ true → n ≢ control_port
@@ -345,7 +346,7 @@ module _ (answers : List Answer) (a : Answer) (all : AreOfARun (answers ++ a ∷
   nothing_taken : (n c : ℕ) → has_come n c answers ≡ false → n ≢ control_port → taken n c answers ≡ []
   nothing_taken n c none device =
       let begins = (nothing_lost opening_world front.steps answers front.mid orderly front.run).prefix n c device in
-      nothing_before (taken n c answers) begins.0 (begins.1 ∙ rw (nothing_stands all.config all.units n c, nothing_sent n c none) refl)
+      nothing_before (taken n c answers) begins.0 (begins.1 ∙ rw (nothing_stands Switching all.config all.units n c, nothing_sent n c none) refl)
 
   nothing_yet : (n c : ℕ) → has_come n c answers ≡ false → says_came n c a ≡ true → (sent n c answers ≡ []) × (taken n c answers ≡ [])
   nothing_yet n c none says = (nothing_sent n c none, nothing_taken n c none (comes_at_device n c says))

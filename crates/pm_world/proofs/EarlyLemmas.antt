@@ -8,6 +8,7 @@ use Rattle.pm_ports.specs.Port.{is_gone}
 use Rattle.multiplier.specs.Arbiter.{control_port}
 use Rattle.multiplier.specs.State.{PmState, port_at}
 use Rattle.disk_model.specs.declared.unit.Unit.{Unit}
+use Rattle.hba_driver.specs.declared.mode.Mode.TheVariants.{Switching}
 use Rattle.pm_world.specs.Downward.{falling_to}
 use Rattle.pm_world.specs.Places.{Place, Places, is_config, new_world}
 use Rattle.pm_world.specs.Rules.{CameActs, CameRule, Rule, Run}
@@ -71,7 +72,7 @@ comes_shut n c below config units fits first told out made new rule =
     let there : IsThere n c new =
     subst (IsPlugged c) (sym here) (ap (λ (p : Place). p.plugged) after_is, ap (λ (p : Place). p.conn) after_is ∙ sym acts.1) in
     let pm : new.multiplier ≡ out.multiplier = ap (λ (w : Places). w.multiplier) d.new_is in
-    let kept : IsUnremoved n c new = came_unremoved n c out new firm.orderly rule config units fits first told made in
+    let kept : IsUnremoved n c new = came_unremoved n c out new firm.orderly rule Switching config units fits first told made in
     let still : is_removed n c new ≡ false = unremoved n c new kept in
     let was : is_removed n c out ≡ false = ap (λ (m : PmState). is_gone (port_at m n) c) (sym pm) ∙ still in
     let unused : IsUnused n c out = inr (record { place = d.place; is = d.is; less = less }) in

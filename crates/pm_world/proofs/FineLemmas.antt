@@ -3,6 +3,7 @@
 use Rattle.std.proofs.Common.{◌≡◌, ℕ, ◌<◌, true, false, List, [], ◌∷◌, ◌++◌, length, refl, sym, ◌∙◌}
 use Rattle.std.proofs.Common.{Ok}
 use Rattle.std.proofs.lemmas.Bool.{eq-eqb, true≢false}
+use Rattle.hba_driver.specs.declared.mode.Mode.TheVariants.{Switching}
 use Rattle.hba_driver.specs.Events.{IsSoundHost}
 use Rattle.hba_driver.proofs.SoundLemmas.{hosts_stay_sound}
 use Rattle.hba_driver.proofs.SteadyTurns.{calm_or_flush}
@@ -46,4 +47,4 @@ module _ (config : Config) (units : List Unit) (fits : is_config config (length 
   pub sound_at : (before : List Step) (told : List Answer) (old : Places) → Run (new_world config units) before told old → IsSoundHost old.host
   sound_at before told old made =
       hosts_stay_sound.last (new_world config units).host (over turn_of (new_world config units) before told old made) old.host
-      (run_does (new_world config units) before told old made) (hosts_stay_sound.opens 0 config.memory (sized config (length units) fits))
+      (run_does (new_world config units) before told old made) (hosts_stay_sound.opens Switching 0 config.memory (sized config (length units) fits))

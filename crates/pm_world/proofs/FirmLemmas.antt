@@ -8,6 +8,7 @@ use Rattle.std.proofs.lemmas.Option.{same_Some}
 use Rattle.fis_view.specs.Frames.{Stamped}
 use Rattle.disk_model.specs.declared.unit.Unit.{Unit}
 use Rattle.multiplier.specs.State.{falling, port_at}
+use Rattle.hba_driver.specs.declared.mode.Mode.TheVariants.{Switching}
 use Rattle.pm_world.specs.Downward.{falling_to}
 use Rattle.pm_world.specs.Links.{changed_by, on_presence}
 use Rattle.pm_world.specs.Places.{IsOrderly, Place, Places, is_config, new_world, opening}
@@ -223,12 +224,12 @@ pub opening_firm : (config : Config) (units : List Unit) → is_config config (l
 opening_firm config units fits n =
     let empty : seen_at n (new_world config units) ≡ (None, 0, 0) = ap (λ p. world_orderly.known p) (port_opening config units n) in
     record {
-      orderly = opening_orderly config units fits;
+      orderly = opening_orderly Switching config units fits;
       true_is = opening_true config units n;
       led = subst (IsLed (slice_get (new_world config units).devices n)) (sym empty) (opening_led config.capacity units n);
       next = none_read config.capacity units n (seen_at n (new_world config units));
       closed = subst IsClosed (sym empty) (record { there = λ c e. absurd (cc); none = λ e. omega arith });
-      falls = subst (Each (HasCome n (new_world config units))) (sym (nothing_falls config units n)) tt;
+      falls = subst (Each (HasCome n (new_world config units))) (sym (nothing_falls Switching config units n)) tt;
     }
 
 -- ## What is gone

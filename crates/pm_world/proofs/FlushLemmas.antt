@@ -64,7 +64,7 @@ front_true false c is = absurd (true≢false (sym is))
 -- the tick flushes the device when it orders that its port be cleared
 pub flush_orders : (n : ℕ) (h : Host) → IsFlushTick n h → list_any (flushes n) (effects (sight_in h) h.driver) ≡ true
 unfolding effects_of order_effects
-flush_orders n h flush = ap (λ a. list_any (flushes n) (effects_due a)) flush ∙ front_true (n == n) _ (eq-eqb n n refl)
+flush_orders n h flush = ap (λ a. list_any (flushes n) (effects_due h.driver.plan.mode a)) flush ∙ front_true (n == n) _ (eq-eqb n n refl)
 
 -- what is not for the control port clears no port
 unclear_down : (n : ℕ) (frames : List Stamped) → NoneDown frames → Nothing (is_clear n) frames

@@ -10,6 +10,7 @@ use Rattle.disk_model.specs.Disks.{DiskValue, Moment}
 use Rattle.disk_model.specs.Units.{StandsFor, plan_of}
 use Rattle.disk_model.specs.Histories.{DiskOf, Happening}
 use Rattle.disk_model.specs.Runs.{DiskStandsFor, IsDiskRun, moment}
+use Rattle.hba_driver.specs.declared.mode.Mode.TheVariants.{Switching}
 use Rattle.hba_driver.specs.declared.slot.Phase.TheVariants.{Issued}
 use Rattle.hba_driver.specs.Drivers.{rephased}
 use Rattle.hba_driver.specs.Events.{shared_by}
@@ -65,7 +66,7 @@ module _ (config : Config) (units : List Unit) (n sectors : ℕ) (plan : DiskPla
   disk_shows : IsSomeAnd (slice_get now.devices n) (λ there. Shows i shown_now there.unit)
   disk_shows =
       by_place (slice_get now.devices n)
-      (units_lived_on d.out (step.Came n ∷ d.steps) (answer.Came n d.conn ∷ d.answers) now d.run config units fits d.first d.told d.made n (Disk disk.disk)
+      (units_lived_on d.out (step.Came n ∷ d.steps) (answer.Came n d.conn ∷ d.answers) now d.run Switching config units fits d.first d.told d.made n (Disk disk.disk)
       disk.there)
 
 -- ## The law

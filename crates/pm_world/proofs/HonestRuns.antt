@@ -15,6 +15,7 @@ use Rattle.disk_model.specs.declared.unit.Unit.TheVariants.{Disk}
 use Rattle.disk_model.specs.Histories.{Happening, Plugged, Sent}
 use Rattle.disk_model.specs.Runs.{IsDiskRun}
 use Rattle.disk_model.specs.Units.{plan_of}
+use Rattle.hba_driver.specs.declared.mode.Mode.TheVariants.{Switching}
 use Rattle.hba_driver.specs.HostTurns.{HostTurn}
 use Rattle.disk_ends.proofs.FollowedLemmas.{run_to}
 use Rattle.pm_world.specs.Disks.{Before, DiskRun, EndedSince, FlushedSince, HonestDisks, IsLeftAlone, IsNewDisk, Since, WasSubmitted, disk_history, host_turns}
@@ -127,7 +128,7 @@ module _ (config : Config) (units : List Unit) (n sectors : ℕ) (plan : DiskPla
   may_send : MaySendAll (plan_of (Disk disk.disk)) [] (before ++ since)
   may_send =
       lived_run (Disk disk.disk) (before ++ since) (slice_get now.devices n) disk.fresh
-      (units_lived_on d.out (step.Came n ∷ d.steps) (answer.Came n d.conn ∷ d.answers) now d.run config units fits d.first d.told d.made n (Disk disk.disk)
+      (units_lived_on d.out (step.Came n ∷ d.steps) (answer.Came n d.conn ∷ d.answers) now d.run Switching config units fits d.first d.told d.made n (Disk disk.disk)
       disk.there)
 
   own_run : IsDiskRun disk.disk.plan disk.disk.sectors (before ++ since)

@@ -6,7 +6,7 @@ use Rattle.fis_view.specs.Frames.{Stamped}
 use Rattle.multiplier.specs.State.{PmState}
 use Rattle.hba_driver.specs.HostTurns.{Host, HostTurn, Pushed, DoesAll}
 use Rattle.hba_driver.specs.declared.request.Request.{Request}
-use Rattle.pm_world.specs.Places.{Places, Place, Queue, opening_host, new_world}
+use Rattle.pm_world.specs.Places.{Places, Place, Queue, opening_host_in, new_world_in}
 use Rattle.pm_world.specs.Rules.{Outcome, Rule, Run, OnDevice, OnDeviceAndMultiplier, CameActs, GoneActs, DiskSendActs, InjectActs, DiskTakeActs, CameRule, GoneRule, DiskSendRule, InjectRule, DiskTakeRule, PmPresenceRule, PmFromDeviceRule, PmDownRule, PmFromHostRule, PmUpRule, HostTakeRule, HostPushRule, TickRule, SubmitRule, PollRule, PutRule}
 use Rattle.pm_world.specs.Runs.{over}
 use Rattle.pm_world.specs.Turns.{turn_of, HostIsFold}
@@ -168,7 +168,7 @@ run_does old (s ∷ steps) [] new run = absurd run
 pub host_is_fold : (old : Places) (steps : List Step) (answers : List Answer) (new : Places) (run : Run old steps answers new) → HostIsFold old steps answers new run
 host_is_fold old steps answers new run = record {
   does = run_does old steps answers new run;
-  reached = λ config units right before told made.
-      does-append (opening_host config.memory) old.host new.host (over turn_of (new_world config units) before told old made) (over turn_of old steps answers new run)
-      (run_does (new_world config units) before told old made) (run_does old steps answers new run);
+  reached = λ mode config units right before told made.
+      does-append (opening_host_in mode config.memory) old.host new.host (over turn_of (new_world_in mode config units) before told old made) (over turn_of old steps answers new run)
+      (run_does (new_world_in mode config units) before told old made) (run_does old steps answers new run);
 }

@@ -8,6 +8,7 @@ use Rattle.std.proofs.lemmas.Bool.{and_parts, eqb-true, false≢true}
 use Rattle.fis_view.specs.Frames.{Stamped}
 use Rattle.disk_model.specs.declared.unit.Unit.{Unit}
 use Rattle.hba_fbs.specs.declared.report.TakeReport.{TakeReport}
+use Rattle.hba_driver.specs.declared.mode.Mode.TheVariants.{Switching}
 use Rattle.hba_driver.specs.declared.request.Request.{Request}
 use Rattle.hba_driver.specs.HostTurns.{DoesAll, Host, HostTurn, Polled, Pushed, Put, Submitted, Ticked, Took, sight_in}
 use Rattle.hba_driver.specs.Known as host
@@ -208,4 +209,4 @@ run_identified n below known old (s ∷ steps) (a ∷ answers) new run orderly r
 pub all_identified : (config : Config) (units : List Unit) → is_config config (length units) ≡ true → (steps : List Step) (answers : List Answer) (new : Places) (run : Run (new_world config units) steps answers new) (n : ℕ) → n < 15
     → AllIdentified n false (new_world config units) steps answers new run
 all_identified config units right steps answers new run n below =
-    run_identified n below false (new_world config units) steps answers new run (opening_orderly config units right) (opening_risen config units) (asking_opens n 0 config.memory (sized config (length units) right))
+    run_identified n below false (new_world config units) steps answers new run (opening_orderly Switching config units right) (opening_risen config units) (asking_opens n 0 config.memory (sized config (length units) right))

@@ -9,6 +9,7 @@ use Rattle.host_memory.specs.Place.{place}
 use Rattle.disk_model.specs.declared.unit.Unit.{Unit}
 use Rattle.disk_model.specs.Histories.{Happening}
 use Rattle.disk_model.specs.Last.{NoneCovers}
+use Rattle.hba_driver.specs.declared.mode.Mode.TheVariants.{Switching}
 use Rattle.hba_driver.specs.declared.request.Completion.{Completion}
 use Rattle.hba_driver.specs.declared.request.Request.{Request}
 use Rattle.hba_driver.specs.declared.request.Ticket.{Ticket}
@@ -291,7 +292,7 @@ module _ (config : Config) (units : List Unit) (fits : is_config config (length 
     (A : List Answer) (W : List Places) (whole : IsFirst (new_world config units) now T U took S A W) (dev : ℕ) (request : Request) (ticket : Ticket)
     (sub : IsStepOf (step.Submit dev request) (answer.Submitted ticket) (new_world config units) now T U took) where
   counted : AreCounted (flat_map given_by U)
-  counted = (keeps_tickets (new_world config units) T U now took).given config units fits [] [] refl
+  counted = (keeps_tickets (new_world config units) T U now took).given Switching config units fits [] [] refl
 
   -- it is one place in the answers, and so one place in the steps
   at_place : (t : Ticket) (front back : List Answer) → U ≡ front ++ answer.Submitted t ∷ back → t.0 ≡ ticket.0 → length front ≡ length sub.before

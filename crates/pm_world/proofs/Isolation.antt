@@ -7,7 +7,7 @@ use Rattle.hba_driver.specs.HostTurns.{DoesAll, Host, HostTurn}
 use Rattle.hba_driver.proofs.SoundLemmas.{hosts_stay_sound}
 use Rattle.hba_driver.proofs.TurnLemmas.{each_run_tells, turns_are_events}
 use Rattle.pm_world.specs.Isolation.{AreFoldsOfOwn, AreIsolated, Isolates}
-use Rattle.pm_world.specs.Places.{Places, new_world, opening_host}
+use Rattle.pm_world.specs.Places.{Places, new_world_in, opening_host_in}
 use Rattle.pm_world.specs.Rules.{Run}
 use Rattle.pm_world.specs.Runs.{over}
 use Rattle.pm_world.specs.Turns.{turn_of}
@@ -26,8 +26,8 @@ module _ (old : Host) (turns : List HostTurn) (new : Host) (does : DoesAll old t
 
 pub isolates : (old : Places) (steps : List Step) (answers : List Answer) (new : Places) (run : Run old steps answers new) → Isolates old steps answers new run
 isolates old steps answers new run = record {
-  isolated = λ config units fits before told made does.
+  isolated = λ mode config units fits before told made does.
       are_isolated old.host (over turn_of old steps answers new run) new.host does
-      (hosts_stay_sound.last (opening_host config.memory) (over turn_of (new_world config units) before told old made) old.host (run_does (new_world config units) before told old made)
-      (hosts_stay_sound.opens 0 config.memory (sized config (length units) fits)));
+      (hosts_stay_sound.last (opening_host_in mode config.memory) (over turn_of (new_world_in mode config units) before told old made) old.host (run_does (new_world_in mode config units) before told old made)
+      (hosts_stay_sound.opens mode 0 config.memory (sized config (length units) fits)));
 }

@@ -15,6 +15,7 @@ use Rattle.multiplier.specs.State.{PmState, passes_to, port_at}
 use Rattle.multiplier.specs.declared.multiplier.Passed.TheVariants as passed
 use Rattle.multiplier.proofs.GiveLemmas.{Gives, FromPort, Notice, Answer as Answers, gives}
 use Rattle.disk_model.specs.declared.unit.Unit.{Unit}
+use Rattle.hba_driver.specs.declared.mode.Mode.TheVariants.{Switching}
 use Rattle.pm_world.specs.Cleared.{is_cleared}
 use Rattle.pm_world.specs.Downward.{fell_to}
 use Rattle.pm_world.specs.Places.{IsOrderly, Places, Queue, new_world}
@@ -204,4 +205,4 @@ opening_true config units n = record { room = length-replicate 15 opening_port; 
 
 pub ports_keep : PortsKeep
 ports_keep config units right steps answers new run =
-    each_keeps (new_world config units) steps answers new run (opening_orderly config units right) (opening_true config units)
+    each_keeps (new_world config units) steps answers new run (opening_orderly Switching config units right) (opening_true config units)

@@ -10,8 +10,9 @@ use Rattle.multiplier.proofs.Ports as ports
 use Rattle.multiplier.specs.Rules.{with_device as connected, without_device}
 use Rattle.multiplier.specs.State.{PmState, port_at}
 use Rattle.pm_ports.specs.Port.{PortState, came_refusal as port_came_refusal, gone_refusal as port_gone_refusal, with_connection, with_removal}
+use Rattle.hba_driver.specs.declared.mode.Mode.{Mode}
 use Rattle.pm_world.specs.Links.{on_presence}
-use Rattle.pm_world.specs.Places.{IsOrderly, Place, Places, new_world, opening, with_device, with_multiplier}
+use Rattle.pm_world.specs.Places.{IsOrderly, Place, Places, new_world_in, opening, with_device, with_multiplier}
 use Rattle.pm_world.specs.Rules.{CameActs, CameRule, DiskSendActs, DiskSendRule, DiskTakeActs, DiskTakeRule, GoneActs, GoneRule, InjectActs}
 use Rattle.pm_world.specs.Rules.{InjectRule, PmDownRule, PmFromDeviceRule, PmPresenceRule, Rule, Run, recorded}
 use Rattle.pm_world.specs.Runs.{AfterEveryRun}
@@ -385,20 +386,20 @@ none_posted capacity [] n k = tt
 none_posted capacity (u ∷ units) zero k = tt
 none_posted capacity (u ∷ units) (suc n) k = none_posted capacity units n k
 
-opening_ahead : (config : Config) (units : List Unit) (n : ℕ) → IsAhead n (new_world config units)
-opening_ahead config units n place is =
-    let none : (port_at (new_world config units).multiplier n).gone ≡ 0 = ap (λ (p : PortState). p.gone) (port_opening config units n) in
+opening_ahead : (mode : Mode) (config : Config) (units : List Unit) (n : ℕ) → IsAhead n (new_world_in mode config units)
+opening_ahead mode config units n place is =
+    let none : (port_at (new_world_in mode config units).multiplier n).gone ≡ 0 = ap (λ (p : PortState). p.gone) (port_opening config units n) in
     record { recorded = omega (arith, none); posted = none_posted config.capacity units n (suc place.conn) }
 
 -- so a connection that comes is not removed
 pub came_unremoved : (n c : ℕ) (old new : Places) → IsOrderly old → Rule old (step.Came n) (Ok (answer.Came n c)) new
-    → AfterEveryRun old (λ config units before told made. IsUnremoved n c new)
-came_unremoved n c old new orderly rule config units fits before told made =
+    → AfterEveryRun old (λ mode config units before told made. IsUnremoved n c new)
+came_unremoved n c old new orderly rule mode config units fits before told made =
     let d : AtDevice old n (Ok (answer.Came n c)) new (CameRule n) = at_device old n (answer.Came n c) new (CameRule n) rule in
     let acts : CameActs n d.place (answer.Came n c) d.after = d.rule.1 in
     let next : c ≡ d.place.conn + 1 = acts.1 in
     let most : suc d.place.conn ≤ c = omega (arith, next) in
     let ahead : IsAhead n old =
-    run_ahead n (new_world config units) before told old (opening_orderly config units fits) made (opening_ahead config units n) in
+    run_ahead n (new_world_in mode config units) before told old (opening_orderly mode config units fits) made (opening_ahead mode config units n) in
     unremoved_weaker n (suc d.place.conn) c new most
     (unremoved_after n (suc d.place.conn) old new (answer.Came n c) (ahead d.place d.is) tt (step.Came n) orderly rule)

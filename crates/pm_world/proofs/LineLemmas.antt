@@ -17,6 +17,7 @@ use Rattle.multiplier.specs.State.{PmState, control_stamp, passes_to, pm_port, p
 use Rattle.multiplier.specs.declared.multiplier.Passed.{Passed}
 use Rattle.multiplier.specs.declared.multiplier.Passed.TheVariants as passed
 use Rattle.multiplier.proofs.GiveLemmas.{Gives, FromPort, Notice, Answer as Answers, gives}
+use Rattle.hba_driver.specs.declared.mode.Mode.TheVariants.{Switching}
 use Rattle.hba_driver.specs.HostTurns.{Does, Host, HostTurn, Ticks, Took, Pushed, Ticked, Submitted, Polled, Put}
 use Rattle.hba_driver.specs.declared.request.Request.{Request as Asked}
 use Rattle.hba_driver.specs.Slot31.{Asks, Fails, Follows31, IsAt31, IsNext31, IsNotice31, MayBe31, MayCome31, Pushes31, Resets, Rests, Signs, Stage31, TakesOn, TicksOn, Told, Turns31, Waits, is_quiet, orders_clear}
@@ -499,7 +500,7 @@ opening_now units config right = record {
   going = going_opens 0 config.memory (sized config (length units) right);
   their = λ n s c low busy last. none_issued n s c last;
   risen = opening_risen config units;
-  orderly = opening_orderly config units right;
+  orderly = opening_orderly Switching config units right;
   stage = Rests;
   is = record { at = opens31 0 config.memory; line = (tt, refl, tt); notices = tt };
 }

@@ -6,9 +6,10 @@ use Rattle.std.proofs.lemmas.List.Elements.{filter-append}
 use Rattle.fis_view.specs.Frames.{Stamped}
 use Rattle.disk_model.specs.declared.unit.Unit.{Unit as Device}
 use Rattle.multiplier.specs.State.{port_at, rising}
+use Rattle.hba_driver.specs.declared.mode.Mode.{Mode}
 use Rattle.pm_world.specs.Downward.{on_down_link}
 use Rattle.pm_world.specs.Links.{HasRoom, HaveRoom, KeepsLinks, LinksPass, held_down, on_presence}
-use Rattle.pm_world.specs.Places.{IsOrderly, Place, Places, new_world, opening}
+use Rattle.pm_world.specs.Places.{IsOrderly, Place, Places, new_world_in, opening}
 use Rattle.pm_world.specs.Rules.{Rule, Run}
 use Rattle.pm_world.specs.Traffic.{held, is_removed, on_link}
 use Rattle.pm_world.specs.declared.step.Config.{Config}
@@ -167,8 +168,8 @@ opening_room capacity (u ∷ units) zero = record {
 opening_room capacity (u ∷ units) (suc n) = opening_room capacity units n
 
 -- the links of a new world have room for what its configuration says
-new_have_room : (config : Config) (units : List Device) → HaveRoom config.capacity (new_world config units)
-new_have_room config units = record {
+new_have_room : (mode : Mode) (config : Config) (units : List Device) → HaveRoom config.capacity (new_world_in mode config units)
+new_have_room mode config units = record {
   devices = opening_room config.capacity units;
   upward = refl;
   upward_within = omega arith;
@@ -179,8 +180,8 @@ new_have_room config units = record {
 pub keeps_links : (old : Places) (steps : List Step) (answers : List Answer) (new : Places) → IsOrderly old → Run old steps answers new → KeepsLinks old answers new
 keeps_links old steps answers new orderly run = record {
   goes_on = λ capacity room. run_passes capacity old steps answers new orderly run room;
-  reached = λ config units right before told made.
+  reached = λ mode config units right before told made.
       let so_far =
-      run_passes config.capacity (new_world config units) before told old (opening_orderly config units right) made (new_have_room config units) in
+      run_passes config.capacity (new_world_in mode config units) before told old (opening_orderly mode config units right) made (new_have_room mode config units) in
       (run_passes config.capacity old steps answers new orderly run so_far.1).0;
 }

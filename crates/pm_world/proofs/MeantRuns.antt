@@ -6,6 +6,7 @@ use Rattle.std.proofs.lemmas.Bool.{and_parts, cases_Bool, eqb-true, false≢true
 use Rattle.fis_view.specs.Frames.{Stamped}
 use Rattle.disk_model.specs.declared.unit.Unit.{Unit}
 use Rattle.hba_fbs.specs.declared.report.TakeReport.{TakeReport}
+use Rattle.hba_driver.specs.declared.mode.Mode.TheVariants.{Switching}
 use Rattle.hba_driver.specs.declared.request.Request.{Request}
 use Rattle.hba_driver.specs.declared.request.Ticket.{Ticket}
 use Rattle.hba_driver.specs.declared.slot.Phase.{Phase}
@@ -231,7 +232,7 @@ module _ (config : Config) (units : List Unit) (right : is_config config (length
     same = λ e c is. absurd (false≢true e);
     live = λ slot e live. absurd (accept.none_here slot e live.stands);
     link = tt;
-    falls = subst (Each (λ (f : Stamped). is_request f.bytes ≡ true → Fell NoFrame f)) (sym (nothing_falls config units n)) tt;
+    falls = subst (Each (λ (f : Stamped). is_request f.bytes ≡ true → Fell NoFrame f)) (sym (nothing_falls Switching config units n)) tt;
   }
 
   reached : Known n (OrSubmitted n None NoRequest (new_world config units) steps answers now run) (OrSent n None NoRequest NoFrame (new_world config units) steps answers now run) now

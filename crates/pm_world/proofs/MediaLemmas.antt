@@ -10,6 +10,7 @@ use Rattle.disk_model.specs.Ledger.{ledger, medium_with}
 use Rattle.disk_model.specs.Runs.{DiskStandsFor, IsDiskRun, moment}
 use Rattle.disk_model.specs.Units.{StandsFor, plan_of}
 use Rattle.disk_model.proofs.LawLemmas.{agrees}
+use Rattle.hba_driver.specs.declared.mode.Mode.TheVariants.{Switching}
 use Rattle.pm_world.specs.Disks.{IsNewDisk}
 use Rattle.pm_world.specs.Media.{HasMedium, MediaAreOfWrites, ShowsWrites}
 use Rattle.pm_world.specs.Places.{Place, Places, new_world}
@@ -45,8 +46,8 @@ media_are_of_writes config units n sectors plan fits disk first told was made st
     let later = over (happens n) was steps answers now run in
     record {
       first = of_place units n sectors plan disk before (slice_get was.devices n)
-          (units_lived_on (new_world config units) first told was made config units fits [] [] refl n (Disk disk.disk) disk.there);
+          (units_lived_on (new_world config units) first told was made Switching config units fits [] [] refl n (Disk disk.disk) disk.there);
       last = of_place units n sectors plan disk (before ++ later) (slice_get now.devices n)
-          (units_lived_on was steps answers now run config units fits first told made n (Disk disk.disk) disk.there);
+          (units_lived_on was steps answers now run Switching config units fits first told made n (Disk disk.disk) disk.there);
       more = part_front before (before ++ later) (record { later = later; is = refl });
     }

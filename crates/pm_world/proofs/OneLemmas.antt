@@ -9,6 +9,7 @@ use Rattle.std.proofs.lemmas.Bool.{cases_Bool, eq-eqb, eqb-true, false_from_ne_t
 use Rattle.fis_view.specs.Frames.{Stamped}
 use Rattle.hba_fbs.specs.declared.report.TakeReport.{TakeReport}
 use Rattle.disk_model.specs.declared.unit.Unit.{Unit}
+use Rattle.hba_driver.specs.declared.mode.Mode.TheVariants.{Switching}
 use Rattle.hba_driver.specs.declared.slot.Phase.TheVariants.{Waits}
 use Rattle.hba_driver.specs.Drivers.{Driver, Entry, entry_at, has_ended_in, rephased}
 use Rattle.hba_driver.specs.HostTurns.{Host, Ticks, sight_in}
@@ -321,4 +322,4 @@ taken_of_one config units fits n below first told mid made steps answers now run
     }
 
     orderly_now : IsOrderly now
-    orderly_now = run_orderly mid steps answers now (run_orderly (new_world config units) first told mid (opening_orderly config units fits) made) run
+    orderly_now = run_orderly mid steps answers now (run_orderly (new_world config units) first told mid (opening_orderly Switching config units fits) made) run

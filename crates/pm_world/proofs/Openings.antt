@@ -5,9 +5,10 @@ use Rattle.fis_view.specs.Frames.{Stamped}
 use Rattle.disk_model.specs.declared.unit.Unit.{Unit}
 use Rattle.pm_ports.specs.Port.{PortState, empty_port}
 use Rattle.multiplier.specs.State.{port_at}
+use Rattle.hba_driver.specs.declared.mode.Mode.{Mode}
 use Rattle.pm_world.specs.declared.step.Config.{Config}
 use Rattle.pm_world.specs.Downward.{falling_to, on_down_link}
-use Rattle.pm_world.specs.Places.{opening, new_world}
+use Rattle.pm_world.specs.Places.{opening, new_world, new_world_in}
 use Rattle.pm_world.specs.Traffic.{all_marked, of_conn, on_link, waiting, transit}
 
 on_opening : (capacity : ℕ) (units : List Unit) (n : ℕ) → on_link (slice_get (map (opening capacity) units) n) ≡ []
@@ -34,10 +35,10 @@ waits_opening config units n =
     ap (λ (p : PortState). option_to_list p.up ++ on_link (slice_get (new_world config units).devices n)) (port_opening config units n)
     ∙ on_opening config.capacity units n
 
-pub nothing_stands : (config : Config) (units : List Unit) (n c : ℕ) → transit n c (new_world config units) ≡ []
-nothing_stands config units n c = ap (λ (frames : List Stamped). all_marked n (of_conn c frames)) (waits_opening config units n)
+pub nothing_stands : (mode : Mode) (config : Config) (units : List Unit) (n c : ℕ) → transit n c (new_world_in mode config units) ≡ []
+nothing_stands mode config units n c = ap (λ (frames : List Stamped). all_marked n (of_conn c frames)) (waits_opening config units n)
 
-pub nothing_falls : (config : Config) (units : List Unit) (n : ℕ) → falling_to n (new_world config units) ≡ []
-nothing_falls config units n =
-    ap (λ (p : PortState). on_down_link (slice_get (new_world config units).devices n) ++ option_to_list p.down) (port_opening config units n)
+pub nothing_falls : (mode : Mode) (config : Config) (units : List Unit) (n : ℕ) → falling_to n (new_world_in mode config units) ≡ []
+nothing_falls mode config units n =
+    ap (λ (p : PortState). on_down_link (slice_get (new_world_in mode config units).devices n) ++ option_to_list p.down) (port_opening config units n)
     ∙ ap (λ (xs : List Stamped). xs ++ []) (on_opening_down config.capacity units n)

@@ -9,6 +9,7 @@ use Rattle.std.proofs.lemmas.Nat.Bits.{and_pow}
 use Rattle.fis_view.specs.Frames.{Stamped}
 use Rattle.hba_fbs.specs.Taking.{port_of}
 use Rattle.hba_fbs.specs.declared.report.TakeReport.{TakeReport}
+use Rattle.hba_driver.specs.declared.mode.Mode.TheVariants.{Switching}
 use Rattle.hba_driver.specs.declared.order.Order.TheVariants.{ResetOff, Scan, Clear}
 use Rattle.hba_driver.specs.Drivers.{Driver}
 use Rattle.hba_driver.specs.HostTurns.{Does, Host, HostTurn, Polled, Pushed, Put, Submitted, Ticked, Took}
@@ -598,7 +599,7 @@ opening_knows config units right n = record {
   going = going_opens 0 config.memory (sized config (length units) right);
   their = λ d s c low busy last. none_issued d s c last;
   risen = opening_risen config units;
-  orderly = opening_orderly config units right;
+  orderly = opening_orderly Switching config units right;
   true_is = opening_true config units n;
   fit = opening_fit config.ports most;
   writes = tt;

@@ -22,8 +22,9 @@ use Rattle.multiplier.specs.declared.multiplier.Passed.{Passed}
 use Rattle.multiplier.specs.declared.multiplier.Passed.TheVariants as passed
 use Rattle.multiplier.proofs.Gone.{still_up_to}
 use Rattle.multiplier.proofs.Ports as ports
+use Rattle.hba_driver.specs.declared.mode.Mode.{Mode}
 use Rattle.pm_world.specs.Wire.{ReachedAreOrderly}
-use Rattle.pm_world.specs.Places.{KnowsItsConnections, Places, Place, Queue, IsOrderly, is_config, new_world, opening, with_device, with_multiplier, with_upward, with_downward, with_host}
+use Rattle.pm_world.specs.Places.{KnowsItsConnections, Places, Place, Queue, IsOrderly, is_config, new_world_in, opening, with_device, with_multiplier, with_upward, with_downward, with_host}
 use Rattle.pm_world.specs.Rules.{OnDevice, OnDeviceAndMultiplier, PmPresenceRule, PmFromDeviceRule, PmDownRule, PmFromHostRule, PmUpRule, CameRule, DiskSendRule, GoneRule, InjectRule, DiskTakeRule, Rule, Run, Outcome, recorded}
 use Rattle.pm_world.specs.Traffic.{is_removed}
 use Rattle.pm_world.specs.declared.link.Change.{Change}
@@ -356,8 +357,8 @@ at_most config units fits = cases (nat_le 1 config.ports) (nat_le config.ports 1
         omega arith
     cases _ _ _ _ _ _ _ _ most same fits = absurd (cc)
 
-pub opening_orderly : (config : Config) (units : List Unit) → is_config config (length units) ≡ true → IsOrderly (new_world config units)
-opening_orderly config units fits = record {
+pub opening_orderly : (mode : Mode) (config : Config) (units : List Unit) → is_config config (length units) ≡ true → IsOrderly (new_world_in mode config units)
+opening_orderly mode config units fits = record {
   most = let size : length (map (opening config.capacity) units) ≡ length units = length-map units (opening config.capacity) in
       let le : length units ≤ 15 = at_most config (length units) fits in omega arith;
   room = length-replicate 15 empty_port;
@@ -366,4 +367,4 @@ opening_orderly config units fits = record {
 }
 
 pub reached_orderly : ReachedAreOrderly
-reached_orderly now r = run_orderly (new_world r.config r.units) r.steps r.answers now (opening_orderly r.config r.units r.fits) r.run
+reached_orderly now r = run_orderly (new_world_in r.mode r.config r.units) r.steps r.answers now (opening_orderly r.mode r.config r.units r.fits) r.run

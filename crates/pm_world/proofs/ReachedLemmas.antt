@@ -2,7 +2,7 @@
 use Rattle.std.proofs.Common.{List, [], ◌∷◌, ◌++◌, take, refl, sym, subst}
 use Rattle.std.specs.Prelude.{ℕ, IfErr, OnOk, Result, Ok, Err}
 use Rattle.pm_world.specs.Laws.{AreLawful}
-use Rattle.pm_world.specs.Places.{Places, new_world}
+use Rattle.pm_world.specs.Places.{Places, new_world_in}
 use Rattle.pm_world.specs.Rules.{Outcome, Rule, Run, Stops}
 use Rattle.pm_world.specs.Runs.{IsReached}
 use Rattle.pm_world.specs.declared.step.Answer.{Answer}
@@ -18,7 +18,7 @@ reached_run old steps answers new r run = record {
   fits = r.fits;
   steps = r.steps ++ steps;
   answers = r.answers ++ answers;
-  run = run_append (new_world r.config r.units) old new r.steps r.answers steps answers r.run run;
+  run = run_append (new_world_in r.mode r.config r.units) old new r.steps r.answers steps answers r.run run;
 }
 
 pub reached_step : (old : Places) (s : Step) (outcome : Outcome) (new : Places) → IsReached old → Rule old s outcome new → IsReached new

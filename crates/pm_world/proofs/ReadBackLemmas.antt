@@ -21,6 +21,7 @@ use Rattle.disk_model.proofs.LawLemmas.{agrees}
 use Rattle.pm_world.proofs.DisksLemmas.{part_front}
 use Rattle.hba_laws.specs.Client.{own}
 use Rattle.hba_laws.specs.History.{filled}
+use Rattle.hba_driver.specs.declared.mode.Mode.TheVariants.{Switching}
 use Rattle.hba_driver.specs.declared.request.Work.TheVariants.{Read, Write}
 use Rattle.hba_driver.specs.Drivers.{Entry}
 use Rattle.pm_world.specs.Disks.{DiskRun, EndedSince, IsNewDisk, disk_history}
@@ -161,7 +162,7 @@ disks_have_writes config units n sectors plan fits disk was d s write m writes w
 
     lived : IsSomeAnd (slice_get was.devices n) (λ place. LivesOn (Disk disk.disk) (disk_history config units n was d) place.unit)
     lived =
-        units_lived_on d.out (step.Came n ∷ d.steps) (answer.Came n d.conn ∷ d.answers) was d.run config units fits d.first d.told d.made n (Disk disk.disk)
+        units_lived_on d.out (step.Came n ∷ d.steps) (answer.Came n d.conn ∷ d.answers) was d.run Switching config units fits d.first d.told d.made n (Disk disk.disk)
         disk.there
 
     on_disk : (x : DiskValue) → DiskStandsFor x (disk_history config units n was d ++ over (happens n) was steps answers now run) → x.plan ≡ plan

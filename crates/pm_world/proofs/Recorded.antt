@@ -7,6 +7,7 @@ use Rattle.std.proofs.lemmas.List.{append-nil}
 use Rattle.std.proofs.lemmas.List.Elements.{filter-append}
 use Rattle.std.proofs.lemmas.Option.{same_Some, slice_get_within}
 use Rattle.disk_model.specs.declared.unit.Unit.{Unit}
+use Rattle.hba_driver.specs.declared.mode.Mode.{Mode}
 use Rattle.hba_driver.specs.declared.request.Request.{Request}
 use Rattle.pm_ports.specs.Port.{is_present, with_connection, with_removal, came_refusal as port_came_refusal, gone_refusal as port_gone_refusal}
 use Rattle.pm_ports.specs.declared.port.GoneError.TheVariants.{NotThere}
@@ -18,7 +19,7 @@ use Rattle.multiplier.specs.Rules.{with_device as connected, without_device}
 use Rattle.multiplier.proofs.Ports as ports
 use Rattle.pm_world.specs.Downward.{times}
 use Rattle.pm_world.specs.Links.{changed_by, is_recorded, on_presence}
-use Rattle.pm_world.specs.Places.{Places, Place, IsOrderly, is_config, new_world, opening, with_device, with_downward, with_host, with_multiplier, with_upward}
+use Rattle.pm_world.specs.Places.{Places, Place, IsOrderly, is_config, new_world_in, opening, with_device, with_downward, with_host, with_multiplier, with_upward}
 use Rattle.pm_world.specs.Removals.{IsSeen, TellsRemovals, highest_gone, is_up, recorded_at}
 use Rattle.pm_world.specs.Traffic.{is_removed, is_took, taken}
 use Rattle.pm_world.specs.Rules.{CameActs, CameRule, DiskSendActs, DiskSendRule, DiskTakeRule, GoneActs, GoneRule, InjectActs, InjectRule, OnDevice, Outcome, PmDownRule, PmFromDeviceRule, PmFromHostRule, PmPresenceRule, PmUpRule, HostTakeRule, HostPushRule, TickRule, SubmitRule, PollRule, PutRule, Rule, Run, came_refusal, gone_refusal, largest, recorded}
@@ -610,12 +611,12 @@ take_front [] ys = refl
 take_front (x ∷ xs) ys = ap (λ l. x ∷ l) (take_front xs ys)
 
 -- the highest removal that was recorded is what a port knows as gone
-pub gone_recorded : (config : Config) (units : List Unit) → is_config config (length units) ≡ true → (steps : List Step) (answers : List Answer) (now : Places)
-    → Run (new_world config units) steps answers now → (n : ℕ) → (port_at now.multiplier n).gone ≡ highest_gone (recorded_at n answers)
-gone_recorded config units fits steps answers now run n =
-    let opens : known (port_at (new_world config units).multiplier n) ≡ nothing_known = ap known (port_opening config units n) in
-    let led = subst (IsLed (slice_get (new_world config units).devices n)) (sym opens) (opening_led config.capacity units n) in
-    let r = run_records (new_world config units) steps answers now (opening_orderly config units fits) run n led in
+pub gone_recorded : (mode : Mode) (config : Config) (units : List Unit) → is_config config (length units) ≡ true → (steps : List Step) (answers : List Answer) (now : Places)
+    → Run (new_world_in mode config units) steps answers now → (n : ℕ) → (port_at now.multiplier n).gone ≡ highest_gone (recorded_at n answers)
+gone_recorded mode config units fits steps answers now run n =
+    let opens : known (port_at (new_world_in mode config units).multiplier n) ≡ nothing_known = ap known (port_opening config units n) in
+    let led = subst (IsLed (slice_get (new_world_in mode config units).devices n)) (sym opens) (opening_led config.capacity units n) in
+    let r = run_records (new_world_in mode config units) steps answers now (opening_orderly mode config units fits) run n led in
     let told : r.read ++ on_presence (slice_get now.devices n) ≡ flat_map (changed_by n) answers = r.link ∙ ap (λ cs. cs ++ flat_map (changed_by n) answers) (nothing_posted config.capacity units n) in
     let read : recorded_at n answers ≡ r.read =
     ap (λ k. take k (flat_map (changed_by n) answers)) (sym r.count) ∙ ap (take (length r.read)) (sym told) ∙ take_front r.read (on_presence (slice_get now.devices n)) in
@@ -654,14 +655,14 @@ run_counts old [] (a ∷ answers) new orderly run = absurd run
 run_counts old (s ∷ steps) [] new orderly run = absurd run
 
 -- so what is taken after that is not of a connection whose removal was seen
-seen_over : (config : Config) (units : List Unit) → is_config config (length units) ≡ true → (steps : List Step) (answers : List Answer) (now : Places)
-    → Run (new_world config units) steps answers now → (n c : ℕ) → n ≢ control_port → (first second later : List Answer) → first ++ (second ++ later) ≡ answers → IsSeen n c first second
+seen_over : (mode : Mode) (config : Config) (units : List Unit) → is_config config (length units) ≡ true → (steps : List Step) (answers : List Answer) (now : Places)
+    → Run (new_world_in mode config units) steps answers now → (n c : ℕ) → n ≢ control_port → (first second later : List Answer) → first ++ (second ++ later) ≡ answers → IsSeen n c first second
     → taken n c later ≡ []
-seen_over config units fits steps answers now run n c device first second later e is =
-    let opens = new_world config units in
-    let orderly = opening_orderly config units fits in
+seen_over mode config units fits steps answers now run n c device first second later e is =
+    let opens = new_world_in mode config units in
+    let orderly = opening_orderly mode config units fits in
     let parts = in_parts first (second ++ later) opens steps now (subst (λ (all_told : List Answer). Run opens steps all_told now) (sym e) run) in
-    let gone : (port_at parts.mid.multiplier n).gone ≡ highest_gone (recorded_at n first) = gone_recorded config units fits parts.before first parts.mid parts.begins n in
+    let gone : (port_at parts.mid.multiplier n).gone ≡ highest_gone (recorded_at n first) = gone_recorded mode config units fits parts.before first parts.mid parts.begins n in
     let most : c ≤ highest_gone (recorded_at n first) = is.recorded in
     let removed : is_removed n c parts.mid ≡ true = up_to (port_at parts.mid.multiplier n).gone c is.some (omega (arith, gone, most)) in
     let counts : times is_took first + length parts.mid.upward.frames ≡ 0 + times is_up first = run_counts opens parts.before first parts.mid orderly parts.begins in
@@ -673,8 +674,8 @@ seen_over config units fits steps answers now run n c device first second later 
 
 pub tells_removals : (old : Places) (steps : List Step) (answers : List Answer) (new : Places) → Run old steps answers new → TellsRemovals old answers new
 tells_removals old steps answers new run = record {
-  recorded = λ config units fits before told made.
-      gone_recorded config units fits (before ++ steps) (told ++ answers) new (run_append (new_world config units) old new before told steps answers made run);
-  seen = λ config units fits before told made.
-      seen_over config units fits (before ++ steps) (told ++ answers) new (run_append (new_world config units) old new before told steps answers made run);
+  recorded = λ mode config units fits before told made.
+      gone_recorded mode config units fits (before ++ steps) (told ++ answers) new (run_append (new_world_in mode config units) old new before told steps answers made run);
+  seen = λ mode config units fits before told made.
+      seen_over mode config units fits (before ++ steps) (told ++ answers) new (run_append (new_world_in mode config units) old new before told steps answers made run);
 }

@@ -36,7 +36,7 @@ use Rattle.hba_fbs.specs.declared.report.TakeReport.{TakeReport}
 use Rattle.host_memory.specs.Memory.{Memory}
 use Rattle.hba_driver.specs.HostTurns.{Host, Tooks}
 use Rattle.hba_driver.specs.declared.request.Request.{Request as Asked}
-use Rattle.pm_world.specs.Places.{Places, Place, Queue, new_world}
+use Rattle.pm_world.specs.Places.{Places, Place, Queue, new_world, new_world_in}
 use Rattle.pm_world.specs.Rules.{Outcome, Rule, Run, OnDevice, OnDeviceAndMultiplier, CameActs, GoneActs, DiskSendActs, InjectActs, DiskTakeActs, CameRule, GoneRule, DiskSendRule, InjectRule, DiskTakeRule, PmPresenceRule, PmFromDeviceRule, PmDownRule, PmFromHostRule, PmUpRule, HostTakeRule, HostPushRule, TickRule, SubmitRule, PollRule, PutRule, recorded}
 use Rattle.pm_world.specs.Turns.{AreOfTheirPorts, IsOfItsPort}
 use Rattle.pm_world.specs.declared.link.Change.{Change}
@@ -411,5 +411,5 @@ pub opening_risen : (config : Config) (units : List Device) → AllRisen (new_wo
 opening_risen config units = record { rising = none_rising (new_world config units).multiplier (omega arith) refl; frames = All-nil HasRisen }
 
 pub own_port : (old : Places) (steps : List Step) (answers : List Answer) (new : Places) → Run old steps answers new → AreOfTheirPorts old answers
-own_port old steps answers new run config units right before told made =
-    (run_rises old steps answers new (run_rises (new_world config units) before told old (opening_risen config units) made).1 run).0
+own_port old steps answers new run mode config units right before told made =
+    (run_rises old steps answers new (run_rises (new_world_in mode config units) before told old (opening_risen config units) made).1 run).0

@@ -298,13 +298,13 @@ unit_wires_go_on n c old new s a down up device orderly rule there stays clean w
 -- ## The plugging
 
 pub plugged_is_on_wire : PluggedIsOnWire
-plugged_is_on_wire n c old new device orderly rule empty below config units fits before told made =
+plugged_is_on_wire n c old new device orderly rule empty below mode config units fits before told made =
     let d : AtDevice old n (Ok (answer.Came n c)) new (CameRule n) = at_device old n (answer.Came n c) new (CameRule n) rule in
     let acts : CameActs n d.place (answer.Came n c) d.after = d.rule.1 in
     let after_is = acts.3 in
     let here : slice_get new.devices n ≡ Some d.after =
     ap (λ (w : Places). slice_get w.devices n) d.new_is ∙ slice_get-set_same old.devices n d.place d.after d.is in
-    let kept : IsUnremoved n c new = came_unremoved n c old new orderly rule config units fits before told made in
+    let kept : IsUnremoved n c new = came_unremoved n c old new orderly rule mode config units fits before told made in
     let still : (k : ℕ) → IsAway n k new =
     λ k. (away_after n k old new (step.Came n) (answer.Came n c) device orderly rule (empty k) refl).1 in
     let low : descending n new ≡ [] = rests_below n old new (rule_moves_down old (step.Came n) (answer.Came n c) new orderly rule) ∙ below in (

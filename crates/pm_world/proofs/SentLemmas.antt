@@ -7,6 +7,7 @@ use Rattle.std.specs.List.{flat_map}
 use Rattle.std.proofs.lemmas.Bool.{and_parts, eqb-true}
 use Rattle.disk_model.specs.declared.unit.Unit.{Unit}
 use Rattle.multiplier.specs.Arbiter.{control_port}
+use Rattle.hba_driver.specs.declared.mode.Mode.TheVariants.{Switching}
 use Rattle.pm_world.specs.Links.{on_presence}
 use Rattle.pm_world.specs.Places.{Place, Places, is_config, new_world}
 use Rattle.pm_world.specs.Rules.{CameRule, DiskSendActs, DiskSendRule, DiskTakeRule, GoneRule, InjectActs, InjectRule, PmDownRule, PmFromDeviceRule}
@@ -123,5 +124,5 @@ none_on_way n d below config units fits steps answers now run unused there =
     let unsent = (run_unsent n d below (new_world config units) steps answers now f run unused).0 in
     let lost : NothingLost (new_world config units) answers now = nothing_lost (new_world config units) steps answers now f.orderly run in
     (none_both (flat_map (taken_by n d) answers) (transit n d now)
-    (lost.conserved n d device there ∙ ap (λ (xs : List (List ℕ)). xs ++ all_marked n (flat_map (sent_by n d) answers)) (nothing_stands config units n d)
+    (lost.conserved n d device there ∙ ap (λ (xs : List (List ℕ)). xs ++ all_marked n (flat_map (sent_by n d) answers)) (nothing_stands Switching config units n d)
     ∙ ap (all_marked n) unsent)).1

@@ -13,6 +13,7 @@ use Rattle.slots.specs.Slots.{match_some}
 use Rattle.slots.specs.declared.work.Kind.{Kind}
 use Rattle.slots.specs.declared.work.Kind.TheVariants.{Control}
 use Rattle.hba_commands.specs.Requests.{kind_of, kind_of_command, request_in}
+use Rattle.hba_driver.specs.declared.mode.Mode.TheVariants.{Switching}
 use Rattle.hba_driver.specs.Known.{is_asked, is_request}
 use Rattle.disk_model.specs.declared.unit.Unit.{Unit}
 use Rattle.multiplier.specs.State.{falling, pm_port, port_at}
@@ -605,7 +606,7 @@ none_stale n below known unsent last old (s ∷ steps) (a ∷ answers) new run h
 module _ (config : Config) (units : List Unit) (right : is_config config (length units) ≡ true) (n : ℕ) where
   pub opening_holds : Holds n false false None (new_world config units)
   opening_holds = record {
-    orderly = opening_orderly config units right;
+    orderly = opening_orderly Switching config units right;
     true_is = opening_true config units n;
     led = subst (IsLed (slice_get (new_world config units).devices n)) (sym (ap (λ p. world_orderly.known p) (port_opening config units n))) (opening_led config.capacity units n);
     came = λ e. absurd (cc);
@@ -614,7 +615,7 @@ module _ (config : Config) (units : List Unit) (right : is_config config (length
     line = tt;
     unsent_none = λ e. absurd (cc);
     asked = λ k u c. tt;
-    falls = subst (Each (Falls n None (new_world config units))) (sym (nothing_falls config units n)) tt;
+    falls = subst (Each (Falls n None (new_world config units))) (sym (nothing_falls Switching config units n)) tt;
     unknown = λ coming. refl;
     away = λ coming. tt;
   }

@@ -20,6 +20,7 @@ use Rattle.hba_laws.specs.Hosts as event
 use Rattle.hba_laws.specs.Sent.{AreGathered, HoldsWrites, IsWriting}
 use Rattle.hba_laws.proofs.GatherLemmas.{data_is_gathered}
 use Rattle.hba_laws.proofs.SentLemmas.{sent_stands_in_place}
+use Rattle.hba_driver.specs.declared.mode.Mode.TheVariants.{Switching}
 use Rattle.hba_driver.specs.declared.request.Request.{Request}
 use Rattle.hba_driver.specs.declared.request.Ticket.{Ticket}
 use Rattle.hba_driver.specs.declared.request.Work.{Work}
@@ -317,7 +318,7 @@ module _ (config : Config) (units : List Unit) (fits : is_config config (length 
 
     good : HaveGoodPrds (end_of at.memory) at.driver
     good = good_since turns (opening_host 0 config.memory) at (touched_does config.memory turns at touches touched)
-        (hosts_stay_sound.opens 0 config.memory right) refl
+        (hosts_stay_sound.opens Switching 0 config.memory right) refl
 
     inside : LiesInClient (length at.memory.client) (place r.request.prds.items i) 1
     inside = subst (λ (l : List Prd). LiesInClient (length at.memory.client) (place l i) 1) table

@@ -6,13 +6,14 @@ use Rattle.std.specs.List.{flat_map, range_with_len}
 use Rattle.std.proofs.lemmas.Grind.{flat_map-append}
 use Rattle.fis_view.specs.Frames.{Stamped}
 use Rattle.host_memory.specs.Memory.{is_memory_size}
+use Rattle.hba_driver.specs.declared.mode.Mode.{Mode}
 use Rattle.hba_driver.specs.declared.request.Ticket.{Ticket}
 use Rattle.hba_driver.specs.HostTurns.{DoesAll, Host, HostTurn, Took, Pushed, Ticked, Submitted, Polled, Put, given_in, polled_in}
 use Rattle.hba_driver.specs.HostTurns.{polled_by as turn_polls}
 use Rattle.hba_driver.specs.Laws.{AreOnce, TurnsKeep}
 use Rattle.hba_driver.proofs.HistoryLemmas.{each_run_keeps}
 use Rattle.hba_driver.proofs.SoundLemmas.{hosts_stay_sound}
-use Rattle.pm_world.specs.Places.{Places, new_world, opening_host}
+use Rattle.pm_world.specs.Places.{Places, new_world_in, opening_host_in}
 use Rattle.pm_world.specs.Rules.{CameRule, GoneRule, DiskSendRule, InjectRule, DiskTakeRule, PmPresenceRule, PmFromDeviceRule, PmDownRule, Rule, Run}
 use Rattle.pm_world.specs.Runs.{over}
 use Rattle.pm_world.specs.Tickets.{KeepsTickets, given_by, polled_by}
@@ -151,19 +152,19 @@ module _ (first old : Places) (before : List Step) (told : List Answer) (made : 
       ∙ ap (λ (l : List ℕ). l ++ polled_in (over turn_of old steps answers new run)) (run_polls first before told old made)
       ∙ ap (λ (l : List ℕ). flat_map polled_by told ++ l) (run_polls old steps answers new run) ∙ sym (flat_map-append polled_by told answers)
 
-keeps : (memory : ℕ) → is_memory_size memory ≡ true → (turns : List HostTurn) (host : Host) (does : DoesAll (opening_host memory) turns host) → TurnsKeep (opening_host memory) turns host does
-keeps memory right turns host does = each_run_keeps (opening_host memory) turns host does (hosts_stay_sound.opens 0 memory right).requests
+keeps : (mode : Mode) (memory : ℕ) → is_memory_size memory ≡ true → (turns : List HostTurn) (host : Host) (does : DoesAll (opening_host_in mode memory) turns host) → TurnsKeep (opening_host_in mode memory) turns host does
+keeps mode memory right turns host does = each_run_keeps (opening_host_in mode memory) turns host does (hosts_stay_sound.opens mode 0 memory right).requests
 
 pub keeps_tickets : (old : Places) (steps : List Step) (answers : List Answer) (new : Places) (run : Run old steps answers new) → KeepsTickets old steps answers new run
 keeps_tickets old steps answers new run = record {
-  given = λ config units fits before told made.
-      let first = new_world config units in
-      let kept = keeps config.memory (sized config (length units) fits) (all_turns first old before told made steps answers new run) new.host ((host_is_fold old steps answers new run).reached config units fits before told made) in
+  given = λ mode config units fits before told made.
+      let first = new_world_in mode config units in
+      let kept = keeps mode config.memory (sized config (length units) fits) (all_turns first old before told made steps answers new run) new.host ((host_is_fold old steps answers new run).reached mode config units fits before told made) in
       subst (λ (l : List ℕ). l ≡ range_with_len 1 (length l)) (all_given first old before told made steps answers new run) kept.given;
-  polled = λ config units fits before told made.
-      let first = new_world config units in
-      let kept = keeps config.memory (sized config (length units) fits) (all_turns first old before told made steps answers new run) new.host ((host_is_fold old steps answers new run).reached config units fits before told made) in
+  polled = λ mode config units fits before told made.
+      let first = new_world_in mode config units in
+      let kept = keeps mode config.memory (sized config (length units) fits) (all_turns first old before told made steps answers new run) new.host ((host_is_fold old steps answers new run).reached mode config units fits before told made) in
       subst AreOnce (all_polled first old before told made steps answers new run) kept.polled;
-  turns = λ config units fits before told made does.
-      keeps config.memory (sized config (length units) fits) (all_turns (new_world config units) old before told made steps answers new run) new.host does;
+  turns = λ mode config units fits before told made does.
+      keeps mode config.memory (sized config (length units) fits) (all_turns (new_world_in mode config units) old before told made steps answers new run) new.host does;
 }

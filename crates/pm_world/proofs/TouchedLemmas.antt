@@ -19,6 +19,7 @@ use Rattle.hba_laws.proofs.ClientLemmas.{client_is_touched, data_is_within}
 use Rattle.hba_laws.proofs.DoneLemmas.{done_is_completed}
 use Rattle.hba_laws.proofs.ReadLemmas.{done_reads_stand}
 use Rattle.hba_laws.proofs.SpareLemmas.{spared_tables_read}
+use Rattle.hba_driver.specs.declared.mode.Mode.TheVariants.{Switching}
 use Rattle.hba_driver.specs.Delivered.{IsAtItsPlace, TookDelivers, zero_at}
 use Rattle.hba_driver.specs.Events.{IsSoundHost, events_over, opening_host, shared_by}
 use Rattle.hba_driver.specs.HostTurns.{Does, DoesAll, Host, HostTurn, Took}
@@ -39,13 +40,13 @@ touched_does len turns h touches (goes before turn old new past run serves came)
 
 pub touched_sound : (len : ℕ) (turns : List HostTurn) (h : Host) (touches : Touches) → is_memory_size len ≡ true → AreTouched len turns h touches
     → IsSoundHost h
-touched_sound len turns h touches right opens = hosts_stay_sound.opens 0 len right
+touched_sound len turns h touches right opens = hosts_stay_sound.opens Switching 0 len right
 touched_sound len turns h touches right (goes before turn old new past run serves came) =
     hosts_stay_sound.last old (turn ∷ []) new run (touched_sound len before old past right came)
 
 pub touched_served : (len : ℕ) (turns : List HostTurn) (h : Host) (touches : Touches) → is_memory_size len ≡ true → AreTouched len turns h touches
     → IsServed h.driver (shared_by h) touches
-touched_served len turns h touches right opens = turns_serve.opens 0 len right
+touched_served len turns h touches right opens = turns_serve.opens Switching 0 len right
 touched_served len turns h touches right (goes before turn old new past run serves came) = serves.last
 
 -- ## What its memory has
@@ -112,7 +113,7 @@ module _ (len : ℕ) (turns : List HostTurn) (h : Host) (past : Touches) (right 
   is_host = record { port = now_sound.ruled.rules; slots = now_sound.ruled.table; errors = now_sound.ruled.faults; memory = now_sound.memory }
 
   good : HaveGoodPrds (end_of h.memory) h.driver
-  good = good_since turns (opening_host 0 len) h (touched_does len turns h past came) (hosts_stay_sound.opens 0 len right) refl
+  good = good_since turns (opening_host 0 len) h (touched_does len turns h past came) (hosts_stay_sound.opens Switching 0 len right) refl
 
   one : DoesAll h (Took frame report ∷ []) after
   one = (after, does, refl)

@@ -10,7 +10,7 @@ use Rattle.disk_model.specs.declared.unit.Unit.{Unit as Device}
 use Rattle.multiplier.specs.State.{PmState}
 use Rattle.pm_world.specs.Downward.{on_down_link}
 use Rattle.pm_world.specs.Units.{happens, MaySendAll, LivesOn, UnitsLiveOn, UnitsLivedOn}
-use Rattle.pm_world.specs.Places.{Places, Place, opening, new_world}
+use Rattle.pm_world.specs.Places.{Places, Place, opening, new_world_in}
 use Rattle.pm_world.specs.Rules.{Outcome, CameActs, GoneActs, DiskSendActs, InjectActs, DiskTakeActs, CameRule, GoneRule, DiskSendRule, InjectRule, DiskTakeRule, PmPresenceRule, PmFromDeviceRule, PmDownRule, OnDevice, OnDeviceAndMultiplier, Rule, Run}
 use Rattle.pm_world.specs.Runs.{over}
 use Rattle.pm_world.specs.declared.step.Step.{Step}
@@ -212,9 +212,9 @@ opened capacity (u ∷ units) (suc n) unit is = opened capacity units n unit is
 
 -- the units of a new world over all steps since it was made
 pub units_lived_on : (old : Places) (steps : List Step) (answers : List Answer) (new : Places) (run : Run old steps answers new) → UnitsLivedOn old steps answers new run
-units_lived_on old steps answers new run config units right before told made n unit is =
-    let first : Lived (slice_get (map (opening config.capacity) units) n) (over (happens n) (new_world config units) before told old made) (slice_get old.devices n) = units_live_on (new_world config units) before told old made n in
-    let opens : Lived (Some (opening config.capacity unit)) (over (happens n) (new_world config units) before told old made) (slice_get old.devices n) =
-    subst (λ (was : Option Place). Lived was (over (happens n) (new_world config units) before told old made) (slice_get old.devices n)) (opened config.capacity units n unit is) first in
-    then_lived (Some (opening config.capacity unit)) (slice_get old.devices n) (slice_get new.devices n) (over (happens n) (new_world config units) before told old made) (over (happens n) old steps answers new run)
+units_lived_on old steps answers new run mode config units right before told made n unit is =
+    let first : Lived (slice_get (map (opening config.capacity) units) n) (over (happens n) (new_world_in mode config units) before told old made) (slice_get old.devices n) = units_live_on (new_world_in mode config units) before told old made n in
+    let opens : Lived (Some (opening config.capacity unit)) (over (happens n) (new_world_in mode config units) before told old made) (slice_get old.devices n) =
+    subst (λ (was : Option Place). Lived was (over (happens n) (new_world_in mode config units) before told old made) (slice_get old.devices n)) (opened config.capacity units n unit is) first in
+    then_lived (Some (opening config.capacity unit)) (slice_get old.devices n) (slice_get new.devices n) (over (happens n) (new_world_in mode config units) before told old made) (over (happens n) old steps answers new run)
     opens (units_live_on old steps answers new run n)

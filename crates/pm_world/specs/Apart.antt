@@ -7,6 +7,7 @@
 -- (specs/Runs.antt); HasCome and IssuesAreApart of `hba_driver` (specs/Delivered.antt), with what is
 -- issued (specs/Served.antt).
 use Rattle.std.specs.Prelude.{ℕ, List, [], ◌∷◌}
+use Rattle.hba_driver.specs.declared.mode.Mode.{Mode}
 use Rattle.hba_driver.specs.Delivered.{HasCome, IssuesAreApart, touches_of}
 use Rattle.hba_driver.specs.HostTurns.{Host, HostTurn}
 use Rattle.pm_world.specs.Places.{Places}
@@ -17,15 +18,15 @@ use Rattle.pm_world.specs.declared.step.Step.{Step}
 use Rattle.pm_world.specs.declared.step.Answer.{Answer}
 
 -- a host came here over these turns, and what is issued there is apart
-pub record IsApart (memory : ℕ) (turns : List HostTurn) (host : Host) : Type 0 where
-  pub come : HasCome 0 memory turns host
-  pub apart : (c : HasCome 0 memory turns host)
-      → IssuesAreApart host (touches_of 0 memory turns host c)
+pub record IsApart (mode : Mode) (memory : ℕ) (turns : List HostTurn) (host : Host) : Type 0 where
+  pub come : HasCome mode 0 memory turns host
+  pub apart : (c : HasCome mode 0 memory turns host)
+      → IssuesAreApart host (touches_of mode 0 memory turns host c)
 
 -- that holds in a world, whichever run from a new one leads to it
 abbrev pub IsKeptApart : Places → Type 0
-IsKeptApart now = AfterEveryRun now (λ config units before told made.
-    IsApart config.memory (over turn_of _ before told now made) now.host)
+IsKeptApart now = AfterEveryRun now (λ mode config units before told made.
+    IsApart mode config.memory (over turn_of _ before told now made) now.host)
 
 -- and in each world that these steps go through, up to the last
 abbrev pub AreKeptApart : (old : Places) → (steps : List Step) → (answers : List Answer)

@@ -13,7 +13,7 @@ use Rattle.pm_control.specs.declared.request.Request.TheVariants.{Write}
 use Rattle.multiplier.specs.State.{port_at}
 use Rattle.multiplier.specs.declared.multiplier.Passed.TheVariants as passed
 use Rattle.pm_world.specs.Downward.{fell_to}
-use Rattle.pm_world.specs.Places.{Places, new_world}
+use Rattle.pm_world.specs.Places.{Places, new_world_in}
 use Rattle.pm_world.specs.Rules.{Run}
 use Rattle.pm_world.specs.Runs.{AfterEveryRun}
 use Rattle.pm_world.specs.declared.step.Step.{Step}
@@ -60,6 +60,6 @@ EachWaits old (s ∷ steps) (a ∷ answers) new run =
 -- Nothing passes the port of a new device before the host cleared what the port reported. FISes go
 -- down in order, so the device gets none that the host put on its link before the FIS that clears.
 abbrev pub NewDevicesWait : Places → List Step → List Answer → Places → Type 0
-NewDevicesWait old steps answers new = AfterEveryRun old (λ config units before told made.
-    (whole : Run (new_world config units) (before ++ steps) (told ++ answers) new)
-    → EachWaits (new_world config units) (before ++ steps) (told ++ answers) new whole)
+NewDevicesWait old steps answers new = AfterEveryRun old (λ mode config units before told made.
+    (whole : Run (new_world_in mode config units) (before ++ steps) (told ++ answers) new)
+    → EachWaits (new_world_in mode config units) (before ++ steps) (told ++ answers) new whole)

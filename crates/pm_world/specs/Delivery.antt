@@ -7,6 +7,7 @@
 -- the words of `hba_laws` on what is issued, filled and completed (specs/History.antt), on client bytes
 -- (specs/Client.antt) and on reports (specs/Delivering.antt).
 use Rattle.std.specs.Prelude.{ℕ, List, [], ◌∷◌, ◌++◌}
+use Rattle.hba_driver.specs.declared.mode.Mode.{Mode}
 use Rattle.hba_driver.specs.Delivered.{HasCome, HostDelivers, TookDelivers, touches_of}
 use Rattle.hba_driver.specs.HostTurns.{Host, HostTurn}
 use Rattle.hba_laws.specs.Client.{Touches}
@@ -27,11 +28,11 @@ Tells host past (answer.Took port conn number bytes report) after =
 Tells host past a after = Prim.Unit {0}
 
 -- that is what it delivers at a host that came here over these turns
-pub record AnswerDelivers (memory : ℕ) (turns : List HostTurn) (host : Host) (a : Answer)
+pub record AnswerDelivers (mode : Mode) (memory : ℕ) (turns : List HostTurn) (host : Host) (a : Answer)
     (after : Host) : Type 0 where
-  pub come : HasCome 0 memory turns host
-  pub tells : (c : HasCome 0 memory turns host)
-      → Tells host (touches_of 0 memory turns host c) a after
+  pub come : HasCome mode 0 memory turns host
+  pub tells : (c : HasCome mode 0 memory turns host)
+      → Tells host (touches_of mode 0 memory turns host c) a after
 
 -- ---- a run
 
@@ -41,14 +42,14 @@ abbrev pub EachDelivers : (old : Places) → (steps : List Step) → (answers : 
 EachDelivers old [] answers new run = Prim.Unit {0}
 EachDelivers old (s ∷ steps) [] new run = Prim.Unit {0}
 EachDelivers old (s ∷ steps) (a ∷ answers) new run =
-    AfterEveryRun old (λ config units before told made.
-    AnswerDelivers config.memory (over turn_of _ before told old made) old.host a run.0.host)
+    AfterEveryRun old (λ mode config units before told made.
+    AnswerDelivers mode config.memory (over turn_of _ before told old made) old.host a run.0.host)
     × EachDelivers run.0 steps answers new run.2
 
 -- a host came here over these turns, and this one does all that a host delivers
-pub record HasDelivered (memory : ℕ) (turns : List HostTurn) (host : Host) : Type 0 where
-  pub come : HasCome 0 memory turns host
-  pub delivers : (c : HasCome 0 memory turns host) → HostDelivers 0 memory turns host c
+pub record HasDelivered (mode : Mode) (memory : ℕ) (turns : List HostTurn) (host : Host) : Type 0 where
+  pub come : HasCome mode 0 memory turns host
+  pub delivers : (c : HasCome mode 0 memory turns host) → HostDelivers mode 0 memory turns host c
 
 -- What these steps deliver.
 pub record Delivers (old : Places) (steps : List Step) (answers : List Answer) (new : Places)
@@ -56,6 +57,6 @@ pub record Delivers (old : Places) (steps : List Step) (answers : List Answer) (
   -- each FIS that the host took
   pub each : EachDelivers old steps answers new run
   -- and the host, at the end
-  pub whole : AfterEveryRun old (λ config units before told made.
-      HasDelivered config.memory
+  pub whole : AfterEveryRun old (λ mode config units before told made.
+      HasDelivered mode config.memory
       (over turn_of _ before told old made ++ over turn_of old steps answers new run) new.host)

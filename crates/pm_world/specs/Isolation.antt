@@ -40,6 +40,6 @@ pub record AreIsolated (old : Host) (turns : List HostTurn) (new : Host) (does :
 -- That holds over these steps, from each world that a run from a new one leads to.
 pub record Isolates (old : Places) (steps : List Step) (answers : List Answer) (new : Places)
     (run : Run old steps answers new) : Type 0 where
-  pub isolated : AfterEveryRun old (λ config units before told made.
+  pub isolated : AfterEveryRun old (λ mode config units before told made.
       (does : DoesAll old.host (over turn_of old steps answers new run) new.host)
       → AreIsolated old.host (over turn_of old steps answers new run) new.host does)

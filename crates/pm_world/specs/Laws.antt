@@ -29,7 +29,7 @@ use Rattle.pm_world.specs.Units.{UnitsLiveOn, UnitsLivedOn}
 -- steps: what the host took of a connection is a prefix of what was sent on it, each FIS marked with
 -- its port.
 abbrev pub TakenIsPrefix : Places → List Answer → Type 0
-TakenIsPrefix old answers = AfterEveryRun old (λ config units before told made.
+TakenIsPrefix old answers = AfterEveryRun old (λ mode config units before told made.
     (n c : ℕ) → n ≢ control_port → IsPrefixOf (taken n c (told ++ answers))
     (all_marked n (sent n c (told ++ answers))))
 

@@ -204,5 +204,5 @@ pub record KeepsLinks (old : Places) (answers : List Answer) (new : Places) : Ty
       → LinksPass capacity old answers new × HaveRoom capacity new
   -- that holds from each world that a run from a new one leads to, with the capacity of its
   -- configuration
-  pub reached : AfterEveryRun old (λ config units before told made.
+  pub reached : AfterEveryRun old (λ mode config units before told made.
       LinksPass config.capacity old answers new)

@@ -9,7 +9,9 @@ use Rattle.multiplier.specs.State.{PmState, opening as opening_multiplier, port_
 use Rattle.disk_model.specs.declared.unit.Unit.{Unit}
 use Rattle.host_memory.specs.Memory.{zeroed}
 use Rattle.hba_fbs.specs.Views.{opening_port}
-use Rattle.hba_driver.specs.Drivers.{new_driver}
+use Rattle.hba_driver.specs.declared.mode.Mode.{Mode}
+use Rattle.hba_driver.specs.declared.mode.Mode.TheVariants.{Switching}
+use Rattle.hba_driver.specs.Drivers.{new_driver_in}
 use Rattle.hba_driver.specs.HostTurns.{Host}
 use Rattle.pm_ports.specs.Port.{PortState}
 use Rattle.pm_world.specs.declared.link.Change.{Change}
@@ -144,21 +146,29 @@ opening capacity unit = record {
   presence = record { changes = []; capacity = capacity };
 }
 
--- the host of a new world: a port that was not started, a driver that did nothing, and memory of this
--- many bytes, all 0
+-- the host of a new world: a port that was not started, a driver in this mode that did nothing, and memory
+-- of this many bytes, all 0
+abbrev pub opening_host_in : Mode → ℕ → Host
+opening_host_in mode memory =
+    record { port = opening_port; driver = new_driver_in mode 0; memory = zeroed memory }
+
+-- the same with FIS-based switching
 abbrev pub opening_host : ℕ → Host
-opening_host memory =
-    record { port = opening_port; driver = new_driver 0; memory = zeroed memory }
+opening_host memory = opening_host_in Switching memory
 
 -- a new world of these units, in which port 0 is served first
-abbrev pub new_world : Config → List Unit → Places
-new_world config units = record {
+abbrev pub new_world_in : Mode → Config → List Unit → Places
+new_world_in mode config units = record {
   devices = map (opening config.capacity) units;
   multiplier = opening_multiplier config.ports;
   upward = empty_queue config.capacity;
   downward = empty_queue config.capacity;
-  host = opening_host config.memory;
+  host = opening_host_in mode config.memory;
 }
+
+-- the same with FIS-based switching
+abbrev pub new_world : Config → List Unit → Places
+new_world config units = new_world_in Switching config units
 
 -- Whether a world may have this size, with this many units: 1 to 15 ports and a unit for each, links
 -- of 1 to 64 frames, and an even number of bytes of memory from 2 MiB to 16 MiB.

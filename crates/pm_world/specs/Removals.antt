@@ -44,10 +44,10 @@ pub record IsSeen (n c : ℕ) (first second : List Answer) : Type 0 where
 -- world leads to these steps.
 pub record TellsRemovals (old : Places) (answers : List Answer) (new : Places) : Type 0 where
   -- each port knows the highest removal that was recorded, and no other
-  pub recorded : AfterEveryRun old (λ config units before told made.
+  pub recorded : AfterEveryRun old (λ mode config units before told made.
       (n : ℕ) → (port_at new.multiplier n).gone ≡ highest_gone (recorded_at n (told ++ answers)))
   -- nothing of a connection is taken after the host saw its removal
-  pub seen : AfterEveryRun old (λ config units before told made.
+  pub seen : AfterEveryRun old (λ mode config units before told made.
       (n c : ℕ) → n ≢ control_port → (first second later : List Answer)
       → first ++ (second ++ later) ≡ told ++ answers → IsSeen n c first second
       → taken n c later ≡ [])

@@ -1,7 +1,8 @@
 -- What is said over a whole run, step by step, and of the runs that lead to a world.
 use Rattle.std.specs.Prelude.{◌≡◌, true, List, [], ◌∷◌, ◌++◌, length, Ok}
 use Rattle.disk_model.specs.declared.unit.Unit.{Unit}
-use Rattle.pm_world.specs.Places.{Places, is_config, new_world}
+use Rattle.hba_driver.specs.declared.mode.Mode.{Mode}
+use Rattle.pm_world.specs.Places.{Places, is_config, new_world_in}
 use Rattle.pm_world.specs.Rules.{Rule, Run}
 use Rattle.pm_world.specs.declared.step.Config.{Config}
 use Rattle.pm_world.specs.declared.step.Step.{Step}
@@ -27,23 +28,24 @@ AtEach Holds old (s ∷ steps) [] new run = Prim.Unit {0}
 AtEach Holds old (s ∷ steps) (a ∷ answers) new run =
     Holds old a × AtEach Holds run.0 steps answers new run.2
 
--- a run leads from a new world to here
+-- a run leads from a new world to here, in one of the modes
 pub record IsReached (now : Places) : Type 0 where
+  pub mode : Mode
   pub config : Config
   pub units : List Unit
   pub fits : is_config config (length units) ≡ true
   pub steps : List Step
   pub answers : List Answer
-  pub run : Run (new_world config units) steps answers now
+  pub run : Run (new_world_in mode config units) steps answers now
 
 -- what holds whichever run from a new world leads to here
 abbrev pub AfterEveryRun : (now : Places)
-    → ((config : Config) → (units : List Unit) → (before : List Step) → (told : List Answer)
-    → Run (new_world config units) before told now → Type 0) → Type 0
+    → ((mode : Mode) → (config : Config) → (units : List Unit) → (before : List Step) → (told : List Answer)
+    → Run (new_world_in mode config units) before told now → Type 0) → Type 0
 AfterEveryRun now Holds =
-    (config : Config) (units : List Unit) → is_config config (length units) ≡ true
+    (mode : Mode) (config : Config) (units : List Unit) → is_config config (length units) ≡ true
     → (before : List Step) (told : List Answer)
-    (made : Run (new_world config units) before told now) → Holds config units before told made
+    (made : Run (new_world_in mode config units) before told now) → Holds mode config units before told made
 
 -- ---- steps of a run
 

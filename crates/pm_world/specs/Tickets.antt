@@ -8,7 +8,7 @@ use Rattle.std.specs.Prelude.{ℕ, ◌≡◌, List, [], ◌∷◌, ◌++◌, len
 use Rattle.std.specs.List.{flat_map, range_with_len}
 use Rattle.hba_driver.specs.HostTurns.{DoesAll}
 use Rattle.hba_driver.specs.Laws.{AreOnce, TurnsKeep}
-use Rattle.pm_world.specs.Places.{Places, opening_host}
+use Rattle.pm_world.specs.Places.{Places, opening_host_in}
 use Rattle.pm_world.specs.Rules.{Run}
 use Rattle.pm_world.specs.Runs.{AfterEveryRun, over}
 use Rattle.pm_world.specs.Turns.{turn_of}
@@ -33,14 +33,14 @@ AreCounted tickets = tickets ≡ range_with_len 1 (length tickets)
 pub record KeepsTickets (old : Places) (steps : List Step) (answers : List Answer) (new : Places)
     (run : Run old steps answers new) : Type 0 where
   -- tickets are given in order, each once
-  pub given : AfterEveryRun old (λ config units before told made.
+  pub given : AfterEveryRun old (λ mode config units before told made.
       AreCounted (flat_map given_by (told ++ answers)))
   -- none is polled twice
-  pub polled : AfterEveryRun old (λ config units before told made.
+  pub polled : AfterEveryRun old (λ mode config units before told made.
       AreOnce (flat_map polled_by (told ++ answers)))
   -- and none is issued twice, and each request goes on until it is polled, over the host's turns
-  pub turns : AfterEveryRun old (λ config units before told made.
-      (does : DoesAll (opening_host config.memory)
+  pub turns : AfterEveryRun old (λ mode config units before told made.
+      (does : DoesAll (opening_host_in mode config.memory)
       (over turn_of _ before told old made ++ over turn_of old steps answers new run) new.host)
-      → TurnsKeep (opening_host config.memory)
+      → TurnsKeep (opening_host_in mode config.memory)
       (over turn_of _ before told old made ++ over turn_of old steps answers new run) new.host does)

@@ -3,7 +3,7 @@ use Rattle.std.specs.Prelude.{◌≡◌, true, List, [], ◌∷◌, ◌++◌, ma
 use Rattle.std.specs.Prelude.{slice_index, ◌%◌}
 use Rattle.hba_driver.specs.HostTurns.{HostTurn, Took, Pushed, Ticked, Submitted, Polled, Put}
 use Rattle.hba_driver.specs.HostTurns.{DoesAll}
-use Rattle.pm_world.specs.Places.{Places, opening_host}
+use Rattle.pm_world.specs.Places.{Places, opening_host_in}
 use Rattle.pm_world.specs.Rules.{Run}
 use Rattle.pm_world.specs.Runs.{AfterEveryRun, Telling, over}
 use Rattle.pm_world.specs.declared.step.Step.{Step}
@@ -30,8 +30,8 @@ turn_of old s a new = []
 pub record HostIsFold (old : Places) (steps : List Step) (answers : List Answer) (new : Places)
     (run : Run old steps answers new) : Type 0 where
   pub does : DoesAll old.host (over turn_of old steps answers new run) new.host
-  pub reached : AfterEveryRun old (λ config units before told made.
-      DoesAll (opening_host config.memory)
+  pub reached : AfterEveryRun old (λ mode config units before told made.
+      DoesAll (opening_host_in mode config.memory)
       (over turn_of _ before told old made ++ over turn_of old steps answers new run) new.host)
 
 -- The FIS that a Took answer tells of has the PM Port of the answer's port, and the report is about
@@ -42,5 +42,5 @@ IsOfItsPort (answer.Took port conn number bytes report) =
 IsOfItsPort _ = Prim.Unit {0}
 
 abbrev pub AreOfTheirPorts : Places → List Answer → Type 0
-AreOfTheirPorts old answers = AfterEveryRun old (λ config units before told made.
+AreOfTheirPorts old answers = AfterEveryRun old (λ mode config units before told made.
     All IsOfItsPort answers)

@@ -55,7 +55,7 @@ UnitsLiveOn old steps answers new run =
 -- whole history
 abbrev pub UnitsLivedOn : (old : Places) → (steps : List Step) → (answers : List Answer)
     → (new : Places) → Run old steps answers new → Type 0
-UnitsLivedOn old steps answers new run = AfterEveryRun old (λ config units before told made.
+UnitsLivedOn old steps answers new run = AfterEveryRun old (λ mode config units before told made.
     (n : ℕ) (unit : Unit) → slice_get units n ≡ Some unit
     → IsSomeAnd (slice_get new.devices n) (λ now.
     LivesOn unit (over (happens n) _ before told old made

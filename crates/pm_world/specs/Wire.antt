@@ -108,7 +108,7 @@ PluggedIsOnWire =
     (n c : ℕ) (old new : Places) → n ≢ control_port → IsOrderly old
     → Rule old (step.Came n) (Ok (answer.Came n c)) new
     → ((d : ℕ) → IsAway n d old) → descending n old ≡ []
-    → AfterEveryRun old (λ config units before told made.
+    → AfterEveryRun old (λ mode config units before told made.
     IsThere n c new × IsOnWire n c new [] [])
 
 -- What was dropped never comes: it may be left out of what goes down.

@@ -2,13 +2,13 @@
 
 ghost use Rattle.std.specs.Prelude.{◌≡◌, IfOk, Ok, true, length};
 ghost use Rattle.hba_driver.specs.HostTurns.{Tooks};
-ghost use Rattle.pm_world.specs.Places.{opening_host};
+ghost use Rattle.pm_world.specs.Places.{opening_host_in};
 ghost use Rattle.pm_world.specs.Rules.{HostPushes, PollRule, PutRule, SubmitRule, TickRule, put_refusal};
 ghost use Rattle.host_memory.specs.Memory.{is_memory_size};
 
 use crate::step::{Answer, StepError};
 use fis_view::{Bytes, Frame};
-use hba_driver::{Driver, Request};
+use hba_driver::{Driver, Mode, Request};
 use hba_fbs::{HostPort, TakeReport};
 use host_memory::{CLIENT_START, HostMemory, MemoryError};
 use std::alloc::{AllocError, Global};
@@ -31,15 +31,16 @@ impl Model for Host {
 }
 
 impl Host {
-    /// A port that was not started, a driver that did nothing, and this many bytes of memory, all 0.
-    pub fn new(alloc: Global, memory: u32) -> Result<Self, AllocError>
+    /// A port that was not started, a driver in this mode that did nothing, and this many bytes of memory,
+    /// all 0.
+    pub fn new(alloc: Global, mode: Mode, memory: u32) -> Result<Self, AllocError>
         requires { is_memory_size memory ≡ true }
-        ensures { IfOk result (λ host. host ≡ opening_host memory) }
+        ensures { IfOk result (λ host. host ≡ opening_host_in mode memory) }
     {
         match HostMemory::new(alloc, memory) {
             Ok(memory) => Ok(Host {
                 port: HostPort::new(),
-                driver: Driver::new(),
+                driver: Driver::with_mode(mode, 1),
                 memory,
             }),
             Err(MemoryError::OutOfMemory) => Err(AllocError),

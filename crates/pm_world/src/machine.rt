@@ -5,7 +5,7 @@ ghost use Rattle.circular_buffer.specs.Buffer.{last_item};
 ghost use Rattle.pm_world.specs.Laws.{AreLawful};
 ghost use Rattle.pm_world.specs.Downward.{falling_to};
 ghost use Rattle.pm_world.specs.Hops.{frames_on};
-ghost use Rattle.pm_world.specs.Places.{opening, new_world, is_config};
+ghost use Rattle.pm_world.specs.Places.{opening, new_world_in, is_config};
 ghost use Rattle.pm_world.specs.Rules.{Rule, Run, Stops, no_refusal, port_refusal, refusal};
 ghost use Rattle.pm_world.specs.Traffic.{transit};
 ghost use Rattle.pm_world.specs.declared.step.Answer.{Answer};
@@ -19,7 +19,7 @@ use crate::seat::Seat;
 use crate::step::{Answer, Config, Step, StepError, WorldError};
 use disk_model::Unit;
 use fis_view::{Bytes, Frame};
-use hba_driver::Request;
+use hba_driver::{Mode, Request};
 use hba_fbs::{HostPort, TakeReport};
 use host_memory::HostMemory;
 use multiplier::Multiplier;
@@ -61,9 +61,14 @@ impl Model for Machine {
 }
 
 impl Machine {
-    /// A machine of these units, none of them plugged.
-    pub fn new(alloc: Global, config: Config, units: Vec<Unit>) -> Result<Self, WorldError>
-        ensures ok { IfOk result (λ world. world ≡ new_world config units.items) }
+    /// A machine of these units, none of them plugged, with a host in this mode.
+    pub fn new(
+        alloc: Global,
+        mode: Mode,
+        config: Config,
+        units: Vec<Unit>,
+    ) -> Result<Self, WorldError>
+        ensures ok { IfOk result (λ world. world ≡ new_world_in mode config units.items) }
         ensures nothing_stands { IfOk result (λ world. (n c : ℕ) → transit n c world ≡ []) }
         ensures nothing_falls { IfOk result (λ world. (n : ℕ) → falling_to n world ≡ []) }
         ensures bad_config { let fits = is_config config (length units.items) in
@@ -73,7 +78,7 @@ impl Machine {
             return Err(WorldError::BadConfig);
         }
         let multiplier = Multiplier::new(config.ports);
-        let host = Host::new(alloc, config.memory)?;
+        let host = Host::new(alloc, mode, config.memory)?;
         let upward = Link::new(alloc, config.capacity)?;
         let downward = Link::new(alloc, config.capacity)?;
         let seats = seats_of(alloc, config.capacity, units)?;

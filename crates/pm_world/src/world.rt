@@ -5,7 +5,7 @@ ghost use Rattle.circular_buffer.specs.Buffer.{last_item};
 ghost use Rattle.pm_world.specs.Laws.{AreLawful};
 ghost use Rattle.pm_world.specs.Downward.{falling_to};
 ghost use Rattle.pm_world.specs.Hops.{frames_on};
-ghost use Rattle.pm_world.specs.Places.{new_world, is_config};
+ghost use Rattle.pm_world.specs.Places.{new_world, new_world_in, is_config};
 ghost use Rattle.pm_world.specs.Rules.{Rule, Run, Stops};
 ghost use Rattle.pm_world.specs.Runs.{IsReached};
 ghost use Rattle.pm_world.specs.Traffic.{transit};
@@ -16,6 +16,7 @@ use crate::machine::Machine;
 use crate::step::{Answer, Config, Step, StepError, WorldError};
 use disk_model::Unit;
 use fis_view::Frame;
+use hba_driver::Mode;
 use hba_fbs::HostPort;
 use host_memory::HostMemory;
 use multiplier::Multiplier;
@@ -48,7 +49,23 @@ impl World {
         ensures bad_config { let fits = is_config config (length units.items) in
             (result ≡ Err WorldError.BadConfig) ↔ (fits ≡ false) }
     {
-        let machine = Machine::new(alloc, config, units)?;
+        World::with_mode(alloc, Mode::Switching, config, units)
+    }
+
+    /// A world of these units, none of them plugged, whose host tells devices apart in this way.
+    pub fn with_mode(
+        alloc: Global,
+        mode: Mode,
+        config: Config,
+        units: Vec<Unit>,
+    ) -> Result<Self, WorldError>
+        ensures ok { IfOk result (λ world. world ≡ new_world_in mode config units.items) }
+        ensures nothing_stands { IfOk result (λ world. (n c : ℕ) → transit n c world ≡ []) }
+        ensures nothing_falls { IfOk result (λ world. (n : ℕ) → falling_to n world ≡ []) }
+        ensures bad_config { let fits = is_config config (length units.items) in
+            (result ≡ Err WorldError.BadConfig) ↔ (fits ≡ false) }
+    {
+        let machine = Machine::new(alloc, mode, config, units)?;
         Ok(World { machine })
     }
 

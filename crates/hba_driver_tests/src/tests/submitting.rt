@@ -7,7 +7,7 @@ use std::alloc::{AllocError, Global};
 use std::test::Fail;
 
 /// The refusals with their numbers and texts.
-static TEXTS: [(u8, SubmitError, &str); 9] = [
+static TEXTS: [(u8, SubmitError, &str); 10] = [
     (1, SubmitError::NoDevice, "no such device"),
     (2, SubmitError::Recovering, "the device recovers"),
     (3, SubmitError::QueueBusy, "the queue is busy"),
@@ -17,6 +17,11 @@ static TEXTS: [(u8, SubmitError, &str); 9] = [
     (7, SubmitError::Overlap, "entries overlap"),
     (8, SubmitError::NoSlot, "no free slot"),
     (9, SubmitError::TicketsSpent, "no more tickets"),
+    (
+        10,
+        SubmitError::OtherDevice,
+        "a request of another device has not ended",
+    ),
 ];
 
 /// The first number whose refusal does not have it, or not with its text.

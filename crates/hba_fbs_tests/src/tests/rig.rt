@@ -15,12 +15,14 @@ use std::alloc::{AllocError, Global};
 use std::marker::Model;
 use std::process::Abort;
 
-/// What is seen of a device: PxTFD, its row of the received area, whether it is in software reset, and its cause.
+/// What is seen of a device: PxTFD, its row of the received area, whether it is in software reset and whether it is
+/// signed, and its cause.
 #[derive(Clone, Copy, PartialEq, Eq)]
 pub(super) struct Seen {
     file: Option<u32>,
     row: [u8; 256],
     resetting: bool,
+    signed: bool,
     cause: Option<DeviceCause>,
 }
 
@@ -142,6 +144,11 @@ impl Rig {
         self.port.resetting(dev)
     }
 
+    pub(super) fn signed(&self, rt: &impl Abort, dev: u8) -> bool {
+        assert!(rt; dev < 16);
+        self.port.signed(dev)
+    }
+
     pub(super) fn cause(&self, rt: &impl Abort, dev: u8) -> Option<DeviceCause> {
         assert!(rt; dev < 16);
         self.port.cause(dev)
@@ -173,6 +180,7 @@ impl Rig {
             file: self.read(0x20),
             row,
             resetting: self.port.resetting(dev),
+            signed: self.port.signed(dev),
             cause: self.port.cause(dev),
         }
     }

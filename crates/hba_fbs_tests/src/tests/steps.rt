@@ -71,6 +71,8 @@ pub(super) enum Step {
     Flushes(u8, u32),
     /// Whether a device is in software reset.
     IsResetting(u8, bool),
+    /// Whether a device is marked as signed.
+    IsSigned(u8, bool),
     /// The next frame begins with these three bytes, and its stamp is of its device and has this
     /// number.
     Gives(u32, [u8; 3]),
@@ -258,6 +260,7 @@ fn passes(rt: &impl Abort, rig: &mut Rig, step: Step) -> Result<bool, Fail> {
         Step::Holds(at, count, byte) => Ok(rig.are(at, count, byte)),
         Step::Posts(at, byte) => Ok(rig.structure_at(at) == Some(byte)),
         Step::IsResetting(dev, is) => Ok(rig.resetting(rt, dev) == is),
+        Step::IsSigned(dev, is) => Ok(rig.signed(rt, dev) == is),
         Step::Gives(number, begin) => Ok(gives(rig, number, &begin)?),
         Step::GivesCommand(number, bytes) => Ok(gives(rig, number, &bytes)?),
         Step::GivesSector(first, last) => Ok(gives_sector(rig, first, last)?),

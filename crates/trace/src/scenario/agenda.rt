@@ -41,7 +41,7 @@ struct Reading {
 impl Reading {
     fn new(alloc: Global) -> Reading {
         Reading {
-            opening: Opening::new(alloc),
+            opening: Opening::new(alloc, false),
             agenda: None,
         }
     }
@@ -65,7 +65,7 @@ impl Reading {
 
     /// What was said before the first entry, which is said once.
     fn close_opening(&mut self, alloc: Global) -> Opening {
-        mem::replace(&mut self.opening, Opening::new(alloc))
+        mem::replace(&mut self.opening, Opening::new(alloc, false))
     }
 
     /// What all lines asked.

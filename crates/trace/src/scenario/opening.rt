@@ -8,6 +8,7 @@ ghost use Rattle.pm_world.specs.Places.{is_config};
 use crate::scenario::parse::Setting;
 use disk_model::{Disk, DiskError, DiskPlan, Scripted, Unit};
 use fis_view::Bytes;
+use hba_driver::Mode;
 use host_memory::CLIENT_START;
 use pm_world::Config;
 use std::alloc::{AllocError, Global};
@@ -21,6 +22,8 @@ pub struct Sizes {
     pub capacity: u8,
     /// The host's memory in MiB, 2 to 16.
     pub memory: u8,
+    /// How the host tells devices apart.
+    pub mode: Mode,
     pub ghost has_ports: { (1 ≤ ports) × (ports ≤ 15) },
     pub ghost has_capacity: { (1 ≤ capacity) × (capacity ≤ 64) },
     pub ghost has_memory: { (2 ≤ memory) × (memory ≤ 16) },
@@ -32,6 +35,7 @@ impl Sizes {
         ports: 1,
         capacity: 4,
         memory: 2,
+        mode: Mode::Switching,
     };
 
     /// The same in the world's terms, with memory in bytes.
@@ -123,16 +127,24 @@ pub struct Opening {
     /// What was said about each port's device. Nothing was said about ports past the last of them.
     devices: Vec<Said>,
     is_begun: bool,
+    /// Whether `ports` may say how the host tells devices apart.
+    has_modes: bool,
 }
 
 impl Opening {
     /// A world about which nothing was said.
-    pub fn new(alloc: Global) -> Opening {
+    pub fn new(alloc: Global, has_modes: bool) -> Opening {
         Opening {
             sizes: Sizes::PLAIN,
             devices: Vec::new(alloc),
             is_begun: false,
+            has_modes,
         }
+    }
+
+    /// Whether `ports` may say how the host tells devices apart.
+    pub fn has_modes(&self) -> bool {
+        self.has_modes
     }
 
     /// Whether a line has said something.
@@ -192,6 +204,7 @@ impl Opening {
             sizes,
             mut devices,
             is_begun: _,
+            has_modes: _,
         } = self;
         devices.resize_with(usize::from(sizes.ports), || Said::Nothing)?;
         devices

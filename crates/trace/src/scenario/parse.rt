@@ -10,7 +10,7 @@ use crate::wanted::{Keyword, Quantity, Wanted};
 use arrayvec::ArrayVec;
 use disk_model::{DiskPlan, Order, Profile};
 use fis_view::Bytes;
-use hba_driver::{Request, Work};
+use hba_driver::{Mode, Request, Work};
 use hba_fbs::Register;
 use pm_world::Step;
 use std::alloc::Global;
@@ -95,7 +95,7 @@ impl Setting {
             b"ports" if opening.is_begun() => {
                 return Err(words.refused(Refusal::Order, Wanted::PortsFirst));
             }
-            b"ports" => Setting::Ports(sizes(words)?),
+            b"ports" => Setting::Ports(sizes(words, opening.has_modes())?),
             b"disk" => disk(words, opening)?,
             b"script" => script(alloc, words, opening)?,
             _ => return Ok(None),
@@ -203,16 +203,22 @@ impl Common {
 }
 
 /// The words after `ports`.
-fn sizes(words: &mut Words<'_>) -> Result<Sizes, Failure> {
+fn sizes(words: &mut Words<'_>, has_modes: bool) -> Result<Sizes, Failure> {
     let ports = words.number(Quantity::Ports, 1, 15)? as u8;
     words.keyword(Keyword::Capacity)?;
     let capacity = words.number(Quantity::Capacity, 1, 64)? as u8;
     words.keyword(Keyword::Memory)?;
     let memory = words.number(Quantity::Memory, 2, 16)? as u8;
+    let mode = if has_modes && words.takes(b"commandbased") {
+        Mode::CommandBased
+    } else {
+        Mode::Switching
+    };
     Ok(Sizes {
         ports,
         capacity,
         memory,
+        mode,
     })
 }
 

@@ -49,7 +49,7 @@ impl Scenario {
     fn new(alloc: Global, watch: Watch) -> Scenario {
         Scenario {
             watch,
-            opening: Opening::new(alloc),
+            opening: Opening::new(alloc, true),
             scene: None,
         }
     }
@@ -124,7 +124,7 @@ impl Scenario {
 
     /// What was said about the world, which is said once.
     fn close_opening(&mut self, alloc: Global) -> Opening {
-        mem::replace(&mut self.opening, Opening::new(alloc))
+        mem::replace(&mut self.opening, Opening::new(alloc, true))
     }
 
     /// Builds the world if no line did.
@@ -189,7 +189,7 @@ impl Scene {
     ) -> Result<Scene, Failure> {
         let sizes = opening.sizes();
         let units = opening.into_units(alloc)?;
-        let world = match World::new(alloc, sizes.config(), units) {
+        let world = match World::with_mode(alloc, sizes.mode, sizes.config(), units) {
             Ok(world) => world,
             Err(WorldError::OutOfMemory) => return Err(Failure::OutOfMemory),
             Err(WorldError::BadConfig) => unreachable!(),

@@ -4,7 +4,7 @@ use crate::failure::Failure;
 use crate::scenario::opening::Sizes;
 use crate::scenario::parse::View;
 use crate::scenario::printer::Printer;
-use hba_driver::{Completion, Outcome, SubmitError, Ticket};
+use hba_driver::{Completion, Mode, Outcome, SubmitError, Ticket};
 use hba_fbs::{HostPort, Register};
 use host_memory::{CLIENT_START, HostMemory};
 use pm_world::{Answer, ConnCount, StepError};
@@ -321,6 +321,10 @@ impl fmt::Display for Sizes {
             f,
             "ports {} capacity {} memory {}",
             self.ports, self.capacity, self.memory
-        )
+        )?;
+        match self.mode {
+            Mode::Switching => Ok(()),
+            Mode::CommandBased => f.write_str(" commandbased"),
+        }
     }
 }

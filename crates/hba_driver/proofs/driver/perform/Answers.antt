@@ -8,4 +8,4 @@ unfolding ActsAll
 returns-in_default-clause-acts c = rw c.in_default.is (refl, refl)
 
 pub returns-in-Some-clause-possible : goal.returns-in-Some-clause-possible
-returns-in-Some-clause-possible c = rw c.in-Some.is (act_possible c.in-Some.act (rw c.in-Some.is at c.requires))
+returns-in-Some-clause-possible c = rw c.in-Some.is (act_possible c.args.mode c.in-Some.act (rw c.in-Some.is at c.requires))

@@ -1,9 +1,8 @@
-use Rattle.std.proofs.Common.{ℕ, List, length, map, ap, arith, refl, ◌∙◌}
-use Rattle.std.specs.List.{range_with_len}
+use Rattle.std.proofs.Common.{ℕ, List, length, ap, arith, refl, ◌∙◌}
 use Rattle.fis_view.specs.Seen.{seen}
 use Rattle.hba_fbs.specs.Views.{Port}
 use Rattle.slots.specs.Slots.{has_bit}
-use Rattle.hba_driver.specs.Sights.{answer_in, is_ata, is_usable, last_d2h, log_in, sight_of}
+use Rattle.hba_driver.specs.Sights.{answer_in, is_usable, log_in, sight_of}
 use Rattle.hba_driver.proofs.SightLemmas.{same_sight}
 use Rattle.hba_driver.proofs.sight.Sight.of.Goals as goal
 
@@ -17,14 +16,13 @@ pub returns : goal.returns
 unfolding sight_of
 returns c =
     let port : Port = c.args.port.now in
-    let structure = c.structure-structure.ensures.structure in
-    same_sight _ (sight_of port c.args.memory.now)
+    same_sight _ (sight_of c.args.mode port c.args.memory.now)
     (rw (c.register.ensures, c.register-2.ensures) refl)
-    (c.is_stopped.ensures ∙ rw (c.register-3.ensures, c.register-4.ensures) refl)
-    (c.faulty.ensures ∙ rw c.register-5.ensures refl)
+    (c.stopped.ensures ∙ rw (c.has_bit.ensures, c.register.ensures, c.register-2.ensures, c.register-3.ensures) refl)
+    c.faulty_device.ensures
     c.resetting.ensures c.in_reset.ensures
-    (c.has_bit.ensures ∙ ap (λ (x : ℕ). has_bit x 15) c.register-6.ensures)
-    (c.answer.ensures ∙ ap (λ (b : List ℕ). answer_in (seen b)) c.last_d2h.ensures ∙ ap (λ (s : List ℕ). answer_in (seen (last_d2h s 15))) structure)
-    (c.signed.ensures ∙ ap (λ (s : List ℕ). map (λ dev. is_ata (seen (last_d2h s dev))) (range_with_len 0 16)) structure)
+    (c.has_bit.ensures ∙ ap (λ (x : ℕ). has_bit x 15) c.register-3.ensures)
+    (c.answer.ensures ∙ ap (λ (b : List ℕ). answer_in (seen b)) c.last_d2h.ensures ∙ rw (c.structure.ensures.structure, c.answer_row.ensures.value) refl)
+    c.signed_in.ensures
     (c.is_usable.ensures ∙ ap is_usable c.client.ensures.client)
     (c.error_log.ensures ∙ ap log_in c.client-2.ensures.client)

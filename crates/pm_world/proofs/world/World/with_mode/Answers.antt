@@ -3,7 +3,7 @@ use Rattle.std.specs.Prelude.{Result, length}
 use Rattle.pm_world.specs.Places.{Places, is_config}
 use Rattle.pm_world.specs.declared.step.WorldError.{WorldError}
 use Rattle.pm_world.specs.declared.step.WorldError.TheVariants.{BadConfig}
-use Rattle.pm_world.proofs.world.World.new.Goals as goal
+use Rattle.pm_world.proofs.world.World.with_mode.Goals as goal
 
 -- what was made has a configuration that fits
 fits_made : (b : Bool) (r : Result Places WorldError) (w : Places) → (r ≡ Err BadConfig) ↔ (b ≡ false) → r ≡ Ok w → b ≡ true
@@ -12,6 +12,7 @@ fits_made false r w iff is = let bad : r ≡ Err BadConfig = iff.1 refl in absur
 
 pub invariant_of-result : goal.invariant_of-result
 invariant_of-result c = record {
+  mode = c.args.mode;
   config = c.args.config;
   units = c.args.units.items;
   fits = fits_made (is_config c.args.config (length c.args.units.items)) c.new.result c.in_ok-machine.machine c.new.ensures.bad_config c.in_ok-machine.was;
