@@ -1,12 +1,13 @@
--- Accesses of a controller, one after another: AHCI 1.3.1, section 3 (registers) and 5 (frames). They are the calls of
--- `ahci_port`, with what they answer.
+-- Accesses of a controller, one after another: AHCI 1.3.1, section 3 (registers) and 5 (frames). They are the
+-- calls of `ahci_port`, with what they answer.
 use Rattle.std.specs.Prelude.{◌≡◌, ℕ, ◌⊎◌, Bool, true, false, List, [], ◌∷◌, Option, Some, None, MatchOption}
 use Rattle.host_memory.specs.Memory.{IsHostMemory}
 use Rattle.ahci_registers.specs.declared.link.Effect.{Effect}
 use Rattle.ahci_registers.specs.declared.link.Effect.TheVariants.{Nothing, LinkReset, LinkUp}
 use Rattle.ahci_registers.specs.Offsets.{register_at}
 use Rattle.ahci_registers.specs.declared.register.Register as ahci
-use Rattle.ahci_registers.specs.declared.register.Register.TheVariants.{PxIs, PxCmd, PxSerr, PxSact, PxCi, PxSntf, PxFbs}
+use Rattle.ahci_registers.specs.declared.register.Register.TheVariants.{PxIs, PxCmd, PxSerr, PxSact}
+use Rattle.ahci_registers.specs.declared.register.Register.TheVariants.{PxCi, PxSntf, PxFbs}
 use Rattle.hba_fbs.specs.declared.register.Register.{Register}
 use Rattle.hba_fbs.specs.declared.register.Register.TheVariants as on_port
 use Rattle.hba_fbs.specs.Taking.{is_running}

@@ -1,5 +1,5 @@
--- What is true of a controller whatever its guest writes, by the laws of its host port: AHCI 1.3.1, chapter 9 (the
--- devices behind a port) and section 5.3.
+-- What is true of a controller whatever its guest writes, by the laws of its host port: AHCI 1.3.1, chapter 9
+-- (the devices behind a port) and section 5.3.
 use Rattle.std.specs.Prelude.{◌≡◌, ◌<◌, ℕ, List, All}
 use Rattle.fis_view.specs.Frames.{IsFrame}
 use Rattle.ahci_port.specs.Opening.{IsOpening}
@@ -18,8 +18,8 @@ use Rattle.ahci_laws.specs.Accesses.{Access, AreRunning, IsOfSome, IsPlaced, Ser
 
 -- ---- accesses are events
 
--- What was done to the host port and its memory is a list of events there, each of this kind, and none of them is one
--- of the port as a whole where this holds. The received area does not move.
+-- What was done to the host port and its memory is a list of events there, each of this kind, and none of them
+-- is one of the port as a whole where this holds. The received area does not move.
 pub record AreEvents (Of : HostEvent → Type 0) (Quiet : Type 0) (old new : ControllerState) : Type 0 where
   pub events : List HostEvent
   pub each : All Of events
@@ -58,8 +58,8 @@ AccessesIsolate may_read may_miss =
 
 -- ---- completion
 
--- The report of a frame has the bit of each slot that the frame completes, by the history of its own device, and of no
--- other.
+-- The report of a frame has the bit of each slot that the frame completes, by the history of its own device, and
+-- of no other.
 pub record Completes (accesses : List Access) (old new : ControllerState) (frame : List ℕ) (took : Took)
     (past : History) : Type 0 where
   pub events : List HostEvent
