@@ -40,10 +40,6 @@ commanded own value = record own {
   multiplied = has_bit value pma;
 }
 
--- the host port is not driven without FIS-based switching
-abbrev pub may_start : Registers → Bool
-may_start r = r.switching || r.started
-
 -- these bits, or none
 abbrev pub bits_if : Bool → ℕ → ℕ
 bits_if set bits = if set then bits else 0
@@ -52,10 +48,10 @@ bits_if set bits = if set then bits else 0
 abbrev pub receives_now : OwnRegisters → Registers → Bool
 receives_now own r = own.receives || (own.starts && r.started)
 
--- what is written to PxCMD of the host port: ST is held until FRE is 1 and the port may start
+-- what is written to PxCMD of the host port: ST is held until FRE is 1
 abbrev pub engine_of : OwnRegisters → Registers → ℕ
 engine_of own r =
-    bits_if (own.starts && receives_now own r && may_start r) (2 ^ st)
+    bits_if (own.starts && receives_now own r) (2 ^ st)
     + bits_if (receives_now own r) (2 ^ fre) + bits_if own.multiplied (2 ^ pma)
 
 -- the list is where PxCLB says as the port starts, the area where PxFB says as FRE rises, and as ST falls no

@@ -38,19 +38,24 @@ is_deaf c = not (is_up (action_of c.link.control)) || is_failed c.own
 
 -- ---- what is to be written to the guest
 
--- the FIS itself, whole, from its place in the row of its device in the received area on
+-- The row of the received area for a device that has one: its own with FIS-based switching (AHCI 1.3.1, section
+-- 9.3), and row 0 without (9.2). A device that has none is posted nowhere, as the host port reports.
+abbrev pub row_in : (switching : Bool) → ℕ → ℕ
+row_in switching dev = if switching then dev else 0
+
+-- the FIS itself, whole, from its place in its row of the received area on
 abbrev pub move_to : (area start len : ℕ) → Option Move
 move_to area start len =
     if nat_lt (18446744073709551615 - start - len) area then None
     else Some (record { at = area + start; from = 0; len = len })
 
-abbrev pub posting_at : (area dev : ℕ) → Posted → ℕ → Option Move
-posting_at area dev place.Setup len = move_to area (start_of dev place.Setup) len
-posting_at area dev place.Pio len = move_to area (start_of dev place.Pio) len
-posting_at area dev place.D2h len = move_to area (start_of dev place.D2h) len
-posting_at area dev place.Bits len = move_to area (start_of dev place.Bits) len
-posting_at area dev place.Unknown len = move_to area (start_of dev place.Unknown) len
-posting_at area dev place.Nothing len = None
+abbrev pub posting_at : (area row : ℕ) → Posted → ℕ → Option Move
+posting_at area row place.Setup len = move_to area (start_of row place.Setup) len
+posting_at area row place.Pio len = move_to area (start_of row place.Pio) len
+posting_at area row place.D2h len = move_to area (start_of row place.D2h) len
+posting_at area row place.Bits len = move_to area (start_of row place.Bits) len
+posting_at area row place.Unknown len = move_to area (start_of row place.Unknown) len
+posting_at area row place.Nothing len = None
 
 -- how many bytes of a slot's command came over, with these; a number that is too large stays at its largest
 abbrev pub counted_by : List ℕ → Option Wrote → List ℕ
@@ -86,7 +91,8 @@ pub record Takes (old : ControllerState) (frame : List ℕ) (result : Took) (new
   }
   pub told : result.message ≡ is_due old.lines (Caused (new_causes old.port new.port))
   pub posted : result.posted
-      ≡ posting_at old.own.area (port_of frame) result.report.posted (length frame)
+      ≡ posting_at old.own.area (row_in old.port.registers.switching (port_of frame)) result.report.posted
+        (length frame)
   pub counted : result.counted ≡ counting old.own.list new.counts result.report.wrote
 
 -- nothing of a frame is taken

@@ -1,7 +1,7 @@
 //! The registers of the port that the controller has beside those of the host port.
 
 ghost use Rattle.std.specs.Prelude.{◌≡◌};
-ghost use Rattle.ahci_port.specs.Own.{base, cmd_shown, commanded, engine_of, is_failed as is_failed_of, latched, may_start as may_start_of, opening_own, reset_own};
+ghost use Rattle.ahci_port.specs.Own.{base, cmd_shown, commanded, engine_of, is_failed as is_failed_of, latched, opening_own, reset_own};
 
 use crate::bits::{FRE, PMA, ST, bits_if, has_bit};
 use hba_fbs::Registers;
@@ -36,13 +36,6 @@ fn address(lower: u32, upper: u32) -> u64
     ensures { result ≡ base lower upper }
 {
     u64::from(lower) + u64::from(upper) * 0x1_0000_0000
-}
-
-// Whether the host port may start: it is not driven without FIS-based switching.
-fn may_start(registers: Registers) -> bool
-    ensures { result ≡ may_start_of registers }
-{
-    registers.switching || registers.started
 }
 
 impl OwnRegisters {
@@ -96,13 +89,12 @@ impl OwnRegisters {
         }
     }
 
-    /// What is written to PxCMD of the host port: FRE stays 1 until ST falls, and ST is held until FRE is 1 and the port
-    /// may start.
+    /// What is written to PxCMD of the host port: FRE stays 1 until ST falls, and ST is held until FRE is 1.
     pub(crate) fn engine(self, registers: Registers) -> u32
         ensures { result ≡ engine_of self registers }
     {
         let receives = self.receives || self.starts && registers.started;
-        let starts = self.starts && receives && may_start(registers);
+        let starts = self.starts && receives;
         bits_if(starts, 1) + bits_if(receives, 0x10) + bits_if(self.multiplied, 0x2_0000)
     }
 

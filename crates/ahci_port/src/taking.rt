@@ -2,7 +2,7 @@
 
 ghost use Rattle.std.specs.Prelude.{◌≡◌, ◌<◌, true, false, None, length};
 ghost use Rattle.hba_fbs.specs.Taking.{ignored_report};
-ghost use Rattle.ahci_port.specs.Taking.{Brings, Drops, Takes, counted_by, counting as counting_of, is_deaf as is_deaf_of, is_up as is_up_of, move_to as move_to_of, posting_at};
+ghost use Rattle.ahci_port.specs.Taking.{Brings, Drops, Takes, counted_by, counting as counting_of, is_deaf as is_deaf_of, is_up as is_up_of, move_to as move_to_of, posting_at, row_in};
 
 use crate::causes::{new_bits, status};
 use crate::controller::Controller;
@@ -58,13 +58,22 @@ fn move_to(area: u64, start: u64, len: usize) -> Option<Move>
     })
 }
 
-// It goes to its place in the row of its device.
-fn posting(area: u64, dev: u8, posted: Posted, len: usize) -> Option<Move>
-    requires dev { dev < 16 }
-    requires len { len < 16384 }
-    ensures { result ≡ posting_at area dev posted len }
+// The row of a device that has one: its own with FIS-based switching, and row 0 without.
+fn row(switching: bool, dev: u8) -> u8
+    requires { dev < 16 }
+    ensures value { result ≡ row_in switching dev }
+    ensures low { result < 16 }
 {
-    let row = 256 * u64::from(dev);
+    if switching { dev } else { 0 }
+}
+
+// It goes to its place in a row.
+fn posting(area: u64, row: u8, posted: Posted, len: usize) -> Option<Move>
+    requires row { row < 16 }
+    requires len { len < 16384 }
+    ensures { result ≡ posting_at area row posted len }
+{
+    let row = 256 * u64::from(row);
     match posted {
         Posted::Setup => move_to(area, row, len),
         Posted::Pio => move_to(area, row + 0x20, len),
@@ -157,13 +166,14 @@ impl Controller {
     {
         let was = status(&self.port);
         let len = frame.bytes().len();
+        let row = row(self.port.registers().switching, frame.pm_port());
         let report = self.port.take(frame, &mut self.memory);
         count(&mut self.counts, report.wrote);
         self.brought = report.wrote;
         let causes = new_bits(was, &self.port);
         Took {
             report,
-            posted: posting(self.own.area, frame.pm_port(), report.posted, len),
+            posted: posting(self.own.area, row, report.posted, len),
             counted: counting(self.own.list, &self.counts, report.wrote),
             message: self.lines.caused(causes),
         }
