@@ -7,17 +7,8 @@
 #![tactic(auto)]
 
 mod command_line;
-mod decode;
-mod failure;
 mod help;
-mod hex_text;
-mod input;
-mod note;
 mod program;
-mod scenario;
-mod wanted;
 
-pub use failure::{Failure, Refusal};
-pub use input::{LONGEST_INPUT, LONGEST_LINE};
 pub use program::{refuse, serve};
-pub use wanted::{Keyword, Quantity, Wanted};
+pub use trace_text::{Failure, LONGEST_INPUT};
