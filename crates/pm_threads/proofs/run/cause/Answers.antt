@@ -1,4 +1,4 @@
-use Rattle.std.proofs.Common.{rules, ◌≡◌, ◌∙◌, List, Option, None, true, false, sym, inl, inr}
+use Rattle.std.proofs.Common.{rules, ◌≡◌, ◌∙◌, List, Option, None, true, false, sym, inr}
 use Rattle.std.specs.Prelude.{All}
 use Rattle.std.specs.List.{list_any}
 use Rattle.disk_model.specs.declared.unit.Unit.{Unit}

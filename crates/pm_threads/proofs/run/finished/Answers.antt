@@ -1,4 +1,4 @@
-use Rattle.std.proofs.Common.{rules, ◌≡◌, Option, None, Some, sym, subst}
+use Rattle.std.proofs.Common.{rules, ◌≡◌, Option, None, Some, subst}
 use Rattle.std.specs.Prelude.{All, IfNone}
 use Rattle.disk_model.specs.declared.unit.Unit.{Unit}
 use Rattle.disk_thread.specs.declared.worker.DiskEnd.{DiskEnd}
