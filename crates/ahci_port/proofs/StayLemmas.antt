@@ -58,26 +58,26 @@ set_other (x ∷ xs) zero (suc j) v ne = refl
 set_other (x ∷ xs) (suc i) zero v ne = refl
 set_other (x ∷ xs) (suc i) (suc j) v ne = set_other xs i j v (λ e. ne (ap suc e))
 
-attempt_stays : (may_read : ℕ → List ℕ → Type 0) (n slot : ℕ) (old new : ControllerState) (told : Bool) → Attempts may_read n old told new → n ≢ slot → kept new slot ≡ kept old slot
-attempt_stays may_read n slot old new told (inl done) ne =
+attempt_stays : (may_read : ℕ → List ℕ → Type 0) (may_miss : ℕ → ℕ → Type 0) (n slot : ℕ) (old new : ControllerState) (told : Bool) → Attempts may_read may_miss n old told new → n ≢ slot → kept new slot ≡ kept old slot
+attempt_stays may_read may_miss n slot old new told (inl done) ne =
     ap (λ (c : ControllerState). kept c slot) done.0.rest
     ∙ ap (λ (o : Option (Option (List Segment))). match_some o None (λ table. table)) (set_other old.tables n slot (Some done.0.command.table) ne)
-attempt_stays may_read n slot old new told (inr failed) ne = ap (λ (c : ControllerState). kept c slot) failed.rest
+attempt_stays may_read may_miss n slot old new told (inr failed) ne = ap (λ (c : ControllerState). kept c slot) failed.rest
 
-step_stays : (may_read : ℕ → List ℕ → Type 0) (mask n slot : ℕ) (old new : ControllerState) (told : Bool) → Steps may_read mask n old told new → has_bit mask slot ≡ false → kept new slot ≡ kept old slot
-step_stays may_read mask n slot old new told step absent = elim (cases_Bool (has_bit mask n)) [
-  | inl asked ↦ attempt_stays may_read n slot old new told (step.asked asked) (λ same. absurd (false≢true (sym absent ∙ ap (has_bit mask) (sym same) ∙ asked)))
+step_stays : (may_read : ℕ → List ℕ → Type 0) (may_miss : ℕ → ℕ → Type 0) (mask n slot : ℕ) (old new : ControllerState) (told : Bool) → Steps may_read may_miss mask n old told new → has_bit mask slot ≡ false → kept new slot ≡ kept old slot
+step_stays may_read may_miss mask n slot old new told step absent = elim (cases_Bool (has_bit mask n)) [
+  | inl asked ↦ attempt_stays may_read may_miss n slot old new told (step.asked asked) (λ same. absurd (false≢true (sym absent ∙ ap (has_bit mask) (sym same) ∙ asked)))
   | inr other ↦ ap (λ (c : ControllerState). kept c slot) (step.other other).0
 ]
 
-all_stay : (may_read : ℕ → List ℕ → Type 0) (mask count slot : ℕ) (old new : ControllerState) (told : Bool) → IssuesBelow may_read mask count old told new → has_bit mask slot ≡ false → kept new slot ≡ kept old slot
+all_stay : (may_read : ℕ → List ℕ → Type 0) (may_miss : ℕ → ℕ → Type 0) (mask count slot : ℕ) (old new : ControllerState) (told : Bool) → IssuesBelow may_read may_miss mask count old told new → has_bit mask slot ≡ false → kept new slot ≡ kept old slot
 unfolding IssuesBelow
-all_stay may_read mask zero slot old new told h absent = ap (λ (c : ControllerState). kept c slot) h.0
-all_stay may_read mask (suc n) slot old new told h absent =
-    step_stays may_read mask n slot h.middle new h.told_second h.second absent ∙ all_stay may_read mask n slot old h.middle h.told_first h.first absent
+all_stay may_read may_miss mask zero slot old new told h absent = ap (λ (c : ControllerState). kept c slot) h.0
+all_stay may_read may_miss mask (suc n) slot old new told h absent =
+    step_stays may_read may_miss mask n slot h.middle new h.told_second h.second absent ∙ all_stay may_read may_miss mask n slot old h.middle h.told_first h.first absent
 
-pub stay : (may_read : ℕ → List ℕ → Type 0) (old : ControllerState) (value : ℕ) (told : Bool) (new : ControllerState) → WritesIssue may_read old value told new → (slot : ℕ) → slot < 32 → is_busy old.port.slots slot ≡ true → kept new slot ≡ kept old slot
-stay may_read old value told new written slot below busy = elim (cases_Bool old.port.registers.started) [
-  | inl started ↦ all_stay may_read (fresh_slots old value) 32 slot (record old { brought = None }) new told (written.started started) (not_fresh old value slot below busy)
+pub stay : (may_read : ℕ → List ℕ → Type 0) (may_miss : ℕ → ℕ → Type 0) (old : ControllerState) (value : ℕ) (told : Bool) (new : ControllerState) → WritesIssue may_read may_miss old value told new → (slot : ℕ) → slot < 32 → is_busy old.port.slots slot ≡ true → kept new slot ≡ kept old slot
+stay may_read may_miss old value told new written slot below busy = elim (cases_Bool old.port.registers.started) [
+  | inl started ↦ all_stay may_read may_miss (fresh_slots old value) 32 slot (record old { brought = None }) new told (written.started started) (not_fresh old value slot below busy)
   | inr stopped ↦ ap (λ (c : ControllerState). kept c slot) (written.stopped stopped).0
 ]

@@ -9,15 +9,15 @@ use Rattle.ahci_port.specs.Writing.{Leaves, quietly}
 use Rattle.ahci_port.specs.declared.writing.Written.{Written}
 
 -- PxCI issues, and every other register is as it is
-abbrev pub WritesRegister :
-    (ℕ → List ℕ → Type 0) → Register → ControllerState → ℕ → Written → ControllerState → Type 0
-WritesRegister may_read PxCi old value result new =
-    WritesIssue may_read old value result.message new × (result ≡ quietly result.message)
-WritesRegister may_read register old value result new = Leaves register old value result new
+abbrev pub WritesRegister : (ℕ → List ℕ → Type 0) → (ℕ → ℕ → Type 0) → Register → ControllerState → ℕ
+    → Written → ControllerState → Type 0
+WritesRegister may_read may_miss PxCi old value result new =
+    WritesIssue may_read may_miss old value result.message new × (result ≡ quietly result.message)
+WritesRegister may_read may_miss register old value result new = Leaves register old value result new
 
 -- where no register begins, nothing happens
-abbrev pub WritesAt :
-    (ℕ → List ℕ → Type 0) → ControllerState → (offset value : ℕ) → Written → ControllerState → Type 0
-WritesAt may_read old offset value result new = MatchOption (register_at offset)
+abbrev pub WritesAt : (ℕ → List ℕ → Type 0) → (ℕ → ℕ → Type 0) → ControllerState → (offset value : ℕ)
+    → Written → ControllerState → Type 0
+WritesAt may_read may_miss old offset value result new = MatchOption (register_at offset)
     ((new ≡ old) × (result ≡ quietly false))
-    (λ register. WritesRegister may_read register old value result new)
+    (λ register. WritesRegister may_read may_miss register old value result new)

@@ -7,8 +7,8 @@ use Rattle.ahci_port.specs.Taking.{kept}
 
 -- The table that is kept for a slot in which something is issued stays as it is, whatever is written to PxCI and
 -- whatever stands in the guest's memory by then.
-abbrev pub KeptTablesStay : (ℕ → List ℕ → Type 0) → Type 0
-KeptTablesStay may_read =
+abbrev pub KeptTablesStay : (ℕ → List ℕ → Type 0) → (ℕ → ℕ → Type 0) → Type 0
+KeptTablesStay may_read may_miss =
     (old : ControllerState) (value : ℕ) (told : Bool) (new : ControllerState)
-    → WritesIssue may_read old value told new
+    → WritesIssue may_read may_miss old value told new
     → (slot : ℕ) → slot < 32 → is_busy old.port.slots slot ≡ true → kept new slot ≡ kept old slot

@@ -1,10 +1,10 @@
 //! Commands are issued.
 
-ghost use Rattle.std.specs.Prelude.{◌≡◌, ◌<◌, ◌+◌, ◌*◌, ◌^◌, ◌||◌, IfOk, OnErr, OnOk};
+ghost use Rattle.std.specs.Prelude.{◌≡◌, ◌<◌, ◌+◌, ◌*◌, ◌^◌, ◌||◌, true, None, is_some, IfErr, IfOk, OnErr, OnOk};
 ghost use Rattle.ahci_registers.specs.Bits.{interrupt_bits};
-ghost use Rattle.hba_fbs.specs.Writing.{Accepts};
+ghost use Rattle.hba_fbs.specs.Writing.{Accepts, refusal_of};
 ghost use Rattle.guest_commands.specs.Commands.{IsCommandAt};
-ghost use Rattle.ahci_port.specs.Issuing.{Attempts, Issues, IssuesBelow, Refuses, Steps, WritesIssue, causes_for, fresh_slots};
+ghost use Rattle.ahci_port.specs.Issuing.{Attempts, FetchRefused, Issues, IssuesBelow, Refuses, Steps, WritesIssue, causes_for, fresh_slots};
 
 use crate::bits::{has_bit, without};
 use crate::controller::Controller;
@@ -47,7 +47,10 @@ fn either(first: bool, second: bool) -> bool
 fn give(port: &mut HostPort, memory: &HostMemory, slot: u8) -> Result<(), CommandError>
     requires { slot < 32 }
     ensures ok { OnOk result (Accepts port.old memory.now Register.Ci (2 ^ slot) port.new) }
+    ensures taken { OnOk result (refusal_of Register.Ci port.old memory.now (2 ^ slot) ≡ None) }
     ensures err { OnErr result (port.new ≡ port.old) }
+    ensures why { IfErr result (λ error. (error ≡ CommandError.Bad)
+        × (is_some (refusal_of Register.Ci port.old memory.now (2 ^ slot)) ≡ true)) }
 {
     match port.write(Register::Ci.offset(), slot_bit(slot), memory) {
         Ok(()) => Ok(()),
@@ -64,8 +67,10 @@ impl Controller {
         slot: u8,
     ) -> Result<GuestCommand, CommandError>
         requires { slot < 32 }
-        ensures { IfOk result
+        ensures ok { IfOk result
             (λ command. IsCommandAt (G.may_read guest.now) (self.now.own.list + 32 * slot) command) }
+        ensures err { IfErr result (λ error.
+            FetchRefused (G.may_read guest.now) (G.may_miss guest.now) slot error self.now) }
     {
         if self.own.is_failed() {
             return Err(CommandError::Bad);
@@ -85,10 +90,16 @@ impl Controller {
     ) -> Result<(), CommandError>
         requires { slot < 32 }
         ensures ok { OnOk result (Issues (G.may_read guest.now) slot self.old self.new) }
-        ensures err { OnErr result (Refuses slot self.old self.new) }
+        ensures err { IfErr result (λ error.
+            Refuses (G.may_read guest.now) (G.may_miss guest.now) slot error self.old self.new) }
     {
         let command = self.fetch(alloc, guest, slot)?;
-        put_command(&mut self.memory, slot, &command.fields, command.len);
+        put_command(
+            &mut self.memory,
+            slot,
+            &command.head.fields,
+            command.head.len,
+        );
         give(&mut self.port, &self.memory, slot)?;
         self.tables[slot as usize] = Some(command.table);
         self.counts[slot as usize] = 0;
@@ -98,7 +109,7 @@ impl Controller {
     // Issues the command of a slot, or marks that as a bad one. Answers whether a message is due.
     fn attempt<G: Guest>(&mut self, alloc: Global, guest: &G, slot: u8) -> bool
         requires { slot < 32 }
-        ensures { Attempts (G.may_read guest.now) slot self.old result self.new }
+        ensures { Attempts (G.may_read guest.now) (G.may_miss guest.now) slot self.old result self.new }
     {
         match self.try_issue(alloc, guest, slot) {
             Ok(()) => false,
@@ -111,7 +122,7 @@ impl Controller {
 
     fn step<G: Guest>(&mut self, alloc: Global, guest: &G, mask: u32, slot: u8) -> bool
         requires { slot < 32 }
-        ensures { Steps (G.may_read guest.now) mask slot self.old result self.new }
+        ensures { Steps (G.may_read guest.now) (G.may_miss guest.now) mask slot self.old result self.new }
     {
         if has_bit(mask, u32::from(slot)) {
             self.attempt(alloc, guest, slot)
@@ -122,7 +133,7 @@ impl Controller {
 
     // Issues the commands of these slots.
     fn issue_all<G: Guest>(&mut self, alloc: Global, guest: &G, mask: u32) -> bool
-        ensures { IssuesBelow (G.may_read guest.now) mask 32 self.old result self.new }
+        ensures { IssuesBelow (G.may_read guest.now) (G.may_miss guest.now) mask 32 self.old result self.new }
     {
         let mut message = false;
         for slot in 0..32_u8 {
@@ -140,7 +151,7 @@ impl Controller {
 
     /// A write of PxCI.
     pub(crate) fn write_pxci<G: Guest>(&mut self, alloc: Global, guest: &G, value: u32) -> bool
-        ensures { WritesIssue (G.may_read guest.now) self.old value result self.new }
+        ensures { WritesIssue (G.may_read guest.now) (G.may_miss guest.now) self.old value result self.new }
     {
         if !self.port.registers().started {
             return false;

@@ -8,7 +8,7 @@ use guest_bytes::Guest;
 /// that writes to PxCI, and whatever stands in its memory, the table that is kept for a slot stays as long as something is
 /// issued in that.
 pub fn kept_tables_stay<G: Guest>(guest: &G)
-    ensures { KeptTablesStay (G.may_read guest.now) }
+    ensures { KeptTablesStay (G.may_read guest.now) (G.may_miss guest.now) }
 {
     let _ = guest;
 }

@@ -213,7 +213,7 @@ impl Controller {
         offset: u32,
         value: u32,
     ) -> Written
-        ensures { WritesAt (G.may_read guest.now) self.old offset value result self.new }
+        ensures { WritesAt (G.may_read guest.now) (G.may_miss guest.now) self.old offset value result self.new }
     {
         match Register::at(offset) {
             Some(Register::PxCi) => Written::quietly(self.write_pxci(alloc, guest, value)),

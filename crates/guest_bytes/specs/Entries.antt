@@ -68,6 +68,13 @@ pub record IsMissing (may_read : ℕ → List ℕ → Type 0) (may_miss : ℕ �
   pub begun : IsBegun may_read at count len table
   pub missed : may_miss (at + 16 * length table) 16
 
+-- the entry after these was read, and is to be kept
+pub record IsToKeep (may_read : ℕ → List ℕ → Type 0) (at count len : ℕ) : Type 0 where
+  pub table : List Segment
+  pub begun : IsBegun may_read at count len table
+  pub segment : Segment
+  pub is : IsEntryAt may_read (at + 16 * length table) segment
+
 -- the entry after these has bytes past the last address
 pub record PassesEnd (may_read : ℕ → List ℕ → Type 0) (at count len : ℕ) : Type 0 where
   pub table : List Segment

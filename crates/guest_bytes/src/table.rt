@@ -3,7 +3,7 @@
 ghost use Rattle.std.specs.Prelude.{◌≡◌, ◌+◌, ◌*◌, ◌<◌, ◌≤◌, ◌^◌, ℕ, List, All, length, IfOk};
 ghost use Rattle.std.specs.Result.{IsErrOf};
 ghost use Rattle.guest_bytes.specs.Guest.{Delivers, total_of};
-ghost use Rattle.guest_bytes.specs.Entries.{AreRead, IsTable, GoesAsFar, IsMissing, IsPastEnd};
+ghost use Rattle.guest_bytes.specs.Entries.{AreRead, IsTable, GoesAsFar, IsMissing, IsPastEnd, IsToKeep};
 ghost use Rattle.guest_bytes.specs.Moves.{HoldMoves, IsMove, moves_of};
 
 use crate::entry::{Segment, read_entry};
@@ -84,6 +84,8 @@ impl GuestTable {
             → IsMissing (G.may_read guest.now) (G.may_miss guest.now) at count len }
         ensures past_end { IsErrOf result TableError.PastEnd
             → IsPastEnd (G.may_read guest.now) at count len }
+        ensures out_of_memory { IsErrOf result TableError.OutOfMemory
+            → IsToKeep (G.may_read guest.now) at count len }
     {
         if u64::MAX - at < 16 * u64::from(count) {
             return Err(TableError::PastEnd);

@@ -1,13 +1,18 @@
 -- A guest's command as it was read: AHCI 1.3.1, sections 4.2.2 (header) and 4.2.3 (command table), and of its
 -- FIS Serial ATA 3.x, 10.5.5. What lies in a guest's memory may change at any time, so it is known only by
 -- what a read may give (may_read).
-use Rattle.std.specs.Prelude.{◌≡◌, ℕ, ◌+◌, ◌==◌, ◌≤◌, true, List, length}
+use Rattle.std.specs.Prelude.{◌≡◌, ℕ, ◌+◌, ◌^◌, ◌==◌, ◌<◌, ◌≤◌, Bool, true, false, List, length, Result, Ok}
+use Rattle.fis_view.specs.Seen.{seen}
+use Rattle.fis_view.specs.declared.view.Fis.{Fis}
+use Rattle.fis_view.specs.declared.view.Fis.TheVariants as view
+use Rattle.fis_view.specs.declared.view.FisFault.{FisFault}
 use Rattle.fis_view.specs.Table.{H2d, PmPort, C, Command, Features, Lba, Device, Count, Icc, Control, field}
 use Rattle.fis_view.specs.declared.build.H2dFields.{H2dFields}
 use Rattle.guest_bytes.specs.Entries.{AreRead, GoesAsFar}
 use Rattle.guest_bytes.specs.Guest.{total_of}
 use Rattle.hba_commands.specs.Requests.{request_of, work_of}
 use Rattle.guest_commands.specs.Headers.{IsHeaderAt, is_proper}
+use Rattle.guest_commands.specs.declared.command.CommandHead.{CommandHead}
 use Rattle.guest_commands.specs.declared.command.GuestCommand.{GuestCommand}
 
 -- the fields of a command FIS
@@ -24,6 +29,18 @@ fields_in cfis = record {
   control = field H2d Control cfis;
 }
 
+-- it is a Register Host to Device FIS
+abbrev pub is_command_view : Result Fis FisFault → Bool
+is_command_view (Ok (view.RegH2D f)) = true
+is_command_view fis = false
+
+abbrev pub is_command : List ℕ → Bool
+is_command cfis = is_command_view (seen cfis)
+
+-- how many bytes a command with these fields moves
+abbrev pub len_of : H2dFields → ℕ
+len_of fields = (work_of (request_of fields)).len
+
 -- 20 bytes that may be read there
 abbrev pub IsFisAt : (ℕ → List ℕ → Type 0) → ℕ → List ℕ → Type 0
 IsFisAt may_read at cfis = (length cfis ≡ 20) × may_read at cfis
@@ -32,16 +49,23 @@ IsFisAt may_read at cfis = (length cfis ≡ 20) × may_read at cfis
 abbrev pub lane_len : ℕ
 lane_len = 131072
 
--- The command whose header lies at an address: header, FIS and entries are what reads at their places may have
--- given. The entries go as far as the command's bytes, and have all of them.
+-- Header and FIS of a command are what reads at their places may have given, and right: they have the same PM
+-- Port, a lane has room for the command's bytes, and the table has addresses.
+pub record IsHeadAt (may_read : ℕ → List ℕ → Type 0) (at : ℕ) (head : CommandHead) : Type 0 where
+  pub header : IsHeaderAt may_read at head.header
+  pub proper : is_proper head.header ≡ true
+  pub fis : IsFisAt may_read head.header.table head.cfis
+  pub kind : is_command head.cfis ≡ true
+  pub fields : head.fields ≡ fields_in head.cfis
+  pub port : head.fields.pm_port ≡ head.header.pm_port
+  pub len : head.len ≡ len_of head.fields
+  pub few : head.len ≤ lane_len
+  pub room : head.header.table + 128 < 2 ^ 64
+
+-- The command whose header lies at an address: its entries, too, are what reads at their places may have given.
+-- They go as far as the command's bytes, and have all of them.
 pub record IsCommandAt (may_read : ℕ → List ℕ → Type 0) (at : ℕ) (command : GuestCommand) : Type 0 where
-  pub header : IsHeaderAt may_read at command.header
-  pub proper : is_proper command.header ≡ true
-  pub fis : IsFisAt may_read command.header.table command.cfis
-  pub fields : command.fields ≡ fields_in command.cfis
-  pub port : command.fields.pm_port ≡ command.header.pm_port
-  pub len : command.len ≡ (work_of (request_of command.fields)).len
-  pub few : command.len ≤ lane_len
-  pub entries : AreRead may_read (command.header.table + 128) command.table
-  pub as_far : GoesAsFar command.header.entries command.len command.table
-  pub enough : command.len ≤ total_of command.table
+  pub head : IsHeadAt may_read at command.head
+  pub entries : AreRead may_read (command.head.header.table + 128) command.table
+  pub as_far : GoesAsFar command.head.header.entries command.head.len command.table
+  pub enough : command.head.len ≤ total_of command.table

@@ -1,3 +1,4 @@
 pub mod Headers
 pub mod Commands
+pub mod Refusals
 pub mod Window

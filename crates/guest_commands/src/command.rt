@@ -1,7 +1,10 @@
 //! A guest's command.
 
-ghost use Rattle.std.specs.Prelude.{◌≡◌, ◌+◌, ◌*◌, ◌<◌, ◌≤◌, IfOk, OnErr};
-ghost use Rattle.guest_commands.specs.Commands.{IsCommandAt, IsFisAt};
+ghost use Rattle.std.specs.Prelude.{◌≡◌, ◌+◌, ◌*◌, ◌<◌, ◌≤◌, IfErr, IfOk, OnErr};
+ghost use Rattle.guest_bytes.specs.Entries.{AreRead, GoesAsFar};
+ghost use Rattle.guest_bytes.specs.Guest.{total_of};
+ghost use Rattle.guest_commands.specs.Commands.{IsCommandAt, IsFisAt, IsHeadAt};
+ghost use Rattle.guest_commands.specs.Refusals.{HeadRefused, IsRefused, TableRefused};
 
 use crate::fis::{fields, transfer_len};
 use crate::header::GuestHeader;
@@ -27,33 +30,35 @@ pub enum CommandError {
 }
 
 impl From<NotThere> for CommandError {
+    ghost use Rattle.std.specs.Prelude.{◌≡◌};
+    ghost use Rattle.guest_commands.specs.declared.command.CommandError.TheVariants.{NotThere as Missing};
+
+    ghost from_gives = { λ _ e. e ≡ Missing };
+
     fn from(_e: NotThere) -> CommandError {
         CommandError::NotThere
     }
 }
 
-impl From<TableError> for CommandError {
-    fn from(e: TableError) -> CommandError {
-        match e {
-            TableError::NotThere => CommandError::NotThere,
-            TableError::PastEnd => CommandError::Bad,
-            TableError::OutOfMemory => CommandError::OutOfMemory,
-        }
-    }
-}
-
-/// A guest's command: its header, its FIS and its table, as they were read.
-#[derive(Debug, Drop)]
-pub struct GuestCommand {
-    /// Its header.
+/// A command's header and its FIS, as they were read.
+#[derive(Clone, Copy, Debug)]
+pub struct CommandHead {
+    /// The header.
     pub header: GuestHeader,
-    /// Its FIS.
+    /// The FIS.
     pub cfis: [u8; 20],
     /// What the FIS says.
     pub fields: H2dFields,
-    /// How many bytes it moves.
+    /// How many bytes the command moves.
     pub len: u32,
-    /// Where they lie in the guest's memory.
+}
+
+/// A guest's command, as it was read.
+#[derive(Debug, Drop)]
+pub struct GuestCommand {
+    /// Its header and its FIS.
+    pub head: CommandHead,
+    /// Where its bytes lie in the guest's memory.
     pub table: GuestTable,
 }
 
@@ -67,35 +72,66 @@ fn read_fis<G: Guest>(guest: &G, at: u64) -> Result<[u8; 20], NotThere>
     Ok(raw)
 }
 
+// Reads header and FIS of the command whose header lies at an address.
+fn read_head<G: Guest>(guest: &G, at: u64) -> Result<CommandHead, CommandError>
+    ensures ok { IfOk result (λ head. IsHeadAt (G.may_read guest.now) at head) }
+    ensures err { IfErr result
+        (λ error. HeadRefused (G.may_read guest.now) (G.may_miss guest.now) at error) }
+{
+    let header = GuestHeader::read(guest, at)?;
+    if !header.is_proper() {
+        return Err(CommandError::Bad);
+    }
+    let cfis = read_fis(guest, header.table)?;
+    let Some(fields) = fields(&cfis) else {
+        return Err(CommandError::Bad);
+    };
+    let len = transfer_len(&fields);
+    if fields.pm_port != header.pm_port || len > LANE_LEN || header.table >= u64::MAX - 0x7F {
+        return Err(CommandError::Bad);
+    }
+    Ok(CommandHead {
+        header,
+        cfis,
+        fields,
+        len,
+    })
+}
+
+// Reads the table of `count` entries at `at`, as far as the `len` bytes of its command reach. It has all of them.
+fn read_table<G: Guest>(
+    alloc: Global,
+    guest: &G,
+    at: u64,
+    count: u16,
+    len: u32,
+) -> Result<GuestTable, CommandError>
+    ensures entries { IfOk result (λ table. AreRead (G.may_read guest.now) at table) }
+    ensures as_far { IfOk result (λ table. GoesAsFar count len table) }
+    ensures enough { IfOk result (λ table. len ≤ total_of table) }
+    ensures err { IfErr result
+        (λ error. TableRefused (G.may_read guest.now) (G.may_miss guest.now) at count len error) }
+{
+    match GuestTable::read(alloc, guest, at, count, u64::from(len)) {
+        Ok(table) if table.total() < u64::from(len) => Err(CommandError::Bad),
+        Ok(table) => Ok(table),
+        Err(TableError::NotThere) => Err(CommandError::NotThere),
+        Err(TableError::PastEnd) => Err(CommandError::Bad),
+        Err(TableError::OutOfMemory) => Err(CommandError::OutOfMemory),
+    }
+}
+
 impl GuestCommand {
     /// Reads the command whose header lies at an address: the header, the FIS and each entry of the table once, and none of
     /// them again later.
     pub fn read<G: Guest>(alloc: Global, guest: &G, at: u64) -> Result<GuestCommand, CommandError>
-        ensures { IfOk result (λ command. IsCommandAt (G.may_read guest.now) at command) }
+        ensures ok { IfOk result (λ command. IsCommandAt (G.may_read guest.now) at command) }
+        ensures err { IfErr result
+            (λ error. IsRefused (G.may_read guest.now) (G.may_miss guest.now) at error) }
     {
-        let header = GuestHeader::read(guest, at)?;
-        if !header.is_proper() {
-            return Err(CommandError::Bad);
-        }
-        let cfis = read_fis(guest, header.table)?;
-        let Some(fields) = fields(&cfis) else {
-            return Err(CommandError::Bad);
-        };
-        let len = transfer_len(&fields);
-        if fields.pm_port != header.pm_port || len > LANE_LEN || header.table > u64::MAX - 0x80 {
-            return Err(CommandError::Bad);
-        }
-        let entries = header.table + 0x80;
-        let table = GuestTable::read(alloc, guest, entries, header.entries, u64::from(len))?;
-        if table.total() < u64::from(len) {
-            return Err(CommandError::Bad);
-        }
-        Ok(GuestCommand {
-            header,
-            cfis,
-            fields,
-            len,
-            table,
-        })
+        let head = read_head(guest, at)?;
+        let header = head.header;
+        let table = read_table(alloc, guest, header.table + 0x80, header.entries, head.len)?;
+        Ok(GuestCommand { head, table })
     }
 }

@@ -1,8 +1,8 @@
 //! What a command FIS says.
 
-ghost use Rattle.std.specs.Prelude.{◌≡◌, IfSome};
+ghost use Rattle.std.specs.Prelude.{◌≡◌, IfSome, is_some};
 ghost use Rattle.hba_commands.specs.Requests.{request_of, sectors as sectors_of, work_of};
-ghost use Rattle.guest_commands.specs.Commands.{fields_in};
+ghost use Rattle.guest_commands.specs.Commands.{fields_in, is_command};
 
 use fis_view::{Fis, H2dFields, RegH2D};
 
@@ -24,7 +24,8 @@ fn fields_of(fis: &RegH2D<'_>) -> H2dFields
 
 /// The fields of a command FIS of 20 bytes, if it is a Register Host to Device FIS.
 pub(crate) fn fields(cfis: &[u8; 20]) -> Option<H2dFields>
-    ensures { IfSome result (λ fields. fields ≡ fields_in cfis.now) }
+    ensures is { is_some result ≡ is_command cfis.now }
+    ensures fields { IfSome result (λ fields. fields ≡ fields_in cfis.now) }
 {
     match Fis::of(cfis) {
         Ok(Fis::RegH2D(fis)) => Some(fields_of(&fis)),

@@ -11,6 +11,6 @@ mod fis;
 mod header;
 mod window;
 
-pub use command::{CommandError, GuestCommand};
+pub use command::{CommandError, CommandHead, GuestCommand};
 pub use header::GuestHeader;
 pub use window::{LANE_LEN, LIST, WINDOW_LEN, lane, put_command};

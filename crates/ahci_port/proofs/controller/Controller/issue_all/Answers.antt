@@ -21,4 +21,4 @@ loop-slot-preserved g c = rw add-one (record {
 pub returns : goal.returns
 returns g c =
     let all : c.loop-slot.slot ≡ 32 = omega arith in
-    subst (λ (n : ℕ). IssuesBelow (g.G.Guest.may_read c.args.guest.now) c.args.mask n c.args.self.now c.loop-slot.message c.loop-slot.self) all c.loop-slot.invariant
+    subst (λ (n : ℕ). IssuesBelow (g.G.Guest.may_read c.args.guest.now) (g.G.Guest.may_miss c.args.guest.now) c.args.mask n c.args.self.now c.loop-slot.message c.loop-slot.self) all c.loop-slot.invariant

@@ -1,0 +1,107 @@
+//! Commands that cannot be served.
+
+use super::rig::{AREA, BASE, Rig};
+use super::sectors::{ACCEPTED, ISSUES_READ, READ};
+use super::steps::Step::{
+    Alarms, Command, Fills, Holds, Ignores, IsSilent, Line, Reads, Sends, Takes, Writes,
+};
+use super::steps::{STARTS, Step, plays};
+use std::test::Fail;
+
+static IS_BAD: [Step; 16] = [
+    Fills(BASE + 32, 32, 0),
+    Alarms(0x138, 2),
+    Reads(0x138, 3),
+    Reads(0x110, 0x800_0000),
+    Line(true),
+    IsSilent,
+    Ignores(ACCEPTED),
+    Writes(0x110, 0x800_0000),
+    Writes(0x118, 0x2_0010),
+    Reads(0x138, 0),
+    Reads(0x134, 0),
+    Line(false),
+    Writes(0x118, 0x2_0011),
+    Writes(0x134, 1),
+    Writes(0x138, 1),
+    Sends(READ),
+];
+
+/// Such a command stops the port until ST falls. Its slot shows in PxCI.
+#[test]
+fn a_bad_command_stops_the_port(rt: HostRuntime) -> Result<(), Fail> {
+    let mut rig = Rig::new(rt.alloc())?;
+    plays(&rt, &mut rig, &STARTS)?;
+    plays(&rt, &mut rig, &ISSUES_READ)?;
+    plays(&rt, &mut rig, &IS_BAD)
+}
+
+static IS_NO_MEMORY: [Step; 8] = [
+    Command(0, 2, 1, READ),
+    Fills(BASE + 12, 1, 9),
+    Writes(0x134, 1),
+    Writes(0x140, 0x201),
+    Alarms(0x138, 1),
+    Reads(0x138, 1),
+    Reads(0x110, 0x2800_0000),
+    Line(true),
+];
+
+/// Memory that is not there is a host bus error.
+#[test]
+fn a_table_may_be_no_memory(rt: HostRuntime) -> Result<(), Fail> {
+    let mut rig = Rig::new(rt.alloc())?;
+    plays(&rt, &mut rig, &STARTS)?;
+    plays(&rt, &mut rig, &IS_NO_MEMORY)
+}
+
+/// READ NATIVE MAX ADDRESS, which moves no data, for devices 1 and 2.
+const FIRST: &str = "2781F80000000040000000000000000000000000";
+
+const SECOND: &str = "2782F80000000040000000000000000000000000";
+
+/// PxFBS.EN is cleared while ST is 0. Then FISes of the device that was issued last are posted, in row 0, and those of
+/// others are not.
+static ONE_DEVICE: [Step; 22] = [
+    Writes(0x118, 0x2_0010),
+    Writes(0x140, 0),
+    Writes(0x118, 0x2_0011),
+    Reads(0x140, 0xF000),
+    Command(0, 1, 0, FIRST),
+    Command(1, 2, 0, SECOND),
+    Writes(0x138, 1),
+    Sends(FIRST),
+    Reads(0x120, 0xD0),
+    Takes("3441400000000000000000000000000000000000"),
+    Reads(0x120, 0x40),
+    Reads(0x138, 0),
+    Holds(AREA + 0x40, 0x34),
+    Holds(AREA + 0x41, 0x41),
+    Holds(AREA + 0x140, 0),
+    Takes("A142400000000000"),
+    Holds(AREA + 0x58, 0),
+    Holds(AREA + 0x258, 0),
+    Writes(0x138, 2),
+    Sends(SECOND),
+    Takes("3442400000000000000000000000000000000000"),
+    Holds(AREA + 0x41, 0x42),
+];
+
+/// A command beside one of another device cannot be served there.
+static TWO_DEVICES: [Step; 7] = [
+    Writes(0x110, 0x7FFF_FFFF),
+    Writes(0x138, 1),
+    Reads(0x110, 0),
+    Alarms(0x138, 2),
+    Reads(0x138, 3),
+    Reads(0x110, 0x800_0000),
+    IsSilent,
+];
+
+#[test]
+fn one_device_works_at_a_time(rt: HostRuntime) -> Result<(), Fail> {
+    let mut rig = Rig::new(rt.alloc())?;
+    plays(&rt, &mut rig, &STARTS)?;
+    plays(&rt, &mut rig, &ONE_DEVICE)?;
+    plays(&rt, &mut rig, &TWO_DEVICES)
+}
