@@ -1,22 +1,21 @@
 -- What the calls on a controller do, by its rules (AHCI 1.3.1, sections 3, 4.2 and 5.3).
 use Rattle.std.specs.Prelude.{◌≡◌, ℕ, ◌<◌, ◌==◌, ◌⊎◌, Bool, true, false, if◌then◌else◌, List, length}
-use Rattle.std.specs.Prelude.{Option, None, Some, MatchOption, map}
-use Rattle.fis_view.specs.Frames.{Stamped, is_frame}
+use Rattle.std.specs.Prelude.{Option, None, Some, map}
+use Rattle.fis_view.specs.Frames.{is_frame}
 use Rattle.fis_view.specs.declared.frame.Stamp.{Stamp}
-use Rattle.guest_bytes.specs.Flat.{Block, MayRead}
+use Rattle.guest_bytes.specs.Flat.{Block, MayMiss, MayRead}
 use Rattle.guest_bytes.specs.declared.moves.Move.{Move}
 use Rattle.ahci_registers.specs.Lines.{line}
 use Rattle.ahci_registers.specs.declared.link.Effect.{Effect}
 use Rattle.ahci_registers.specs.declared.link.Effect.TheVariants.{Nothing, LinkReset, LinkUp}
 use Rattle.ahci_port.specs.Accesses.{WritesAt}
 use Rattle.ahci_port.specs.Reading.{read_at}
-use Rattle.ahci_port.specs.Sending.{Misses, Sends, nothing_sent}
+use Rattle.ahci_port.specs.Sending.{Misses, Prepares, Sends, nothing_sent}
 use Rattle.ahci_port.specs.States.{ControllerState}
 use Rattle.ahci_port.specs.Taking.{Brings, Drops, Takes, is_deaf}
 use Rattle.ahci_port.specs.declared.sending.Sent.{Sent}
 use Rattle.ahci_port.specs.declared.taking.Counted.{Counted}
 use Rattle.ahci_port.specs.declared.taking.Took.{Took}
-use Rattle.ahci_port.specs.declared.writing.Written.{Written}
 use Rattle.gefsunk.specs.declared.hba.FisTaken.{FisTaken}
 use Rattle.gefsunk.specs.declared.hba.DataPlace.{DataPlace}
 use Rattle.gefsunk.specs.declared.status.Status.{Status}
@@ -46,7 +45,7 @@ abbrev pub HbaWrite :
     ControllerState → Block → (offset value : ℕ) → Status → (link message : ℕ) → ControllerState → Type 0
 HbaWrite old guest offset value answer link message new =
     (answer ≡ status.Done)
-    × WritesAt (MayRead guest) old offset value
+    × WritesAt (MayRead guest) (MayMiss guest) old offset value
     (record { effect = link_of link; message = yes message }) new
 
 -- ---- a FIS of a device
@@ -110,7 +109,7 @@ DataRule hba room _ places = ⊥
 
 abbrev pub Gives : ControllerState → Block → Sent → ControllerState → Type 0
 Gives old guest sent new =
-    (is_deaf old ≡ false → Sends (MayRead guest) old sent new ⊎ Misses old sent new)
+    (is_deaf old ≡ false → Sends (MayRead guest) old sent new ⊎ Misses (MayMiss guest) old sent new)
     × (is_deaf old ≡ true → (new ≡ old) × (sent ≡ nothing_sent))
 
 -- this one, with its stamp, which C does not see
@@ -124,6 +123,7 @@ abbrev pub NextOut : ControllerState → Block → ℕ → Status → List ℕ �
 NextOut old guest room status.Done fis message new = GivesFis old guest fis message new
 NextOut old guest room status.Nothing fis message new =
     Gives old guest (record { frame = None; message = yes message }) new
-NextOut old guest room status.NoMemory fis message new = new ≡ record old { memory = new.memory }
+NextOut old guest room status.NoMemory fis message new =
+    (new ≡ record old { memory = new.memory }) × Prepares (MayRead guest) old new.memory
 NextOut old guest room status.TooShort fis message new = (room < 8196) × (new ≡ old)
 NextOut old guest room _ fis message new = ⊥
