@@ -1,0 +1,15 @@
+//! Laws about every run of a disk behind its front. The functions run no code.
+
+ghost use Rattle.stock_disk.specs.Laws.{ErrorsAbort, InsideIsDisk};
+
+/// What passes to the disk and what the disk sends, in every run of a disk behind its front, is a run of a
+/// disk.
+pub fn inside_is_a_disk()
+    ensures { InsideIsDisk }
+{}
+
+/// Once the disk has reported an error of queued commands, the front aborts each command, whatever else comes
+/// and goes, until the error's log is read, SRST is set or the disk is plugged in.
+pub fn errors_abort_commands()
+    ensures { ErrorsAbort }
+{}
