@@ -113,6 +113,6 @@ sends_inside old new bytes is sends front =
 
 -- a new disk stands for no history
 pub opens : (s : StockValue) (plan : DiskPlan) (sectors : ℕ) → DiskStandsFor s.disk []
-    → stock_plan s ≡ DiskOf plan sectors → s.front ≡ opening plan.auto → StockStandsFor s []
+    → stock_plan s ≡ DiskOf plan sectors → s.front ≡ opening plan → StockStandsFor s []
 unfolding front_at inside
 opens s plan sectors disk is front = record { disk = disk; front = front ∙ ap opening_of (sym is) }

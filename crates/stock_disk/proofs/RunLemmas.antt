@@ -46,4 +46,4 @@ inside_runs plan sectors front m (e ∷ h) runs =
     (inside_runs plan sectors (front_after front e) (moment_after plan sectors m (inner_of front e)) h runs.1)
 
 pub inside_is_disk : InsideIsDisk
-inside_is_disk plan sectors h run = inside_runs plan sectors (opening plan.auto) (opening_moment sectors) h run
+inside_is_disk plan sectors h run = inside_runs plan sectors (opening plan) (opening_moment sectors) h run

@@ -2,7 +2,8 @@
 -- disk's own history is a part of it: what passed, and what the disk sent.
 use Rattle.std.specs.Prelude.{ℕ, ◌≡◌, true, false, Bool, List, [], ◌∷◌, ◌++◌, Option, Some, None}
 use Rattle.fis_view.specs.Seen.{seen}
-use Rattle.disk_model.specs.Disks.{DiskValue}
+use Rattle.disk_model.specs.Disks.{DiskValue, after}
+use Rattle.disk_model.specs.Insides.{HasTurn, WantsRoom}
 use Rattle.disk_model.specs.Histories.{Happening, Received, Sent, Plugged, Plan, Script, DiskOf, GoesOn}
 use Rattle.disk_model.specs.Histories.{SendsNext}
 use Rattle.disk_model.specs.Runs.{DiskMaySend, DiskStandsFor, disk_plan}
@@ -54,10 +55,11 @@ unfoldable pub inside : Front → List Happening → List Happening
 inside front [] = []
 inside front (e ∷ later) = inner_of front e ++ inside (front_after front e) later
 
--- the front of a new disk
+-- the front of a new device; a script has none
 abbrev pub opening_of : Plan → Front
-opening_of (DiskOf plan sectors) = opening plan.auto
-opening_of (Script frames) = opening false
+opening_of (DiskOf plan sectors) = opening plan
+opening_of (Script frames) =
+    record { on = false; auto = false; failed = false; busy = false; outstanding = 0; owed = None }
 
 abbrev pub stock_plan : StockValue → Plan
 stock_plan s = disk_plan s.disk
@@ -87,6 +89,16 @@ pub record Took (old : StockValue) (bytes : List ℕ) (new : StockValue) : Type 
   pub passed : passes old.front (seen bytes) ≡ true → DiskTook old.disk bytes new.disk
   pub kept : passes old.front (seen bytes) ≡ false → new.disk ≡ old.disk
   pub front : new.front ≡ heard old.front (seen bytes)
+
+-- the FIS passes, and the disk is full
+pub record WantsRoomFor (old : StockValue) (bytes : List ℕ) : Type 0 where
+  pub passed : passes old.front (seen bytes) ≡ true
+  pub room : WantsRoom old.disk.now (after old.disk.plan old.disk.sectors old.disk.now (Received bytes))
+
+-- the front owes an answer, or it is the disk's turn to send
+abbrev pub MaySendBy : Option Own → DiskValue → Type 0
+MaySendBy (Some own) disk = Unit {0}
+MaySendBy None disk = HasTurn disk
 
 -- the bytes are the front's own answer, or else the disk sent them as its own call says
 abbrev pub GaveBy : Option Own → DiskValue → List ℕ → DiskValue → Type 0

@@ -9,6 +9,9 @@ use Rattle.fis_view.specs.Table.{field}
 use Rattle.fis_view.specs.declared.view.Fis.{Fis}
 use Rattle.fis_view.specs.declared.view.Fis.TheVariants as view
 use Rattle.fis_view.specs.declared.view.FisFault.{FisFault}
+use Rattle.disk_model.specs.declared.plan.DiskPlan.{DiskPlan}
+use Rattle.disk_model.specs.declared.plan.Profile.{Profile}
+use Rattle.disk_model.specs.declared.plan.Profile.TheVariants.{Bare, Stock}
 use Rattle.disk_model.specs.Requests.{names_error_log}
 use Rattle.disk_model.specs.Sendings.{Sending, Register}
 use Rattle.stock_disk.specs.declared.front.Front.{Front}
@@ -82,10 +85,10 @@ answer_to front f =
     (if front.failed then (if asks_log f then None else Some Aborted)
     else (if is_idle front then done_for front.auto f else None))
 
--- the front's own answer to a FIS of the host, if it answers; C, set in a Register FIS, says that it is a
--- command
+-- The front's own answer to a FIS of the host, if it answers. C, set in a Register FIS, says that it is a
+-- command. The front of a disk without the stock profile answers nothing.
 abbrev pub own_to : Front → Result Fis FisFault → Option Own
-own_to front (Ok (view.RegH2D f)) = if field H2d C f == 1 then answer_to front f else None
+own_to front (Ok (view.RegH2D f)) = if front.on && (field H2d C f == 1) then answer_to front f else None
 own_to front _ = None
 
 abbrev pub is_none : Option Own → Bool
@@ -98,12 +101,25 @@ passes front fis = is_none (own_to front fis)
 
 -- ## What the front keeps
 
-abbrev pub opening : (auto : Bool) → Front
-opening auto = record { auto = auto; failed = false; busy = false; outstanding = 0; owed = None }
+-- the disk's IDENTIFY DEVICE data are those that stock drivers read
+abbrev pub is_stock : Profile → Bool
+is_stock Bare = false
+is_stock (Stock serial) = true
+
+-- the front of a new disk
+abbrev pub opening : DiskPlan → Front
+opening plan = record {
+  on = is_stock plan.profile;
+  auto = plan.auto;
+  failed = false;
+  busy = false;
+  outstanding = 0;
+  owed = None;
+}
 
 -- only the signature is to come: SRST was set, or the disk was plugged in
 abbrev pub settles : Front → Front
-settles front = record { auto = front.auto; failed = false; busy = true; outstanding = 0; owed = None }
+settles front = record front { failed = false; busy = true; outstanding = 0; owed = None }
 
 -- the bit of a queued command's tag
 abbrev pub tags_of : List ℕ → ℕ

@@ -7,6 +7,7 @@ use Rattle.fis_view.specs.declared.view.Fis.{Fis}
 use Rattle.fis_view.specs.declared.view.Fis.TheVariants as view
 use Rattle.fis_view.specs.declared.view.FisFault.{FisFault}
 use Rattle.disk_model.specs.declared.plan.DiskPlan.{DiskPlan}
+use Rattle.disk_model.specs.declared.plan.Profile.TheVariants.{Bare}
 use Rattle.disk_model.specs.Disks.{Moment, moment_after, opening as opening_moment, turn}
 use Rattle.disk_model.specs.Ends.{reports}
 use Rattle.disk_model.specs.Histories.{Happening, Received, Sent, Plugged}
@@ -37,13 +38,18 @@ Runs plan sectors front m (e ∷ later) =
 
 -- a run of a new disk behind its front
 abbrev pub IsStockRun : DiskPlan → ℕ → List Happening → Type 0
-IsStockRun plan sectors history = Runs plan sectors (opening plan.auto) (opening_moment sectors) history
+IsStockRun plan sectors history = Runs plan sectors (opening plan) (opening_moment sectors) history
 
 -- What the disk has of each run is a run of a disk. So each law of every run of a disk holds of it.
 abbrev pub InsideIsDisk : Type 0
 InsideIsDisk =
     (plan : DiskPlan) (sectors : ℕ) (history : List Happening) → IsStockRun plan sectors history
-    → IsDiskRun plan sectors (inside (opening plan.auto) history)
+    → IsDiskRun plan sectors (inside (opening plan) history)
+
+-- A disk without the stock profile has all of each list of events: its front answers nothing.
+abbrev pub BareIsDisk : Type 0
+BareIsDisk =
+    (plan : DiskPlan) (history : List Happening) → plan.profile ≡ Bare → inside (opening plan) history ≡ history
 
 -- ## After an error
 
@@ -64,7 +70,7 @@ NoneEndsMode (Plugged ∷ later) = ⊥
 -- whatever else comes and goes, the front aborts each command.
 abbrev pub ErrorsAbort : Type 0
 ErrorsAbort =
-    (front : Front) (error : List ℕ) (between : List Happening) (command : List ℕ) → front.owed ≡ None
-    → reports (seen error) ≡ true → NoneEndsMode between → (field H2d C command == 1) ≡ true
+    (front : Front) (error : List ℕ) (between : List Happening) (command : List ℕ) → front.on ≡ true
+    → front.owed ≡ None → reports (seen error) ≡ true → NoneEndsMode between → (field H2d C command == 1) ≡ true
     → asks_log command ≡ false
     → own_to (front_at front (Sent error ∷ between)) (Ok (view.RegH2D command)) ≡ Some Aborted

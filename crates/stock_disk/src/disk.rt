@@ -35,13 +35,13 @@ impl StockDisk {
     pub fn new(alloc: Global, sectors: u32, plan: DiskPlan) -> Result<StockDisk, DiskError>
         ensures disk { IfOk result (λ s. s.disk
             ≡ record { plan = plan; sectors = sectors; now = opening_moment sectors }) }
-        ensures front { IfOk result (λ s. s.front ≡ opening plan.auto) }
+        ensures front { IfOk result (λ s. s.front ≡ opening plan) }
         ensures plan { IfOk result (λ s. stock_plan s ≡ DiskOf plan sectors) }
         ensures opening { IfOk result (λ s. StockStandsFor s []) }
         ensures size { OnOk result (IsTrue (is_size sectors plan.chunk)) }
         ensures bad_size { IsErrOf result DiskError.BadSize ↔ ¬ IsTrue (is_size sectors plan.chunk) }
     {
-        let front = Front::opening(plan.auto);
+        let front = Front::opening(&plan);
         let disk = Disk::new(alloc, sectors, plan)?;
         Ok(StockDisk { disk, front })
     }
@@ -66,7 +66,7 @@ impl StockDisk {
 impl Device for StockDisk {
     ghost use Rattle.std.specs.Prelude.{IfNone, IfSome, IsOk, OnErr};
     ghost use Rattle.disk_model.specs.Histories.{GoesOn, IsSilent, Plugged, Received, SendsNext};
-    ghost use Rattle.stock_disk.specs.Faces.{Gave, StockMaySend, StockStandsFor, Took, stock_plan};
+    ghost use Rattle.stock_disk.specs.Faces.{Gave, MaySendBy, StockMaySend, StockStandsFor, Took, WantsRoomFor, stock_plan};
 
     ghost plan_of = { stock_plan };
 
@@ -80,6 +80,8 @@ impl Device for StockDisk {
         ensures err { OnErr result (self.new ≡ self.old) }
         // a FIS passes to the disk, or the front answers it and the disk does not see it
         ensures took { OnOk result (Took self.old frame.now.bytes self.new) }
+        // it takes memory only as the disk does, for what passes
+        ensures no_memory { OnErr result (WantsRoomFor self.old frame.now.bytes) }
     {
         let fis = frame.fis();
         match self.front.own_to(&fis) {
@@ -105,6 +107,8 @@ impl Device for StockDisk {
         ensures err { OnErr result (self.new ≡ self.old) }
         // the front's own answer comes first, and else what the disk sends
         ensures gave { IfOk result (λ out. IfSome out (λ frame. Gave self.old frame.bytes self.new)) }
+        // it takes memory for a frame to send, and for nothing else
+        ensures no_memory { OnErr result (MaySendBy self.old.front.owed self.old.disk) }
     {
         match self.front.owed {
             Some(own) => {

@@ -6,6 +6,7 @@ ghost use Rattle.stock_disk.specs.Fronts.{answer_to, asks_log, done_for, ended, 
 ghost use Rattle.disk_model.specs.Requests.{names_error_log};
 ghost use Rattle.disk_model.specs.Sendings.{Shows};
 
+use disk_model::{DiskPlan, Profile};
 use fis_view::{D2hFields, Fis, FisFault, Frame, RegD2H, RegH2D, SetBits, Stamp, d2h};
 use std::alloc::{AllocError, Global};
 
@@ -23,6 +24,8 @@ pub enum Own {
 /// What the front keeps: what the host knows of the disk from its registers, and the answer that waits.
 #[derive(Clone, Copy, Debug, PartialEq, Eq)]
 pub struct Front {
+    /// Whether the front answers at all: whether the disk's IDENTIFY DEVICE data are the stock profile.
+    pub on: bool,
     /// Whether the DMA Setups of the disk's writes have auto-activate.
     pub auto: bool,
     /// Whether an error ended all queued commands and its log has not been read.
@@ -111,11 +114,12 @@ fn tags_of(fis: &RegH2D<'_>) -> u32
 
 impl Front {
     /// The front of a disk that was not plugged in.
-    pub(crate) fn opening(auto: bool) -> Front
-        ensures { result ≡ opening auto }
+    pub(crate) fn opening(plan: &DiskPlan) -> Front
+        ensures { result ≡ opening plan.now }
     {
         Front {
-            auto,
+            on: matches!(plan.profile, Profile::Stock(_)),
+            auto: plan.auto,
             failed: false,
             busy: false,
             outstanding: 0,
@@ -152,7 +156,7 @@ impl Front {
         ensures { result ≡ own_to self fis.now }
     {
         match fis {
-            Ok(Fis::RegH2D(fis)) if fis.c() => self.answer_to(fis),
+            Ok(Fis::RegH2D(fis)) if self.on && fis.c() => self.answer_to(fis),
             _ => None,
         }
     }

@@ -1,6 +1,6 @@
 //! Laws about every run of a disk behind its front. The functions run no code.
 
-ghost use Rattle.stock_disk.specs.Laws.{ErrorsAbort, InsideIsDisk};
+ghost use Rattle.stock_disk.specs.Laws.{BareIsDisk, ErrorsAbort, InsideIsDisk};
 
 /// What passes to the disk and what the disk sends, in every run of a disk behind its front, is a run of a
 /// disk.
@@ -12,4 +12,9 @@ pub fn inside_is_a_disk()
 /// and goes, until the error's log is read, SRST is set or the disk is plugged in.
 pub fn errors_abort_commands()
     ensures { ErrorsAbort }
+{}
+
+/// A disk without the stock profile takes and sends, behind its front, exactly what it takes and sends alone.
+pub fn bare_disks_have_no_front()
+    ensures { BareIsDisk }
 {}
