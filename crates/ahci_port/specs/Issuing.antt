@@ -34,6 +34,7 @@ pub record Issues (may_read : ℕ → List ℕ → Type 0) (slot : ℕ) (old new
   pub command : GuestCommand
   pub read : IsCommandAt may_read (old.own.list + 32 * slot) command
   pub put : Puts slot command.head.fields command.head.len old.memory new.memory
+  pub taken : refusal_of Ci old.port new.memory (2 ^ slot) ≡ None
   pub port : Accepts old.port new.memory Ci (2 ^ slot) new.port
   pub rest : new ≡ record old {
     port = new.port;

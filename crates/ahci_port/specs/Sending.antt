@@ -1,6 +1,6 @@
 -- What goes out next: AHCI 1.3.1, 5.3. Bytes of a write are read from the guest's memory before they go, from the
 -- places that the command's table named when it was issued (section 4.2.3.3).
-use Rattle.std.specs.Prelude.{◌≡◌, ℕ, ◌+◌, ◌-◌, ◌^◌, min, false, List, [], ◌∷◌, length, bit_or}
+use Rattle.std.specs.Prelude.{◌≡◌, ℕ, ◌+◌, ◌-◌, ◌^◌, min, false, List, [], ◌∷◌, ◌++◌, length, bit_or}
 use Rattle.std.specs.Prelude.{Option, Some, None, MatchOption}
 use Rattle.guest_bytes.specs.Guest.{Delivers}
 use Rattle.guest_bytes.specs.Moves.{Fetches}
@@ -42,6 +42,19 @@ pub record AreGathered (may_read : ℕ → List ℕ → Type 0) (table : List Se
   pub delivers : Delivers table offset (length before) moves
   pub fetched : AreFetched may_read moves before payload
 
+-- a read of one of the runs in which these bytes of a transfer lie may be refused
+pub record MayBeMissed (may_miss : ℕ → ℕ → Type 0) (table : List Segment) (offset len : ℕ) : Type 0 where
+  pub before : List Move
+  pub m : Move
+  pub rest : List Move
+  pub delivers : Delivers table offset len (before ++ m ∷ rest)
+  pub missed : may_miss m.at m.len
+
+-- and of those that are due, of which this is the table
+abbrev pub IsMissed : (ℕ → ℕ → Type 0) → Option (List Segment) → Due → Type 0
+IsMissed may_miss None due = ⊥
+IsMissed may_miss (Some table) due = MayBeMissed may_miss table due.offset due.len
+
 -- where byte offset of a slot's transfer stands in the client area
 abbrev pub lane_byte : Due → ℕ
 lane_byte due = min (lane_at due.slot + due.offset) 4294967295
@@ -55,6 +68,8 @@ pub record Fills (may_read : ℕ → List ℕ → Type 0) (table : List Segment)
   pub structure : new.structure ≡ old.structure
   pub client : LiesInClient (length old.client) (lane_byte due) (length payload)
       → new.client ≡ overwritten old.client (lane_byte due - client_start) payload
+  pub outside : ¬ LiesInClient (length old.client) (lane_byte due) (length payload)
+      → new.client ≡ old.client
 
 abbrev pub FillsFrom :
     (ℕ → List ℕ → Type 0) → Option (List Segment) → Due → Memory → Memory → Type 0
@@ -92,12 +107,14 @@ pub record MissesIn (slot : ℕ) (old : ControllerState) (result : Sent) (new : 
   }
   pub told : result.message ≡ is_due old.lines (Caused missing_causes)
 
--- bytes of this slot are due
-abbrev pub IsDueSlot : ControllerState → ℕ → Type 0
-IsDueSlot c slot = MatchOption (due_of c.port) ⊥ (λ due. slot ≡ due.slot)
+-- bytes of this slot are due, and a read of them may be refused
+abbrev pub IsMissedIn : (ℕ → ℕ → Type 0) → ControllerState → ℕ → Type 0
+IsMissedIn may_miss c slot = MatchOption (due_of c.port) ⊥ (λ due.
+    (slot ≡ due.slot) × IsMissed may_miss (kept c due.slot) due)
 
-abbrev pub Misses : ControllerState → Sent → ControllerState → Type 0
-Misses old result new = MatchOption (due_of old.port) ⊥ (λ due. MissesIn due.slot old result new)
+abbrev pub Misses : (ℕ → ℕ → Type 0) → ControllerState → Sent → ControllerState → Type 0
+Misses may_miss old result new = MatchOption (due_of old.port) ⊥ (λ due.
+    IsMissed may_miss (kept old due.slot) due × MissesIn due.slot old result new)
 
 abbrev pub nothing_sent : Sent
 nothing_sent = record { frame = None; message = false }

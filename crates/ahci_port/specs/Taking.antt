@@ -92,7 +92,7 @@ pub record Takes (old : ControllerState) (frame : List ℕ) (result : Took) (new
   pub told : result.message ≡ is_due old.lines (Caused (new_causes old.port new.port))
   pub posted : result.posted
       ≡ posting_at old.own.area (row_in old.port.registers.switching (port_of frame)) result.report.posted
-        (length frame)
+      (length frame)
   pub counted : result.counted ≡ counting old.own.list new.counts result.report.wrote
 
 -- nothing of a frame is taken

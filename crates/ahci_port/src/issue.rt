@@ -1,6 +1,6 @@
 //! Commands are issued.
 
-ghost use Rattle.std.specs.Prelude.{◌≡◌, ◌<◌, ◌+◌, ◌*◌, ◌^◌, ◌||◌, true, is_some, IfErr, IfOk, OnErr, OnOk};
+ghost use Rattle.std.specs.Prelude.{◌≡◌, ◌<◌, ◌+◌, ◌*◌, ◌^◌, ◌||◌, true, None, is_some, IfErr, IfOk, OnErr, OnOk};
 ghost use Rattle.ahci_registers.specs.Bits.{interrupt_bits};
 ghost use Rattle.hba_fbs.specs.Writing.{Accepts, refusal_of};
 ghost use Rattle.guest_commands.specs.Commands.{IsCommandAt};
@@ -47,6 +47,7 @@ fn either(first: bool, second: bool) -> bool
 fn give(port: &mut HostPort, memory: &HostMemory, slot: u8) -> Result<(), CommandError>
     requires { slot < 32 }
     ensures ok { OnOk result (Accepts port.old memory.now Register.Ci (2 ^ slot) port.new) }
+    ensures taken { OnOk result (refusal_of Register.Ci port.old memory.now (2 ^ slot) ≡ None) }
     ensures err { OnErr result (port.new ≡ port.old) }
     ensures why { IfErr result (λ error. (error ≡ CommandError.Bad)
         × (is_some (refusal_of Register.Ci port.old memory.now (2 ^ slot)) ≡ true)) }
@@ -93,7 +94,12 @@ impl Controller {
             Refuses (G.may_read guest.now) (G.may_miss guest.now) slot error self.old self.new) }
     {
         let command = self.fetch(alloc, guest, slot)?;
-        put_command(&mut self.memory, slot, &command.head.fields, command.head.len);
+        put_command(
+            &mut self.memory,
+            slot,
+            &command.head.fields,
+            command.head.len,
+        );
         give(&mut self.port, &self.memory, slot)?;
         self.tables[slot as usize] = Some(command.table);
         self.counts[slot as usize] = 0;

@@ -3,7 +3,7 @@
 ghost use Rattle.std.specs.Prelude.{◌≡◌, ◌-◌, ◌<◌, ◌≤◌, ◌⊎◌, Ok, true, false, length, IfErr, IfOk, OnErr, OnOk};
 ghost use Rattle.host_memory.specs.Memory.{client_start, overwritten};
 ghost use Rattle.host_memory.specs.Place.{LiesInClient};
-ghost use Rattle.ahci_port.specs.Sending.{AreGathered, Fills, FillsFrom, Gave, IsDueSlot, Misses, MissesIn, Prepares, Sends, nothing_sent};
+ghost use Rattle.ahci_port.specs.Sending.{AreGathered, Fills, FillsFrom, Gave, IsMissed, IsMissedIn, MayBeMissed, Misses, MissesIn, Prepares, Sends, nothing_sent};
 ghost use Rattle.ahci_port.specs.Taking.{is_deaf as is_deaf_of, kept as kept_of};
 
 use crate::causes::{new_bits, status};
@@ -34,6 +34,8 @@ fn gather<G: Guest>(
 ) -> Result<(), NotThere>
     ensures ok { OnOk result
         (AreGathered (G.may_read guest.now) table.now offset payload.new) }
+    ensures err { OnErr result
+        (MayBeMissed (G.may_miss guest.now) table.now offset (length payload.old)) }
     ensures long { length payload.new ≡ length payload.old }
 {
     for step in table.moves(offset, payload.len()) {
@@ -47,6 +49,8 @@ fn put(memory: &mut HostMemory, at: u32, bytes: &[u8])
     ensures structure { memory.new.structure ≡ memory.old.structure }
     ensures client { LiesInClient (length memory.old.client) at (length bytes.now)
         → memory.new.client ≡ overwritten memory.old.client (at - client_start) bytes.now }
+    ensures outside { ¬ LiesInClient (length memory.old.client) at (length bytes.now)
+        → memory.new.client ≡ memory.old.client }
 {
     let _ = memory.put_client(at, bytes);
 }
@@ -62,6 +66,8 @@ fn fill<G: Guest>(
     requires few { due.len ≤ 8192 }
     ensures ok { OnOk result (Fills (G.may_read guest.now) table.now due memory.old memory.new) }
     ensures err { OnErr result (memory.new ≡ memory.old) }
+    ensures missed { OnErr result
+        (MayBeMissed (G.may_miss guest.now) table.now due.offset due.len) }
 {
     let mut room = [0; 8192];
     let payload = &mut room[..due.len as usize];
@@ -80,6 +86,7 @@ impl Controller {
             self.old.memory self.new.memory) }
         ensures rest { self.new ≡ record self.old { memory = self.new.memory } }
         ensures err { OnErr result (self.new ≡ self.old) }
+        ensures missed { OnErr result (IsMissed (G.may_miss guest.now) (kept_of self.old due.slot) due) }
     {
         match self.tables.get(due.slot as usize) {
             Some(Some(table)) => fill(&mut self.memory, guest, table, due),
@@ -93,7 +100,7 @@ impl Controller {
         ensures rest { self.new ≡ record self.old { memory = self.new.memory } }
         ensures err { OnErr result (self.new ≡ self.old) }
         ensures slot { IfErr result (λ slot. slot < 32) }
-        ensures due { IfErr result (IsDueSlot self.old) }
+        ensures missed { IfErr result (IsMissedIn (G.may_miss guest.now) self.old) }
     {
         let Some(due) = self.port.due() else {
             return Ok(());
@@ -134,10 +141,11 @@ impl Controller {
     /// Where memory for the frame is refused, it is still due.
     pub fn next_out<G: Guest>(&mut self, alloc: Global, guest: &G) -> Result<Sent, AllocError>
         ensures sent { IfOk result (λ sent. is_deaf_of self.old ≡ false
-            → Sends (G.may_read guest.now) self.old sent self.new ⊎ Misses self.old sent self.new) }
+            → Sends (G.may_read guest.now) self.old sent self.new ⊎ Misses (G.may_miss guest.now) self.old sent self.new) }
         ensures deaf { is_deaf_of self.old ≡ true
             → (self.new ≡ self.old) × (result ≡ Ok nothing_sent) }
         ensures refused { OnErr result (self.new ≡ record self.old { memory = self.new.memory }) }
+        ensures prepared { OnErr result (Prepares (G.may_read guest.now) self.old self.new.memory) }
     {
         if self.is_deaf() {
             return Ok(Sent {

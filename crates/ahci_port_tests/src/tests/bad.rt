@@ -57,6 +57,7 @@ fn a_table_may_be_no_memory(rt: HostRuntime) -> Result<(), Fail> {
 
 /// READ NATIVE MAX ADDRESS, which moves no data, for devices 1 and 2.
 const FIRST: &str = "2781F80000000040000000000000000000000000";
+
 const SECOND: &str = "2782F80000000040000000000000000000000000";
 
 /// PxFBS.EN is cleared while ST is 0. Then FISes of the device that was issued last are posted, in row 0, and those of

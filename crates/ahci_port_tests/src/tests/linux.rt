@@ -76,6 +76,7 @@ static KICKS: [Step; 7] = [
 
 /// SRST is set for the control port, and cleared.
 const RESETS: &str = "270F0000000000A0000000000000000C00000000";
+
 const RUNS: &str = "270F0000000000A0000000000000000800000000";
 /// The signature of a multiplier.
 const SIGNATURE: &str = "340F500101699600000000000100000000000000";
@@ -100,9 +101,11 @@ static RESETS_THE_MULTIPLIER: [Step; 14] = [
 
 /// READ PORT MULTIPLIER of GSCR 0, and its answer 52411001h.
 const READ_GSCR: &str = "278FE4000000000F000000000000000800000000";
+
 const GSCR: &str = "344F500010415200000000000100000000000000";
 /// WRITE PORT MULTIPLIER of PSCR 2 of fan-out port 2, and its answer.
 const WRITE_PSCR: &str = "278FE80203000002000000000000000800000000";
+
 const WRITTEN: &str = "344F500000000000000000000000000000000000";
 
 /// Registers of the multiplier are read and written while EN is 0 (sata_pmp_read, sata_pmp_write).
@@ -145,7 +148,9 @@ static SWITCHES: [Step; 10] = [
 
 /// SRST is set for device 2, and cleared, and its signature.
 const RESETS_DISK: &str = "27020000000000A0000000000000000C00000000";
+
 const RUNS_DISK: &str = "27020000000000A0000000000000000800000000";
+
 const DISK: &str = "3402500101000000000000000100000000000000";
 
 /// A disk is reset: EN is cleared before, and set after (ahci_disable_fbs, ahci_softreset, ahci_enable_fbs).
@@ -184,6 +189,7 @@ fn attaches(rt: &impl Abort, rig: &mut Rig) -> Result<(), Fail> {
 
 /// READ FPDMA QUEUED of one sector for device 2, tag 0, and for device 3, tag 1.
 const READ_2: &str = "2782600110000040000000000000000000000000";
+
 const READ_3: &str = "2783600120000040000000000800000000000000";
 
 /// Both are issued (ahci_qc_issue), go out and are accepted.
@@ -210,6 +216,7 @@ static ISSUES_TWO: [Step; 18] = [
 
 /// Device 2 fails, and so does device 3.
 const FAILS_2: &str = "A142414000000000";
+
 const FAILS_3: &str = "A143414000000000";
 
 /// Device 2 fails and is cleared (ahci_error_intr, ahci_fbs_dec_intr).

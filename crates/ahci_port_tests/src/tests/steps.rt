@@ -58,14 +58,7 @@ fn alarms(rig: &mut Rig, offset: u32, value: u32) -> bool {
     rig.write(offset, value) == wanted
 }
 
-fn command(
-    rig: &mut Rig,
-    slot: u8,
-    dev: u8,
-    bits: u8,
-    entries: u8,
-    fis: &str,
-) -> Result<(), Fail> {
+fn command(rig: &mut Rig, slot: u8, dev: u8, bits: u8, entries: u8, fis: &str) -> Result<(), Fail> {
     let bytes = rig.bytes_of(fis)?;
     rig.command(slot, dev, bits, entries, &bytes)
 }

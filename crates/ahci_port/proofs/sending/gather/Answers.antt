@@ -1,7 +1,8 @@
-use Rattle.std.proofs.Common.{subst, List}
+use Rattle.std.proofs.Common.{length, subst, List}
 use Rattle.guest_bytes.specs.declared.moves.Move.{Move}
-use Rattle.ahci_port.specs.Sending.{AreFetched}
-use Rattle.ahci_port.proofs.GatherLemmas.{all_fetched, one_more}
+use Rattle.hba_fbs.proofs.SendLemmas.{on_err}
+use Rattle.ahci_port.specs.Sending.{AreFetched, MayBeMissed}
+use Rattle.ahci_port.proofs.GatherLemmas.{all_fetched, missed_next, one_more}
 use Rattle.ahci_port.proofs.sending.gather.Goals as goal
 
 pub loop-step-preserved : goal.loop-step-preserved
@@ -16,3 +17,10 @@ returns-clause-ok g c = record {
   fetched = subst (λ (l : List Move). AreFetched (g.G.Guest.may_read c.args.guest.now) l c.args.payload.now c.loop-step.payload) c.into_iter-step-iterator.ensures.into_iter_gives
       (all_fetched _ _ _ _ _ c.in-None.ensures.steps.0 c.loop-step.invariant);
 }
+
+pub returns-in_err-fetch-clause-err : goal.returns-in_err-fetch-clause-err
+returns-in_err-fetch-clause-err g c =
+    let missed : MayBeMissed (g.G.Guest.may_miss c.args.guest.now) c.args.table.now c.args.offset (length c.args.payload.now) =
+    missed_next (g.G.Guest.may_read c.args.guest.now) (g.G.Guest.may_miss c.args.guest.now) _ _ _ _ _ _ _ _ _ c.in-Some.ensures.steps c.into_iter-step-iterator.ensures.into_iter_gives
+    c.loop-step.invariant c.moves-step-items.ensures.delivers c.in_err-fetch.ensures.err in
+    on_err c.from_residual.result missed

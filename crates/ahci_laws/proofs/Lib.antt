@@ -1,0 +1,3 @@
+pub mod EventLemmas
+pub mod StoreLemmas
+pub mod OpenLemmas

@@ -1,0 +1,77 @@
+-- Accesses of a controller, one after another: AHCI 1.3.1, section 3 (registers) and 5 (frames). They are the calls of
+-- `ahci_port`, with what they answer.
+use Rattle.std.specs.Prelude.{◌≡◌, ℕ, ◌⊎◌, Bool, true, false, List, [], ◌∷◌}
+use Rattle.host_memory.specs.Memory.{IsHostMemory}
+use Rattle.ahci_registers.specs.declared.link.Effect.{Effect}
+use Rattle.ahci_registers.specs.declared.link.Effect.TheVariants.{Nothing, LinkReset, LinkUp}
+use Rattle.ahci_port.specs.Accesses.{WritesAt}
+use Rattle.ahci_port.specs.Sending.{Misses, Prepares, Sends, nothing_sent}
+use Rattle.ahci_port.specs.States.{ControllerState}
+use Rattle.ahci_port.specs.Taking.{Drops, Takes, is_deaf}
+use Rattle.ahci_port.specs.declared.sending.Sent.{Sent}
+use Rattle.ahci_port.specs.declared.taking.Took.{Took}
+use Rattle.ahci_port.specs.declared.writing.Written.{Written}
+use Rattle.hba_laws.specs.Hosts.{Host}
+
+pub data Access : Type 0 where
+  -- a value is written at an offset
+  Writes : (offset value : ℕ) → (written : Written) → Access
+  -- a frame is taken
+  Hears : (frame : List ℕ) → (took : Took) → Access
+  -- a frame is asked for
+  Asks : (sent : Sent) → Access
+  -- a frame is asked for, and memory for it is refused
+  Lacks : Access
+
+-- ---- what each leaves: the contracts of the calls
+
+pub record HearsFrame (old : ControllerState) (frame : List ℕ) (took : Took) (new : ControllerState)
+    : Type 0 where
+  pub taken : is_deaf old ≡ false → Takes old frame took new
+  pub dropped : is_deaf old ≡ true → Drops old frame took new
+
+pub record AsksFrame (may_read : ℕ → List ℕ → Type 0) (may_miss : ℕ → ℕ → Type 0) (old : ControllerState)
+    (sent : Sent) (new : ControllerState) : Type 0 where
+  pub goes : is_deaf old ≡ false → Sends may_read old sent new ⊎ Misses may_miss old sent new
+  pub deaf : is_deaf old ≡ true → (new ≡ old) × (sent ≡ nothing_sent)
+
+pub record LacksMemory (may_read : ℕ → List ℕ → Type 0) (old new : ControllerState) : Type 0 where
+  pub rest : new ≡ record old { memory = new.memory }
+  pub prepared : Prepares may_read old new.memory
+
+abbrev pub Does : (ℕ → List ℕ → Type 0) → (ℕ → ℕ → Type 0) → ControllerState → Access → ControllerState
+    → Type 0
+Does may_read may_miss old (Writes offset value written) new =
+    WritesAt may_read may_miss old offset value written new
+Does may_read may_miss old (Hears frame took) new = HearsFrame old frame took new
+Does may_read may_miss old (Asks sent) new = AsksFrame may_read may_miss old sent new
+Does may_read may_miss old Lacks new = LacksMemory may_read old new
+
+-- a write that resets the link, or the whole controller
+abbrev pub resets_link : Effect → Bool
+resets_link Nothing = false
+resets_link LinkReset = true
+resets_link LinkUp = false
+
+abbrev pub resets : Access → Bool
+resets (Writes offset value written) = resets_link written.effect
+resets (Hears frame took) = false
+resets (Asks sent) = false
+resets Lacks = false
+
+-- these accesses, one after another, and no reset among them; the host port's memory is one
+abbrev pub Serves : (ℕ → List ℕ → Type 0) → (ℕ → ℕ → Type 0) → ControllerState → List Access
+    → ControllerState → Type 0
+Serves may_read may_miss old [] new = new ≡ old
+Serves may_read may_miss old (access ∷ accesses) new =
+    IsHostMemory old.memory × (resets access ≡ false) × ((next : ControllerState)
+    × Does may_read may_miss old access next × Serves may_read may_miss next accesses new)
+
+-- ---- the host port in it
+
+abbrev pub host_of : ControllerState → Host
+host_of c = record { port = c.port; memory = c.memory }
+
+-- its received area lies where a controller that opens has it
+abbrev pub IsPlaced : ControllerState → Type 0
+IsPlaced c = c.port.registers.fb ≡ 0x1000
